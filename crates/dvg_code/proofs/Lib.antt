@@ -1,0 +1,4 @@
+pub mod Reading
+pub mod Unique
+pub mod Cuttings
+pub mod Listings

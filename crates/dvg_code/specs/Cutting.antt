@@ -1,0 +1,40 @@
+-- The cutting of a list of words into instructions.
+use Rattle.std.specs.Prelude.{◌≡◌, ◌≢◌, ℕ, ◌+◌, List, [], ◌∷◌, ◌++◌, length}
+use Rattle.dvg_code.specs.declared.instr.Instr.{Instr}
+use Rattle.dvg_code.specs.Spelling.{Spells}
+
+-- a front of the words, of this many words, spells this instruction
+pub record Fronts (words : List ℕ) (instr : Instr) (count : ℕ) : Type 0 where
+  pub front : List ℕ
+  pub after : List ℕ
+  pub parts : words ≡ front ++ after
+  pub spells : Spells instr front
+  pub counted : count ≡ length front
+
+-- no front of the words spells an instruction
+abbrev pub HasNoFront : List ℕ → Type 0
+HasNoFront words = (instr : Instr) (count : ℕ) → Fronts words instr count → ⊥
+
+-- there is a word, and no front of the words spells an instruction
+abbrev pub IsCut : List ℕ → Type 0
+IsCut words = (words ≢ []) × HasNoFront words
+
+-- an instruction at the place of its first word, with the words that spell it
+pub record Placed : Type 0 where
+  pub place : ℕ
+  pub instr : Instr
+  pub words : List ℕ
+
+-- the words from a place on are the spellings of these instructions, one after the other, and then, at the place `end`, a rest that begins with none
+pub data Cuts : ℕ → List ℕ → List Placed → ℕ → List ℕ → Type 0 where
+  ends : {place : ℕ} {rest : List ℕ} → HasNoFront rest → Cuts place rest [] place rest
+  goes : {place end : ℕ} {instr : Instr} {words front after rest : List ℕ} {items : List Placed} → Spells instr front → words ≡ front ++ after
+      → Cuts (place + length front) after items end rest
+      → Cuts place words (record { place = place; instr = instr; words = front } ∷ items) end rest
+
+-- the cutting of a whole list of words, whose rest begins at the place `end`
+pub record Cutting (words : List ℕ) : Type 0 where
+  pub items : List Placed
+  pub end : ℕ
+  pub rest : List ℕ
+  pub cuts : Cuts 0 words items end rest

@@ -1,0 +1,7 @@
+pub mod Words
+pub mod Ranges
+pub mod Fields
+pub mod Spelling
+pub mod Cutting
+pub mod Listing
+pub mod Laws

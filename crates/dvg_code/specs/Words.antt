@@ -1,0 +1,12 @@
+-- Words of 16 bits in bytes.
+use Rattle.std.specs.Prelude.{ℕ, ◌+◌, ◌*◌, List, [], ◌∷◌, slice_index}
+
+-- word k of a list of bytes: the low byte, and 256 times the high byte
+abbrev pub word_in : List ℕ → ℕ → ℕ
+word_in bytes k = slice_index bytes (2 * k) + 256 * slice_index bytes (2 * k + 1)
+
+-- the whole words of a list of bytes, in order
+abbrev pub words_of : List ℕ → List ℕ
+words_of [] = []
+words_of (low ∷ []) = []
+words_of (low ∷ high ∷ bytes) = (low + 256 * high) ∷ words_of bytes

@@ -1,0 +1,76 @@
+//! Instructions in range.
+ghost use Rattle.std.specs.Prelude.{◌≡◌, ◌↔◌, IfSome, IsSome, IsTrue};
+ghost use Rattle.dvg_code.specs.Ranges.{InRange, IsVector};
+ghost use Rattle.dvg_code.specs.declared.instr.Instr.{Instr};
+
+use crate::instr::Instr;
+use std::marker::Model;
+
+/// An instruction whose fields are all in range, so that words spell it.
+#[derive(Clone, Copy, Debug, PartialEq, Eq)]
+pub struct Code {
+    instr: Instr,
+}
+
+/// Contracts see the instruction.
+impl Model for Code {
+    ghost Value = { Instr };
+
+    ghost view = { λ code. code.instr };
+
+    ghost invariant = { λ code. InRange code.instr };
+
+    ghost inverse = { λ instr. record { instr = instr } };
+}
+
+impl Code {
+    /// The instruction, or None where a field is out of its range.
+    pub fn new(instr: Instr) -> Option<Code>
+        ensures in_range { IsSome result ↔ InRange instr }
+        ensures value { IfSome result (λ code. code ≡ instr) }
+    {
+        if is_in_range(instr) {
+            Some(Code { instr })
+        } else {
+            None
+        }
+    }
+
+    // The instruction, of which the caller knows that it is in range.
+    pub(crate) fn within(instr: Instr) -> Code
+        requires { InRange instr }
+        ensures { result ≡ instr }
+    {
+        Code { instr }
+    }
+
+    /// The instruction, which is in range.
+    pub fn instr(&self) -> Instr
+        ensures value { result ≡ self.now }
+        ensures in_range { InRange result }
+    {
+        self.instr
+    }
+}
+
+// Whether each field is in range.
+fn is_in_range(instr: Instr) -> bool
+    ensures { IsTrue result ↔ InRange instr }
+{
+    match instr {
+        Instr::Vctr { scale, dx, dy, z } => is_vector(0, 9, 1023, scale, dx, dy, z),
+    }
+}
+
+// Whether a vector's fields are within these bounds.
+fn is_vector(low: u8, high: u8, most: u16, scale: u8, dx: i16, dy: i16, z: u8) -> bool
+    ensures { IsTrue result ↔ IsVector low high most scale dx dy z }
+{
+    if scale < low || high < scale {
+        return false;
+    }
+    if most < dx.unsigned_abs() || most < dy.unsigned_abs() {
+        return false;
+    }
+    z <= 15
+}

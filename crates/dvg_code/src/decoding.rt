@@ -1,0 +1,76 @@
+//! From words to instructions.
+ghost use Rattle.std.specs.Prelude.{◌≡◌, ◌↔◌, ◌+◌, ◌/◌, ◌%◌, ◌^◌, ◌<◌, ◌≤◌, ℕ, List, [], ◌∷◌, ◌++◌, length, IfOk, IsErrOf, Ok};
+ghost use Rattle.dvg_code.specs.Cutting.{Fronts, IsCut};
+ghost use Rattle.dvg_code.specs.Fields as spec;
+ghost use Rattle.dvg_code.specs.Ranges.{InRange};
+ghost use Rattle.dvg_code.specs.Spelling.{Spells, canon};
+ghost use Rattle.dvg_code.specs.declared.instr.Instr.{Instr};
+
+use crate::code::Code;
+use crate::instr::Instr;
+
+/// Why words begin with no instruction.
+#[derive(Clone, Copy, Debug, PartialEq, Eq)]
+pub enum CodeFault {
+    /// There is no word.
+    Empty,
+    /// There is a word, and no front of the words spells an instruction.
+    Cut,
+}
+
+// So many bits of a word, from this one up.
+fn bits(word: u16, from: u32, count: u32) -> u16
+    requires from { from < 16 }
+    requires count { count < 16 }
+    ensures { result ≡ word / 2 ^ from % 2 ^ count }
+{
+    (word >> from) & ((1 << count) - 1)
+}
+
+// A number by its sign bit and its magnitude.
+fn signed(sign: u16, magnitude: u16) -> i16
+    requires { magnitude < 1024 }
+    ensures { result ≡ spec.signed sign magnitude }
+{
+    if sign == 0 {
+        magnitude as i16
+    } else {
+        -(magnitude as i16)
+    }
+}
+
+// What two words spell, of which the first has an opcode below 10.
+fn read_two(first: u16, second: u16) -> Code
+    requires { first < 40960 }
+    ensures { Spells result (first ∷ second ∷ []) }
+{
+    let dy = signed(bits(first, 10, 1), bits(first, 0, 10));
+    let dx = signed(bits(second, 10, 1), bits(second, 0, 10));
+    Code::within(Instr::Vctr {
+        scale: bits(first, 12, 4) as u8,
+        dx,
+        dy,
+        z: bits(second, 12, 4) as u8,
+    })
+}
+
+/// The instruction that the front of the words spells, and its number of words.
+///
+/// Bit 11 of both words of a VCTR is ignored, and a sign on a magnitude of zero too: these spellings
+/// are read, though they aren't canonical (this project's own choice).
+pub fn decode(words: &[u16]) -> Result<(Code, usize), CodeFault>
+    ensures spelled { IfOk result (λ read. Fronts words.now read.0 read.1) }
+    ensures found { (instr : Instr) (count : ℕ) → Fronts words.now instr count → result ≡ Ok (instr, count) }
+    ensures empty { IsErrOf result CodeFault.Empty ↔ (words.now ≡ []) }
+    ensures cut { IsErrOf result CodeFault.Cut ↔ IsCut words.now }
+
+    // What `encode` writes is read back, whatever words come after it.
+    ensures encoded { (instr : Instr) (after : List ℕ) → InRange instr → words.now ≡ canon instr ++ after
+        → result ≡ Ok (instr, length (canon instr)) }
+{
+    match words {
+        [] => Err(CodeFault::Empty),
+        [first, second, ..] if *first < 0xA000 => Ok((read_two(*first, *second), 2)),
+        _ => Err(CodeFault::Cut),
+    }
+}

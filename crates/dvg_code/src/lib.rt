@@ -1,0 +1,24 @@
+//! Words and instructions of the Digital Vector Generator, of which VCTR stands so far.
+//!
+//! A word has 16 bits; word `k` of a list of bytes is byte `2k` (low) and byte `2k + 1` (high). The
+//! top four bits of an instruction's first word are its opcode. The formats are those of Atari's DVG
+//! documentation and of Margolin's *The Secret Life of Vector Generators*; what is this project's own
+//! choice is marked so. No call of this crate takes memory.
+#![tactic(auto)]
+
+mod code;
+mod decoding;
+mod encoding;
+mod instr;
+pub mod laws;
+mod listing;
+mod memory;
+mod word;
+
+pub use code::Code;
+pub use decoding::{CodeFault, decode};
+pub use encoding::{Words, encode, is_canonical};
+pub use instr::Instr;
+pub use listing::{Listed, Listing};
+pub use memory::OutOfMemory;
+pub use word::word_at;

@@ -1,0 +1,13 @@
+//! Words in bytes.
+ghost use Rattle.std.specs.Prelude.{◌≡◌, ◌+◌, ◌*◌, ◌<◌, length};
+ghost use Rattle.dvg_code.specs.Words.{word_in};
+
+use byteorder::{ByteOrder, LittleEndian};
+
+/// Word number `k` of the bytes, of which the low byte comes first.
+pub fn word_at(bytes: &[u8], k: usize) -> u16
+    requires { 2 * k + 1 < length bytes.now }
+    ensures { result ≡ word_in bytes.now k }
+{
+    LittleEndian::read_u16(&bytes[2 * k..])
+}
