@@ -41,7 +41,7 @@ gave_none s t (At place instr ∷ xs) e y = absurd (some_words instr y.1.1.0 (wo
 gave_none s t (Cut place ∷ xs) e y = absurd (y.1.1.0 e)
 
 -- a cutting of words that begin with no instruction has no item
-only_rest : (place end : ℕ) (words rest : List ℕ) (items : List Placed) → HasNoFront words → Cuts place words items end rest → (items ≡ []) × (end ≡ place) × (rest ≡ words)
+pub only_rest : (place end : ℕ) (words rest : List ℕ) (items : List Placed) → HasNoFront words → Cuts place words items end rest → (items ≡ []) × (end ≡ place) × (rest ≡ words)
 only_rest place end words rest items none cuts = same_cuts place end place words rest words items [] cuts (ends none)
 
 rest_is_cut : (words : List ℕ) (place : ℕ) → (words ≡ [] → ⊥) → listed_rest place words ≡ Cut place ∷ []

@@ -4,7 +4,7 @@ use Rattle.std.specs.Prelude.{unsigned_abs}
 use Rattle.dvg_code.specs.declared.instr.Instr.{Instr}
 use Rattle.dvg_code.specs.declared.instr.Instr.TheVariants.{Vctr}
 use Rattle.dvg_code.specs.Ranges.{IsVector}
-use Rattle.dvg_code.specs.Spelling.{IsSignOf, LongWord, Spells, vctr}
+use Rattle.dvg_code.specs.Spelling.{IsSignOf, LongWord, Spells, vctr, canon}
 use Rattle.dvg_code.specs.Cutting.{Fronts}
 
 pub sign_is_bit : (n : ℤ) (sign : ℕ) → IsSignOf n sign → sign < 2
@@ -52,3 +52,7 @@ same_fronts words a b m n p q =
 -- an instruction has a word
 pub some_words : (a : Instr) (front after : List ℕ) → Spells a front → front ++ after ≡ [] → ⊥
 some_words a front after (vctr r first second) e = cc
+
+-- each spelling of an instruction is as long as the canonical one
+pub spelled_length : (a : Instr) (front : List ℕ) → Spells a front → length front ≡ length (canon a)
+spelled_length a front (vctr r first second) = refl

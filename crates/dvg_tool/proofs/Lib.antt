@@ -1,0 +1,4 @@
+pub mod Known
+pub mod Progress
+pub mod Whole
+pub mod Asking

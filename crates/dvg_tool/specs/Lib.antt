@@ -1,0 +1,5 @@
+pub mod Watching
+pub mod Lines
+pub mod Lists
+pub mod Jobs
+pub mod Outcomes

@@ -1,0 +1,45 @@
+-- The text of a listing: one line an instruction.
+use Rattle.std.specs.Prelude.{ℕ, ℤ, ◌/◌, ◌%◌, Bool, true, cond, List, [], ◌∷◌, ◌++◌, drop, flat_map, nat_eq, codes}
+use Rattle.std.specs.Fmt.{decimal, signed_decimal, digit_glyph}
+use Rattle.std.specs.List.{starts_with}
+use Rattle.std.specs.Str.{bytes_eq}
+use Rattle.dvg_code.specs.declared.instr.Instr.{Instr}
+use Rattle.dvg_code.specs.declared.instr.Instr.TheVariants.{Vctr}
+use Rattle.dvg_code.specs.Spelling.{canon}
+use Rattle.dvg_code.specs.Cutting.{Placed}
+
+-- three hexadecimal digits in upper case
+abbrev pub hex_3 : ℕ → List ℕ
+hex_3 n = digit_glyph true (n / 256 % 16) ∷ digit_glyph true (n / 16 % 16) ∷ digit_glyph true (n % 16) ∷ []
+
+-- parts of a line, each behind a space
+abbrev pub spaced : List (List ℕ) → List ℕ
+spaced = flat_map (λ part. 32 ∷ part)
+
+-- a vector's name and numbers
+abbrev pub vector_parts : List ℕ → ℕ → ℤ → ℤ → ℕ → List (List ℕ)
+vector_parts name scale dx dy z = name ∷ decimal scale ∷ signed_decimal dx ∷ signed_decimal dy ∷ decimal z ∷ []
+
+-- an instruction's name and operands
+abbrev pub instr_parts : Instr → List (List ℕ)
+instr_parts (Vctr scale dx dy z) = vector_parts (codes "VCTR") scale dx dy z
+
+-- a star marks words that aren't canonical
+abbrev pub star : Bool → List (List ℕ)
+star canonical = cond canonical [] (codes "*" ∷ [])
+
+-- the line of an instruction at a place, whose words are canonical or not; 10 is LF
+abbrev pub line_text : ℕ → Instr → Bool → List ℕ
+line_text place instr canonical = hex_3 place ++ spaced (instr_parts instr ++ star canonical) ++ 10 ∷ []
+
+-- the line of an instruction at its place, with the words that spell it
+abbrev pub line_of : Placed → List ℕ
+line_of item = line_text item.place item.instr (bytes_eq (canon item.instr) item.words)
+
+-- the line of the instruction that stands at a place of the words
+abbrev pub line_at : List ℕ → ℕ → Instr → List ℕ
+line_at words place instr = line_text place instr (starts_with nat_eq (drop place words) (canon instr))
+
+-- the text of a listing
+abbrev pub list_text : List Placed → List ℕ
+list_text = flat_map line_of

@@ -1,0 +1,51 @@
+-- What `list` answers and writes.
+use Rattle.std.specs.Prelude.{◌≡◌, ◌≢◌, ◌%◌, ◌<◌, ◌≤◌, ℕ, List, [], length, Option, Result, MatchResult}
+use Rattle.std.specs.Io.KnownBytes.{Appends}
+use Rattle.dvg_code.specs.Words.{words_of}
+use Rattle.dvg_code.specs.Cutting.{Cutting}
+use Rattle.dvg_tool.specs.Lines.{list_text}
+use Rattle.dvg_tool.specs.Watching.{BeginsToWrite}
+use Rattle.dvg_tool.specs.declared.fault.TextFault.TheVariants.{TooLong, Odd, Cut}
+use Rattle.dvg_tool.specs.declared.fault.ToolFault.{ToolFault}
+use Rattle.dvg_tool.specs.declared.fault.ToolFault.TheVariants.{Text, Reader, Writer, Memory}
+
+-- where the words' cutting leaves a rest, the place of the rest is answered, and the text of the instructions before it went out; where the writer failed, a beginning of the text
+abbrev pub StopsListing : ToolFault → (words : List ℕ) → Option (List ℕ) → Option (List ℕ) → Type 0
+StopsListing (Text (Cut place)) words old new =
+    (cutting : Cutting words) → (cutting.rest ≢ []) × (place ≡ cutting.end) × Appends old new (list_text cutting.items)
+StopsListing Writer words old new = (cutting : Cutting words) → BeginsToWrite (list_text cutting.items) old new
+StopsListing _ words old new = ⊥
+
+-- where the words' cutting leaves no rest, the text of its instructions went out
+abbrev pub ListsWords : {T : Type 0} → Result T ToolFault → (words : List ℕ) → Option (List ℕ) → Option (List ℕ) → Type 0
+ListsWords answer words old new = MatchResult answer
+    (λ _. (cutting : Cutting words) → (cutting.rest ≡ []) × Appends old new (list_text cutting.items))
+    (λ fault. StopsListing fault words old new)
+
+-- at most 8,192 bytes, in whole words
+abbrev pub IsWhole : List ℕ → Type 0
+IsWhole input = (length input ≤ 8192) × (length input % 2 ≡ 0)
+
+-- when each fault comes of an input, and what went out
+abbrev pub StopsList : ToolFault → (input : List ℕ) → Option (List ℕ) → Option (List ℕ) → Type 0
+StopsList (Text TooLong) input old new = 8192 < length input
+StopsList (Text Odd) input old new = (length input ≤ 8192) × (length input % 2 ≡ 1)
+StopsList (Text (Cut place)) input old new = IsWhole input × StopsListing (Text (Cut place)) (words_of input) old new
+StopsList Writer input old new = IsWhole input × StopsListing Writer (words_of input) old new
+StopsList Reader input old new = Unit {0}
+StopsList Memory input old new = Unit {0}
+
+-- what `list` answers of an input, and what went out
+abbrev pub Lists : {T : Type 0} → Result T ToolFault → (input : List ℕ) → Option (List ℕ) → Option (List ℕ) → Type 0
+Lists answer input old new = MatchResult answer
+    (λ _. IsWhole input × ((cutting : Cutting (words_of input)) → (cutting.rest ≡ []) × Appends old new (list_text cutting.items)))
+    (λ fault. StopsList fault input old new)
+
+-- the faults that come before the first write
+abbrev pub StopsBeforeWriting : ToolFault → Type 0
+StopsBeforeWriting (Text TooLong) = Unit {0}
+StopsBeforeWriting (Text Odd) = Unit {0}
+StopsBeforeWriting (Text (Cut place)) = ⊥
+StopsBeforeWriting Reader = Unit {0}
+StopsBeforeWriting Writer = ⊥
+StopsBeforeWriting Memory = Unit {0}

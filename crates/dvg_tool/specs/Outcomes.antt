@@ -1,0 +1,17 @@
+-- How the program ends.
+use Rattle.std.specs.Prelude.{◌≡◌, ℕ, ◌⊎◌, Result, Ok, Err}
+use Rattle.dvg_tool.specs.declared.fault.ToolFault.{ToolFault}
+use Rattle.dvg_tool.specs.declared.fault.ToolFault.TheVariants.{Text, Reader, Writer, Memory}
+use Rattle.dvg_tool.specs.Watching.{one_more}
+
+-- the answer stays and no failure was counted, or one was counted and the answer is `Writer`
+abbrev pub FinishesAs : {T : Type 0} → Result T ToolFault → Result T ToolFault → ℕ → ℕ → Type 0
+FinishesAs answer result old new = ((result ≡ answer) × (new ≡ old)) ⊎ ((result ≡ Err Writer) × (new ≡ one_more old))
+
+-- the exit status
+abbrev pub status_of : {T : Type 0} → Result T ToolFault → ℕ
+status_of (Ok done) = 0
+status_of (Err (Text fault)) = 1
+status_of (Err Reader) = 2
+status_of (Err Writer) = 2
+status_of (Err Memory) = 2

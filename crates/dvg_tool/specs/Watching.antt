@@ -1,0 +1,31 @@
+-- Readers and writers whose failures are counted, and what goes through them.
+use Rattle.std.specs.Prelude.{◌≡◌, ℕ, ◌+◌, ◌-◌, ◌^◌, ◌≤◌, min, List, length, ◌++◌, Option, Result, MatchResult}
+use Rattle.std.specs.Io.KnownBytes.{Appends, Consumes}
+use Rattle.dvg_tool.specs.declared.watched.Watched.{Watched}
+
+-- the reader or writer that is watched
+abbrev pub device_of : {T : Type 0} → Watched T → T
+device_of watched = watched.device
+
+-- the number of its failures so far
+abbrev pub failures_of : {T : Type 0} → Watched T → ℕ
+failures_of watched = watched.failures
+
+-- one failure more, unless the count is at its greatest value
+abbrev pub one_more : ℕ → ℕ
+one_more count = min (count + 1) (2 ^ 32 - 1)
+
+-- an error is one failure, and nothing else is
+abbrev pub CountsErrors : {V E : Type 0} → Result V E → ℕ → ℕ → Type 0
+CountsErrors answer old new = MatchResult answer (λ _. new ≡ old) (λ _. new ≡ one_more old)
+
+-- of the bytes that a reader is known to have left, some at its front were taken, no more than this many
+abbrev pub TakesAtMost : ℕ → Option (List ℕ) → Option (List ℕ) → Type 0
+TakesAtMost most old new = (taken : List ℕ) × (length taken ≤ most) × Consumes old new taken
+
+-- a beginning of the text went out
+pub record BeginsToWrite (text : List ℕ) (old new : Option (List ℕ)) : Type 0 where
+  pub front : List ℕ
+  pub rest : List ℕ
+  pub parts : text ≡ front ++ rest
+  pub wrote : Appends old new front

@@ -1,0 +1,45 @@
+//! Why an engine stops.
+ghost use Rattle.std.specs.Prelude.{◌≡◌};
+ghost use Rattle.dvg_tool.specs.declared.fault.ToolFault.TheVariants.{Memory};
+
+use dvg_code::OutOfMemory;
+use thiserror::Error;
+
+/// A fault of what was read. Its text is what `dvg` prints of it.
+#[derive(Clone, Copy, Debug, PartialEq, Eq, Error)]
+pub enum TextFault {
+    /// The input has more bytes than are allowed.
+    #[error("too long")]
+    TooLong,
+    /// The input has an odd number of bytes.
+    #[error("odd length")]
+    Odd,
+    /// No instruction begins at this place, counted in words from 0.
+    #[error("cut at {0:03X}")]
+    Cut(usize),
+}
+
+/// Why an engine stopped. Its text is what `dvg` prints of it.
+#[derive(Clone, Copy, Debug, PartialEq, Eq, Error)]
+pub enum ToolFault {
+    /// What was read is at fault.
+    #[error(transparent)]
+    Text(TextFault),
+    /// The reader failed.
+    #[error("read failed")]
+    Reader,
+    /// The writer failed.
+    #[error("write failed")]
+    Writer,
+    /// A growth was refused for want of memory.
+    #[error("out of memory")]
+    Memory,
+}
+
+impl From<OutOfMemory> for ToolFault {
+    ghost from_gives = { λ _ fault. fault ≡ Memory };
+
+    fn from(_refused: OutOfMemory) -> ToolFault {
+        ToolFault::Memory
+    }
+}

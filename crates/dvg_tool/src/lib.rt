@@ -1,0 +1,22 @@
+//! The engines of the program `dvg`, over any watched reader and writer, and what the program's words
+//! ask for.
+//!
+//! An engine reads its whole input before it writes, and takes no memory after its first write: its
+//! lines are made in arrays of fixed size. It stops at the first failure of its reader or writer.
+#![tactic(auto)]
+
+mod fault;
+mod line;
+mod listing;
+mod outcome;
+mod task;
+mod transfer;
+mod watched;
+mod words;
+
+pub use fault::{TextFault, ToolFault};
+pub use listing::{MOST_LIST_BYTES, list};
+pub use outcome::{finish, status};
+pub use task::Job;
+pub use watched::{DeviceFailed, Watched};
+pub use words::job;

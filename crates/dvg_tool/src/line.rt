@@ -1,0 +1,129 @@
+//! Lines of output, made without taking memory.
+ghost use Rattle.std.specs.Prelude.{◌≡◌, ◌≤◌, ◌<◌, ◌+◌, ◌++◌, ◌∷◌, [], List, ℕ, length, true};
+ghost use Rattle.std.specs.Fmt.{digit_glyph};
+ghost use Rattle.dvg_tool.specs.Lines.{hex_3, instr_parts, line_text, spaced, vector_parts};
+
+use arrayvec::ArrayVec;
+use dvg_code::{Code, Instr};
+use itoa::{Buffer, Integer};
+use std::marker::Model;
+
+/// A line of output, of at most 64 bytes.
+#[derive(Drop)]
+pub struct Line {
+    bytes: ArrayVec<u8, 64>,
+}
+
+/// Contracts see the bytes.
+impl Model for Line {
+    ghost Value = { List ℕ };
+
+    ghost view = { λ line. line.bytes.items };
+
+    ghost invariant = { λ line. length line.bytes.items ≤ 64 };
+}
+
+impl Line {
+    /// A line with no bytes yet.
+    fn new() -> Line
+        ensures { result ≡ [] }
+    {
+        Line {
+            bytes: ArrayVec::new(),
+        }
+    }
+
+    /// The bytes.
+    pub fn as_bytes(&self) -> &[u8]
+        ensures { result.now ≡ self.now }
+    {
+        self.bytes.as_slice()
+    }
+
+    // Appends a text.
+    fn text(&mut self, text: &[u8])
+        requires { length self.old + length text.now ≤ 64 }
+        ensures text { self.new ≡ self.old ++ text.now }
+        ensures grew { length self.new ≡ length self.old + length text.now }
+    {
+        self.bytes.try_extend_from_slice(text).unwrap();
+    }
+
+    // Appends a space and a word.
+    fn word(&mut self, word: &[u8])
+        requires { length self.old + length word.now < 64 }
+        ensures text { self.new ≡ self.old ++ spaced (word.now ∷ []) }
+        ensures grew { length self.new ≡ length self.old + length word.now + 1 }
+    {
+        self.text(b" ");
+        self.text(word);
+    }
+
+    // Appends a space and a number in decimal.
+    fn number<I: Integer>(&mut self, n: I)
+        requires { length self.old + I.MAX_STR_LEN < 64 }
+        ensures text { self.new ≡ self.old ++ spaced (I.text n ∷ []) }
+        ensures grew { length self.new ≤ length self.old + I.MAX_STR_LEN + 1 }
+    {
+        self.word(Buffer::new().format(n).as_bytes());
+    }
+
+    // Appends a hexadecimal digit in upper case.
+    fn hex_digit(&mut self, digit: usize)
+        requires digit { digit < 16 }
+        requires room { length self.old < 64 }
+        ensures text { self.new ≡ self.old ++ digit_glyph true digit ∷ [] }
+        ensures grew { length self.new ≡ length self.old + 1 }
+    {
+        self.bytes.push(b"0123456789ABCDEF"[digit]);
+    }
+
+    // Appends three hexadecimal digits.
+    fn hex_3(&mut self, n: usize)
+        requires { length self.old + 3 ≤ 64 }
+        ensures text { self.new ≡ self.old ++ hex_3 n }
+        ensures grew { length self.new ≡ length self.old + 3 }
+    {
+        self.hex_digit(n / 256 % 16);
+        self.hex_digit(n / 16 % 16);
+        self.hex_digit(n % 16);
+    }
+
+    // Appends the name of a vector and its numbers.
+    fn vector(&mut self, name: &[u8], scale: u8, dx: i16, dy: i16, z: u8)
+        requires { length self.old + length name.now + 23 ≤ 64 }
+        ensures text { self.new ≡ self.old ++ spaced (vector_parts name.now scale dx dy z) }
+        ensures grew { length self.new ≤ length self.old + length name.now + 23 }
+    {
+        self.word(name);
+        self.number(scale);
+        self.number(dx);
+        self.number(dy);
+        self.number(z);
+    }
+
+    // Appends the name of an instruction and its operands.
+    fn instr(&mut self, instr: Instr)
+        requires { length self.old + 27 ≤ 64 }
+        ensures text { self.new ≡ self.old ++ spaced (instr_parts instr) }
+        ensures grew { length self.new ≤ length self.old + 27 }
+    {
+        match instr {
+            Instr::Vctr { scale, dx, dy, z } => self.vector(b"VCTR", scale, dx, dy, z),
+        }
+    }
+}
+
+/// The line that `list` writes of an instruction at a place, of words that are canonical or not.
+pub fn listed_line(place: usize, code: &Code, canonical: bool) -> Line
+    ensures { result ≡ line_text place code.now canonical }
+{
+    let mut line = Line::new();
+    line.hex_3(place);
+    line.instr(code.instr());
+    if !canonical {
+        line.word(b"*");
+    }
+    line.text(b"\n");
+    line
+}

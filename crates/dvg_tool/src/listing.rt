@@ -1,0 +1,108 @@
+//! The engine `list`.
+ghost use Rattle.std.specs.Prelude.{◌≡◌, ◌↔◌, ◌≤◌, ◌%◌, length, IfErr, IfOk, IfSome, IsErrOf, OnErr, OnOk};
+ghost use Rattle.std.specs.Io.KnownBytes.{Appends};
+ghost use Rattle.dvg_code.specs.Words.{words_of};
+ghost use Rattle.dvg_tool.specs.Lines.{line_at};
+ghost use Rattle.dvg_tool.specs.Lists.{Lists, ListsWords, StopsBeforeWriting};
+ghost use Rattle.dvg_tool.specs.Watching.{BeginsToWrite, CountsErrors, TakesAtMost, device_of, failures_of};
+
+use crate::fault::{TextFault, ToolFault};
+use crate::line::listed_line;
+use crate::transfer::{read_up_to, write_whole};
+use crate::watched::{DeviceFailed, Watched};
+use dvg_code::{Code, Listed, Listing, OutOfMemory, encode, word_at};
+use std::alloc::Allocator;
+use std::io::{Read, Write};
+
+/// The most bytes that `list` takes as its input: 4,096 words, all that an address of 12 bits names.
+pub const MOST_LIST_BYTES: usize = 8192;
+
+// Writes the line of the instruction that stands at a place of the words.
+fn write_item<W: Write>(
+    words: &[u16],
+    place: usize,
+    code: &Code,
+    writer: &mut Watched<W>,
+) -> Result<(), DeviceFailed>
+    requires { place ≤ length words.now }
+    ensures ok { OnOk result (Appends (W.contents (device_of writer.old)) (W.contents (device_of writer.new)) (line_at words.now place code.now)) }
+    ensures err { OnErr result (BeginsToWrite (line_at words.now place code.now) (W.contents (device_of writer.old)) (W.contents (device_of writer.new))) }
+    ensures counts { CountsErrors result (failures_of writer.old) (failures_of writer.new) }
+{
+    let canonical = words[place..].starts_with(encode(code).as_slice());
+    let line = listed_line(place, code, canonical);
+    write_whole(writer, line.as_bytes())
+}
+
+// Writes a line for each instruction of the words.
+fn list_words<W: Write>(words: &[u16], writer: &mut Watched<W>) -> Result<(), ToolFault>
+    requires fresh { failures_of writer.old ≡ 0 }
+    ensures lists { ListsWords result words.now (W.contents (device_of writer.old)) (W.contents (device_of writer.new)) }
+    ensures writer { IsErrOf result ToolFault.Writer ↔ (failures_of writer.new ≡ 1) }
+    ensures stops { failures_of writer.new ≤ 1 }
+{
+    for item in Listing::new(words) {
+        match item {
+            Listed::At(place, code) => {
+                if write_item(words, place, &code, writer).is_err() {
+                    return Err(ToolFault::Writer);
+                }
+            }
+            Listed::Cut(place) => return Err(ToolFault::Text(TextFault::Cut(place))),
+        }
+    }
+    Ok(())
+}
+
+// The words of an even number of bytes.
+fn words_in<A: Allocator>(alloc: A, bytes: &[u8]) -> Result<Vec<u16, A>, OutOfMemory>
+    requires { length bytes.now % 2 ≡ 0 }
+    ensures { IfOk result (λ words. words.items ≡ words_of bytes.now) }
+{
+    let mut words = Vec::new(alloc);
+    for k in 0..bytes.len() / 2 {
+        words.push(word_at(bytes, k))?;
+    }
+    Ok(words)
+}
+
+/// Reads words, two bytes each, the low one first, and writes a line for each instruction: its place
+/// in words, its name and operands, and a star where its words aren't canonical.
+///
+/// - `TooLong`: the input has more than 8,192 bytes, of which no more than 8,193 are taken.
+/// - `Odd`: it has an odd number of bytes.
+/// - `Cut`: a word is left that no instruction begins with; the lines before it are written.
+/// - `Reader`, `Writer`: that device failed. After `Writer` a beginning of the text went out.
+/// - `Memory`: a growth was refused.
+///
+/// Where it stops before it writes, which is at any fault but `Cut` and `Writer`, the writer is as it
+/// was.
+pub fn list<A: Allocator, R: Read, W: Write>(
+    alloc: A,
+    reader: &mut Watched<R>,
+    writer: &mut Watched<W>,
+) -> Result<(), ToolFault>
+    requires fresh_reader { failures_of reader.old ≡ 0 }
+    requires fresh_writer { failures_of writer.old ≡ 0 }
+
+    // What went out, and when each fault of the text comes, of a reader that tells its bytes.
+    ensures lists { IfSome (R.remaining (device_of reader.old)) (λ input.
+        Lists result input (W.contents (device_of writer.old)) (W.contents (device_of writer.new))) }
+
+    // Whatever the reader and the writer are.
+    ensures unwritten { IfErr result (λ fault. StopsBeforeWriting fault → writer.new ≡ writer.old) }
+    ensures took { TakesAtMost 8193 (R.remaining (device_of reader.old)) (R.remaining (device_of reader.new)) }
+    ensures reader { IsErrOf result ToolFault.Reader ↔ (failures_of reader.new ≡ 1) }
+    ensures writer { IsErrOf result ToolFault.Writer ↔ (failures_of writer.new ≡ 1) }
+    ensures stops { (failures_of reader.new ≤ 1) × (failures_of writer.new ≤ 1) }
+{
+    let bytes = read_up_to(&alloc, reader, MOST_LIST_BYTES)?;
+    if bytes.len() > MOST_LIST_BYTES {
+        return Err(ToolFault::Text(TextFault::TooLong));
+    }
+    if bytes.len() % 2 == 1 {
+        return Err(ToolFault::Text(TextFault::Odd));
+    }
+    let words = words_in(&alloc, bytes.as_slice())?;
+    list_words(words.as_slice(), writer)
+}

@@ -1,0 +1,36 @@
+//! How the program ends.
+ghost use Rattle.std.specs.Prelude.{◌≡◌};
+ghost use Rattle.std.specs.Io.KnownBytes.{Keeps};
+ghost use Rattle.dvg_tool.specs.Outcomes.{FinishesAs, status_of};
+ghost use Rattle.dvg_tool.specs.Watching.{device_of, failures_of};
+
+use crate::fault::ToolFault;
+use crate::watched::Watched;
+use std::io::Write;
+
+/// Flushes the writer of an engine that is done. A flush that fails is `Writer`, whatever the engine
+/// answered; else the engine's answer stays.
+pub fn finish<W: Write>(
+    answer: Result<(), ToolFault>,
+    writer: &mut Watched<W>,
+) -> Result<(), ToolFault>
+    ensures bytes { Keeps (W.contents (device_of writer.old)) (W.contents (device_of writer.new)) }
+    ensures answer { FinishesAs answer result (failures_of writer.old) (failures_of writer.new) }
+{
+    match writer.flush() {
+        Ok(()) => answer,
+        Err(_) => Err(ToolFault::Writer),
+    }
+}
+
+/// The program's exit status: 0 where the job is done, 1 for a fault of the text, 2 for a device that
+/// failed or want of memory. (Words that ask for no job are 64.)
+pub fn status(answer: &Result<(), ToolFault>) -> u8
+    ensures { result ≡ status_of answer.now }
+{
+    match answer {
+        Ok(()) => 0,
+        Err(ToolFault::Text(_)) => 1,
+        Err(ToolFault::Reader | ToolFault::Writer | ToolFault::Memory) => 2,
+    }
+}

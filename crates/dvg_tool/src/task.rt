@@ -1,0 +1,8 @@
+//! What the program can be asked to do.
+
+/// What the program is to do.
+#[derive(Clone, Copy, Debug, PartialEq, Eq)]
+pub enum Job {
+    /// List the instructions of words.
+    List,
+}

@@ -1,0 +1,61 @@
+//! Whole reads and writes through watched devices.
+ghost use Rattle.std.specs.Prelude.{◌≡◌, ◌⊎◌, ◌↔◌, ◌+◌, ◌^◌, ◌<◌, ◌≤◌, take, vec_len, IfOk, IfErr, IfSome, OnOk, OnErr, IsErrOf};
+ghost use Rattle.std.specs.Io.KnownBytes.{Appends};
+ghost use Rattle.dvg_tool.specs.Watching.{BeginsToWrite, CountsErrors, TakesAtMost, device_of, failures_of};
+
+use crate::fault::ToolFault;
+use crate::watched::{DeviceFailed, Watched};
+use std::alloc::Allocator;
+use std::io::{Read, Write};
+
+/// The most bytes that one read takes.
+const PIECE: usize = 8192;
+
+/// The bytes that a reader has left, or the first `most + 1` of them. It takes no more than those.
+pub fn read_up_to<A: Allocator, R: Read>(
+    alloc: A,
+    reader: &mut Watched<R>,
+    most: usize,
+) -> Result<Vec<u8, A>, ToolFault>
+    requires most { most < 2 ^ 32 }
+    requires fresh { failures_of reader.old ≡ 0 }
+    ensures bytes { IfOk result (λ read. IfSome (R.remaining (device_of reader.old)) (λ input. read.items ≡ take (most + 1) input)) }
+    ensures short { IfOk result (λ read. vec_len read ≤ most + 1) }
+    ensures took { TakesAtMost (most + 1) (R.remaining (device_of reader.old)) (R.remaining (device_of reader.new)) }
+    ensures fault { IfErr result (λ fault. (fault ≡ ToolFault.Reader) ⊎ (fault ≡ ToolFault.Memory)) }
+    ensures reader { IsErrOf result ToolFault.Reader ↔ (failures_of reader.new ≡ 1) }
+    ensures stops { failures_of reader.new ≤ 1 }
+{
+    let mut bytes = Vec::new(alloc);
+    let mut piece = [0u8; PIECE];
+    while bytes.len() <= most {
+        let room = (most + 1 - bytes.len()).min(PIECE);
+        let Ok(count) = reader.read(&mut piece[..room]) else {
+            return Err(ToolFault::Reader);
+        };
+        if count == 0 {
+            return Ok(bytes);
+        }
+        if bytes.extend_from_slice(&piece[..count]).is_err() {
+            return Err(ToolFault::Memory);
+        }
+    }
+    Ok(bytes)
+}
+
+/// Writes the whole of a text, by as many writes as it takes. After a failure a beginning of it went
+/// out.
+pub fn write_whole<W: Write>(writer: &mut Watched<W>, text: &[u8]) -> Result<(), DeviceFailed>
+    ensures ok { OnOk result (Appends (W.contents (device_of writer.old)) (W.contents (device_of writer.new)) text.now) }
+    ensures err { OnErr result (BeginsToWrite text.now (W.contents (device_of writer.old)) (W.contents (device_of writer.new))) }
+    ensures counts { CountsErrors result (failures_of writer.old) (failures_of writer.new) }
+{
+    let mut rest = text;
+    while !rest.is_empty() {
+        let Ok(count) = writer.write(rest) else {
+            return Err(DeviceFailed);
+        };
+        rest = &rest[count..];
+    }
+    Ok(())
+}

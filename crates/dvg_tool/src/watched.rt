@@ -1,0 +1,100 @@
+//! Readers and writers whose failures are counted.
+ghost use Rattle.std.specs.Prelude.{◌≡◌, ◌<◌, IfOk, length};
+ghost use Rattle.std.specs.Io.{ReadsAtMost, WritesAtMost};
+ghost use Rattle.std.specs.Io.KnownBytes.{Keeps, ReadConsumes, WriteAppends};
+ghost use Rattle.dvg_tool.specs.Watching.{CountsErrors, device_of, failures_of};
+
+use std::io::{Read, Write};
+
+/// A reader or writer failed, which was counted.
+#[derive(Clone, Copy, Debug, PartialEq, Eq)]
+pub struct DeviceFailed;
+
+/// A reader or writer behind calls that count its failures. A failure is an error that it answers,
+/// and a write that takes nothing of a part that isn't empty; an interrupted call is an error like any
+/// other. It is no `Read` or `Write` itself, so that no call goes past the count.
+#[derive(Drop)]
+pub struct Watched<T> {
+    device: T,
+    failures: u32,
+}
+
+impl<T> Watched<T> {
+    /// Watches a reader or writer, with the count 0.
+    pub fn new(device: T) -> Watched<T>
+        ensures device { device_of result ≡ device }
+        ensures failures { failures_of result ≡ 0 }
+    {
+        Watched {
+            device,
+            failures: 0,
+        }
+    }
+
+    /// The number of failures so far; it stays at its greatest value.
+    pub fn failures(&self) -> u32
+        ensures { result ≡ failures_of self.now }
+    {
+        self.failures
+    }
+
+    /// Gives back what was watched.
+    pub fn into_inner(self) -> T
+        ensures { result ≡ device_of self }
+    {
+        self.device
+    }
+}
+
+impl<R: Read> Watched<R> {
+    /// One read into `buf`, which answers how many bytes it gave.
+    pub fn read(&mut self, buf: &mut [u8]) -> Result<usize, DeviceFailed>
+        ensures bound { ReadsAtMost result buf.new }
+        ensures bytes { ReadConsumes (R.remaining (device_of self.old)) (R.remaining (device_of self.new)) result buf.new }
+        ensures counts { CountsErrors result (failures_of self.old) (failures_of self.new) }
+    {
+        match self.device.read(buf) {
+            Ok(count) => Ok(count),
+            Err(_) => {
+                self.failures = self.failures.saturating_add(1);
+                Err(DeviceFailed)
+            }
+        }
+    }
+}
+
+impl<W: Write> Watched<W> {
+    /// One write of a part of a text, which answers how many bytes were taken.
+    pub fn write(&mut self, part: &[u8]) -> Result<usize, DeviceFailed>
+        ensures bound { WritesAtMost result part.now }
+        ensures bytes { WriteAppends (W.contents (device_of self.old)) (W.contents (device_of self.new)) result part.now }
+        ensures some { IfOk result (λ count. 0 < length part.now → 0 < count) }
+        ensures counts { CountsErrors result (failures_of self.old) (failures_of self.new) }
+    {
+        match self.device.write(part) {
+            Ok(0) if !part.is_empty() => {
+                self.failures = self.failures.saturating_add(1);
+                Err(DeviceFailed)
+            }
+            Ok(count) => Ok(count),
+            Err(_) => {
+                self.failures = self.failures.saturating_add(1);
+                Err(DeviceFailed)
+            }
+        }
+    }
+
+    /// One flush.
+    pub fn flush(&mut self) -> Result<(), DeviceFailed>
+        ensures bytes { Keeps (W.contents (device_of self.old)) (W.contents (device_of self.new)) }
+        ensures counts { CountsErrors result (failures_of self.old) (failures_of self.new) }
+    {
+        match self.device.flush() {
+            Ok(()) => Ok(()),
+            Err(_) => {
+                self.failures = self.failures.saturating_add(1);
+                Err(DeviceFailed)
+            }
+        }
+    }
+}
