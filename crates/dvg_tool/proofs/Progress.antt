@@ -107,7 +107,7 @@ broke_off words s t place instr old now new cutting stands p step begun =
       front = list_text p.done ++ begun.front;
       rest = begun.rest ++ list_text on.more;
       parts = text ∙ ap (λ l. list_text p.done ++ (l ++ list_text on.more)) line ∙ ap (λ l. list_text p.done ++ l) (append_assoc begun.front begun.rest (list_text on.more))
-      ∙ sym (append_assoc (list_text p.done) begun.front (begun.rest ++ list_text on.more));
+          ∙ sym (append_assoc (list_text p.done) begun.front (begun.rest ++ list_text on.more));
       wrote = Appends-trans old now new _ _ p.wrote begun.wrote;
     }
 

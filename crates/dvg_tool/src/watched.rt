@@ -2,7 +2,7 @@
 ghost use Rattle.std.specs.Prelude.{◌≡◌, ◌<◌, IfOk, length};
 ghost use Rattle.std.specs.Io.{ReadsAtMost, WritesAtMost};
 ghost use Rattle.std.specs.Io.KnownBytes.{Keeps, ReadConsumes, WriteAppends};
-ghost use Rattle.dvg_tool.specs.Watching.{CountsErrors, device_of, failures_of};
+ghost use Rattle.dvg_tool.specs.Watching.{CountsErrors, device_of, failures_of, one_more};
 
 use std::io::{Read, Write};
 
@@ -44,6 +44,15 @@ impl<T> Watched<T> {
     {
         self.device
     }
+
+    // Counts a failure.
+    fn failed(&mut self) -> DeviceFailed
+        ensures device { device_of self.new ≡ device_of self.old }
+        ensures counts { failures_of self.new ≡ one_more (failures_of self.old) }
+    {
+        self.failures = self.failures.saturating_add(1);
+        DeviceFailed
+    }
 }
 
 impl<R: Read> Watched<R> {
@@ -55,10 +64,7 @@ impl<R: Read> Watched<R> {
     {
         match self.device.read(buf) {
             Ok(count) => Ok(count),
-            Err(_) => {
-                self.failures = self.failures.saturating_add(1);
-                Err(DeviceFailed)
-            }
+            Err(_) => Err(self.failed()),
         }
     }
 }
@@ -72,15 +78,9 @@ impl<W: Write> Watched<W> {
         ensures counts { CountsErrors result (failures_of self.old) (failures_of self.new) }
     {
         match self.device.write(part) {
-            Ok(0) if !part.is_empty() => {
-                self.failures = self.failures.saturating_add(1);
-                Err(DeviceFailed)
-            }
+            Ok(0) if !part.is_empty() => Err(self.failed()),
             Ok(count) => Ok(count),
-            Err(_) => {
-                self.failures = self.failures.saturating_add(1);
-                Err(DeviceFailed)
-            }
+            Err(_) => Err(self.failed()),
         }
     }
 
@@ -91,10 +91,7 @@ impl<W: Write> Watched<W> {
     {
         match self.device.flush() {
             Ok(()) => Ok(()),
-            Err(_) => {
-                self.failures = self.failures.saturating_add(1);
-                Err(DeviceFailed)
-            }
+            Err(_) => Err(self.failed()),
         }
     }
 }

@@ -1,0 +1,352 @@
+//! Compares the proved program with its plain twin: the same inputs, many times, one program after the other.
+//!
+//! `compare PROVED PLAIN FOLDER` runs both programs on each row's input, checks that they write the same and end
+//! with the same status each time, and prints a table. It makes the inputs itself and keeps its files in FOLDER.
+//! It is made for 64-bit Linux, whose `wait4` tells what a single process used.
+
+use std::fs::{self, File};
+use std::io;
+use std::os::unix::process::{CommandExt, ExitStatusExt};
+use std::path::{Path, PathBuf};
+use std::process::{Command, ExitCode, ExitStatus};
+use std::time::{Duration, Instant};
+
+/// What is compared: one line a row. An input is made anew from the same numbers each time, so it never changes.
+const ROWS: &[Row] = &[
+    row("start-up: list, no input", &["list"], Vec::new),
+    row("list, 8,192 bytes of VCTR", &["list"], || vectors(2048)),
+];
+
+/// How long all rows together are timed; each gets the same part.
+const TIMED: Duration = Duration::from_secs(17);
+
+/// The runs of each program before the first that counts, after which files and processor are warm.
+const WARM_UP_RUNS: usize = 10;
+
+/// The least number of timed runs of each program, however long they take.
+const LEAST_TIMED_RUNS: usize = 11;
+
+/// The runs of each program whose memory is measured. It hardly changes from run to run.
+const MEMORY_RUNS: usize = 11;
+
+/// One comparison.
+struct Row {
+    name: &'static str,
+    /// The words that the programs are called with.
+    words: &'static [&'static str],
+    /// Makes what they read.
+    input: fn() -> Vec<u8>,
+}
+
+const fn row(name: &'static str, words: &'static [&'static str], input: fn() -> Vec<u8>) -> Row {
+    Row { name, words, input }
+}
+
+// --- Inputs ---
+
+/// A small linear congruential generator (Knuth's MMIX constants), of which the high bits are used.
+struct Random(u64);
+
+impl Random {
+    /// A number below `limit`.
+    fn below(&mut self, limit: u16) -> u16 {
+        self.0 = self
+            .0
+            .wrapping_mul(6364136223846793005)
+            .wrapping_add(1442695040888963407);
+        ((self.0 >> 33) % u64::from(limit)) as u16
+    }
+
+    /// True once in so many times.
+    fn once_in(&mut self, times: u16) -> bool {
+        self.below(times) == 0
+    }
+}
+
+/// The bytes of so many random vectors. About one in six isn't canonical: it has bit 11 of a word set, which is
+/// ignored, or a sign on a magnitude of zero.
+fn vectors(count: usize) -> Vec<u8> {
+    let mut random = Random(1979);
+    let mut bytes = Vec::new();
+    for _ in 0..count {
+        // The first word's top four bits are the scale, 0 to 9; the second word's are the intensity, 0 to 15.
+        for tops in [10, 16] {
+            let top = random.below(tops) << 12;
+            let ignored = u16::from(random.once_in(16)) << 11;
+            let sign = random.below(2) << 10;
+            let magnitude = if random.once_in(16) {
+                0
+            } else {
+                random.below(1024)
+            };
+            bytes.extend((top | ignored | sign | magnitude).to_le_bytes());
+        }
+    }
+    bytes
+}
+
+// --- Runs ---
+
+/// A program, and the files that it reads and writes.
+struct Contender {
+    program: PathBuf,
+    input: PathBuf,
+    output: PathBuf,
+    error: PathBuf,
+}
+
+/// What a run answered.
+#[derive(PartialEq)]
+struct Answer {
+    status: ExitStatus,
+    output: Vec<u8>,
+    error: Vec<u8>,
+}
+
+/// What a run took.
+struct Cost {
+    /// From before the process was made until it had ended.
+    wall_ms: f64,
+    /// The process's time in its own code and in the kernel.
+    processor_ms: f64,
+    /// The most memory that the process held at once.
+    memory_kib: f64,
+}
+
+impl Contender {
+    fn new(program: &str, name: &str, folder: &Path) -> Contender {
+        Contender {
+            program: PathBuf::from(program),
+            input: folder.join("input"),
+            output: folder.join(format!("{name}.output")),
+            error: folder.join(format!("{name}.error")),
+        }
+    }
+
+    /// The program with these words, reading its input, with new files for what it writes.
+    fn command(&self, words: &[&str]) -> io::Result<Command> {
+        let mut command = Command::new(&self.program);
+        command
+            .args(words)
+            .stdin(File::open(&self.input)?)
+            .stdout(new_file(&self.output)?)
+            .stderr(new_file(&self.error)?);
+        Ok(command)
+    }
+
+    /// Runs the program once, to measure its time.
+    fn timed_run(&self, words: &[&str]) -> io::Result<(Answer, Cost)> {
+        self.run(self.command(words)?)
+    }
+
+    /// Runs the program once, to measure its memory.
+    ///
+    /// Linux also counts what the process held before the program was loaded into it. Until then it usually shares
+    /// all memory of this comparer, and could never show less. A process that has a step to do before gets a copy
+    /// instead, of what little was written: that takes longer, but shows what the program itself holds.
+    fn memory_run(&self, words: &[&str]) -> io::Result<(Answer, Cost)> {
+        let mut command = self.command(words)?;
+        // SAFETY: the step does nothing at all.
+        unsafe { command.pre_exec(|| Ok(())) };
+        self.run(command)
+    }
+
+    /// Runs a command of this program. Neither opening the files nor reading the answer is timed.
+    fn run(&self, mut command: Command) -> io::Result<(Answer, Cost)> {
+        let start = Instant::now();
+        let child = command.spawn()?;
+        let (status, usage) = wait_for(child.id())?;
+        let cost = Cost {
+            wall_ms: milliseconds(start.elapsed()),
+            processor_ms: milliseconds(usage.user.duration() + usage.system.duration()),
+            memory_kib: usage.most_memory as f64,
+        };
+        let answer = Answer {
+            status,
+            output: fs::read(&self.output)?,
+            error: fs::read(&self.error)?,
+        };
+        Ok((answer, cost))
+    }
+}
+
+/// A new file in place of an old one. Emptying the old one would be slower: its bytes may have to reach the disk.
+fn new_file(path: &Path) -> io::Result<File> {
+    if path.exists() {
+        fs::remove_file(path)?;
+    }
+    File::create_new(path)
+}
+
+fn milliseconds(duration: Duration) -> f64 {
+    duration.as_secs_f64() * 1000.0
+}
+
+// --- Waiting for a process ---
+
+/// The kernel's `timeval` on 64-bit Linux.
+#[repr(C)]
+#[derive(Default)]
+struct Time {
+    seconds: i64,
+    microseconds: i64,
+}
+
+impl Time {
+    fn duration(&self) -> Duration {
+        Duration::from_secs(self.seconds as u64) + Duration::from_micros(self.microseconds as u64)
+    }
+}
+
+/// The kernel's `rusage` on 64-bit Linux.
+#[repr(C)]
+#[derive(Default)]
+struct Usage {
+    user: Time,
+    system: Time,
+    most_memory: i64,
+    others: [i64; 13],
+}
+
+unsafe extern "C" {
+    fn wait4(process: i32, status: *mut i32, options: i32, usage: *mut Usage) -> i32;
+}
+
+/// Waits until a child has ended. The standard library's own wait doesn't tell what the child used.
+fn wait_for(process: u32) -> io::Result<(ExitStatus, Usage)> {
+    let mut status = 0;
+    let mut usage = Usage::default();
+    // SAFETY: both pointers are to values that live through the call, laid out as 64-bit Linux has them.
+    let ended = unsafe { wait4(process as i32, &mut status, 0, &mut usage) };
+    if ended < 0 {
+        return Err(io::Error::last_os_error());
+    }
+    Ok((ExitStatus::from_raw(status), usage))
+}
+
+// --- The comparison ---
+
+/// A number of the proved program's run, and the same number of the plain one's.
+type Pair = (f64, f64);
+
+/// What a row's runs took.
+#[derive(Default)]
+struct Measured {
+    wall_ms: Vec<Pair>,
+    processor_ms: Vec<Pair>,
+    memory_kib: Vec<Pair>,
+}
+
+/// One way to run a program with these words.
+type Run = fn(&Contender, &[&str]) -> io::Result<(Answer, Cost)>;
+
+/// Runs both programs once and answers their costs, the proved one's first. Their answers must be the same.
+fn run_both(
+    row: &Row,
+    run: Run,
+    [proved, plain]: [&Contender; 2],
+    plain_first: bool,
+) -> io::Result<(Cost, Cost)> {
+    let (first, second) = if plain_first {
+        (plain, proved)
+    } else {
+        (proved, plain)
+    };
+    let (first_answer, first_cost) = run(first, row.words)?;
+    let (second_answer, second_cost) = run(second, row.words)?;
+    if first_answer != second_answer {
+        return Err(io::Error::other(format!(
+            "the programs answer differently: {}",
+            row.name
+        )));
+    }
+    Ok(if plain_first {
+        (second_cost, first_cost)
+    } else {
+        (first_cost, second_cost)
+    })
+}
+
+/// Measures a row: times for so long, then memory.
+fn measure(row: &Row, contenders: [&Contender; 2], time: Duration) -> io::Result<Measured> {
+    fs::write(&contenders[0].input, (row.input)())?;
+    for _ in 0..WARM_UP_RUNS {
+        run_both(row, Contender::timed_run, contenders, false)?;
+    }
+    let mut measured = Measured::default();
+    let start = Instant::now();
+    while measured.wall_ms.len() < LEAST_TIMED_RUNS || start.elapsed() < time {
+        // The order changes each time, so that whatever else the machine does meets both programs alike.
+        let plain_first = measured.wall_ms.len() % 2 == 1;
+        let (proved, plain) = run_both(row, Contender::timed_run, contenders, plain_first)?;
+        measured.wall_ms.push((proved.wall_ms, plain.wall_ms));
+        measured
+            .processor_ms
+            .push((proved.processor_ms, plain.processor_ms));
+    }
+    for _ in 0..MEMORY_RUNS {
+        let (proved, plain) = run_both(row, Contender::memory_run, contenders, false)?;
+        measured
+            .memory_kib
+            .push((proved.memory_kib, plain.memory_kib));
+    }
+    Ok(measured)
+}
+
+/// The median and the least of some numbers.
+fn median_and_least(numbers: impl Iterator<Item = f64>) -> (f64, f64) {
+    let mut numbers: Vec<f64> = numbers.collect();
+    numbers.sort_by(f64::total_cmp);
+    (numbers[numbers.len() / 2], numbers[0])
+}
+
+/// Prints a line of the table.
+fn print_line(name: &str, measure: &str, decimals: usize, pairs: &[Pair]) {
+    let (proved, least_proved) = median_and_least(pairs.iter().map(|pair| pair.0));
+    let (plain, least_plain) = median_and_least(pairs.iter().map(|pair| pair.1));
+    let (ratio, least_ratio) = (proved / plain, least_proved / least_plain);
+    println!(
+        "{name:<28} {measure:<13} {proved:>9.decimals$} {plain:>9.decimals$} {ratio:>7.2} {least_ratio:>7.2}"
+    );
+}
+
+/// Measures all rows and prints the table.
+fn compare(contenders: [&Contender; 2]) -> io::Result<()> {
+    println!(
+        "Medians of each program's runs, then proved / plain: the ratio of the medians and of the least.\n"
+    );
+    println!(
+        "{:<28} {:<13} {:>9} {:>9} {:>7} {:>7}",
+        "row", "measure", "proved", "plain", "ratio", "least"
+    );
+    for row in ROWS {
+        let measured = measure(row, contenders, TIMED / ROWS.len() as u32)?;
+        print_line(row.name, "wall ms", 3, &measured.wall_ms);
+        print_line(
+            &format!("  {} runs each", measured.wall_ms.len()),
+            "processor ms",
+            3,
+            &measured.processor_ms,
+        );
+        print_line("", "memory KiB", 0, &measured.memory_kib);
+    }
+    Ok(())
+}
+
+fn main() -> ExitCode {
+    let words: Vec<String> = std::env::args().collect();
+    let [_, proved, plain, folder] = words.as_slice() else {
+        eprintln!("usage: compare PROVED PLAIN FOLDER");
+        return ExitCode::from(64);
+    };
+    let folder = Path::new(folder);
+    let proved = Contender::new(proved, "proved", folder);
+    let plain = Contender::new(plain, "plain", folder);
+    match compare([&proved, &plain]) {
+        Ok(()) => ExitCode::SUCCESS,
+        Err(fault) => {
+            eprintln!("compare: {fault}");
+            ExitCode::FAILURE
+        }
+    }
+}

@@ -1,0 +1,16 @@
+-- The words of the shared memory.
+use Rattle.std.specs.Prelude.{◌≡◌, ℕ, ◌-◌, ◌<◌, ◌&&◌, nat_le, nat_lt, if◌then◌else◌, List, All, length, Option, Some, None}
+use Rattle.dvg_code.specs.Words.{word_in}
+
+-- the content of a memory of 2,048 bytes
+pub record IsImage (content : List ℕ) : Type 0 where
+  pub count : length content ≡ 2048
+  pub bytes : All (λ byte. byte < 256) content
+
+-- the ROM's word at an address, from 800 to BFF
+abbrev pub rom_word : List ℕ → ℕ → Option ℕ
+rom_word rom a = if nat_le 0x800 a && nat_lt a 0xC00 then Some (word_in rom (a - 0x800)) else None
+
+-- the word that the generator finds at an address: below 400 the RAM's, else the ROM's; none in a hole
+abbrev pub fetched : (ram rom : List ℕ) → ℕ → Option ℕ
+fetched ram rom w = if nat_lt w 0x400 then Some (word_in ram w) else rom_word rom w

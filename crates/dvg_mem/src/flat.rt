@@ -1,0 +1,48 @@
+//! A store in one row.
+use crate::image::Image;
+use crate::store::Store;
+use dvg_code::OutOfMemory;
+use std::alloc::{Allocator, Global};
+use std::marker::Model;
+
+/// A store that keeps its bytes in one row.
+#[derive(Drop)]
+pub struct Flat<A: Allocator = Global> {
+    bytes: Vec<u8, A>,
+}
+
+/// Contracts see the list of the bytes.
+impl<A: Allocator> Model for Flat<A> {
+    ghost use Rattle.std.specs.Prelude.{◌≡◌, List, ℕ, length};
+
+    ghost Value = { List ℕ };
+
+    ghost view = { λ flat. flat.bytes.items };
+
+    ghost invariant = { λ flat. length flat.bytes.items ≡ 2048 };
+}
+
+impl<A: Allocator + Copy> Store for Flat<A> {
+    type Alloc = A;
+
+    ghost content = { λ flat. flat };
+
+    fn make(alloc: A, image: &Image<A>) -> Result<Flat<A>, OutOfMemory> {
+        match image.bytes().to_vec(alloc) {
+            Ok(bytes) => Ok(Flat { bytes }),
+            Err(_) => Err(OutOfMemory),
+        }
+    }
+
+    fn read(&self, a: u16) -> u8 {
+        self.bytes[usize::from(a)]
+    }
+
+    fn write(&mut self, a: u16, b: u8) {
+        self.bytes[usize::from(a)] = b;
+    }
+
+    fn load(&mut self, image: &Image<A>) {
+        self.bytes.copy_from_slice(image.bytes());
+    }
+}

@@ -1,0 +1,41 @@
+//! The memory that the processor and the vector generator share, and its map.
+//!
+//! The processor sees 2,048 bytes of vector RAM and 2,048 bytes of vector ROM. The generator sees the
+//! same memory as words, at addresses of 12 bits: word `w` is the bytes `2w` (low) and `2w + 1` (high)
+//! from the RAM's first byte on. Byte addresses of the RAM are offsets, 000 to 7FF; word addresses are
+//! 000 to FFF.
+//!
+//! | Words | Area |
+//! |---|---|
+//! | 000 | word zero: the jump to the half that is drawn |
+//! | 001 to 1FF | half 0 |
+//! | 200 | RAM that is not used (this project's own choice) |
+//! | 201 to 3FF | half 1 |
+//! | 400 to 7FF | hole (this project's own choice) |
+//! | 800 to BFF | ROM |
+//! | C00 to FFF | hole (this project's own choice) |
+//!
+//! The RAM at 000 to 3FF and the ROM at 800 to BFF are those of Asteroids (Atari's schematics).
+#![tactic(auto)]
+
+mod areas;
+mod fetching;
+mod flat;
+mod half;
+mod image;
+pub mod laws;
+mod lookup;
+mod rom;
+mod store;
+
+pub use areas::Area;
+pub use fetching::fetch;
+pub use flat::Flat;
+pub use half::Half;
+pub use image::{Image, MemFault};
+pub use lookup::area;
+pub use rom::Rom;
+pub use store::Store;
+
+/// The bytes of a vector RAM, and of a vector ROM.
+pub const MEMORY_BYTES: usize = 2048;

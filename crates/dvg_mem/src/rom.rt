@@ -1,0 +1,55 @@
+//! The vector ROM.
+ghost use Rattle.std.specs.Prelude.{◌≡◌, ◌≢◌, ◌≤◌, ◌↔◌, length, IfOk, IsErrOf, Some};
+ghost use Rattle.dvg_mem.specs.Memory.{IsImage, rom_word};
+
+use crate::MEMORY_BYTES;
+use crate::image::MemFault;
+use dvg_code::word_at;
+use std::alloc::{Allocator, Global};
+use std::marker::Model;
+
+/// The word address of the ROM's first word.
+const FIRST_WORD: u16 = 0x800;
+
+/// The 2,048 bytes of a vector ROM: the words 800 to BFF.
+#[derive(Drop)]
+pub struct Rom<A: Allocator = Global> {
+    bytes: Vec<u8, A>,
+}
+
+/// Contracts see the list of the bytes.
+impl<A: Allocator> Model for Rom<A> {
+    ghost use Rattle.std.specs.Prelude.{List, ℕ};
+    ghost use Rattle.dvg_mem.specs.Memory.{IsImage};
+
+    ghost Value = { List ℕ };
+
+    ghost view = { λ rom. rom.bytes.items };
+
+    ghost invariant = { λ rom. IsImage rom.bytes.items };
+}
+
+impl<A: Allocator> Rom<A> {
+    /// The ROM of these bytes. It is refused as `Size` exactly where they are not 2,048.
+    pub fn new(alloc: A, bytes: &[u8]) -> Result<Rom<A>, MemFault>
+        ensures bytes { IfOk result (λ rom. rom ≡ bytes.now) }
+        ensures size { IsErrOf result MemFault.Size ↔ (length bytes.now ≢ 2048) }
+    {
+        if bytes.len() != MEMORY_BYTES {
+            return Err(MemFault::Size);
+        }
+        match bytes.to_vec(alloc) {
+            Ok(bytes) => Ok(Rom { bytes }),
+            Err(_) => Err(MemFault::OutOfMemory),
+        }
+    }
+
+    /// The word at a word address from 800 to BFF.
+    pub fn word(&self, a: u16) -> u16
+        requires first { 0x800 ≤ a }
+        requires last { a ≤ 0xBFF }
+        ensures { rom_word self.now a ≡ Some result }
+    {
+        word_at(self.bytes.as_slice(), usize::from(a - FIRST_WORD))
+    }
+}

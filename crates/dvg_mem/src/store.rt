@@ -1,0 +1,34 @@
+//! Stores: the vector RAM, however it is kept.
+ghost use Rattle.std.specs.Prelude.{◌≡◌, ◌<◌, ℕ, List, slice_index, slice_set, IfOk};
+
+use crate::image::Image;
+use dvg_code::OutOfMemory;
+use std::alloc::Allocator;
+
+/// The vector RAM: 2,048 bytes at the addresses 000 to 7FF, however they are kept. Only `make` takes
+/// memory.
+pub trait Store: Drop {
+    /// What a store takes its room from.
+    type Alloc: Allocator + Copy;
+
+    /// The bytes, from address 000 on.
+    ghost content: { Self → List ℕ };
+
+    /// A store that holds an image.
+    fn make(alloc: Self::Alloc, image: &Image<Self::Alloc>) -> Result<Self, OutOfMemory>
+        ensures { IfOk result (λ store. content store ≡ image.now) };
+
+    /// The byte at an address.
+    fn read(&self, a: u16) -> u8
+        requires { a < 2048 }
+        ensures { result ≡ slice_index (content self.now) a };
+
+    /// Changes the byte at an address, and no other.
+    fn write(&mut self, a: u16, b: u8)
+        requires { a < 2048 }
+        ensures { content self.new ≡ slice_set (content self.old) a b };
+
+    /// Takes an image's bytes in place of its own.
+    fn load(&mut self, image: &Image<Self::Alloc>)
+        ensures { content self.new ≡ image.now };
+}

@@ -1,0 +1,10 @@
+//! Tests of what crosses crates: the worked examples of the engines over memory, devices that fail,
+//! and memory that is refused. The crate exports nothing.
+#![tactic(auto)]
+
+#[cfg(test)]
+mod devices;
+#[cfg(test)]
+mod lists;
+#[cfg(test)]
+mod texts;

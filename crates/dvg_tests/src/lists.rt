@@ -1,0 +1,168 @@
+//! The engine `list`.
+use crate::devices::{Endless, Failure, Slow, Stubborn};
+use dvg_tool::{MOST_LIST_BYTES, TextFault, ToolFault, Watched, finish, list};
+use linked_list_allocator::LocalHeap;
+use std::test::Fail;
+
+/// Two vectors, of which one is not canonical, and then words that are cut.
+const INPUT: [u8; 10] = [0x64, 0x90, 0x64, 0x74, 0x00, 0x94, 0x00, 0x00, 0x90, 0xA1];
+
+/// What `list` writes of `INPUT` before it answers `cut at 004`.
+const TEXT: &str = "000 VCTR 9 -100 100 7\n002 VCTR 9 0 0 0 *\n";
+
+const CUT: Result<(), ToolFault> = Err(ToolFault::Text(TextFault::Cut(4)));
+
+/// Inputs, what is written of each, and what is answered.
+const EXAMPLES: [(&[u8], &str, Result<(), ToolFault>); 6] = [
+    (&[0x64, 0x90, 0x64, 0x74], "000 VCTR 9 -100 100 7\n", Ok(())),
+    (&[], "", Ok(())),
+    (
+        &[0x64, 0x90, 0x64],
+        "",
+        Err(ToolFault::Text(TextFault::Odd)),
+    ),
+    (&[0x90, 0xA1], "", Err(ToolFault::Text(TextFault::Cut(0)))),
+    (
+        &[0x64, 0x90, 0x64, 0x74, 0x64, 0x90],
+        "000 VCTR 9 -100 100 7\n",
+        Err(ToolFault::Text(TextFault::Cut(2))),
+    ),
+    (
+        &[
+            0x00, 0x94, 0x00, 0x00, 0x00, 0x90, 0x00, 0x08, 0x00, 0x90, 0x00, 0x00,
+        ],
+        "000 VCTR 9 0 0 0 *\n002 VCTR 9 0 0 0 *\n004 VCTR 9 0 0 0\n",
+        Ok(()),
+    ),
+];
+
+#[test]
+fn lists_the_worked_examples(rt: HostRuntime) -> Result<(), Fail> {
+    for (input, text, answer) in EXAMPLES {
+        let mut reader = Watched::new(input);
+        let mut writer = Watched::new(Vec::new(rt.alloc()));
+        assert_eq!(rt; list(rt.alloc(), &mut reader, &mut writer), answer);
+        assert_eq!(rt; writer.into_inner().as_slice(), text.as_bytes());
+    }
+    Ok(())
+}
+
+#[test]
+fn each_read_fails_in_turn(rt: HostRuntime) -> Result<(), Fail> {
+    for calls_left in 0..12u32 {
+        let mut reader = Watched::new(Slow {
+            rest: INPUT.as_slice(),
+            step: 1,
+            calls_left,
+        });
+        let mut writer = Watched::new(Vec::new(rt.alloc()));
+        let answer = list(rt.alloc(), &mut reader, &mut writer);
+        if calls_left < 11 {
+            assert_eq!(rt; answer, Err(ToolFault::Reader), "after {calls_left} reads");
+            assert_eq!(rt; reader.failures(), 1);
+            assert!(rt; writer.into_inner().is_empty());
+        } else {
+            assert_eq!(rt; answer, CUT);
+            assert_eq!(rt; reader.failures(), 0);
+            assert_eq!(rt; writer.into_inner().as_slice(), TEXT.as_bytes());
+        }
+    }
+    Ok(())
+}
+
+#[test]
+fn each_write_fails_in_turn(rt: HostRuntime) -> Result<(), Fail> {
+    for failure in [Failure::Error, Failure::TakesNothing] {
+        for calls_left in 0..43u32 {
+            let mut reader = Watched::new(INPUT.as_slice());
+            let mut writer = Watched::new(Stubborn {
+                taken: Vec::new(rt.alloc()),
+                step: 1,
+                calls_left,
+                failure,
+            });
+            let answer = list(rt.alloc(), &mut reader, &mut writer);
+            let failures = writer.failures();
+            let taken = writer.into_inner().taken;
+            assert!(rt; TEXT.as_bytes().starts_with(taken.as_slice()));
+            if calls_left < 41 {
+                assert_eq!(rt; answer, Err(ToolFault::Writer), "after {calls_left} writes");
+                assert_eq!(rt; failures, 1);
+                assert_eq!(rt; taken.len(), calls_left as usize);
+            } else {
+                assert_eq!(rt; answer, CUT);
+                assert_eq!(rt; failures, 0);
+                assert_eq!(rt; taken.len(), TEXT.len());
+            }
+        }
+    }
+    Ok(())
+}
+
+/// A heap refuses what does not fit it, so each size of heap refuses some growth, or none.
+#[test]
+fn each_growth_is_refused_in_turn(rt: HostRuntime) -> Result<(), Fail> {
+    let mut refused = 0u32;
+    for slots in 0..64usize {
+        let heap = LocalHeap::new(rt.alloc(), slots * 16)?;
+        let mut reader = Watched::new(INPUT.as_slice());
+        let mut writer = Watched::new(Vec::new(rt.alloc()));
+        let answer = list(&heap, &mut reader, &mut writer);
+        let text = writer.into_inner();
+        if answer == Err(ToolFault::Memory) {
+            refused = refused.saturating_add(1);
+            assert!(rt; text.is_empty());
+        } else {
+            assert_eq!(rt; answer, CUT);
+            assert_eq!(rt; text.as_slice(), TEXT.as_bytes());
+        }
+    }
+    assert!(rt; 0 < refused && refused < 64, "refused {refused}");
+    Ok(())
+}
+
+#[test]
+fn takes_no_more_than_one_byte_too_many(rt: HostRuntime) -> Result<(), Fail> {
+    let mut reader = Watched::new(Endless { taken: 0 });
+    let mut writer = Watched::new(Vec::new(rt.alloc()));
+    let answer = list(rt.alloc(), &mut reader, &mut writer);
+    assert_eq!(rt; answer, Err(ToolFault::Text(TextFault::TooLong)));
+    assert_eq!(rt; reader.into_inner().taken, MOST_LIST_BYTES + 1);
+    assert!(rt; writer.into_inner().is_empty());
+    Ok(())
+}
+
+#[test]
+fn lists_the_longest_input(rt: HostRuntime) -> Result<(), Fail> {
+    let input = vec![in rt.alloc(); 0u8; MOST_LIST_BYTES]?;
+    let mut reader = Watched::new(input.as_slice());
+    let mut writer = Watched::new(Vec::new(rt.alloc()));
+    assert_eq!(rt; list(rt.alloc(), &mut reader, &mut writer), Ok(()));
+    let text = writer.into_inner();
+    assert_eq!(rt; text.iter().filter(|byte| **byte == b'\n').count(), 2048);
+    assert!(rt; text.as_slice().ends_with(b"\nFFE VCTR 0 0 0 0\n"));
+    Ok(())
+}
+
+#[test]
+fn a_failing_flush_is_the_writers_fault(rt: HostRuntime) -> Result<(), Fail> {
+    for answer in [Ok(()), CUT, Err(ToolFault::Reader)] {
+        for calls_left in 0..2u32 {
+            let mut writer = Watched::new(Stubborn {
+                taken: Vec::new(rt.alloc()),
+                step: 1,
+                calls_left,
+                failure: Failure::Error,
+            });
+            let finished = finish(answer, &mut writer);
+            if calls_left == 0 {
+                assert_eq!(rt; finished, Err(ToolFault::Writer));
+                assert_eq!(rt; writer.failures(), 1);
+            } else {
+                assert_eq!(rt; finished, answer);
+                assert_eq!(rt; writer.failures(), 0);
+            }
+        }
+    }
+    Ok(())
+}

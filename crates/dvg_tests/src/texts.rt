@@ -1,0 +1,35 @@
+//! The texts of faults, and what the program's words ask for.
+use dvg_tool::{Job, TextFault, ToolFault, job, status};
+use std::test::Fail;
+
+/// Each fault, its text and the exit status.
+const FAULTS: [(ToolFault, &str, u8); 7] = [
+    (ToolFault::Text(TextFault::TooLong), "too long", 1),
+    (ToolFault::Text(TextFault::Odd), "odd length", 1),
+    (ToolFault::Text(TextFault::Cut(0)), "cut at 000", 1),
+    (ToolFault::Text(TextFault::Cut(0xFFF)), "cut at FFF", 1),
+    (ToolFault::Reader, "read failed", 2),
+    (ToolFault::Writer, "write failed", 2),
+    (ToolFault::Memory, "out of memory", 2),
+];
+
+#[test]
+fn faults_have_their_texts(rt: HostRuntime) -> Result<(), Fail> {
+    assert_eq!(rt; status(&Ok(())), 0);
+    for (fault, text, wanted) in FAULTS {
+        assert_eq!(rt; fault.to_string(rt.alloc())?.as_str(), text);
+        assert_eq!(rt; status(&Err(fault)), wanted);
+    }
+    Ok(())
+}
+
+#[test]
+fn exactly_one_word_asks_for_a_job(rt: HostRuntime) {
+    assert_eq!(rt; job(&["dvg", "list"]), Some(Job::List));
+    assert_eq!(rt; job(&["any name", "list"]), Some(Job::List));
+    assert_eq!(rt; job(&[]), None);
+    assert_eq!(rt; job(&["list"]), None);
+    assert_eq!(rt; job(&["dvg", ""]), None);
+    assert_eq!(rt; job(&["dvg", "lists"]), None);
+    assert_eq!(rt; job(&["dvg", "list", "list"]), None);
+}
