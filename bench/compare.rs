@@ -1,7 +1,7 @@
 //! Compares the proved program with its plain twin: the same inputs, many times, one program after the other.
 //!
 //! `compare PROVED PLAIN FOLDER` runs both programs on each row's input, checks that they write the same and end
-//! with the same status each time, and prints a table. It makes the inputs itself and keeps its files in FOLDER.
+//! with status 0 each time, and prints a table. It makes the inputs itself and keeps its files in FOLDER.
 //! It is made for 64-bit Linux, whose `wait4` tells what a single process used.
 
 use std::fs::{self, File};
@@ -15,6 +15,10 @@ use std::time::{Duration, Instant};
 const ROWS: &[Row] = &[
     row("start-up: list, no input", &["list"], Vec::new),
     row("list, 8,192 bytes of VCTR", &["list"], || vectors(2048)),
+    row("list, 8,192 bytes of mixed instructions", &["list"], || {
+        instructions(4096)
+    }),
+    row("rom, 2,048 random bytes", &["rom"], || random_bytes(2048)),
 ];
 
 /// How long all rows together are timed; each gets the same part.
@@ -83,6 +87,42 @@ fn vectors(count: usize) -> Vec<u8> {
         }
     }
     bytes
+}
+
+/// The bytes of so many random words, which aren't cut. Each of the seven instructions comes about equally often, and
+/// one in sixteen isn't canonical: ignored bits of it are set, or a magnitude of zero has a sign.
+fn instructions(words: usize) -> Vec<u8> {
+    let mut random = Random(1979);
+    let mut bytes = Vec::new();
+    while bytes.len() < 2 * words {
+        let opcode = match random.below(7) {
+            0 => random.below(10),
+            instruction => 9 + instruction,
+        };
+        // A last word alone stays alone: its opcode becomes B or F.
+        let opcode = if bytes.len() + 2 == 2 * words {
+            opcode | 0xB
+        } else {
+            opcode
+        };
+        let ignored = match opcode {
+            0..=9 => 0x800,
+            0xB | 0xD => 0xFFF,
+            _ => 0,
+        };
+        let second = (opcode <= 0xA).then(|| random.below(16));
+        for top in [Some(opcode), second].into_iter().flatten() {
+            let cleared = if random.once_in(16) { 0 } else { ignored };
+            bytes.extend((top << 12 | random.below(4096) & !cleared).to_le_bytes());
+        }
+    }
+    bytes
+}
+
+/// So many random bytes.
+fn random_bytes(count: usize) -> Vec<u8> {
+    let mut random = Random(1979);
+    (0..count).map(|_| random.below(256) as u8).collect()
 }
 
 // --- Runs ---
@@ -240,7 +280,8 @@ struct Measured {
 /// One way to run a program with these words.
 type Run = fn(&Contender, &[&str]) -> io::Result<(Answer, Cost)>;
 
-/// Runs both programs once and answers their costs, the proved one's first. Their answers must be the same.
+/// Runs both programs once and answers their costs, the proved one's first. Their answers must be the same, and the
+/// status 0: an input that was refused would be no measure of the work.
 fn run_both(
     row: &Row,
     run: Run,
@@ -257,6 +298,12 @@ fn run_both(
     if first_answer != second_answer {
         return Err(io::Error::other(format!(
             "the programs answer differently: {}",
+            row.name
+        )));
+    }
+    if !first_answer.status.success() {
+        return Err(io::Error::other(format!(
+            "the programs refuse the input: {}",
             row.name
         )));
     }
@@ -306,7 +353,7 @@ fn print_line(name: &str, measure: &str, decimals: usize, pairs: &[Pair]) {
     let (plain, least_plain) = median_and_least(pairs.iter().map(|pair| pair.1));
     let (ratio, least_ratio) = (proved / plain, least_proved / least_plain);
     println!(
-        "{name:<28} {measure:<13} {proved:>9.decimals$} {plain:>9.decimals$} {ratio:>7.2} {least_ratio:>7.2}"
+        "{name:<40} {measure:<13} {proved:>9.decimals$} {plain:>9.decimals$} {ratio:>7.2} {least_ratio:>7.2}"
     );
 }
 
@@ -316,7 +363,7 @@ fn compare(contenders: [&Contender; 2]) -> io::Result<()> {
         "Medians of each program's runs, then proved / plain: the ratio of the medians and of the least.\n"
     );
     println!(
-        "{:<28} {:<13} {:>9} {:>9} {:>7} {:>7}",
+        "{:<40} {:<13} {:>9} {:>9} {:>7} {:>7}",
         "row", "measure", "proved", "plain", "ratio", "least"
     );
     for row in ROWS {

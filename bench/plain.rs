@@ -1,4 +1,4 @@
-//! The plain twin of `dvg list`: the same program in plain Rust, with nothing proved, to compare speeds with.
+//! The plain twin of `dvg`: the same program in plain Rust, with nothing proved, to compare speeds with.
 //!
 //! It has the same limits, texts and statuses. Only where standard input or standard output was closed by the
 //! caller do the two differ: Rust's runtime opens /dev/null in its place.
@@ -10,16 +10,26 @@ use std::os::fd::AsFd;
 use std::process::ExitCode;
 
 /// The most bytes that `list` takes as its input.
-const MOST_BYTES: usize = 8192;
+const MOST_LIST_BYTES: usize = 8192;
+
+/// The bytes that `rom` takes as its input.
+const ROM_BYTES: usize = 2048;
+
+/// The word address of a ROM's first word.
+const FIRST_ROM_WORD: usize = 0x800;
+
+/// How many bytes of a ROM stand in a line.
+const ROM_LINE_BYTES: usize = 16;
 
 /// The exit status of words that ask for nothing the program can do.
 const MISUSE: u8 = 64;
 
-/// Why a listing could not be finished.
+/// Why a job could not be finished.
 enum Fault {
     TooLong,
     OddLength,
     Cut(usize),
+    RomSize,
     Reader,
     Writer,
 }
@@ -28,7 +38,7 @@ impl Fault {
     /// The exit status: 1 for a fault of the input, 2 for a failing device.
     fn status(&self) -> u8 {
         match self {
-            Fault::TooLong | Fault::OddLength | Fault::Cut(_) => 1,
+            Fault::TooLong | Fault::OddLength | Fault::Cut(_) | Fault::RomSize => 1,
             Fault::Reader | Fault::Writer => 2,
         }
     }
@@ -40,6 +50,7 @@ impl fmt::Display for Fault {
             Fault::TooLong => write!(f, "too long"),
             Fault::OddLength => write!(f, "odd length"),
             Fault::Cut(place) => write!(f, "cut at {place:03X}"),
+            Fault::RomSize => write!(f, "rom size"),
             Fault::Reader => write!(f, "read failed"),
             Fault::Writer => write!(f, "write failed"),
         }
@@ -58,28 +69,40 @@ fn read_up_to(reader: &mut impl Read, buffer: &mut [u8]) -> io::Result<usize> {
     Ok(length)
 }
 
-/// The magnitude of a vector's word: bits 9 to 0, of which bit 10 is the sign.
-fn signed(word: u16) -> i16 {
-    let magnitude = (word & 0x3FF) as i16;
-    if word & 0x400 == 0 {
+/// The signed number of a word: so many bits of magnitude, and the sign above them.
+fn signed(word: u16, bits: u16) -> i16 {
+    let magnitude = (word & ((1 << bits) - 1)) as i16;
+    if word >> bits & 1 == 0 {
         magnitude
     } else {
         -magnitude
     }
 }
 
-/// Whether a vector's word is spelled as an encoder writes it: bit 11 clear, and no sign on a magnitude of zero.
-fn is_canonical(word: u16) -> bool {
-    word & 0x800 == 0 && word & 0x7FF != 0x400
+/// Whether a word's signed number, of so many bits of magnitude, has a sign on a magnitude of zero.
+fn is_minus_zero(word: u16, bits: u16) -> bool {
+    word & ((2 << bits) - 1) == 1 << bits
 }
 
-/// A line of text that numbers are written into, with room for the longest line of a listing.
+/// Whether an instruction of two words begins with this one.
+fn is_first_of_two(word: u16) -> bool {
+    word < 0xB000
+}
+
+/// A line of text that numbers are written into, with room for the longest line.
 struct Line {
     bytes: [u8; 64],
     length: usize,
 }
 
 impl Line {
+    fn new() -> Line {
+        Line {
+            bytes: [0; 64],
+            length: 0,
+        }
+    }
+
     fn push(&mut self, byte: u8) {
         self.bytes[self.length] = byte;
         self.length += 1;
@@ -90,10 +113,10 @@ impl Line {
         self.length += text.len();
     }
 
-    /// Writes an address as three hexadecimal digits.
-    fn address(&mut self, address: usize) {
-        for shift in [8, 4, 0] {
-            self.push(b"0123456789ABCDEF"[address >> shift & 15]);
+    /// Writes so many hexadecimal digits of a number.
+    fn hex<const DIGITS: usize>(&mut self, number: usize) {
+        for digit in (0..DIGITS).rev() {
+            self.push(b"0123456789ABCDEF"[number >> (4 * digit) & 15]);
         }
     }
 
@@ -108,70 +131,159 @@ impl Line {
         }
         self.push(b'0' + (number % 10) as u8);
     }
-}
 
-/// The line of a vector at a place, counted in words.
-fn vector_line(place: usize, first: u16, second: u16) -> Line {
-    let mut line = Line {
-        bytes: [0; 64],
-        length: 0,
-    };
-    line.address(place);
-    line.text(b" VCTR");
-    line.number((first >> 12) as i16);
-    line.number(signed(second));
-    line.number(signed(first));
-    line.number((second >> 12) as i16);
-    if !is_canonical(first) || !is_canonical(second) {
-        line.text(b" *");
+    /// Writes a name and the numbers of a vector.
+    fn vector(&mut self, name: &[u8], scale: u16, dx: i16, dy: i16, z: u16) {
+        self.text(name);
+        self.number(scale as i16);
+        self.number(dx);
+        self.number(dy);
+        self.number(z as i16);
     }
-    line.push(b'\n');
-    line
+
+    /// Writes a name and a word address.
+    fn jump(&mut self, name: &[u8], word: u16) {
+        self.text(name);
+        self.hex::<3>(usize::from(word));
+    }
+
+    /// Writes an instruction of two words, and answers whether they are canonical.
+    fn two_words(&mut self, first: u16, second: u16) -> bool {
+        if first < 0xA000 {
+            let (dx, dy) = (signed(second, 10), signed(first, 10));
+            self.vector(b" VCTR", first >> 12, dx, dy, second >> 12);
+            (first | second) & 0x800 == 0 && !is_minus_zero(first, 10) && !is_minus_zero(second, 10)
+        } else {
+            self.text(b" LABS");
+            self.number((second & 0xFFF) as i16);
+            self.number((first & 0xFFF) as i16);
+            self.number((second >> 12) as i16);
+            true
+        }
+    }
+
+    /// Writes an instruction of one word, and answers whether it is canonical.
+    fn one_word(&mut self, word: u16) -> bool {
+        match word >> 12 {
+            0xB => {
+                self.text(b" HALT");
+                word == 0xB000
+            }
+            0xC => {
+                self.jump(b" JSRL ", word);
+                true
+            }
+            0xD => {
+                self.text(b" RTSL");
+                word == 0xD000
+            }
+            0xE => {
+                self.jump(b" JMPL ", word);
+                true
+            }
+            _ => {
+                let scale = 2 + (word >> 2 & 2) + (word >> 11 & 1);
+                let (dx, dy) = (signed(word, 2), signed(word >> 8, 2));
+                self.vector(b" SVEC", scale, dx, dy, word >> 4 & 15);
+                !is_minus_zero(word, 2) && !is_minus_zero(word >> 8, 2)
+            }
+        }
+    }
+
+    /// Writes the line on a device.
+    fn write(&self, writer: &mut impl Write) -> Result<(), Fault> {
+        writer
+            .write_all(&self.bytes[..self.length])
+            .map_err(|_| Fault::Writer)
+    }
 }
 
-/// Writes a line for each vector of the words.
-fn list_words(words: &[u8], writer: &mut impl Write) -> Result<(), Fault> {
-    let word = |place: usize| u16::from_le_bytes([words[2 * place], words[2 * place + 1]]);
-    let count = words.len() / 2;
+/// Writes a line for each instruction of the words.
+fn list_words(bytes: &[u8], writer: &mut impl Write) -> Result<(), Fault> {
+    let (words, _) = bytes.as_chunks();
     let mut place = 0;
-    while place < count {
-        let first = word(place);
-        if first >= 0xA000 || place + 1 == count {
-            return Err(Fault::Cut(place));
+    while place < words.len() {
+        let mut line = Line::new();
+        line.hex::<3>(place);
+        let first = u16::from_le_bytes(words[place]);
+        let (length, canonical) = if is_first_of_two(first) {
+            let second = words.get(place + 1).ok_or(Fault::Cut(place))?;
+            (2, line.two_words(first, u16::from_le_bytes(*second)))
+        } else {
+            (1, line.one_word(first))
+        };
+        if !canonical {
+            line.text(b" *");
         }
-        let line = vector_line(place, first, word(place + 1));
-        writer
-            .write_all(&line.bytes[..line.length])
-            .map_err(|_| Fault::Writer)?;
-        place += 2;
+        line.push(b'\n');
+        line.write(writer)?;
+        place += length;
     }
     Ok(())
 }
 
-/// Lists what standard input holds on standard output.
-///
-/// Both are used as files: the handles of `std::io` have buffers of their own, which would only copy once more.
-fn list() -> Result<(), Fault> {
+/// Writes a line for each eight words of a ROM.
+fn write_rom(bytes: &[u8], writer: &mut impl Write) -> Result<(), Fault> {
+    for (row, part) in bytes.chunks(ROM_LINE_BYTES).enumerate() {
+        let mut line = Line::new();
+        line.text(b"rom ");
+        line.hex::<3>(FIRST_ROM_WORD + row * ROM_LINE_BYTES / 2);
+        for word in part.as_chunks().0 {
+            line.push(b' ');
+            line.hex::<4>(usize::from(u16::from_le_bytes(*word)));
+        }
+        line.push(b'\n');
+        line.write(writer)?;
+    }
+    Ok(())
+}
+
+// Standard input and standard output are used as files: the handles of `std::io` have buffers of their own, which
+// would only copy once more.
+
+/// Reads what standard input has, up to the buffer's length, and answers how many bytes that was.
+fn read_input(buffer: &mut [u8]) -> Result<usize, Fault> {
     let input = io::stdin()
         .as_fd()
         .try_clone_to_owned()
         .map_err(|_| Fault::Reader)?;
-    let mut buffer = [0; MOST_BYTES + 1];
-    let length = read_up_to(&mut File::from(input), &mut buffer).map_err(|_| Fault::Reader)?;
-    if length > MOST_BYTES {
+    read_up_to(&mut File::from(input), buffer).map_err(|_| Fault::Reader)
+}
+
+/// Standard output.
+fn output() -> Result<BufWriter<File>, Fault> {
+    let output = io::stdout()
+        .as_fd()
+        .try_clone_to_owned()
+        .map_err(|_| Fault::Writer)?;
+    Ok(BufWriter::new(File::from(output)))
+}
+
+/// Lists the words that standard input holds on standard output.
+fn list() -> Result<(), Fault> {
+    let mut buffer = [0; MOST_LIST_BYTES + 1];
+    let length = read_input(&mut buffer)?;
+    if length > MOST_LIST_BYTES {
         return Err(Fault::TooLong);
     }
     if length % 2 == 1 {
         return Err(Fault::OddLength);
     }
-    let output = io::stdout()
-        .as_fd()
-        .try_clone_to_owned()
-        .map_err(|_| Fault::Writer)?;
-    let mut writer = BufWriter::new(File::from(output));
+    let mut writer = output()?;
     let listed = list_words(&buffer[..length], &mut writer);
     writer.flush().map_err(|_| Fault::Writer)?;
     listed
+}
+
+/// Writes the ROM that standard input holds as text on standard output.
+fn rom() -> Result<(), Fault> {
+    let mut buffer = [0; ROM_BYTES + 1];
+    if read_input(&mut buffer)? != ROM_BYTES {
+        return Err(Fault::RomSize);
+    }
+    let mut writer = output()?;
+    write_rom(&buffer[..ROM_BYTES], &mut writer)?;
+    writer.flush().map_err(|_| Fault::Writer)
 }
 
 /// Writes a line on standard error. The status is the same where it can't be written, and `eprintln!` would panic.
@@ -181,11 +293,15 @@ fn complain(line: fmt::Arguments) {
 
 fn main() -> ExitCode {
     let words: Vec<_> = std::env::args_os().skip(1).collect();
-    if words != ["list"] {
-        complain(format_args!("usage: dvg list"));
+    let done = if words == ["list"] {
+        list()
+    } else if words == ["rom"] {
+        rom()
+    } else {
+        complain(format_args!("usage: dvg list|rom"));
         return ExitCode::from(MISUSE);
-    }
-    match list() {
+    };
+    match done {
         Ok(()) => ExitCode::SUCCESS,
         Err(fault) => {
             complain(format_args!("dvg: {fault}"));

@@ -1,7 +1,7 @@
 //! The program `dvg`, for people who write and debug display lists of the Digital Vector Generator.
 #![tactic(auto)]
 
-use dvg_tool::{Job, ToolFault, Watched, finish, job, list, status};
+use dvg_tool::{Job, ToolFault, Watched, finish, job, list, rom_text, status};
 use std::io::BufWriter;
 use std::process::ExitCode;
 use std::{env, io};
@@ -28,13 +28,14 @@ fn run(rt: &HostRuntime, job: Job) -> Result<(), ToolFault> {
     let mut writer = Watched::new(output);
     let answer = match job {
         Job::List => list(rt.alloc(), &mut reader, &mut writer),
+        Job::Rom => rom_text(rt.alloc(), &mut reader, &mut writer),
     };
     finish(answer, &mut writer)
 }
 
 fn main(rt: HostRuntime) -> ExitCode {
     let Ok(Some(job)) = asked(&rt) else {
-        let _ = eprintln!(rt; "usage: dvg list");
+        let _ = eprintln!(rt; "usage: dvg list|rom");
         return ExitCode::from(MISUSE);
     };
     let answer = run(&rt, job);

@@ -1,4 +1,7 @@
 pub mod Reading
+pub mod Rows
+pub mod Beginnings
 pub mod Unique
+pub mod Canonical
 pub mod Cuttings
 pub mod Listings

@@ -1,9 +1,10 @@
 -- Laws of spellings and cuttings.
-use Rattle.std.specs.Prelude.{◌≡◌, List, ℕ}
+use Rattle.std.specs.Prelude.{◌≡◌, ◌≤◌, List, [], ◌∷◌, ◌++◌, ℕ, length}
 use Rattle.dvg_code.specs.declared.instr.Instr.{Instr}
+use Rattle.dvg_code.specs.Words.{AreWords, IsWord}
 use Rattle.dvg_code.specs.Ranges.{InRange}
-use Rattle.dvg_code.specs.Spelling.{Spells, canon}
-use Rattle.dvg_code.specs.Cutting.{Cutting}
+use Rattle.dvg_code.specs.Spelling.{IsFirst, Spells, canon, word_count}
+use Rattle.dvg_code.specs.Cutting.{Cutting, Fronts, IsRest}
 
 -- words spell one instruction at most
 abbrev pub OneSpelling : Type 0
@@ -13,6 +14,39 @@ OneSpelling = (a b : Instr) (words : List ℕ) → Spells a words → Spells b w
 abbrev pub CanonicalSpells : Type 0
 CanonicalSpells = (instr : Instr) → InRange instr → Spells instr (canon instr)
 
--- each list of words has a cutting, and each of its cuttings is that one
+-- each spelling of an instruction has its number of words
+abbrev pub SpellingLength : Type 0
+SpellingLength = (instr : Instr) (words : List ℕ) → Spells instr words → length words ≡ word_count instr
+
+-- a word of 16 bits and of opcode B to F spells an instruction alone
+abbrev pub OneWordSpells : Type 0
+OneWordSpells = (word : ℕ) → 0xB000 ≤ word → IsWord word → (instr : Instr) × Spells instr (word ∷ [])
+
+-- a word of opcode 0 to A spells an instruction with any second word of 16 bits
+abbrev pub TwoWordsSpell : Type 0
+TwoWordsSpell = (first second : ℕ) → IsFirst first → IsWord second → (instr : Instr) × Spells instr (first ∷ second ∷ [])
+
+-- each word begins an instruction
+abbrev pub EachWordBegins : Type 0
+EachWordBegins = OneWordSpells × TwoWordsSpell
+
+-- two spellings at the front of the same words are one, with the same words after it
+abbrev pub OneFront : Type 0
+OneFront = (a b : Instr) (front front' after after' : List ℕ) → Spells a front → Spells b front' → front ++ after ≡ front' ++ after'
+    → (a ≡ b) × (front ≡ front') × (after ≡ after')
+
+-- the rest of a cutting begins with no instruction
+abbrev pub RestBeginsNone : Type 0
+RestBeginsNone = (rest : List ℕ) → IsRest rest → (instr : Instr) (count : ℕ) → Fronts rest instr count → ⊥
+
+-- each list of words of 16 bits has a cutting
+abbrev pub SomeCutting : Type 0
+SomeCutting = (words : List ℕ) → AreWords words → Cutting words
+
+-- two cuttings of the same words are one, whatever their size
+abbrev pub SameCutting : Type 0
+SameCutting = (words : List ℕ) (one other : Cutting words) → (other.items ≡ one.items) × (other.end ≡ one.end) × (other.rest ≡ one.rest)
+
+-- each list of words of 16 bits has one cutting
 abbrev pub OneCutting : Type 0
-OneCutting = (words : List ℕ) → (one : Cutting words) × ((other : Cutting words) → (other.items ≡ one.items) × (other.end ≡ one.end) × (other.rest ≡ one.rest))
+OneCutting = SomeCutting × SameCutting

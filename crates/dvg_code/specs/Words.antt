@@ -1,5 +1,14 @@
--- Words of 16 bits in bytes.
-use Rattle.std.specs.Prelude.{ℕ, ◌+◌, ◌*◌, List, [], ◌∷◌, slice_index}
+-- Words of 16 bits.
+use Rattle.std.specs.Prelude.{ℕ, ◌+◌, ◌*◌, ◌<◌, List, [], ◌∷◌, slice_index}
+use Rattle.std.specs.List.{AllByRecursion}
+
+-- a number of 16 bits
+abbrev pub IsWord : ℕ → Type 0
+IsWord word = word < 0x10000
+
+-- each of these numbers has 16 bits
+abbrev pub AreWords : List ℕ → Type 0
+AreWords words = AllByRecursion IsWord words
 
 -- word k of a list of bytes: the low byte, and 256 times the high byte
 abbrev pub word_in : List ℕ → ℕ → ℕ

@@ -59,6 +59,12 @@ fn is_in_range(instr: Instr) -> bool
 {
     match instr {
         Instr::Vctr { scale, dx, dy, z } => is_vector(0, 9, 1023, scale, dx, dy, z),
+        Instr::Labs { x, y, scale } => x <= 4095 && y <= 4095 && scale <= 15,
+        Instr::Jsrl(address) | Instr::Jmpl(address) => address <= 4095,
+        Instr::Halt | Instr::Rtsl => true,
+        Instr::Svec { scale, dx, dy, z } => {
+            is_vector(2, 5, 3, scale, i16::from(dx), i16::from(dy), z)
+        }
     }
 }
 

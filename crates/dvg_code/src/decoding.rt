@@ -3,7 +3,7 @@ ghost use Rattle.std.specs.Prelude.{◌≡◌, ◌↔◌, ◌+◌, ◌/◌, ◌%
 ghost use Rattle.dvg_code.specs.Cutting.{Fronts, IsCut};
 ghost use Rattle.dvg_code.specs.Fields as spec;
 ghost use Rattle.dvg_code.specs.Ranges.{InRange};
-ghost use Rattle.dvg_code.specs.Spelling.{Spells, canon};
+ghost use Rattle.dvg_code.specs.Spelling.{IsFirst, Spells, canon};
 ghost use Rattle.dvg_code.specs.declared.instr.Instr.{Instr};
 
 use crate::code::Code;
@@ -14,7 +14,7 @@ use crate::instr::Instr;
 pub enum CodeFault {
     /// There is no word.
     Empty,
-    /// There is a word, and no front of the words spells an instruction.
+    /// There is exactly one word, of opcode 0 to A: its second word is missing.
     Cut,
 }
 
@@ -39,9 +39,9 @@ fn signed(sign: u16, magnitude: u16) -> i16
     }
 }
 
-// What two words spell, of which the first has an opcode below 10.
-fn read_two(first: u16, second: u16) -> Code
-    requires { first < 40960 }
+// What two words spell, of which the first has an opcode of 0 to 9.
+fn read_vctr(first: u16, second: u16) -> Code
+    requires { first < 0xA000 }
     ensures { Spells result (first ∷ second ∷ []) }
 {
     let dy = signed(bits(first, 10, 1), bits(first, 0, 10));
@@ -54,10 +54,66 @@ fn read_two(first: u16, second: u16) -> Code
     })
 }
 
+// What two words spell, of which the first has the opcode A.
+fn read_labs(first: u16, second: u16) -> Code
+    requires low { 0xA000 ≤ first }
+    requires high { IsFirst first }
+    ensures { Spells result (first ∷ second ∷ []) }
+{
+    Code::within(Instr::Labs {
+        x: bits(second, 0, 12),
+        y: bits(first, 0, 12),
+        scale: bits(second, 12, 4) as u8,
+    })
+}
+
+// What two words spell, of which the first has an opcode of 0 to A.
+fn read_two(first: u16, second: u16) -> Code
+    requires { IsFirst first }
+    ensures { Spells result (first ∷ second ∷ []) }
+{
+    if first < 0xA000 {
+        read_vctr(first, second)
+    } else {
+        read_labs(first, second)
+    }
+}
+
+// What a word of the opcode F spells.
+fn read_short(word: u16) -> Code
+    requires { 0xF000 ≤ word }
+    ensures { Spells result (word ∷ []) }
+{
+    let dy = signed(bits(word, 10, 1), bits(word, 8, 2));
+    let dx = signed(bits(word, 2, 1), bits(word, 0, 2));
+    let scale = 2 + 2 * bits(word, 3, 1) + bits(word, 11, 1);
+    Code::within(Instr::Svec {
+        scale: scale as u8,
+        dx: dx as i8,
+        dy: dy as i8,
+        z: bits(word, 4, 4) as u8,
+    })
+}
+
+// What a word of an opcode of B to F spells.
+fn read_one(word: u16) -> Code
+    requires { 0xB000 ≤ word }
+    ensures { Spells result (word ∷ []) }
+{
+    match bits(word, 12, 4) {
+        0xB => Code::within(Instr::Halt),
+        0xC => Code::within(Instr::Jsrl(bits(word, 0, 12))),
+        0xD => Code::within(Instr::Rtsl),
+        0xE => Code::within(Instr::Jmpl(bits(word, 0, 12))),
+        _ => read_short(word),
+    }
+}
+
 /// The instruction that the front of the words spells, and its number of words.
 ///
-/// Bit 11 of both words of a VCTR is ignored, and a sign on a magnitude of zero too: these spellings
-/// are read, though they aren't canonical (this project's own choice).
+/// Bit 11 of both words of a VCTR is ignored, bits 11 to 0 of HALT and RTSL are, and so is a sign on a
+/// magnitude of zero: these spellings are read, though they aren't canonical (this project's own
+/// choice).
 pub fn decode(words: &[u16]) -> Result<(Code, usize), CodeFault>
     ensures spelled { IfOk result (λ read. Fronts words.now read.0 read.1) }
     ensures found { (instr : Instr) (count : ℕ) → Fronts words.now instr count → result ≡ Ok (instr, count) }
@@ -70,7 +126,8 @@ pub fn decode(words: &[u16]) -> Result<(Code, usize), CodeFault>
 {
     match words {
         [] => Err(CodeFault::Empty),
-        [first, second, ..] if *first < 0xA000 => Ok((read_two(*first, *second), 2)),
-        _ => Err(CodeFault::Cut),
+        [word, ..] if *word >= 0xB000 => Ok((read_one(*word), 1)),
+        [first, second, ..] => Ok((read_two(*first, *second), 2)),
+        [_] => Err(CodeFault::Cut),
     }
 }

@@ -1,5 +1,6 @@
 //! From instructions to words.
-ghost use Rattle.std.specs.Prelude.{◌≡◌, ◌↔◌, ◌+◌, ◌*◌, ◌<◌, ◌≤◌, unsigned_abs, IsTrue};
+ghost use Rattle.std.specs.Prelude.{◌≡◌, ◌↔◌, ◌+◌, ◌*◌, ◌<◌, ◌≤◌, unsigned_abs, IsTrue, [], ◌∷◌};
+ghost use Rattle.dvg_code.specs.Ranges.{IsVector};
 ghost use Rattle.dvg_code.specs.Spelling.{IsCanonical, Spells, canon, sign_bit};
 
 use crate::code::Code;
@@ -27,20 +28,57 @@ fn long_word(top: u8, n: i16) -> u16
     4096 * u16::from(top) + 1024 * sign_of(n) + n.unsigned_abs()
 }
 
+// The word of a short vector.
+fn short_word(scale: u8, dx: i8, dy: i8, z: u8) -> u16
+    requires in_range { IsVector 2 5 3 scale dx dy z }
+    ensures { canon (Instr.Svec scale dx dy z) ≡ result ∷ [] }
+{
+    let weights = u16::from(scale) - 2;
+    0xF000
+        + 2048 * (weights % 2)
+        + 1024 * sign_of(i16::from(dy))
+        + 256 * u16::from(dy.unsigned_abs())
+        + 16 * u16::from(z)
+        + 8 * (weights / 2)
+        + 4 * sign_of(i16::from(dx))
+        + u16::from(dx.unsigned_abs())
+}
+
+// One word.
+fn one_word(word: u16) -> Words
+    ensures { result.items ≡ word ∷ [] }
+{
+    let mut words = Words::new();
+    words.push(word);
+    words
+}
+
+// Two words.
+fn two_words(first: u16, second: u16) -> Words
+    ensures { result.items ≡ first ∷ second ∷ [] }
+{
+    let mut words = Words::new();
+    words.push(first);
+    words.push(second);
+    words
+}
+
 /// The canonical words of an instruction: every ignored bit is 0, and so is the sign of a magnitude of
 /// zero (this project's own choice).
+#[tactic(auto, using(crate::proofs::Reading::written_spells))]
 pub fn encode(code: &Code) -> Words
     ensures canonical { result.items ≡ canon code.now }
     ensures spells { Spells code.now result.items }
 {
-    let mut words = Words::new();
     match code.instr() {
-        Instr::Vctr { scale, dx, dy, z } => {
-            words.push(long_word(scale, dy));
-            words.push(long_word(z, dx));
-        }
+        Instr::Vctr { scale, dx, dy, z } => two_words(long_word(scale, dy), long_word(z, dx)),
+        Instr::Labs { x, y, scale } => two_words(0xA000 + y, 4096 * u16::from(scale) + x),
+        Instr::Halt => one_word(0xB000),
+        Instr::Jsrl(address) => one_word(0xC000 + address),
+        Instr::Rtsl => one_word(0xD000),
+        Instr::Jmpl(address) => one_word(0xE000 + address),
+        Instr::Svec { scale, dx, dy, z } => one_word(short_word(scale, dx, dy, z)),
     }
-    words
 }
 
 /// Whether the words are what `encode` writes of some instruction.
@@ -48,7 +86,7 @@ pub fn is_canonical(words: &[u16]) -> bool
     ensures { IsTrue result ↔ IsCanonical words.now }
 {
     match decode(words) {
-        Ok((code, _)) => encode(&code).as_slice() == words,
+        Ok(read) => encode(&read.0).as_slice() == words,
         Err(_) => false,
     }
 }

@@ -1,5 +1,5 @@
 //! Laws of the definitions alone. Each is the contract of a function that does nothing.
-ghost use Rattle.dvg_code.specs.Laws.{CanonicalSpells, OneCutting, OneSpelling};
+ghost use Rattle.dvg_code.specs.Laws.{CanonicalSpells, EachWordBegins, OneCutting, OneFront, OneSpelling, RestBeginsNone, SpellingLength};
 
 /// Words spell one instruction at most.
 pub fn one_spelling()
@@ -11,7 +11,29 @@ pub fn canonical_spells()
     ensures { CanonicalSpells }
 {}
 
-/// Each list of words is cut into instructions and a rest in one way, and in no other.
+/// Each spelling of an instruction has its number of words: two for VCTR and LABS, one for the others.
+pub fn spelling_length()
+    ensures { SpellingLength }
+{}
+
+/// Each word of 16 bits begins an instruction: one of opcode B to F is one alone, and one of opcode 0
+/// to A is one with any second word.
+pub fn each_word_begins()
+    ensures { EachWordBegins }
+{}
+
+/// Two spellings at the front of the same words are one, with the same words after it.
+pub fn one_front()
+    ensures { OneFront }
+{}
+
+/// What a cutting leaves at the end, no word or one whose second word is missing, begins with no
+/// instruction.
+pub fn rest_begins_none()
+    ensures { RestBeginsNone }
+{}
+
+/// Each list of words of 16 bits is cut into instructions and a rest in one way, and in no other.
 pub fn one_cutting()
     ensures { OneCutting }
 {}

@@ -9,12 +9,12 @@ use crate::decoding::{CodeFault, decode};
 pub enum Listed {
     /// An instruction, at the place of its first word.
     At(usize, Code),
-    /// Words that no instruction begins with, at the place of the first of them.
+    /// A word whose second word is missing, at its place.
     Cut(usize),
 }
 
-/// An iterator over the instructions of borrowed words, from place 0 on. Where words are left that no
-/// instruction begins with, their `Listed::Cut` comes last.
+/// An iterator over the instructions of borrowed words, from place 0 on. Where a word is left whose
+/// second word is missing, its `Listed::Cut` comes last.
 #[derive(Drop)]
 pub struct Listing<'a> {
     words: &'a [u16],

@@ -7,4 +7,8 @@ mod devices;
 #[cfg(test)]
 mod lists;
 #[cfg(test)]
+mod memory;
+#[cfg(test)]
+mod roms;
+#[cfg(test)]
 mod texts;

@@ -3,11 +3,12 @@ use dvg_tool::{Job, TextFault, ToolFault, job, status};
 use std::test::Fail;
 
 /// Each fault, its text and the exit status.
-const FAULTS: [(ToolFault, &str, u8); 7] = [
+const FAULTS: [(ToolFault, &str, u8); 8] = [
     (ToolFault::Text(TextFault::TooLong), "too long", 1),
     (ToolFault::Text(TextFault::Odd), "odd length", 1),
     (ToolFault::Text(TextFault::Cut(0)), "cut at 000", 1),
     (ToolFault::Text(TextFault::Cut(0xFFF)), "cut at FFF", 1),
+    (ToolFault::Text(TextFault::RomSize), "rom size", 1),
     (ToolFault::Reader, "read failed", 2),
     (ToolFault::Writer, "write failed", 2),
     (ToolFault::Memory, "out of memory", 2),
@@ -26,6 +27,7 @@ fn faults_have_their_texts(rt: HostRuntime) -> Result<(), Fail> {
 #[test]
 fn exactly_one_word_asks_for_a_job(rt: HostRuntime) {
     assert_eq!(rt; job(&["dvg", "list"]), Some(Job::List));
+    assert_eq!(rt; job(&["dvg", "rom"]), Some(Job::Rom));
     assert_eq!(rt; job(&["any name", "list"]), Some(Job::List));
     assert_eq!(rt; job(&[]), None);
     assert_eq!(rt; job(&["list"]), None);

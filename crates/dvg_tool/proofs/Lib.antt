@@ -2,3 +2,4 @@ pub mod Known
 pub mod Progress
 pub mod Whole
 pub mod Asking
+pub mod RomLines

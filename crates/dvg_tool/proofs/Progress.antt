@@ -7,12 +7,12 @@ use Rattle.std.proofs.lemmas.Grind.{flat_map-append}
 use Rattle.dvg_code.specs.declared.instr.Instr.{Instr}
 use Rattle.dvg_code.specs.declared.listing.Listing.{Listing}
 use Rattle.dvg_code.specs.declared.listing.Listed.TheVariants.{At, Cut}
-use Rattle.dvg_code.specs.Spelling.{Spells, canon}
+use Rattle.dvg_code.specs.declared.instr.Instr.TheVariants.{Vctr, Labs, Halt, Jsrl, Rtsl, Jmpl, Svec}
+use Rattle.dvg_code.specs.Spelling.{Spells, canon, word_count}
 use Rattle.dvg_code.specs.Cutting.{Cuts, Cutting, Placed}
 use Rattle.dvg_code.specs.Listing.{NextListed, place_of, words_left}
-use Rattle.dvg_code.proofs.Unique.{spelled_length}
+use Rattle.dvg_code.proofs.Unique.{cut_is_rest, spelling_length}
 use Rattle.dvg_code.proofs.Listings.{goes_on, only_rest}
-use Rattle.dvg_code.proofs.Cuttings.{no_front_of_none}
 use Rattle.dvg_tool.specs.Lines.{line_at, line_of, line_text, list_text}
 use Rattle.dvg_tool.specs.Watching.{BeginsToWrite}
 use Rattle.dvg_tool.proofs.Known.{Appends-nil, Appends-trans}
@@ -58,6 +58,15 @@ stands_next words left after front place next s parts n = record {
 abbrev pub item_at : ℕ → Instr → List ℕ → Placed
 item_at place instr front = record { place = place; instr = instr; words = front }
 
+canon_length : (instr : Instr) → length (canon instr) ≡ word_count instr
+canon_length (Vctr scale dx dy z) = refl
+canon_length (Labs x y scale) = refl
+canon_length Halt = refl
+canon_length (Jsrl address) = refl
+canon_length Rtsl = refl
+canon_length (Jmpl address) = refl
+canon_length (Svec scale dx dy z) = refl
+
 -- the line at a place is that of the instruction that stands there
 line_is : (words left after front : List ℕ) (place : ℕ) (instr : Instr) → Stands words left place → Spells instr front → left ≡ front ++ after
     → line_at words place instr ≡ line_of (item_at place instr front)
@@ -65,7 +74,7 @@ line_is words left after front place instr s spelled parts =
     let from : drop place words ≡ left =
     ap (λ k. drop k words) s.place_is ∙ ap (drop (length s.before)) s.parts ∙ drop-append_seam s.before left in
     let seen : take (length (canon instr)) (drop place words) ≡ front =
-    ap (take (length (canon instr))) (from ∙ parts) ∙ ap (λ k. take k (front ++ after)) (sym (spelled_length instr front spelled)) ∙ take-append_seam front after in
+    ap (take (length (canon instr))) (from ∙ parts) ∙ ap (λ k. take k (front ++ after)) (canon_length instr ∙ sym (spelling_length instr front spelled)) ∙ take-append_seam front after in
     ap (λ l. line_text place instr (bytes_eq (canon instr) l)) seen
 
 list_text-snoc : (items : List Placed) (item : Placed) → list_text items ++ line_of item ≡ list_text (items ++ item ∷ [])
@@ -115,7 +124,7 @@ broke_off words s t place instr old now new cutting stands p step begun =
 pub finish : (words : List ℕ) (s t : Listing) (old now : Option (List ℕ)) (cutting : Cutting words) → Progress cutting.items cutting.end cutting.rest (words_left s) (place_of s) old now
     → NextListed s None t → (cutting.rest ≡ []) × Appends old now (list_text cutting.items)
 finish words s t old now cutting p step =
-    let same = only_rest (place_of s) cutting.end [] cutting.rest p.more no_front_of_none (subst (λ l. Cuts (place_of s) l p.more cutting.end cutting.rest) step.0 p.cuts) in
+    let same = only_rest (place_of s) cutting.end [] cutting.rest p.more tt (subst (λ l. Cuts (place_of s) l p.more cutting.end cutting.rest) step.0 p.cuts) in
     let all : cutting.items ≡ p.done = p.parts ∙ ap (λ l. p.done ++ l) same.0 ∙ append-nil p.done in
     (same.2, subst (λ l. Appends old now (list_text l)) (sym all) p.wrote)
 
@@ -123,6 +132,6 @@ finish words s t old now cutting p step =
 pub stop : (words : List ℕ) (s t : Listing) (place : ℕ) (old now : Option (List ℕ)) (cutting : Cutting words) → Progress cutting.items cutting.end cutting.rest (words_left s) (place_of s) old now
     → NextListed s (Some (Cut place)) t → (cutting.rest ≢ []) × (place ≡ cutting.end) × Appends old now (list_text cutting.items)
 stop words s t place old now cutting p step =
-    let same = only_rest (place_of s) cutting.end (words_left s) cutting.rest p.more step.1.1 p.cuts in
+    let same = only_rest (place_of s) cutting.end (words_left s) cutting.rest p.more (cut_is_rest (words_left s) step.1) p.cuts in
     let all : cutting.items ≡ p.done = p.parts ∙ ap (λ l. p.done ++ l) same.0 ∙ append-nil p.done in
-    (λ none. step.1.0 (sym same.2 ∙ none), step.0 ∙ sym same.1, subst (λ l. Appends old now (list_text l)) (sym all) p.wrote)
+    (λ none. let left = step.1.2 in let same_rest = same.2 in cc, step.0 ∙ sym same.1, subst (λ l. Appends old now (list_text l)) (sym all) p.wrote)

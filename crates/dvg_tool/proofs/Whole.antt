@@ -1,42 +1,70 @@
 -- From what was read to what the reader had.
-use Rattle.std.proofs.Common.{◌≡◌, ℕ, ◌+◌, ◌%◌, ◌<◌, ◌≤◌, List, Option, None, Some, Result, Ok, Err, IfSome, length, take, length-take, take_all, ap, subst, ◌∙◌, arith}
+use Rattle.std.proofs.Common.{◌≡◌, ◌≢◌, ℕ, ◌+◌, ◌*◌, [], ◌∷◌, refl, sym, ◌%◌, ◌<◌, ◌≤◌, List, Option, None, Some, Result, Ok, Err, IfSome, length, take, length-take, take_all, ap, subst, ◌∙◌, arith}
 use Rattle.dvg_code.specs.Words.{words_of}
+use Rattle.dvg_tool.specs.Lines.{rom_text}
+use Rattle.dvg_tool.specs.Roms.{WritesRom, WritesText}
 use Rattle.dvg_tool.specs.Lists.{IsWhole, Lists, ListsWords}
-use Rattle.dvg_tool.specs.declared.fault.TextFault.TheVariants.{TooLong, Odd, Cut}
+use Rattle.dvg_tool.specs.declared.fault.TextFault.TheVariants.{TooLong, Odd, Cut, RomSize}
 use Rattle.dvg_tool.specs.declared.fault.ToolFault.{ToolFault}
 use Rattle.dvg_tool.specs.declared.fault.ToolFault.TheVariants.{Text, Reader, Writer, Memory}
 
--- what was read is a front of the input, of at most 8,193 bytes
-abbrev pub Read : Option (List ℕ) → List ℕ → Type 0
-Read known read = IfSome known (λ input. read ≡ take (8192 + 1) input)
+-- what was read is the input, or a front of it that is one byte too long
+abbrev pub Read : ℕ → Option (List ℕ) → List ℕ → Type 0
+Read most known read = IfSome known (λ input. read ≡ take (most + 1) input)
 
-whole : (read input : List ℕ) → read ≡ take (8192 + 1) input → length read ≤ 8192 → read ≡ input
-whole read input e h =
-    let short : length input ≤ 8192 + 1 = omega (arith, ap length e, length-take (8192 + 1) input) in
-    e ∙ take_all (8192 + 1) input short
+whole : (most : ℕ) (read input : List ℕ) → read ≡ take (most + 1) input → length read ≤ most → read ≡ input
+whole most read input e h =
+    let short : length input ≤ most + 1 = omega (arith, ap length e, length-take (most + 1) input) in
+    e ∙ take_all (most + 1) input short
 
-pub too_long : (known : Option (List ℕ)) (read : List ℕ) → Read known read → 8192 < length read → IfSome known (λ input. 8192 < length input)
-too_long None read e h = tt
-too_long (Some input) read e h = omega (arith, ap length e, length-take (8192 + 1) input)
+pub too_long : (most : ℕ) (known : Option (List ℕ)) (read : List ℕ) → Read most known read → most < length read → IfSome known (λ input. most < length input)
+too_long most None read e h = tt
+too_long most (Some input) read e h = omega (arith, ap length e, length-take (most + 1) input)
 
-pub odd : (known : Option (List ℕ)) (read : List ℕ) → Read known read → length read ≤ 8192 → length read % 2 ≡ 1
+pub odd : (known : Option (List ℕ)) (read : List ℕ) → Read 8192 known read → length read ≤ 8192 → length read % 2 ≡ 1
     → IfSome known (λ input. (length input ≤ 8192) × (length input % 2 ≡ 1))
 odd None read e h o = tt
-odd (Some input) read e h o = let same = ap length (whole read input e h) in (omega arith, omega arith)
+odd (Some input) read e h o = let same = ap length (whole 8192 read input e h) in (omega arith, omega arith)
 
 listed : {T : Type 0} (answer : Result T ToolFault) (input : List ℕ) (old new : Option (List ℕ)) → IsWhole input → ListsWords answer (words_of input) old new → Lists answer input old new
 listed (Ok done) input old new w h = (w, h)
 listed (Err (Text TooLong)) input old new w h = absurd h
 listed (Err (Text Odd)) input old new w h = absurd h
 listed (Err (Text (Cut place))) input old new w h = (w, h)
+listed (Err (Text RomSize)) input old new w h = absurd h
 listed (Err Reader) input old new w h = absurd h
 listed (Err Writer) input old new w h = (w, h)
 listed (Err Memory) input old new w h = absurd h
 
-pub lists : {T : Type 0} (answer : Result T ToolFault) (known old new : Option (List ℕ)) (read : List ℕ) → Read known read → length read ≤ 8192 → length read % 2 ≡ 0
+pub lists : {T : Type 0} (answer : Result T ToolFault) (known old new : Option (List ℕ)) (read : List ℕ) → Read 8192 known read → length read ≤ 8192 → length read % 2 ≡ 0
     → ListsWords answer (words_of read) old new → IfSome known (λ input. Lists answer input old new)
 lists answer None old new read e h o w = tt
 lists answer (Some input) old new read e h o w =
-    let same = whole read input e h in
+    let same = whole 8192 read input e h in
     let n = ap length same in
     listed answer input old new (omega arith, omega arith) (subst (λ l. ListsWords answer (words_of l) old new) same w)
+
+-- each word is two bytes
+pub length-words_of : (bytes : List ℕ) → length bytes % 2 ≡ 0 → 2 * length (words_of bytes) ≡ length bytes
+length-words_of [] even = refl
+length-words_of (low ∷ []) even = absurd (omega arith)
+length-words_of (low ∷ high ∷ bytes) even = let rest = length-words_of bytes (omega arith) in omega arith
+
+-- of another length than 2,048, so is what was read
+pub wrong_size : (known : Option (List ℕ)) (read : List ℕ) → Read 2048 known read → length read ≢ 2048 → IfSome known (λ input. length input ≢ 2048)
+wrong_size None read e h = tt
+wrong_size (Some input) read e h = λ size. h (ap length e ∙ ap length (take_all 2049 input (omega arith)) ∙ size)
+
+rom_written : {T : Type 0} (answer : Result T ToolFault) (input : List ℕ) (old new : Option (List ℕ)) → length input ≡ 2048 → WritesText answer (rom_text input) old new → WritesRom answer input old new
+rom_written (Ok done) input old new size h = (size, h)
+rom_written (Err (Text fault)) input old new size h = absurd h
+rom_written (Err Reader) input old new size h = absurd h
+rom_written (Err Writer) input old new size h = (size, h)
+rom_written (Err Memory) input old new size h = absurd h
+
+pub writes_rom : {T : Type 0} (answer : Result T ToolFault) (known old new : Option (List ℕ)) (read : List ℕ) → Read 2048 known read → length read ≡ 2048
+    → WritesText answer (rom_text read) old new → IfSome known (λ input. WritesRom answer input old new)
+writes_rom answer None old new read e h w = tt
+writes_rom answer (Some input) old new read e h w =
+    let same = whole 2048 read input e (omega arith) in
+    rom_written answer input old new (sym (ap length same) ∙ h) (subst (λ l. WritesText answer (rom_text l) old new) same w)

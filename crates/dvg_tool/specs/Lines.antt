@@ -1,16 +1,21 @@
--- The text of a listing: one line an instruction.
-use Rattle.std.specs.Prelude.{ℕ, ℤ, ◌/◌, ◌%◌, Bool, true, cond, List, [], ◌∷◌, ◌++◌, drop, flat_map, nat_eq, codes}
+-- The lines that the engines write.
+use Rattle.std.specs.Prelude.{ℕ, ℤ, ◌+◌, ◌/◌, ◌%◌, Bool, true, cond, List, [], ◌∷◌, ◌++◌, drop, flat_map, map, nat_eq, codes}
 use Rattle.std.specs.Fmt.{decimal, signed_decimal, digit_glyph}
 use Rattle.std.specs.List.{starts_with}
 use Rattle.std.specs.Str.{bytes_eq}
 use Rattle.dvg_code.specs.declared.instr.Instr.{Instr}
-use Rattle.dvg_code.specs.declared.instr.Instr.TheVariants.{Vctr}
+use Rattle.dvg_code.specs.declared.instr.Instr.TheVariants.{Vctr, Labs, Halt, Jsrl, Rtsl, Jmpl, Svec}
+use Rattle.dvg_code.specs.Words.{words_of}
 use Rattle.dvg_code.specs.Spelling.{canon}
 use Rattle.dvg_code.specs.Cutting.{Placed}
 
 -- three hexadecimal digits in upper case
 abbrev pub hex_3 : ℕ → List ℕ
 hex_3 n = digit_glyph true (n / 256 % 16) ∷ digit_glyph true (n / 16 % 16) ∷ digit_glyph true (n % 16) ∷ []
+
+-- four hexadecimal digits in upper case
+abbrev pub hex_4 : ℕ → List ℕ
+hex_4 n = digit_glyph true (n / 4096 % 16) ∷ hex_3 n
 
 -- parts of a line, each behind a space
 abbrev pub spaced : List (List ℕ) → List ℕ
@@ -23,6 +28,12 @@ vector_parts name scale dx dy z = name ∷ decimal scale ∷ signed_decimal dx �
 -- an instruction's name and operands
 abbrev pub instr_parts : Instr → List (List ℕ)
 instr_parts (Vctr scale dx dy z) = vector_parts (codes "VCTR") scale dx dy z
+instr_parts (Labs x y scale) = codes "LABS" ∷ decimal x ∷ decimal y ∷ decimal scale ∷ []
+instr_parts Halt = codes "HALT" ∷ []
+instr_parts (Jsrl address) = codes "JSRL" ∷ hex_3 address ∷ []
+instr_parts Rtsl = codes "RTSL" ∷ []
+instr_parts (Jmpl address) = codes "JMPL" ∷ hex_3 address ∷ []
+instr_parts (Svec scale dx dy z) = vector_parts (codes "SVEC") scale dx dy z
 
 -- a star marks words that aren't canonical
 abbrev pub star : Bool → List (List ℕ)
@@ -43,3 +54,16 @@ line_at words place instr = line_text place instr (starts_with nat_eq (drop plac
 -- the text of a listing
 abbrev pub list_text : List Placed → List ℕ
 list_text = flat_map line_of
+
+-- the ROM line of the words from an address on
+abbrev pub rom_line : ℕ → List ℕ → List ℕ
+rom_line address words = codes "rom" ++ spaced (hex_3 address ∷ map hex_4 words) ++ 10 ∷ []
+
+-- a ROM line for each eight words, from an address on
+abbrev pub rom_lines : ℕ → List ℕ → List ℕ
+rom_lines address (a ∷ b ∷ c ∷ d ∷ e ∷ f ∷ g ∷ h ∷ words) = rom_line address (a ∷ b ∷ c ∷ d ∷ e ∷ f ∷ g ∷ h ∷ []) ++ rom_lines (address + 8) words
+rom_lines address _ = []
+
+-- the text of a ROM: its words, from 800 on
+abbrev pub rom_text : List ℕ → List ℕ
+rom_text bytes = rom_lines 0x800 (words_of bytes)

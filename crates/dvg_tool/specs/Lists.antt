@@ -5,7 +5,7 @@ use Rattle.dvg_code.specs.Words.{words_of}
 use Rattle.dvg_code.specs.Cutting.{Cutting}
 use Rattle.dvg_tool.specs.Lines.{list_text}
 use Rattle.dvg_tool.specs.Watching.{BeginsToWrite}
-use Rattle.dvg_tool.specs.declared.fault.TextFault.TheVariants.{TooLong, Odd, Cut}
+use Rattle.dvg_tool.specs.declared.fault.TextFault.TheVariants.{TooLong, Odd, Cut, RomSize}
 use Rattle.dvg_tool.specs.declared.fault.ToolFault.{ToolFault}
 use Rattle.dvg_tool.specs.declared.fault.ToolFault.TheVariants.{Text, Reader, Writer, Memory}
 
@@ -31,6 +31,7 @@ abbrev pub StopsList : ToolFault → (input : List ℕ) → Option (List ℕ) �
 StopsList (Text TooLong) input old new = 8192 < length input
 StopsList (Text Odd) input old new = (length input ≤ 8192) × (length input % 2 ≡ 1)
 StopsList (Text (Cut place)) input old new = IsWhole input × StopsListing (Text (Cut place)) (words_of input) old new
+StopsList (Text RomSize) input old new = ⊥
 StopsList Writer input old new = IsWhole input × StopsListing Writer (words_of input) old new
 StopsList Reader input old new = Unit {0}
 StopsList Memory input old new = Unit {0}
@@ -40,12 +41,3 @@ abbrev pub Lists : {T : Type 0} → Result T ToolFault → (input : List ℕ) �
 Lists answer input old new = MatchResult answer
     (λ _. IsWhole input × ((cutting : Cutting (words_of input)) → (cutting.rest ≡ []) × Appends old new (list_text cutting.items)))
     (λ fault. StopsList fault input old new)
-
--- the faults that come before the first write
-abbrev pub StopsBeforeWriting : ToolFault → Type 0
-StopsBeforeWriting (Text TooLong) = Unit {0}
-StopsBeforeWriting (Text Odd) = Unit {0}
-StopsBeforeWriting (Text (Cut place)) = ⊥
-StopsBeforeWriting Reader = Unit {0}
-StopsBeforeWriting Writer = ⊥
-StopsBeforeWriting Memory = Unit {0}

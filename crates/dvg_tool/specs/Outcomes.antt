@@ -1,8 +1,19 @@
--- How the program ends.
+-- How an engine stops, and how the program ends.
 use Rattle.std.specs.Prelude.{◌≡◌, ℕ, ◌⊎◌, Result, Ok, Err}
+use Rattle.dvg_tool.specs.declared.fault.TextFault.TheVariants.{TooLong, Odd, Cut, RomSize}
 use Rattle.dvg_tool.specs.declared.fault.ToolFault.{ToolFault}
 use Rattle.dvg_tool.specs.declared.fault.ToolFault.TheVariants.{Text, Reader, Writer, Memory}
 use Rattle.dvg_tool.specs.Watching.{one_more}
+
+-- the faults that come before the first write
+abbrev pub StopsBeforeWriting : ToolFault → Type 0
+StopsBeforeWriting (Text TooLong) = Unit {0}
+StopsBeforeWriting (Text Odd) = Unit {0}
+StopsBeforeWriting (Text (Cut place)) = ⊥
+StopsBeforeWriting (Text RomSize) = Unit {0}
+StopsBeforeWriting Reader = Unit {0}
+StopsBeforeWriting Writer = ⊥
+StopsBeforeWriting Memory = Unit {0}
 
 -- the answer stays and no failure was counted, or one was counted and the answer is `Writer`
 abbrev pub FinishesAs : {T : Type 0} → Result T ToolFault → Result T ToolFault → ℕ → ℕ → Type 0

@@ -14,9 +14,12 @@ pub enum TextFault {
     /// The input has an odd number of bytes.
     #[error("odd length")]
     Odd,
-    /// No instruction begins at this place, counted in words from 0.
+    /// The word at this place, counted in words from 0, wants a second word, which is missing.
     #[error("cut at {0:03X}")]
     Cut(usize),
+    /// A ROM hasn't exactly 2,048 bytes.
+    #[error("rom size")]
+    RomSize,
 }
 
 /// Why an engine stopped. Its text is what `dvg` prints of it.

@@ -1,7 +1,7 @@
 //! Lines of output, made without taking memory.
-ghost use Rattle.std.specs.Prelude.{◌≡◌, ◌≤◌, ◌<◌, ◌+◌, ◌++◌, ◌∷◌, [], List, ℕ, length, true};
+ghost use Rattle.std.specs.Prelude.{◌≡◌, ◌≤◌, ◌<◌, ◌+◌, ◌++◌, ◌∷◌, [], List, ℕ, length, codes, decimal, true};
 ghost use Rattle.std.specs.Fmt.{digit_glyph};
-ghost use Rattle.dvg_tool.specs.Lines.{hex_3, instr_parts, line_text, spaced, vector_parts};
+ghost use Rattle.dvg_tool.specs.Lines.{hex_3, hex_4, instr_parts, line_text, rom_line, spaced, vector_parts};
 
 use arrayvec::ArrayVec;
 use dvg_code::{Code, Instr};
@@ -89,6 +89,18 @@ impl Line {
         self.hex_digit(n % 16);
     }
 
+    // Appends a space and four hexadecimal digits.
+    fn hex_4(&mut self, word: u16)
+        requires { length self.old + 5 ≤ 64 }
+        ensures text { self.new ≡ self.old ++ spaced (hex_4 word ∷ []) }
+        ensures grew { length self.new ≡ length self.old + 5 }
+    {
+        let n = usize::from(word);
+        self.text(b" ");
+        self.hex_digit(n / 4096 % 16);
+        self.hex_3(n);
+    }
+
     // Appends the name of a vector and its numbers.
     fn vector(&mut self, name: &[u8], scale: u8, dx: i16, dy: i16, z: u8)
         requires { length self.old + length name.now + 23 ≤ 64 }
@@ -102,6 +114,29 @@ impl Line {
         self.number(z);
     }
 
+    // Appends the name of a LABS and its numbers.
+    fn labs(&mut self, x: u16, y: u16, scale: u8)
+        requires { length self.old + 21 ≤ 64 }
+        ensures text { self.new ≡ self.old ++ spaced (codes "LABS" ∷ decimal x ∷ decimal y ∷ decimal scale ∷ []) }
+        ensures grew { length self.new ≤ length self.old + 21 }
+    {
+        self.word(b"LABS");
+        self.number(x);
+        self.number(y);
+        self.number(scale);
+    }
+
+    // Appends the name of an instruction and a word address.
+    fn jump(&mut self, name: &[u8], address: u16)
+        requires { length self.old + length name.now + 5 ≤ 64 }
+        ensures text { self.new ≡ self.old ++ spaced (name.now ∷ hex_3 address ∷ []) }
+        ensures grew { length self.new ≡ length self.old + length name.now + 5 }
+    {
+        self.word(name);
+        self.text(b" ");
+        self.hex_3(usize::from(address));
+    }
+
     // Appends the name of an instruction and its operands.
     fn instr(&mut self, instr: Instr)
         requires { length self.old + 27 ≤ 64 }
@@ -110,6 +145,14 @@ impl Line {
     {
         match instr {
             Instr::Vctr { scale, dx, dy, z } => self.vector(b"VCTR", scale, dx, dy, z),
+            Instr::Labs { x, y, scale } => self.labs(x, y, scale),
+            Instr::Halt => self.word(b"HALT"),
+            Instr::Jsrl(address) => self.jump(b"JSRL", address),
+            Instr::Rtsl => self.word(b"RTSL"),
+            Instr::Jmpl(address) => self.jump(b"JMPL", address),
+            Instr::Svec { scale, dx, dy, z } => {
+                self.vector(b"SVEC", scale, i16::from(dx), i16::from(dy), z)
+            }
         }
     }
 }
@@ -123,6 +166,21 @@ pub fn listed_line(place: usize, code: &Code, canonical: bool) -> Line
     line.instr(code.instr());
     if !canonical {
         line.word(b"*");
+    }
+    line.text(b"\n");
+    line
+}
+
+/// The ROM line of eight words, from an address on.
+pub fn rom_line(address: usize, words: &[u16]) -> Line
+    requires { length words.now ≡ 8 }
+    ensures { result ≡ rom_line address words.now }
+{
+    let mut line = Line::new();
+    line.text(b"rom ");
+    line.hex_3(address);
+    for word in words {
+        line.hex_4(*word);
     }
     line.text(b"\n");
     line

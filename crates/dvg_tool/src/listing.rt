@@ -1,16 +1,17 @@
 //! The engine `list`.
-ghost use Rattle.std.specs.Prelude.{◌≡◌, ◌↔◌, ◌≤◌, ◌%◌, length, IfErr, IfOk, IfSome, IsErrOf, OnErr, OnOk};
+ghost use Rattle.std.specs.Prelude.{◌≡◌, ◌↔◌, ◌≤◌, ◌%◌, length, IfErr, IfSome, IsErrOf, OnErr, OnOk};
 ghost use Rattle.std.specs.Io.KnownBytes.{Appends};
 ghost use Rattle.dvg_code.specs.Words.{words_of};
 ghost use Rattle.dvg_tool.specs.Lines.{line_at};
-ghost use Rattle.dvg_tool.specs.Lists.{Lists, ListsWords, StopsBeforeWriting};
+ghost use Rattle.dvg_tool.specs.Lists.{Lists, ListsWords};
+ghost use Rattle.dvg_tool.specs.Outcomes.{StopsBeforeWriting};
 ghost use Rattle.dvg_tool.specs.Watching.{BeginsToWrite, CountsErrors, TakesAtMost, device_of, failures_of};
 
 use crate::fault::{TextFault, ToolFault};
 use crate::line::listed_line;
-use crate::transfer::{read_up_to, write_whole};
+use crate::transfer::{read_up_to, words_in, write_whole};
 use crate::watched::{DeviceFailed, Watched};
-use dvg_code::{Code, Listed, Listing, OutOfMemory, encode, word_at};
+use dvg_code::{Code, Listed, Listing, encode};
 use std::alloc::Allocator;
 use std::io::{Read, Write};
 
@@ -54,24 +55,12 @@ fn list_words<W: Write>(words: &[u16], writer: &mut Watched<W>) -> Result<(), To
     Ok(())
 }
 
-// The words of an even number of bytes.
-fn words_in<A: Allocator>(alloc: A, bytes: &[u8]) -> Result<Vec<u16, A>, OutOfMemory>
-    requires { length bytes.now % 2 ≡ 0 }
-    ensures { IfOk result (λ words. words.items ≡ words_of bytes.now) }
-{
-    let mut words = Vec::new(alloc);
-    for k in 0..bytes.len() / 2 {
-        words.push(word_at(bytes, k))?;
-    }
-    Ok(words)
-}
-
 /// Reads words, two bytes each, the low one first, and writes a line for each instruction: its place
 /// in words, its name and operands, and a star where its words aren't canonical.
 ///
 /// - `TooLong`: the input has more than 8,192 bytes, of which no more than 8,193 are taken.
 /// - `Odd`: it has an odd number of bytes.
-/// - `Cut`: a word is left that no instruction begins with; the lines before it are written.
+/// - `Cut`: the last word is the first of two, and the second is missing; the lines before it are written.
 /// - `Reader`, `Writer`: that device failed. After `Writer` a beginning of the text went out.
 /// - `Memory`: a growth was refused.
 ///

@@ -5,4 +5,6 @@
 pub enum Job {
     /// List the instructions of words.
     List,
+    /// Write a ROM as text.
+    Rom,
 }

@@ -1,10 +1,12 @@
 //! Whole reads and writes through watched devices.
-ghost use Rattle.std.specs.Prelude.{◌≡◌, ◌⊎◌, ◌↔◌, ◌+◌, ◌^◌, ◌<◌, ◌≤◌, take, vec_len, IfOk, IfErr, IfSome, OnOk, OnErr, IsErrOf};
+ghost use Rattle.std.specs.Prelude.{◌≡◌, ◌⊎◌, ◌↔◌, ◌+◌, ◌^◌, ◌<◌, ◌≤◌, ◌%◌, length, take, vec_len, IfOk, IfErr, IfSome, OnOk, OnErr, IsErrOf};
 ghost use Rattle.std.specs.Io.KnownBytes.{Appends};
+ghost use Rattle.dvg_code.specs.Words.{words_of};
 ghost use Rattle.dvg_tool.specs.Watching.{BeginsToWrite, CountsErrors, TakesAtMost, device_of, failures_of};
 
 use crate::fault::ToolFault;
 use crate::watched::{DeviceFailed, Watched};
+use dvg_code::{OutOfMemory, word_at};
 use std::alloc::Allocator;
 use std::io::{Read, Write};
 
@@ -41,6 +43,18 @@ pub fn read_up_to<A: Allocator, R: Read>(
         }
     }
     Ok(bytes)
+}
+
+/// The words of an even number of bytes.
+pub fn words_in<A: Allocator>(alloc: A, bytes: &[u8]) -> Result<Vec<u16, A>, OutOfMemory>
+    requires { length bytes.now % 2 ≡ 0 }
+    ensures { IfOk result (λ words. words.items ≡ words_of bytes.now) }
+{
+    let mut words = Vec::new(alloc);
+    for k in 0..bytes.len() / 2 {
+        words.push(word_at(bytes, k))?;
+    }
+    Ok(words)
 }
 
 /// Writes the whole of a text, by as many writes as it takes. After a failure a beginning of it went

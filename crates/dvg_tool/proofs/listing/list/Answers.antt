@@ -7,7 +7,7 @@ use Rattle.dvg_tool.proofs.listing.list.Goals as goal
 
 pub returns-then-len-gt-MOST_LIST_BYTES-clause-lists : goal.returns-then-len-gt-MOST_LIST_BYTES-clause-lists
 returns-then-len-gt-MOST_LIST_BYTES-clause-lists g c =
-    too_long _ c.in_ok-bytes.bytes.items c.in_ok-bytes.ensures.bytes (search rules)
+    too_long 8192 _ c.in_ok-bytes.bytes.items c.in_ok-bytes.ensures.bytes (search rules)
 
 pub returns-then-len-eq1-clause-lists : goal.returns-then-len-eq1-clause-lists
 returns-then-len-eq1-clause-lists g c =

@@ -1,4 +1,4 @@
-use Rattle.std.proofs.Common.{arith, rules, ◌+◌, ◌≤◌, length, take, vec_len}
+use Rattle.std.proofs.Common.{rules, take}
 use Rattle.dvg_tool.proofs.Known.{takes_more}
 use Rattle.dvg_tool.proofs.transfer.read_up_to.Goals as goal
 

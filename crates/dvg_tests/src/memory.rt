@@ -1,0 +1,104 @@
+//! The memory map, images, the ROM and stores.
+use dvg_mem::{Area, Flat, Half, Image, MEMORY_BYTES, MemFault, Rom, Store, area, fetch};
+use linked_list_allocator::LocalHeap;
+use std::alloc::Global;
+use std::process::Abort;
+use std::test::Fail;
+
+/// Word addresses at the borders of the areas.
+const BORDERS: [(u16, Area); 12] = [
+    (0x000, Area::Zero),
+    (0x001, Area::Frame(Half::H0)),
+    (0x1FF, Area::Frame(Half::H0)),
+    (0x200, Area::Unused),
+    (0x201, Area::Frame(Half::H1)),
+    (0x3FF, Area::Frame(Half::H1)),
+    (0x400, Area::Hole),
+    (0x7FF, Area::Hole),
+    (0x800, Area::Rom),
+    (0xBFF, Area::Rom),
+    (0xC00, Area::Hole),
+    (0xFFF, Area::Hole),
+];
+
+/// 2,048 bytes of one value.
+fn same_bytes(alloc: Global, byte: u8) -> Result<Vec<u8>, Fail> {
+    Ok(vec![in alloc; byte; MEMORY_BYTES]?)
+}
+
+#[test]
+fn each_address_has_its_area(rt: HostRuntime) {
+    for (w, wanted) in BORDERS {
+        assert_eq!(rt; area(w), wanted, "at {w:03X}");
+    }
+}
+
+#[test]
+fn halves_are_named_by_bit_1(rt: HostRuntime) {
+    for (half, other, base, high) in [
+        (Half::H0, Half::H1, 0x001, 0xE0),
+        (Half::H1, Half::H0, 0x201, 0xE2),
+    ] {
+        assert_eq!(rt; half.other(), other);
+        assert_eq!(rt; half.base(), base);
+        assert_eq!(rt; half.high(), high);
+        assert_eq!(rt; Half::of_high(high), half);
+    }
+    assert_eq!(rt; Half::of_high(0xFF), Half::H1);
+    assert_eq!(rt; Half::of_high(0x01), Half::H0);
+}
+
+#[test]
+fn only_2048_bytes_are_taken(rt: HostRuntime) -> Result<(), Fail> {
+    let bytes = vec![in rt.alloc(); 7u8; 2049]?;
+    for (count, wanted) in [
+        (0, Some(MemFault::Size)),
+        (2047, Some(MemFault::Size)),
+        (2048, None),
+        (2049, Some(MemFault::Size)),
+    ] {
+        assert!(rt; count <= bytes.len());
+        let part = &bytes.as_slice()[..count];
+        assert_eq!(rt; Image::new(rt.alloc(), part).err(), wanted);
+        assert_eq!(rt; Rom::new(rt.alloc(), part).err(), wanted);
+    }
+    let heap = LocalHeap::new(rt.alloc(), 512)?;
+    let part = &bytes.as_slice()[..2048];
+    assert_eq!(rt; Image::new(&heap, part).err(), Some(MemFault::OutOfMemory));
+    assert_eq!(rt; Rom::new(&heap, part).err(), Some(MemFault::OutOfMemory));
+    Ok(())
+}
+
+/// What a store has to do, whichever it is.
+fn keeps_bytes<S: Store<Alloc = Global>>(rt: &(impl Abort + AllocGlobal)) -> Result<(), Fail> {
+    let mut bytes = same_bytes(rt.alloc(), 0)?;
+    bytes[0] = 0x01;
+    bytes[1] = 0xE2;
+    bytes[2047] = 0x12;
+    let image = Image::new(rt.alloc(), bytes.as_slice()).map_err(|_| Fail::from("no image"))?;
+    let returns = Image::new(rt.alloc(), same_bytes(rt.alloc(), 0xD0)?.as_slice()).map_err(
+        |_| Fail::from("no image"),
+    )?;
+    let rom = Rom::new(rt.alloc(), same_bytes(rt.alloc(), 0xFF)?.as_slice()).map_err(|_| Fail::from(
+        "no ROM",
+    ))?;
+    let mut store = S::make(rt.alloc(), &image).map_err(|_| Fail::from("no store"))?;
+    assert_eq!(rt; fetch(&store, &rom, 0x000), Some(0xE201));
+    assert_eq!(rt; fetch(&store, &rom, 0x3FF), Some(0x1200));
+    assert_eq!(rt; fetch(&store, &rom, 0x400), None);
+    assert_eq!(rt; fetch(&store, &rom, 0x800), Some(0xFFFF));
+    store.write(0x002, 0xAB);
+    assert_eq!(rt; store.read(0x002), 0xAB);
+    assert_eq!(rt; store.read(0x402), 0x00);
+    assert_eq!(rt; store.read(0x001), 0xE2);
+    store.load(&returns);
+    for a in [0x000, 0x001, 0x002, 0x400, 0x401, 0x402, 0x7FF] {
+        assert_eq!(rt; store.read(a), 0xD0);
+    }
+    Ok(())
+}
+
+#[test]
+fn a_flat_store_keeps_bytes(rt: HostRuntime) -> Result<(), Fail> {
+    keeps_bytes::<Flat>(&rt)
+}
