@@ -1,7 +1,7 @@
 //! The program `dvg`, for people who write and debug display lists of the Digital Vector Generator.
 #![tactic(auto)]
 
-use dvg_tool::{Job, ToolFault, Watched, finish, job, list, rom_text, status};
+use dvg_tool::{Job, ToolFault, Watched, finish, job, perform, status};
 use std::io::BufWriter;
 use std::process::ExitCode;
 use std::{env, io};
@@ -26,10 +26,7 @@ fn run(rt: &HostRuntime, job: Job) -> Result<(), ToolFault> {
     };
     let mut reader = Watched::new(rt.stdin());
     let mut writer = Watched::new(output);
-    let answer = match job {
-        Job::List => list(rt.alloc(), &mut reader, &mut writer),
-        Job::Rom => rom_text(rt.alloc(), &mut reader, &mut writer),
-    };
+    let answer = perform(rt.alloc(), job, &mut reader, &mut writer);
     finish(answer, &mut writer)
 }
 

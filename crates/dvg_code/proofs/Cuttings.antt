@@ -2,7 +2,9 @@
 use Rattle.std.proofs.Common.{◌≡◌, ℕ, ◌+◌, ⊎_elim, List, [], ◌∷◌, ◌++◌, length, refl, sym, subst, ◌∙◌}
 use Rattle.std.proofs.lemmas.Bool.{cases_lt}
 use Rattle.dvg_code.specs.declared.instr.Instr.{Instr}
-use Rattle.dvg_code.specs.Words.{AreWords}
+use Rattle.std.specs.List.{AllByRecursion}
+use Rattle.std.proofs.lemmas.List.Elements.{recursion_from_All}
+use Rattle.dvg_code.specs.Words.{AreWords, IsWord}
 use Rattle.dvg_code.specs.Spelling.{Spells}
 use Rattle.dvg_code.specs.Cutting.{IsRest, Placed, Cuts, ends, goes, Cutting}
 use Rattle.dvg_code.proofs.Beginnings.{one_word, two_words}
@@ -29,7 +31,7 @@ cut_on place front after read more = record {
 }
 
 -- words of 16 bits have a cutting
-cut_from : (place : ℕ) (words : List ℕ) → AreWords words → CutFrom place words
+cut_from : (place : ℕ) (words : List ℕ) → AllByRecursion IsWord words → CutFrom place words
 cut_from place [] fit = cut_short place [] tt
 cut_from place (word ∷ []) fit =
     ⊎_elim (λ first. cut_short place (word ∷ []) first) (λ alone. cut_on place (word ∷ []) [] (one_word word alone fit.0) (cut_short (place + 1) [] tt)) (cases_lt word 45056)
@@ -57,7 +59,7 @@ same_cuts place end end' words rest rest' items items'
 
 -- a cutting of a whole list of words
 pub cutting_of : (words : List ℕ) → AreWords words → Cutting words
-cutting_of words fit = let c = cut_from 0 words fit in record { items = c.items; end = c.end; rest = c.rest; cuts = c.cuts }
+cutting_of words fit = let c = cut_from 0 words (recursion_from_All IsWord words fit) in record { items = c.items; end = c.end; rest = c.rest; cuts = c.cuts }
 
 -- and each other one is the same
 pub same_cutting : (words : List ℕ) (a b : Cutting words) → (b.items ≡ a.items) × (b.end ≡ a.end) × (b.rest ≡ a.rest)

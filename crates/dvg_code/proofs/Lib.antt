@@ -5,3 +5,4 @@ pub mod Unique
 pub mod Canonical
 pub mod Cuttings
 pub mod Listings
+pub mod BytesOfWords

@@ -1,7 +1,7 @@
 -- Laws of spellings and cuttings.
-use Rattle.std.specs.Prelude.{◌≡◌, ◌≤◌, List, [], ◌∷◌, ◌++◌, ℕ, length}
+use Rattle.std.specs.Prelude.{◌≡◌, ◌<◌, ◌≤◌, ◌+◌, ◌*◌, List, [], ◌∷◌, ◌++◌, ℕ, length, slice_index}
 use Rattle.dvg_code.specs.declared.instr.Instr.{Instr}
-use Rattle.dvg_code.specs.Words.{AreWords, IsWord}
+use Rattle.dvg_code.specs.Words.{AreBytes, AreWords, IsWord, word_in, words_of}
 use Rattle.dvg_code.specs.Ranges.{InRange}
 use Rattle.dvg_code.specs.Spelling.{IsFirst, Spells, canon, word_count}
 use Rattle.dvg_code.specs.Cutting.{Cutting, Fronts, IsRest}
@@ -43,10 +43,15 @@ RestBeginsNone = (rest : List ℕ) → IsRest rest → (instr : Instr) (count : 
 abbrev pub SomeCutting : Type 0
 SomeCutting = (words : List ℕ) → AreWords words → Cutting words
 
--- two cuttings of the same words are one, whatever their size
+-- two cuttings of the same words are one, also of numbers past 16 bits
 abbrev pub SameCutting : Type 0
 SameCutting = (words : List ℕ) (one other : Cutting words) → (other.items ≡ one.items) × (other.end ≡ one.end) × (other.rest ≡ one.rest)
 
 -- each list of words of 16 bits has one cutting
 abbrev pub OneCutting : Type 0
 OneCutting = SomeCutting × SameCutting
+
+-- the words of bytes have 16 bits, and word k of them is made of bytes 2k and 2k + 1
+abbrev pub BytesMakeWords : Type 0
+BytesMakeWords = (bytes : List ℕ) → (AreBytes bytes → AreWords (words_of bytes))
+    × ((k : ℕ) → 2 * k + 1 < length bytes → slice_index (words_of bytes) k ≡ word_in bytes k)

@@ -10,7 +10,7 @@ IsSignOf (pos zero) bit = bit < 2
 IsSignOf (pos (suc n)) bit = bit ≡ 0
 IsSignOf (negsuc n) bit = bit ≡ 1
 
--- four bits, a free bit, a sign bit and a magnitude of ten bits add up to the word
+-- four bits, a free bit, a sign bit and a magnitude of ten bits add up to the word (their ranges are the instruction's)
 pub record LongWord (top : ℕ) (n : ℤ) (word : ℕ) : Type 0 where
   pub free : ℕ
   pub sign : ℕ
@@ -18,7 +18,7 @@ pub record LongWord (top : ℕ) (n : ℤ) (word : ℕ) : Type 0 where
   pub sign_is : IsSignOf n sign
   pub sum : word ≡ 4096 * top + 2048 * free + 1024 * sign + unsigned_abs n
 
--- the opcode F, two sign bits, two magnitudes of two bits, an intensity and the scale's two bits add up to the word; bit 11 has weight 1 in the scale, bit 3 weight 2
+-- the opcode F, two sign bits, two magnitudes of two bits, an intensity and the scale's two bits add up to the word; bit 11 has weight 1 in the scale, bit 3 weight 2 (the ranges are the instruction's)
 pub record ShortWord (scale : ℕ) (dx dy : ℤ) (z word : ℕ) : Type 0 where
   pub bit_11 : ℕ
   pub bit_3 : ℕ
@@ -31,7 +31,7 @@ pub record ShortWord (scale : ℕ) (dx dy : ℤ) (z word : ℕ) : Type 0 where
   pub weights : scale ≡ 2 + 2 * bit_3 + bit_11
   pub sum : word ≡ 0xF000 + 2048 * bit_11 + 1024 * dy_sign + 256 * unsigned_abs dy + 16 * z + 8 * bit_3 + 4 * dx_sign + unsigned_abs dx
 
--- these words, and no fewer, spell this instruction
+-- exactly these words spell this instruction
 pub data Spells : Instr → List ℕ → Type 0 where
   vctr : {scale : ℕ} {dx dy : ℤ} {z first second : ℕ} → InRange (Vctr scale dx dy z)
       → LongWord scale dy first → LongWord z dx second → Spells (Vctr scale dx dy z) (first ∷ second ∷ [])

@@ -1,6 +1,5 @@
 -- Words of 16 bits.
-use Rattle.std.specs.Prelude.{ℕ, ◌+◌, ◌*◌, ◌<◌, List, [], ◌∷◌, slice_index}
-use Rattle.std.specs.List.{AllByRecursion}
+use Rattle.std.specs.Prelude.{ℕ, ◌+◌, ◌*◌, ◌<◌, List, [], ◌∷◌, All, slice_index}
 
 -- a number of 16 bits
 abbrev pub IsWord : ℕ → Type 0
@@ -8,7 +7,11 @@ IsWord word = word < 0x10000
 
 -- each of these numbers has 16 bits
 abbrev pub AreWords : List ℕ → Type 0
-AreWords words = AllByRecursion IsWord words
+AreWords words = All IsWord words
+
+-- each of these numbers is a byte
+abbrev pub AreBytes : List ℕ → Type 0
+AreBytes bytes = All (λ byte. byte < 256) bytes
 
 -- word k of a list of bytes: the low byte, and 256 times the high byte
 abbrev pub word_in : List ℕ → ℕ → ℕ

@@ -1,5 +1,5 @@
 //! Laws of the definitions alone. Each is the contract of a function that does nothing.
-ghost use Rattle.dvg_code.specs.Laws.{CanonicalSpells, EachWordBegins, OneCutting, OneFront, OneSpelling, RestBeginsNone, SpellingLength};
+ghost use Rattle.dvg_code.specs.Laws.{BytesMakeWords, CanonicalSpells, EachWordBegins, OneCutting, OneFront, OneSpelling, RestBeginsNone, SpellingLength};
 
 /// Words spell one instruction at most.
 pub fn one_spelling()
@@ -36,4 +36,9 @@ pub fn rest_begins_none()
 /// Each list of words of 16 bits is cut into instructions and a rest in one way, and in no other.
 pub fn one_cutting()
     ensures { OneCutting }
+{}
+
+/// Bytes make words of 16 bits, of which word `k` is made of bytes `2k` and `2k + 1`.
+pub fn bytes_make_words()
+    ensures { BytesMakeWords }
 {}

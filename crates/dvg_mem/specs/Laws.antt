@@ -1,8 +1,11 @@
 -- Laws of the memory map.
-use Rattle.std.specs.Prelude.{◌≡◌, ◌≢◌, ◌≤◌, ◌+◌, ◌*◌, ℕ}
+use Rattle.std.specs.Prelude.{◌≡◌, ◌≢◌, ◌<◌, ◌≤◌, ◌+◌, ◌*◌, ◌↔◌, ℕ, List, Some, slice_index}
 use Rattle.dvg_mem.specs.declared.half.Half.{Half}
 use Rattle.dvg_mem.specs.declared.areas.Area.{Area}
+use Rattle.dvg_mem.specs.declared.areas.Area.TheVariants.{Frame}
 use Rattle.dvg_mem.specs.Areas.{IsIn, base, half_of_high, high, other}
+use Rattle.dvg_mem.specs.Memory.{IsImage, rom_word}
+use Rattle.dvg_code.specs.Words.{words_of}
 
 -- each word address lies in an area, and in no other
 abbrev pub OneArea : Type 0
@@ -12,6 +15,14 @@ OneArea = (w : ℕ) → w ≤ 0xFFF → (one : Area) × IsIn one w × ((also : A
 abbrev pub HighNamesHalf : Type 0
 HighNamesHalf = (half : Half) → (0x01 + 256 * high half ≡ 0xE000 + base half) × (half_of_high (high half) ≡ half)
 
--- there are two halves
+-- the other half is another one, and its other half is the first
 abbrev pub HalvesDiffer : Type 0
 HalvesDiffer = (half : Half) → (other half ≢ half) × (other (other half) ≡ half)
+
+-- a half is the 511 words from its first word on
+abbrev pub HalfFromBase : Type 0
+HalfFromBase = (half : Half) (w : ℕ) → IsIn (Frame half) w ↔ ((base half ≤ w) × (w ≤ base half + 510))
+
+-- the ROM's words, from 800 on, are the words of its bytes in order
+abbrev pub RomWordsInOrder : Type 0
+RomWordsInOrder = (rom : List ℕ) (k : ℕ) → IsImage rom → k < 1024 → rom_word rom (0x800 + k) ≡ Some (slice_index (words_of rom) k)

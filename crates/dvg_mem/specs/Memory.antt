@@ -7,7 +7,7 @@ pub record IsImage (content : List ℕ) : Type 0 where
   pub count : length content ≡ 2048
   pub bytes : All (λ byte. byte < 256) content
 
--- the ROM's word at an address, from 800 to BFF
+-- the ROM's word at an address from 800 to BFF; none at any other address
 abbrev pub rom_word : List ℕ → ℕ → Option ℕ
 rom_word rom a = if nat_le 0x800 a && nat_lt a 0xC00 then Some (word_in rom (a - 0x800)) else None
 

@@ -8,10 +8,10 @@ pub enum Area {
     Zero,
     /// A half of the vector RAM, which holds a frame.
     Frame(Half),
-    /// The word of the RAM between the halves, which is not used.
+    /// The word of the RAM between the halves, which no frame uses (this project's own choice).
     Unused,
     /// The vector ROM.
     Rom,
-    /// An address that no memory answers.
+    /// An address that no memory answers (this project's own choice).
     Hole,
 }

@@ -9,7 +9,7 @@ use crate::rom::Rom;
 use crate::store::Store;
 use std::alloc::Allocator;
 
-/// The word at a word address, in the RAM or in the ROM. None exactly for a hole.
+/// The word at a word address of 12 bits, in the RAM or in the ROM. None exactly for a hole.
 pub fn fetch<S: Store, A: Allocator>(store: &S, rom: &Rom<A>, w: u16) -> Option<u16>
     requires { w ≤ 0xFFF }
     ensures word { result ≡ fetched (S.content store.now) rom.now w }

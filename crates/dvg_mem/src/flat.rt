@@ -1,11 +1,11 @@
-//! A store in one row.
+//! A store in one vector of bytes.
 use crate::image::Image;
 use crate::store::Store;
 use dvg_code::OutOfMemory;
 use std::alloc::{Allocator, Global};
 use std::marker::Model;
 
-/// A store that keeps its bytes in one row.
+/// A store that keeps its bytes in one vector.
 #[derive(Drop)]
 pub struct Flat<A: Allocator = Global> {
     bytes: Vec<u8, A>,
@@ -13,13 +13,14 @@ pub struct Flat<A: Allocator = Global> {
 
 /// Contracts see the list of the bytes.
 impl<A: Allocator> Model for Flat<A> {
-    ghost use Rattle.std.specs.Prelude.{◌≡◌, List, ℕ, length};
+    ghost use Rattle.std.specs.Prelude.{List, ℕ};
+    ghost use Rattle.dvg_mem.specs.Memory.{IsImage};
 
     ghost Value = { List ℕ };
 
     ghost view = { λ flat. flat.bytes.items };
 
-    ghost invariant = { λ flat. length flat.bytes.items ≡ 2048 };
+    ghost invariant = { λ flat. IsImage flat.bytes.items };
 }
 
 impl<A: Allocator + Copy> Store for Flat<A> {

@@ -1,12 +1,22 @@
 //! Laws of the definitions alone. Each is the contract of a function that does nothing.
-ghost use Rattle.dvg_mem.specs.Laws.{HalvesDiffer, HighNamesHalf, OneArea};
+ghost use Rattle.dvg_mem.specs.Laws.{HalfFromBase, HalvesDiffer, HighNamesHalf, OneArea, RomWordsInOrder};
 
 /// Each word address lies in exactly one area.
 pub fn one_area()
     ensures { OneArea }
 {}
 
-/// The high byte of the jump to a half names that half.
+/// A half is the 511 words from its first word on.
+pub fn half_from_base()
+    ensures { HalfFromBase }
+{}
+
+/// The ROM's words, from 800 on, are the words of its bytes in order.
+pub fn rom_words_in_order()
+    ensures { RomWordsInOrder }
+{}
+
+/// The high byte of the jump to a half, over the low byte 01, is that jump, and names the half.
 pub fn high_names_half()
     ensures { HighNamesHalf }
 {}

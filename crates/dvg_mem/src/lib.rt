@@ -1,13 +1,13 @@
 //! The memory that the processor and the vector generator share, and its map.
 //!
-//! The processor sees 2,048 bytes of vector RAM and 2,048 bytes of vector ROM. The generator sees the
-//! same memory as words, at addresses of 12 bits: word `w` is the bytes `2w` (low) and `2w + 1` (high)
-//! from the RAM's first byte on. Byte addresses of the RAM are offsets, 000 to 7FF; word addresses are
+//! The processor sees 2,048 bytes of vector RAM at $4000 to $47FF and 2,048 bytes of vector ROM at $5000
+//! to $57FF. The generator sees the same memory as words, at addresses of 12 bits: word `w` is the bytes
+//! at $4000 + `2w` (low) and $4000 + `2w` + 1 (high). Byte addresses of the RAM are offsets, 000 to 7FF; word addresses are
 //! 000 to FFF.
 //!
 //! | Words | Area |
 //! |---|---|
-//! | 000 | word zero: the jump to the half that is drawn |
+//! | 000 | word zero, where each run begins: E001 or E201 once a frame was published |
 //! | 001 to 1FF | half 0 |
 //! | 200 | RAM that is not used (this project's own choice) |
 //! | 201 to 3FF | half 1 |
@@ -39,3 +39,6 @@ pub use store::Store;
 
 /// The bytes of a vector RAM, and of a vector ROM.
 pub const MEMORY_BYTES: usize = 2048;
+
+/// The word address of the ROM's first word.
+pub const FIRST_ROM_WORD: u16 = 0x800;

@@ -5,7 +5,7 @@ ghost use Rattle.dvg_mem.specs.Areas.{IsIn};
 use crate::areas::Area;
 use crate::half::Half;
 
-/// The area of a word address.
+/// The area of a word address, which has 12 bits.
 pub fn area(w: u16) -> Area
     requires { w ≤ 0xFFF }
     ensures { IsIn result w }

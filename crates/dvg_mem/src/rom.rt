@@ -2,14 +2,11 @@
 ghost use Rattle.std.specs.Prelude.{◌≡◌, ◌≢◌, ◌≤◌, ◌↔◌, length, IfOk, IsErrOf, Some};
 ghost use Rattle.dvg_mem.specs.Memory.{IsImage, rom_word};
 
-use crate::MEMORY_BYTES;
+use crate::{FIRST_ROM_WORD, MEMORY_BYTES};
 use crate::image::MemFault;
 use dvg_code::word_at;
 use std::alloc::{Allocator, Global};
 use std::marker::Model;
-
-/// The word address of the ROM's first word.
-const FIRST_WORD: u16 = 0x800;
 
 /// The 2,048 bytes of a vector ROM: the words 800 to BFF.
 #[derive(Drop)]
@@ -50,6 +47,6 @@ impl<A: Allocator> Rom<A> {
         requires last { a ≤ 0xBFF }
         ensures { rom_word self.now a ≡ Some result }
     {
-        word_at(self.bytes.as_slice(), usize::from(a - FIRST_WORD))
+        word_at(self.bytes.as_slice(), usize::from(a - FIRST_ROM_WORD))
     }
 }

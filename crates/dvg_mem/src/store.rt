@@ -1,5 +1,6 @@
 //! Stores: the vector RAM, however it is kept.
 ghost use Rattle.std.specs.Prelude.{◌≡◌, ◌<◌, ℕ, List, slice_index, slice_set, IfOk};
+ghost use Rattle.dvg_mem.specs.Memory.{IsImage};
 
 use crate::image::Image;
 use dvg_code::OutOfMemory;
@@ -16,19 +17,23 @@ pub trait Store: Drop {
 
     /// A store that holds an image.
     fn make(alloc: Self::Alloc, image: &Image<Self::Alloc>) -> Result<Self, OutOfMemory>
-        ensures { IfOk result (λ store. content store ≡ image.now) };
+        ensures content { IfOk result (λ store. content store ≡ image.now) }
+        ensures image { IfOk result (λ store. IsImage (content store)) };
 
-    /// The byte at an address.
+    /// The byte at an address below 2,048.
     fn read(&self, a: u16) -> u8
         requires { a < 2048 }
-        ensures { result ≡ slice_index (content self.now) a };
+        ensures byte { result ≡ slice_index (content self.now) a }
+        ensures image { IsImage (content self.now) };
 
-    /// Changes the byte at an address, and no other.
+    /// Changes the byte at an address below 2,048, and no other.
     fn write(&mut self, a: u16, b: u8)
         requires { a < 2048 }
-        ensures { content self.new ≡ slice_set (content self.old) a b };
+        ensures content { content self.new ≡ slice_set (content self.old) a b }
+        ensures image { IsImage (content self.new) };
 
     /// Takes an image's bytes in place of its own.
     fn load(&mut self, image: &Image<Self::Alloc>)
-        ensures { content self.new ≡ image.now };
+        ensures content { content self.new ≡ image.now }
+        ensures image { IsImage (content self.new) };
 }

@@ -77,3 +77,68 @@ impl Write for Stubborn {
         }
     }
 }
+
+/// What a device that fails once answers at that call.
+#[derive(Clone, Copy, Debug, PartialEq, Eq)]
+pub enum Mishap {
+    /// An error.
+    Error,
+    /// An interrupted call, which is an error like any other.
+    Interrupted,
+    /// A write that takes nothing; a read as ever.
+    TakesNothing,
+}
+
+/// A reader and writer that fails at one call, and does well before and after it.
+#[derive(Drop)]
+pub struct FailsOnce<'a> {
+    pub rest: &'a [u8],
+    pub taken: Vec<u8>,
+    pub step: usize,
+    pub calls_before: u32,
+    pub mishap: Option<Mishap>,
+}
+
+impl FailsOnce<'_> {
+    /// The mishap of this call, if it is the one.
+    fn mishap_now(&mut self) -> Option<Mishap> {
+        if self.calls_before > 0 {
+            self.calls_before -= 1;
+            return None;
+        }
+        self.mishap.take()
+    }
+}
+
+impl Read for FailsOnce<'_> {
+    fn read(&mut self, buf: &mut [u8]) -> io::Result<usize> {
+        match self.mishap_now() {
+            Some(Mishap::Error) => return Err(io::Error::from(ErrorKind::Other)),
+            Some(Mishap::Interrupted) => return Err(io::Error::from(ErrorKind::Interrupted)),
+            Some(Mishap::TakesNothing) | None => {}
+        }
+        let count = self.step.min(buf.len()).min(self.rest.len());
+        let (front, rest) = self.rest.split_at(count);
+        buf[..count].copy_from_slice(front);
+        self.rest = rest;
+        Ok(count)
+    }
+}
+
+impl Write for FailsOnce<'_> {
+    fn write(&mut self, buf: &[u8]) -> io::Result<usize> {
+        match self.mishap_now() {
+            Some(Mishap::Error) => return Err(io::Error::from(ErrorKind::Other)),
+            Some(Mishap::Interrupted) => return Err(io::Error::from(ErrorKind::Interrupted)),
+            Some(Mishap::TakesNothing) => return Ok(0),
+            None => {}
+        }
+        let count = self.step.min(buf.len());
+        self.taken.extend_from_slice(&buf[..count])?;
+        Ok(count)
+    }
+
+    fn flush(&mut self) -> io::Result<()> {
+        Ok(())
+    }
+}

@@ -9,6 +9,8 @@ mod lists;
 #[cfg(test)]
 mod memory;
 #[cfg(test)]
+mod mishaps;
+#[cfg(test)]
 mod roms;
 #[cfg(test)]
 mod texts;

@@ -29,6 +29,7 @@ fn same_bytes(alloc: Global, byte: u8) -> Result<Vec<u8>, Fail> {
 #[test]
 fn each_address_has_its_area(rt: HostRuntime) {
     for (w, wanted) in BORDERS {
+        assert!(rt; w <= 0xFFF);
         assert_eq!(rt; area(w), wanted, "at {w:03X}");
     }
 }
@@ -72,6 +73,7 @@ fn only_2048_bytes_are_taken(rt: HostRuntime) -> Result<(), Fail> {
 /// What a store has to do, whichever it is.
 fn keeps_bytes<S: Store<Alloc = Global>>(rt: &(impl Abort + AllocGlobal)) -> Result<(), Fail> {
     let mut bytes = same_bytes(rt.alloc(), 0)?;
+    assert_eq!(rt; bytes.len(), MEMORY_BYTES);
     bytes[0] = 0x01;
     bytes[1] = 0xE2;
     bytes[2047] = 0x12;

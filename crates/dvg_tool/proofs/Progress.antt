@@ -1,6 +1,6 @@
 -- How far a listing has come.
-use Rattle.std.proofs.Common.{◌≡◌, ◌≢◌, ℕ, ◌+◌, ◌≤◌, List, [], ◌∷◌, ◌++◌, Option, Some, None, length, take, drop, refl, sym, ap, subst, ◌∙◌, append_assoc, append-nil, arith, length-append}
-use Rattle.std.specs.Str.{bytes_eq}
+use Rattle.std.proofs.Common.{◌≡◌, ◌≢◌, ℕ, ◌+◌, ◌≤◌, List, [], ◌∷◌, ◌++◌, Option, Some, None, length, take, drop, refl, sym, ap, subst, ◌∙◌, append_assoc, append-nil, arith, length-append, nat_eq}
+use lib.Pointwise.{pointwise}
 use Rattle.std.specs.Io.KnownBytes.{Appends}
 use Rattle.std.proofs.Math.Seq.{take-append_seam, drop-append_seam}
 use Rattle.std.proofs.lemmas.Grind.{flat_map-append}
@@ -75,7 +75,7 @@ line_is words left after front place instr s spelled parts =
     ap (λ k. drop k words) s.place_is ∙ ap (drop (length s.before)) s.parts ∙ drop-append_seam s.before left in
     let seen : take (length (canon instr)) (drop place words) ≡ front =
     ap (take (length (canon instr))) (from ∙ parts) ∙ ap (λ k. take k (front ++ after)) (canon_length instr ∙ sym (spelling_length instr front spelled)) ∙ take-append_seam front after in
-    ap (λ l. line_text place instr (bytes_eq (canon instr) l)) seen
+    ap (λ l. line_text place instr (pointwise nat_eq (canon instr) l)) seen
 
 list_text-snoc : (items : List Placed) (item : Placed) → list_text items ++ line_of item ≡ list_text (items ++ item ∷ [])
 list_text-snoc items item =

@@ -3,7 +3,7 @@ use Rattle.std.proofs.Common.{◌≡◌, ◌≢◌, ℕ, ◌+◌, ◌*◌, [], �
 use Rattle.dvg_code.specs.Words.{words_of}
 use Rattle.dvg_tool.specs.Lines.{rom_text}
 use Rattle.dvg_tool.specs.Roms.{WritesRom, WritesText}
-use Rattle.dvg_tool.specs.Lists.{IsWhole, Lists, ListsWords}
+use Rattle.dvg_tool.specs.Lists.{IsListable, Lists, ListsWords}
 use Rattle.dvg_tool.specs.declared.fault.TextFault.TheVariants.{TooLong, Odd, Cut, RomSize}
 use Rattle.dvg_tool.specs.declared.fault.ToolFault.{ToolFault}
 use Rattle.dvg_tool.specs.declared.fault.ToolFault.TheVariants.{Text, Reader, Writer, Memory}
@@ -26,7 +26,7 @@ pub odd : (known : Option (List ℕ)) (read : List ℕ) → Read 8192 known read
 odd None read e h o = tt
 odd (Some input) read e h o = let same = ap length (whole 8192 read input e h) in (omega arith, omega arith)
 
-listed : {T : Type 0} (answer : Result T ToolFault) (input : List ℕ) (old new : Option (List ℕ)) → IsWhole input → ListsWords answer (words_of input) old new → Lists answer input old new
+listed : {T : Type 0} (answer : Result T ToolFault) (input : List ℕ) (old new : Option (List ℕ)) → IsListable input → ListsWords answer (words_of input) old new → Lists answer input old new
 listed (Ok done) input old new w h = (w, h)
 listed (Err (Text TooLong)) input old new w h = absurd h
 listed (Err (Text Odd)) input old new w h = absurd h

@@ -1,5 +1,8 @@
--- What the words of the program ask for.
-use Rattle.std.specs.Prelude.{◌≡◌, ℕ, List, [], ◌∷◌, codes}
+-- What the words of the program ask for, and what is done.
+use Rattle.std.specs.Prelude.{◌≡◌, ℕ, List, [], ◌∷◌, codes, Option, Result}
+use Rattle.dvg_tool.specs.declared.fault.ToolFault.{ToolFault}
+use Rattle.dvg_tool.specs.Lists.{Lists}
+use Rattle.dvg_tool.specs.Roms.{WritesRom}
 use Rattle.dvg_tool.specs.declared.task.Job.{Job}
 use Rattle.dvg_tool.specs.declared.task.Job.TheVariants.{List as list_job, Rom}
 
@@ -11,3 +14,13 @@ name_of Rom = codes "rom"
 -- the words are the program's name and the job's name, and no more
 abbrev pub AsksFor : List (List ℕ) → Job → Type 0
 AsksFor words job = (program : List ℕ) × (words ≡ program ∷ name_of job ∷ [])
+
+-- what is answered of an input, and what went out
+abbrev pub Performs : {T : Type 0} → Job → Result T ToolFault → (input : List ℕ) → Option (List ℕ) → Option (List ℕ) → Type 0
+Performs list_job answer input old new = Lists answer input old new
+Performs Rom answer input old new = WritesRom answer input old new
+
+-- the most bytes that are taken of the input
+abbrev pub most_taken : Job → ℕ
+most_taken list_job = 8193
+most_taken Rom = 2049

@@ -2,18 +2,18 @@
 use Rattle.std.specs.Prelude.{ℕ, ℤ, ◌+◌, ◌/◌, ◌%◌, Bool, true, cond, List, [], ◌∷◌, ◌++◌, drop, flat_map, map, nat_eq, codes}
 use Rattle.std.specs.Fmt.{decimal, signed_decimal, digit_glyph}
 use Rattle.std.specs.List.{starts_with}
-use Rattle.std.specs.Str.{bytes_eq}
+use lib.Pointwise.{pointwise}
 use Rattle.dvg_code.specs.declared.instr.Instr.{Instr}
 use Rattle.dvg_code.specs.declared.instr.Instr.TheVariants.{Vctr, Labs, Halt, Jsrl, Rtsl, Jmpl, Svec}
 use Rattle.dvg_code.specs.Words.{words_of}
 use Rattle.dvg_code.specs.Spelling.{canon}
 use Rattle.dvg_code.specs.Cutting.{Placed}
 
--- three hexadecimal digits in upper case
+-- a number below 4096 as three hexadecimal digits in upper case
 abbrev pub hex_3 : ℕ → List ℕ
 hex_3 n = digit_glyph true (n / 256 % 16) ∷ digit_glyph true (n / 16 % 16) ∷ digit_glyph true (n % 16) ∷ []
 
--- four hexadecimal digits in upper case
+-- a number of 16 bits as four hexadecimal digits in upper case
 abbrev pub hex_4 : ℕ → List ℕ
 hex_4 n = digit_glyph true (n / 4096 % 16) ∷ hex_3 n
 
@@ -45,9 +45,9 @@ line_text place instr canonical = hex_3 place ++ spaced (instr_parts instr ++ st
 
 -- the line of an instruction at its place, with the words that spell it
 abbrev pub line_of : Placed → List ℕ
-line_of item = line_text item.place item.instr (bytes_eq (canon item.instr) item.words)
+line_of item = line_text item.place item.instr (pointwise nat_eq (canon item.instr) item.words)
 
--- the line of the instruction that stands at a place of the words
+-- the same, of the instruction that stands at a place of the words (for private contracts)
 abbrev pub line_at : List ℕ → ℕ → Instr → List ℕ
 line_at words place instr = line_text place instr (starts_with nat_eq (drop place words) (canon instr))
 
@@ -59,7 +59,7 @@ list_text = flat_map line_of
 abbrev pub rom_line : ℕ → List ℕ → List ℕ
 rom_line address words = codes "rom" ++ spaced (hex_3 address ∷ map hex_4 words) ++ 10 ∷ []
 
--- a ROM line for each eight words, from an address on
+-- a ROM line for each eight words, from an address on; fewer at the end have none
 abbrev pub rom_lines : ℕ → List ℕ → List ℕ
 rom_lines address (a ∷ b ∷ c ∷ d ∷ e ∷ f ∷ g ∷ h ∷ words) = rom_line address (a ∷ b ∷ c ∷ d ∷ e ∷ f ∷ g ∷ h ∷ []) ++ rom_lines (address + 8) words
 rom_lines address _ = []

@@ -16,28 +16,28 @@ StopsListing (Text (Cut place)) words old new =
 StopsListing Writer words old new = (cutting : Cutting words) → BeginsToWrite (list_text cutting.items) old new
 StopsListing _ words old new = ⊥
 
--- where the words' cutting leaves no rest, the text of its instructions went out
+-- where the words' cutting leaves no rest, the text of its instructions went out; else by the fault
 abbrev pub ListsWords : {T : Type 0} → Result T ToolFault → (words : List ℕ) → Option (List ℕ) → Option (List ℕ) → Type 0
 ListsWords answer words old new = MatchResult answer
     (λ _. (cutting : Cutting words) → (cutting.rest ≡ []) × Appends old new (list_text cutting.items))
     (λ fault. StopsListing fault words old new)
 
 -- at most 8,192 bytes, in whole words
-abbrev pub IsWhole : List ℕ → Type 0
-IsWhole input = (length input ≤ 8192) × (length input % 2 ≡ 0)
+abbrev pub IsListable : List ℕ → Type 0
+IsListable input = (length input ≤ 8192) × (length input % 2 ≡ 0)
 
--- when each fault comes of an input, and what went out
+-- when each fault comes of an input, and what went out at `Cut` and `Writer` (that nothing went out at the others is a clause of its own)
 abbrev pub StopsList : ToolFault → (input : List ℕ) → Option (List ℕ) → Option (List ℕ) → Type 0
 StopsList (Text TooLong) input old new = 8192 < length input
 StopsList (Text Odd) input old new = (length input ≤ 8192) × (length input % 2 ≡ 1)
-StopsList (Text (Cut place)) input old new = IsWhole input × StopsListing (Text (Cut place)) (words_of input) old new
+StopsList (Text (Cut place)) input old new = IsListable input × StopsListing (Text (Cut place)) (words_of input) old new
 StopsList (Text RomSize) input old new = ⊥
-StopsList Writer input old new = IsWhole input × StopsListing Writer (words_of input) old new
+StopsList Writer input old new = IsListable input × StopsListing Writer (words_of input) old new
 StopsList Reader input old new = Unit {0}
 StopsList Memory input old new = Unit {0}
 
 -- what `list` answers of an input, and what went out
 abbrev pub Lists : {T : Type 0} → Result T ToolFault → (input : List ℕ) → Option (List ℕ) → Option (List ℕ) → Type 0
 Lists answer input old new = MatchResult answer
-    (λ _. IsWhole input × ((cutting : Cutting (words_of input)) → (cutting.rest ≡ []) × Appends old new (list_text cutting.items)))
+    (λ _. IsListable input × ((cutting : Cutting (words_of input)) → (cutting.rest ≡ []) × Appends old new (list_text cutting.items)))
     (λ fault. StopsList fault input old new)

@@ -7,15 +7,16 @@ use Rattle.dvg_tool.specs.declared.fault.TextFault.TheVariants.{RomSize}
 use Rattle.dvg_tool.specs.declared.fault.ToolFault.{ToolFault}
 use Rattle.dvg_tool.specs.declared.fault.ToolFault.TheVariants.{Text, Reader, Writer, Memory}
 
--- the text went out; where the writer failed, a beginning of it
+-- where the writer failed, a beginning of the text went out
 abbrev pub StopsWriting : ToolFault → (text : List ℕ) → Option (List ℕ) → Option (List ℕ) → Type 0
 StopsWriting Writer text old new = BeginsToWrite text old new
 StopsWriting _ text old new = ⊥
 
+-- the text went out, or the writer failed
 abbrev pub WritesText : {T : Type 0} → Result T ToolFault → (text : List ℕ) → Option (List ℕ) → Option (List ℕ) → Type 0
 WritesText answer text old new = MatchResult answer (λ _. Appends old new text) (λ fault. StopsWriting fault text old new)
 
--- when each fault comes of an input, and what went out
+-- when each fault comes of an input, and what went out at `Writer` (that nothing went out at the others is a clause of its own)
 abbrev pub StopsRom : ToolFault → (input : List ℕ) → Option (List ℕ) → Option (List ℕ) → Type 0
 StopsRom (Text RomSize) input old new = length input ≢ 2048
 StopsRom Writer input old new = (length input ≡ 2048) × BeginsToWrite (rom_text input) old new

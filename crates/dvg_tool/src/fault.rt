@@ -5,7 +5,7 @@ ghost use Rattle.dvg_tool.specs.declared.fault.ToolFault.TheVariants.{Memory};
 use dvg_code::OutOfMemory;
 use thiserror::Error;
 
-/// A fault of what was read. Its text is what `dvg` prints of it.
+/// A fault of what was read. Its text is what `dvg` prints of it (this project's own choice).
 #[derive(Clone, Copy, Debug, PartialEq, Eq, Error)]
 pub enum TextFault {
     /// The input has more bytes than are allowed.
@@ -22,7 +22,7 @@ pub enum TextFault {
     RomSize,
 }
 
-/// Why an engine stopped. Its text is what `dvg` prints of it.
+/// Why an engine stopped. Its text is what `dvg` prints of it (this project's own choice).
 #[derive(Clone, Copy, Debug, PartialEq, Eq, Error)]
 pub enum ToolFault {
     /// What was read is at fault.

@@ -2,23 +2,25 @@
 //! ask for.
 //!
 //! An engine reads its whole input before it writes, and takes no memory after its first write: its
-//! lines are made in arrays of fixed size. It stops at the first failure of its reader or writer.
+//! lines are made in an array of fixed size (that what writes is handed no allocator is seen by reading). It stops at the first failure of its reader or writer.
 #![tactic(auto)]
 
+mod command;
 mod fault;
 mod line;
 mod listing;
 mod outcome;
+mod performing;
 mod roms;
 mod task;
 mod transfer;
 mod watched;
-mod words;
 
+pub use command::job;
 pub use fault::{TextFault, ToolFault};
 pub use listing::{MOST_LIST_BYTES, list};
 pub use outcome::{finish, status};
+pub use performing::perform;
 pub use roms::rom_text;
 pub use task::Job;
 pub use watched::{DeviceFailed, Watched};
-pub use words::job;

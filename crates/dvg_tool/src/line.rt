@@ -24,8 +24,8 @@ impl Model for Line {
 }
 
 impl Line {
-    /// A line with no bytes yet.
-    fn new() -> Line
+    /// A line with no bytes.
+    pub fn new() -> Line
         ensures { result ≡ [] }
     {
         Line {
@@ -49,14 +49,14 @@ impl Line {
         self.bytes.try_extend_from_slice(text).unwrap();
     }
 
-    // Appends a space and a word.
-    fn word(&mut self, word: &[u8])
-        requires { length self.old + length word.now < 64 }
-        ensures text { self.new ≡ self.old ++ spaced (word.now ∷ []) }
-        ensures grew { length self.new ≡ length self.old + length word.now + 1 }
+    // Appends a space and a part of the line.
+    fn part(&mut self, part: &[u8])
+        requires { length self.old + length part.now < 64 }
+        ensures text { self.new ≡ self.old ++ spaced (part.now ∷ []) }
+        ensures grew { length self.new ≡ length self.old + length part.now + 1 }
     {
         self.text(b" ");
-        self.text(word);
+        self.text(part);
     }
 
     // Appends a space and a number in decimal.
@@ -65,7 +65,7 @@ impl Line {
         ensures text { self.new ≡ self.old ++ spaced (I.text n ∷ []) }
         ensures grew { length self.new ≤ length self.old + I.MAX_STR_LEN + 1 }
     {
-        self.word(Buffer::new().format(n).as_bytes());
+        self.part(Buffer::new().format(n).as_bytes());
     }
 
     // Appends a hexadecimal digit in upper case.
@@ -107,7 +107,7 @@ impl Line {
         ensures text { self.new ≡ self.old ++ spaced (vector_parts name.now scale dx dy z) }
         ensures grew { length self.new ≤ length self.old + length name.now + 23 }
     {
-        self.word(name);
+        self.part(name);
         self.number(scale);
         self.number(dx);
         self.number(dy);
@@ -120,19 +120,19 @@ impl Line {
         ensures text { self.new ≡ self.old ++ spaced (codes "LABS" ∷ decimal x ∷ decimal y ∷ decimal scale ∷ []) }
         ensures grew { length self.new ≤ length self.old + 21 }
     {
-        self.word(b"LABS");
+        self.part(b"LABS");
         self.number(x);
         self.number(y);
         self.number(scale);
     }
 
     // Appends the name of an instruction and a word address.
-    fn jump(&mut self, name: &[u8], address: u16)
+    fn with_address(&mut self, name: &[u8], address: u16)
         requires { length self.old + length name.now + 5 ≤ 64 }
         ensures text { self.new ≡ self.old ++ spaced (name.now ∷ hex_3 address ∷ []) }
         ensures grew { length self.new ≡ length self.old + length name.now + 5 }
     {
-        self.word(name);
+        self.part(name);
         self.text(b" ");
         self.hex_3(usize::from(address));
     }
@@ -146,42 +146,41 @@ impl Line {
         match instr {
             Instr::Vctr { scale, dx, dy, z } => self.vector(b"VCTR", scale, dx, dy, z),
             Instr::Labs { x, y, scale } => self.labs(x, y, scale),
-            Instr::Halt => self.word(b"HALT"),
-            Instr::Jsrl(address) => self.jump(b"JSRL", address),
-            Instr::Rtsl => self.word(b"RTSL"),
-            Instr::Jmpl(address) => self.jump(b"JMPL", address),
+            Instr::Halt => self.part(b"HALT"),
+            Instr::Jsrl(address) => self.with_address(b"JSRL", address),
+            Instr::Rtsl => self.part(b"RTSL"),
+            Instr::Jmpl(address) => self.with_address(b"JMPL", address),
             Instr::Svec { scale, dx, dy, z } => {
                 self.vector(b"SVEC", scale, i16::from(dx), i16::from(dy), z)
             }
         }
     }
-}
 
-/// The line that `list` writes of an instruction at a place, of words that are canonical or not.
-pub fn listed_line(place: usize, code: &Code, canonical: bool) -> Line
-    ensures { result ≡ line_text place code.now canonical }
-{
-    let mut line = Line::new();
-    line.hex_3(place);
-    line.instr(code.instr());
-    if !canonical {
-        line.word(b"*");
+    /// Becomes the line that `list` writes of an instruction at a place, of words that are canonical or
+    /// not.
+    pub fn become_listed(&mut self, place: usize, code: &Code, canonical: bool)
+        ensures { self.new ≡ line_text place code.now canonical }
+    {
+        self.bytes.clear();
+        self.hex_3(place);
+        self.instr(code.instr());
+        if !canonical {
+            self.part(b"*");
+        }
+        self.text(b"\n");
     }
-    line.text(b"\n");
-    line
-}
 
-/// The ROM line of eight words, from an address on.
-pub fn rom_line(address: usize, words: &[u16]) -> Line
-    requires { length words.now ≡ 8 }
-    ensures { result ≡ rom_line address words.now }
-{
-    let mut line = Line::new();
-    line.text(b"rom ");
-    line.hex_3(address);
-    for word in words {
-        line.hex_4(*word);
+    /// Becomes the ROM line of eight words, from an address on.
+    pub fn become_rom(&mut self, address: usize, words: &[u16])
+        requires { length words.now ≡ 8 }
+        ensures { self.new ≡ rom_line address words.now }
+    {
+        self.bytes.clear();
+        self.text(b"rom ");
+        self.hex_3(address);
+        for word in words {
+            self.hex_4(*word);
+        }
+        self.text(b"\n");
     }
-    line.text(b"\n");
-    line
 }

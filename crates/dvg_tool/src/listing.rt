@@ -8,18 +8,20 @@ ghost use Rattle.dvg_tool.specs.Outcomes.{StopsBeforeWriting};
 ghost use Rattle.dvg_tool.specs.Watching.{BeginsToWrite, CountsErrors, TakesAtMost, device_of, failures_of};
 
 use crate::fault::{TextFault, ToolFault};
-use crate::line::listed_line;
-use crate::transfer::{read_up_to, words_in, write_whole};
+use crate::line::Line;
+use crate::transfer::{collect_words, read_up_to, write_whole};
 use crate::watched::{DeviceFailed, Watched};
 use dvg_code::{Code, Listed, Listing, encode};
 use std::alloc::Allocator;
 use std::io::{Read, Write};
 
-/// The most bytes that `list` takes as its input: 4,096 words, all that an address of 12 bits names.
+/// The most bytes that `list` takes as its input: 4,096 words, all that an address of 12 bits names
+/// (this project's own choice).
 pub const MOST_LIST_BYTES: usize = 8192;
 
-// Writes the line of the instruction that stands at a place of the words.
+// Writes the line of the instruction that stands at a place of the words. The line is made in `line`.
 fn write_item<W: Write>(
+    line: &mut Line,
     words: &[u16],
     place: usize,
     code: &Code,
@@ -31,7 +33,7 @@ fn write_item<W: Write>(
     ensures counts { CountsErrors result (failures_of writer.old) (failures_of writer.new) }
 {
     let canonical = words[place..].starts_with(encode(code).as_slice());
-    let line = listed_line(place, code, canonical);
+    line.become_listed(place, code, canonical);
     write_whole(writer, line.as_bytes())
 }
 
@@ -42,10 +44,11 @@ fn list_words<W: Write>(words: &[u16], writer: &mut Watched<W>) -> Result<(), To
     ensures writer { IsErrOf result ToolFault.Writer ↔ (failures_of writer.new ≡ 1) }
     ensures stops { failures_of writer.new ≤ 1 }
 {
+    let mut line = Line::new();
     for item in Listing::new(words) {
         match item {
             Listed::At(place, code) => {
-                if write_item(words, place, &code, writer).is_err() {
+                if write_item(&mut line, words, place, &code, writer).is_err() {
                     return Err(ToolFault::Writer);
                 }
             }
@@ -56,7 +59,8 @@ fn list_words<W: Write>(words: &[u16], writer: &mut Watched<W>) -> Result<(), To
 }
 
 /// Reads words, two bytes each, the low one first, and writes a line for each instruction: its place
-/// in words, its name and operands, and a star where its words aren't canonical.
+/// in words, its name and operands, and a star where its words aren't canonical (the text is this
+/// project's own choice).
 ///
 /// - `TooLong`: the input has more than 8,192 bytes, of which no more than 8,193 are taken.
 /// - `Odd`: it has an odd number of bytes.
@@ -74,13 +78,13 @@ pub fn list<A: Allocator, R: Read, W: Write>(
     requires fresh_reader { failures_of reader.old ≡ 0 }
     requires fresh_writer { failures_of writer.old ≡ 0 }
 
-    // What went out, and when each fault of the text comes, of a reader that tells its bytes.
+    // Of a reader that tells its bytes: what went out, when each fault of the text comes, what was taken.
     ensures lists { IfSome (R.remaining (device_of reader.old)) (λ input.
         Lists result input (W.contents (device_of writer.old)) (W.contents (device_of writer.new))) }
+    ensures took { TakesAtMost 8193 (R.remaining (device_of reader.old)) (R.remaining (device_of reader.new)) }
 
     // Whatever the reader and the writer are.
     ensures unwritten { IfErr result (λ fault. StopsBeforeWriting fault → writer.new ≡ writer.old) }
-    ensures took { TakesAtMost 8193 (R.remaining (device_of reader.old)) (R.remaining (device_of reader.new)) }
     ensures reader { IsErrOf result ToolFault.Reader ↔ (failures_of reader.new ≡ 1) }
     ensures writer { IsErrOf result ToolFault.Writer ↔ (failures_of writer.new ≡ 1) }
     ensures stops { (failures_of reader.new ≤ 1) × (failures_of writer.new ≤ 1) }
@@ -92,6 +96,6 @@ pub fn list<A: Allocator, R: Read, W: Write>(
     if bytes.len() % 2 == 1 {
         return Err(ToolFault::Text(TextFault::Odd));
     }
-    let words = words_in(&alloc, bytes.as_slice())?;
+    let words = collect_words(&alloc, bytes.as_slice())?;
     list_words(words.as_slice(), writer)
 }

@@ -24,7 +24,8 @@ pub fn finish<W: Write>(
 }
 
 /// The program's exit status: 0 where the job is done, 1 for a fault of the text, 2 for a device that
-/// failed or want of memory. (Words that ask for no job are 64.)
+/// failed or want of memory; words that ask for no job are 64, which is not an answer of an engine (this
+/// project's own choice).
 pub fn status(answer: &Result<(), ToolFault>) -> u8
     ensures { result ≡ status_of answer.now }
 {

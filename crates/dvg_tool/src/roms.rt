@@ -6,15 +6,12 @@ ghost use Rattle.dvg_tool.specs.Roms.{WritesRom, WritesText};
 ghost use Rattle.dvg_tool.specs.Watching.{TakesAtMost, device_of, failures_of};
 
 use crate::fault::{TextFault, ToolFault};
-use crate::line::rom_line;
-use crate::transfer::{read_up_to, words_in, write_whole};
+use crate::line::Line;
+use crate::transfer::{collect_words, read_up_to, write_whole};
 use crate::watched::Watched;
-use dvg_mem::MEMORY_BYTES;
+use dvg_mem::{FIRST_ROM_WORD, MEMORY_BYTES};
 use std::alloc::Allocator;
 use std::io::{Read, Write};
-
-/// The word address of a ROM's first word.
-const FIRST_ROM_WORD: usize = 0x800;
 
 /// How many words stand in a line.
 const LINE_WORDS: usize = 8;
@@ -27,9 +24,11 @@ fn write_rom<W: Write>(words: &[u16], writer: &mut Watched<W>) -> Result<(), Too
     ensures writer { IsErrOf result ToolFault.Writer ↔ (failures_of writer.new ≡ 1) }
     ensures stops { failures_of writer.new ≤ 1 }
 {
+    let mut line = Line::new();
     for row in 0..words.len() / LINE_WORDS {
         let first = row * LINE_WORDS;
-        let line = rom_line(FIRST_ROM_WORD + first, &words[first..first + LINE_WORDS]);
+        let address = usize::from(FIRST_ROM_WORD) + first;
+        line.become_rom(address, &words[first..first + LINE_WORDS]);
         if write_whole(writer, line.as_bytes()).is_err() {
             return Err(ToolFault::Writer);
         }
@@ -38,7 +37,7 @@ fn write_rom<W: Write>(words: &[u16], writer: &mut Watched<W>) -> Result<(), Too
 }
 
 /// Reads the 2,048 bytes of a ROM and writes them as 128 ROM lines of eight words each, from word
-/// address 800 on, in the form in which texts of drafts and traces give a ROM.
+/// address 800 on (the text is this project's own choice).
 ///
 /// - `RomSize`: the input hasn't exactly 2,048 bytes; no more than 2,049 are taken.
 /// - `Reader`, `Writer`: that device failed. After `Writer` a beginning of the text went out.
@@ -53,13 +52,13 @@ pub fn rom_text<A: Allocator, R: Read, W: Write>(
     requires fresh_reader { failures_of reader.old ≡ 0 }
     requires fresh_writer { failures_of writer.old ≡ 0 }
 
-    // What went out, and when the fault of the text comes, of a reader that tells its bytes.
+    // Of a reader that tells its bytes: what went out, when the fault of the text comes, what was taken.
     ensures writes { IfSome (R.remaining (device_of reader.old)) (λ input.
         WritesRom result input (W.contents (device_of writer.old)) (W.contents (device_of writer.new))) }
+    ensures took { TakesAtMost 2049 (R.remaining (device_of reader.old)) (R.remaining (device_of reader.new)) }
 
     // Whatever the reader and the writer are.
     ensures unwritten { IfErr result (λ fault. StopsBeforeWriting fault → writer.new ≡ writer.old) }
-    ensures took { TakesAtMost 2049 (R.remaining (device_of reader.old)) (R.remaining (device_of reader.new)) }
     ensures reader { IsErrOf result ToolFault.Reader ↔ (failures_of reader.new ≡ 1) }
     ensures writer { IsErrOf result ToolFault.Writer ↔ (failures_of writer.new ≡ 1) }
     ensures stops { (failures_of reader.new ≤ 1) × (failures_of writer.new ≤ 1) }
@@ -68,6 +67,6 @@ pub fn rom_text<A: Allocator, R: Read, W: Write>(
     if bytes.len() != MEMORY_BYTES {
         return Err(ToolFault::Text(TextFault::RomSize));
     }
-    let words = words_in(&alloc, bytes.as_slice())?;
+    let words = collect_words(&alloc, bytes.as_slice())?;
     write_rom(words.as_slice(), writer)
 }

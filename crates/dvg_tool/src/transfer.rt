@@ -46,7 +46,7 @@ pub fn read_up_to<A: Allocator, R: Read>(
 }
 
 /// The words of an even number of bytes.
-pub fn words_in<A: Allocator>(alloc: A, bytes: &[u8]) -> Result<Vec<u16, A>, OutOfMemory>
+pub fn collect_words<A: Allocator>(alloc: A, bytes: &[u8]) -> Result<Vec<u16, A>, OutOfMemory>
     requires { length bytes.now % 2 ≡ 0 }
     ensures { IfOk result (λ words. words.items ≡ words_of bytes.now) }
 {

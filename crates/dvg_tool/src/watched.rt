@@ -56,7 +56,8 @@ impl<T> Watched<T> {
 }
 
 impl<R: Read> Watched<R> {
-    /// One read into `buf`, which answers how many bytes it gave.
+    /// One read into `buf`, which answers how many bytes it gave. At an error no byte was taken, and the
+    /// failure is counted.
     pub fn read(&mut self, buf: &mut [u8]) -> Result<usize, DeviceFailed>
         ensures bound { ReadsAtMost result buf.new }
         ensures bytes { ReadConsumes (R.remaining (device_of self.old)) (R.remaining (device_of self.new)) result buf.new }
@@ -70,7 +71,8 @@ impl<R: Read> Watched<R> {
 }
 
 impl<W: Write> Watched<W> {
-    /// One write of a part of a text, which answers how many bytes were taken.
+    /// One write of a part of a text, which answers how many bytes were taken. At an error no byte went
+    /// out, and the failure is counted.
     pub fn write(&mut self, part: &[u8]) -> Result<usize, DeviceFailed>
         ensures bound { WritesAtMost result part.now }
         ensures bytes { WriteAppends (W.contents (device_of self.old)) (W.contents (device_of self.new)) result part.now }
@@ -84,7 +86,7 @@ impl<W: Write> Watched<W> {
         }
     }
 
-    /// One flush.
+    /// One flush. At an error the failure is counted.
     pub fn flush(&mut self) -> Result<(), DeviceFailed>
         ensures bytes { Keeps (W.contents (device_of self.old)) (W.contents (device_of self.new)) }
         ensures counts { CountsErrors result (failures_of self.old) (failures_of self.new) }

@@ -8,7 +8,8 @@ returns-then-is_err-clause-writes g c =
     let words = c.args.words.now in
     let eight : c.loop-row.row * 8 + 8 - c.loop-row.row * 8 ≡ 8 = omega arith in
     let is : c.as_bytes.result.now ≡ rom_line (0x800 + c.loop-row.row * 8) (take 8 (drop (c.loop-row.row * 8) words)) =
-    c.as_bytes.ensures ∙ c.rom_line-line.ensures ∙ ap (λ k. rom_line (0x800 + c.loop-row.row * 8) (take k (drop (c.loop-row.row * 8) words))) eight in
+    c.as_bytes.ensures ∙ c.become_rom.ensures ∙ ap (λ a. rom_line (a + c.loop-row.row * 8) (take (c.loop-row.row * 8 + 8 - c.loop-row.row * 8) (drop (c.loop-row.row * 8) words))) c.from.ensures
+    ∙ ap (λ k. rom_line (0x800 + c.loop-row.row * 8) (take k (drop (c.loop-row.row * 8) words))) eight in
     row_begun words c.as_bytes.result.now c.loop-row.row _ _ _ c.requires.whole (search rules) c.loop-row.invariant.written is (search rules)
 
 pub loop-row-preserved : goal.loop-row-preserved
@@ -16,7 +17,8 @@ loop-row-preserved g c =
     let words = c.args.words.now in
     let eight : c.loop-row.row * 8 + 8 - c.loop-row.row * 8 ≡ 8 = omega arith in
     let is : c.as_bytes.result.now ≡ rom_line (0x800 + c.loop-row.row * 8) (take 8 (drop (c.loop-row.row * 8) words)) =
-    c.as_bytes.ensures ∙ c.rom_line-line.ensures ∙ ap (λ k. rom_line (0x800 + c.loop-row.row * 8) (take k (drop (c.loop-row.row * 8) words))) eight in
+    c.as_bytes.ensures ∙ c.become_rom.ensures ∙ ap (λ a. rom_line (a + c.loop-row.row * 8) (take (c.loop-row.row * 8 + 8 - c.loop-row.row * 8) (drop (c.loop-row.row * 8) words))) c.from.ensures
+    ∙ ap (λ k. rom_line (0x800 + c.loop-row.row * 8) (take k (drop (c.loop-row.row * 8) words))) eight in
     record {
       counted = search rules;
       written = row_written words c.as_bytes.result.now c.loop-row.row _ _ _ c.requires.whole (search rules) c.loop-row.invariant.written is (search rules);

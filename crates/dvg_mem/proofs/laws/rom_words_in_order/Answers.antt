@@ -1,0 +1,12 @@
+use Rattle.std.proofs.Common.{◌≡◌, ◌∙◌, ◌+◌, ◌-◌, ap, sym, true, nat_le, nat_lt, Some, arith}
+use Rattle.std.proofs.lemmas.Bool.{le-leb, lt-ltb}
+use Rattle.dvg_code.specs.Words.{word_in}
+use Rattle.dvg_code.proofs.BytesOfWords.{word_k}
+use Rattle.dvg_mem.proofs.laws.rom_words_in_order.Goals as goal
+
+pub returns : goal.returns
+returns c = λ rom k is_image small.
+    let first : nat_le 0x800 (0x800 + k) ≡ true = le-leb _ _ (omega arith) in
+    let last : nat_lt (0x800 + k) 0xC00 ≡ true = lt-ltb _ _ (omega arith) in
+    let place : 0x800 + k - 0x800 ≡ k = omega arith in
+    rw (first, last) (ap Some (ap (word_in rom) place ∙ sym (word_k rom k (omega (arith, is_image.count)))))

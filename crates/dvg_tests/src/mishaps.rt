@@ -1,0 +1,96 @@
+//! Devices that fail once, at each call in turn: every failure is told at once, and nothing is tried
+//! again.
+use crate::devices::{FailsOnce, Mishap};
+use dvg_tool::{Job, ToolFault, Watched, perform};
+use std::alloc::Global;
+use std::test::Fail;
+
+/// Two bytes of a HALT.
+const HALT: [u8; 2] = [0x00, 0xB0];
+
+/// A device with this input, that fails at its call after so many others.
+fn device<'a>(
+    alloc: Global,
+    rest: &'a [u8],
+    step: usize,
+    calls_before: u32,
+    mishap: Mishap,
+) -> FailsOnce<'a> {
+    FailsOnce {
+        rest,
+        taken: Vec::new(alloc),
+        step,
+        calls_before,
+        mishap: Some(mishap),
+    }
+}
+
+#[test]
+fn watched_passes_each_failure_on(rt: HostRuntime) -> Result<(), Fail> {
+    for mishap in [Mishap::Error, Mishap::Interrupted] {
+        let mut reader = Watched::new(device(rt.alloc(), HALT.as_slice(), 2, 0, mishap));
+        let mut buf = [0u8; 2];
+        assert!(rt; reader.read(&mut buf).is_err());
+        assert_eq!(rt; reader.failures(), 1);
+        assert_eq!(rt; reader.read(&mut buf), Ok(2));
+        assert_eq!(rt; reader.failures(), 1);
+    }
+    for mishap in [Mishap::Error, Mishap::Interrupted, Mishap::TakesNothing] {
+        let mut writer = Watched::new(device(rt.alloc(), &[], 2, 0, mishap));
+        assert!(rt; writer.write(b"ab").is_err());
+        assert_eq!(rt; writer.failures(), 1);
+        assert_eq!(rt; writer.write(b"ab"), Ok(2));
+        assert_eq!(rt; writer.failures(), 1);
+        assert_eq!(rt; writer.into_inner().taken.as_slice(), b"ab".as_slice());
+    }
+    Ok(())
+}
+
+/// A ROM of words B000, of which the front is also an input of `list`.
+fn halts(alloc: Global) -> Result<Vec<u8>, Fail> {
+    let mut bytes = Vec::new(alloc);
+    for _ in 0..1024 {
+        bytes.extend_from_slice(&HALT)?;
+    }
+    Ok(bytes)
+}
+
+#[test]
+fn engines_stop_at_the_first_failure(rt: HostRuntime) -> Result<(), Fail> {
+    let input = halts(rt.alloc())?;
+    for job in [Job::List, Job::Rom] {
+        for mishap in [Mishap::Error, Mishap::Interrupted] {
+            for calls_before in [0, 1, 2, 15, 16] {
+                let broken = device(rt.alloc(), input.as_slice(), 128, calls_before, mishap);
+                let mut reader = Watched::new(broken);
+                let mut writer = Watched::new(Vec::new(rt.alloc()));
+                let answer = perform(rt.alloc(), job, &mut reader, &mut writer);
+                assert_eq!(rt;
+                    answer,
+                    Err(ToolFault::Reader),
+                    "after {calls_before} reads"
+                );
+                assert_eq!(rt; reader.failures(), 1);
+                assert!(rt; writer.into_inner().is_empty());
+            }
+        }
+        for mishap in [Mishap::Error, Mishap::Interrupted, Mishap::TakesNothing] {
+            for calls_before in [0, 1, 2, 30, 127] {
+                let mut reader = Watched::new(input.as_slice());
+                let broken = device(rt.alloc(), &[], 64, calls_before, mishap);
+                let mut writer = Watched::new(broken);
+                let answer = perform(rt.alloc(), job, &mut reader, &mut writer);
+                assert_eq!(rt;
+                    answer,
+                    Err(ToolFault::Writer),
+                    "after {calls_before} writes"
+                );
+                assert_eq!(rt; writer.failures(), 1);
+                let taken = writer.into_inner().taken;
+                let lines = taken.iter().filter(|byte| **byte == b'\n').count();
+                assert_eq!(rt; lines, calls_before as usize);
+            }
+        }
+    }
+    Ok(())
+}
