@@ -1,7 +1,7 @@
 //! Compares the proved program with its plain twin: the same inputs, many times, one program after the other.
 //!
-//! `compare PROVED PLAIN FOLDER` runs both programs on each row's input, checks that they write the same and end
-//! with status 0 each time, and prints a table. It makes the inputs itself and keeps its files in FOLDER.
+//! `compare ROWS PROVED PLAIN FOLDER` runs both programs on each row's input, checks that they write the same and end
+//! with status 0 each time, and prints a table. ROWS is `dvg` or `generator`. It makes the inputs itself and keeps its files in FOLDER.
 //! It is made for 64-bit Linux, whose `wait4` tells what a single process used.
 
 use std::fs::{self, File};
@@ -11,8 +11,9 @@ use std::path::{Path, PathBuf};
 use std::process::{Command, ExitCode, ExitStatus};
 use std::time::{Duration, Instant};
 
-/// What is compared: one line a row. An input is made anew from the same numbers each time, so it never changes.
-const ROWS: &[Row] = &[
+/// What is compared of the program `dvg`: one line a row. An input is made anew from the same numbers each time, so it
+/// never changes.
+const DVG_ROWS: &[Row] = &[
     row("start-up: list, no input", &["list"], Vec::new),
     row("list, 8,192 bytes of VCTR", &["list"], || vectors(2048)),
     row("list, 8,192 bytes of mixed instructions", &["list"], || {
@@ -20,6 +21,9 @@ const ROWS: &[Row] = &[
     }),
     row("rom, 2,048 random bytes", &["rom"], || random_bytes(2048)),
 ];
+
+/// What is compared of the generator alone, which runs in a program of its own and reads nothing.
+const GENERATOR_ROWS: &[Row] = &[row("generator, 1,000,000 words", &[], Vec::new)];
 
 /// How long all rows together are timed; each gets the same part.
 const TIMED: Duration = Duration::from_secs(17);
@@ -358,7 +362,7 @@ fn print_line(name: &str, measure: &str, decimals: usize, pairs: &[Pair]) {
 }
 
 /// Measures all rows and prints the table.
-fn compare(contenders: [&Contender; 2]) -> io::Result<()> {
+fn compare(rows: &[Row], contenders: [&Contender; 2]) -> io::Result<()> {
     println!(
         "Medians of each program's runs, then proved / plain: the ratio of the medians and of the least.\n"
     );
@@ -366,8 +370,8 @@ fn compare(contenders: [&Contender; 2]) -> io::Result<()> {
         "{:<40} {:<13} {:>9} {:>9} {:>7} {:>7}",
         "row", "measure", "proved", "plain", "ratio", "least"
     );
-    for row in ROWS {
-        let measured = measure(row, contenders, TIMED / ROWS.len() as u32)?;
+    for row in rows {
+        let measured = measure(row, contenders, TIMED / rows.len() as u32)?;
         print_line(row.name, "wall ms", 3, &measured.wall_ms);
         print_line(
             &format!("  {} runs each", measured.wall_ms.len()),
@@ -380,16 +384,26 @@ fn compare(contenders: [&Contender; 2]) -> io::Result<()> {
     Ok(())
 }
 
+/// Says how the program is called.
+fn misuse() -> ExitCode {
+    eprintln!("usage: compare dvg|generator PROVED PLAIN FOLDER");
+    ExitCode::from(64)
+}
+
 fn main() -> ExitCode {
     let words: Vec<String> = std::env::args().collect();
-    let [_, proved, plain, folder] = words.as_slice() else {
-        eprintln!("usage: compare PROVED PLAIN FOLDER");
-        return ExitCode::from(64);
+    let [_, rows, proved, plain, folder] = words.as_slice() else {
+        return misuse();
+    };
+    let rows = match rows.as_str() {
+        "dvg" => DVG_ROWS,
+        "generator" => GENERATOR_ROWS,
+        _ => return misuse(),
     };
     let folder = Path::new(folder);
     let proved = Contender::new(proved, "proved", folder);
     let plain = Contender::new(plain, "plain", folder);
-    match compare([&proved, &plain]) {
+    match compare(rows, [&proved, &plain]) {
         Ok(()) => ExitCode::SUCCESS,
         Err(fault) => {
             eprintln!("compare: {fault}");

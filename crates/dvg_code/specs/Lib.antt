@@ -5,3 +5,4 @@ pub mod Spelling
 pub mod Cutting
 pub mod Listing
 pub mod Laws
+pub mod Acts

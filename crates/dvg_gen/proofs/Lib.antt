@@ -1,0 +1,10 @@
+pub mod Stack
+pub mod Standing
+pub mod Words
+pub mod Returning
+pub mod Same
+pub mod Replies
+pub mod Whole
+pub mod Residues
+pub mod Drawn
+pub mod Rows

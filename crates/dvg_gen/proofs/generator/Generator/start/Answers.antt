@@ -1,0 +1,10 @@
+use Rattle.std.proofs.Common.{ap, ◌∙◌, refl}
+use Rattle.std.specs.Prelude.{reverse}
+use Rattle.dvg_gen.proofs.Standing.{stands_start}
+use Rattle.dvg_gen.proofs.generator.Generator.start.Goals as goal
+
+pub returns-clause-stands : goal.returns-clause-stands
+returns-clause-stands g c = λ history after.
+    let reset = c.reset.ensures.machine in
+    stands_start c.args.self.now _ history after refl refl (ap reverse c.clear.ensures) (ap (λ m. m.beam) c.self.view_is ∙ ap (λ m. m.beam) reset)
+    (ap (λ m. m.strokes) c.self.view_is ∙ ap (λ m. m.strokes) reset) refl

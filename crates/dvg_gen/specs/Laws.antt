@@ -1,0 +1,84 @@
+-- Laws of the beam, of runs and of histories.
+use Rattle.std.specs.Prelude.{◌≡◌, ℕ, ◌<◌, ℤ, pos, ◌+ℤ◌, ◌*ℤ◌, List, [], ◌∷◌, Option, Some, None, true}
+use Rattle.dvg_code.specs.declared.instr.Instr.{Instr}
+use Rattle.dvg_code.specs.Words.{IsWord}
+use Rattle.dvg_gen.specs.declared.beam.Beam.{Beam}
+use Rattle.dvg_gen.specs.declared.stroke.Stroke.{Stroke}
+use Rattle.dvg_gen.specs.Completing.{IsSeen}
+use Rattle.dvg_gen.specs.Drawing.{shifted, drawn}
+use Rattle.dvg_gen.specs.Returning.{IsAnswered}
+use Rattle.dvg_code.specs.Acts.{Calls, Returns, act_of}
+use Rattle.dvg_gen.specs.Run.{Visit, on, next, calls, returns, beam_after, Runs}
+use Rattle.dvg_gen.specs.Told.{Told, Start, Reset, Fed, Newest, nothing, Leaves}
+use Rattle.dvg_gen.specs.Whole.{Completed}
+
+-- a moved position is the least residue of the sum modulo 2,097,152: it is below it, and whole turns make up the rest
+abbrev pub LeastResidue : Type 0
+LeastResidue = (x : ℕ) (d : ℤ) (unit : ℕ) → (shifted x d unit < 2097152)
+    × ((turns : ℤ) × (pos x +ℤ d *ℤ pos unit ≡ pos (shifted x d unit) +ℤ turns *ℤ pos 2097152))
+
+-- a vector that is seen draws one stroke, of length zero too
+abbrev pub SeenDraws : Type 0
+SeenDraws = (beam : Beam) (code : Instr) → IsSeen code → (stroke : Stroke) × (drawn beam code ≡ stroke ∷ [])
+
+-- nothing else draws
+abbrev pub UnseenDrawsNothing : Type 0
+UnseenDrawsNothing = (beam : Beam) (code : Instr) → (IsSeen code → ⊥) → drawn beam code ≡ []
+
+-- a history leaves one run at most
+abbrev pub SameRun : Type 0
+SameRun = (history : List Told) (one other : Newest) → Leaves history one → Leaves history other → one ≡ other
+
+-- what a generator can be told at a run: a start and a reset always, and a fetch while the run is open
+abbrev pub CanBeTold : Newest → Told → Type 0
+CanBeTold run Start = Unit {0}
+CanBeTold run Reset = Unit {0}
+CanBeTold run (Fed None) = run.is_open ≡ true
+CanBeTold run (Fed (Some word)) = (run.is_open ≡ true) × IsWord word
+
+-- a history that leaves a run still leaves one with whatever can be told then
+abbrev pub SomeRun : Type 0
+SomeRun = (history : List Told) (run : Newest) (told : Told) → Leaves history run → CanBeTold run told
+    → (later : Newest) × Leaves (told ∷ history) later
+
+-- a history leaves exactly one run
+abbrev pub OneRun : Type 0
+OneRun = SameRun × SomeRun
+
+-- a memory that does not change has one run of so many words at most
+abbrev pub OneRunOfMemory : Type 0
+OneRunOfMemory = (memory : ℕ → Option ℕ) (count : ℕ) (visits visits' : List Visit) (held held' : Option ℕ)
+    → Runs memory count visits held → Runs memory count visits' held' → (visits ≡ visits') × (held ≡ held')
+
+-- a history that leaves a run has a list of all instructions that it completed
+abbrev pub SomeCompleted : Type 0
+SomeCompleted = (history : List Told) (run : Newest) → Leaves history run → (all : List Visit) × Completed history all
+
+-- the beam at the newest run is that of all of them, from 0, 0 with scale 0
+abbrev pub BeamOfCompleted : Type 0
+BeamOfCompleted = (history : List Told) (run : Newest) (all : List Visit) → Leaves history run → Completed history all
+    → beam_after run.first run.visits ≡ beam_after nothing.first all
+
+-- the beam is that of all whole instructions so far, whatever run they stand in
+abbrev pub BeamOfAll : Type 0
+BeamOfAll = SomeCompleted × BeamOfCompleted
+
+-- where there are more calls than returns, a return answers a call
+abbrev pub SomeCall : Type 0
+SomeCall = (older : List Visit) → returns older < calls older → (call : Visit) × IsAnswered older call
+
+-- a return answers one call at most
+abbrev pub SameCall : Type 0
+SameCall = (older : List Visit) (call other : Visit) → IsAnswered older call → IsAnswered older other → call ≡ other
+
+-- a return answers exactly one call
+abbrev pub OneCall : Type 0
+OneCall = SomeCall × SameCall
+
+-- what a return answers is a call
+abbrev pub AnswersACall : Type 0
+AnswersACall = (older : List Visit) (call : Visit) → IsAnswered older call → (to : ℕ) × (act_of call.code ≡ Calls to)
+
+-- a return leads to one past the call that it answers
+abbrev pub PastTheCall : Type 0
+PastTheCall = (back : Visit) (older : List Visit) (call : Visit) → act_of back.code ≡ Returns → IsAnswered older call → next (back ∷ older) ≡ on call.place 1

@@ -1,0 +1,10 @@
+pub mod Position
+pub mod Drawing
+pub mod Run
+pub mod Returning
+pub mod Told
+pub mod Whole
+pub mod Completing
+pub mod Machine
+pub mod Obeyed
+pub mod Laws

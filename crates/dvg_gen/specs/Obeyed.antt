@@ -1,0 +1,60 @@
+-- How the generator's fields follow an instruction: the words of private contracts.
+use Rattle.std.specs.Prelude.{◌≡◌, ℕ, ◌<◌, List, [], ◌∷◌, ◌++◌, length, slice_index, None, true, false}
+use Rattle.dvg_code.specs.declared.instr.Instr.{Instr}
+use Rattle.dvg_code.specs.declared.instr.Instr.TheVariants.{Halt, Jsrl, Rtsl}
+use Rattle.dvg_code.specs.Spelling.{word_count}
+use Rattle.dvg_gen.specs.declared.taken.GenFault.TheVariants.{StackOver, StackUnder, Hole}
+use Rattle.dvg_gen.specs.declared.taken.Taken.{Taken}
+use Rattle.dvg_gen.specs.declared.taken.Taken.TheVariants.{Word, Done, Broke}
+use Rattle.dvg_gen.specs.Drawing.{moved, drawn}
+use Rattle.dvg_gen.specs.Machine.{Machine}
+use Rattle.dvg_code.specs.Acts.{Act, Moves, Jumps, Calls, Returns, Halts, act_of}
+use Rattle.dvg_gen.specs.Run.{on}
+
+-- the stack after an instruction at a place
+abbrev pub stack_by : Act ℕ → ℕ → List ℕ → List ℕ
+stack_by (Moves code) place stack = stack
+stack_by (Jumps to) place stack = stack
+stack_by (Calls to) place stack = on place 1 ∷ stack
+stack_by Returns place [] = []
+stack_by Returns place (back ∷ stack) = stack
+stack_by Halts place stack = stack
+
+-- where an instruction at a place leads
+abbrev pub to_of : Act ℕ → ℕ → List ℕ → ℕ
+to_of (Moves code) place stack = on place (word_count code)
+to_of (Jumps to) place stack = to
+to_of (Calls to) place stack = to
+to_of Returns place stack = slice_index stack 0
+to_of Halts place stack = on place 1
+
+-- an instruction after which the machine goes on
+abbrev pub CanGo : Act ℕ → List ℕ → Type 0
+CanGo (Moves code) stack = Unit {0}
+CanGo (Jumps to) stack = Unit {0}
+CanGo (Calls to) stack = length stack < 4
+CanGo Returns stack = 0 < length stack
+CanGo Halts stack = ⊥
+
+-- the machine after an instruction that it goes on from
+abbrev pub gone : Machine → Instr → Machine
+gone machine code = record {
+  place = to_of (act_of code) machine.place machine.stack;
+  held = None;
+  stack = stack_by (act_of code) machine.place machine.stack;
+  beam = moved machine.beam code;
+  strokes = machine.strokes ++ drawn machine.beam code;
+  is_open = true;
+}
+
+-- the run is over, and the beam stays
+abbrev pub IsShut : Machine → Machine → Type 0
+IsShut old new = (new.is_open ≡ false) × (new.beam ≡ old.beam)
+
+-- what an instruction does, by the answer
+abbrev pub Obeyed : {A : Type 0} → Machine → Instr → Machine → Taken A → Type 0
+Obeyed old code new Word = CanGo (act_of code) old.stack × (new ≡ gone old code)
+Obeyed old code new (Done list) = (code ≡ Halt) × IsShut old new × (list.items ≡ old.strokes)
+Obeyed old code new (Broke StackOver) = ((to : ℕ) × (code ≡ Jsrl to)) × (length old.stack ≡ 4) × IsShut old new
+Obeyed old code new (Broke StackUnder) = (code ≡ Rtsl) × (old.stack ≡ []) × IsShut old new
+Obeyed old code new (Broke Hole) = ⊥

@@ -1,0 +1,42 @@
+//! Laws of the definitions alone. Each is the contract of a function that does nothing.
+ghost use Rattle.dvg_gen.specs.Laws.{AnswersACall, BeamOfAll, LeastResidue, OneCall, OneRun, OneRunOfMemory, PastTheCall, SeenDraws, UnseenDrawsNothing};
+
+/// A moved position is exact: the least residue modulo 2,097,152 of the old one and the way.
+pub fn least_residue()
+    ensures { LeastResidue }
+{}
+
+/// A vector with an intensity of at least 1 draws one stroke, also of length zero, and nothing else
+/// draws.
+pub fn what_draws()
+    ensures seen { SeenDraws }
+    ensures unseen { UnseenDrawsNothing }
+{}
+
+/// A return answers exactly one call, wherever there are more calls than returns: reading back from it,
+/// the first place where there is one call more than returns.
+pub fn one_call()
+    ensures { OneCall }
+{}
+
+/// What a return answers is a call, and it leads to one past it. So a reader of the definition, which
+/// counts how many returns still want a call, need not trust its counter.
+pub fn past_the_call()
+    ensures call { AnswersACall }
+    ensures address { PastTheCall }
+{}
+
+/// A history leaves exactly one run.
+pub fn one_run()
+    ensures { OneRun }
+{}
+
+/// A memory that does not change has one run of so many words at most.
+pub fn one_run_of_memory()
+    ensures { OneRunOfMemory }
+{}
+
+/// The beam is that of all whole instructions of a history, whatever run they stand in.
+pub fn beam_of_all()
+    ensures { BeamOfAll }
+{}

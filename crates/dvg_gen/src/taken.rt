@@ -1,0 +1,25 @@
+//! The generator's answers.
+use crate::stroke::Stroke;
+use std::alloc::Allocator;
+
+/// Why a run broke. That each of these stops the run is this project's own choice.
+#[derive(Clone, Copy, Debug, PartialEq, Eq)]
+pub enum GenFault {
+    /// A call with four return addresses saved.
+    StackOver,
+    /// A return with no return address saved.
+    StackUnder,
+    /// A fetch where no memory answers.
+    Hole,
+}
+
+/// What a fetch led to.
+#[derive(Debug, Drop)]
+pub enum Taken<A: Allocator> {
+    /// The run goes on.
+    Word,
+    /// A HALT ended the run. These are its strokes, in the order drawn.
+    Done(Vec<Stroke, A>),
+    /// The run broke.
+    Broke(GenFault),
+}
