@@ -1,10 +1,11 @@
--- What an answer tells of the run after it.
+-- What an answer tells of the run after it, for crates that follow a generator's answers.
 use Rattle.std.proofs.Common.{◌≡◌, ℕ, Bool, true, false, List, ◌∷◌, Option, Some, None, refl, sym, ap}
 use Rattle.dvg_gen.specs.declared.stroke.Stroke.{Stroke}
 use Rattle.dvg_gen.specs.declared.taken.GenFault.{GenFault}
 use Rattle.dvg_gen.specs.Run.{Visit, next, wanted, Fate, Goes, Finished, Breaks, fate, strokes, Adds, first, one, two}
 use Rattle.dvg_gen.specs.Told.{Told, Fed, Newest, goes_on, Leaves, meets_hole, takes, More, Drew, Fails, reply, reply_by, wants, wants_if}
 
+-- only a run that goes wants more
 goes_of : (f : Fate) (s : List Stroke) → reply_by None f s ≡ More → f ≡ Goes
 goes_of Goes s e = refl
 goes_of Finished s e = cc

@@ -124,23 +124,3 @@ can_more visit older sound goes = can_by (act_of visit.code) older sound goes
 -- a run that HALT ends
 pub halts_finish : (visit : Visit) (older : List Visit) → act_of visit.code ≡ Halts → fate (visit ∷ older) ≡ Finished
 halts_finish visit older halts = ap (λ act. fate_by act older) halts
-
--- only a HALT finishes a run
-finished_by : (act : Act ℕ) (older : List Visit) → fate_by act older ≡ Finished → act ≡ Halts
-finished_by (Moves code) older end = let goes : Goes ≡ Finished = end in cc
-finished_by (Jumps to) older end = let goes : Goes ≡ Finished = end in cc
-finished_by (Calls to) older end =
-    ⊎_elim
-    (λ full. let breaks = subst (λ b. cond b (Breaks StackOver) Goes ≡ Finished) full end in cc)
-    (λ not_full. let goes = subst (λ b. cond b (Breaks StackOver) Goes ≡ Finished) not_full end in cc)
-    (cases_Bool (eqb (calls older) (returns older + 4)))
-finished_by Returns older end =
-    ⊎_elim
-    (λ empty. let breaks = subst (λ b. cond b (Breaks StackUnder) Goes ≡ Finished) empty end in cc)
-    (λ not_empty. let goes = subst (λ b. cond b (Breaks StackUnder) Goes ≡ Finished) not_empty end in cc)
-    (cases_Bool (eqb (calls older) (returns older)))
-finished_by Halts older end = refl
-
--- the same of the newest instruction of a run
-pub finished_is : (visit : Visit) (older : List Visit) → fate (visit ∷ older) ≡ Finished → act_of visit.code ≡ Halts
-finished_is visit older end = finished_by (act_of visit.code) older end

@@ -27,7 +27,7 @@ back_over (Calls to) (suc wanting) place older = older wanting
 back_over Returns wanting place older = older (suc wanting)
 back_over Halts wanting place older = older wanting
 
--- one past the latest call that is still open, once so many later ones are closed
+-- one past the latest call that is still open, where so many returns behind it still want a call of their own
 abbrev pub past_call : ℕ → List Visit → ℕ
 past_call wanting [] = 0
 past_call wanting (visit ∷ older) = back_over (act_of visit.code) wanting visit.place (λ n. past_call n older)

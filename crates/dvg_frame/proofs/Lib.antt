@@ -1,0 +1,7 @@
+pub mod Sizes
+pub mod Bytes
+pub mod Firsts
+pub mod OneFault
+pub mod Judged
+pub mod Marks
+pub mod Swept

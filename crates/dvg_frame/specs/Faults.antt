@@ -1,0 +1,62 @@
+-- Which fault a draft is refused for.
+use Rattle.std.specs.Prelude.{◌≡◌, ℕ, ◌<◌, ◌≤◌, ◌⊎◌, List, [], length, Some, slice_get, Result, Ok, Err}
+use Rattle.dvg_frame.specs.declared.op.OpKind.{OpKind}
+use Rattle.dvg_frame.specs.declared.place.Place.{Place}
+use Rattle.dvg_frame.specs.declared.place.Place.TheVariants.{InFrame, InRom}
+use Rattle.dvg_frame.specs.declared.place.FrameFault.{FrameFault}
+use Rattle.dvg_frame.specs.declared.place.FrameFault.TheVariants.{Empty, NoLabs, TooLong, Target, RunsOff, OutOfRom, TooDeep, NoCaller}
+use Rattle.dvg_frame.specs.Layout.{size}
+use Rattle.dvg_frame.specs.Steps.{op_act, Names, Bad, Reached, BeginsWithLabs, Closed}
+
+-- the numbers of the faults
+abbrev pub number : FrameFault → ℕ
+number Empty = 1
+number NoLabs = 2
+number TooLong = 3
+number (Target i) = 4
+number (RunsOff i) = 5
+number (OutOfRom p) = 6
+number (TooDeep p) = 7
+number (NoCaller p) = 8
+
+-- operation i names one that the draft doesn't have
+pub data Misses (F : List OpKind) : ℕ → Type 0 where
+  misses : {i j : ℕ} {op : OpKind} → slice_get F i ≡ Some op → Names (op_act op) (InFrame j) → length F ≤ j → Misses F i
+
+-- the order of pairs: operations before ROM words, each by number, and of one place the lesser depth first
+abbrev pub Precedes : Place → ℕ → Place → ℕ → Type 0
+Precedes (InFrame i) d (InFrame j) e = (i < j) ⊎ (i ≡ j) × (d ≤ e)
+Precedes (InFrame i) d (InRom b) e = Unit {0}
+Precedes (InRom a) d (InFrame j) e = ⊥
+Precedes (InRom a) d (InRom b) e = (a < b) ⊎ (a ≡ b) × (d ≤ e)
+
+-- the first reached pair at which a fault holds, and the fault of least number there
+pub record Least (F : List OpKind) (R : List ℕ) (fault : FrameFault) : Type 0 where
+  pub place : Place
+  pub depth : ℕ
+  pub reached : Reached F R place depth
+  pub bad : Bad F R place depth fault
+  pub first : (q : Place) (e : ℕ) (other : FrameFault) → Reached F R q e → Bad F R q e other → Precedes place depth q e
+  pub least : (other : FrameFault) → Bad F R place depth other → number fault ≤ number other
+
+-- none of the faults 1 to 4
+pub record Begins (F : List OpKind) : Type 0 where
+  pub begins : BeginsWithLabs F
+  pub fits : size F ≤ 511
+  pub targets : (i : ℕ) → ¬ Misses F i
+
+-- the fault that is picked: faults 1 to 4 in their order, then that of the first reached pair
+abbrev pub Refuses : List OpKind → List ℕ → FrameFault → Type 0
+Refuses F R Empty = F ≡ []
+Refuses F R NoLabs = (0 < length F) × ¬ BeginsWithLabs F
+Refuses F R TooLong = BeginsWithLabs F × (511 < size F)
+Refuses F R (Target i) = BeginsWithLabs F × (size F ≤ 511) × Misses F i × ((k : ℕ) → k < i → ¬ Misses F k)
+Refuses F R (RunsOff i) = Begins F × Least F R (RunsOff i)
+Refuses F R (OutOfRom p) = Begins F × Least F R (OutOfRom p)
+Refuses F R (TooDeep p) = Begins F × Least F R (TooDeep p)
+Refuses F R (NoCaller p) = Begins F × Least F R (NoCaller p)
+
+-- what the check answers: the draft itself where it has no fault, and else the fault that is picked
+abbrev pub IsChecked : List OpKind → List ℕ → Result (List OpKind) FrameFault → Type 0
+IsChecked F R (Ok G) = Closed F R × (G ≡ F)
+IsChecked F R (Err fault) = Refuses F R fault

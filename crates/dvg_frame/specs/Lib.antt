@@ -1,0 +1,14 @@
+-- What public contracts cite.
+pub mod Ops
+pub mod Layout
+pub mod Bytes
+pub mod Steps
+pub mod Faults
+pub mod Frames
+pub mod Laws
+-- What only the contracts of the check's own functions cite.
+pub mod Firsts
+pub mod Pairs
+pub mod Ways
+pub mod Growth
+pub mod Sweeps

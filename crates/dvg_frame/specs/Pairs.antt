@@ -1,0 +1,34 @@
+-- Pairs of a place and a depth, counted in the order of the faults. Only the check's own functions cite this.
+use Rattle.std.specs.Prelude.{ℕ, ◌+◌, ◌-◌, ◌*◌, ◌<◌, ◌≤◌}
+use Rattle.dvg_frame.specs.declared.draft.TheConstants.{MAX_OPS}
+use Rattle.dvg_frame.specs.declared.pair.TheConstants.{DEEPEST, ROM_FIRST, ROM_END}
+use Rattle.dvg_frame.specs.declared.place.Place.{Place}
+use Rattle.dvg_frame.specs.declared.place.Place.TheVariants.{InFrame, InRom}
+use Rattle.dvg_frame.specs.declared.pair.Pair.{Pair}
+
+-- the pair of a place and a depth
+abbrev pub pair_of : Place → ℕ → Pair
+pair_of p d = record { place = p; depth = d }
+
+-- the pair at which each run begins
+abbrev pub first_pair : Pair
+first_pair = pair_of (InFrame 0) 0
+
+-- a place that a draft can have
+abbrev pub IsPlace : Place → Type 0
+IsPlace (InFrame i) = i < MAX_OPS
+IsPlace (InRom a) = (ROM_FIRST ≤ a) × (a < ROM_END)
+
+-- the places in their order: the operations, and then the words of the ROM
+abbrev pub place_index : Place → ℕ
+place_index (InFrame i) = i
+place_index (InRom a) = MAX_OPS + (a - ROM_FIRST)
+
+-- the pairs in their order: for each place its depths
+abbrev pub index : Pair → ℕ
+index pair = (DEEPEST + 1) * place_index pair.place + pair.depth
+
+-- a pair that a draft can have
+pub record IsPair (pair : Pair) : Type 0 where
+  pub place : IsPlace pair.place
+  pub depth : pair.depth ≤ DEEPEST

@@ -1,0 +1,95 @@
+-- What stands at a place, as the check sees it. Only the check's own functions cite this.
+use Rattle.std.specs.Prelude.{◌≡◌, ℕ, ◌+◌, ◌<◌, ◌≤◌, ◌⊎◌, List, length, Some}
+use Rattle.dvg_code.specs.Spelling.{IsFirst}
+use Rattle.dvg_code.specs.Acts.{Act, Moves, Jumps, Calls, Returns, Halts}
+use Rattle.dvg_mem.specs.Memory.{rom_word}
+use Rattle.dvg_frame.specs.declared.draft.TheConstants.{MAX_OPS}
+use Rattle.dvg_frame.specs.declared.op.OpKind.{OpKind}
+use Rattle.dvg_frame.specs.declared.place.Place.{Place}
+use Rattle.dvg_frame.specs.declared.place.Place.TheVariants.{InFrame, InRom}
+use Rattle.dvg_frame.specs.declared.place.FrameFault.{FrameFault}
+use Rattle.dvg_frame.specs.declared.place.FrameFault.TheVariants.{Empty, NoLabs, TooLong, Target, RunsOff, OutOfRom, TooDeep, NoCaller}
+use Rattle.dvg_frame.specs.declared.pair.Pair.{Pair}
+use Rattle.dvg_frame.specs.declared.pair.TheConstants.{DEEPEST, ROM_FIRST, ROM_END}
+use Rattle.dvg_frame.specs.declared.way.Way.{Way}
+use Rattle.dvg_frame.specs.declared.way.Way.TheVariants.{Move, Jump, Call, Return, Halt}
+use Rattle.dvg_frame.specs.Steps.{Stands, IsOutside}
+use Rattle.dvg_frame.specs.Faults.{number}
+
+-- the way of an act with this place after it
+abbrev pub way : Act Place → Place → Way
+way (Moves instr) after = Move after
+way (Jumps to) after = Jump to
+way (Calls to) after = Call to after
+way Returns after = Return
+way Halts after = Halt
+
+-- something stands at this place that leads on so
+pub record StandsSo (F : List OpKind) (R : List ℕ) (p : Place) (seen : Way) : Type 0 where
+  pub act : Act Place
+  pub after : Place
+  pub stands : Stands F R p act after
+  pub is : seen ≡ way act after
+
+-- this is an operation of the draft or a word of the ROM
+abbrev pub IsIn : List OpKind → Place → Type 0
+IsIn F (InFrame i) = (i < length F) × (i < MAX_OPS)
+IsIn F (InRom a) = (ROM_FIRST ≤ a) × (a < ROM_END)
+
+-- the ROM ends within the instruction at this place
+abbrev pub EndsWithin : List ℕ → Place → Type 0
+EndsWithin R (InFrame i) = ⊥
+EndsWithin R (InRom a) = (word : ℕ) × (rom_word R a ≡ Some word) × IsFirst word × (a + 1 ≡ ROM_END)
+
+-- it leads to the place after it
+abbrev pub GoesOn : Way → Type 0
+GoesOn (Move after) = Unit {0}
+GoesOn (Jump to) = ⊥
+GoesOn (Call to after) = Unit {0}
+GoesOn Return = ⊥
+GoesOn Halt = ⊥
+
+-- a place at an address outside the ROM
+abbrev pub Outside : Place → Type 0
+Outside (InFrame i) = ⊥
+Outside (InRom a) = IsOutside a
+
+-- it leads to such a place
+abbrev pub LeadsOutside : Way → Type 0
+LeadsOutside (Move after) = Outside after
+LeadsOutside (Jump to) = Outside to
+LeadsOutside (Call to after) = Outside to ⊎ Outside after
+LeadsOutside Return = ⊥
+LeadsOutside Halt = ⊥
+
+-- it is a call
+abbrev pub IsCall : Way → Type 0
+IsCall (Move after) = ⊥
+IsCall (Jump to) = ⊥
+IsCall (Call to after) = Unit {0}
+IsCall Return = ⊥
+IsCall Halt = ⊥
+
+-- it is a return
+abbrev pub IsReturn : Way → Type 0
+IsReturn (Move after) = ⊥
+IsReturn (Jump to) = ⊥
+IsReturn (Call to after) = ⊥
+IsReturn Return = Unit {0}
+IsReturn Halt = ⊥
+
+-- the fault holds at a pair among so many operations, where this is the way on
+abbrev pub HasFault : ℕ → Pair → Way → FrameFault → Type 0
+HasFault count pair seen Empty = ⊥
+HasFault count pair seen NoLabs = ⊥
+HasFault count pair seen TooLong = ⊥
+HasFault count pair seen (Target i) = ⊥
+HasFault count pair seen (RunsOff i) = (pair.place ≡ InFrame i) × (i + 1 ≡ count) × GoesOn seen
+HasFault count pair seen (OutOfRom p) = (pair.place ≡ p) × LeadsOutside seen
+HasFault count pair seen (TooDeep p) = (pair.place ≡ p) × IsCall seen × (pair.depth ≡ DEEPEST)
+HasFault count pair seen (NoCaller p) = (pair.place ≡ p) × IsReturn seen × (pair.depth ≡ 0)
+
+-- this fault holds, and none of a lesser number does
+pub record IsLeast (Holds : FrameFault → Type 0) (fault : FrameFault) : Type 0 where
+  pub holds : Holds fault
+  pub least : (other : FrameFault) → Holds other → number fault ≤ number other

@@ -1,0 +1,93 @@
+//! The check of a draft.
+ghost use Rattle.std.specs.Prelude.{ℕ, ◌<◌, ◌↔◌, List, IsTrue, MatchOption, MatchResult};
+ghost use Rattle.dvg_frame.specs.Faults.{IsChecked, Misses, Refuses};
+ghost use Rattle.dvg_frame.specs.Firsts.{IsLabs, NamesNone};
+ghost use Rattle.dvg_frame.specs.Frames.{IsFrame};
+
+use crate::draft::Draft;
+use crate::frame::{Frame, MAX_WORDS};
+use crate::op::OpKind;
+use crate::place::FrameFault;
+use crate::sweep::sweep;
+use dvg_code::Instr;
+use dvg_mem::Rom;
+use std::alloc::Allocator;
+
+// Whether it is a LABS.
+fn is_labs(kind: OpKind) -> bool
+    ensures { IsTrue result ↔ IsLabs kind }
+{
+    match kind {
+        OpKind::Draw(code) => matches!(code.instr(), Instr::Labs { .. }),
+        _ => false,
+    }
+}
+
+// Whether it names an operation that is none of so many.
+fn names_none(count: usize, kind: OpKind) -> bool
+    ensures { IsTrue result ↔ NamesNone count kind }
+{
+    match kind {
+        OpKind::Call(j) | OpKind::Jump(j) => count <= usize::from(j),
+        _ => false,
+    }
+}
+
+// The least operation that names one which the draft doesn't have.
+fn first_miss(draft: &Draft) -> Option<u16>
+    ensures { MatchOption result
+        ((i : ℕ) → ¬ Misses draft.now i)
+        (λ i. Misses draft.now i × ((k : ℕ) → k < i → ¬ Misses draft.now k)) }
+{
+    let count = draft.len();
+    for i in 0..count {
+        if names_none(count, draft.op(i).kind()) {
+            return Some(i as u16);
+        }
+    }
+    None
+}
+
+// How many words a draft without the faults 1 to 4 has, or the first of them that holds.
+fn words_or_fault(draft: &Draft) -> Result<u16, FrameFault>
+    ensures { MatchResult result (IsFrame draft.now) (λ fault. (R : List ℕ) → Refuses draft.now R fault) }
+{
+    let count = draft.len();
+    if count == 0 {
+        return Err(FrameFault::Empty);
+    }
+    if !is_labs(draft.op(0).kind()) {
+        return Err(FrameFault::NoLabs);
+    }
+    let words = draft.words_before(count);
+    if words > MAX_WORDS {
+        return Err(FrameFault::TooLong);
+    }
+    match first_miss(draft) {
+        Some(i) => Err(FrameFault::Target(i)),
+        None => Ok(words),
+    }
+}
+
+/// The frame of a draft that has no fault over the ROM, and else the fault that is picked: faults 1 to
+/// 4 in their order, then that of the first reached pair of place and depth that has one. Operations
+/// come before ROM words, each by number, and of one place the lesser depth comes first; if several
+/// faults hold at that pair, the least number is answered (this project's own choice).
+///
+/// The pairs begin with operation 0 at depth 0. A vector or a LABS leads to the place after it, a jump
+/// to its target, a call to its target one deeper and to the place after it at its own depth. A return,
+/// a halt and a pair with a fault lead nowhere.
+///
+/// Exactly one answer holds of each draft and ROM. The time is linear in the pairs that are reached.
+pub fn check<A: Allocator>(draft: &Draft, rom: &Rom<A>) -> Result<Frame, FrameFault>
+    ensures { IsChecked draft.now rom.now result }
+{
+    let words = match words_or_fault(draft) {
+        Ok(words) => words,
+        Err(fault) => return Err(fault),
+    };
+    match sweep(draft, rom) {
+        Some(found) => Err(found.fault),
+        None => Ok(Frame::of(draft.copy(), words)),
+    }
+}

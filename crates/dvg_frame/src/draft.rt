@@ -1,0 +1,117 @@
+//! Drafts.
+ghost use Rattle.std.specs.Prelude.{◌≡◌, ◌+◌, ◌<◌, ◌≤◌, ◌↔◌, List, [], ◌∷◌, ◌++◌, length, IfOk, IsOk, IsTrue, OnErr, OnOk, Some, slice_get, take};
+ghost use Rattle.dvg_frame.specs.Layout.{op_words, size};
+ghost use Rattle.dvg_frame.specs.Ops.{IsDraft, IsOp};
+ghost use Rattle.dvg_frame.specs.declared.op.OpKind.{OpKind};
+
+use crate::op::{Op, OpKind};
+use crate::way::word_count;
+use arrayvec::ArrayVec;
+use std::marker::Model;
+
+/// The most operations that a draft holds. One word each is as much as a half of the RAM has.
+pub(crate) const MAX_OPS: usize = 511;
+
+/// The draft has its 511 operations already.
+#[derive(Clone, Copy, Debug, PartialEq, Eq)]
+pub struct DraftFull;
+
+/// A list of at most 511 operations, numbered from 0.
+#[derive(Drop)]
+pub struct Draft {
+    ops: ArrayVec<Op, MAX_OPS>,
+}
+
+/// Contracts see the list of the operations.
+impl Model for Draft {
+    ghost Value = { List OpKind };
+
+    ghost view = { λ draft. draft.ops.items };
+
+    ghost invariant = { λ draft. IsDraft draft.ops.items };
+}
+
+impl Draft {
+    /// A draft with no operation.
+    pub fn new() -> Draft
+        ensures { result ≡ [] }
+    {
+        Draft {
+            ops: ArrayVec::new(),
+        }
+    }
+
+    /// How many operations there are.
+    pub fn len(&self) -> usize
+        ensures value { result ≡ length self.now }
+        ensures draft { IsDraft self.now }
+    {
+        self.ops.len()
+    }
+
+    /// Whether there is no operation.
+    pub fn is_empty(&self) -> bool
+        ensures { IsTrue result ↔ (self.now ≡ []) }
+    {
+        self.ops.is_empty()
+    }
+
+    /// Adds an operation at the end, and answers its number. It is refused exactly where there are 511
+    /// operations, and nothing has changed then.
+    pub fn push(&mut self, op: Op) -> Result<u16, DraftFull>
+        ensures room { IsOk result ↔ (length self.old < 511) }
+        ensures number { IfOk result (λ number. number ≡ length self.old) }
+        ensures pushed { OnOk result (self.new ≡ self.old ++ op ∷ []) }
+        ensures refused { OnErr result (self.new ≡ self.old) }
+    {
+        if self.ops.is_full() {
+            return Err(DraftFull);
+        }
+        let number = self.ops.len() as u16;
+        self.ops.push(op);
+        Ok(number)
+    }
+
+    /// The operation of this number.
+    pub fn op(&self, i: usize) -> Op
+        requires { i < length self.now }
+        ensures { slice_get self.now i ≡ Some result }
+    {
+        self.ops[i]
+    }
+
+    // The same operations again.
+    pub(crate) fn copy(&self) -> Draft
+        ensures { result ≡ self.now }
+    {
+        let mut ops = ArrayVec::new();
+        for op in self.ops.as_slice() {
+            ops.push(*op);
+        }
+        Draft { ops }
+    }
+
+    // How many words the operations before this number have.
+    pub(crate) fn words_before(&self, i: usize) -> u16
+        requires { i ≤ length self.now }
+        ensures value { result ≡ size (take i self.now) }
+        ensures bound { result ≤ 1022 }
+    {
+        let mut words = 0;
+        for op in &self.ops.as_slice()[..i] {
+            words += words_of(op.kind());
+        }
+        words
+    }
+}
+
+// How many words an operation has.
+pub(crate) fn words_of(kind: OpKind) -> u16
+    ensures value { result ≡ op_words kind }
+    ensures bound { result ≤ 2 }
+{
+    match kind {
+        OpKind::Draw(code) => word_count(code),
+        _ => 1,
+    }
+}

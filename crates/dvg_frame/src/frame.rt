@@ -1,0 +1,128 @@
+//! Frames: drafts that were checked.
+ghost use Rattle.std.specs.Prelude.{◌≡◌, ◌*◌, ◌<◌, ◌≤◌, List, Some, length, slice_get};
+ghost use Rattle.dvg_code.specs.Ranges.{InRange};
+ghost use Rattle.dvg_code.specs.Spelling.{canon};
+ghost use Rattle.dvg_frame.specs.Bytes.{bytes};
+ghost use Rattle.dvg_frame.specs.Faults.{Begins};
+ghost use Rattle.dvg_frame.specs.Firsts.{NamesNone};
+ghost use Rattle.dvg_frame.specs.Frames.{IsFrame};
+ghost use Rattle.dvg_frame.specs.Layout as layout;
+ghost use Rattle.dvg_frame.specs.Ops.{IsDraft, IsOp};
+ghost use Rattle.dvg_frame.specs.declared.op.OpKind.{OpKind};
+ghost use Rattle.dvg_mem.specs.declared.half.Half.{Half};
+
+use crate::draft::{Draft, words_of};
+use crate::op::OpKind;
+use dvg_code::{Code, Instr, encode};
+use dvg_mem::Half;
+use std::marker::Model;
+
+/// The most words that a frame has: those of a half of the RAM.
+pub(crate) const MAX_WORDS: u16 = 511;
+
+/// A draft that was checked. It keeps the draft and its number of words, and no laid words.
+#[derive(Drop)]
+pub struct Frame {
+    draft: Draft,
+    words: u16,
+}
+
+/// Contracts see the draft.
+impl Model for Frame {
+    ghost Value = { List OpKind };
+
+    ghost view = { λ frame. frame.draft };
+
+    ghost invariant = { λ frame. IsFrame frame.draft frame.words };
+}
+
+impl Frame {
+    // The frame of a draft without the faults 1 to 4, which has so many words.
+    pub(crate) fn of(draft: Draft, words: u16) -> Frame
+        requires { IsFrame draft words }
+        ensures { result ≡ draft }
+    {
+        Frame { draft, words }
+    }
+
+    /// How many words the frame has in a half, 1 to 511.
+    pub fn len_words(&self) -> u16
+        ensures value { result ≡ layout.size self.now }
+        ensures laid { (half : Half) → length (layout.laid half self.now) ≡ result }
+        ensures bound { result ≤ 511 }
+        ensures draft { IsDraft self.now }
+    {
+        self.words
+    }
+
+    /// Byte `k` of the frame's words in this half, the low byte of each word first. Byte 0 stands at
+    /// twice the word address of the half's first word.
+    pub fn byte(&self, half: Half, k: u16) -> u8
+        requires { k < 2 * layout.size self.now }
+        ensures { slice_get (bytes (layout.laid half self.now)) k ≡ Some result }
+    {
+        let word = word_at(&self.draft, half, k / 2);
+        if k % 2 == 0 {
+            (word % 256) as u8
+        } else {
+            (word / 256) as u8
+        }
+    }
+}
+
+// Word n of the draft's layout for a half.
+fn word_at(draft: &Draft, half: Half, n: u16) -> u16
+    requires begins { Begins draft.now }
+    requires within { n < layout.size draft.now }
+    ensures { slice_get (layout.laid half draft.now) n ≡ Some result }
+{
+    let mut before = 0;
+    for i in 0..draft.len() {
+        let op = draft.op(i);
+        let count = words_of(op.kind());
+        if n < before + count {
+            let code = code_of(draft, half, op.kind());
+            return encode(&code)[usize::from(n - before)];
+        }
+        before += count;
+    }
+    unreachable!()
+}
+
+// The instruction of an operation.
+fn code_of(draft: &Draft, half: Half, kind: OpKind) -> Code
+    requires op { IsOp kind }
+    requires names { ¬ NamesNone (length draft.now) kind }
+    requires fits { layout.size draft.now ≤ 511 }
+    ensures { result ≡ layout.op_code half draft.now kind }
+{
+    match kind {
+        OpKind::Draw(code) => code,
+        OpKind::CallRom(a) => in_range(Instr::Jsrl(a)),
+        OpKind::JumpRom(a) => in_range(Instr::Jmpl(a)),
+        OpKind::Call(j) => in_range(Instr::Jsrl(address(draft, half, j))),
+        OpKind::Jump(j) => in_range(Instr::Jmpl(address(draft, half, j))),
+        OpKind::Return => in_range(Instr::Rtsl),
+        OpKind::Halt => in_range(Instr::Halt),
+    }
+}
+
+// An instruction in range.
+fn in_range(instr: Instr) -> Code
+    requires { InRange instr }
+    ensures { result ≡ instr }
+{
+    match Code::new(instr) {
+        Some(code) => code,
+        None => unreachable!(),
+    }
+}
+
+// The word address of an operation.
+fn address(draft: &Draft, half: Half, j: u16) -> u16
+    requires { j < length draft.now }
+    ensures value { result ≡ layout.at half draft.now j }
+    ensures bound { result ≤ 4095 }
+{
+    half.base() + draft.words_before(usize::from(j))
+}

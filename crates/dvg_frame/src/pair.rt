@@ -1,0 +1,52 @@
+//! Pairs of a place and a depth.
+ghost use Rattle.std.specs.Prelude.{◌≡◌, ◌<◌};
+ghost use Rattle.dvg_frame.specs.Pairs.{IsPair, index};
+
+use crate::draft::MAX_OPS;
+use crate::place::Place;
+
+/// The most calls that are open at once: the generator's return stack holds four addresses.
+pub(crate) const DEEPEST: u8 = 4;
+
+/// The word address of the ROM's first word, and that after its last.
+pub(crate) const ROM_FIRST: u16 = 0x800;
+
+pub(crate) const ROM_END: u16 = 0xC00;
+
+/// How many pairs there are: at each operation and at each word of the ROM, one for each depth.
+pub(crate) const PAIRS: usize = (MAX_OPS + (ROM_END - ROM_FIRST) as usize) * (DEEPEST as usize + 1);
+
+/// A place, and how many calls are open there.
+#[derive(Clone, Copy)]
+pub(crate) struct Pair {
+    pub(crate) place: Place,
+    pub(crate) depth: u8,
+}
+
+/// The pair at which each run begins.
+impl Default for Pair {
+    ghost use Rattle.std.specs.Prelude.{◌≡◌};
+    ghost use Rattle.dvg_frame.specs.Pairs.{first_pair};
+
+    ghost is_default = { λ pair. pair ≡ first_pair };
+
+    fn default() -> Pair {
+        Pair {
+            place: Place::InFrame(0),
+            depth: 0,
+        }
+    }
+}
+
+// The number of a pair, counted in the order in which faults are picked.
+pub(crate) fn index_of(pair: Pair) -> usize
+    requires { IsPair pair }
+    ensures value { result ≡ index pair }
+    ensures bound { result < PAIRS }
+{
+    let place = match pair.place {
+        Place::InFrame(i) => usize::from(i),
+        Place::InRom(a) => MAX_OPS + usize::from(a - ROM_FIRST),
+    };
+    (usize::from(DEEPEST) + 1) * place + usize::from(pair.depth)
+}

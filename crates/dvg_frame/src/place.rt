@@ -1,0 +1,33 @@
+//! Places of a draft's run, and what can be wrong with a draft.
+
+/// Where a draft's run can be.
+#[derive(Clone, Copy, Debug, PartialEq, Eq)]
+pub enum Place {
+    /// At this operation of the draft.
+    InFrame(u16),
+    /// At this word address of the ROM.
+    InRom(u16),
+}
+
+/// Why a draft is refused. The faults have the numbers 1 to 8, in this order (this project's own
+/// choice).
+#[derive(Clone, Copy, Debug, PartialEq, Eq)]
+pub enum FrameFault {
+    /// 1: there is no operation.
+    Empty,
+    /// 2: operation 0 is no LABS.
+    NoLabs,
+    /// 3: there are more than 511 words.
+    TooLong,
+    /// 4: this operation names one that the draft doesn't have. It is the least such operation.
+    Target(u16),
+    /// 5: this operation is the last one, and goes on at the place after it.
+    RunsOff(u16),
+    /// 6: this place leads to an address outside 800 to BFF: by a target, by a second word, or by the
+    /// place after it.
+    OutOfRom(Place),
+    /// 7: at this place there is a call while four are open.
+    TooDeep(Place),
+    /// 8: at this place there is a return while no call is open.
+    NoCaller(Place),
+}
