@@ -2,8 +2,8 @@
 ghost use Rattle.std.specs.Prelude.{◌≡◌, ◌≢◌, ◌≤◌, ◌↔◌, length, IfOk, IsErrOf, Some};
 ghost use Rattle.dvg_mem.specs.Memory.{IsImage, rom_word};
 
-use crate::{FIRST_ROM_WORD, MEMORY_BYTES};
 use crate::image::MemFault;
+use crate::{FIRST_ROM_WORD, MEMORY_BYTES};
 use dvg_code::word_at;
 use std::alloc::{Allocator, Global};
 use std::marker::Model;
