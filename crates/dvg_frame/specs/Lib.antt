@@ -5,6 +5,7 @@ pub mod Bytes
 pub mod Steps
 pub mod Faults
 pub mod Frames
+pub mod Picture
 pub mod Laws
 -- What only the contracts of the check's own functions cite.
 pub mod Firsts

@@ -1,0 +1,4 @@
+//! The generator and the memory together: what is drawn of a checked frame that nobody writes to.
+#![tactic(auto)]
+
+pub mod laws;
