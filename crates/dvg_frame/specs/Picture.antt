@@ -1,4 +1,4 @@
--- What a draft draws, by its operations alone.
+-- What a draft draws, by its operations and the ROM's instructions: no stack, no addresses and no memory that changes.
 use Rattle.std.specs.Prelude.{◌≡◌, ℕ, suc, ◌+◌, List, [], ◌++◌}
 use Rattle.dvg_code.specs.declared.instr.Instr.{Instr}
 use Rattle.dvg_code.specs.Spelling.{word_count}
@@ -34,7 +34,7 @@ pub data Draws (F : List OpKind) (R : List ℕ) : Place → Beam → List Stroke
 
 -- the picture of a draft, and the fetches of its whole run, that of word zero included
 pub record IsPicture (F : List OpKind) (R : List ℕ) (strokes : List Stroke) (n : ℕ) : Type 0 where
-  pub beam : Beam
+  pub last : Beam
   pub rest : ℕ
-  pub draws : Draws F R (InFrame 0) (record { x = 0; y = 0; scale = 0 }) strokes beam AtHalt rest
+  pub draws : Draws F R (InFrame 0) (record { x = 0; y = 0; scale = 0 }) strokes last AtHalt rest
   pub count : n ≡ suc rest

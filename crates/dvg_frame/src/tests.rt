@@ -364,17 +364,3 @@ fn bytes_of_each_operation(rt: HostRuntime) -> Result<(), Fail> {
     assert_eq!(rt; bytes(rt.alloc(), &frame, Half::H1)?, laid);
     Ok(())
 }
-
-#[test]
-fn zz_time(rt: HostRuntime) -> Result<(), Fail> {
-    let rom = rom(rt.alloc(), &[(0x801, 0xB000)])?;
-    let draft = after_labs(&[vctr()?, OpKind::Halt])?;
-    let mut n = 0u32;
-    for _ in 0..31_000u32 {
-        if verdict(&draft, &rom).is_ok() {
-            n = 1;
-        }
-    }
-    assert_eq!(rt; n, 1);
-    Ok(())
-}

@@ -20,15 +20,14 @@ use Rattle.dvg_frame.specs.declared.op.OpKind.{OpKind}
 use Rattle.dvg_frame.specs.declared.op.OpKind.TheVariants.{Draw}
 use Rattle.dvg_frame.specs.declared.place.Place.{Place}
 use Rattle.dvg_frame.specs.declared.place.Place.TheVariants.{InFrame}
-use Rattle.dvg_frame.specs.Ops.{IsDraft}
 use Rattle.dvg_frame.specs.Layout.{at}
 use Rattle.dvg_frame.specs.declared.place.FrameFault.TheVariants.{NoCaller}
 use Rattle.dvg_frame.specs.Steps.{Stands, in_frame, op_act, GoesPast, bare, Reached, begin, step, Closed, BeginsWithLabs, labs}
 use Rattle.dvg_frame.specs.Steps.{on as leads_on, jump as leads_jump, call as leads_call, back as leads_back}
 use Rattle.dvg_frame.specs.Picture.{End, AtHalt, Draws as Drawing, halts, returns, moves, jumps, call_halts, calls, IsPicture}
 use Rattle.dvg_code.specs.Words.{word_in}
-use Rattle.dvg_mem.specs.Memory.{rom_word, IsImage}
-use Rattle.dvg_world.specs.Law.{HasFrame, Finishes, NeverBreaks, AnyMemory, Undisturbed, OnlyFirst}
+use Rattle.dvg_mem.specs.Memory.{rom_word}
+use Rattle.dvg_world.specs.Law.{Finishes, NeverBreaks, AnyMemory, Undisturbed, OnlyFirst}
 use Rattle.dvg_gen.specs.Obeyed.{stack_by, to_of, CanGo}
 use Rattle.dvg_gen.proofs.Stack.{stack, next_is, Sound, sound_none, sound_more, goes_more, halts_finish}
 use Rattle.dvg_world.proofs.Machine.{ReadsAt, reads1, reads2, Whole, none, more, Partly, whole, half, partly_run, run_whole, one_size}
@@ -256,7 +255,7 @@ module _ (F : List OpKind) (R : List ℕ) (mem : ℕ → Option ℕ) (ad : Place
       any_act b b2 b' w.0 (InFrame 0) w.1 s e n l.0 l.1 l.2 u w.2 d (λ a q s2. first_act c a q l.3 s2 ∙ sym u)
 
   picture_of : (b : Beam) (s : List Stroke) (k : ℕ) → Result F R mem (InFrame 0) [] b s k → IsPicture F R s (suc k)
-  picture_of b s k (halted {b' = b'} d) = record { beam = b'; rest = k; draws = any_beam b origin b' s AtHalt k d; count = refl }
+  picture_of b s k (halted {b' = b'} d) = record { last = b'; rest = k; draws = any_beam b origin b' s AtHalt k d; count = refl }
   picture_of b s k (returned {r = r} {st' = st} est es en le d t) = let e : [] ≡ r ∷ st = est in cc
 
   run_of : (b : Beam) (s : List Stroke) (n : ℕ) → Ends mem 0 [] b s n → IsPicture F R s n
@@ -276,7 +275,7 @@ module _ (F : List OpKind) (R : List ℕ) (mem : ℕ → Option ℕ) (ad : Place
 
   pub is_drawn : (b : Beam) (s : List Stroke) (n : ℕ) → IsPicture F R s n → Finishes mem b s n
   is_drawn b s n p =
-      let d = any_beam origin b p.beam s AtHalt p.rest p.draws in
+      let d = any_beam origin b p.last s AtHalt p.rest p.draws in
       let t = follows F R mem ad closed faith d 0 begin [] refl [] 0 (refl, refl) in
       let n2 : p.rest + 0 ≡ p.rest = omega arith in
       let t2 = subst (λ x. Ends mem (ad (InFrame 0)) [] b (s ++ []) x) n2 t in

@@ -1,5 +1,5 @@
 -- The law of undisturbed runs.
-use Rattle.std.specs.Prelude.{◌≡◌, ◌≢◌, ℕ, suc, ◌+◌, ◌<◌, ◌↔◌, List, length, Option, Some, None, slice_index}
+use Rattle.std.specs.Prelude.{◌≡◌, ◌≢◌, ℕ, suc, ◌+◌, ◌<◌, ◌≤◌, ◌↔◌, List, length, Option, Some, None, slice_index}
 use Rattle.dvg_mem.specs.declared.half.Half.{Half}
 use Rattle.dvg_mem.specs.Areas.{base}
 use Rattle.dvg_code.specs.Words.{word_in}
@@ -56,3 +56,9 @@ Undisturbed = (half : Half) (F : List OpKind) (ram R : List ℕ) → IsDraft F �
 abbrev pub OnlyFirst : Type 0
 OnlyFirst = (half : Half) (F : List OpKind) (R : List ℕ) (memory : ℕ → Option ℕ) → IsDraft F → IsImage R → Closed F R → HasFrame memory half F R
     → (n : ℕ) (visits : List Visit) (held : Option ℕ) → Runs memory (suc n) visits held → fate visits ≡ Goes → wanted visits held ≢ 0
+
+-- where the draft has a picture of n fetches, no run has more, and each of n ends in HALT with the picture's strokes
+abbrev pub EndsInTime : Type 0
+EndsInTime = (half : Half) (F : List OpKind) (R : List ℕ) (memory : ℕ → Option ℕ) → IsDraft F → IsImage R → Closed F R → HasFrame memory half F R
+    → (beam : Beam) (drew : List Stroke) (n : ℕ) → IsPicture F R drew n → (m : ℕ) (visits : List Visit) (held : Option ℕ) → Runs memory m visits held
+    → (m ≤ n) × (m ≡ n → (held ≡ None) × (fate visits ≡ Finished) × (strokes beam visits ≡ drew))

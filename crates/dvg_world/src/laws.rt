@@ -1,16 +1,23 @@
 //! Laws of the definitions alone. Each is the contract of a function that does nothing.
-ghost use Rattle.dvg_world.specs.Law.{AnyMemory, OnlyFirst, Undisturbed};
+ghost use Rattle.dvg_world.specs.Law.{AnyMemory, EndsInTime, OnlyFirst, Undisturbed};
 
-/// The law of undisturbed runs. Where a memory has a checked frame in a half and the jump to it in word
-/// zero, and nobody writes to it, no lawful run over it breaks, from any beam; and there is one of `n`
-/// fetches that ends in HALT with some strokes exactly when these are the picture of the frame's draft, in
-/// `n` fetches.
+/// The law of undisturbed runs. Let a memory that doesn't change have a checked frame in a half, the jump
+/// to that half in word zero, and the words of the ROM that the frame was checked over. Then no lawful run
+/// over it breaks, from any beam; and there is one of `n` fetches that ends in HALT with some strokes
+/// exactly when these are the picture of the frame's draft, in `n` fetches. `ram` says it of a RAM beside
+/// the ROM, `memory` of any memory.
 pub fn undisturbed()
     ensures memory { AnyMemory }
     ensures ram { Undisturbed }
 {}
 
-/// Word zero of such a memory is fetched only first.
+/// No run over a memory as in `undisturbed` wants word zero again, once it has fetched it.
 pub fn word_zero_only_first()
     ensures { OnlyFirst }
+{}
+
+/// Where the draft of the frame has a picture of `n` fetches, a run over a memory as in `undisturbed` has at
+/// most `n`, and one of `n` ended in HALT with the picture's strokes.
+pub fn ends_in_time()
+    ensures { EndsInTime }
 {}

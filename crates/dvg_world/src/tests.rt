@@ -1,0 +1,161 @@
+//! Worked examples: frames that are laid into a store, with the jump to them in word zero, and drawn.
+use dvg_code::{Code, Instr};
+use dvg_frame::{Draft, Frame, Op, OpKind, check};
+use dvg_gen::{Generator, Stroke, Taken};
+use dvg_mem::{Flat, Half, Image, Rom, Store, fetch};
+use std::alloc::Global;
+use std::test::Fail;
+
+// The operation that draws by this instruction.
+fn draw(instr: Instr) -> Result<OpKind, Fail> {
+    Ok(OpKind::Draw(Code::new(instr).ok_or("out of range")?))
+}
+
+// LABS, with the global scale 0.
+fn labs(x: u16, y: u16) -> Result<OpKind, Fail> {
+    draw(Instr::Labs { x, y, scale: 0 })
+}
+
+// VCTR with the local scale 9.
+fn vctr(dx: i16, dy: i16, z: u8) -> Result<OpKind, Fail> {
+    draw(Instr::Vctr {
+        scale: 9,
+        dx,
+        dy,
+        z,
+    })
+}
+
+// The ROM of these words from 800 on. All others are D000, a return.
+fn rom(alloc: Global, words: &[u16]) -> Result<Rom, Fail> {
+    let mut bytes = Vec::new(alloc);
+    for i in 0..1024 {
+        let word = words.get(i).copied().unwrap_or(0xD000);
+        for byte in word.to_le_bytes() {
+            bytes.push(byte)?;
+        }
+    }
+    Rom::new(alloc, bytes.as_slice()).map_err(|_| "no ROM".into())
+}
+
+// The frame of these operations.
+fn frame(kinds: &[OpKind], rom: &Rom) -> Result<Frame, Fail> {
+    let mut draft = Draft::new();
+    for kind in kinds {
+        draft.push(Op::new(*kind).ok_or("no operation")?)?;
+    }
+    check(&draft, rom).map_err(|_| "refused".into())
+}
+
+// A store that holds the frame in a half, and the jump to it in word zero.
+fn store(alloc: Global, frame: &Frame, half: Half) -> Result<Flat, Fail> {
+    let mut bytes = Vec::new(alloc);
+    for _ in 0..2048 {
+        bytes.push(0x55)?;
+    }
+    let image = Image::new(alloc, bytes.as_slice()).map_err(|_| "no image")?;
+    let mut store = Flat::make(alloc, &image)?;
+    store.write(0, 0x01);
+    store.write(1, half.high());
+    for k in 0..2 * frame.len_words() {
+        store.write(2 * half.base() + k, frame.byte(half, k));
+    }
+    Ok(store)
+}
+
+// The fetches of a run that ends in HALT, and its strokes.
+fn drawn(alloc: Global, store: &Flat, rom: &Rom) -> Result<(u16, Vec<Stroke>), Fail> {
+    let mut generator = Generator::new(alloc);
+    generator.start();
+    for count in 1..100 {
+        let Some(address) = generator.wants() else {
+            return Err("halted".into());
+        };
+        match generator.take(fetch(store, rom, address))? {
+            Taken::Word => {}
+            Taken::Done(strokes) => return Ok((count, strokes)),
+            Taken::Broke(_) => return Err("broke".into()),
+        }
+    }
+    Err("no end".into())
+}
+
+// The frame of these operations is drawn so in either half.
+fn is_drawn(
+    alloc: Global,
+    rom: &Rom,
+    kinds: &[OpKind],
+    fetches: u16,
+    strokes: &[Stroke],
+) -> Result<bool, Fail> {
+    let frame = frame(kinds, rom)?;
+    for half in [Half::H0, Half::H1] {
+        let store = store(alloc, &frame, half)?;
+        let (count, drew) = drawn(alloc, &store, rom)?;
+        if count != fetches || drew.as_slice() != strokes {
+            return Ok(false);
+        }
+    }
+    Ok(true)
+}
+
+#[test]
+fn vectors(rt: HostRuntime) -> Result<(), Fail> {
+    let alloc = rt.alloc();
+    let rom = rom(alloc, &[])?;
+    let one = [labs(512, 400)?, vctr(-100, 100, 7)?, OpKind::Halt];
+    let stroke = Stroke {
+        x0: 262_144,
+        y0: 204_800,
+        x1: 210_944,
+        y1: 256_000,
+        z: 7,
+    };
+    assert!(rt; is_drawn(alloc, &rom, &one, 6, &[stroke])?);
+    let other = [labs(0, 0)?, vctr(10, 0, 5)?, OpKind::Halt];
+    let stroke = Stroke {
+        x0: 0,
+        y0: 0,
+        x1: 5_120,
+        y1: 0,
+        z: 5,
+    };
+    assert!(rt; is_drawn(alloc, &rom, &other, 6, &[stroke])?);
+    Ok(())
+}
+
+#[test]
+fn a_shape_of_the_rom(rt: HostRuntime) -> Result<(), Fail> {
+    let alloc = rt.alloc();
+    let rom = rom(alloc, &[0xFE37, 0xD000])?;
+    let shape = [labs(0, 0)?, OpKind::CallRom(0x800), OpKind::Halt];
+    let stroke = Stroke {
+        x0: 0,
+        y0: 0,
+        x1: 2_091_008,
+        y1: 2_093_056,
+        z: 3,
+    };
+    assert!(rt; is_drawn(alloc, &rom, &shape, 7, &[stroke])?);
+    Ok(())
+}
+
+#[test]
+fn four_nested_calls(rt: HostRuntime) -> Result<(), Fail> {
+    let alloc = rt.alloc();
+    let rom = rom(alloc, &[])?;
+    let nested = [
+        labs(0, 0)?,
+        OpKind::Call(3),
+        OpKind::Halt,
+        OpKind::Call(5),
+        OpKind::Return,
+        OpKind::Call(7),
+        OpKind::Return,
+        OpKind::Call(9),
+        OpKind::Return,
+        OpKind::Return,
+    ];
+    assert!(rt; is_drawn(alloc, &rom, &nested, 12, &[])?);
+    Ok(())
+}
