@@ -6,8 +6,8 @@ use dvg_gen::{Generator, Stroke, Taken};
 use std::alloc::Global;
 use std::io;
 
-/// How many words are taken.
-const TAKES: u32 = 1_000_000;
+/// How many steps are made: of each 15, one start and 14 words taken, so 1,000,000 words in all.
+const STEPS: u32 = 1_071_429;
 
 /// The display list, from word zero on: LABS, a vector, a call, a blank move, a short vector and HALT, and
 /// at 010 a subroutine of two blank moves.
@@ -46,7 +46,7 @@ fn draw(alloc: Global) -> Result<Totals, OutOfMemory> {
         strokes: 0,
         ends: 0,
     };
-    for _ in 0..TAKES {
+    for _ in 0..STEPS {
         match generator.wants() {
             None => generator.start(),
             Some(address) => {
