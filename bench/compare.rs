@@ -1,7 +1,7 @@
 //! Compares the proved program with its plain twin: the same inputs, many times, one program after the other.
 //!
 //! `compare ROWS PROVED PLAIN FOLDER` runs both programs on each row's input, checks that they write the same and end
-//! with status 0 each time, and prints a table. ROWS is `dvg` or `generator`. It makes the inputs itself and keeps its files in FOLDER.
+//! with the row's status each time, and prints a table. ROWS is `dvg` or `parts`. It makes the inputs itself and keeps its files in FOLDER.
 //! It is made for 64-bit Linux, whose `wait4` tells what a single process used.
 
 use std::fs::{self, File};
@@ -20,10 +20,36 @@ const DVG_ROWS: &[Row] = &[
         instructions(4096)
     }),
     row("rom, 2,048 random bytes", &["rom"], || random_bytes(2048)),
+    row("check, 510 operations, 511 words", &["check"], || {
+        operations(510)
+    }),
+    Row {
+        status: 1,
+        ..row("check, 511 operations: too long", &["check"], || {
+            operations(511)
+        })
+    },
+    row(
+        "check, 1,024 ROM words at 5 depths",
+        &["check"],
+        nested_over_rom,
+    ),
 ];
 
-/// What is compared of the generator alone, which runs in a program of its own and reads nothing.
-const GENERATOR_ROWS: &[Row] = &[row("generator, 1,000,000 words", &[], Vec::new)];
+/// What is compared of single parts, each of which runs many times in one process and reads nothing.
+const PART_ROWS: &[Row] = &[
+    row("generator, 1,000,000 words", &["generator"], Vec::new),
+    row(
+        "200 checks, 1,024 ROM words at 5 depths",
+        &["check"],
+        Vec::new,
+    ),
+    row(
+        "200 checks, 512 ROM words at 5 depths",
+        &["check-half"],
+        Vec::new,
+    ),
+];
 
 /// How long all rows together are timed; each gets the same part.
 const TIMED: Duration = Duration::from_secs(17);
@@ -44,10 +70,17 @@ struct Row {
     words: &'static [&'static str],
     /// Makes what they read.
     input: fn() -> Vec<u8>,
+    /// The exit status that both end with.
+    status: i32,
 }
 
 const fn row(name: &'static str, words: &'static [&'static str], input: fn() -> Vec<u8>) -> Row {
-    Row { name, words, input }
+    Row {
+        name,
+        words,
+        input,
+        status: 0,
+    }
 }
 
 // --- Inputs ---
@@ -121,6 +154,44 @@ fn instructions(words: usize) -> Vec<u8> {
         }
     }
     bytes
+}
+
+/// The text of a draft of so many operations, with one word more: a LABS, short vectors, jumps to the next operation, calls of
+/// a return at the end, and HALT before it.
+fn operations(count: u16) -> Vec<u8> {
+    let mut random = Random(1979);
+    let mut text = String::from("labs 512 400 3\n");
+    for i in 1..count - 3 {
+        text += &match random.below(4) {
+            0 => format!("jump {}\n", i + 1),
+            1 => format!("call {}\n", count - 1),
+            _ => format!(
+                "svec {} {} -{} {}\n",
+                2 + random.below(4),
+                random.below(4),
+                1 + random.below(3),
+                random.below(16)
+            ),
+        };
+    }
+    text += "halt\nhalt\nreturn\n";
+    text.into_bytes()
+}
+
+/// The text of a draft that comes to each of 1,024 ROM words at each depth, 0 to 4: the ROM's first word is jumped to
+/// from each. The ROM holds blank SVECs, and a HALT as its last word.
+fn nested_over_rom() -> Vec<u8> {
+    let mut text = String::new();
+    for line in 0..128 {
+        let last = if line == 127 { "B000" } else { "F000" };
+        text += &format!("rom {:03X}{} {last}\n", 0x800 + 8 * line, " F000".repeat(7));
+    }
+    text += "labs 0 0 0\n";
+    for target in [3, 5, 7, 9] {
+        text += &format!("call {target}\njumprom 800\n");
+    }
+    text += "jumprom 800\n";
+    text.into_bytes()
 }
 
 /// So many random bytes.
@@ -285,7 +356,7 @@ struct Measured {
 type Run = fn(&Contender, &[&str]) -> io::Result<(Answer, Cost)>;
 
 /// Runs both programs once and answers their costs, the proved one's first. Their answers must be the same, and the
-/// status 0: an input that was refused would be no measure of the work.
+/// status the row's: an input that was refused for another cause would be no measure of the work.
 fn run_both(
     row: &Row,
     run: Run,
@@ -305,9 +376,9 @@ fn run_both(
             row.name
         )));
     }
-    if !first_answer.status.success() {
+    if first_answer.status.code() != Some(row.status) {
         return Err(io::Error::other(format!(
-            "the programs refuse the input: {}",
+            "the programs end with another status: {}",
             row.name
         )));
     }
@@ -386,7 +457,7 @@ fn compare(rows: &[Row], contenders: [&Contender; 2]) -> io::Result<()> {
 
 /// Says how the program is called.
 fn misuse() -> ExitCode {
-    eprintln!("usage: compare dvg|generator PROVED PLAIN FOLDER");
+    eprintln!("usage: compare dvg|parts PROVED PLAIN FOLDER");
     ExitCode::from(64)
 }
 
@@ -397,7 +468,7 @@ fn main() -> ExitCode {
     };
     let rows = match rows.as_str() {
         "dvg" => DVG_ROWS,
-        "generator" => GENERATOR_ROWS,
+        "parts" => PART_ROWS,
         _ => return misuse(),
     };
     let folder = Path::new(folder);

@@ -3,6 +3,11 @@
 //! It has the same limits, texts and statuses. Only where standard input or standard output was closed by the
 //! caller do the two differ: Rust's runtime opens /dev/null in its place.
 
+mod plain_frames;
+mod plain_texts;
+
+use plain_frames::check;
+use plain_texts::{MOST_TEXT_BYTES, TextFault, read_draft};
 use std::fmt;
 use std::fs::File;
 use std::io::{self, BufWriter, Read, Write};
@@ -30,6 +35,8 @@ enum Fault {
     OddLength,
     Cut(usize),
     RomSize,
+    Syntax(usize),
+    Full(usize),
     Reader,
     Writer,
 }
@@ -38,8 +45,8 @@ impl Fault {
     /// The exit status: 1 for a fault of the input, 2 for a failing device.
     fn status(&self) -> u8 {
         match self {
-            Fault::TooLong | Fault::OddLength | Fault::Cut(_) | Fault::RomSize => 1,
             Fault::Reader | Fault::Writer => 2,
+            _ => 1,
         }
     }
 }
@@ -51,6 +58,8 @@ impl fmt::Display for Fault {
             Fault::OddLength => write!(f, "odd length"),
             Fault::Cut(place) => write!(f, "cut at {place:03X}"),
             Fault::RomSize => write!(f, "rom size"),
+            Fault::Syntax(line) => write!(f, "syntax at line {line}"),
+            Fault::Full(line) => write!(f, "full at line {line}"),
             Fault::Reader => write!(f, "read failed"),
             Fault::Writer => write!(f, "write failed"),
         }
@@ -286,6 +295,34 @@ fn rom() -> Result<(), Fault> {
     writer.flush().map_err(|_| Fault::Writer)
 }
 
+/// Checks the draft that standard input holds as text, and writes what is said of it on standard output.
+fn check_text() -> Result<ExitCode, Fault> {
+    let mut text = Vec::new();
+    let input = io::stdin()
+        .as_fd()
+        .try_clone_to_owned()
+        .map_err(|_| Fault::Reader)?;
+    File::from(input)
+        .take(MOST_TEXT_BYTES as u64 + 1)
+        .read_to_end(&mut text)
+        .map_err(|_| Fault::Reader)?;
+    let (ops, rom) = read_draft(&text).map_err(|fault| match fault {
+        TextFault::TooLong => Fault::TooLong,
+        TextFault::Syntax(line) => Fault::Syntax(line),
+        TextFault::Full(line) => Fault::Full(line),
+    })?;
+    let mut writer = output()?;
+    let (line, status) = match check(&ops, &rom) {
+        Ok(frame) => (format!("ok {} words\n", frame.words), ExitCode::SUCCESS),
+        Err(fault) => (format!("fault {fault}\n"), ExitCode::from(1)),
+    };
+    writer
+        .write_all(line.as_bytes())
+        .and_then(|()| writer.flush())
+        .map_err(|_| Fault::Writer)?;
+    Ok(status)
+}
+
 /// Writes a line on standard error. The status is the same where it can't be written, and `eprintln!` would panic.
 fn complain(line: fmt::Arguments) {
     let _ = writeln!(io::stderr(), "{line}");
@@ -294,15 +331,17 @@ fn complain(line: fmt::Arguments) {
 fn main() -> ExitCode {
     let words: Vec<_> = std::env::args_os().skip(1).collect();
     let done = if words == ["list"] {
-        list()
+        list().map(|()| ExitCode::SUCCESS)
     } else if words == ["rom"] {
-        rom()
+        rom().map(|()| ExitCode::SUCCESS)
+    } else if words == ["check"] {
+        check_text()
     } else {
-        complain(format_args!("usage: dvg list|rom"));
+        complain(format_args!("usage: dvg list|rom|check"));
         return ExitCode::from(MISUSE);
     };
     match done {
-        Ok(()) => ExitCode::SUCCESS,
+        Ok(status) => status,
         Err(fault) => {
             complain(format_args!("dvg: {fault}"));
             ExitCode::from(fault.status())

@@ -1,71 +1,38 @@
-//! Runs a looping display list on the generator, so that its speed can be measured: see bench/.
+//! Runs one part of the pack many times, so that its speed can be measured: see bench/.
 #![tactic(auto)]
 
-use dvg_code::OutOfMemory;
-use dvg_gen::{Generator, Stroke, Taken};
-use std::alloc::Global;
-use std::io;
+mod checking;
+mod generating;
 
-/// How many steps are made: of each 15, one start and 14 words taken, so 1,000,000 words in all.
-const STEPS: u32 = 1_071_429;
+use checking::check_often;
+use generating::draw;
+use std::{env, io};
 
-/// The display list, from word zero on: LABS, a vector, a call, a blank move, a short vector and HALT, and
-/// at 010 a subroutine of two blank moves.
-const LIST: [u16; 21] = [
-    0xA190, 0x0200, 0x9064, 0x7464, 0xC010, 0x9064, 0x0064, 0xFE37, 0xB000, 0, 0, 0, 0, 0, 0, 0,
-    0x5010, 0x0410, 0x5410, 0x0010, 0xD000,
-];
-
-/// What was drawn.
-#[derive(Clone, Copy, Debug, PartialEq, Eq)]
-struct Totals {
-    runs: u32,
-    strokes: u32,
-    /// The sum of the strokes' ends along x, modulo 2 to the 32.
-    ends: u32,
-}
-
-impl Totals {
-    /// With the strokes of one run more.
-    fn with_run(self, strokes: &[Stroke]) -> Totals {
-        let mut totals = self;
-        totals.runs = totals.runs.wrapping_add(1);
-        for stroke in strokes {
-            totals.strokes = totals.strokes.wrapping_add(1);
-            totals.ends = totals.ends.wrapping_add(stroke.x1);
-        }
-        totals
-    }
-}
-
-/// Takes the words of the list, and starts again after each run.
-fn draw(alloc: Global) -> Result<Totals, OutOfMemory> {
-    let mut generator = Generator::new(alloc);
-    let mut totals = Totals {
-        runs: 0,
-        strokes: 0,
-        ends: 0,
-    };
-    for _ in 0..STEPS {
-        match generator.wants() {
-            None => generator.start(),
-            Some(address) => {
-                let word = LIST.get(usize::from(address)).copied();
-                if let Taken::Done(strokes) = generator.take(word)? {
-                    totals = totals.with_run(strokes.as_slice());
-                }
-            }
-        }
-    }
-    Ok(totals)
-}
-
-fn main(rt: HostRuntime) -> io::Result<()> {
+/// Runs the generator.
+fn run_generator(rt: &HostRuntime) -> io::Result<()> {
     match draw(rt.alloc()) {
         Ok(totals) => println!(rt;
             "{} runs, {} strokes, {}",
             totals.runs, totals.strokes, totals.ends
         ),
         Err(_) => eprintln!(rt; "out of memory"),
+    }
+}
+
+/// Runs the check, over a ROM of which so many words are reached.
+fn run_check(rt: &HostRuntime, words: usize) -> io::Result<()> {
+    match check_often(rt.alloc(), words) {
+        Some((passed, laid)) => println!(rt; "{passed} passed, {laid} words"),
+        None => eprintln!(rt; "out of memory"),
+    }
+}
+
+fn main(rt: HostRuntime) -> io::Result<()> {
+    let words: Vec<String> = env::args(&rt)?.collect(rt.alloc())?;
+    match words.get(1).map(|word| word.as_str()) {
+        Some("generator") => run_generator(&rt),
+        Some("check") => run_check(&rt, 1024),
+        Some("check-half") => run_check(&rt, 512),
+        _ => eprintln!(rt; "usage: dvg_bench generator|check|check-half"),
     }
 }

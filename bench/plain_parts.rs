@@ -1,5 +1,10 @@
-//! The plain Rust twin of the proved program `dvg_bench`: a generator that is handed one word a call, written for
-//! speed and clarity with no proof, and the same looping display list. It writes the same line.
+//! The plain Rust twin of the proved program `dvg_bench`, with the same words and lines: a generator that is handed
+//! one word a call with a looping display list, and the check of a draft, written for speed and clarity with no proof.
+
+mod plain_frames;
+
+use plain_frames::{Instr, Op, Rom, check};
+use std::hint::black_box;
 
 /// How many steps are made: of each 15, one start and 14 words taken, so 1,000,000 words in all.
 const STEPS: u32 = 1_071_429;
@@ -163,7 +168,8 @@ impl Generator {
     }
 }
 
-fn main() {
+/// Takes the words of the list, and starts again after each run.
+fn run_generator() {
     let mut generator = Generator::new();
     let (mut runs, mut strokes, mut ends) = (0u32, 0u32, 0u32);
     for _ in 0..STEPS {
@@ -182,4 +188,51 @@ fn main() {
         }
     }
     println!("{runs} runs, {strokes} strokes, {ends}");
+}
+
+/// How often the draft is checked.
+const CHECKS: u32 = 200;
+
+/// The operations: behind the LABS, the ROM's first word is jumped to from each depth, 0 to 4.
+const NESTED: [Op; 10] = [
+    Op::Draw(Instr::Labs {
+        x: 0,
+        y: 0,
+        scale: 0,
+    }),
+    Op::Call(3),
+    Op::JumpRom(0x800),
+    Op::Call(5),
+    Op::JumpRom(0x800),
+    Op::Call(7),
+    Op::JumpRom(0x800),
+    Op::Call(9),
+    Op::JumpRom(0x800),
+    Op::JumpRom(0x800),
+];
+
+/// Checks the draft over a ROM of blank SVECs with a HALT as word number `words - 1`.
+fn run_check(words: usize) {
+    let mut rom: Rom = [0xF000; 1024];
+    rom[words - 1] = 0xB000;
+    let (mut passed, mut laid) = (0u32, 0u32);
+    for _ in 0..CHECKS {
+        // Neither the draft nor the ROM is known to the compiler, so that no check is made only once.
+        let (ops, rom) = (black_box(&NESTED), black_box(&rom));
+        if let Ok(frame) = check(ops, rom) {
+            passed = passed.wrapping_add(1);
+            laid = laid.wrapping_add(u32::from(frame.words));
+        }
+    }
+    println!("{passed} passed, {laid} words");
+}
+
+fn main() {
+    let words: Vec<String> = std::env::args().collect();
+    match words.get(1).map(String::as_str) {
+        Some("generator") => run_generator(),
+        Some("check") => run_check(1024),
+        Some("check-half") => run_check(512),
+        _ => eprintln!("usage: plain_parts generator|check|check-half"),
+    }
 }
