@@ -49,6 +49,7 @@ const PART_ROWS: &[Row] = &[
         &["check-half"],
         Vec::new,
     ),
+    row("driver, 1,000,000 ticks", &["driver"], Vec::new),
 ];
 
 /// How long all rows together are timed; each gets the same part.

@@ -31,7 +31,7 @@ pub enum Op {
 }
 
 impl Op {
-    fn words(self) -> usize {
+    pub fn words(self) -> usize {
         match self {
             Op::Draw(Instr::Vctr { .. } | Instr::Labs { .. }) => 2,
             _ => 1,

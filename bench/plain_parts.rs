@@ -1,9 +1,15 @@
 //! The plain Rust twin of the proved program `dvg_bench`, with the same words and lines: a generator that is handed
 //! one word a call with a looping display list, and the check of a draft, written for speed and clarity with no proof.
 
+mod plain_driver;
 mod plain_frames;
+mod plain_generator;
+mod plain_world;
 
+use plain_driver::{Action, Driver};
 use plain_frames::{Instr, Op, Rom, check};
+use plain_generator::{Generator, Taken};
+use plain_world::{Entry, Event, run};
 use std::hint::black_box;
 
 /// How many steps are made: of each 15, one start and 14 words taken, so 1,000,000 words in all.
@@ -14,159 +20,6 @@ const LIST: [u16; 21] = [
     0xA190, 0x0200, 0x9064, 0x7464, 0xC010, 0x9064, 0x0064, 0xFE37, 0xB000, 0, 0, 0, 0, 0, 0, 0,
     0x5010, 0x0410, 0x5410, 0x0010, 0xD000,
 ];
-
-#[derive(Clone, Copy)]
-struct Beam {
-    x: u32,
-    y: u32,
-    scale: u8,
-}
-
-#[allow(dead_code)]
-struct Stroke {
-    x0: u32,
-    y0: u32,
-    x1: u32,
-    y1: u32,
-    z: u8,
-}
-
-enum Taken {
-    Word,
-    Done(Vec<Stroke>),
-    Broke,
-}
-
-struct Generator {
-    place: u16,
-    held: Option<u16>,
-    stack: [u16; 4],
-    saved: usize,
-    beam: Beam,
-    strokes: Vec<Stroke>,
-    open: bool,
-}
-
-/// A number by its sign bit and its magnitude.
-fn signed(sign: u16, magnitude: u16) -> i32 {
-    let magnitude = i32::from(magnitude);
-    if sign == 0 { magnitude } else { -magnitude }
-}
-
-impl Generator {
-    fn new() -> Generator {
-        Generator {
-            place: 0,
-            held: None,
-            stack: [0; 4],
-            saved: 0,
-            beam: Beam {
-                x: 0,
-                y: 0,
-                scale: 0,
-            },
-            strokes: Vec::new(),
-            open: false,
-        }
-    }
-
-    fn start(&mut self) {
-        self.strokes.clear();
-        self.place = 0;
-        self.held = None;
-        self.saved = 0;
-        self.open = true;
-    }
-
-    fn wants(&self) -> Option<u16> {
-        if !self.open {
-            return None;
-        }
-        Some(match self.held {
-            None => self.place,
-            Some(_) => (self.place + 1) % 4096,
-        })
-    }
-
-    fn vector(&mut self, local: u8, dx: i32, dy: i32, unit: i64, z: u8) {
-        let effective = (self.beam.scale + local) % 16;
-        let unit = if effective <= 9 { unit << effective } else { 0 };
-        let (x0, y0) = (self.beam.x, self.beam.y);
-        self.beam.x = (i64::from(x0) + i64::from(dx) * unit).rem_euclid(2_097_152) as u32;
-        self.beam.y = (i64::from(y0) + i64::from(dy) * unit).rem_euclid(2_097_152) as u32;
-        if z != 0 {
-            let (x1, y1) = (self.beam.x, self.beam.y);
-            self.strokes.push(Stroke { x0, y0, x1, y1, z });
-        }
-    }
-
-    fn go_on(&mut self, place: u16) -> Taken {
-        self.place = place % 4096;
-        Taken::Word
-    }
-
-    fn broke(&mut self) -> Taken {
-        self.open = false;
-        Taken::Broke
-    }
-
-    fn take_two(&mut self, first: u16, second: u16) -> Taken {
-        if first < 0xA000 {
-            let dy = signed(first >> 10 & 1, first & 0x3FF);
-            let dx = signed(second >> 10 & 1, second & 0x3FF);
-            self.vector((first >> 12) as u8, dx, dy, 1, (second >> 12) as u8);
-        } else {
-            self.beam = Beam {
-                x: 512 * u32::from(second & 0xFFF),
-                y: 512 * u32::from(first & 0xFFF),
-                scale: (second >> 12) as u8,
-            };
-        }
-        self.go_on(self.place + 2)
-    }
-
-    fn take_one(&mut self, word: u16) -> Taken {
-        match word >> 12 {
-            0xB => {
-                self.open = false;
-                Taken::Done(std::mem::take(&mut self.strokes))
-            }
-            0xC if self.saved == self.stack.len() => self.broke(),
-            0xC => {
-                self.stack[self.saved] = (self.place + 1) % 4096;
-                self.saved += 1;
-                self.go_on(word & 0xFFF)
-            }
-            0xD if self.saved == 0 => self.broke(),
-            0xD => {
-                self.saved -= 1;
-                self.go_on(self.stack[self.saved])
-            }
-            0xE => self.go_on(word & 0xFFF),
-            _ => {
-                let local = 2 + 2 * (word >> 3 & 1) + (word >> 11 & 1);
-                let dy = signed(word >> 10 & 1, word >> 8 & 3);
-                let dx = signed(word >> 2 & 1, word & 3);
-                self.vector(local as u8, dx, dy, 256, (word >> 4 & 0xF) as u8);
-                self.go_on(self.place + 1)
-            }
-        }
-    }
-
-    fn take(&mut self, word: Option<u16>) -> Taken {
-        let Some(word) = word else {
-            return self.broke();
-        };
-        match self.held.take() {
-            Some(first) => self.take_two(first, word),
-            None if word < 0xB000 => {
-                self.held = Some(word);
-                Taken::Word
-            }
-            None => self.take_one(word),
-        }
-    }
-}
 
 /// Takes the words of the list, and starts again after each run.
 fn run_generator() {
@@ -227,12 +80,149 @@ fn run_check(words: usize) {
     println!("{passed} passed, {laid} words");
 }
 
+/// How often the driver ticks.
+const TICKS: u32 = 1_000_000;
+
+/// The operations of a frame of 511 words: a LABS, then calls, vectors and short vectors by turns, and HALT before a return.
+fn full_frame() -> Vec<Op> {
+    let mut ops = vec![Op::Draw(Instr::Labs {
+        x: 512,
+        y: 400,
+        scale: 3,
+    })];
+    for i in 0..380 {
+        ops.push(match i % 3 {
+            0 => Op::Call(382),
+            1 => Op::Draw(Instr::Vctr {
+                scale: 5,
+                dx: 100,
+                dy: -100,
+                z: 7,
+            }),
+            _ => Op::Draw(Instr::Svec {
+                scale: 3,
+                dx: -3,
+                dy: -2,
+                z: 3,
+            }),
+        });
+    }
+    ops.push(Op::Halt);
+    ops.push(Op::Return);
+    ops
+}
+
+/// Ticks, and offers the frame again wherever the driver is idle. The flag always shows halted.
+fn run_ticks() {
+    let ops = full_frame();
+    let rom: Rom = [0xD000; 1024];
+    let mut driver = Driver::new();
+    let (mut frames, mut writes, mut sum) = (0u32, 0u32, 0u32);
+    for _ in 0..TICKS {
+        match driver.tick(true, 0xE0) {
+            Action::Wrote(address, byte) => {
+                writes = writes.wrapping_add(1);
+                sum = sum.wrapping_add(u32::from(address) * u32::from(byte));
+            }
+            Action::Idle => {
+                if let Ok(frame) = check(black_box(&ops), &rom)
+                    && driver.offer(frame)
+                {
+                    frames = frames.wrapping_add(1);
+                }
+            }
+            Action::Peek | Action::Read(_) | Action::Sent => {}
+        }
+    }
+    println!("{frames} frames, {writes} writes, {sum}");
+}
+
+/// A small linear congruential generator (Knuth's MMIX constants), of which the high bits are used.
+struct Random(u64);
+
+impl Random {
+    /// A number below `limit`.
+    fn below(&mut self, limit: u64) -> u64 {
+        self.0 = self
+            .0
+            .wrapping_mul(6364136223846793005)
+            .wrapping_add(1442695040888963407);
+        (self.0 >> 33) % limit
+    }
+}
+
+/// How many events there are.
+const EVENTS: usize = 65_536;
+
+/// A draft of one, two or three short vectors.
+fn small_draft(vectors: u64) -> Vec<Op> {
+    let mut ops = vec![Op::Draw(Instr::Labs {
+        x: 512,
+        y: 400,
+        scale: 3,
+    })];
+    for _ in 0..vectors {
+        ops.push(Op::Draw(Instr::Svec {
+            scale: 3,
+            dx: -3,
+            dy: -2,
+            z: 3,
+        }));
+    }
+    ops.push(Op::Halt);
+    ops
+}
+
+/// Mixed events: most are ticks and fetches.
+fn mixed_events() -> Vec<Event> {
+    let mut random = Random(1979);
+    let mut events = Vec::new();
+    for _ in 0..EVENTS {
+        events.push(match random.below(64) {
+            0 => Event::Offer(Box::new(small_draft(1 + random.below(3)))),
+            1 => Event::Redraw,
+            2..=41 => Event::Tick,
+            42..=44 => Event::Strobe,
+            45..=61 => Event::Fetch,
+            62 => Event::ResetGen,
+            _ if random.below(16) == 0 => Event::ResetAll(Box::new([0xFF; 2048])),
+            _ => Event::ResetCpu,
+        });
+    }
+    events
+}
+
+/// How often the events are run.
+const RUNS: u32 = 10;
+
+/// Runs the events from a RAM of zeros.
+fn run_events() {
+    let rom: Rom = [0xD000; 1024];
+    let events = mixed_events();
+    let (mut pictures, mut strokes, mut writes) = (0u32, 0u32, 0u32);
+    for _ in 0..RUNS {
+        for entry in &run(&rom, [0; 2048], black_box(&events)) {
+            match entry {
+                Entry::Done(_, _, drawn) => {
+                    pictures = pictures.wrapping_add(1);
+                    strokes = strokes.wrapping_add(drawn.len() as u32);
+                }
+                Entry::Acted(Action::Wrote(_, _)) => writes = writes.wrapping_add(1),
+                _ => {}
+            }
+        }
+    }
+    println!("{pictures} pictures, {strokes} strokes, {writes} writes");
+}
+
 fn main() {
     let words: Vec<String> = std::env::args().collect();
     match words.get(1).map(String::as_str) {
         Some("generator") => run_generator(),
         Some("check") => run_check(1024),
         Some("check-half") => run_check(512),
-        _ => eprintln!("usage: plain_parts generator|check|check-half"),
+        Some("driver") => run_ticks(),
+        Some("world") => run_events(),
+        _ => eprintln!("usage: plain_parts generator|check|check-half|driver|world"),
     }
 }

@@ -1,5 +1,5 @@
 //! The check of a draft that comes to many words of the ROM at every depth.
-use dvg_code::{Code, Instr};
+use crate::drafts::{labs, put};
 use dvg_frame::{Draft, Op, OpKind, check};
 use dvg_mem::{MEMORY_BYTES, Rom};
 use std::alloc::Global;
@@ -32,14 +32,9 @@ fn bytes(words: usize) -> [u8; MEMORY_BYTES] {
 /// The draft.
 fn nested() -> Option<Draft> {
     let mut draft = Draft::new();
-    let labs = Code::new(Instr::Labs {
-        x: 0,
-        y: 0,
-        scale: 0,
-    })?;
-    draft.push(Op::new(OpKind::Draw(labs))?).ok()?;
+    put(&mut draft, labs(0, 0, 0)?)?;
     for kind in NESTED {
-        draft.push(Op::new(kind)?).ok()?;
+        put(&mut draft, Op::new(kind)?)?;
     }
     Some(draft)
 }

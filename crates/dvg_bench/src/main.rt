@@ -2,11 +2,14 @@
 #![tactic(auto)]
 
 mod checking;
+mod drafts;
 mod generating;
+mod ticking;
 
 use checking::check_often;
 use generating::draw;
 use std::{env, io};
+use ticking::tick_often;
 
 /// Runs the generator.
 fn run_generator(rt: &HostRuntime) -> io::Result<()> {
@@ -27,12 +30,24 @@ fn run_check(rt: &HostRuntime, words: usize) -> io::Result<()> {
     }
 }
 
+/// Runs the driver.
+fn run_driver(rt: &HostRuntime) -> io::Result<()> {
+    match tick_often(rt.alloc()) {
+        Some(ticked) => println!(rt;
+            "{} frames, {} writes, {}",
+            ticked.frames, ticked.writes, ticked.sum
+        ),
+        None => eprintln!(rt; "out of memory"),
+    }
+}
+
 fn main(rt: HostRuntime) -> io::Result<()> {
     let words: Vec<String> = env::args(&rt)?.collect(rt.alloc())?;
     match words.get(1).map(|word| word.as_str()) {
         Some("generator") => run_generator(&rt),
         Some("check") => run_check(&rt, 1024),
         Some("check-half") => run_check(&rt, 512),
-        _ => eprintln!(rt; "usage: dvg_bench generator|check|check-half"),
+        Some("driver") => run_driver(&rt),
+        _ => eprintln!(rt; "usage: dvg_bench generator|check|check-half|driver"),
     }
 }

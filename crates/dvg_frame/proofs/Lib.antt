@@ -6,3 +6,4 @@ pub mod OneFault
 pub mod Judged
 pub mod Marks
 pub mod Swept
+pub mod Counts

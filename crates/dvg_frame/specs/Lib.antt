@@ -9,6 +9,8 @@ pub mod Picture
 pub mod Laws
 -- What a cursor keeps.
 pub mod Cursors
+-- What a draft keeps.
+pub mod Counting
 -- What only the contracts of the check's own functions cite.
 pub mod Firsts
 pub mod Pairs

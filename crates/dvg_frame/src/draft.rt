@@ -1,6 +1,7 @@
 //! Drafts.
 ghost use Rattle.std.specs.Prelude.{◌≡◌, ◌+◌, ◌<◌, ◌≤◌, ◌↔◌, List, [], ◌∷◌, ◌++◌, length, IfOk, IsOk, IsTrue, OnErr, OnOk, Some, slice_get, take};
 ghost use Rattle.dvg_frame.specs.Layout.{op_words, size};
+ghost use Rattle.dvg_frame.specs.Counting.{IsCounted};
 ghost use Rattle.dvg_frame.specs.Ops.{IsDraft, IsOp};
 ghost use Rattle.dvg_frame.specs.declared.op.OpKind.{OpKind};
 
@@ -17,9 +18,16 @@ pub(crate) const MAX_OPS: usize = 511;
 pub struct DraftFull;
 
 /// A list of at most 511 operations, numbered from 0.
+///
+/// It keeps a table of how many words stand before each operation, so that the place of an operation is
+/// found in constant time.
 #[derive(Drop)]
 pub struct Draft {
     ops: ArrayVec<Op, MAX_OPS>,
+    /// How many words the operations before each one have.
+    words_before: ArrayVec<u16, MAX_OPS>,
+    /// How many words all operations have.
+    words: u16,
 }
 
 /// Contracts see the list of the operations.
@@ -28,7 +36,7 @@ impl Model for Draft {
 
     ghost view = { λ draft. draft.ops.items };
 
-    ghost invariant = { λ draft. IsDraft draft.ops.items };
+    ghost invariant = { λ draft. IsCounted draft.ops.items draft.words_before.items draft.words };
 }
 
 impl Draft {
@@ -38,6 +46,8 @@ impl Draft {
     {
         Draft {
             ops: ArrayVec::new(),
+            words_before: ArrayVec::new(),
+            words: 0,
         }
     }
 
@@ -69,6 +79,8 @@ impl Draft {
         }
         let number = self.ops.len() as u16;
         self.ops.push(op);
+        self.words_before.push(self.words);
+        self.words += words_of(op.kind());
         Ok(number)
     }
 
@@ -85,10 +97,16 @@ impl Draft {
         ensures { result ≡ self.now }
     {
         let mut ops = ArrayVec::new();
-        for op in self.ops.as_slice() {
-            ops.push(*op);
+        ops.try_extend_from_slice(self.ops.as_slice()).unwrap();
+        let mut words_before = ArrayVec::new();
+        words_before
+            .try_extend_from_slice(self.words_before.as_slice())
+            .unwrap();
+        Draft {
+            ops,
+            words_before,
+            words: self.words,
         }
-        Draft { ops }
     }
 
     // How many words the operations before this number have.
@@ -97,11 +115,10 @@ impl Draft {
         ensures value { result ≡ size (take i self.now) }
         ensures bound { result ≤ 1022 }
     {
-        let mut words = 0;
-        for op in &self.ops.as_slice()[..i] {
-            words += words_of(op.kind());
+        match self.words_before.get(i) {
+            Some(words) => *words,
+            None => self.words,
         }
-        words
     }
 }
 

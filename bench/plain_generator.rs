@@ -1,0 +1,176 @@
+//! The generator in plain Rust, for the plain twins.
+
+/// Where the beam is, and the global scale.
+#[derive(Clone, Copy)]
+struct Beam {
+    x: u32,
+    y: u32,
+    scale: u8,
+}
+
+/// A line that was drawn.
+#[derive(Clone, Copy)]
+#[allow(dead_code)]
+pub struct Stroke {
+    pub x0: u32,
+    pub y0: u32,
+    pub x1: u32,
+    pub y1: u32,
+    pub z: u8,
+}
+
+/// Why a run broke.
+#[derive(Clone, Copy)]
+#[allow(dead_code)]
+pub enum GenFault {
+    StackOver,
+    StackUnder,
+    Hole,
+}
+
+/// What a word led to.
+#[allow(dead_code)]
+pub enum Taken {
+    Word,
+    Done(Vec<Stroke>),
+    Broke(GenFault),
+}
+
+/// A generator that is handed one word a call.
+pub struct Generator {
+    place: u16,
+    held: Option<u16>,
+    stack: [u16; 4],
+    saved: usize,
+    beam: Beam,
+    strokes: Vec<Stroke>,
+    open: bool,
+}
+
+/// A number by its sign bit and its magnitude.
+fn signed(sign: u16, magnitude: u16) -> i32 {
+    let magnitude = i32::from(magnitude);
+    if sign == 0 { magnitude } else { -magnitude }
+}
+
+impl Generator {
+    pub fn new() -> Generator {
+        Generator {
+            place: 0,
+            held: None,
+            stack: [0; 4],
+            saved: 0,
+            beam: Beam {
+                x: 0,
+                y: 0,
+                scale: 0,
+            },
+            strokes: Vec::new(),
+            open: false,
+        }
+    }
+
+    /// Halts, and drops the strokes of an open run.
+    #[allow(dead_code)]
+    pub fn reset(&mut self) {
+        self.strokes.clear();
+        self.open = false;
+    }
+
+    pub fn start(&mut self) {
+        self.strokes.clear();
+        self.place = 0;
+        self.held = None;
+        self.saved = 0;
+        self.open = true;
+    }
+
+    pub fn wants(&self) -> Option<u16> {
+        if !self.open {
+            return None;
+        }
+        Some(match self.held {
+            None => self.place,
+            Some(_) => (self.place + 1) % 4096,
+        })
+    }
+
+    fn vector(&mut self, local: u8, dx: i32, dy: i32, unit: i64, z: u8) {
+        let effective = (self.beam.scale + local) % 16;
+        let unit = if effective <= 9 { unit << effective } else { 0 };
+        let (x0, y0) = (self.beam.x, self.beam.y);
+        self.beam.x = (i64::from(x0) + i64::from(dx) * unit).rem_euclid(2_097_152) as u32;
+        self.beam.y = (i64::from(y0) + i64::from(dy) * unit).rem_euclid(2_097_152) as u32;
+        if z != 0 {
+            let (x1, y1) = (self.beam.x, self.beam.y);
+            self.strokes.push(Stroke { x0, y0, x1, y1, z });
+        }
+    }
+
+    fn go_on(&mut self, place: u16) -> Taken {
+        self.place = place % 4096;
+        Taken::Word
+    }
+
+    fn broke(&mut self, fault: GenFault) -> Taken {
+        self.open = false;
+        Taken::Broke(fault)
+    }
+
+    fn take_two(&mut self, first: u16, second: u16) -> Taken {
+        if first < 0xA000 {
+            let dy = signed(first >> 10 & 1, first & 0x3FF);
+            let dx = signed(second >> 10 & 1, second & 0x3FF);
+            self.vector((first >> 12) as u8, dx, dy, 1, (second >> 12) as u8);
+        } else {
+            self.beam = Beam {
+                x: 512 * u32::from(second & 0xFFF),
+                y: 512 * u32::from(first & 0xFFF),
+                scale: (second >> 12) as u8,
+            };
+        }
+        self.go_on(self.place + 2)
+    }
+
+    fn take_one(&mut self, word: u16) -> Taken {
+        match word >> 12 {
+            0xB => {
+                self.open = false;
+                Taken::Done(std::mem::take(&mut self.strokes))
+            }
+            0xC if self.saved == self.stack.len() => self.broke(GenFault::StackOver),
+            0xC => {
+                self.stack[self.saved] = (self.place + 1) % 4096;
+                self.saved += 1;
+                self.go_on(word & 0xFFF)
+            }
+            0xD if self.saved == 0 => self.broke(GenFault::StackUnder),
+            0xD => {
+                self.saved -= 1;
+                self.go_on(self.stack[self.saved])
+            }
+            0xE => self.go_on(word & 0xFFF),
+            _ => {
+                let local = 2 + 2 * (word >> 3 & 1) + (word >> 11 & 1);
+                let dy = signed(word >> 10 & 1, word >> 8 & 3);
+                let dx = signed(word >> 2 & 1, word & 3);
+                self.vector(local as u8, dx, dy, 256, (word >> 4 & 0xF) as u8);
+                self.go_on(self.place + 1)
+            }
+        }
+    }
+
+    pub fn take(&mut self, word: Option<u16>) -> Taken {
+        let Some(word) = word else {
+            return self.broke(GenFault::Hole);
+        };
+        match self.held.take() {
+            Some(first) => self.take_two(first, word),
+            None if word < 0xB000 => {
+                self.held = Some(word);
+                Taken::Word
+            }
+            None => self.take_one(word),
+        }
+    }
+}

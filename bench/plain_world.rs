@@ -1,0 +1,138 @@
+//! Both ends of the vector RAM in plain Rust, for the plain twins.
+
+use crate::plain_driver::{Action, Driver};
+use crate::plain_frames::{FrameFault, Op, Rom, check};
+use crate::plain_generator::{GenFault, Generator, Stroke, Taken};
+
+/// What can happen.
+pub enum Event {
+    Offer(Box<Vec<Op>>),
+    Redraw,
+    Tick,
+    Strobe,
+    Fetch,
+    ResetGen,
+    ResetCpu,
+    ResetAll(Box<[u8; 2048]>),
+}
+
+/// What an event led to.
+#[allow(dead_code)]
+pub enum Entry {
+    Offered,
+    Refused(FrameFault),
+    Busy,
+    Asked,
+    NothingPublished,
+    Acted(Action),
+    Started,
+    NoStrobe,
+    Fetched(u16, u16),
+    Done(u16, u16, Vec<Stroke>),
+    Broke(u16, GenFault),
+    Still,
+    Cleared,
+}
+
+/// The driver, the generator, and the memory that they share.
+pub struct World<'a> {
+    rom: &'a Rom,
+    ram: [u8; 2048],
+    generator: Generator,
+    driver: Driver,
+    strobed: bool,
+}
+
+impl World<'_> {
+    pub fn new(rom: &Rom, image: [u8; 2048]) -> World<'_> {
+        World {
+            rom,
+            ram: image,
+            generator: Generator::new(),
+            driver: Driver::new(),
+            strobed: false,
+        }
+    }
+
+    fn word(&self, address: u16) -> Option<u16> {
+        let k = usize::from(address);
+        match address {
+            0..0x400 => Some(u16::from_le_bytes([self.ram[2 * k], self.ram[2 * k + 1]])),
+            0x800..0xC00 => Some(self.rom[k - 0x800]),
+            _ => None,
+        }
+    }
+
+    fn tick(&mut self) -> Entry {
+        let halted = self.generator.wants().is_none();
+        let action = self.driver.tick(halted, self.ram[1]);
+        match action {
+            Action::Wrote(address, byte) => self.ram[usize::from(address)] = byte,
+            Action::Sent => self.strobed = true,
+            _ => {}
+        }
+        Entry::Acted(action)
+    }
+
+    fn fetch(&mut self) -> Entry {
+        let Some(address) = self.generator.wants() else {
+            return Entry::Still;
+        };
+        let word = self.word(address);
+        match (self.generator.take(word), word) {
+            (Taken::Broke(fault), _) => Entry::Broke(address, fault),
+            (Taken::Word, word) => Entry::Fetched(address, word.unwrap_or(0)),
+            (Taken::Done(strokes), word) => Entry::Done(address, word.unwrap_or(0), strokes),
+        }
+    }
+
+    pub fn apply(&mut self, event: &Event) -> Entry {
+        match event {
+            Event::Offer(ops) => match check(ops, self.rom) {
+                Err(fault) => Entry::Refused(fault),
+                Ok(frame) => {
+                    if self.driver.offer(frame) {
+                        Entry::Offered
+                    } else {
+                        Entry::Busy
+                    }
+                }
+            },
+            Event::Redraw => match self.driver.redraw() {
+                None => Entry::NothingPublished,
+                Some(true) => Entry::Asked,
+                Some(false) => Entry::Busy,
+            },
+            Event::Tick => self.tick(),
+            Event::Strobe if self.strobed => {
+                self.generator.start();
+                Entry::Started
+            }
+            Event::Strobe => Entry::NoStrobe,
+            Event::Fetch => self.fetch(),
+            Event::ResetGen => {
+                self.generator.reset();
+                Entry::Cleared
+            }
+            Event::ResetCpu => {
+                self.driver = Driver::new();
+                Entry::Cleared
+            }
+            Event::ResetAll(image) => {
+                self.generator.reset();
+                self.driver = Driver::new();
+                self.strobed = false;
+                self.ram = **image;
+                Entry::Cleared
+            }
+        }
+    }
+}
+
+/// The entries of all events.
+pub fn run(rom: &Rom, image: [u8; 2048], events: &[Event]) -> Vec<Entry> {
+    let mut world = World::new(rom, image);
+    let mut entries = Vec::with_capacity(events.len());
+    entries.extend(events.iter().map(|event| world.apply(event)));
+    entries
+}
