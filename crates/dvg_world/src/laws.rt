@@ -1,5 +1,7 @@
 //! Laws of the definitions alone. Each is the contract of a function that does nothing.
+ghost use Rattle.dvg_world.specs.Headline.{NeverTorn};
 ghost use Rattle.dvg_world.specs.Law.{AnyMemory, EndsInTime, OnlyFirst, Undisturbed};
+ghost use Rattle.dvg_world.specs.Legal.{SameLog};
 
 /// The law of undisturbed runs. Let a memory that doesn't change have a checked frame in a half, the jump
 /// to that half in word zero, and the words of the ROM that the frame was checked over. Then no lawful run
@@ -20,4 +22,15 @@ pub fn word_zero_only_first()
 /// most `n`, and one of `n` ended in HALT with the picture's strokes.
 pub fn ends_in_time()
     ensures { EndsInTime }
+{}
+
+/// A list of events has one legal log at most. That it has one is not said here.
+pub fn one_log()
+    ensures { SameLog }
+{}
+
+/// In every legal log no byte is written in the half being drawn. What a reset of the whole system puts
+/// into the RAM is no write; it ends the run.
+pub fn never_torn()
+    ensures { NeverTorn }
 {}
