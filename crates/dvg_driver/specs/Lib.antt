@@ -2,3 +2,6 @@
 pub mod Script
 pub mod Place
 pub mod Stands
+pub mod Laws
+-- What the driver's own model cites.
+pub mod Phases

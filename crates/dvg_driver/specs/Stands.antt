@@ -1,5 +1,5 @@
 -- After which lives a driver stands.
-use Rattle.std.specs.Prelude.{ℕ, Bool, List, [], ◌∷◌, ◌≡◌, Some, nat_eq, if◌then◌else◌}
+use Rattle.std.specs.Prelude.{ℕ, Bool, List, [], ◌∷◌, ◌≡◌, ◌<◌, Some, nat_eq, if◌then◌else◌}
 use Rattle.dvg_mem.specs.declared.half.Half.{Half}
 use Rattle.dvg_mem.specs.Areas.{half_of_high}
 use Rattle.dvg_driver.specs.declared.action.Action.{Action}
@@ -40,3 +40,8 @@ peeked_after action byte1 peeked = peeked
 abbrev pub Tells : Action → Bool → Type 0
 Tells (Read shown) halted = shown ≡ halted
 Tells action halted = Unit {0}
+
+-- a written address is one of the RAM
+abbrev pub IsInRam : Action → Type 0
+IsInRam (Wrote a byte) = a < 0x800
+IsInRam action = Unit {0}

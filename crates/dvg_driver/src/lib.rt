@@ -13,7 +13,12 @@
 #![tactic(auto)]
 
 mod action;
+mod driver;
 mod fault;
+pub mod laws;
+#[cfg(test)]
+mod tests;
 
 pub use action::Action;
+pub use driver::Driver;
 pub use fault::DriverFault;

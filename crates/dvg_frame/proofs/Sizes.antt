@@ -13,7 +13,7 @@ use Rattle.dvg_mem.specs.declared.half.Half.TheVariants.{H0, H1}
 use Rattle.dvg_mem.specs.Areas.{base}
 use Rattle.dvg_frame.specs.declared.op.OpKind.{OpKind}
 use Rattle.dvg_frame.specs.declared.op.OpKind.TheVariants.{Draw, CallRom, JumpRom, Call, Jump, Return, Halt as Stop}
-use Rattle.dvg_frame.specs.Layout.{op_words, size, op_code, laid}
+use Rattle.dvg_frame.specs.Layout.{op_words, size, op_code, laid, laid_ops, IsSpelling}
 use Rattle.dvg_frame.specs.Ops.{IsDraft}
 use Rattle.dvg_frame.specs.Steps.{Closed}
 
@@ -72,6 +72,11 @@ pub base_low : (half : Half) → base half ≤ 0x201
 base_low H0 = omega arith
 base_low H1 = omega arith
 
+-- no half has word zero
+pub base_high : (half : Half) → 1 ≤ base half
+base_high H0 = omega arith
+base_high H1 = omega arith
+
 length-canon : (instr : Instr) → length (canon instr) ≡ word_count instr
 length-canon (Vctr scale dx dy z) = refl
 length-canon (Labs x y scale) = refl
@@ -91,16 +96,12 @@ canon_length half F (Jump j) = refl
 canon_length half F Return = refl
 canon_length half F Stop = refl
 
--- the words of these operations of F
-abbrev words_of_ops : Half → List OpKind → List OpKind → List ℕ
-words_of_ops half F ops = flat_map (λ op. canon (op_code half F op)) ops
-
-words_length : (half : Half) (F ops : List OpKind) → length (words_of_ops half F ops) ≡ size ops
+words_length : (half : Half) (F ops : List OpKind) → length (laid_ops half F ops) ≡ size ops
 words_length half F [] = refl
 words_length half F (op ∷ ops) =
     let first = canon_length half F op in
     let rest = words_length half F ops in
-    let both = length-append (canon (op_code half F op)) (words_of_ops half F ops) in
+    let both = length-append (canon (op_code half F op)) (laid_ops half F ops) in
     omega arith
 
 pub laid_length : (half : Half) (F : List OpKind) → length (laid half F) ≡ size F
@@ -126,23 +127,25 @@ get_back xs ys j n x n_is is =
 
 -- word r of operation i stands behind the words of the operations before it
 word_of_ops : (half : Half) (F ops : List OpKind) (i n r word : ℕ) (op : OpKind) → slice_get ops i ≡ Some op → n ≡ size (take i ops) + r → slice_get (canon (op_code half F op)) r ≡ Some word
-    → slice_get (words_of_ops half F ops) n ≡ Some word
+    → slice_get (laid_ops half F ops) n ≡ Some word
 word_of_ops half F [] i n r word op is n_is word_is = let within = slice_get_within [] i op is in absurd (omega arith)
 word_of_ops half F (x ∷ ops) zero n r word op is n_is word_is =
     let same : x ≡ op = cc in
     let at_r : n ≡ r = omega arith in
-    get_front (canon (op_code half F x)) (words_of_ops half F ops) n word
+    get_front (canon (op_code half F x)) (laid_ops half F ops) n word
     (subst (λ y. slice_get (canon (op_code half F y)) n ≡ Some word) (sym same) (subst (λ k. slice_get (canon (op_code half F op)) k ≡ Some word) (sym at_r) word_is))
 word_of_ops half F (x ∷ ops) (suc i) n r word op is n_is word_is =
     let first = canon_length half F x in
     let rest = word_of_ops half F ops i (size (take i ops) + r) r word op is refl word_is in
-    get_back (canon (op_code half F x)) (words_of_ops half F ops) (size (take i ops) + r) n word (omega arith) rest
+    get_back (canon (op_code half F x)) (laid_ops half F ops) (size (take i ops) + r) n word (omega arith) rest
 
-pub laid_word : (half : Half) (F : List OpKind) (i n before count k : ℕ) (op kind : OpKind) (code : Instr) (words : List ℕ) → slice_get F i ≡ Some op → kind ≡ op → before ≡ size (take i F) → before ≤ n
-    → count ≡ op_words op → n < before + count → code ≡ op_code half F kind → words ≡ canon code → k ≡ n - before
-    → slice_get (laid half F) n ≡ Some (get_or words k 0)
-laid_word half F i n before count k op kind code words is kind_is before_is low count_is high code_is words_is k_is =
-    let words_op : words ≡ canon (op_code half F op) = words_is ∙ ap canon (code_is ∙ ap (op_code half F) kind_is) in
-    let size_op : count ≡ length words = count_is ∙ sym (canon_length half F op) ∙ ap length (sym words_op) in
+pub laid_word : (half : Half) (F : List OpKind) (i n before count k : ℕ) (op : OpKind) (words : List ℕ) → slice_get F i ≡ Some op → before ≡ size (take i F) → before ≤ n → count ≡ op_words op → n < before + count
+    → words ≡ canon (op_code half F op) → k ≡ n - before → slice_get (laid half F) n ≡ Some (get_or words k 0)
+laid_word half F i n before count k op words is before_is low count_is high words_is k_is =
+    let size_op : count ≡ length words = count_is ∙ sym (canon_length half F op) ∙ ap length (sym words_is) in
     let word : slice_get words k ≡ Some (get_or words k 0) = slice_get-get_or words k 0 (omega arith) in
-    word_of_ops half F F i n k (get_or words k 0) op is (omega arith) (subst (λ ws. slice_get ws k ≡ Some (get_or words k 0)) words_op word)
+    word_of_ops half F F i n k (get_or words k 0) op is (omega arith) (subst (λ ws. slice_get ws k ≡ Some (get_or words k 0)) words_is word)
+
+-- the words of an operation are as many as it has
+pub spelling_length : (half : Half) (F : List OpKind) (i count : ℕ) (op : OpKind) (words : List ℕ) → slice_get F i ≡ Some op → IsSpelling half F i words → count ≡ op_words op → length words ≡ count
+spelling_length half F i count op words is spelled count_is = ap length (spelled op is) ∙ canon_length half F op ∙ sym count_is

@@ -1,5 +1,5 @@
 -- The bytes of words, and their addresses.
-use Rattle.std.specs.Prelude.{ℕ, suc, ◌%◌, ◌/◌, List, [], ◌∷◌}
+use Rattle.std.specs.Prelude.{ℕ, suc, ◌%◌, ◌/◌, ◌<◌, ◌≤◌, List, [], ◌∷◌}
 
 -- each word's low byte, and then its high byte
 abbrev pub bytes : List ℕ → List ℕ
@@ -10,3 +10,7 @@ bytes (word ∷ words) = (word % 256) ∷ (word / 256) ∷ bytes words
 abbrev pub addressed : ℕ → List ℕ → List (ℕ × ℕ)
 addressed a [] = []
 addressed a (byte ∷ rest) = (a, byte) ∷ addressed (suc a) rest
+
+-- the item's address is one of the RAM, and none of word zero's
+abbrev pub IsBehindWordZero : ℕ × ℕ → Type 0
+IsBehindWordZero item = (2 ≤ item.0) × (item.0 < 0x800)

@@ -7,6 +7,8 @@ pub mod Faults
 pub mod Frames
 pub mod Picture
 pub mod Laws
+-- What a cursor keeps.
+pub mod Cursors
 -- What only the contracts of the check's own functions cite.
 pub mod Firsts
 pub mod Pairs

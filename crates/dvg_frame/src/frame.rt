@@ -1,5 +1,5 @@
 //! Frames: drafts that were checked.
-ghost use Rattle.std.specs.Prelude.{◌≡◌, ◌*◌, ◌<◌, ◌≤◌, List, Some, length, slice_get};
+ghost use Rattle.std.specs.Prelude.{◌≡◌, ◌*◌, ◌%◌, ◌<◌, ◌≤◌, List, [], ◌∷◌, Some, length, slice_get};
 ghost use Rattle.dvg_code.specs.Ranges.{InRange};
 ghost use Rattle.dvg_code.specs.Spelling.{canon};
 ghost use Rattle.dvg_frame.specs.Bytes.{bytes};
@@ -7,13 +7,14 @@ ghost use Rattle.dvg_frame.specs.Faults.{Begins};
 ghost use Rattle.dvg_frame.specs.Firsts.{NamesNone};
 ghost use Rattle.dvg_frame.specs.Frames.{IsFrame};
 ghost use Rattle.dvg_frame.specs.Layout as layout;
+ghost use Rattle.dvg_frame.specs.Layout.{IsSpelling};
 ghost use Rattle.dvg_frame.specs.Ops.{IsDraft, IsOp};
 ghost use Rattle.dvg_frame.specs.declared.op.OpKind.{OpKind};
 ghost use Rattle.dvg_mem.specs.declared.half.Half.{Half};
 
 use crate::draft::{Draft, words_of};
 use crate::op::OpKind;
-use dvg_code::{Code, Instr, encode};
+use dvg_code::{Code, Instr, Words, encode};
 use dvg_mem::Half;
 use std::marker::Model;
 
@@ -61,12 +62,27 @@ impl Frame {
         requires { k < 2 * layout.size self.now }
         ensures { slice_get (bytes (layout.laid half self.now)) k ≡ Some result }
     {
-        let word = word_at(&self.draft, half, k / 2);
-        if k % 2 == 0 {
-            (word % 256) as u8
-        } else {
-            (word / 256) as u8
-        }
+        byte_of(word_at(&self.draft, half, k / 2), k)
+    }
+
+    // The words of the operation of this number, laid out for a half.
+    pub(crate) fn spelling(&self, half: Half, i: u16) -> Words
+        requires { i < length self.now }
+        ensures words { IsSpelling half self.now i result.items }
+        ensures draft { IsDraft self.now }
+    {
+        spelling(&self.draft, half, usize::from(i))
+    }
+}
+
+// Byte `k` of words, of which this one holds it: the low byte where `k` is even, and else the high byte.
+pub(crate) fn byte_of(word: u16, k: u16) -> u8
+    ensures { slice_get (bytes (word ∷ [])) (k % 2) ≡ Some result }
+{
+    if k % 2 == 0 {
+        (word % 256) as u8
+    } else {
+        (word / 256) as u8
     }
 }
 
@@ -78,15 +94,22 @@ fn word_at(draft: &Draft, half: Half, n: u16) -> u16
 {
     let mut before = 0;
     for i in 0..draft.len() {
-        let op = draft.op(i);
-        let count = words_of(op.kind());
+        let count = words_of(draft.op(i).kind());
         if n < before + count {
-            let code = code_of(draft, half, op.kind());
-            return encode(&code)[usize::from(n - before)];
+            return spelling(draft, half, i)[usize::from(n - before)];
         }
         before += count;
     }
     unreachable!()
+}
+
+// The words of operation i, laid out for a half.
+fn spelling(draft: &Draft, half: Half, i: usize) -> Words
+    requires begins { Begins draft.now }
+    requires within { i < length draft.now }
+    ensures { IsSpelling half draft.now i result.items }
+{
+    encode(&code_of(draft, half, draft.op(i).kind()))
 }
 
 // The instruction of an operation.

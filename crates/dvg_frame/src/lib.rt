@@ -11,6 +11,7 @@
 #![tactic(auto)]
 
 mod checking;
+mod cursor;
 mod draft;
 mod frame;
 mod judging;
@@ -25,6 +26,7 @@ mod way;
 mod worklist;
 
 pub use checking::check;
+pub use cursor::Cursor;
 pub use draft::{Draft, DraftFull};
 pub use frame::Frame;
 pub use op::{Op, OpKind};

@@ -364,3 +364,81 @@ fn bytes_of_each_operation(rt: HostRuntime) -> Result<(), Fail> {
     assert_eq!(rt; bytes(rt.alloc(), &frame, Half::H1)?, laid);
     Ok(())
 }
+
+#[test]
+fn a_cursor_gives_each_byte_with_its_address(rt: HostRuntime) -> Result<(), Fail> {
+    let rom = rom(rt.alloc(), &[])?;
+    let draft = after_labs(&[OpKind::Jump(2), OpKind::Halt])?;
+    let halves: [(Half, [(u16, u8); 8]); 2] = [
+        (
+            Half::H0,
+            [
+                (0x002, 0x00),
+                (0x003, 0xA0),
+                (0x004, 0x00),
+                (0x005, 0x00),
+                (0x006, 0x04),
+                (0x007, 0xE0),
+                (0x008, 0x00),
+                (0x009, 0xB0),
+            ],
+        ),
+        (
+            Half::H1,
+            [
+                (0x402, 0x00),
+                (0x403, 0xA0),
+                (0x404, 0x00),
+                (0x405, 0x00),
+                (0x406, 0x04),
+                (0x407, 0xE2),
+                (0x408, 0x00),
+                (0x409, 0xB0),
+            ],
+        ),
+    ];
+    for (half, items) in halves {
+        let Ok(frame) = check(&draft, &rom) else {
+            return Err("refused".into());
+        };
+        let mut cursor = Cursor::new(frame, half);
+        let mut left = 8;
+        for item in items {
+            assert_eq!(rt; cursor.left(), left);
+            assert_eq!(rt; cursor.next(), Some(item));
+            left -= 1;
+        }
+        assert_eq!(rt; cursor.left(), 0);
+        assert_eq!(rt; cursor.next(), None);
+        assert_eq!(rt; cursor.next(), None);
+    }
+    Ok(())
+}
+
+#[test]
+fn a_cursor_gives_what_the_frame_has(rt: HostRuntime) -> Result<(), Fail> {
+    let rom = rom(rt.alloc(), &[(0x801, 0xB000)])?;
+    let draft = after_labs(&[
+        OpKind::Call(4),
+        OpKind::CallRom(0x800),
+        OpKind::Halt,
+        svec()?,
+        OpKind::Return,
+        OpKind::JumpRom(0x801),
+    ])?;
+    for half in [Half::H0, Half::H1] {
+        let Ok(frame) = check(&draft, &rom) else {
+            return Err("refused".into());
+        };
+        let bytes = bytes(rt.alloc(), &frame, half)?;
+        let mut given = Vec::new(rt.alloc());
+        let mut next = 2 * half.base();
+        for (address, byte) in Cursor::new(frame, half) {
+            assert_eq!(rt; address, next);
+            given.push(byte)?;
+            next = next.wrapping_add(1);
+        }
+        assert_eq!(rt; given, bytes);
+    }
+    Ok(())
+}

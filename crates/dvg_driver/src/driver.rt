@@ -1,0 +1,183 @@
+//! The driver.
+ghost use Rattle.std.specs.Prelude.{◌≡◌, ◌↔◌, ℕ, true, false, List, [], ◌∷◌, IfErr, IsOk, OnErr, OnOk};
+ghost use Rattle.dvg_mem.specs.Areas.{half_of_high, high, other};
+ghost use Rattle.dvg_driver.specs.Place.{Waiting, Writing};
+ghost use Rattle.dvg_driver.specs.Script.{Item, Offered, Asked, Did, IsLife, IsWhole, has_flip, word_zero};
+ghost use Rattle.dvg_driver.specs.Stands.{IsInRam, StandsAfter, Tells, byte1_of, peeked_after};
+
+use crate::action::Action;
+use crate::fault::DriverFault;
+use dvg_frame::{Cursor, Frame};
+use dvg_mem::Half;
+use std::marker::Model;
+
+/// How far the driver is.
+#[derive(Drop)]
+enum Phase {
+    /// It has done nothing since its reset.
+    Start,
+    /// It waits for the first time until the generator is halted.
+    Booting,
+    /// It is idle.
+    Resting,
+    /// It writes a frame into the free half, and then word zero.
+    Writing(Cursor),
+    /// It has written byte 000, and flips next.
+    Flipping,
+    /// It waits until the generator is halted.
+    Waiting,
+    /// It sends the strobe next.
+    Sending,
+}
+
+/// The driver of the vector generator, from one reset to the next and beyond. It keeps one frame at most,
+/// while it writes it.
+#[derive(Drop)]
+pub struct Driver {
+    phase: Phase,
+    /// The current half, once the driver has looked at byte 001.
+    half: Half,
+    /// Whether it has flipped since its reset.
+    flipped: bool,
+}
+
+/// Contracts see how far the driver is in its script, the current half, and whether it has flipped.
+impl Model for Driver {
+    ghost use Rattle.dvg_driver.specs.Stands.{Stage};
+
+    ghost Value = { Stage };
+
+    ghost use Rattle.dvg_driver.specs.Phases.{IsSound, stage_of};
+
+    ghost view = { stage_of };
+
+    ghost invariant = { IsSound };
+}
+
+impl Driver {
+    /// A driver that was just reset.
+    pub fn new() -> Driver
+        ensures { (peeked : ℕ) → StandsAfter result peeked [] }
+    {
+        Driver {
+            phase: Phase::Start,
+            half: Half::H0,
+            flipped: false,
+        }
+    }
+
+    /// Forgets everything, also a frame that is being written.
+    pub fn reset(&mut self)
+        ensures { (peeked : ℕ) → StandsAfter self.new peeked [] }
+    {
+        *self = Driver::new();
+    }
+
+    /// Takes a frame, which the next ticks write into the free half and publish. It is refused exactly
+    /// where the driver isn't idle; the frame is dropped then, and nothing else has changed.
+    pub fn offer(&mut self, frame: Frame) -> Result<(), DriverFault>
+        ensures accepted { (peeked : ℕ) (life : List Item) → StandsAfter self.old peeked life → (IsOk result ↔ IsWhole life) }
+        ensures busy { IfErr result (λ fault. fault ≡ DriverFault.Busy) }
+        ensures stands { (peeked : ℕ) (life : List Item) → StandsAfter self.old peeked life →
+            OnOk result (StandsAfter self.new peeked (Offered (other (half_of_high (byte1_of peeked life))) frame ∷ life)) }
+        ensures refused { OnErr result (self.new ≡ self.old) }
+    {
+        match self.phase {
+            Phase::Resting => {
+                self.phase = Phase::Writing(Cursor::new(frame, self.half.other()));
+                Ok(())
+            }
+            _ => Err(DriverFault::Busy),
+        }
+    }
+
+    /// Asks for the published frame once more. It is refused as `NothingPublished` exactly where the
+    /// driver hasn't flipped since its reset, and else as `Busy` exactly where it isn't idle. Nothing has
+    /// changed then.
+    pub fn redraw(&mut self) -> Result<(), DriverFault>
+        ensures accepted { (peeked : ℕ) (life : List Item) → StandsAfter self.old peeked life →
+            (IsOk result ↔ ((has_flip life ≡ true) × IsWhole life)) }
+        ensures nothing { (peeked : ℕ) (life : List Item) → StandsAfter self.old peeked life →
+            ((result ≡ Err DriverFault.NothingPublished) ↔ (has_flip life ≡ false)) }
+        ensures stands { (peeked : ℕ) (life : List Item) → StandsAfter self.old peeked life →
+            OnOk result (StandsAfter self.new peeked (Asked ∷ life)) }
+        ensures refused { OnErr result (self.new ≡ self.old) }
+    {
+        if !self.flipped {
+            return Err(DriverFault::NothingPublished);
+        }
+        match self.phase {
+            Phase::Resting => {
+                self.phase = Phase::Waiting;
+                Ok(())
+            }
+            _ => Err(DriverFault::Busy),
+        }
+    }
+
+    /// Does the next action of the script. `halted` is the HALT flag, and `byte1` is byte 001 of the RAM;
+    /// what isn't read has no effect. A `Wrote` is for the caller to do, and so is a `Sent`.
+    pub fn tick(&mut self, halted: bool, byte1: u8) -> Action
+        ensures stands { (peeked : ℕ) (life : List Item) → StandsAfter self.old peeked life →
+            StandsAfter self.new (peeked_after result byte1 peeked) (Did result ∷ life) }
+        ensures scripted { (peeked : ℕ) (life : List Item) → StandsAfter self.old peeked life → IsLife (Did result ∷ life) }
+        ensures told { Tells result halted }
+        ensures in_ram { IsInRam result }
+    {
+        self.act(halted, byte1)
+    }
+
+    // Does the next action.
+    fn act(&mut self, halted: bool, byte1: u8) -> Action
+        ensures stands { (peeked : ℕ) (life : List Item) → StandsAfter self.old peeked life →
+            StandsAfter self.new (peeked_after result byte1 peeked) (Did result ∷ life) }
+        ensures told { Tells result halted }
+        ensures in_ram { IsInRam result }
+    {
+        match &mut self.phase {
+            Phase::Start => {
+                self.half = Half::of_high(byte1);
+                self.phase = Phase::Booting;
+                Action::Peek
+            }
+            Phase::Booting => {
+                if halted {
+                    self.phase = Phase::Resting;
+                }
+                Action::Read(halted)
+            }
+            Phase::Resting => Action::Idle,
+            Phase::Writing(cursor) => match cursor.next() {
+                Some((address, byte)) => Action::Wrote(address, byte),
+                None if self.flipped => self.flip(),
+                None => {
+                    self.phase = Phase::Flipping;
+                    Action::Wrote(0, 0x01)
+                }
+            },
+            Phase::Flipping => self.flip(),
+            Phase::Waiting => {
+                if halted {
+                    self.phase = Phase::Sending;
+                }
+                Action::Read(halted)
+            }
+            Phase::Sending => {
+                self.phase = Phase::Resting;
+                Action::Sent
+            }
+        }
+    }
+
+    // Publishes the frame in the free half, which is the current one from now on.
+    fn flip(&mut self) -> Action
+        requires { self.old.place ≡ Writing (word_zero (other self.old.half) false) }
+        ensures action { result ≡ Action.Wrote 1 (high (other self.old.half)) }
+        ensures flipped { self.new ≡ record { place = Waiting false; half = other self.old.half; flipped = true } }
+    {
+        self.half = self.half.other();
+        self.flipped = true;
+        self.phase = Phase::Waiting;
+        Action::Wrote(1, self.half.high())
+    }
+}

@@ -1,0 +1,141 @@
+//! Worked examples: what a driver answers, and what its writes leave in a store.
+use crate::*;
+use dvg_code::{Code, Instr};
+use dvg_frame::{Draft, Frame, Op, OpKind, check};
+use dvg_mem::{Flat, Half, Image, Rom, Store};
+use std::alloc::Global;
+use std::test::Fail;
+
+// The bytes of F1, F2 and F3.
+const F1: [u8; 10] = [0x90, 0xA1, 0x00, 0x02, 0x64, 0x90, 0x64, 0x74, 0x00, 0xB0];
+
+const F2: [u8; 10] = [0x00, 0xA0, 0x00, 0x00, 0x00, 0x90, 0x0A, 0x50, 0x00, 0xB0];
+
+const F3: [u8; 8] = [0x00, 0xA0, 0x00, 0x00, 0x37, 0xFE, 0x00, 0xB0];
+
+// The frame of LABS x y 0, this instruction, and a halt.
+fn frame(alloc: Global, x: u16, y: u16, drawing: Instr) -> Result<Frame, Fail> {
+    let mut draft = Draft::new();
+    for instr in [Instr::Labs { x, y, scale: 0 }, drawing] {
+        let code = Code::new(instr).ok_or("out of range")?;
+        draft.push(Op::new(OpKind::Draw(code)).ok_or("no operation")?)?;
+    }
+    draft.push(Op::new(OpKind::Halt).ok_or("no operation")?)?;
+    let zeros = [0; 2048].to_vec(alloc)?;
+    let rom = Rom::new(alloc, zeros.as_slice()).map_err(|_| "no ROM")?;
+    check(&draft, &rom).map_err(|_| "refused".into())
+}
+
+// LABS 512 400 0, VCTR 9 -100 100 7, HALT.
+fn f1(alloc: Global) -> Result<Frame, Fail> {
+    let (dx, dy) = (-100, 100);
+    frame(
+        alloc,
+        512,
+        400,
+        Instr::Vctr {
+            scale: 9,
+            dx,
+            dy,
+            z: 7,
+        },
+    )
+}
+
+// LABS 0 0 0, VCTR 9 10 0 5, HALT.
+fn f2(alloc: Global) -> Result<Frame, Fail> {
+    let (dx, dy) = (10, 0);
+    frame(
+        alloc,
+        0,
+        0,
+        Instr::Vctr {
+            scale: 9,
+            dx,
+            dy,
+            z: 5,
+        },
+    )
+}
+
+// LABS 0 0 0, SVEC 3 -3 -2 3, HALT.
+fn f3(alloc: Global) -> Result<Frame, Fail> {
+    let (dx, dy) = (-3, -2);
+    frame(
+        alloc,
+        0,
+        0,
+        Instr::Svec {
+            scale: 3,
+            dx,
+            dy,
+            z: 3,
+        },
+    )
+}
+
+// A store whose bytes are all this one.
+fn store(alloc: Global, byte: u8) -> Result<Flat, Fail> {
+    let bytes = [byte; 2048].to_vec(alloc)?;
+    let image = Image::new(alloc, bytes.as_slice()).map_err(|_| "no image")?;
+    Flat::make(alloc, &image).map_err(|_| "no store".into())
+}
+
+// A tick over the store, with its write done.
+fn tick(driver: &mut Driver, store: &mut Flat, halted: bool) -> Action {
+    let action = driver.tick(halted, store.read(1));
+    if let Action::Wrote(address, byte) = action {
+        store.write(address, byte);
+    }
+    action
+}
+
+// Whether the next ticks write these bytes from an address on.
+fn writes(driver: &mut Driver, store: &mut Flat, from: u16, bytes: &[u8]) -> bool {
+    for (address, byte) in (from..0x800).zip(bytes) {
+        if tick(driver, store, false) != Action::Wrote(address, *byte) {
+            return false;
+        }
+    }
+    true
+}
+
+// Whether the store has these bytes from an address on.
+fn holds(store: &Flat, from: u16, bytes: &[u8]) -> bool {
+    for (address, byte) in (from..0x800).zip(bytes) {
+        if address >= 0x800 || store.read(address) != *byte {
+            return false;
+        }
+    }
+    true
+}
+
+// Whether the next ticks find the generator halted, and send the strobe.
+fn strobes(driver: &mut Driver, store: &mut Flat) -> bool {
+    tick(driver, store, true) == Action::Read(true) && tick(driver, store, true) == Action::Sent
+}
+
+#[test]
+fn calls_and_answers(rt: HostRuntime) -> Result<(), Fail> {
+    let alloc = rt.alloc();
+    let mut store = store(alloc, 0xFF)?;
+    let mut driver = Driver::new();
+    assert_eq!(rt; driver.redraw(), Err(DriverFault::NothingPublished));
+    assert_eq!(rt; driver.offer(f1(alloc)?), Err(DriverFault::Busy));
+    assert_eq!(rt; driver.tick(false, 0xFF), Action::Peek);
+    assert_eq!(rt; driver.tick(false, 0xFF), Action::Read(false));
+    assert_eq!(rt; driver.tick(true, 0xFF), Action::Read(true));
+    assert_eq!(rt; driver.tick(true, 0xFF), Action::Idle);
+    assert_eq!(rt; driver.offer(f1(alloc)?), Ok(()));
+    assert!(rt; writes(&mut driver, &mut store, 0x002, &F1));
+    assert_eq!(rt; driver.redraw(), Err(DriverFault::NothingPublished));
+    assert!(rt; writes(&mut driver, &mut store, 0x000, &[0x01, 0xE0]));
+    assert_eq!(rt; driver.redraw(), Err(DriverFault::Busy));
+    assert!(rt; strobes(&mut driver, &mut store));
+    assert_eq!(rt; driver.redraw(), Ok(()));
+    assert!(rt; strobes(&mut driver, &mut store));
+    assert!(rt; holds(&store, 0x000, &[0x01, 0xE0]));
+    assert!(rt; holds(&store, 0x002, &F1));
+    assert!(rt; holds(&store, 0x00C, &[0xFF; 2036]));
+    Ok(())
+}

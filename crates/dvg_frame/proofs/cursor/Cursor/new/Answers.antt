@@ -1,0 +1,16 @@
+use Rattle.std.proofs.Common.{◌*◌, length, ap, arith, ◌∙◌, ◌≡◌, ◌≤◌}
+use Rattle.dvg_mem.specs.Areas.{base}
+use Rattle.dvg_frame.specs.Layout.{laid}
+use Rattle.dvg_frame.proofs.Cursors.{begins-length, in_ram}
+use Rattle.dvg_frame.proofs.Sizes.{base_low}
+use Rattle.dvg_frame.proofs.cursor.Cursor.new.Goals as goal
+
+pub invariant_of-result : goal.invariant_of-result
+invariant_of-result c = record {
+  given = omega arith;
+  left = begins-length _ _ _ _ c.new.ensures (c.len_words-left.ensures.laid c.args.half);
+  in_ram = let low = base_low c.args.half in let few = c.len_words-left.ensures.bound in omega arith;
+}
+
+pub returns-clause-in_ram : goal.returns-clause-in_ram
+returns-clause-in_ram c = in_ram c.args.half c.args.frame c.new.result.items c.base.result c.len_words-left.result c.new.ensures c.base.ensures (c.len_words-left.ensures.laid c.args.half) c.len_words-left.ensures.bound

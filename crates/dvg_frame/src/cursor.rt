@@ -1,0 +1,100 @@
+//! Cursors: the bytes of a frame, one after the other.
+use crate::frame::{Frame, byte_of};
+use dvg_code::Words;
+use dvg_mem::Half;
+use std::iter::FusedIterator;
+use std::marker::Model;
+
+/// An iterator over the bytes of a frame that is laid out for a half, each with its byte address in the
+/// RAM: from the low byte of the half's first word on, in rising order.
+///
+/// A cursor keeps the frame and its place in it. An item takes constant time, but for the first byte of a
+/// call or a jump to an operation: there the words before that operation are counted.
+#[derive(Drop)]
+pub struct Cursor {
+    frame: Frame,
+    half: Half,
+    /// The words at hand: those of the operation before number `op`.
+    words: Words,
+    /// How many bytes of the words at hand were given.
+    given: u16,
+    /// The number of the operation that comes after the words at hand.
+    op: u16,
+    /// The address of the next byte.
+    address: u16,
+    /// How many bytes are still to come.
+    left: u16,
+}
+
+/// Contracts see the list of the items that are still to come: pairs of a byte address and a byte.
+impl Model for Cursor {
+    ghost use Rattle.std.specs.Prelude.{ℕ, List};
+
+    ghost Value = { List (ℕ × ℕ) };
+
+    ghost use Rattle.dvg_frame.specs.Cursors.{IsCursor, items_left};
+
+    ghost view = { items_left };
+
+    ghost invariant = { IsCursor };
+}
+
+impl Cursor {
+    ghost use Rattle.std.specs.Prelude.{◌≡◌, ◌*◌, All, length};
+    ghost use Rattle.dvg_mem.specs.Areas.{base};
+    ghost use Rattle.dvg_frame.specs.Bytes.{IsBehindWordZero, addressed, bytes};
+    ghost use Rattle.dvg_frame.specs.Layout.{laid};
+
+    /// A cursor over the bytes of the frame, laid out for this half.
+    pub fn new(frame: Frame, half: Half) -> Cursor
+        ensures items { result ≡ addressed (2 * base half) (bytes (laid half frame)) }
+        ensures in_ram { All IsBehindWordZero result }
+    {
+        let left = 2 * frame.len_words();
+        Cursor {
+            frame,
+            half,
+            words: Words::new(),
+            given: 0,
+            op: 0,
+            address: 2 * half.base(),
+            left,
+        }
+    }
+
+    /// How many items are still to come.
+    pub fn left(&self) -> u16
+        ensures { result ≡ length self.now }
+    {
+        self.left
+    }
+}
+
+impl Iterator for Cursor {
+    ghost use Rattle.std.specs.Iterator.{YieldsFirst, item_count};
+
+    type Item = (u16, u8);
+
+    ghost next_gives = { YieldsFirst (λ items. items) };
+
+    ghost remaining = { item_count (λ items. items) };
+
+    fn next(&mut self) -> Option<(u16, u8)> {
+        if self.left == 0 {
+            return None;
+        }
+        if usize::from(self.given) == 2 * self.words.len() {
+            self.words = self.frame.spelling(self.half, self.op);
+            self.given = 0;
+            self.op += 1;
+        }
+        let word = self.words[usize::from(self.given / 2)];
+        let item = (self.address, byte_of(word, self.given));
+        self.given += 1;
+        self.address += 1;
+        self.left -= 1;
+        Some(item)
+    }
+}
+
+impl FusedIterator for Cursor {}
