@@ -8,8 +8,14 @@
 mod entry;
 mod event;
 pub mod laws;
+mod running;
+mod stopped;
 #[cfg(test)]
 mod tests;
+mod world;
 
 pub use entry::Entry;
 pub use event::Event;
+pub use running::run;
+pub use stopped::Stopped;
+pub use world::World;
