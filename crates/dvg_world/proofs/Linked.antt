@@ -1,6 +1,7 @@
 -- The open run of a log is the run that the generator's history leaves.
 use Rattle.std.proofs.Common.{◌≡◌, ℕ, true, List, [], ◌∷◌, Option, Some, None, refl, sym, ap, ◌∙◌, subst}
 use Rattle.std.specs.Prelude.{is_some, option_map}
+use Rattle.std.proofs.lemmas.Option.{same_Some}
 use Rattle.dvg_mem.specs.Memory.{fetched}
 use Rattle.dvg_gen.specs.Run.{Visit, wanted, Goes, fate, strokes, Adds}
 use Rattle.dvg_gen.specs.Told.{Told, Fed, Newest, goes_on, grown, Leaves, new, starts, resets, takes, Reply, More, Drew, reply}
@@ -11,9 +12,6 @@ use Rattle.dvg_world.specs.Events.{Fetch, ResetGen, ResetAll}
 use Rattle.dvg_world.specs.Entries.{Started, Fetched, Done, Broke}
 use Rattle.dvg_world.specs.Log.{◌⟼◌, Log, ram, history, open_run}
 use Rattle.dvg_world.specs.Legal.{IsFetch, IsLegal}
-
-pub some_is : {A : Type 0} {x y : A} → Some x ≡ Some y → x ≡ y
-some_is e = cc
 
 -- these words, newest first, are cut into these instructions, and perhaps a first word
 pub data Cut : List ℕ → List Visit → Option ℕ → Type 0 where
@@ -30,12 +28,12 @@ cut_same (word {w = w} {vs = us} {vs' = vs} {held = k} {held' = held} c a) (word
 -- a run with one more word had the others
 more_parts : (w : ℕ) (run : Option (List ℕ)) (ws : List ℕ) → option_map (λ words. w ∷ words) run ≡ Some ws → (us : List ℕ) × (run ≡ Some us) × (w ∷ us ≡ ws)
 more_parts w None ws e = absurd (cc)
-more_parts w (Some us) ws e = (us, refl, some_is e)
+more_parts w (Some us) ws e = (us, refl, same_Some _ _ e)
 
 -- the history's instructions are those of the open run's words
 pub linked : (R image : List ℕ) (log : Log) {run : Newest} → Leaves (history R image log) run → (ws : List ℕ) → open_run log ≡ Some ws → Cut ws run.visits run.held
 linked R image [] l ws o = absurd (cc)
-linked R image ((event ⟼ Started) ∷ log) (starts l) ws o = subst (λ x. Cut x [] None) (some_is o) none
+linked R image ((event ⟼ Started) ∷ log) (starts l) ws o = subst (λ x. Cut x [] None) (same_Some _ _ o) none
 linked R image ((ResetGen ⟼ entry) ∷ log) l ws o = absurd (cc)
 linked R image ((ResetAll bytes ⟼ entry) ∷ log) l ws o = absurd (cc)
 linked R image ((event ⟼ Fetched a w) ∷ log) (takes {visits = vs} {held = held} l p x) ws o =

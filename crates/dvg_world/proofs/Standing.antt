@@ -2,7 +2,7 @@
 use Rattle.std.proofs.Common.{◌≡◌, ℕ, ◌<◌, Bool, true, false, List, [], ◌∷◌, length, Option, Some, None, refl, sym, ap, ◌∙◌, subst, lit<, Vec}
 use Rattle.std.proofs.lemmas.Bool.{eqb-true, eqb-false}
 use Rattle.std.proofs.lemmas.List.{get_or-set_other, get_or-set_same}
-use Rattle.std.specs.Prelude.{◌↔◌, IsTrue, IsNone, OnErr, Result, Ok, Err, is_some, is_none, slice_index, slice_set, nat_eq, if◌then◌else◌}
+use Rattle.std.specs.Prelude.{◌↔◌, IsTrue, IsNone, OnErr, IfOk, Result, Ok, Err, is_some, is_none, slice_index, slice_set, nat_eq, if◌then◌else◌}
 use Rattle.dvg_mem.specs.Areas.{half_of_high, other}
 use Rattle.dvg_mem.specs.Memory.{fetched, IsImage}
 use Rattle.dvg_gen.specs.Completing.{DrawsNothing}
@@ -26,8 +26,9 @@ use Rattle.dvg_driver.specs.Script.{Item, Did, IsWhole, IsLife, has_flip}
 use Rattle.dvg_driver.specs.Stands as driver
 use Rattle.dvg_driver.specs.Stands.{Stage, Tells, byte1_of, peeked_after}
 use Rattle.dvg_world.specs.Events.{Happening, Offer, Redraw, Tick, Strobe, Fetch, ResetGen, ResetCpu, ResetAll}
-use Rattle.dvg_world.specs.Entries.{Shown, Offered, Refused, Busy, Asked, NothingPublished, Acted, Started, NoStrobe, Still, Cleared}
-use Rattle.dvg_world.specs.Log.{◌⟼◌, Log, ram, history, open_run, life, strobed}
+use Rattle.dvg_world.specs.declared.entry.Entry.{Entry}
+use Rattle.dvg_world.specs.Entries.{Shown, shown_of, Offered, Refused, Busy, Asked, NothingPublished, Acted, Started, NoStrobe, Still, Cleared}
+use Rattle.dvg_world.specs.Log.{◌⟼◌, Log, Throughout, ram, history, open_run, life, strobed}
 use Rattle.dvg_world.specs.Legal.{IsTrueRead, IsFetch}
 use Rattle.dvg_world.specs.Standing.{State, StandsAt, WorldAfter}
 use Rattle.dvg_world.specs.Stepping.{AddsLine, DrawsNow, ram_by, sent_by, entry_by}
@@ -296,3 +297,10 @@ open_of wanted address false is halted = let none = halted.1 refl in absurd (cc)
 pub on_err : {T E P : Type 0} (result : Result T E) → P → OnErr result P
 on_err (Ok value) p = tt
 on_err (Err error) p = p
+
+-- what holds throughout every legal log holds of the line that an event adds
+pub of_line : {A E : Type 0} (P : List ℕ → Log → Happening → Shown → Type 0) → ((R image : List ℕ) (log : Log) → IsLegal R image log → Throughout (P R) log)
+    → (event : Happening) (result : Result (Entry A) E) (old new : State) → IfOk result (λ entry. AddsLine old event (shown_of entry) new)
+    → (R image : List ℕ) (log : Log) → WorldAfter R image log old → IfOk result (λ entry. P R log event (shown_of entry))
+of_line P law event (Ok entry) old new adds R image log after = (law R image ((event ⟼ shown_of entry) ∷ log) (adds R image log after).legal).0
+of_line P law event (Err error) old new adds R image log after = tt

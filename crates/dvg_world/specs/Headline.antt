@@ -10,12 +10,12 @@ use Rattle.dvg_frame.specs.Picture.{IsPicture}
 use Rattle.dvg_driver.specs.declared.action.Action.TheVariants.{Wrote}
 use Rattle.dvg_world.specs.Events.{Happening}
 use Rattle.dvg_world.specs.Entries.{Shown, Acted, Fetched, Done, Broke}
-use Rattle.dvg_world.specs.Log.{Log, Throughout, open_run, IsDrawn, published, publication, at_zero}
+use Rattle.dvg_world.specs.Log.{Log, Throughout, open_run, IsBeingDrawn, published, publication, at_zero}
 use Rattle.dvg_world.specs.Legal.{IsLegal}
 
 -- a byte that is written isn't in a half being drawn
 abbrev pub SparesDrawn : Log → Happening → Shown → Type 0
-SparesDrawn log event (Acted (Wrote a byte)) = (half : Half) → IsDrawn log half → ¬ IsIn (Frame half) (a / 2)
+SparesDrawn log event (Acted (Wrote a byte)) = (half : Half) → IsBeingDrawn log half → ¬ IsIn (Frame half) (a / 2)
 SparesDrawn log event entry = Unit {0}
 
 -- the generator doesn't fault

@@ -5,16 +5,15 @@ use Rattle.dvg_gen.specs.Told.{Told, Fed, Newest, Leaves, Reply, More, Drew, Fai
 use Rattle.dvg_frame.specs.Steps.{Closed}
 use Rattle.dvg_frame.specs.Faults.{Refuses}
 use Rattle.dvg_driver.specs.declared.action.Action.{Action}
-use Rattle.dvg_driver.specs.declared.action.Action.TheVariants.{Read}
 use Rattle.dvg_driver.specs.Script.{Did, IsWhole, IsLife, has_flip}
+use Rattle.dvg_driver.specs.Stands.{Tells}
 use Rattle.dvg_world.specs.Events.{Happening, Offer, Redraw, Tick, Strobe, Fetch, ResetGen, ResetCpu, ResetAll, IsEvent}
 use Rattle.dvg_world.specs.Entries.{Shown, Offered, Refused, Busy, Asked, NothingPublished, Acted, Started, NoStrobe, Fetched, Done, Broke, Still, Cleared}
 use Rattle.dvg_world.specs.Log.{◌⟼◌, Log, events_of, ram, history, open_run, life, strobed}
 
 -- a read of the HALT flag shows whether no run is open
 abbrev pub IsTrueRead : Log → Action → Type 0
-IsTrueRead log (Read halted) = halted ≡ is_none (open_run log)
-IsTrueRead log action = Unit {0}
+IsTrueRead log action = Tells action (is_none (open_run log))
 
 -- after this history the next fetch is of this address, and it is answered so where it meets this word, or a hole
 pub record IsFetch (before : List Told) (address : ℕ) (word : Option ℕ) (answer : Reply) : Type 0 where

@@ -65,7 +65,7 @@ open_run ((event ⟼ Broke address fault) ∷ log) = None
 open_run (line ∷ log) = open_run log
 
 -- a half is being drawn: the first word of the open run is a jump to an address in it
-pub record IsDrawn (log : Log) (half : Half) : Type 0 where
+pub record IsBeingDrawn (log : Log) (half : Half) : Type 0 where
   pub later : List ℕ
   pub target : ℕ
   pub words : open_run log ≡ Some (later ++ (0xE000 + target) ∷ [])

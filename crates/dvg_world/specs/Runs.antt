@@ -18,6 +18,10 @@ entries_of (Err stopped) = stopped.entries.items
 abbrev pub log_of : {A : Type 0} → List (Event A) → List (Entry A) → Log
 log_of events entries = reverse (map (λ line. happening_of line.0 ⟼ shown_of line.1) (zip events entries))
 
+-- the log of the events and the answer
+abbrev pub log_by : {A : Type 0} → List (Event A) → Result (Vec (Entry A) A) (Stopped A) → Log
+log_by events answer = log_of events (entries_of answer)
+
 -- the run stopped before the first event, or at an event that takes memory
 abbrev pub IsStop : {A : Type 0} → List ℕ → List ℕ → List (Event A) → Stopped A → Type 0
 IsStop R image events stopped = (stopped.event ≡ 0) ⊎ ((event : Event _) × (slice_get events stopped.event ≡ Some event) × TakesMemory R image (log_of events stopped.entries.items) (happening_of event))

@@ -26,8 +26,8 @@ pub enum Entry<A: Allocator = Global> {
     NoStrobe,
     /// The generator fetched at this word address this word, and its run goes on.
     Fetched(u16, u16),
-    /// The generator fetched at this word address this word, the last one of a HALT. Its run is finished
-    /// and drew these strokes, in order.
+    /// The generator fetched at this word address this word, a HALT. Its run is finished, and drew these
+    /// strokes, in this order.
     Done(u16, u16, Vec<Stroke, A>),
     /// The fetch at this word address broke the run.
     Broke(u16, GenFault),

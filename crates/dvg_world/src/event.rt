@@ -13,7 +13,8 @@ pub enum Event<A: Allocator = Global> {
     Redraw,
     /// The driver does one action.
     Tick,
-    /// A start strobe reaches the generator. It has no effect before the driver sent one.
+    /// A start strobe reaches the generator. It has no effect unless the driver sent one since the last
+    /// reset of the whole system, or the beginning.
     Strobe,
     /// The generator fetches one word.
     Fetch,

@@ -1,5 +1,7 @@
 //! Laws of the definitions alone. Each is the contract of a function that does nothing.
+ghost use Rattle.dvg_world.specs.Headline.{AlwaysInTime, DrawsPublished, NeverFaults, NeverOlder, NeverTorn};
 ghost use Rattle.dvg_world.specs.Law.{AnyMemory, EndsInTime, OnlyFirst, Undisturbed};
+ghost use Rattle.dvg_world.specs.Legal.{SameLog};
 
 /// The law of undisturbed runs. Let a memory that doesn't change have a checked frame in a half, the jump
 /// to that half in word zero, and the words of the ROM that the frame was checked over. Then no lawful run
@@ -20,4 +22,41 @@ pub fn word_zero_only_first()
 /// most `n`, and one of `n` ended in HALT with the picture's strokes.
 pub fn ends_in_time()
     ensures { EndsInTime }
+{}
+
+/// A list of events has one legal log at most. That it has one is not said here.
+pub fn one_log()
+    ensures { SameLog }
+{}
+
+/// In every legal log no byte is written in the half being drawn. What a reset of the whole system puts
+/// into the RAM is no write; it ends the run.
+pub fn never_torn()
+    ensures { NeverTorn }
+{}
+
+/// In every legal log the generator never faults: no run meets a hole, makes a fifth call or returns without
+/// one. Runs that go on for ever are not ruled out.
+pub fn never_faults()
+    ensures { NeverFaults }
+{}
+
+/// In every legal log each run that reaches HALT drew exactly the picture of the frame that was newest
+/// published when it fetched word zero, and had as many fetches as the picture has. That a run reaches HALT,
+/// or that a published frame is drawn at all, is not said.
+pub fn draws_published()
+    ensures { DrawsPublished }
+{}
+
+/// In every legal log no picture is older than one before it: the publications that the runs which reach HALT
+/// show are in the order of their flips. One may be shown several times, and one may be passed over.
+pub fn never_older()
+    ensures { NeverOlder }
+{}
+
+/// In every legal log a run of a frame that has a picture of `n` fetches has at most `n` of them, and its
+/// `n`-th is the one that finishes it, with the picture's strokes. That so many fetches come is not said, nor
+/// that a frame has a picture: it may loop for ever.
+pub fn always_in_time()
+    ensures { AlwaysInTime }
 {}

@@ -4,6 +4,7 @@ ghost use Rattle.dvg_driver.specs.Stands.{IsInRam};
 ghost use Rattle.dvg_world.specs.Entries as shown;
 ghost use Rattle.dvg_world.specs.Entries.{shown_of};
 ghost use Rattle.dvg_world.specs.Events.{Offer, Redraw, Tick, Strobe, Fetch, ResetGen, ResetCpu, ResetAll, happening_of};
+ghost use Rattle.dvg_world.specs.Headline.{DrewPublished, IsNoOlder, KeepsTime, NoFault, SparesDrawn};
 ghost use Rattle.dvg_world.specs.Legal.{Fits, IsLegal};
 ghost use Rattle.dvg_world.specs.Log.{Log, ◌⟼◌};
 ghost use Rattle.dvg_world.specs.Standing.{WorldAfter};
@@ -75,7 +76,8 @@ impl<S: Store> World<S> {
     }
 
     /// Lets an event happen, and answers its entry. Of a world that stands after a legal log, the entry is
-    /// the one that the event gets over that log, and the world stands after the log with this line.
+    /// the one that the event gets over that log, and the world stands after the log with this line. So the
+    /// line shows what `run` says of whole logs.
     ///
     /// An error is want of memory, and then the world is as it was. It comes only for a fetch that completes
     /// a vector with an intensity of at least 1.
@@ -84,6 +86,28 @@ impl<S: Store> World<S> {
             → IfOk result (λ entry. Fits R image log (happening_of event.now) (shown_of entry)) }
         ensures stands { (R image : List ℕ) (log : Log) → WorldAfter R image log self.old
             → IfOk result (λ entry. WorldAfter R image ((happening_of event.now ⟼ shown_of entry) ∷ log) self.new) }
+
+        ensures never_torn { (R image : List ℕ) (log : Log) → WorldAfter R image log self.old
+            → IfOk result (λ entry. SparesDrawn log (happening_of event.now) (shown_of entry)) }
+        ensures never_faults { (R image : List ℕ) (log : Log) → WorldAfter R image log self.old
+            → IfOk result (λ entry. NoFault log (happening_of event.now) (shown_of entry)) }
+        ensures draws_published { (R image : List ℕ) (log : Log) → WorldAfter R image log self.old
+            → IfOk result (λ entry. DrewPublished R log (happening_of event.now) (shown_of entry)) }
+        ensures never_older { (R image : List ℕ) (log : Log) → WorldAfter R image log self.old
+            → IfOk result (λ entry. IsNoOlder log (happening_of event.now) (shown_of entry)) }
+        ensures always_in_time { (R image : List ℕ) (log : Log) → WorldAfter R image log self.old
+            → IfOk result (λ entry. KeepsTime R log (happening_of event.now) (shown_of entry)) }
+
+        ensures refused { OnErr result (self.new ≡ self.old) }
+        ensures room { (R image : List ℕ) (log : Log) → WorldAfter R image log self.old
+            → OnErr result (TakesMemory R image log (happening_of event.now)) }
+    {
+        self.happen(event)
+    }
+
+    // Lets an event happen. What its entry shows follows from the log being legal.
+    fn happen(&mut self, event: &Event<S::Alloc>) -> Result<Entry<S::Alloc>, OutOfMemory>
+        ensures stands { IfOk result (λ entry. AddsLine self.old (happening_of event.now) (shown_of entry) self.new) }
         ensures refused { OnErr result (self.new ≡ self.old) }
         ensures room { (R image : List ℕ) (log : Log) → WorldAfter R image log self.old
             → OnErr result (TakesMemory R image log (happening_of event.now)) }

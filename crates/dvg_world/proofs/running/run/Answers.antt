@@ -1,31 +1,18 @@
-use Rattle.dvg_world.specs.Runs.{log_of}
-use Rattle.dvg_world.proofs.Runs.{begins_so_far, legal_none, one_more, stops_at}
+use Rattle.dvg_world.proofs.Kept.{never_torn}
+use Rattle.dvg_world.proofs.Later.{always_in_time, draws_published, never_faults, never_older}
 use Rattle.dvg_world.proofs.running.run.Goals as goal
 
-pub returns-in_default-clause-legal : goal.returns-in_default-clause-legal
-returns-in_default-clause-legal g c = legal_none c.args.rom c.args.image.now c.args.events.now c.new-in_default.result c.new-in_default.ensures.items c.new.ensures.legal
+pub returns-clause-never_torn : goal.returns-clause-never_torn
+returns-clause-never_torn g c = never_torn c.args.rom c.args.image.now _ c.run_legally.ensures.legal
 
-pub returns-in_default-with_capacity-clause-legal : goal.returns-in_default-with_capacity-clause-legal
-returns-in_default-with_capacity-clause-legal g c =
-    let made = c.new-in_default-with_capacity in
-    legal_none c.args.rom c.args.image.now c.args.events.now made.result made.ensures.items c.new.ensures.legal
+pub returns-clause-never_faults : goal.returns-clause-never_faults
+returns-clause-never_faults g c = never_faults c.args.rom c.args.image.now _ c.run_legally.ensures.legal
 
-pub loop-number-init : goal.loop-number-init
-loop-number-init g c =
-    let made = c.in-Ok-with_capacity.ensures in
-    begins_so_far c.in-Ok.ensures.stands made.items made.len made.exact
+pub returns-clause-draws_published : goal.returns-clause-draws_published
+returns-clause-draws_published g c = draws_published c.args.rom c.args.image.now _ c.run_legally.ensures.legal
 
-pub returns-in_default-apply-clause-early : goal.returns-in_default-apply-clause-early
-returns-in_default-apply-clause-early g c =
-    let so_far = c.loop-number.invariant in
-    let events = c.args.events.now in
-    let log = log_of events c.loop-number.entries.items in
-    stops_at c.index-events-number.result so_far c.loop-number-test.true c.index-events-number.is (c.in_default-apply.ensures.room c.args.rom c.args.image.now log so_far.after)
+pub returns-clause-never_older : goal.returns-clause-never_older
+returns-clause-never_older g c = never_older c.args.rom c.args.image.now _ c.run_legally.ensures.legal
 
-pub loop-number-preserved : goal.loop-number-preserved
-loop-number-preserved g c =
-    let so_far = c.loop-number.invariant in
-    let log = log_of c.args.events.now c.loop-number.entries.items in
-    let after = c.in-Ok-apply.ensures.stands c.args.rom c.args.image.now log so_far.after in
-    let pushed = c.push_reserved.ensures in
-    one_more c.index-events-number.result c.in-Ok-apply.entry so_far c.loop-number-test.true c.index-events-number.is after pushed.items pushed.len pushed.capacity
+pub returns-clause-always_in_time : goal.returns-clause-always_in_time
+returns-clause-always_in_time g c = always_in_time c.args.rom c.args.image.now _ c.run_legally.ensures.legal

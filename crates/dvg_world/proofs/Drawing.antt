@@ -1,0 +1,81 @@
+-- Which half a run draws.
+use Rattle.std.proofs.Common.{◌≡◌, ℕ, ◌+◌, ◌*◌, ◌/◌, ◌≤◌, ◌<◌, List, [], ◌∷◌, ◌++◌, Some, refl, sym, subst, arith}
+use Rattle.dvg_mem.specs.declared.half.Half.{Half}
+use Rattle.dvg_mem.specs.declared.half.Half.TheVariants.{H0, H1}
+use Rattle.dvg_mem.specs.declared.areas.Area.TheVariants.{Frame}
+use Rattle.dvg_mem.specs.Areas.{IsIn, base, high, other, half_of_high}
+use Rattle.dvg_world.specs.Log.{Log, open_run, IsBeingDrawn}
+
+-- the first of a run's words, which are given newest first, is a jump to an address in the half
+pub data LeadsTo : List ℕ → Half → Type 0 where
+  jump : {word : ℕ} {half : Half} (target : ℕ) → word ≡ 0xE000 + target → IsIn (Frame half) target → LeadsTo (word ∷ []) half
+  later : {word : ℕ} {words : List ℕ} {half : Half} → LeadsTo words half → LeadsTo (word ∷ words) half
+
+leads : (words after : List ℕ) (target : ℕ) (half : Half) → words ≡ after ++ (0xE000 + target) ∷ [] → IsIn (Frame half) target → LeadsTo words half
+leads words [] target half e inside = subst (λ ws. LeadsTo ws half) (sym e) (jump target refl inside)
+leads words (w ∷ after) target half e inside =
+    subst (λ ws. LeadsTo ws half) (sym e) (later (leads (after ++ (0xE000 + target) ∷ []) after target half refl inside))
+
+-- the words of the open run lead to the half that is being drawn
+pub drawn_leads : (log : Log) (half : Half) → IsBeingDrawn log half → (words : List ℕ) × (open_run log ≡ Some words) × LeadsTo words half
+drawn_leads log half drawn =
+    (drawn.later ++ (0xE000 + drawn.target) ∷ [], drawn.words, leads (drawn.later ++ (0xE000 + drawn.target) ∷ []) drawn.later drawn.target half refl drawn.in_half)
+
+pub leads_none : (half : Half) → LeadsTo [] half → ⊥
+leads_none half l = elim l [ ]
+
+pub leads_before : {word newest : ℕ} {words : List ℕ} {half : Half} → LeadsTo (newest ∷ word ∷ words) half → LeadsTo (word ∷ words) half
+leads_before (later l) = l
+
+-- an address lies in one half at most
+same_half : (one two : Half) (a b : ℕ) → a ≡ b → IsIn (Frame one) a → IsIn (Frame two) b → one ≡ two
+same_half H0 H0 a b e x y = refl
+same_half H0 H1 a b e x y = let top = x.1 in let low = y.0 in absurd (omega arith)
+same_half H1 H0 a b e x y = let top = y.1 in let low = x.0 in absurd (omega arith)
+same_half H1 H1 a b e x y = refl
+
+pub leads_same : {words : List ℕ} {one two : Half} → LeadsTo words one → LeadsTo words two → one ≡ two
+leads_same (jump {half = one} a e x) (jump {half = two} b f y) = same_half one two a b (omega arith) x y
+leads_same (jump {half = one} a e x) (later {half = two} m) = absurd (leads_none two m)
+leads_same (later {half = one} l) (jump {half = two} b f y) = absurd (leads_none one l)
+leads_same (later l) (later m) = leads_same l m
+
+pub other_differs : (half : Half) → half ≡ other half → ⊥
+other_differs H0 e = cc
+other_differs H1 e = cc
+
+-- an address of the other half is none of the half
+pub not_both : (half : Half) (a : ℕ) → IsIn (Frame (other half)) a → IsIn (Frame half) a → ⊥
+not_both half a x y = other_differs half (same_half half (other half) a a refl y x)
+
+-- word zero lies in no half
+pub past_zero : (half : Half) (a : ℕ) → IsIn (Frame half) a → 1 ≤ a
+past_zero H0 a x = x.0
+past_zero H1 a x = let low = x.0 in omega arith
+
+-- an address of a half is one of the RAM
+pub in_ram : (half : Half) (a : ℕ) → IsIn (Frame half) a → a < 0x400
+in_ram H0 a x = let top = x.1 in omega arith
+in_ram H1 a x = let top = x.1 in omega arith
+
+-- the byte addresses of a half are those of its words
+pub in_half : (half : Half) (a : ℕ) → 2 * base half ≤ a → a < 2 * base half + 1022 → IsIn (Frame half) (a / 2)
+in_half H0 a low top = (omega arith, omega arith)
+in_half H1 a low top = (omega arith, omega arith)
+
+pub half_high : (half : Half) → half_of_high (high half) ≡ half
+half_high H0 = refl
+half_high H1 = refl
+
+-- the word that jumps to a half's first word
+pub jump_word : (half : Half) → 1 + 256 * high half ≡ 0xE000 + base half
+jump_word H0 = refl
+jump_word H1 = refl
+
+in_base : (half : Half) → IsIn (Frame half) (base half)
+in_base H0 = (omega arith, omega arith)
+in_base H1 = (omega arith, omega arith)
+
+-- a run whose first word is that jump leads to the half
+pub jump_there : (word : ℕ) (half : Half) → word ≡ 0xE000 + base half → LeadsTo (word ∷ []) half
+jump_there word half e = jump (base half) e (in_base half)

@@ -1,0 +1,263 @@
+-- Worked examples of legal logs, over a RAM and a ROM of zeros.
+use Rattle.std.proofs.Common.{◌≡◌, ℕ, zero, suc, ◌<◌, pos, negsuc, true, List, [], ◌∷◌, length, Option, Some, None, refl, sym, ap, ◌∙◌, subst, lit<, lit≤, replicate, arith}
+use Rattle.std.specs.Prelude.{slice_get, option_and_then}
+use Rattle.std.proofs.lemmas.Option.{same_Some}
+use Rattle.std.proofs.lemmas.List.Elements.{All-replicate, All-from_recursion}
+use Rattle.std.proofs.lemmas.List.{length-replicate}
+use Rattle.dvg_code.specs.declared.instr.Instr.TheVariants.{Vctr, Labs, Halt, Jmpl}
+use Rattle.dvg_code.specs.Acts.{Act, Moves, Halts}
+use Rattle.dvg_code.specs.Ranges.{InRange}
+use Rattle.dvg_code.specs.Spelling.{Spells, labs, halt, jmpl}
+use Rattle.dvg_code.proofs.Rows.{long_vector}
+use Rattle.dvg_mem.specs.Memory.{fetched, IsImage}
+use Rattle.dvg_gen.specs.declared.stroke.Stroke.{Stroke}
+use Rattle.dvg_gen.specs.Run.{Visit, first, one, two}
+use Rattle.dvg_gen.specs.Told.{Told, Fed, Newest, nothing, begun, grown, Leaves, new, starts, takes}
+use Rattle.dvg_frame.specs.declared.op.OpKind.{OpKind}
+use Rattle.dvg_frame.specs.declared.op.OpKind.TheVariants.{Draw, Halt as Stop}
+use Rattle.dvg_frame.specs.declared.place.FrameFault.{FrameFault}
+use Rattle.dvg_frame.specs.declared.place.Place.{Place}
+use Rattle.dvg_frame.specs.declared.place.Place.TheVariants.{InFrame, InRom}
+use Rattle.dvg_frame.specs.Ops.{IsDraft, IsOp}
+use Rattle.dvg_frame.specs.Steps.{Stands, in_frame, op_act, GoesPast, Names, Bad, last, target, deep, bare, IsFine, Leads, on, jump, call, back, Reached, begin, step, Closed, labs as labs_first}
+use Rattle.dvg_driver.specs.declared.action.Action.{Action}
+use Rattle.dvg_driver.specs.declared.action.Action.TheVariants.{Peek, Wrote, Read, Sent}
+use Rattle.dvg_driver.specs.Script.{Did, IsWhole}
+use Rattle.dvg_driver.specs.Place as place
+use Rattle.dvg_driver.specs.Place.{next, place_of, with_left, after_write}
+use Rattle.dvg_world.specs.Events.{Offer, Redraw, Tick, Strobe, Fetch}
+use Rattle.dvg_world.specs.Entries.{Offered, Busy, NothingPublished, Acted, Started, NoStrobe, Fetched, Done, Still}
+use Rattle.dvg_world.specs.Log.{Line, ◌⟼◌, Log, ram, history, life}
+use Rattle.dvg_world.specs.Legal.{IsTrueRead, IsLegal}
+use Rattle.dvg_driver.proofs.Shapes.{place_life, rests_whole}
+use Rattle.dvg_driver.proofs.Places.{whole_rests, write_fits}
+
+abbrev zeros : List ℕ
+zeros = replicate 2048 0
+
+is_image : IsImage zeros
+is_image = record { count = length-replicate {A = ℕ} 2048 0; bytes = All-replicate (λ b. b < 256) 2048 0 (lit< tt) }
+
+-- labs 512 400 0; vctr 9 -100 100 7; halt
+abbrev F1 : List OpKind
+F1 = Draw (Labs 512 400 0) ∷ Draw (Vctr 9 (negsuc 99) (pos 100) 7) ∷ Stop ∷ []
+
+vector_range : InRange (Vctr 9 (negsuc 99) (pos 100) 7)
+vector_range = record { scale_low = lit≤ tt; scale_high = lit≤ tt; dx_size = lit≤ tt; dy_size = lit≤ tt; z_size = lit≤ tt }
+
+is_draft : IsDraft F1
+is_draft = record { count = lit≤ tt; ops = All-from_recursion IsOp F1 ((lit≤ tt, lit≤ tt, lit≤ tt), (vector_range, (tt, tt))) }
+
+-- the pairs that F1 reaches
+data At : Place → ℕ → Type 0 where
+  at0 : At (InFrame 0) 0
+  at1 : At (InFrame 1) 0
+  at2 : At (InFrame 2) 0
+
+module _ (R : List ℕ) where
+  acts0 : {act : Act Place} {after : Place} → Stands F1 R (InFrame 0) act after → (act ≡ Moves (Labs 512 400 0)) × (after ≡ InFrame 1)
+  acts0 (in_frame e d) = (d ∙ ap op_act (sym (same_Some _ _ e)), refl)
+
+  acts1 : {act : Act Place} {after : Place} → Stands F1 R (InFrame 1) act after → (act ≡ Moves (Vctr 9 (negsuc 99) (pos 100) 7)) × (after ≡ InFrame 2)
+  acts1 (in_frame e d) = (d ∙ ap op_act (sym (same_Some _ _ e)), refl)
+
+  acts2 : {act : Act Place} {after : Place} → Stands F1 R (InFrame 2) act after → act ≡ Halts
+  acts2 (in_frame e d) = d ∙ ap op_act (sym (same_Some _ _ e))
+
+  lead : {p q : Place} {d e : ℕ} → At p d → Leads F1 R p d q e → At q e
+  lead at0 (on s) = let a = acts0 s in subst (λ x. At x 0) (sym a.1) at1
+  lead at0 (jump {q = q} s) = let a = (acts0 s).0 in absurd (cc)
+  lead at0 (call {q = q} s) = let a = (acts0 s).0 in absurd (cc)
+  lead at0 (back {q = q} s) = let a = (acts0 s).0 in absurd (cc)
+  lead at1 (on s) = let a = acts1 s in subst (λ x. At x 0) (sym a.1) at2
+  lead at1 (jump {q = q} s) = let a = (acts1 s).0 in absurd (cc)
+  lead at1 (call {q = q} s) = let a = (acts1 s).0 in absurd (cc)
+  lead at1 (back {q = q} s) = let a = (acts1 s).0 in absurd (cc)
+  lead at2 (on {instr = c} s) = let a = acts2 s in absurd (cc)
+  lead at2 (jump {q = q} s) = let a = acts2 s in absurd (cc)
+  lead at2 (call {q = q} s) = let a = acts2 s in absurd (cc)
+  lead at2 (back {q = q} s) = let a = acts2 s in absurd (cc)
+
+  reached : {p : Place} {d : ℕ} → Reached F1 R p d → At p d
+  reached begin = at0
+  reached (step r f l) = lead (reached r) l
+
+  fine0 : (fault : FrameFault) → ¬ Bad F1 R (InFrame 0) 0 fault
+  fine0 fault (last s g e) = omega arith
+  fine0 fault (target {a = a} s n o) = let k = (acts0 s).0 in subst (λ x. Names x (InRom a)) k n
+  fine0 fault (deep {to = to} s e) = let k = (acts0 s).0 in cc
+  fine0 fault (bare s e) = let k = (acts0 s).0 in cc
+
+  fine1 : (fault : FrameFault) → ¬ Bad F1 R (InFrame 1) 0 fault
+  fine1 fault (last s g e) = omega arith
+  fine1 fault (target {a = a} s n o) = let k = (acts1 s).0 in subst (λ x. Names x (InRom a)) k n
+  fine1 fault (deep {to = to} s e) = let k = (acts1 s).0 in cc
+  fine1 fault (bare s e) = let k = (acts1 s).0 in cc
+
+  fine2 : (fault : FrameFault) → ¬ Bad F1 R (InFrame 2) 0 fault
+  fine2 fault (last s g e) = let k = acts2 s in subst GoesPast k g
+  fine2 fault (target {a = a} s n o) = let k = acts2 s in subst (λ x. Names x (InRom a)) k n
+  fine2 fault (deep {to = to} s e) = let k = acts2 s in cc
+  fine2 fault (bare s e) = let k = acts2 s in cc
+
+  fine : {p : Place} {d : ℕ} → At p d → IsFine F1 R p d
+  fine at0 = fine0
+  fine at1 = fine1
+  fine at2 = fine2
+
+  no_target : (i j : ℕ) (op : OpKind) → slice_get F1 i ≡ Some op → Names (op_act op) (InFrame j) → j < length F1
+  no_target zero j op e n = absurd (subst (λ x. Names (op_act x) (InFrame j)) (sym (same_Some _ _ e)) n)
+  no_target (suc zero) j op e n = absurd (subst (λ x. Names (op_act x) (InFrame j)) (sym (same_Some _ _ e)) n)
+  no_target (suc (suc zero)) j op e n = absurd (subst (λ x. Names (op_act x) (InFrame j)) (sym (same_Some _ _ e)) n)
+  no_target (suc (suc (suc i))) j op e n = absurd (cc)
+
+  closed : Closed F1 R
+  closed = record { begins = labs_first; fits = lit≤ tt; targets = no_target; fine = λ p d r. fine (reached r) }
+
+abbrev LegalOverZeros : Log → Type 0
+LegalOverZeros = IsLegal zeros zeros
+
+-- one more action of the driver
+abbrev did : Action → Line
+did action = Tick ⟼ Acted action
+
+ticked : (log : Log) (action : Action) (to : place.Place) → LegalOverZeros log → place_of (Did action ∷ life zeros log) ≡ Some to → IsTrueRead log action → LegalOverZeros (did action ∷ log)
+ticked log action to legal at reads = ((place_life (Did action ∷ life zeros log) to at, reads), tt, legal)
+
+-- all writes of a frame part
+abbrev wrote : List (ℕ × ℕ) → Log → Log
+wrote [] log = log
+wrote (write ∷ writes) log = wrote writes (did (Wrote write.0 write.1) ∷ log)
+
+written : (writes : List (ℕ × ℕ)) (log : Log) → LegalOverZeros log → place_of (life zeros log) ≡ Some (with_left writes) → LegalOverZeros (wrote writes log)
+written [] log legal at = legal
+written (write ∷ writes) log legal at =
+    let after = ap (option_and_then (λ p. next p (Did (Wrote write.0 write.1)))) at ∙ write_fits write.0 write.1 writes in
+    written writes (did (Wrote write.0 write.1) ∷ log) (ticked log (Wrote write.0 write.1) (with_left writes) legal after tt) after
+
+-- F1 is offered to a driver that has booted, written to half 1 and published, and a strobe is sent and arrives
+abbrev offered : Log
+offered = (Offer F1 ⟼ Offered) ∷ did (Read true) ∷ did Peek ∷ []
+
+abbrev F1_writes : List (ℕ × ℕ)
+F1_writes =
+    (0x402, 0x90) ∷ (0x403, 0xA1) ∷ (0x404, 0x00) ∷ (0x405, 0x02) ∷ (0x406, 0x64) ∷ (0x407, 0x90) ∷ (0x408, 0x64) ∷ (0x409, 0x74) ∷ (0x40A, 0x00) ∷ (0x40B, 0xB0)
+    ∷ (0x000, 0x01) ∷ (0x001, 0xE2) ∷ []
+
+abbrev published : Log
+published = wrote F1_writes offered
+
+abbrev started : Log
+started = (Strobe ⟼ Started) ∷ did Sent ∷ did (Read true) ∷ published
+
+booted_legal : LegalOverZeros (did (Read true) ∷ did Peek ∷ [])
+booted_legal = ticked (did Peek ∷ []) (Read true) _ (ticked [] Peek _ (is_image, is_image) refl tt) refl refl
+
+offered_legal : LegalOverZeros offered
+offered_legal = ((closed zeros, rests_whole (life zeros (did (Read true) ∷ did Peek ∷ [])) true refl), is_draft, booted_legal)
+
+published_legal : LegalOverZeros published
+published_legal = written F1_writes offered offered_legal refl
+
+started_legal : LegalOverZeros started
+started_legal = (refl, tt, ticked (did (Read true) ∷ published) Sent _ (ticked published (Read true) _ published_legal refl refl) refl tt)
+
+spells_jump : Spells (Jmpl 0x201) (0xE201 ∷ [])
+spells_jump = jmpl (lit≤ tt) refl
+
+spells_labs : Spells (Labs 512 400 0) (0xA190 ∷ 0x0200 ∷ [])
+spells_labs = labs (lit≤ tt, lit≤ tt, lit≤ tt) refl refl
+
+spells_halt : Spells Halt (0xB000 ∷ [])
+spells_halt = halt (lit≤ tt) (lit< tt)
+
+abbrev drew : List Stroke
+drew = record { x0 = 262144; y0 = 204800; x1 = 210944; y1 = 256000; z = 7 } ∷ []
+
+-- the fetches of F1 in half 1 but the last
+abbrev five_fetches : Log → Log
+five_fetches log =
+    (Fetch ⟼ Fetched 0x204 0x7464) ∷ (Fetch ⟼ Fetched 0x203 0x9064) ∷ (Fetch ⟼ Fetched 0x202 0x0200) ∷ (Fetch ⟼ Fetched 0x201 0xA190) ∷ (Fetch ⟼ Fetched 0x000 0xE201) ∷ log
+
+-- and the last
+abbrev finished : Log → Log
+finished log = (Fetch ⟼ Done 0x205 0xB000 drew) ∷ five_fetches log
+
+abbrev visits1 : List Visit
+visits1 = record { place = 0; code = Jmpl 0x201 } ∷ []
+
+abbrev visits2 : List Visit
+visits2 = record { place = 0x201; code = Labs 512 400 0 } ∷ visits1
+
+abbrev visits3 : List Visit
+visits3 = record { place = 0x203; code = Vctr 9 (negsuc 99) (pos 100) 7 } ∷ visits2
+
+abbrev visits4 : List Visit
+visits4 = record { place = 0x205; code = Halt } ∷ visits3
+
+-- a run that has just begun, over the memory that has F1 published
+module _ (log : Log) (before : Newest) (legal : LegalOverZeros log) (memory : ram zeros log ≡ ram zeros published) (leaves0 : Leaves (history zeros zeros log) (begun before)) where
+  abbrev run : List Visit → Option ℕ → Newest
+  run visits held = grown (begun before) visits held
+
+  word_at : (a word : ℕ) → fetched (ram zeros published) zeros a ≡ Some word → fetched (ram zeros log) zeros a ≡ Some word
+  word_at a word is = ap (λ bytes. fetched bytes zeros a) memory ∙ is
+
+  leaves1 : Leaves (Fed (Some 0xE201) ∷ history zeros zeros log) (run visits1 None)
+  leaves1 = takes leaves0 refl (one spells_jump)
+
+  abbrev told1 : List Told
+  told1 = Fed (Some 0xE201) ∷ history zeros zeros log
+
+  leaves2 : Leaves (Fed (Some 0xA190) ∷ told1) (run visits1 (Some 0xA190))
+  leaves2 = takes leaves1 refl (first (lit< tt))
+
+  leaves3 : Leaves (Fed (Some 0x0200) ∷ Fed (Some 0xA190) ∷ told1) (run visits2 None)
+  leaves3 = takes leaves2 refl (two spells_labs)
+
+  abbrev told3 : List Told
+  told3 = Fed (Some 0x0200) ∷ Fed (Some 0xA190) ∷ told1
+
+  leaves4 : Leaves (Fed (Some 0x9064) ∷ told3) (run visits2 (Some 0x9064))
+  leaves4 = takes leaves3 refl (first (lit< tt))
+
+  leaves5 : Leaves (Fed (Some 0x7464) ∷ Fed (Some 0x9064) ∷ told3) (run visits3 None)
+  leaves5 = takes leaves4 refl (two long_vector)
+
+  leaves6 : Leaves (Fed (Some 0xB000) ∷ Fed (Some 0x7464) ∷ Fed (Some 0x9064) ∷ told3) (run visits4 None)
+  leaves6 = takes leaves5 refl (one spells_halt)
+
+  legal1 : LegalOverZeros ((Fetch ⟼ Fetched 0x000 0xE201) ∷ log)
+  legal1 = ((word_at 0x000 0xE201 refl, record { run = begun before; leaves = leaves0; wanted = refl; later = run visits1 None; leaves_later = leaves1; replies = refl }), tt, legal)
+
+  legal2 : LegalOverZeros ((Fetch ⟼ Fetched 0x201 0xA190) ∷ (Fetch ⟼ Fetched 0x000 0xE201) ∷ log)
+  legal2 = ((word_at 0x201 0xA190 refl, record { run = run visits1 None; leaves = leaves1; wanted = refl; later = run visits1 (Some 0xA190); leaves_later = leaves2; replies = refl }), tt, legal1)
+
+  legal3 : LegalOverZeros ((Fetch ⟼ Fetched 0x202 0x0200) ∷ (Fetch ⟼ Fetched 0x201 0xA190) ∷ (Fetch ⟼ Fetched 0x000 0xE201) ∷ log)
+  legal3 = ((word_at 0x202 0x0200 refl, record { run = run visits1 (Some 0xA190); leaves = leaves2; wanted = refl; later = run visits2 None; leaves_later = leaves3; replies = refl }), tt, legal2)
+
+  legal4 : LegalOverZeros ((Fetch ⟼ Fetched 0x203 0x9064) ∷ (Fetch ⟼ Fetched 0x202 0x0200) ∷ (Fetch ⟼ Fetched 0x201 0xA190) ∷ (Fetch ⟼ Fetched 0x000 0xE201) ∷ log)
+  legal4 = ((word_at 0x203 0x9064 refl, record { run = run visits2 None; leaves = leaves3; wanted = refl; later = run visits2 (Some 0x9064); leaves_later = leaves4; replies = refl }), tt, legal3)
+
+  legal5 : LegalOverZeros (five_fetches log)
+  legal5 = ((word_at 0x204 0x7464 refl, record { run = run visits2 (Some 0x9064); leaves = leaves4; wanted = refl; later = run visits3 None; leaves_later = leaves5; replies = refl }), tt, legal4)
+
+  legal6 : LegalOverZeros (finished log)
+  legal6 = ((word_at 0x205 0xB000 refl, record { run = run visits3 None; leaves = leaves5; wanted = refl; later = run visits4 None; leaves_later = leaves6; replies = refl }), tt, legal5)
+
+-- the first picture: F1 is offered, published and drawn at event 23
+pub first_picture : LegalOverZeros (finished started)
+first_picture = legal6 started nothing started_legal refl (starts new)
+
+-- a strobe that is repeated after five fetches abandons the run; the picture of the next one, at event 29, has the one stroke
+pub restarted_run : LegalOverZeros (finished ((Strobe ⟼ Started) ∷ five_fetches started))
+restarted_run =
+    legal6 ((Strobe ⟼ Started) ∷ five_fetches started) (grown (begun nothing) visits3 None) (refl, tt, legal5 started nothing started_legal refl (starts new)) refl
+    (starts (leaves5 started nothing started_legal refl (starts new)))
+
+not_idle : ¬ IsWhole []
+not_idle whole = let rests = whole_rests [] whole in let e = rests.1 in cc
+
+-- before the driver has booted: no strobe was sent, no run is open, there is nothing to draw again, and it is busy
+pub refusals : LegalOverZeros ((Offer F1 ⟼ Busy) ∷ (Redraw ⟼ NothingPublished) ∷ (Fetch ⟼ Still) ∷ (Strobe ⟼ NoStrobe) ∷ [])
+refusals = ((closed zeros, not_idle), is_draft, (refl, tt, (refl, tt, (refl, tt, (is_image, is_image)))))

@@ -1,0 +1,5 @@
+use Rattle.dvg_world.proofs.Later.{draws_published}
+use Rattle.dvg_world.proofs.laws.draws_published.Goals as goal
+
+pub returns : goal.returns
+returns c = draws_published
