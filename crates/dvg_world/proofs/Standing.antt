@@ -29,7 +29,7 @@ use Rattle.dvg_world.specs.Events.{Happening, Offer, Redraw, Tick, Strobe, Fetch
 use Rattle.dvg_world.specs.declared.entry.Entry.{Entry}
 use Rattle.dvg_world.specs.Entries.{Shown, shown_of, Offered, Refused, Busy, Asked, NothingPublished, Acted, Started, NoStrobe, Still, Cleared}
 use Rattle.dvg_world.specs.Log.{◌⟼◌, Log, Throughout, ram, history, open_run, life, strobed}
-use Rattle.dvg_world.specs.Legal.{IsTrueRead, IsFetch}
+use Rattle.dvg_world.specs.Legal.{IsTrueRead, IsFetch, IsLegal}
 use Rattle.dvg_world.specs.Standing.{State, StandsAt, WorldAfter}
 use Rattle.dvg_world.specs.Stepping.{AddsLine, DrawsNow, ram_by, sent_by, entry_by}
 use Rattle.dvg_world.proofs.Linked.{opened}
@@ -299,8 +299,8 @@ on_err (Ok value) p = tt
 on_err (Err error) p = p
 
 -- what holds throughout every legal log holds of the line that an event adds
-pub of_line : {A E : Type 0} (P : List ℕ → Log → Happening → Shown → Type 0) → ((R image : List ℕ) (log : Log) → IsLegal R image log → Throughout (P R) log)
+pub of_line : {A E : Type 0} (P : List ℕ → List ℕ → Log → Happening → Shown → Type 0) → ((R image : List ℕ) (log : Log) → IsLegal R image log → Throughout (P R image) log)
     → (event : Happening) (result : Result (Entry A) E) (old new : State) → IfOk result (λ entry. AddsLine old event (shown_of entry) new)
-    → (R image : List ℕ) (log : Log) → WorldAfter R image log old → IfOk result (λ entry. P R log event (shown_of entry))
+    → (R image : List ℕ) (log : Log) → WorldAfter R image log old → IfOk result (λ entry. P R image log event (shown_of entry))
 of_line P law event (Ok entry) old new adds R image log after = (law R image ((event ⟼ shown_of entry) ∷ log) (adds R image log after).legal).0
 of_line P law event (Err error) old new adds R image log after = tt

@@ -4,6 +4,7 @@ ghost use Rattle.dvg_world.specs.Headline.{DrewPublished, IsNoOlder, KeepsTime, 
 ghost use Rattle.dvg_world.specs.Legal.{IsLegal};
 ghost use Rattle.dvg_world.specs.Log.{Throughout};
 ghost use Rattle.dvg_world.specs.Runs.{IsStop, log_by};
+ghost use Rattle.dvg_world.specs.Untouched.{DrewHeld};
 
 use crate::entry::Entry;
 use crate::event::Event;
@@ -50,13 +51,16 @@ pub fn run<S: Store>(
     ensures never_older { Throughout IsNoOlder (log_by events.now result) }
     // A run of a frame that has a picture is finished at the picture's last fetch.
     ensures always_in_time { Throughout (KeepsTime rom) (log_by events.now result) }
+    // A run that reaches HALT, during which nothing was written and the RAM held a checked frame, drew the
+    // picture of that frame's draft.
+    ensures draws_undisturbed { Throughout (DrewHeld rom image.now) (log_by events.now result) }
 
     // Every event has an entry, or else those before the one at which the run stopped for want of memory.
     ensures whole { IfOk result (λ entries. length entries.items ≡ length events.now) }
     ensures stopped { IfErr result (λ stopped. length stopped.entries.items ≡ stopped.event) }
     ensures early { IfErr result (IsStop rom image.now events.now) }
 {
-    run_legally(alloc, rom, image, events)
+    run_legally::<S>(alloc, rom, image, events)
 }
 
 // Lets events happen to a new world. What their log shows follows from its being legal.

@@ -9,6 +9,7 @@ ghost use Rattle.dvg_world.specs.Legal.{Fits, IsLegal};
 ghost use Rattle.dvg_world.specs.Log.{Log, ◌⟼◌};
 ghost use Rattle.dvg_world.specs.Standing.{WorldAfter};
 ghost use Rattle.dvg_world.specs.Stepping.{AddsLine, DrawsNow, entry_by, ram_by, sent_by};
+ghost use Rattle.dvg_world.specs.Untouched.{DrewHeld};
 ghost use Rattle.dvg_world.specs.Wanting.{TakesMemory};
 
 use crate::entry::Entry;
@@ -97,6 +98,8 @@ impl<S: Store> World<S> {
             → IfOk result (λ entry. IsNoOlder log (happening_of event.now) (shown_of entry)) }
         ensures always_in_time { (R image : List ℕ) (log : Log) → WorldAfter R image log self.old
             → IfOk result (λ entry. KeepsTime R log (happening_of event.now) (shown_of entry)) }
+        ensures draws_undisturbed { (R image : List ℕ) (log : Log) → WorldAfter R image log self.old
+            → IfOk result (λ entry. DrewHeld R image log (happening_of event.now) (shown_of entry)) }
 
         ensures refused { OnErr result (self.new ≡ self.old) }
         ensures room { (R image : List ℕ) (log : Log) → WorldAfter R image log self.old
@@ -128,6 +131,7 @@ impl<S: Store> World<S> {
     fn offer(&mut self, draft: &Draft) -> Entry<S::Alloc>
         ensures { AddsLine self.old (Offer draft.now) (shown_of result) self.new }
     {
+        // A draft has at most 511 operations, as its type says.
         let _ = draft.len();
         let frame = match check(draft, &self.rom) {
             Ok(frame) => frame,
