@@ -1,5 +1,5 @@
-//! Tests of what crosses crates: the worked examples of the engines over memory, devices that fail,
-//! and memory that is refused. The crate exports nothing.
+//! Tests of what crosses crates: the worked examples of the engines over memory, worked runs, devices that
+//! fail, and memory that is refused. The crate exports nothing.
 #![tactic(auto)]
 
 #[cfg(test)]
@@ -11,6 +11,12 @@ mod memory;
 #[cfg(test)]
 mod mishaps;
 #[cfg(test)]
+mod refusals;
+#[cfg(test)]
 mod roms;
+#[cfg(test)]
+mod runs;
+#[cfg(test)]
+mod scripts;
 #[cfg(test)]
 mod texts;

@@ -1,15 +1,22 @@
 //! Both ends of the vector RAM together: the driver that writes frames, and the generator that draws them.
 //!
-//! What happens is a list of events, in any order and number. A log has one entry for each of them. The laws
-//! say what holds of every log that the rules allow, and what is drawn of a checked frame that nobody writes
-//! to.
+//! What happens is a list of events, in any order and number. `run` lets them happen to a new `World`, one
+//! after the other, and answers its log, which has one entry for each of them. The laws say what holds of
+//! every log that the rules allow, and what is drawn of a checked frame that nobody writes to; `run` answers
+//! no other log.
 #![tactic(auto)]
 
 mod entry;
 mod event;
 pub mod laws;
+mod running;
+mod stopped;
 #[cfg(test)]
 mod tests;
+mod world;
 
 pub use entry::Entry;
 pub use event::Event;
+pub use running::run;
+pub use stopped::Stopped;
+pub use world::World;

@@ -1,0 +1,306 @@
+-- Each event adds its line to the logs that a world stands after.
+use Rattle.std.proofs.Common.{◌≡◌, ℕ, ◌<◌, Bool, true, false, List, [], ◌∷◌, length, Option, Some, None, refl, sym, ap, ◌∙◌, subst, lit<, Vec}
+use Rattle.std.proofs.lemmas.Bool.{eqb-true, eqb-false}
+use Rattle.std.proofs.lemmas.List.{get_or-set_other, get_or-set_same}
+use Rattle.std.specs.Prelude.{◌↔◌, IsTrue, IsNone, OnErr, IfOk, Result, Ok, Err, is_some, is_none, slice_index, slice_set, nat_eq, if◌then◌else◌}
+use Rattle.dvg_mem.specs.Areas.{half_of_high, other}
+use Rattle.dvg_mem.specs.Memory.{fetched, IsImage}
+use Rattle.dvg_gen.specs.Completing.{DrawsNothing}
+use Rattle.dvg_gen.specs.declared.stroke.Stroke.{Stroke}
+use Rattle.dvg_gen.specs.declared.taken.GenFault.{GenFault}
+use Rattle.dvg_gen.specs.declared.taken.GenFault.TheVariants.{Hole}
+use Rattle.dvg_gen.specs.declared.taken.Taken.{Taken}
+use Rattle.dvg_gen.specs.declared.taken.Taken.TheVariants as taken
+use Rattle.dvg_gen.specs.Machine as generator
+use Rattle.dvg_gen.specs.Machine.{Machine, Answers, IsReply}
+use Rattle.dvg_gen.specs.Told.{Told, Start, Reset, Fed, Leaves, Reply, More, Drew, Fails, reply, wants}
+use Rattle.dvg_frame.specs.declared.op.OpKind.{OpKind}
+use Rattle.dvg_frame.specs.declared.place.FrameFault.{FrameFault}
+use Rattle.dvg_frame.specs.Ops.{IsDraft}
+use Rattle.dvg_frame.specs.Steps.{Closed}
+use Rattle.dvg_frame.specs.Faults.{Refuses}
+use Rattle.dvg_driver.specs.declared.action.Action.{Action}
+use Rattle.dvg_driver.specs.declared.action.Action.TheVariants.{Peek, Wrote, Read, Sent, Idle}
+use Rattle.dvg_driver.specs.Script as script
+use Rattle.dvg_driver.specs.Script.{Item, Did, IsWhole, IsLife, has_flip}
+use Rattle.dvg_driver.specs.Stands as driver
+use Rattle.dvg_driver.specs.Stands.{Stage, Tells, byte1_of, peeked_after}
+use Rattle.dvg_world.specs.Events.{Happening, Offer, Redraw, Tick, Strobe, Fetch, ResetGen, ResetCpu, ResetAll}
+use Rattle.dvg_world.specs.declared.entry.Entry.{Entry}
+use Rattle.dvg_world.specs.Entries.{Shown, shown_of, Offered, Refused, Busy, Asked, NothingPublished, Acted, Started, NoStrobe, Still, Cleared}
+use Rattle.dvg_world.specs.Log.{◌⟼◌, Log, Throughout, ram, history, open_run, life, strobed}
+use Rattle.dvg_world.specs.Legal.{IsTrueRead, IsFetch, IsLegal}
+use Rattle.dvg_world.specs.Standing.{State, StandsAt, WorldAfter}
+use Rattle.dvg_world.specs.Stepping.{AddsLine, DrawsNow, ram_by, sent_by, entry_by}
+use Rattle.dvg_world.proofs.Linked.{opened}
+
+-- a world of these parts
+abbrev pub world_of : List ℕ → List ℕ → Machine → Stage → Bool → State
+world_of rom bytes machine stage sent = record { rom = rom; ram = bytes; machine = machine; stage = stage; sent = sent }
+
+-- what is known of a world by equations
+pub adds_between : {old old' new new' : State} (event : Happening) (entry : Shown) → old' ≡ old → new ≡ new' → AddsLine old' event entry new' → AddsLine old event entry new
+adds_between {old' = old'} {new = new} event entry same_old same_new adds =
+    subst (λ s. AddsLine s event entry new) same_old (subst (λ s. AddsLine old' event entry s) (sym same_new) adds)
+
+pub new_world : (rom image bytes : List ℕ) (machine : Machine) (stage : Stage) → IsImage rom → IsImage bytes → bytes ≡ image → generator.StandsAfter machine []
+    → ((peeked : ℕ) → driver.StandsAfter stage peeked []) → WorldAfter rom image [] (world_of rom bytes machine stage false)
+new_world rom image bytes machine stage r b same g d = record {
+  legal = (r, subst IsImage same b);
+  stands = record { rom = refl; ram = same; machine = g; peeked = slice_index image 1; stage = d (slice_index image 1); byte1 = refl; sent = refl };
+}
+
+module _ {rom bytes R ram : List ℕ} {machine : Machine} {stage : Stage} {sent strobe : Bool} {told : List Told} {items : List Item} (stands : StandsAt (world_of rom bytes machine stage sent) R ram told items strobe) where
+  with_machine : {machine' : Machine} {told' : List Told} → generator.StandsAfter machine' told' → StandsAt (world_of rom bytes machine' stage sent) R ram told' items strobe
+  with_machine after = record { rom = stands.rom; ram = stands.ram; machine = after; peeked = stands.peeked; stage = stands.stage; byte1 = stands.byte1; sent = stands.sent }
+
+  with_stage : {stage' : Stage} {items' : List Item} (peeked : ℕ) → driver.StandsAfter stage' peeked items' → byte1_of peeked items' ≡ slice_index ram 1
+      → StandsAt (world_of rom bytes machine stage' sent) R ram told items' strobe
+  with_stage peeked after byte1 = record { rom = stands.rom; ram = stands.ram; machine = stands.machine; peeked = peeked; stage = after; byte1 = byte1; sent = stands.sent }
+
+  same_stage : {stage' : Stage} → stage' ≡ stage → StandsAt (world_of rom bytes machine stage' sent) R ram told items strobe
+  same_stage same = with_stage stands.peeked (subst (λ s. driver.StandsAfter s stands.peeked items) (sym same) stands.stage) stands.byte1
+
+-- a run is open in the generator exactly where one is open in the log
+open_is : {R image : List ℕ} {log : Log} {world : State} → WorldAfter R image log world → world.machine.is_open ≡ is_some (open_run log)
+open_is {R} {image} {log} w = w.stands.machine.stands.is_open ∙ opened R image log w.legal w.stands.machine.leaves
+
+module _ {rom bytes : List ℕ} {machine : Machine} {stage : Stage} {sent : Bool} where
+  pub offer_refused : {F : List OpKind} {fault : FrameFault} → IsDraft F → Refuses F rom fault
+      → AddsLine (world_of rom bytes machine stage sent) (Offer F) (Refused fault) (world_of rom bytes machine stage sent)
+  offer_refused {F} {fault} draft refuses R image log w = record { legal = (subst (λ x. Refuses F x fault) w.stands.rom refuses, draft, w.legal); stands = w.stands }
+
+  pub offer_busy : {F : List OpKind} {stage' : Stage} → IsDraft F → Closed F rom → stage' ≡ stage → ((peeked : ℕ) (items : List Item) → driver.StandsAfter stage peeked items → ¬ IsWhole items)
+      → AddsLine (world_of rom bytes machine stage sent) (Offer F) Busy (world_of rom bytes machine stage' sent)
+  offer_busy {F} draft closed same busy R image log w = record {
+    legal = ((subst (λ x. Closed F x) w.stands.rom closed, busy w.stands.peeked (life image log) w.stands.stage), draft, w.legal);
+    stands = same_stage w.stands same;
+  }
+
+  pub offer_taken : {F : List OpKind} {frame : List OpKind} {stage' : Stage} → IsDraft F → Closed F rom → frame ≡ F → ((peeked : ℕ) (items : List Item) → driver.StandsAfter stage peeked items → IsWhole items)
+      → ((peeked : ℕ) (items : List Item) → driver.StandsAfter stage peeked items → driver.StandsAfter stage' peeked (script.Offered (other (half_of_high (byte1_of peeked items))) frame ∷ items))
+      → AddsLine (world_of rom bytes machine stage sent) (Offer F) Offered (world_of rom bytes machine stage' sent)
+  offer_taken {F} {frame} {stage'} draft closed same whole taken R image log w =
+      let peeked = w.stands.peeked in
+      let items = life image log in
+      let after = taken peeked items w.stands.stage in
+      let of_draft = subst (λ f. driver.StandsAfter stage' peeked (script.Offered (other (half_of_high (byte1_of peeked items))) f ∷ items)) same after in
+      let to_free = subst (λ byte. driver.StandsAfter stage' peeked (script.Offered (other (half_of_high byte)) F ∷ items)) w.stands.byte1 of_draft in
+      record {
+        legal = ((subst (λ x. Closed F x) w.stands.rom closed, whole peeked items w.stands.stage), draft, w.legal);
+        stands = with_stage w.stands peeked to_free w.stands.byte1;
+      }
+
+  pub redraw_nothing : {stage' : Stage} → stage' ≡ stage → ((peeked : ℕ) (items : List Item) → driver.StandsAfter stage peeked items → has_flip items ≡ false)
+      → AddsLine (world_of rom bytes machine stage sent) Redraw NothingPublished (world_of rom bytes machine stage' sent)
+  redraw_nothing same nothing R image log w = record { legal = (nothing w.stands.peeked (life image log) w.stands.stage, tt, w.legal); stands = same_stage w.stands same }
+
+  pub redraw_busy : {stage' : Stage} → stage' ≡ stage → ((peeked : ℕ) (items : List Item) → driver.StandsAfter stage peeked items → (has_flip items ≡ true) × ¬ IsWhole items)
+      → AddsLine (world_of rom bytes machine stage sent) Redraw Busy (world_of rom bytes machine stage' sent)
+  redraw_busy same busy R image log w = record { legal = (busy w.stands.peeked (life image log) w.stands.stage, tt, w.legal); stands = same_stage w.stands same }
+
+  pub redraw_taken : {stage' : Stage} → ((peeked : ℕ) (items : List Item) → driver.StandsAfter stage peeked items → (has_flip items ≡ true) × IsWhole items)
+      → ((peeked : ℕ) (items : List Item) → driver.StandsAfter stage peeked items → driver.StandsAfter stage' peeked (script.Asked ∷ items))
+      → AddsLine (world_of rom bytes machine stage sent) Redraw Asked (world_of rom bytes machine stage' sent)
+  redraw_taken can taken R image log w = record {
+    legal = (can w.stands.peeked (life image log) w.stands.stage, tt, w.legal);
+    stands = with_stage w.stands w.stands.peeked (taken w.stands.peeked (life image log) w.stands.stage) w.stands.byte1;
+  }
+
+-- what a tick hands in as the flag
+flag_is : (halted : Bool) (run : Option (List ℕ)) (is_open : Bool) → (IsTrue halted ↔ (is_open ≡ false)) → is_open ≡ is_some run → halted ≡ is_none run
+flag_is true None is_open flag same = refl
+flag_is true (Some words) is_open flag same = let shut = flag.0 refl in absurd (cc)
+flag_is false None is_open flag same = flag.1 same
+flag_is false (Some words) is_open flag same = refl
+
+true_read : (log : Log) (halted : Bool) (action : Action) → Tells action halted → halted ≡ is_none (open_run log) → IsTrueRead log action
+true_read log halted (Read shown) tells flag = tells ∙ flag
+true_read log halted Peek tells flag = tt
+true_read log halted (Wrote a byte) tells flag = tt
+true_read log halted Sent tells flag = tt
+true_read log halted Idle tells flag = tt
+
+ram_acted : (image : List ℕ) (log : Log) (action : Action) → ram_by action (ram image log) ≡ ram image ((Tick ⟼ Acted action) ∷ log)
+ram_acted image log Peek = refl
+ram_acted image log (Wrote a byte) = refl
+ram_acted image log (Read halted) = refl
+ram_acted image log Sent = refl
+ram_acted image log Idle = refl
+
+strobed_acted : (log : Log) (action : Action) → sent_by action (strobed log) ≡ strobed ((Tick ⟼ Acted action) ∷ log)
+strobed_acted log Peek = refl
+strobed_acted log (Wrote a byte) = refl
+strobed_acted log (Read halted) = refl
+strobed_acted log Sent = refl
+strobed_acted log Idle = refl
+
+written_byte1 : (bytes : List ℕ) (a byte told : ℕ) → 1 < length bytes → told ≡ slice_index bytes 1 → (if nat_eq a 1 then byte else told) ≡ slice_index (slice_set bytes a byte) 1
+written_byte1 bytes a byte told inside known = by (nat_eq a 1) refl
+  where
+    by : (test : Bool) → nat_eq a 1 ≡ test → (if test then byte else told) ≡ slice_index (slice_set bytes a byte) 1
+    by true same =
+        let at_1 : a ≡ 1 = eqb-true a 1 same in
+        rw at_1 (sym (get_or-set_same bytes 1 byte 0 inside))
+    by false other = known ∙ sym (get_or-set_other bytes a 1 byte 0 (λ at_1. eqb-false a 1 other (sym at_1)))
+
+byte1_acted : (action : Action) (bytes : List ℕ) (byte1 peeked : ℕ) (items : List Item) → 1 < length bytes → byte1 ≡ slice_index bytes 1 → byte1_of peeked items ≡ slice_index bytes 1
+    → byte1_of (peeked_after action byte1 peeked) (Did action ∷ items) ≡ slice_index (ram_by action bytes) 1
+byte1_acted Peek bytes byte1 peeked items inside read known = read
+byte1_acted (Wrote a byte) bytes byte1 peeked items inside read known = written_byte1 bytes a byte (byte1_of peeked items) inside known
+byte1_acted (Read halted) bytes byte1 peeked items inside read known = known
+byte1_acted Sent bytes byte1 peeked items inside read known = known
+byte1_acted Idle bytes byte1 peeked items inside read known = known
+
+pub ticks : {rom bytes : List ℕ} {machine : Machine} {stage stage' : Stage} {sent halted : Bool} {action : Action} {byte1 : ℕ} → IsImage bytes → byte1 ≡ slice_index bytes 1
+    → (IsTrue halted ↔ (machine.is_open ≡ false)) → Tells action halted
+    → ((peeked : ℕ) (items : List Item) → driver.StandsAfter stage peeked items → IsLife (Did action ∷ items))
+    → ((peeked : ℕ) (items : List Item) → driver.StandsAfter stage peeked items → driver.StandsAfter stage' (peeked_after action byte1 peeked) (Did action ∷ items))
+    → AddsLine (world_of rom bytes machine stage sent) Tick (Acted action) (world_of rom (ram_by action bytes) machine stage' (sent_by action sent))
+ticks {rom} {bytes} {machine} {stage} {stage'} {sent} {halted} {action} {byte1} content read flag tells scripted stands R image log w =
+    let s = w.stands in
+    let inside : 1 < length (ram image log) = subst (λ b. 1 < length b) s.ram (rw content.count (lit< tt)) in
+    let same_byte = read ∙ ap (λ b. slice_index b 1) s.ram in
+    record {
+      legal = ((scripted s.peeked (life image log) s.stage, true_read log halted action tells (flag_is halted (open_run log) machine.is_open flag (open_is w))), tt, w.legal);
+      stands = record {
+        rom = s.rom;
+        ram = ap (λ b. ram_by action b) s.ram ∙ ram_acted image log action;
+        machine = s.machine;
+        peeked = peeked_after action byte1 s.peeked;
+        stage = stands s.peeked (life image log) s.stage;
+        byte1 = byte1_acted action (ram image log) byte1 s.peeked (life image log) inside same_byte s.byte1 ∙ ap (λ b. slice_index b 1) (ram_acted image log action);
+        sent = ap (λ b. sent_by action b) s.sent ∙ strobed_acted log action;
+      };
+    }
+
+module _ {rom bytes : List ℕ} {machine : Machine} {stage : Stage} {sent : Bool} where
+  pub strobe_lost : sent ≡ false → AddsLine (world_of rom bytes machine stage sent) Strobe NoStrobe (world_of rom bytes machine stage sent)
+  strobe_lost none R image log w = record { legal = (sym w.stands.sent ∙ none, tt, w.legal); stands = w.stands }
+
+  pub strobe_starts : {machine' : Machine} → sent ≡ true → ((told : List Told) → generator.StandsAfter machine told → generator.StandsAfter machine' (Start ∷ told))
+      → AddsLine (world_of rom bytes machine stage sent) Strobe Started (world_of rom bytes machine' stage sent)
+  strobe_starts some starts R image log w = record {
+    legal = (sym w.stands.sent ∙ some, tt, w.legal);
+    stands = with_machine w.stands (starts (history R image log) w.stands.machine);
+  }
+
+  pub reset_gen : {machine' : Machine} → ((told : List Told) → generator.StandsAfter machine told → generator.StandsAfter machine' (Reset ∷ told))
+      → AddsLine (world_of rom bytes machine stage sent) ResetGen Cleared (world_of rom bytes machine' stage sent)
+  reset_gen resets R image log w = record { legal = (tt, tt, w.legal); stands = with_machine w.stands (resets (history R image log) w.stands.machine) }
+
+  pub reset_cpu : {stage' : Stage} → ((peeked : ℕ) → driver.StandsAfter stage' peeked []) → AddsLine (world_of rom bytes machine stage sent) ResetCpu Cleared (world_of rom bytes machine stage' sent)
+  reset_cpu resets R image log w =
+      let peeked = slice_index (ram image log) 1 in
+      record { legal = (tt, tt, w.legal); stands = with_stage w.stands peeked (resets peeked) refl }
+
+  pub reset_all : {machine' : Machine} {stage' : Stage} {all bytes' : List ℕ} → IsImage bytes' → bytes' ≡ all → ((told : List Told) → generator.StandsAfter machine told → generator.StandsAfter machine' (Reset ∷ told))
+      → ((peeked : ℕ) → driver.StandsAfter stage' peeked []) → AddsLine (world_of rom bytes machine stage sent) (ResetAll all) Cleared (world_of rom bytes' machine' stage' false)
+  reset_all {all = all} content same resets again R image log w = record {
+    legal = (tt, subst IsImage same content, w.legal);
+    stands = record {
+      rom = w.stands.rom;
+      ram = same;
+      machine = resets (history R image log) w.stands.machine;
+      peeked = slice_index all 1;
+      stage = again (slice_index all 1);
+      byte1 = refl;
+      sent = refl;
+    };
+  }
+
+-- the answers of `take` are those of the definition
+more_is : (A : Type 0) (answer : Reply) → IsReply {A = A} taken.Word answer → answer ≡ More
+more_is A More replies = refl
+more_is A (Drew strokes) replies = absurd replies
+more_is A (Fails fault) replies = absurd replies
+
+drew_is : (A : Type 0) (list : Vec Stroke A) (answer : Reply) → IsReply (taken.Done list) answer → answer ≡ Drew list.items
+drew_is A list More replies = absurd replies
+drew_is A list (Drew strokes) replies = ap Drew (sym replies)
+drew_is A list (Fails fault) replies = absurd replies
+
+fails_is : (A : Type 0) (fault : GenFault) (answer : Reply) → IsReply {A = A} (taken.Broke fault) answer → answer ≡ Fails fault
+fails_is A fault More replies = absurd replies
+fails_is A fault (Drew strokes) replies = absurd replies
+fails_is A fault (Fails other) replies = ap Fails (sym replies)
+
+none_open : (run : Option (List ℕ)) → is_some run ≡ false → run ≡ None
+none_open None none = refl
+none_open (Some words) none = absurd (cc)
+
+module _ {rom bytes : List ℕ} {machine : Machine} {stage : Stage} {sent : Bool} where
+  pub fetch_still : machine.is_open ≡ false → AddsLine (world_of rom bytes machine stage sent) Fetch Still (world_of rom bytes machine stage sent)
+  fetch_still shut R image log w = record { legal = (none_open (open_run log) (sym (open_is w) ∙ shut), tt, w.legal); stands = w.stands }
+
+  line_of_fetch : {A : Type 0} {machine' : Machine} (R image : List ℕ) (log : Log) (address : ℕ) (word : Option ℕ) (answer : Taken A)
+      → (w : WorldAfter R image log (world_of rom bytes machine stage sent)) → wants w.stands.machine.run ≡ Some address → word ≡ fetched (ram image log) R address
+      → Answers (history R image log) word machine' answer → WorldAfter R image ((Fetch ⟼ entry_by address word answer) ∷ log) (world_of rom bytes machine' stage sent)
+  line_of_fetch R image log address None answer w wanted found x =
+      let m = w.stands.machine in
+      let is_fetch : IsFetch (history R image log) address None (Fails Hole) = record { run = m.run; leaves = m.leaves; wanted = wanted; later = x.run; leaves_later = x.leaves; replies = refl } in
+      record {
+        legal = (subst (λ o. IsFetch (history R image log) address o (Fails Hole)) found is_fetch, tt, w.legal);
+        stands = with_machine w.stands (record { run = x.run; leaves = subst (λ o. Leaves (Fed o ∷ history R image log) x.run) found x.leaves; stands = x.stands });
+      }
+  line_of_fetch {A} R image log address (Some word) taken.Word w wanted found x =
+      let m = w.stands.machine in
+      record {
+        legal = ((sym found, record { run = m.run; leaves = m.leaves; wanted = wanted; later = x.run; leaves_later = x.leaves; replies = more_is A (reply (Some word) x.run) x.replies }), tt, w.legal);
+        stands = with_machine w.stands (record { run = x.run; leaves = x.leaves; stands = x.stands });
+      }
+  line_of_fetch {A} R image log address (Some word) (taken.Done strokes) w wanted found x =
+      let m = w.stands.machine in
+      record {
+        legal = ((sym found, record { run = m.run; leaves = m.leaves; wanted = wanted; later = x.run; leaves_later = x.leaves; replies = drew_is A strokes (reply (Some word) x.run) x.replies }), tt, w.legal);
+        stands = with_machine w.stands (record { run = x.run; leaves = x.leaves; stands = x.stands });
+      }
+  line_of_fetch {A} R image log address (Some word) (taken.Broke fault) w wanted found x =
+      let m = w.stands.machine in
+      let is_fetch : IsFetch (history R image log) address (Some word) (Fails fault) = record { run = m.run; leaves = m.leaves; wanted = wanted; later = x.run; leaves_later = x.leaves; replies = fails_is A fault (reply (Some word) x.run) x.replies } in
+      record {
+        legal = (subst (λ o. IsFetch (history R image log) address o (Fails fault)) found is_fetch, tt, w.legal);
+        stands = with_machine w.stands (record { run = x.run; leaves = subst (λ o. Leaves (Fed o ∷ history R image log) x.run) found x.leaves; stands = x.stands });
+      }
+
+  -- the word is that of the log's memory
+  found_in : {R image : List ℕ} {log : Log} (address : ℕ) (word : Option ℕ) → WorldAfter R image log (world_of rom bytes machine stage sent) → word ≡ fetched bytes rom address → word ≡ fetched (ram image log) R address
+  found_in {R} {image} {log} address word w found = found ∙ (ap (λ b. fetched b rom address) w.stands.ram ∙ ap (λ r. fetched (ram image log) r address) w.stands.rom)
+
+  pub fetch_takes : {A : Type 0} {machine' : Machine} (address : ℕ) (word : Option ℕ) (answer : Taken A) (entry : Shown)
+      → ((told : List Told) (after : generator.StandsAfter machine told) → Some address ≡ wants after.run) → word ≡ fetched bytes rom address
+      → ((told : List Told) → generator.StandsAfter machine told → Answers told word machine' answer) → entry ≡ entry_by address word answer
+      → AddsLine (world_of rom bytes machine stage sent) Fetch entry (world_of rom bytes machine' stage sent)
+  fetch_takes {machine' = machine'} address word answer entry wanted found answers shown R image log w =
+      let m = w.stands.machine in
+      subst (λ e. WorldAfter R image ((Fetch ⟼ e) ∷ log) (world_of rom bytes machine' stage sent)) (sym shown)
+      (line_of_fetch R image log address word answer w (sym (wanted (history R image log) m)) (found_in address word w found) (answers (history R image log) m))
+
+  pub draws_now : (address : ℕ) (word : Option ℕ) → machine.is_open ≡ true → ((told : List Told) (after : generator.StandsAfter machine told) → Some address ≡ wants after.run)
+      → word ≡ fetched bytes rom address → ¬ DrawsNothing machine.held word → DrawsNow (world_of rom bytes machine stage sent)
+  draws_now address word is_open wanted found draws R image log w =
+      let m = w.stands.machine in
+      let held = (m.stands.running (sym m.stands.is_open ∙ is_open)).held in
+      record {
+        run = m.run;
+        leaves = m.leaves;
+        address = address;
+        wanted = sym (wanted (history R image log) m);
+        draws = λ nothing. draws (subst (λ h. DrawsNothing h word) (sym held) (subst (λ o. DrawsNothing m.run.held o) (sym (found_in address word w found)) nothing));
+      }
+
+-- an address is wanted while a run is open
+pub open_of : (wanted : Option ℕ) (address : ℕ) (is_open : Bool) → wanted ≡ Some address → (IsNone wanted ↔ (is_open ≡ false)) → is_open ≡ true
+open_of wanted address true is halted = refl
+open_of wanted address false is halted = let none = halted.1 refl in absurd (cc)
+
+pub on_err : {T E P : Type 0} (result : Result T E) → P → OnErr result P
+on_err (Ok value) p = tt
+on_err (Err error) p = p
+
+-- what holds throughout every legal log holds of the line that an event adds
+pub of_line : {A E : Type 0} (P : List ℕ → List ℕ → Log → Happening → Shown → Type 0) → ((R image : List ℕ) (log : Log) → IsLegal R image log → Throughout (P R image) log)
+    → (event : Happening) (result : Result (Entry A) E) (old new : State) → IfOk result (λ entry. AddsLine old event (shown_of entry) new)
+    → (R image : List ℕ) (log : Log) → WorldAfter R image log old → IfOk result (λ entry. P R image log event (shown_of entry))
+of_line P law event (Ok entry) old new adds R image log after = (law R image ((event ⟼ shown_of entry) ∷ log) (adds R image log after).legal).0
+of_line P law event (Err error) old new adds R image log after = tt

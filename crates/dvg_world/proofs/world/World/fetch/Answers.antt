@@ -1,0 +1,23 @@
+use Rattle.std.proofs.Common.{refl, sym, ap, ◌∙◌, subst}
+use Rattle.std.specs.Prelude.{is_some}
+use Rattle.dvg_world.specs.Events.{Fetch}
+use Rattle.dvg_world.specs.Entries.{Still, shown_of}
+use Rattle.dvg_world.specs.Stepping.{DrawsNow}
+use Rattle.dvg_world.proofs.Standing.{adds_between, fetch_still, fetch_takes, draws_now, open_of, on_err}
+use Rattle.dvg_world.proofs.world.World.fetch.Goals as goal
+
+pub returns-in_default-clause-stands : goal.returns-in_default-clause-stands
+returns-in_default-clause-stands g c = adds_between Fetch Still c.self.view_is (sym c.self.view_is) (fetch_still (c.wants.ensures.halted.0 (ap is_some c.in_default.is)))
+
+pub returns-in_err-taken-clause-room : goal.returns-in_err-taken-clause-room
+returns-in_err-taken-clause-room g c =
+    let is_open = open_of c.wants.result c.in-Some.address _ c.in-Some.is c.wants.ensures.halted in
+    on_err c.from_residual.result (subst DrawsNow c.self.view_is
+    (draws_now c.in-Some.address c.fetch-word.result is_open (λ told after. sym c.in-Some.is ∙ c.wants.ensures.address told after) c.fetch-word.ensures.word
+    (λ nothing. let given = c.in_err-taken.ensures.room nothing in absurd (cc))))
+
+pub returns-clause-stands : goal.returns-clause-stands
+returns-clause-stands g c =
+    adds_between Fetch (shown_of c.entry_of.result) c.self.view_is refl
+    (fetch_takes c.in-Some.address c.fetch-word.result c.in_ok-taken.taken (shown_of c.entry_of.result) (λ told after. sym c.in-Some.is ∙ c.wants.ensures.address told after) c.fetch-word.ensures.word
+    c.in_ok-taken.ensures.answers c.entry_of.ensures)

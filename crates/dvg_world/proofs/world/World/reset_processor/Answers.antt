@@ -1,0 +1,8 @@
+use Rattle.std.proofs.Common.{refl}
+use Rattle.dvg_world.specs.Events.{ResetCpu}
+use Rattle.dvg_world.specs.Entries.{Cleared}
+use Rattle.dvg_world.proofs.Standing.{adds_between, reset_cpu}
+use Rattle.dvg_world.proofs.world.World.reset_processor.Goals as goal
+
+pub returns : goal.returns
+returns g c = adds_between ResetCpu Cleared c.self.view_is refl (reset_cpu c.reset.ensures)

@@ -1,0 +1,33 @@
+-- After which logs a world stands.
+use Rattle.std.specs.Prelude.{◌≡◌, ℕ, Bool, List, slice_index}
+use Rattle.dvg_gen.specs.Machine as generator
+use Rattle.dvg_gen.specs.Machine.{Machine}
+use Rattle.dvg_gen.specs.Told.{Told}
+use Rattle.dvg_driver.specs.Script.{Item}
+use Rattle.dvg_driver.specs.Stands as driver
+use Rattle.dvg_driver.specs.Stands.{Stage, byte1_of}
+use Rattle.dvg_world.specs.Log.{Log, ram, history, life, strobed}
+use Rattle.dvg_world.specs.Legal.{IsLegal}
+
+-- what contracts see of a world: the ROM, the RAM, the generator, the driver, and whether a strobe was sent
+pub record State : Type 0 where
+  pub rom : List ℕ
+  pub ram : List ℕ
+  pub machine : Machine
+  pub stage : Stage
+  pub sent : Bool
+
+-- a world has this ROM and this RAM; its generator stands after what it was told, and its driver after its life, which tells byte 001 of the RAM; and it knows whether a strobe was sent
+pub record StandsAt (world : State) (R bytes : List ℕ) (told : List Told) (items : List Item) (strobe : Bool) : Type 0 where
+  pub rom : world.rom ≡ R
+  pub ram : world.ram ≡ bytes
+  pub machine : generator.StandsAfter world.machine told
+  pub peeked : ℕ
+  pub stage : driver.StandsAfter world.stage peeked items
+  pub byte1 : byte1_of peeked items ≡ slice_index bytes 1
+  pub sent : world.sent ≡ strobe
+
+-- a world stands after a legal log over this ROM and first image
+pub record WorldAfter (R image : List ℕ) (log : Log) (world : State) : Type 0 where
+  pub legal : IsLegal R image log
+  pub stands : StandsAt world R (ram image log) (history R image log) (life image log) (strobed log)

@@ -1,0 +1,37 @@
+-- One line more: the words of private contracts.
+use Rattle.std.specs.Prelude.{ℕ, Bool, true, List, ◌∷◌, Option, Some, None, slice_set}
+use Rattle.dvg_gen.specs.declared.taken.GenFault.TheVariants.{Hole}
+use Rattle.dvg_gen.specs.declared.taken.Taken.{Taken}
+use Rattle.dvg_gen.specs.declared.taken.Taken.TheVariants as taken
+use Rattle.dvg_driver.specs.declared.action.Action.{Action}
+use Rattle.dvg_driver.specs.declared.action.Action.TheVariants.{Wrote, Sent}
+use Rattle.dvg_world.specs.Events.{Happening}
+use Rattle.dvg_world.specs.Entries.{Shown, Fetched, Done, Broke}
+use Rattle.dvg_world.specs.Log.{Log, ◌⟼◌}
+use Rattle.dvg_world.specs.Standing.{State, WorldAfter}
+use Rattle.dvg_world.specs.Wanting.{DrawsNext}
+
+-- after each log that the old world stands after, and this line, the new one stands
+abbrev pub AddsLine : State → Happening → Shown → State → Type 0
+AddsLine old event entry new = (R image : List ℕ) (log : Log) → WorldAfter R image log old → WorldAfter R image ((event ⟼ entry) ∷ log) new
+
+-- after each log that the world stands after, the next fetch completes a vector that is seen
+abbrev pub DrawsNow : State → Type 0
+DrawsNow world = (R image : List ℕ) (log : Log) → WorldAfter R image log world → DrawsNext R image log
+
+-- the RAM after an action
+abbrev pub ram_by : Action → List ℕ → List ℕ
+ram_by (Wrote a byte) ram = slice_set ram a byte
+ram_by action ram = ram
+
+-- whether a strobe was sent, after an action
+abbrev pub sent_by : Action → Bool → Bool
+sent_by Sent sent = true
+sent_by action sent = sent
+
+-- the entry of a fetch at this address, of a word or of a hole, by the generator's answer
+abbrev pub entry_by : {A : Type 0} → ℕ → Option ℕ → Taken A → Shown
+entry_by address None answer = Broke address Hole
+entry_by address (Some word) taken.Word = Fetched address word
+entry_by address (Some word) (taken.Done strokes) = Done address word strokes.items
+entry_by address (Some word) (taken.Broke fault) = Broke address fault

@@ -1,0 +1,12 @@
+//! Runs that stop early.
+use crate::entry::Entry;
+use std::alloc::{Allocator, Global};
+
+/// A run that stopped for want of memory, and for no other cause.
+#[derive(Debug, Drop)]
+pub struct Stopped<A: Allocator = Global> {
+    /// The entries of the events before the one at which the run stopped.
+    pub entries: Vec<Entry<A>, A>,
+    /// The number of the event at which the run stopped, counted from 0. It has no entry.
+    pub event: usize,
+}

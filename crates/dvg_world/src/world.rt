@@ -1,0 +1,244 @@
+//! The world: both ends of the vector RAM, one event at a time.
+ghost use Rattle.std.specs.Prelude.{◌≡◌, ℕ, Option, List, [], ◌∷◌, IfOk, OnErr};
+ghost use Rattle.dvg_driver.specs.Stands.{IsInRam};
+ghost use Rattle.dvg_world.specs.Entries as shown;
+ghost use Rattle.dvg_world.specs.Entries.{shown_of};
+ghost use Rattle.dvg_world.specs.Events.{Offer, Redraw, Tick, Strobe, Fetch, ResetGen, ResetCpu, ResetAll, happening_of};
+ghost use Rattle.dvg_world.specs.Headline.{DrewPublished, IsNoOlder, KeepsTime, NoFault, SparesDrawn};
+ghost use Rattle.dvg_world.specs.Legal.{Fits, IsLegal};
+ghost use Rattle.dvg_world.specs.Log.{Log, ◌⟼◌};
+ghost use Rattle.dvg_world.specs.Standing.{WorldAfter};
+ghost use Rattle.dvg_world.specs.Stepping.{AddsLine, DrawsNow, entry_by, ram_by, sent_by};
+ghost use Rattle.dvg_world.specs.Untouched.{DrewHeld};
+ghost use Rattle.dvg_world.specs.Wanting.{TakesMemory};
+
+use crate::entry::Entry;
+use crate::event::Event;
+use dvg_code::OutOfMemory;
+use dvg_driver::{Action, Driver, DriverFault};
+use dvg_frame::{Draft, check};
+use dvg_gen::{GenFault, Generator, Taken};
+use dvg_mem::{Image, Rom, Store, fetch};
+use std::alloc::Allocator;
+use std::marker::Model;
+
+/// Both ends of the vector RAM: the driver that writes frames into it, and the generator that draws out of
+/// it and out of the ROM.
+///
+/// A strobe that the driver has sent is under way until the next reset of the whole system, and may arrive
+/// never, once or often (this project's own choice, as a strobe that the hardware passes over is one that
+/// never arrives).
+#[derive(Drop)]
+pub struct World<S: Store> {
+    rom: Rom<S::Alloc>,
+    store: S,
+    generator: Generator<S::Alloc>,
+    driver: Driver,
+    strobe_sent: bool,
+}
+
+/// Contracts see a `State`.
+impl<S: Store> Model for World<S> {
+    ghost use Rattle.dvg_world.specs.Standing.{State};
+
+    ghost Value = { State };
+
+    ghost view = { λ world. record {
+      rom = world.rom;
+      ram = S.content world.store;
+      machine = world.generator;
+      stage = world.driver;
+      sent = world.strobe_sent;
+    } };
+}
+
+impl<S: Store> World<S> {
+    /// A world after a reset of the whole system: the RAM holds this image, the generator is halted with the
+    /// beam at 0, 0 and scale 0, the driver boots, and no strobe is under way. It takes its memory from this
+    /// allocator, and so does the list of a run's strokes later on.
+    pub fn new(
+        alloc: S::Alloc,
+        rom: Rom<S::Alloc>,
+        image: &Image<S::Alloc>,
+    ) -> Result<World<S>, OutOfMemory>
+        ensures legal { IsLegal rom image.now [] }
+        ensures stands { IfOk result (WorldAfter rom image.now []) }
+    {
+        // An image is one of 2,048 bytes, as its type says.
+        let _ = image.bytes();
+        let store = S::make(alloc, image)?;
+        Ok(World {
+            rom,
+            store,
+            generator: Generator::new(alloc),
+            driver: Driver::new(),
+            strobe_sent: false,
+        })
+    }
+
+    /// Lets an event happen, and answers its entry. Of a world that stands after a legal log, the entry is
+    /// the one that the event gets over that log, and the world stands after the log with this line. So the
+    /// line shows what `run` says of whole logs.
+    ///
+    /// An error is want of memory, and then the world is as it was. It comes only for a fetch that completes
+    /// a vector with an intensity of at least 1.
+    pub fn apply(&mut self, event: &Event<S::Alloc>) -> Result<Entry<S::Alloc>, OutOfMemory>
+        ensures fits { (R image : List ℕ) (log : Log) → WorldAfter R image log self.old
+            → IfOk result (λ entry. Fits R image log (happening_of event.now) (shown_of entry)) }
+        ensures stands { (R image : List ℕ) (log : Log) → WorldAfter R image log self.old
+            → IfOk result (λ entry. WorldAfter R image ((happening_of event.now ⟼ shown_of entry) ∷ log) self.new) }
+
+        ensures never_torn { (R image : List ℕ) (log : Log) → WorldAfter R image log self.old
+            → IfOk result (λ entry. SparesDrawn log (happening_of event.now) (shown_of entry)) }
+        ensures never_faults { (R image : List ℕ) (log : Log) → WorldAfter R image log self.old
+            → IfOk result (λ entry. NoFault log (happening_of event.now) (shown_of entry)) }
+        ensures draws_published { (R image : List ℕ) (log : Log) → WorldAfter R image log self.old
+            → IfOk result (λ entry. DrewPublished R log (happening_of event.now) (shown_of entry)) }
+        ensures never_older { (R image : List ℕ) (log : Log) → WorldAfter R image log self.old
+            → IfOk result (λ entry. IsNoOlder log (happening_of event.now) (shown_of entry)) }
+        ensures always_in_time { (R image : List ℕ) (log : Log) → WorldAfter R image log self.old
+            → IfOk result (λ entry. KeepsTime R log (happening_of event.now) (shown_of entry)) }
+        ensures draws_undisturbed { (R image : List ℕ) (log : Log) → WorldAfter R image log self.old
+            → IfOk result (λ entry. DrewHeld R image log (happening_of event.now) (shown_of entry)) }
+
+        ensures refused { OnErr result (self.new ≡ self.old) }
+        ensures room { (R image : List ℕ) (log : Log) → WorldAfter R image log self.old
+            → OnErr result (TakesMemory R image log (happening_of event.now)) }
+    {
+        self.happen(event)
+    }
+
+    // Lets an event happen. What its entry shows follows from the log being legal.
+    fn happen(&mut self, event: &Event<S::Alloc>) -> Result<Entry<S::Alloc>, OutOfMemory>
+        ensures stands { IfOk result (λ entry. AddsLine self.old (happening_of event.now) (shown_of entry) self.new) }
+        ensures refused { OnErr result (self.new ≡ self.old) }
+        ensures room { (R image : List ℕ) (log : Log) → WorldAfter R image log self.old
+            → OnErr result (TakesMemory R image log (happening_of event.now)) }
+    {
+        match event {
+            Event::Offer(draft) => Ok(self.offer(draft)),
+            Event::Redraw => Ok(self.redraw()),
+            Event::Tick => Ok(self.tick()),
+            Event::Strobe => Ok(self.strobe()),
+            Event::Fetch => self.fetch(),
+            Event::ResetGen => Ok(self.reset_generator()),
+            Event::ResetCpu => Ok(self.reset_processor()),
+            Event::ResetAll(image) => Ok(self.reset_all(image)),
+        }
+    }
+
+    // The driver is handed a draft.
+    fn offer(&mut self, draft: &Draft) -> Entry<S::Alloc>
+        ensures { AddsLine self.old (Offer draft.now) (shown_of result) self.new }
+    {
+        // A draft has at most 511 operations, as its type says.
+        let _ = draft.len();
+        let frame = match check(draft, &self.rom) {
+            Ok(frame) => frame,
+            Err(fault) => return Entry::Refused(fault),
+        };
+        match self.driver.offer(frame) {
+            Ok(()) => Entry::Offered,
+            Err(_) => Entry::Busy,
+        }
+    }
+
+    // The driver is asked for a redraw.
+    fn redraw(&mut self) -> Entry<S::Alloc>
+        ensures { AddsLine self.old Redraw (shown_of result) self.new }
+    {
+        match self.driver.redraw() {
+            Ok(()) => Entry::Asked,
+            Err(DriverFault::NothingPublished) => Entry::NothingPublished,
+            Err(DriverFault::Busy) => Entry::Busy,
+        }
+    }
+
+    // The driver does one action.
+    fn tick(&mut self) -> Entry<S::Alloc>
+        ensures { AddsLine self.old Tick (shown_of result) self.new }
+    {
+        let byte1 = self.store.read(1);
+        let action = self.driver.tick(self.generator.halted(), byte1);
+        self.perform(action);
+        Entry::Acted(action)
+    }
+
+    // Does a write in the store, and puts a strobe under way.
+    fn perform(&mut self, action: Action)
+        requires { IsInRam action }
+        ensures { self.new ≡ record self.old { ram = ram_by action self.old.ram; sent = sent_by action self.old.sent } }
+    {
+        match action {
+            Action::Wrote(a, byte) => self.store.write(a, byte),
+            Action::Sent => self.strobe_sent = true,
+            Action::Peek | Action::Read(_) | Action::Idle => {}
+        }
+    }
+
+    // A strobe reaches the generator, if one was sent.
+    fn strobe(&mut self) -> Entry<S::Alloc>
+        ensures { AddsLine self.old Strobe (shown_of result) self.new }
+    {
+        if !self.strobe_sent {
+            return Entry::NoStrobe;
+        }
+        self.generator.start();
+        Entry::Started
+    }
+
+    // The generator fetches one word.
+    fn fetch(&mut self) -> Result<Entry<S::Alloc>, OutOfMemory>
+        ensures stands { IfOk result (λ entry. AddsLine self.old Fetch (shown_of entry) self.new) }
+        ensures refused { OnErr result (self.new ≡ self.old) }
+        ensures room { OnErr result (DrawsNow self.old) }
+    {
+        let Some(address) = self.generator.wants() else {
+            return Ok(Entry::Still);
+        };
+        let word = fetch(&self.store, &self.rom, address);
+        let taken = self.generator.take(word)?;
+        Ok(entry_of(address, word, taken))
+    }
+
+    // The generator is reset.
+    fn reset_generator(&mut self) -> Entry<S::Alloc>
+        ensures { AddsLine self.old ResetGen (shown_of result) self.new }
+    {
+        self.generator.reset();
+        Entry::Cleared
+    }
+
+    // The driver is reset.
+    fn reset_processor(&mut self) -> Entry<S::Alloc>
+        ensures { AddsLine self.old ResetCpu (shown_of result) self.new }
+    {
+        self.driver.reset();
+        Entry::Cleared
+    }
+
+    // The whole system is reset, and the RAM holds this image.
+    fn reset_all(&mut self, image: &Image<S::Alloc>) -> Entry<S::Alloc>
+        ensures { AddsLine self.old (ResetAll image.now) (shown_of result) self.new }
+    {
+        self.store.load(image);
+        self.generator.reset();
+        self.driver.reset();
+        self.strobe_sent = false;
+        Entry::Cleared
+    }
+}
+
+// The entry of a fetch at this address, of a word or of a hole.
+fn entry_of<A: Allocator>(address: u16, word: Option<u16>, taken: Taken<A>) -> Entry<A>
+    ensures { shown_of result ≡ entry_by address word taken }
+{
+    let Some(word) = word else {
+        return Entry::Broke(address, GenFault::Hole);
+    };
+    match taken {
+        Taken::Word => Entry::Fetched(address, word),
+        Taken::Done(strokes) => Entry::Done(address, word, strokes),
+        Taken::Broke(fault) => Entry::Broke(address, fault),
+    }
+}
