@@ -4,3 +4,10 @@ pub mod Lists
 pub mod Roms
 pub mod Jobs
 pub mod Outcomes
+pub mod Texts
+pub mod OpLines
+pub mod RomTexts
+pub mod DraftTexts
+pub mod Verdicts
+pub mod Checks
+pub mod TextLaws

@@ -14,6 +14,7 @@ mod performing;
 mod roms;
 mod task;
 mod transfer;
+mod verdict;
 mod watched;
 
 pub use command::job;
@@ -23,4 +24,5 @@ pub use outcome::{finish, status};
 pub use performing::perform;
 pub use roms::rom_text;
 pub use task::Job;
+pub use verdict::Verdict;
 pub use watched::{DeviceFailed, Watched};
