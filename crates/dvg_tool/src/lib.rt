@@ -6,6 +6,7 @@
 #![tactic(auto)]
 
 mod command;
+mod draft_text;
 mod fault;
 mod line;
 mod listing;
