@@ -6,3 +6,7 @@ pub mod RomLines
 pub mod Decimals
 pub mod Cuts
 pub mod OpRows
+pub mod LineEnds
+pub mod Zips
+pub mod GivenWords
+pub mod ReadTo
