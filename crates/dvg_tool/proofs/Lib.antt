@@ -3,3 +3,10 @@ pub mod Progress
 pub mod Whole
 pub mod Asking
 pub mod RomLines
+pub mod Decimals
+pub mod Cuts
+pub mod OpRows
+pub mod LineEnds
+pub mod Zips
+pub mod GivenWords
+pub mod ReadTo

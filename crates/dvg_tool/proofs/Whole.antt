@@ -4,7 +4,7 @@ use Rattle.dvg_code.specs.Words.{words_of}
 use Rattle.dvg_tool.specs.Lines.{rom_text}
 use Rattle.dvg_tool.specs.Roms.{WritesRom, WritesText}
 use Rattle.dvg_tool.specs.Lists.{IsListable, Lists, ListsWords}
-use Rattle.dvg_tool.specs.declared.fault.TextFault.TheVariants.{TooLong, Odd, Cut, RomSize}
+use Rattle.dvg_tool.specs.declared.fault.TextFault.TheVariants.{TooLong, Odd, Cut, RomSize, Syntax, Full}
 use Rattle.dvg_tool.specs.declared.fault.ToolFault.{ToolFault}
 use Rattle.dvg_tool.specs.declared.fault.ToolFault.TheVariants.{Text, Reader, Writer, Memory}
 
@@ -32,6 +32,8 @@ listed (Err (Text TooLong)) input old new w h = absurd h
 listed (Err (Text Odd)) input old new w h = absurd h
 listed (Err (Text (Cut place))) input old new w h = (w, h)
 listed (Err (Text RomSize)) input old new w h = absurd h
+listed (Err (Text (Syntax n))) input old new w h = absurd h
+listed (Err (Text (Full n))) input old new w h = absurd h
 listed (Err Reader) input old new w h = absurd h
 listed (Err Writer) input old new w h = (w, h)
 listed (Err Memory) input old new w h = absurd h

@@ -4,3 +4,14 @@ pub mod Lists
 pub mod Roms
 pub mod Jobs
 pub mod Outcomes
+pub mod Texts
+pub mod OpLines
+pub mod RomTexts
+pub mod DraftTexts
+pub mod Verdicts
+pub mod Checks
+pub mod LineParts
+pub mod TextLines
+pub mod RomWords
+pub mod DraftReading
+pub mod TextLaws

@@ -5,7 +5,7 @@ use Rattle.dvg_code.specs.Words.{words_of}
 use Rattle.dvg_code.specs.Cutting.{Cutting}
 use Rattle.dvg_tool.specs.Lines.{list_text}
 use Rattle.dvg_tool.specs.Watching.{BeginsToWrite}
-use Rattle.dvg_tool.specs.declared.fault.TextFault.TheVariants.{TooLong, Odd, Cut, RomSize}
+use Rattle.dvg_tool.specs.declared.fault.TextFault.TheVariants.{TooLong, Odd, Cut}
 use Rattle.dvg_tool.specs.declared.fault.ToolFault.{ToolFault}
 use Rattle.dvg_tool.specs.declared.fault.ToolFault.TheVariants.{Text, Reader, Writer, Memory}
 
@@ -31,7 +31,7 @@ abbrev pub StopsList : ToolFault → (input : List ℕ) → Option (List ℕ) �
 StopsList (Text TooLong) input old new = 8192 < length input
 StopsList (Text Odd) input old new = (length input ≤ 8192) × (length input % 2 ≡ 1)
 StopsList (Text (Cut place)) input old new = IsListable input × StopsListing (Text (Cut place)) (words_of input) old new
-StopsList (Text RomSize) input old new = ⊥
+StopsList (Text _) input old new = ⊥
 StopsList Writer input old new = IsListable input × StopsListing Writer (words_of input) old new
 StopsList Reader input old new = Unit {0}
 StopsList Memory input old new = Unit {0}

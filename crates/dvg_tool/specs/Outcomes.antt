@@ -1,16 +1,14 @@
 -- How an engine stops, and how the program ends.
 use Rattle.std.specs.Prelude.{◌≡◌, ℕ, ◌⊎◌, Result, Ok, Err}
-use Rattle.dvg_tool.specs.declared.fault.TextFault.TheVariants.{TooLong, Odd, Cut, RomSize}
+use Rattle.dvg_tool.specs.declared.fault.TextFault.TheVariants.{Cut}
 use Rattle.dvg_tool.specs.declared.fault.ToolFault.{ToolFault}
 use Rattle.dvg_tool.specs.declared.fault.ToolFault.TheVariants.{Text, Reader, Writer, Memory}
 use Rattle.dvg_tool.specs.Watching.{one_more}
 
 -- the faults that come before the first write
 abbrev pub StopsBeforeWriting : ToolFault → Type 0
-StopsBeforeWriting (Text TooLong) = Unit {0}
-StopsBeforeWriting (Text Odd) = Unit {0}
 StopsBeforeWriting (Text (Cut place)) = ⊥
-StopsBeforeWriting (Text RomSize) = Unit {0}
+StopsBeforeWriting (Text _) = Unit {0}
 StopsBeforeWriting Reader = Unit {0}
 StopsBeforeWriting Writer = ⊥
 StopsBeforeWriting Memory = Unit {0}

@@ -20,6 +20,12 @@ pub enum TextFault {
     /// A ROM hasn't exactly 2,048 bytes.
     #[error("rom size")]
     RomSize,
+    /// The line of this number, counted from 1, spells nothing that may stand at its place.
+    #[error("syntax at line {0}")]
+    Syntax(usize),
+    /// The line of this number, counted from 1, spells operation number 511 of a draft, which can't hold it.
+    #[error("full at line {0}")]
+    Full(usize),
 }
 
 /// Why an engine stopped. Its text is what `dvg` prints of it (this project's own choice).

@@ -6,14 +6,21 @@
 #![tactic(auto)]
 
 mod command;
+mod draft_text;
 mod fault;
 mod line;
+mod line_parts;
 mod listing;
+mod number;
+mod op_line;
 mod outcome;
 mod performing;
+mod rom_line;
 mod roms;
 mod task;
+mod text_lines;
 mod transfer;
+mod verdict;
 mod watched;
 
 pub use command::job;
@@ -23,4 +30,5 @@ pub use outcome::{finish, status};
 pub use performing::perform;
 pub use roms::rom_text;
 pub use task::Job;
+pub use verdict::Verdict;
 pub use watched::{DeviceFailed, Watched};

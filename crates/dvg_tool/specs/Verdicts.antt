@@ -1,0 +1,39 @@
+-- What `check` answers of a draft, and how it is written.
+use Rattle.std.specs.Prelude.{◌≡◌, ℕ, List, [], ◌∷◌, ◌++◌, codes, decimal}
+use Rattle.dvg_frame.specs.declared.op.OpKind.{OpKind}
+use Rattle.dvg_frame.specs.declared.place.Place.{Place}
+use Rattle.dvg_frame.specs.declared.place.Place.TheVariants.{InFrame, InRom}
+use Rattle.dvg_frame.specs.declared.place.FrameFault.{FrameFault}
+use Rattle.dvg_frame.specs.declared.place.FrameFault.TheVariants.{Empty, NoLabs, TooLong, Target, RunsOff, OutOfRom, TooDeep, NoCaller}
+use Rattle.dvg_frame.specs.Layout.{size}
+use Rattle.dvg_frame.specs.Steps.{Closed}
+use Rattle.dvg_frame.specs.Faults.{Refuses}
+use Rattle.dvg_tool.specs.Lines.{hex_3, spaced}
+use Rattle.dvg_tool.specs.declared.verdict.Verdict.{Verdict}
+use Rattle.dvg_tool.specs.declared.verdict.Verdict.TheVariants.{Good, Refused}
+
+-- what is said of a draft over a ROM: its number of words, where it is closed, or the fault that is picked
+abbrev pub IsVerdict : List OpKind → List ℕ → Verdict → Type 0
+IsVerdict F R (Good words) = Closed F R × (words ≡ size F)
+IsVerdict F R (Refused fault) = Refuses F R fault
+
+-- a place's name: an operation's number, or a ROM word's address
+abbrev pub place_parts : Place → List (List ℕ)
+place_parts (InFrame i) = codes "op" ∷ decimal i ∷ []
+place_parts (InRom a) = codes "word" ∷ hex_3 a ∷ []
+
+-- the parts of a fault's text
+abbrev pub fault_parts : FrameFault → List (List ℕ)
+fault_parts Empty = codes "1 empty" ∷ []
+fault_parts NoLabs = codes "2 no labs" ∷ []
+fault_parts TooLong = codes "3 too long" ∷ []
+fault_parts (Target i) = codes "4 target" ∷ decimal i ∷ []
+fault_parts (RunsOff i) = codes "5 runs off" ∷ decimal i ∷ []
+fault_parts (OutOfRom place) = codes "6 out of rom" ∷ place_parts place
+fault_parts (TooDeep place) = codes "7 too deep" ∷ place_parts place
+fault_parts (NoCaller place) = codes "8 no caller" ∷ place_parts place
+
+-- the line of a verdict; 10 is LF
+abbrev pub verdict_line : Verdict → List ℕ
+verdict_line (Good words) = codes "ok" ++ spaced (decimal words ∷ codes "words" ∷ []) ++ 10 ∷ []
+verdict_line (Refused fault) = codes "fault" ++ spaced (fault_parts fault) ++ 10 ∷ []
