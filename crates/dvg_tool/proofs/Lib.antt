@@ -3,3 +3,8 @@ pub mod Progress
 pub mod Whole
 pub mod Asking
 pub mod RomLines
+pub mod OneOperation
+pub mod OneMeaning
+pub mod OneStop
+pub mod OneRom
+pub mod OneVerdict

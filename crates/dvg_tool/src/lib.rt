@@ -7,6 +7,7 @@
 
 mod command;
 mod fault;
+pub mod laws;
 mod line;
 mod listing;
 mod outcome;
