@@ -10,4 +10,5 @@ pub mod RomTexts
 pub mod DraftTexts
 pub mod Verdicts
 pub mod Checks
+pub mod DraftReading
 pub mod TextLaws

@@ -6,6 +6,7 @@
 #![tactic(auto)]
 
 mod command;
+mod draft_text;
 mod fault;
 pub mod laws;
 mod line;
