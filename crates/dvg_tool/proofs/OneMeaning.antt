@@ -82,6 +82,10 @@ front_ops [] more F h = ([], tt, omega arith)
 front_ops (l ∷ ls) more [] h = absurd h
 front_ops (l ∷ ls) more (op ∷ F) h = let (G, all, count) = front_ops ls more F h.1 in (op ∷ G, (h.0, all), omega arith)
 
+-- a ROM line before others
+rom_line_before : {roms : List RomLine} {F : List OpKind} {ls : List (List ℕ)} (given : RomLine) (line : List ℕ) → IsRomLine given line → Spells roms F ls → Spells (given ∷ roms) F (line ∷ ls)
+rom_line_before given line h s = record { front = line ∷ s.front; rest = s.rest; cut = ap (λ ls. line ∷ ls) s.cut; rom = (h, s.rom); draft = s.draft }
+
 fits_front_of : (front rest ls more : List (List ℕ)) (roms : List RomLine) (F : List OpKind) → front ++ rest ≡ ls ++ more → AllZip IsRomLine roms front → AllZip IsOpLine F rest → Fits (length F) ls
 fits_front_of front rest [] more roms F e p q = record { roms = []; ops = []; spelled = record { front = []; rest = []; cut = refl; rom = tt; draft = tt }; count = omega arith }
 fits_front_of [] rest (l ∷ ls) more roms F e p q =
@@ -92,13 +96,7 @@ fits_front_of (m ∷ front) rest (l ∷ ls) more (g ∷ roms) F e p q =
     let first : m ≡ l = cc in
     let others : front ++ rest ≡ ls ++ more = cc in
     let fits = fits_front_of front rest ls more roms F others p.1 q in
-    let s = fits.spelled in
-    record {
-      roms = g ∷ fits.roms;
-      ops = fits.ops;
-      spelled = record { front = l ∷ s.front; rest = s.rest; cut = ap (λ k. l ∷ k) s.cut; rom = (subst (IsRomLine g) first p.0, s.rom); draft = s.draft };
-      count = fits.count;
-    }
+    record { roms = g ∷ fits.roms; ops = fits.ops; spelled = rom_line_before g l (subst (IsRomLine g) first p.0) fits.spelled; count = fits.count }
 
 -- a front of lines that fit fits
 pub fits_front : (most : ℕ) (ls more : List (List ℕ)) → Fits most (ls ++ more) → Fits most ls
