@@ -3,6 +3,9 @@ pub mod Progress
 pub mod Whole
 pub mod Asking
 pub mod RomLines
+pub mod Decimals
+pub mod Cuts
+pub mod OpRows
 pub mod OneOperation
 pub mod OneMeaning
 pub mod OneStop

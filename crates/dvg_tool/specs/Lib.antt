@@ -10,5 +10,8 @@ pub mod RomTexts
 pub mod DraftTexts
 pub mod Verdicts
 pub mod Checks
+pub mod LineParts
+pub mod TextLines
+pub mod RomWords
 pub mod DraftReading
 pub mod TextLaws
