@@ -6,6 +6,10 @@ pub mod RomLines
 pub mod Decimals
 pub mod Cuts
 pub mod OpRows
+pub mod LineEnds
+pub mod Zips
+pub mod GivenWords
+pub mod ReadTo
 pub mod OneOperation
 pub mod OneMeaning
 pub mod OneStop

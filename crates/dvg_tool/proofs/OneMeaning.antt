@@ -6,20 +6,14 @@ use Rattle.dvg_tool.specs.Texts.{IsHex, lines, parts, told}
 use Rattle.dvg_tool.specs.OpLines.{IsOpLine, OpParts}
 use Rattle.dvg_tool.specs.RomTexts.{IsRomLine, RomLine}
 use Rattle.dvg_tool.specs.DraftTexts.{Denotes, Spells}
-use Rattle.dvg_tool.proofs.OneOperation.{no_rom_line, one_operation}
-
--- where each part spells one thing at most, so does a list of parts
-one_list : {A B : Type 0} (R : A → B → Type 0) → ((x y : A) (part : B) → R x part → R y part → y ≡ x) → (xs ys : List A) (ps : List B) → AllZip R xs ps → AllZip R ys ps → ys ≡ xs
-one_list R one [] [] [] h k = refl
-one_list R one [] [] (p ∷ ps) h k = absurd h
-one_list R one [] (y ∷ ys) [] h k = absurd k
-one_list R one [] (y ∷ ys) (p ∷ ps) h k = absurd h
-one_list R one (x ∷ xs) ys [] h k = absurd h
-one_list R one (x ∷ xs) [] (p ∷ ps) h k = absurd k
-one_list R one (x ∷ xs) (y ∷ ys) (p ∷ ps) h k = let e = one x y p h.0 k.0 in let f = one_list R one xs ys ps h.1 k.1 in cc
+use Rattle.dvg_tool.specs.RomWords.{SpellsWords}
+use Rattle.dvg_tool.proofs.GivenWords.{same_words}
+use Rattle.dvg_tool.proofs.OneOperation.{one_operation}
+use Rattle.dvg_tool.proofs.ReadTo.{not_both}
+use Rattle.dvg_tool.proofs.Zips.{zip_same}
 
 one_hex : (count m n : ℕ) (part : List ℕ) → IsHex count m part → IsHex count n part → n ≡ m
-one_hex count m n part h k = let p = h.value in let q = k.value in cc
+one_hex count m n part h k = sym k.value ∙ h.value
 
 same_line : (a b : ℕ) (ws vs : List ℕ) → b ≡ a → vs ≡ ws → (let line : RomLine = record { address = b; words = vs } in line) ≡ record { address = a; words = ws }
 same_line a b ws vs e f = cc
@@ -32,14 +26,10 @@ one_rom_line given other line h k =
     let digits : k.digits ≡ h.digits = cc in
     let spelled : k.spelled ≡ h.spelled = cc in
     let a : other.address ≡ given.address = one_hex 3 given.address other.address h.digits h.address (subst (IsHex 3 other.address) digits k.address) in
-    let ws : other.words ≡ given.words = one_list (λ word part. IsHex 4 word part) (λ m n part. one_hex 4 m n part) given.words other.words h.spelled h.words (subst (AllZip (λ word part. IsHex 4 word part) other.words) spelled k.words) in
+    let ws : other.words ≡ given.words = same_words other.words given.words h.spelled (subst (SpellsWords other.words) spelled k.words) h.words in
     same_line given.address other.address given.words other.words a ws
 
--- no line is both
-not_both : (given : RomLine) (op : OpKind) (line : List ℕ) → IsRomLine given line → IsOpLine op line → ⊥
-not_both given op line h k = no_rom_line (subst (OpParts op) h.split k)
-
--- nor does a line of the ROM begin lines of operations
+-- a line of the ROM begins no lines of operations
 not_ops : (given : RomLine) (F : List OpKind) (line : List ℕ) (ls : List (List ℕ)) → IsRomLine given line → AllZip IsOpLine F (line ∷ ls) → ⊥
 not_ops given [] line ls h k = k
 not_ops given (op ∷ F) line ls h k = not_both given op line h k.0
@@ -47,7 +37,7 @@ not_ops given (op ∷ F) line ls h k = not_both given op line h k.0
 -- two cuts of the same lines give the same
 same_cut : (front fore rest back : List (List ℕ)) (roms others : List RomLine) (F G : List OpKind) → front ++ rest ≡ fore ++ back
     → AllZip IsRomLine roms front → AllZip IsRomLine others fore → AllZip IsOpLine F rest → AllZip IsOpLine G back → (others ≡ roms) × (G ≡ F)
-same_cut [] [] rest back [] [] F G e p r q s = (refl, one_list IsOpLine (λ op other line h k. one_operation h k) F G rest q (subst (AllZip IsOpLine G) (sym e) s))
+same_cut [] [] rest back [] [] F G e p r q s = (refl, zip_same IsOpLine (λ op other line h k. one_operation k h) G F rest (subst (AllZip IsOpLine G) (sym e) s) q)
 same_cut [] [] rest back [] (o ∷ others) F G e p r q s = absurd r
 same_cut [] [] rest back (g ∷ roms) others F G e p r q s = absurd p
 same_cut [] (l ∷ fore) rest back roms [] F G e p r q s = absurd r

@@ -11,7 +11,7 @@ use dvg_frame::Draft;
 use dvg_mem::MEMORY_BYTES;
 
 /// The most bytes of a text (this project's own choice).
-pub const MAX_TEXT_BYTES: usize = 1_048_576;
+pub const MOST_TEXT_BYTES: usize = 1_048_576;
 
 /// What the text of a draft denotes.
 #[derive(Drop)]
@@ -33,7 +33,7 @@ pub fn read_draft(text: &[u8]) -> Result<DraftText, TextFault>
     ensures gives { IfOk result (λ told. Gives text.now told.draft told.rom) }
     ensures fault { IfErr result (λ fault. HasFault text.now fault) }
 {
-    if text.len() > MAX_TEXT_BYTES {
+    if text.len() > MOST_TEXT_BYTES {
         return Err(TextFault::TooLong);
     }
     let mut draft = Draft::new();
@@ -44,11 +44,9 @@ pub fn read_draft(text: &[u8]) -> Result<DraftText, TextFault>
         if is_passed(line) {
             continue;
         }
-        if draft.is_empty() {
-            if let Some(given) = read_rom_line(line) {
-                given.put(&mut rom);
-                continue;
-            }
+        if draft.is_empty() && let Some(given) = read_rom_line(line) {
+            given.put(&mut rom);
+            continue;
         }
         let Some(op) = read_op(line) else {
             return Err(TextFault::Syntax(number));
