@@ -1,9 +1,9 @@
 -- A text denotes one draft and one ROM at most, and the front of what spells something does too.
-use Rattle.std.proofs.Common.{◌≡◌, ◌<◌, ◌≤◌, ◌+◌, ℕ, List, [], ◌∷◌, ◌++◌, codes, length, refl, sym, ap, subst, ◌∙◌, arith, length-append}
+use Rattle.std.proofs.Common.{◌≡◌, ◌≤◌, ℕ, List, [], ◌∷◌, ◌++◌, length, refl, sym, ap, subst, ◌∙◌, arith}
 use Rattle.std.specs.List.{AllZip}
 use Rattle.dvg_frame.specs.declared.op.OpKind.{OpKind}
-use Rattle.dvg_tool.specs.Texts.{IsHex, lines, parts, told}
-use Rattle.dvg_tool.specs.OpLines.{IsOpLine, OpParts}
+use Rattle.dvg_tool.specs.Texts.{IsHex}
+use Rattle.dvg_tool.specs.OpLines.{IsOpLine}
 use Rattle.dvg_tool.specs.RomTexts.{IsRomLine, RomLine}
 use Rattle.dvg_tool.specs.DraftTexts.{Denotes, Spells}
 use Rattle.dvg_tool.specs.RomWords.{SpellsWords}
