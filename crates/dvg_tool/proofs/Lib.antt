@@ -10,3 +10,8 @@ pub mod LineEnds
 pub mod Zips
 pub mod GivenWords
 pub mod ReadTo
+pub mod OneOperation
+pub mod OneMeaning
+pub mod OneStop
+pub mod OneRom
+pub mod OneVerdict

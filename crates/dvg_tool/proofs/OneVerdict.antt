@@ -1,0 +1,26 @@
+-- Of a text one verdict is given at most.
+use Rattle.std.proofs.Common.{◌≡◌, ℕ, List, ap, subst, sym, ◌∙◌}
+use Rattle.dvg_frame.specs.declared.op.OpKind.{OpKind}
+use Rattle.dvg_frame.proofs.OneFault.{closed_stays, one_fault}
+use Rattle.dvg_tool.specs.declared.verdict.Verdict.{Verdict}
+use Rattle.dvg_tool.specs.declared.verdict.Verdict.TheVariants.{Good, Refused}
+use Rattle.dvg_tool.specs.RomTexts.{IsRomOf}
+use Rattle.dvg_tool.specs.Verdicts.{IsVerdict}
+use Rattle.dvg_tool.specs.Checks.{Judges}
+use Rattle.dvg_tool.proofs.OneMeaning.{one_meaning}
+use Rattle.dvg_tool.proofs.OneRom.{one_rom}
+
+-- of a draft over a ROM one verdict is right
+one_said : (F : List OpKind) (R : List ℕ) (one other : Verdict) → IsVerdict F R one → IsVerdict F R other → other ≡ one
+one_said F R (Good words) (Good count) a b = ap Good (b.1 ∙ sym a.1)
+one_said F R (Good words) (Refused fault) a b = absurd (closed_stays F R fault a.0 b)
+one_said F R (Refused fault) (Good words) a b = absurd (closed_stays F R fault b.0 a)
+one_said F R (Refused fault) (Refused found) a b = ap Refused (one_fault F R fault found a b)
+
+pub one_verdict : (text : List ℕ) (one other : Verdict) → Judges text one → Judges text other → other ≡ one
+one_verdict text said also a b =
+    let one = a.gives in
+    let other = b.gives in
+    let (roms, ops) = one_meaning text one.roms other.roms a.F b.F one.denotes other.denotes in
+    let rom = one_rom one.roms a.R b.R one.rom (subst (λ roms. IsRomOf roms b.R) roms other.rom) in
+    one_said a.F a.R said also a.said (subst (λ R. IsVerdict a.F R also) rom (subst (λ F. IsVerdict F b.R also) ops b.said))
