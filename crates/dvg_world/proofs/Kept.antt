@@ -23,7 +23,7 @@ use Rattle.dvg_world.specs.Log.{◌⟼◌, Log, Throughout, ram, byte, history, 
 use Rattle.dvg_world.specs.Legal.{IsTrueRead, IsFetch, Fits, IsLegal}
 use Rattle.dvg_world.specs.Headline.{SparesDrawn, NeverTorn}
 use Rattle.dvg_driver.proofs.Places.{whole_rests, life_place, place_before}
-use Rattle.dvg_world.proofs.Drawing.{LeadsTo, drawn_leads, leads_none, leads_before, leads_same, other_differs, not_both, past_zero, half_high, jump_word, jump_there}
+use Rattle.dvg_world.proofs.Drawing.{LeadsTo, drawn_leads, leads_none, leads_before, leads_same, not_both, past_zero, half_high, jump_word, jump_there}
 use Rattle.dvg_world.proofs.Flips.{no_flip}
 use Rattle.dvg_world.proofs.Linked.{Cut, none, fetching}
 use Rattle.dvg_world.proofs.Todo.{Todo, todo_frame, IsWrite, to_half, to_zero, to_one, is_write}

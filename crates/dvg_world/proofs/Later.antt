@@ -1,5 +1,5 @@
 -- No faults, right pictures, no older picture, and an end in time.
-use Rattle.std.proofs.Common.{◌≡◌, ℕ, suc, ◌+◌, ◌*◌, ◌≤◌, ◌<◌, List, [], ◌∷◌, length, slice_index, refl, sym, ◌∙◌, ap, subst, Option, Some, None, arith}
+use Rattle.std.proofs.Common.{◌≡◌, ℕ, suc, ◌+◌, ◌≤◌, List, [], ◌∷◌, length, refl, sym, ◌∙◌, ap, subst, Option, Some, None, arith}
 use Rattle.std.specs.Prelude.{option_and_then, option_map}
 use Rattle.std.proofs.lemmas.Option.{same_Some}
 use Rattle.dvg_mem.specs.declared.half.Half.{Half}
@@ -22,7 +22,7 @@ use Rattle.dvg_world.specs.Events.{Happening, Offer, Redraw, Tick, Strobe, Fetch
 use Rattle.dvg_world.specs.Entries.{Shown, Offered, Refused, Busy, Asked, NothingPublished, Acted, Started, NoStrobe, Fetched, Done, Broke, Still, Cleared}
 use Rattle.dvg_world.specs.Log.{◌⟼◌, Log, Throughout, ram, byte, history, open_run, free_half, life, published, publication, at_zero}
 use Rattle.dvg_world.specs.Legal.{IsFetch, Fits, IsLegal}
-use Rattle.dvg_world.specs.Headline.{IsShown, IsNoLater, NoFault, DrewPublished, IsNoOlder, ByPicture, KeepsTime, NeverFaults, DrawsPublished, NeverOlder, AlwaysInTime}
+use Rattle.dvg_world.specs.Headline.{IsShown, IsNoLater, NoFault, DrewPublished, IsNoOlder, KeepsTime, NeverFaults, DrawsPublished, NeverOlder, AlwaysInTime}
 use Rattle.dvg_world.specs.Law.{IsDrawn}
 use Rattle.dvg_driver.proofs.Places.{whole_rests, life_place, place_before}
 use Rattle.dvg_world.proofs.Drawing.{LeadsTo, later, jump_there}
