@@ -1,12 +1,12 @@
 -- Exactly one action goes on a life, for each flag that is handed in.
-use Rattle.std.proofs.Common.{◌≡◌, ℕ, ◌*◌, Bool, true, false, List, [], ◌∷◌, ◌++◌, refl, sym, ap, ◌∙◌, subst, Some, None, nat_eq, ◌&&◌, eqb-true}
+use Rattle.std.proofs.Common.{◌≡◌, ℕ, ◌*◌, Bool, true, false, List, [], ◌∷◌, refl, sym, ap, ◌∙◌, subst, Some, None, nat_eq, ◌&&◌, eqb-true}
 use Rattle.std.specs.Prelude.{if◌then◌else◌, option_and_then}
 use Rattle.dvg_driver.specs.declared.action.Action.{Action}
 use Rattle.dvg_driver.specs.declared.action.Action.TheVariants.{Peek, Wrote, Read, Sent, Idle}
 use Rattle.dvg_mem.specs.Areas.{base}
 use Rattle.dvg_frame.specs.Bytes.{addressed, bytes}
 use Rattle.dvg_frame.specs.Layout.{laid}
-use Rattle.dvg_driver.specs.Script.{Item, Offered, Asked, Did, IsLife, frame_writes}
+use Rattle.dvg_driver.specs.Script.{Item, Offered, Did, frame_writes}
 use Rattle.dvg_driver.specs.Place.{Place, Start, Booting, Resting, Writing, Waiting, Sending, next, place_of, with_left, after_write}
 use Rattle.dvg_driver.specs.Stands.{Tells}
 use Rattle.dvg_driver.specs.Laws.{OneAction}

@@ -1,13 +1,13 @@
 -- A life that the script allows has a place, and one of whole parts rests.
-use Rattle.std.proofs.Common.{◌≡◌, ℕ, zero, suc, ◌*◌, Bool, true, false, List, [], ◌∷◌, ◌++◌, refl, sym, ◌∙◌, ap, Option, Some, None, reverse, nat_eq, ◌&&◌, eq-eqb}
+use Rattle.std.proofs.Common.{◌≡◌, ℕ, zero, suc, ◌*◌, Bool, true, false, List, [], ◌∷◌, ◌++◌, refl, sym, ◌∙◌, ap, Option, Some, None, reverse, eq-eqb}
 use mathlib.Core.List.{reverse-cons}
-use Rattle.std.specs.Prelude.{option_and_then, if◌then◌else◌}
+use Rattle.std.specs.Prelude.{option_and_then}
 use Rattle.dvg_mem.specs.declared.half.Half.{Half}
 use Rattle.dvg_mem.specs.Areas.{base}
 use Rattle.dvg_frame.specs.Bytes.{addressed, bytes}
 use Rattle.dvg_frame.specs.Layout.{laid}
-use Rattle.dvg_driver.specs.declared.action.Action.TheVariants.{Peek, Wrote, Read, Sent, Idle}
-use Rattle.dvg_driver.specs.Script.{Item, Offered, Asked, Did, Part, Rest, Frame, Redraw, frame_writes, wrote, waited, script, whole_life, IsWhole, IsLife, flips, has_flip, word_zero}
+use Rattle.dvg_driver.specs.declared.action.Action.TheVariants.{Sent}
+use Rattle.dvg_driver.specs.Script.{Item, Did, Part, Rest, Frame, Redraw, frame_writes, wrote, waited, script, whole_life, IsWhole, IsLife, word_zero}
 use Rattle.dvg_driver.specs.Place.{Place, Start, Booting, Resting, Writing, Waiting, Sending, next, place_of, with_left, after_write}
 
 pub some_same : {A : Type 0} {x y : A} → Some x ≡ Some y → x ≡ y

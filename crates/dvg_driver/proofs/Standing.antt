@@ -1,19 +1,18 @@
 -- How a driver goes on standing after its life.
-use Rattle.std.proofs.Common.{◌≡◌, ◌≢◌, ℕ, ◌≤◌, Bool, true, false, not, List, [], ◌∷◌, ◌++◌, refl, sym, ◌∙◌, ap, subst, Some, nat_eq, arith, inl, inr, eq-eqb}
-use Rattle.std.specs.Prelude.{All, option_and_then, if◌then◌else◌}
+use Rattle.std.proofs.Common.{◌≡◌, ℕ, ◌≤◌, Bool, false, not, List, ◌∷◌, ◌++◌, refl, sym, ◌∙◌, ap, subst, Some, nat_eq, arith, inl, inr, eq-eqb}
+use Rattle.std.specs.Prelude.{All, option_and_then}
 use Rattle.std.proofs.lemmas.List.Elements.{All-head, All-tail}
 use Rattle.std.proofs.lemmas.Bool.Decides.{eqb_tells}
 use Rattle.dvg_mem.specs.declared.half.Half.{Half}
-use Rattle.dvg_mem.specs.declared.half.Half.TheVariants.{H0, H1}
-use Rattle.dvg_mem.specs.Areas.{half_of_high, other, high}
+use Rattle.dvg_mem.specs.Areas.{other, high}
 use Rattle.dvg_frame.specs.Bytes.{IsBehindWordZero}
 use Rattle.dvg_driver.specs.declared.driver.Phase.{Phase}
 use Rattle.dvg_driver.specs.declared.driver.Phase.TheVariants as phase
 use Rattle.dvg_driver.specs.declared.driver.Driver.TheInside.{Inside}
 use Rattle.dvg_driver.specs.declared.action.Action.TheVariants.{Wrote}
-use Rattle.dvg_driver.specs.Script.{Item, Offered, Asked, Did, IsWhole, IsLife, frame_writes, word_zero}
-use Rattle.dvg_driver.specs.Place.{Place, Resting, Writing, Waiting, next, place_of, with_left, after_write}
-use Rattle.dvg_driver.specs.Stands.{Stage, StandsAfter, byte1_of}
+use Rattle.dvg_driver.specs.Script.{Item, Did, IsWhole, IsLife, word_zero}
+use Rattle.dvg_driver.specs.Place.{Resting, Writing, next, place_of, with_left}
+use Rattle.dvg_driver.specs.Stands.{Stage, StandsAfter}
 use Rattle.dvg_driver.specs.Phases.{Keeps, place_in, stage_of}
 use Rattle.dvg_driver.proofs.Places.{whole_rests, with_left-append}
 use Rattle.dvg_driver.proofs.Shapes.{place_life}

@@ -139,3 +139,105 @@ fn calls_and_answers(rt: HostRuntime) -> Result<(), Fail> {
     assert!(rt; holds(&store, 0x00C, &[0xFF; 2036]));
     Ok(())
 }
+
+// A driver that has booted over a store of zeros and has published F1.
+fn published(alloc: Global, store: &mut Flat) -> Result<Driver, Fail> {
+    let mut driver = Driver::new();
+    let booted = tick(&mut driver, store, true) == Action::Peek
+        && tick(&mut driver, store, true) == Action::Read(true);
+    let accepted = driver.offer(f1(alloc)?) == Ok(());
+    let wrote = writes(&mut driver, store, 0x402, &F1)
+        && writes(&mut driver, store, 0x000, &[0x01, 0xE2]);
+    if booted && accepted && wrote && strobes(&mut driver, store) {
+        Ok(driver)
+    } else {
+        Err("not published".into())
+    }
+}
+
+#[test]
+fn a_first_frame_writes_byte_000(rt: HostRuntime) -> Result<(), Fail> {
+    let alloc = rt.alloc();
+    let mut store = store(alloc, 0x00)?;
+    let mut driver = published(alloc, &mut store)?;
+    assert!(rt; holds(&store, 0x000, &[0x01, 0xE2]));
+    assert!(rt; holds(&store, 0x002, &[0x00; 1024]));
+    assert!(rt; holds(&store, 0x402, &F1));
+    assert!(rt; holds(&store, 0x40C, &[0x00; 1012]));
+    assert_eq!(rt; tick(&mut driver, &mut store, true), Action::Idle);
+    assert_eq!(rt; tick(&mut driver, &mut store, false), Action::Idle);
+    Ok(())
+}
+
+#[test]
+fn a_second_frame_goes_to_the_other_half(rt: HostRuntime) -> Result<(), Fail> {
+    let alloc = rt.alloc();
+    let mut store = store(alloc, 0x00)?;
+    let mut driver = published(alloc, &mut store)?;
+    assert_eq!(rt; driver.offer(f2(alloc)?), Ok(()));
+    assert!(rt; writes(&mut driver, &mut store, 0x002, &F2));
+    assert_eq!(rt;
+        tick(&mut driver, &mut store, false),
+        Action::Wrote(0x001, 0xE0)
+    );
+    assert_eq!(rt; tick(&mut driver, &mut store, false), Action::Read(false));
+    assert_eq!(rt; driver.offer(f1(alloc)?), Err(DriverFault::Busy));
+    assert_eq!(rt; tick(&mut driver, &mut store, false), Action::Read(false));
+    assert!(rt; strobes(&mut driver, &mut store));
+    assert!(rt; holds(&store, 0x002, &F2));
+    assert!(rt; holds(&store, 0x402, &F1));
+    Ok(())
+}
+
+#[test]
+fn a_reset_forgets_the_flip(rt: HostRuntime) -> Result<(), Fail> {
+    let alloc = rt.alloc();
+    let mut store = store(alloc, 0x00)?;
+    let mut driver = published(alloc, &mut store)?;
+    assert_eq!(rt; driver.offer(f2(alloc)?), Ok(()));
+    assert!(rt; writes(&mut driver, &mut store, 0x002, &F2));
+    assert_eq!(rt;
+        tick(&mut driver, &mut store, false),
+        Action::Wrote(0x001, 0xE0)
+    );
+    driver.reset();
+    assert_eq!(rt; driver.redraw(), Err(DriverFault::NothingPublished));
+    assert_eq!(rt; tick(&mut driver, &mut store, false), Action::Peek);
+    assert_eq!(rt; tick(&mut driver, &mut store, false), Action::Read(false));
+    assert_eq!(rt; driver.offer(f3(alloc)?), Err(DriverFault::Busy));
+    assert_eq!(rt; tick(&mut driver, &mut store, true), Action::Read(true));
+    assert_eq!(rt; driver.redraw(), Err(DriverFault::NothingPublished));
+    assert_eq!(rt; driver.offer(f3(alloc)?), Ok(()));
+    assert!(rt; writes(&mut driver, &mut store, 0x402, &F3));
+    assert!(rt; writes(&mut driver, &mut store, 0x000, &[0x01, 0xE2]));
+    assert!(rt; strobes(&mut driver, &mut store));
+    Ok(())
+}
+
+#[test]
+fn a_reset_drops_a_frame_that_is_being_written(rt: HostRuntime) -> Result<(), Fail> {
+    let alloc = rt.alloc();
+    let mut store = store(alloc, 0x00)?;
+    let mut driver = published(alloc, &mut store)?;
+    assert_eq!(rt; driver.offer(f2(alloc)?), Ok(()));
+    assert!(rt; writes(&mut driver, &mut store, 0x002, &[0x00, 0xA0, 0x00]));
+    driver.reset();
+    assert_eq!(rt; tick(&mut driver, &mut store, true), Action::Peek);
+    assert_eq!(rt; tick(&mut driver, &mut store, true), Action::Read(true));
+    assert_eq!(rt; tick(&mut driver, &mut store, true), Action::Idle);
+    Ok(())
+}
+
+#[test]
+fn a_redraw_waits_and_strobes_again(rt: HostRuntime) -> Result<(), Fail> {
+    let alloc = rt.alloc();
+    let mut store = store(alloc, 0x00)?;
+    let mut driver = published(alloc, &mut store)?;
+    assert_eq!(rt; driver.redraw(), Ok(()));
+    assert_eq!(rt; tick(&mut driver, &mut store, false), Action::Read(false));
+    assert_eq!(rt; driver.redraw(), Err(DriverFault::Busy));
+    assert!(rt; strobes(&mut driver, &mut store));
+    assert_eq!(rt; driver.redraw(), Ok(()));
+    assert!(rt; strobes(&mut driver, &mut store));
+    Ok(())
+}

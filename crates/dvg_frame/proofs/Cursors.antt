@@ -46,15 +46,15 @@ pub turns : (half : Half) (F : List OpKind) (words next : List ℕ) (given op : 
 turns half F words next given op all within spelled =
     elim (slice_get_cases F op).1 [
       | inl here ↦ (
-        let next_is : next ≡ canon (op_code half F here.0) = spelled here.0 here.2 in
-        let same_length : length next ≡ length (canon (op_code half F here.0)) = ap length next_is in
-        let count = canon_length half F here.0 in
-        let some = some_words here.0 in
-        record {
-          same = used_up half F words given op all ∙ ap (λ ops. bytes (laid_ops half F ops)) (drop_one_at F op here.0 here.2)
-              ∙ bytes-append (canon (op_code half F here.0)) (laid_ops half F (drop (op + 1) F)) ∙ ap (λ ws. bytes ws ++ bytes (laid_ops half F (drop (op + 1) F))) (sym next_is);
-          room = omega arith;
-        })
+          let next_is : next ≡ canon (op_code half F here.0) = spelled here.0 here.2 in
+          let same_length : length next ≡ length (canon (op_code half F here.0)) = ap length next_is in
+          let count = canon_length half F here.0 in
+          let some = some_words here.0 in
+          record {
+            same = used_up half F words given op all ∙ ap (λ ops. bytes (laid_ops half F ops)) (drop_one_at F op here.0 here.2)
+                ∙ bytes-append (canon (op_code half F here.0)) (laid_ops half F (drop (op + 1) F)) ∙ ap (λ ws. bytes ws ++ bytes (laid_ops half F (drop (op + 1) F))) (sym next_is);
+            room = omega arith;
+          })
       | inr past ↦ absurd (let outside = past.0 in omega arith)
     ]
 

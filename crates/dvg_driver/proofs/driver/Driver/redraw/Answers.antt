@@ -1,4 +1,4 @@
-use Rattle.std.proofs.Common.{not, refl, ◌∙◌}
+use Rattle.std.proofs.Common.{not, refl}
 use Rattle.dvg_driver.specs.declared.driver.Phase.TheVariants as phase
 use Rattle.dvg_driver.proofs.Shapes.{rests_whole}
 use Rattle.dvg_driver.proofs.Standing.{at_phase, not_whole}
@@ -8,7 +8,8 @@ pub returns-in-Resting-clause-accepted : goal.returns-in-Resting-clause-accepted
 returns-in-Resting-clause-accepted c peeked life stands =
     let driver = c.self.inside in
     let at = at_phase driver c.args.self.now phase.Resting peeked life c.self.view_is c.in-Resting.is stands in
-    (λ ok. (at.flipped ∙ c.if-not-self.false, rests_whole life (not driver.flipped) at.place), λ both. refl)
+    let flips = at.flipped in
+    (λ ok. (cc, rests_whole life (not driver.flipped) at.place), λ both. refl)
 
 pub returns-in_default-clause-accepted : goal.returns-in_default-clause-accepted
 returns-in_default-clause-accepted c peeked life stands =

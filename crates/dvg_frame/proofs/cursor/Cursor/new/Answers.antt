@@ -1,6 +1,4 @@
-use Rattle.std.proofs.Common.{◌*◌, length, ap, arith, ◌∙◌, ◌≡◌, ◌≤◌}
-use Rattle.dvg_mem.specs.Areas.{base}
-use Rattle.dvg_frame.specs.Layout.{laid}
+use Rattle.std.proofs.Common.{arith}
 use Rattle.dvg_frame.proofs.Cursors.{begins-length, in_ram}
 use Rattle.dvg_frame.proofs.Sizes.{base_low}
 use Rattle.dvg_frame.proofs.cursor.Cursor.new.Goals as goal

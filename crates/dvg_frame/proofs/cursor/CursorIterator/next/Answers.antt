@@ -23,13 +23,13 @@ ready c =
     let S = c.self.inside in
     elim c.if-from-len.branch [
       | then-from-len w ↦ (
-        let all : S.given ≡ 2 * length S.words.items = (let is = w.if-from-len.true in omega arith) in
-        let within = one_more S.half S.frame S.words.items S.given S.op S.left c.self.invariant.left c.if-self-eq0.false all in
-        subst (λ N. GoesOn S N) (sym w.self-inside-is)
-        (record { ready = turns S.half S.frame S.words.items w.spelling-self-inside.result.items S.given S.op all within w.spelling-self-inside.ensures.words; address = refl; left = refl }))
+          let all : S.given ≡ 2 * length S.words.items = (let is = w.if-from-len.true in omega arith) in
+          let within = one_more S.half S.frame S.words.items S.given S.op S.left c.self.invariant.left c.if-self-eq0.false all in
+          subst (λ N. GoesOn S N) (sym w.self-inside-is)
+          (record { ready = turns S.half S.frame S.words.items w.spelling-self-inside.result.items S.given S.op all within w.spelling-self-inside.ensures.words; address = refl; left = refl }))
       | else-from-len w ↦
-        subst (λ N. GoesOn S N) (sym w.self-inside-is)
-        (record { ready = stays S.half S.frame S.words.items S.given S.op c.self.invariant.given (λ all. w.if-from-len.false (omega arith)); address = refl; left = refl })
+          subst (λ N. GoesOn S N) (sym w.self-inside-is)
+          (record { ready = stays S.half S.frame S.words.items S.given S.op c.self.invariant.given (λ all. w.if-from-len.false (omega arith)); address = refl; left = refl })
     ]
 
 pub bounds-deref-from : goal.bounds-deref-from
