@@ -1,30 +1,30 @@
 -- Which half a run draws.
-use Rattle.std.proofs.Common.{◌≡◌, ℕ, ◌+◌, ◌*◌, ◌/◌, ◌≤◌, ◌<◌, List, [], ◌∷◌, ◌++◌, Some, refl, sym, subst, arith}
+use Rattle.std.proofs.Common.{◌≡◌, ℕ, ◌+◌, ◌*◌, ◌/◌, ◌≤◌, ◌<◌, List, [], ◌∷◌, ◌++◌, Some, refl, sym, ◌∙◌, ap, subst, arith}
 use Rattle.dvg_mem.specs.declared.half.Half.{Half}
 use Rattle.dvg_mem.specs.declared.half.Half.TheVariants.{H0, H1}
 use Rattle.dvg_mem.specs.declared.areas.Area.TheVariants.{Frame}
 use Rattle.dvg_mem.specs.Areas.{IsIn, base, high, other, half_of_high}
 use Rattle.dvg_world.specs.Log.{Log, open_run, IsBeingDrawn}
 
--- the first of a run's words, which are given newest first, is a jump to an address in the half
-pub data LeadsTo : List ℕ → Half → Type 0 where
-  jump : {word : ℕ} {half : Half} (target : ℕ) → word ≡ 0xE000 + target → IsIn (Frame half) target → LeadsTo (word ∷ []) half
-  later : {word : ℕ} {words : List ℕ} {half : Half} → LeadsTo words half → LeadsTo (word ∷ words) half
+-- the first of a run's fetches, which are given newest first, is of word zero and met a jump to an address in the half
+pub data LeadsTo : List (ℕ × ℕ) → Half → Type 0 where
+  jump : {fetch : ℕ × ℕ} {half : Half} (target : ℕ) → fetch ≡ (0, 0xE000 + target) → IsIn (Frame half) target → LeadsTo (fetch ∷ []) half
+  later : {fetch : ℕ × ℕ} {fetches : List (ℕ × ℕ)} {half : Half} → LeadsTo fetches half → LeadsTo (fetch ∷ fetches) half
 
-leads : (words after : List ℕ) (target : ℕ) (half : Half) → words ≡ after ++ (0xE000 + target) ∷ [] → IsIn (Frame half) target → LeadsTo words half
-leads words [] target half e inside = subst (λ ws. LeadsTo ws half) (sym e) (jump target refl inside)
-leads words (w ∷ after) target half e inside =
-    subst (λ ws. LeadsTo ws half) (sym e) (later (leads (after ++ (0xE000 + target) ∷ []) after target half refl inside))
+leads : (fetches after : List (ℕ × ℕ)) (target : ℕ) (half : Half) → fetches ≡ after ++ (0, 0xE000 + target) ∷ [] → IsIn (Frame half) target → LeadsTo fetches half
+leads fetches [] target half e inside = subst (λ all. LeadsTo all half) (sym e) (jump target refl inside)
+leads fetches (fetch ∷ after) target half e inside =
+    subst (λ all. LeadsTo all half) (sym e) (later (leads (after ++ (0, 0xE000 + target) ∷ []) after target half refl inside))
 
--- the words of the open run lead to the half that is being drawn
-pub drawn_leads : (log : Log) (half : Half) → IsBeingDrawn log half → (words : List ℕ) × (open_run log ≡ Some words) × LeadsTo words half
+-- the fetches of the open run lead to the half that is being drawn
+pub drawn_leads : (log : Log) (half : Half) → IsBeingDrawn log half → (fetches : List (ℕ × ℕ)) × (open_run log ≡ Some fetches) × LeadsTo fetches half
 drawn_leads log half drawn =
-    (drawn.later ++ (0xE000 + drawn.target) ∷ [], drawn.words, leads (drawn.later ++ (0xE000 + drawn.target) ∷ []) drawn.later drawn.target half refl drawn.in_half)
+    (drawn.later ++ (0, 0xE000 + drawn.target) ∷ [], drawn.fetches, leads (drawn.later ++ (0, 0xE000 + drawn.target) ∷ []) drawn.later drawn.target half refl drawn.in_half)
 
 pub leads_none : (half : Half) → LeadsTo [] half → ⊥
 leads_none half l = elim l [ ]
 
-pub leads_before : {word newest : ℕ} {words : List ℕ} {half : Half} → LeadsTo (newest ∷ word ∷ words) half → LeadsTo (word ∷ words) half
+pub leads_before : {fetch newest : ℕ × ℕ} {fetches : List (ℕ × ℕ)} {half : Half} → LeadsTo (newest ∷ fetch ∷ fetches) half → LeadsTo (fetch ∷ fetches) half
 leads_before (later l) = l
 
 -- an address lies in one half at most
@@ -34,8 +34,8 @@ same_half H0 H1 a b e x y = let top = x.1 in let low = y.0 in absurd (omega arit
 same_half H1 H0 a b e x y = let top = y.1 in let low = x.0 in absurd (omega arith)
 same_half H1 H1 a b e x y = refl
 
-pub leads_same : {words : List ℕ} {one two : Half} → LeadsTo words one → LeadsTo words two → one ≡ two
-leads_same (jump {half = one} a e x) (jump {half = two} b f y) = same_half one two a b (omega arith) x y
+pub leads_same : {fetches : List (ℕ × ℕ)} {one two : Half} → LeadsTo fetches one → LeadsTo fetches two → one ≡ two
+leads_same (jump {half = one} a e x) (jump {half = two} b f y) = same_half one two a b (let same = ap (λ fetch. fetch.1) (sym e ∙ f) in omega arith) x y
 leads_same (jump {half = one} a e x) (later {half = two} m) = absurd (leads_none two m)
 leads_same (later {half = one} l) (jump {half = two} b f y) = absurd (leads_none one l)
 leads_same (later l) (later m) = leads_same l m
@@ -76,6 +76,6 @@ in_base : (half : Half) → IsIn (Frame half) (base half)
 in_base H0 = (omega arith, omega arith)
 in_base H1 = (omega arith, omega arith)
 
--- a run whose first word is that jump leads to the half
-pub jump_there : (word : ℕ) (half : Half) → word ≡ 0xE000 + base half → LeadsTo (word ∷ []) half
-jump_there word half e = jump (base half) e (in_base half)
+-- a run that fetched it first leads to the half
+pub jump_there : (a word : ℕ) (half : Half) → a ≡ 0 → word ≡ 0xE000 + base half → LeadsTo ((a, word) ∷ []) half
+jump_there a word half zero e = jump (base half) (ap (λ at. (at, word)) zero ∙ ap (λ met. (0, met)) e) (in_base half)

@@ -56,11 +56,11 @@ abbrev pub HasFlipped : Option Log → Type 0
 HasFlipped flip = (older : Log) × (flip ≡ Some older)
 
 -- a run that has fetched word zero draws the half that byte 001 names
-abbrev pub DrawsCurrent : ℕ → Option (List ℕ) → Type 0
-DrawsCurrent b1 run = (words : List ℕ) (half : Half) → run ≡ Some words → LeadsTo words half → half ≡ half_of_high b1
+abbrev pub DrawsCurrent : ℕ → Option (List (ℕ × ℕ)) → Type 0
+DrawsCurrent b1 run = (fetches : List (ℕ × ℕ)) (half : Half) → run ≡ Some fetches → LeadsTo fetches half → half ≡ half_of_high b1
 
 -- what holds at a place, with b0 and b1 in bytes 000 and 001
-abbrev pub AtPlace : ℕ → ℕ → Option (List ℕ) → Option Log → Place → Type 0
+abbrev pub AtPlace : ℕ → ℕ → Option (List (ℕ × ℕ)) → Option Log → Place → Type 0
 AtPlace b0 b1 run flip Start = Unit {0}
 AtPlace b0 b1 run flip Booting = Unit {0}
 AtPlace b0 b1 run flip (Resting first) = DrawsCurrent b1 run × (first ≡ false → HasFlipped flip)
@@ -68,13 +68,13 @@ AtPlace b0 b1 run flip (Writing ws) = DrawsCurrent b1 run × Todo (other (half_o
 AtPlace b0 b1 run flip (Waiting first) = HasFlipped flip
 AtPlace b0 b1 run flip (Sending first) = DrawsCurrent b1 run × HasFlipped flip
 
-pub record Kept (b0 b1 : ℕ) (run : Option (List ℕ)) (items : List Item) (sent : Bool) (flip : Option Log) (p : Place) : Type 0 where
+pub record Kept (b0 b1 : ℕ) (run : Option (List (ℕ × ℕ))) (items : List Item) (sent : Bool) (flip : Option Log) (p : Place) : Type 0 where
   pub stands : place_of items ≡ Some p
   -- once there was a flip, word zero is a jump to a half
   pub jumps : HasFlipped flip → (b0 ≡ 1) × (b1 ≡ high (half_of_high b1))
   -- a strobe is sent after a flip, and a run begins after a strobe was sent
   pub flipped : sent ≡ true → HasFlipped flip
-  pub started : (ws : List ℕ) → run ≡ Some ws → sent ≡ true
+  pub started : (ws : List (ℕ × ℕ)) → run ≡ Some ws → sent ≡ true
   pub here : AtPlace b0 b1 run flip p
 
 abbrev pub KeptBy : List ℕ → Log → Place → Type 0
@@ -87,12 +87,12 @@ Goes image log event entry = (q : Place) × KeptBy image ((event ⟼ entry) ∷ 
 pub same_place : (items : List Item) (p q : Place) → place_of items ≡ Some p → place_of items ≡ Some q → p ≡ q
 same_place items p q e d = same_Some _ _ (sym e ∙ d)
 
-module _ {b0 b1 : ℕ} {run : Option (List ℕ)} {items : List Item} {sent : Bool} {flip : Option Log} {p : Place} (k : Kept b0 b1 run items sent flip p) where
+module _ {b0 b1 : ℕ} {run : Option (List (ℕ × ℕ))} {items : List Item} {sent : Bool} {flip : Option Log} {p : Place} (k : Kept b0 b1 run items sent flip p) where
   -- to another place, with nothing else changed
   moved : (items2 : List Item) (p2 : Place) → place_of items2 ≡ Some p2 → AtPlace b0 b1 run flip p2 → Kept b0 b1 run items2 sent flip p2
   moved items2 p2 d h = record { stands = d; jumps = k.jumps; flipped = k.flipped; started = k.started; here = h }
 
-here_map : (b0 b1 : ℕ) (run run2 : Option (List ℕ)) (flip : Option Log) (p : Place) → (DrawsCurrent b1 run → DrawsCurrent b1 run2) → AtPlace b0 b1 run flip p → AtPlace b0 b1 run2 flip p
+here_map : (b0 b1 : ℕ) (run run2 : Option (List (ℕ × ℕ))) (flip : Option Log) (p : Place) → (DrawsCurrent b1 run → DrawsCurrent b1 run2) → AtPlace b0 b1 run flip p → AtPlace b0 b1 run2 flip p
 here_map b0 b1 run run2 flip Start f h = tt
 here_map b0 b1 run run2 flip Booting f h = tt
 here_map b0 b1 run run2 flip (Resting first) f h = (f h.0, h.1)
@@ -131,7 +131,7 @@ ask_step image log p k f w =
     not_first false e = refl
     not_first true e = absurd (let n = no_flip (life image log) (Resting rests2.0) rests2.1 e in cc)
 
-none_draws : (b1 : ℕ) (run : Option (List ℕ)) → true ≡ is_none run → DrawsCurrent b1 run
+none_draws : (b1 : ℕ) (run : Option (List (ℕ × ℕ))) → true ≡ is_none run → DrawsCurrent b1 run
 none_draws b1 None e words half f l = absurd (cc)
 none_draws b1 (Some ws) e words half f l = absurd (cc)
 
@@ -177,7 +177,7 @@ tick_step image log (Sending first) Sent q size k e d r =
 tick_step image log _ _ q size k e d r = absurd (cc)
 
 -- the first word of a run leads to the half that byte 001 names
-first_draws : (b1 w : ℕ) (ws : List ℕ) → (ws ≡ [] → LeadsTo (w ∷ []) (half_of_high b1)) → DrawsCurrent b1 (Some ws) → DrawsCurrent b1 (Some (w ∷ ws))
+first_draws : (b1 : ℕ) (w : ℕ × ℕ) (ws : List (ℕ × ℕ)) → (ws ≡ [] → LeadsTo (w ∷ []) (half_of_high b1)) → DrawsCurrent b1 (Some ws) → DrawsCurrent b1 (Some (w ∷ ws))
 first_draws b1 w [] f g words half e l = leads_same (subst (λ all. LeadsTo all half) (sym (same_Some _ _ e)) l) (f refl)
 first_draws b1 w (v ∷ vs) f g words half e l = g (v ∷ vs) half refl (leads_before (subst (λ all. LeadsTo all half) (sym (same_Some _ _ e)) l))
 
@@ -196,11 +196,11 @@ first_at vs held none = refl
 fetch_step : (R image : List ℕ) (log : Log) (p : Place) (a w : ℕ) → IsLegal R image log → KeptBy image log p → fetched (ram image log) R a ≡ Some w → IsFetch (history R image log) a (Some w) More → Goes image log Fetch (Fetched a w)
 fetch_step R image log p a w g k m f =
     let t = fetching R image log a (Some w) More g f in
-    let ws = t.words in
+    let ws = t.fetches in
     let o = t.open_now in
     let sent = k.started ws o in
     let js = k.jumps (k.flipped sent) in
-    let now : open_run ((Fetch ⟼ Fetched a w) ∷ log) ≡ Some (w ∷ ws) = ap (option_map (λ words. w ∷ words)) o in (
+    let now : open_run ((Fetch ⟼ Fetched a w) ∷ log) ≡ Some ((a, w) ∷ ws) = ap (option_map (λ fetches. (a, w) ∷ fetches)) o in (
       p,
       record {
         stands = k.stands;
@@ -209,28 +209,28 @@ fetch_step R image log p a w g k m f =
         started = λ vs e. sent;
         here = here_map (byte image log 0) (byte image log 1) (open_run log) (open_run ((Fetch ⟼ Fetched a w) ∷ log)) (before_flip log) p
             (λ g. subst (DrawsCurrent (byte image log 1)) (sym now)
-            (first_draws (byte image log 1) w ws
+            (first_draws (byte image log 1) (a, w) ws
             (λ e. first_word js (t.at ∙ first_at f.run.visits f.run.held (subst (λ x. Cut x f.run.visits f.run.held) e t.cut)))
             (subst (DrawsCurrent (byte image log 1)) o g))) k.here;
       },
       tt,
     )
   where
-    first_word : (byte image log 0 ≡ 1) × (byte image log 1 ≡ high (half_of_high (byte image log 1))) → a ≡ 0 → LeadsTo (w ∷ []) (half_of_high (byte image log 1))
+    first_word : (byte image log 0 ≡ 1) × (byte image log 1 ≡ high (half_of_high (byte image log 1))) → a ≡ 0 → LeadsTo ((a, w) ∷ []) (half_of_high (byte image log 1))
     first_word js z =
         let P : ℕ → Type 0 = λ v. fetched (ram image log) R v ≡ Some w in
-        jump_there w (half_of_high (byte image log 1)) (sym (word_zero_is (ram image log) R w (subst P z m)) ∙ zero_jumps (byte image log 0) (byte image log 1) js)
+        jump_there a w (half_of_high (byte image log 1)) z (sym (word_zero_is (ram image log) R w (subst P z m)) ∙ zero_jumps (byte image log 0) (byte image log 1) js)
 
 -- no run is open, or it has fetched nothing
-not_drawing : {b0 b1 : ℕ} {run : Option (List ℕ)} {items : List Item} {sent : Bool} {flip : Option Log} {p : Place} (run2 : Option (List ℕ)) → ((words : List ℕ) (half : Half) → run2 ≡ Some words → LeadsTo words half → ⊥) → ((ws : List ℕ) → run2 ≡ Some ws → sent ≡ true) →
+not_drawing : {b0 b1 : ℕ} {run : Option (List (ℕ × ℕ))} {items : List Item} {sent : Bool} {flip : Option Log} {p : Place} (run2 : Option (List (ℕ × ℕ))) → ((words : List (ℕ × ℕ)) (half : Half) → run2 ≡ Some words → LeadsTo words half → ⊥) → ((ws : List (ℕ × ℕ)) → run2 ≡ Some ws → sent ≡ true) →
     Kept b0 b1 run items sent flip p → Kept b0 b1 run2 items sent flip p
 not_drawing {b0} {b1} {run} {flip} {p} run2 n f k =
     record { stands = k.stands; jumps = k.jumps; flipped = k.flipped; started = f; here = here_map b0 b1 run run2 flip p (λ g words half e l. absurd (n words half e l)) k.here }
 
-begun_step : {b0 b1 : ℕ} {run : Option (List ℕ)} {items : List Item} {sent : Bool} {flip : Option Log} {p : Place} → sent ≡ true → Kept b0 b1 run items sent flip p → Kept b0 b1 (Some []) items sent flip p
+begun_step : {b0 b1 : ℕ} {run : Option (List (ℕ × ℕ))} {items : List Item} {sent : Bool} {flip : Option Log} {p : Place} → sent ≡ true → Kept b0 b1 run items sent flip p → Kept b0 b1 (Some []) items sent flip p
 begun_step s k = not_drawing (Some []) (λ words half e l. leads_none half (subst (λ all. LeadsTo all half) (sym (same_Some _ _ e)) l)) (λ ws e. s) k
 
-closed_step : {b0 b1 : ℕ} {run : Option (List ℕ)} {items : List Item} {sent : Bool} {flip : Option Log} {p : Place} → Kept b0 b1 run items sent flip p → Kept b0 b1 None items sent flip p
+closed_step : {b0 b1 : ℕ} {run : Option (List (ℕ × ℕ))} {items : List Item} {sent : Bool} {flip : Option Log} {p : Place} → Kept b0 b1 run items sent flip p → Kept b0 b1 None items sent flip p
 closed_step k = not_drawing None (λ words half e l. absurd (cc)) (λ ws e. absurd (cc)) k
 
 step : (R image : List ℕ) (log : Log) (p : Place) (event : Happening) (entry : Shown) → IsLegal R image log → KeptBy image log p → Fits R image log event entry → Goes image log event entry

@@ -33,7 +33,7 @@ use Rattle.dvg_world.proofs.Shows.{current, Running, Shows, at_zero_fetched, at_
 use Rattle.dvg_world.proofs.Todo.{is_write}
 
 -- what a fetch of the open run meets
-record Ready (R image : List ℕ) (log : Log) (ws : List ℕ) (vs : List Visit) (held : Option ℕ) : Type 0 where
+record Ready (R image : List ℕ) (log : Log) (ws : List (ℕ × ℕ)) (vs : List Visit) (held : Option ℕ) : Type 0 where
   half : Half
   draft : List OpKind
   shown : IsShown log draft
@@ -41,7 +41,7 @@ record Ready (R image : List ℕ) (log : Log) (ws : List ℕ) (vs : List Visit) 
   holds : Lies half draft (byte image log)
   runs : Runs (frame_memory half draft R) (length ws) vs held
   memory : frame_memory half draft R (wanted vs held) ≡ fetched (ram image log) R (wanted vs held)
-  drawn : (w : ℕ) → fetched (ram image log) R (wanted vs held) ≡ Some w → LeadsTo (w ∷ ws) half
+  drawn : (w : ℕ) → fetched (ram image log) R (wanted vs held) ≡ Some w → LeadsTo ((wanted vs held, w) ∷ ws) half
 
 image_of : (R image : List ℕ) (log : Log) → IsLegal R image log → IsImage R
 image_of R image [] g = g.0
@@ -53,7 +53,7 @@ some_word d r g (Some w) e = (w, refl)
 some_word {n = n} {vs = vs} {held = held} d r g None e = absurd (d.safe.hole n vs held r g e)
 
 module _ (R image : List ℕ) where
-  ready : (log : Log) (p : Place) (ws : List ℕ) (vs : List Visit) (held : Option ℕ) → KeptBy image log p → Shows R image log → open_run log ≡ Some ws → Cut ws vs held → fate vs ≡ Goes → Ready R image log ws vs held
+  ready : (log : Log) (p : Place) (ws : List (ℕ × ℕ)) (vs : List Visit) (held : Option ℕ) → KeptBy image log p → Shows R image log → open_run log ≡ Some ws → Cut ws vs held → fate vs ≡ Goes → Ready R image log ws vs held
   ready log p [] vs held k s o none g =
       let flips = k.flipped (k.started [] o) in
       let c = s.now flips in
@@ -69,7 +69,7 @@ module _ (R image : List ℕ) where
         runs = begins;
         shown = ap published (at_zero_open log o) ∙ c.newest;
         memory = zero;
-        drawn = λ w e. jump_there w h (sym (same_Some _ _ (zero ∙ e)));
+        drawn = λ w e. jump_there 0 w h refl (sym (same_Some _ _ (zero ∙ e)));
       }
   ready log p (v ∷ us) vs held k s o c g =
       let r = s.running v us o in
@@ -90,49 +90,49 @@ module _ (R image : List ℕ) where
       }
 
   -- no run that ended shows a later publication than the open run does
-  run_bound : (log : Log) (ws : List ℕ) (n : ℕ) → Shows R image log → open_run log ≡ Some ws → publication (at_zero log) ≡ Some n → Throughout (IsNoLater n) log
+  run_bound : (log : Log) (ws : List (ℕ × ℕ)) (n : ℕ) → Shows R image log → open_run log ≡ Some ws → publication (at_zero log) ≡ Some n → Throughout (IsNoLater n) log
   run_bound log [] n s o e = s.newest n (ap publication (sym (at_zero_open log o)) ∙ e)
   run_bound log (v ∷ vs) n s o e = s.run_newest v vs n o e
 
-  rise : (log : Log) (ws : List ℕ) (n m : ℕ) → Shows R image log → open_run log ≡ Some ws → publication (at_zero log) ≡ Some n → publication log ≡ Some m → n ≤ m
+  rise : (log : Log) (ws : List (ℕ × ℕ)) (n m : ℕ) → Shows R image log → open_run log ≡ Some ws → publication (at_zero log) ≡ Some n → publication log ≡ Some m → n ≤ m
   rise log [] n m s o e y = let same = same_Some _ _ (sym e ∙ (ap publication (at_zero_open log o) ∙ y)) in omega arith
   rise log (v ∷ vs) n m s o e y = s.rises v vs n m o e y
 
   -- a fetch of the open run: what it meets, and the run with its word
   record Step (log : Log) (a w : ℕ) (answer : Reply) : Type 0 where
-    words : List ℕ
-    open_now : open_run log ≡ Some words
+    fetches : List (ℕ × ℕ)
+    open_now : open_run log ≡ Some fetches
     half : Half
     draft : List OpKind
     shown : IsShown log draft
     checked : Checked draft R
     holds : Lies half draft (byte image log)
-    drawn : LeadsTo (w ∷ words) half
+    drawn : LeadsTo ((a, w) ∷ fetches) half
     begun_with : Beam
     visits : List Visit
     held : Option ℕ
-    cut : Cut (w ∷ words) visits held
-    runs : Runs (frame_memory half draft R) (length (w ∷ words)) visits held
+    cut : Cut ((a, w) ∷ fetches) visits held
+    runs : Runs (frame_memory half draft R) (length ((a, w) ∷ fetches)) visits held
     replies : reply_by held (fate visits) (strokes begun_with visits) ≡ answer
     goes : answer ≡ More → fate visits ≡ Goes
 
   stepped : (log : Log) (p : Place) (a w : ℕ) (answer : Reply) → IsLegal R image log → KeptBy image log p → Shows R image log → fetched (ram image log) R a ≡ Some w → IsFetch (history R image log) a (Some w) answer → Step log a w answer
   stepped log p a w answer g k s m f =
       let t = fetching R image log a (Some w) answer g f in
-      let r = ready log p t.words f.run.visits f.run.held k s t.open_now t.cut t.goes in
+      let r = ready log p t.fetches f.run.visits f.run.held k s t.open_now t.cut t.goes in
       let W : ℕ → Type 0 = λ x. fetched (ram image log) R x ≡ Some w in
       let here : fetched (ram image log) R (wanted f.run.visits f.run.held) ≡ Some w = subst W t.at m in
       let d = added f in
       let rep : reply_by d.1 (fate d.0) (strokes f.run.first d.0) ≡ answer = ap (λ q. reply (Some w) q) (sym d.3) ∙ f.replies in
       record {
-        words = t.words;
+        fetches = t.fetches;
         open_now = t.open_now;
         half = r.half;
         draft = r.draft;
         shown = r.shown;
         checked = r.checked;
         holds = r.holds;
-        drawn = r.drawn w here;
+        drawn = subst (λ x. LeadsTo ((x, w) ∷ t.fetches) r.half) (sym t.at) (r.drawn w here);
         begun_with = f.run.first;
         visits = d.0;
         held = d.1;
@@ -144,32 +144,32 @@ module _ (R image : List ℕ) where
 
   fetch_shows : (log : Log) (a w : ℕ) → Shows R image log → Step log a w More → Shows R image ((Fetch ⟼ Fetched a w) ∷ log)
   fetch_shows log a w s t =
-      let ws = t.words in
+      let ws = t.fetches in
       let o = t.open_now in
-      let now : Running R image ((Fetch ⟼ Fetched a w) ∷ log) (w ∷ ws) = record {
+      let now : Running R image ((Fetch ⟼ Fetched a w) ∷ log) ((a, w) ∷ ws) = record {
         half = t.half;
         draft = t.draft;
         checked = t.checked;
         holds = t.holds;
-        shown = rw (at_zero_fetched (Fetch ⟼ Fetched a w) log w ws (now_open o)) t.shown;
+        shown = rw (at_zero_fetched (Fetch ⟼ Fetched a w) log (a, w) ws (now_open o)) t.shown;
         drawn = t.drawn;
         visits = t.visits;
         held = t.held;
         cut = t.cut;
         runs = t.runs;
       } in
-      let P : List ℕ → Type 0 = Running R image ((Fetch ⟼ Fetched a w) ∷ log) in
+      let P : List (ℕ × ℕ) → Type 0 = Running R image ((Fetch ⟼ Fetched a w) ∷ log) in
       record {
         now = λ f. let c = s.now f in record { draft = c.draft; newest = c.newest; checked = c.checked; holds = c.holds };
         laying = λ us l. let y = s.laying us l in record { draft = y.draft; half = y.half; first = y.first; count = y.count; accepted = y.accepted; checked = y.checked; free = y.free; left = y.left; done = y.done };
         running = λ v vs e. subst P (same_Some _ _ (sym (now_open o) ∙ e)) now;
         newest = λ n e. (tt, s.newest n e);
-        run_newest = λ v vs n e z. (tt, run_bound log ws n s o (rw (at_zero_fetched (Fetch ⟼ Fetched a w) log w ws (now_open o)) at z));
-        rises = λ v vs n m e z y. rise log ws n m s o (rw (at_zero_fetched (Fetch ⟼ Fetched a w) log w ws (now_open o)) at z) y;
+        run_newest = λ v vs n e z. (tt, run_bound log ws n s o (rw (at_zero_fetched (Fetch ⟼ Fetched a w) log (a, w) ws (now_open o)) at z));
+        rises = λ v vs n m e z y. rise log ws n m s o (rw (at_zero_fetched (Fetch ⟼ Fetched a w) log (a, w) ws (now_open o)) at z) y;
       }
     where
-      now_open : {words : List ℕ} → open_run log ≡ Some words → open_run ((Fetch ⟼ Fetched a w) ∷ log) ≡ Some (w ∷ words)
-      now_open e = ap (option_map (λ words. w ∷ words)) e
+      now_open : {fetches : List (ℕ × ℕ)} → open_run log ≡ Some fetches → open_run ((Fetch ⟼ Fetched a w) ∷ log) ≡ Some ((a, w) ∷ fetches)
+      now_open e = ap (option_map (λ fetches. (a, w) ∷ fetches)) e
 
   -- what a line shows
   abbrev IsRight : Log → Happening → Shown → Type 0
@@ -177,14 +177,14 @@ module _ (R image : List ℕ) where
 
   done_right : (log : Log) (a w : ℕ) (drew : List Stroke) → Shows R image log → Step log a w (Drew drew) → IsRight log Fetch (Done a w drew)
   done_right log a w drew s t =
-      let ws = t.words in
+      let ws = t.fetches in
       let d = least_draws t.half t.draft R t.checked in
       let fin = drew_finished t.held (fate t.visits) (strokes t.begun_with t.visits) drew t.replies in
       let mem = frame_memory t.half t.draft R in
-      let runs : Runs mem (length (w ∷ ws)) t.visits None = subst (λ x. Runs mem (length (w ∷ ws)) t.visits x) fin.0 t.runs in
+      let runs : Runs mem (length ((a, w) ∷ ws)) t.visits None = subst (λ x. Runs mem (length ((a, w) ∷ ws)) t.visits x) fin.0 t.runs in
       let pic : IsPicture t.draft R drew (suc (length ws)) = subst (λ x. IsPicture t.draft R x (suc (length ws))) fin.2 (finished_picture d t.begun_with runs fin.1) in (
         tt,
-        record { draft = t.draft; shown = t.shown; closed = t.checked.closed; words = ws; open_now = t.open_now; picture = pic },
+        record { draft = t.draft; shown = t.shown; closed = t.checked.closed; fetches = ws; open_now = t.open_now; picture = pic },
         (λ n e. run_bound log ws n s t.open_now e),
         (λ vs F u j q f x.
             let y = subst (λ H. IsPicture H R u j) (same_Some _ _ (sym f ∙ t.shown)) x in
@@ -208,13 +208,13 @@ module _ (R image : List ℕ) where
   broke_right : (log : Log) (p : Place) (a : ℕ) (fault : GenFault) → IsLegal R image log → KeptBy image log p → Shows R image log → IsFetch (history R image log) a (fetched (ram image log) R a) (Fails fault) → ⊥
   broke_right log p a fault g k s f =
       let t = fetching R image log a (fetched (ram image log) R a) (Fails fault) g f in
-      let r = ready log p t.words f.run.visits f.run.held k s t.open_now t.cut t.goes in
+      let r = ready log p t.fetches f.run.visits f.run.held k s t.open_now t.cut t.goes in
       let d = least_draws r.half r.draft R r.checked in
       let m = some_word d r.runs t.goes (frame_memory r.half r.draft R (wanted f.run.visits f.run.held)) refl in
       let here : fetched (ram image log) R a ≡ Some m.0 = ap (fetched (ram image log) R) t.at ∙ (sym r.memory ∙ m.1) in
       let u = stepped log p a m.0 (Fails fault) g k s here (subst (λ x. IsFetch (history R image log) a x (Fails fault)) here f) in
       let e = least_draws u.half u.draft R u.checked in
-      e.safe.fault (length (m.0 ∷ u.words)) u.visits u.held u.runs fault (fails_breaks u.held (fate u.visits) (strokes u.begun_with u.visits) fault u.replies)
+      e.safe.fault (length ((a, m.0) ∷ u.fetches)) u.visits u.held u.runs fault (fails_breaks u.held (fate u.visits) (strokes u.begun_with u.visits) fault u.replies)
 
   tick_shows : (log : Log) (p : Place) (action : Action) (q : Place) → length (ram image log) ≡ 0x800 → KeptBy image log p → Shows R image log → next p (Did action) ≡ Some q → place_of (Did action ∷ life image log) ≡ Some q → Shows R image ((Tick ⟼ Acted action) ∷ log)
   tick_shows log (Writing ws) (Wrote a b) q size k s e d = write_shows R image log ws a b q size k s e d (is_write (free_half image log) (byte image log 0) ws k.here.1 a b q e)
@@ -244,7 +244,7 @@ module _ (R image : List ℕ) where
   step log p Fetch (Fetched a w) g i k s f = (let t = stepped log p a w More g k s f.0 f.1 in (fetch_shows log a w s t, goes_right log a w t))
   step log p Fetch (Done a w d) g i k s f =
       let t = stepped log p a w (Drew d) g k s f.0 f.1 in (
-        same_life R image log Fetch (Done a w d) s (λ v vs o. absurd (cc)) refl (λ a. refl) (λ m b n z. rise log t.words n m s t.open_now z b) (λ v vs b m. absurd (cc)) refl refl,
+        same_life R image log Fetch (Done a w d) s (λ v vs o. absurd (cc)) refl (λ a. refl) (λ m b n z. rise log t.fetches n m s t.open_now z b) (λ v vs b m. absurd (cc)) refl refl,
         done_right log a w d s t,
       )
   step log p Fetch (Broke a fault) g i k s f = absurd (broke_right log p a fault g k s f)

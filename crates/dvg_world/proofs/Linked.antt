@@ -13,37 +13,37 @@ use Rattle.dvg_world.specs.Entries.{Started, Fetched, Done, Broke}
 use Rattle.dvg_world.specs.Log.{◌⟼◌, Log, ram, history, open_run}
 use Rattle.dvg_world.specs.Legal.{IsFetch, IsLegal}
 
--- these words, newest first, are cut into these instructions, and perhaps a first word
-pub data Cut : List ℕ → List Visit → Option ℕ → Type 0 where
+-- the words of these fetches, newest first, are cut into these instructions, and perhaps a first word
+pub data Cut : List (ℕ × ℕ) → List Visit → Option ℕ → Type 0 where
   none : Cut [] [] None
-  word : {ws : List ℕ} {w : ℕ} {vs vs' : List Visit} {held held' : Option ℕ} → Cut ws vs held → Adds vs held w vs' held' → Cut (w ∷ ws) vs' held'
+  word : {ws : List (ℕ × ℕ)} {w : ℕ × ℕ} {vs vs' : List Visit} {held held' : Option ℕ} → Cut ws vs held → Adds vs held w.1 vs' held' → Cut (w ∷ ws) vs' held'
 
-pub cut_same : {ws : List ℕ} {vs vs2 : List Visit} {held held2 : Option ℕ} → Cut ws vs held → Cut ws vs2 held2 → (vs ≡ vs2) × (held ≡ held2)
+pub cut_same : {ws : List (ℕ × ℕ)} {vs vs2 : List Visit} {held held2 : Option ℕ} → Cut ws vs held → Cut ws vs2 held2 → (vs ≡ vs2) × (held ≡ held2)
 cut_same none none = (refl, refl)
 cut_same (word {w = w} {vs = us} {vs' = vs} {held = k} {held' = held} c a) (word {vs = us2} {vs' = vs2} {held = k2} {held' = held2} d b) =
     let e = cut_same c d in
-    let b2 : Adds us k w vs2 held2 = subst (λ x. Adds us x w vs2 held2) (sym e.1) (subst (λ x. Adds x k2 w vs2 held2) (sym e.0) b) in
+    let b2 : Adds us k w.1 vs2 held2 = subst (λ x. Adds us x w.1 vs2 held2) (sym e.1) (subst (λ x. Adds x k2 w.1 vs2 held2) (sym e.0) b) in
     adds_same a b2
 
--- a run with one more word had the others
-more_parts : (w : ℕ) (run : Option (List ℕ)) (ws : List ℕ) → option_map (λ words. w ∷ words) run ≡ Some ws → (us : List ℕ) × (run ≡ Some us) × (w ∷ us ≡ ws)
+-- a run with one more fetch had the others
+more_parts : (w : ℕ × ℕ) (run : Option (List (ℕ × ℕ))) (ws : List (ℕ × ℕ)) → option_map (λ fetches. w ∷ fetches) run ≡ Some ws → (us : List (ℕ × ℕ)) × (run ≡ Some us) × (w ∷ us ≡ ws)
 more_parts w None ws e = absurd (cc)
 more_parts w (Some us) ws e = (us, refl, same_Some _ _ e)
 
--- the history's instructions are those of the open run's words
-pub linked : (R image : List ℕ) (log : Log) {run : Newest} → Leaves (history R image log) run → (ws : List ℕ) → open_run log ≡ Some ws → Cut ws run.visits run.held
+-- the history's instructions are those of the open run's fetches
+pub linked : (R image : List ℕ) (log : Log) {run : Newest} → Leaves (history R image log) run → (ws : List (ℕ × ℕ)) → open_run log ≡ Some ws → Cut ws run.visits run.held
 linked R image [] l ws o = absurd (cc)
 linked R image ((event ⟼ Started) ∷ log) (starts l) ws o = subst (λ x. Cut x [] None) (same_Some _ _ o) none
 linked R image ((ResetGen ⟼ entry) ∷ log) l ws o = absurd (cc)
 linked R image ((ResetAll bytes ⟼ entry) ∷ log) l ws o = absurd (cc)
 linked R image ((event ⟼ Fetched a w) ∷ log) (takes {visits = vs} {held = held} l p x) ws o =
-    let q = more_parts w (open_run log) ws o in
+    let q = more_parts (a, w) (open_run log) ws o in
     subst (λ y. Cut y vs held) q.2 (word (linked R image log l q.0 q.1) x)
 linked R image ((event ⟼ Done a w s) ∷ log) l ws o = absurd (cc)
 linked R image ((event ⟼ Broke a fault) ∷ log) l ws o = absurd (cc)
 linked R image (line ∷ log) l ws o = linked R image log l ws o
 
-some_more : (w : ℕ) (run : Option (List ℕ)) → is_some run ≡ is_some (option_map (λ words. w ∷ words) run)
+some_more : (w : ℕ × ℕ) (run : Option (List (ℕ × ℕ))) → is_some run ≡ is_some (option_map (λ fetches. w ∷ fetches) run)
 some_more w None = refl
 some_more w (Some ws) = refl
 
@@ -58,7 +58,7 @@ opened R image ((Fetch ⟼ Fetched a w) ∷ log) g (takes {run = run} {visits = 
     let e = leaves_same (takes l p x) f.leaves_later in
     let rep : reply (Some w) (grown run vs held) ≡ More = ap (λ q. reply (Some w) q) e ∙ f.replies in
     let goes = more_goes x (open_goes l p) (strokes run.first vs) rep in
-    ap goes_on goes ∙ (sym p ∙ (opened R image log g.2 l ∙ some_more w (open_run log)))
+    ap goes_on goes ∙ (sym p ∙ (opened R image log g.2 l ∙ some_more (a, w) (open_run log)))
 opened R image ((Fetch ⟼ Done a w s) ∷ log) g (takes {run = run} {visits = vs} {held = held} l p x) =
     let f = g.0.1 in
     let e = leaves_same (takes l p x) f.leaves_later in
@@ -76,20 +76,20 @@ opened R image ((event ⟼ entry) ∷ log) g l = opened R image log g.2 l
 
 -- the run that a fetch goes on with
 pub record Fetching (R image : List ℕ) (log : Log) (run : Newest) (a : ℕ) : Type 0 where
-  pub words : List ℕ
-  pub open_now : open_run log ≡ Some words
+  pub fetches : List (ℕ × ℕ)
+  pub open_now : open_run log ≡ Some fetches
   pub is_open : run.is_open ≡ true
   pub at : a ≡ wanted run.visits run.held
   pub goes : fate run.visits ≡ Goes
-  pub cut : Cut words run.visits run.held
+  pub cut : Cut fetches run.visits run.held
 
 pub fetching : (R image : List ℕ) (log : Log) (a : ℕ) (found : Option ℕ) (answer : Reply) → IsLegal R image log → (f : IsFetch (history R image log) a found answer) → Fetching R image log f.run a
 fetching R image log a found answer g f =
     let w = wants_open f.run a f.wanted in
     let s = some_of (open_run log) (sym (opened R image log g f.leaves) ∙ w.0) in
-    record { words = s.0; open_now = s.1; is_open = w.0; at = w.1; goes = open_goes f.leaves w.0; cut = linked R image log f.leaves s.0 s.1 }
+    record { fetches = s.0; open_now = s.1; is_open = w.0; at = w.1; goes = open_goes f.leaves w.0; cut = linked R image log f.leaves s.0 s.1 }
   where
-    some_of : (q : Option (List ℕ)) → is_some q ≡ true → (ws : List ℕ) × (q ≡ Some ws)
+    some_of : (q : Option (List (ℕ × ℕ))) → is_some q ≡ true → (ws : List (ℕ × ℕ)) × (q ≡ Some ws)
     some_of None e = absurd (cc)
     some_of (Some ws) e = (ws, refl)
 

@@ -33,7 +33,7 @@ abbrev pub current : List ℕ → Log → Half
 current image log = half_of_high (byte image log 1)
 
 -- what the open run shows, and where it lies
-pub record Running (R image : List ℕ) (log : Log) (ws : List ℕ) : Type 0 where
+pub record Running (R image : List ℕ) (log : Log) (ws : List (ℕ × ℕ)) : Type 0 where
   pub half : Half
   pub draft : List OpKind
   pub shown : IsShown log draft
@@ -67,14 +67,14 @@ pub record Current (R image : List ℕ) (log : Log) : Type 0 where
 pub record Shows (R image : List ℕ) (log : Log) : Type 0 where
   pub now : HasFlipped (before_flip log) → Current R image log
   pub laying : (ws : List (ℕ × ℕ)) → place_of (life image log) ≡ Some (Writing ws) → Laying R image log ws
-  pub running : (v : ℕ) (vs : List ℕ) → open_run log ≡ Some (v ∷ vs) → Running R image log (v ∷ vs)
+  pub running : (v : ℕ × ℕ) (vs : List (ℕ × ℕ)) → open_run log ≡ Some (v ∷ vs) → Running R image log (v ∷ vs)
   -- no run that ended shows a later publication than the newest, or than the one that the open run shows
   pub newest : (n : ℕ) → publication log ≡ Some n → Throughout (IsNoLater n) log
-  pub run_newest : (v : ℕ) (vs : List ℕ) (n : ℕ) → open_run log ≡ Some (v ∷ vs) → publication (at_zero log) ≡ Some n → Throughout (IsNoLater n) log
+  pub run_newest : (v : ℕ × ℕ) (vs : List (ℕ × ℕ)) (n : ℕ) → open_run log ≡ Some (v ∷ vs) → publication (at_zero log) ≡ Some n → Throughout (IsNoLater n) log
   -- what the open run shows is no later than the newest
-  pub rises : (v : ℕ) (vs : List ℕ) (n m : ℕ) → open_run log ≡ Some (v ∷ vs) → publication (at_zero log) ≡ Some n → publication log ≡ Some m → n ≤ m
+  pub rises : (v : ℕ × ℕ) (vs : List (ℕ × ℕ)) (n m : ℕ) → open_run log ≡ Some (v ∷ vs) → publication (at_zero log) ≡ Some n → publication log ≡ Some m → n ≤ m
 
-pub at_zero_fetched : (line : Line) (log : Log) (v : ℕ) (vs : List ℕ) → open_run (line ∷ log) ≡ Some (v ∷ vs) → at_zero (line ∷ log) ≡ at_zero log
+pub at_zero_fetched : (line : Line) (log : Log) (v : ℕ × ℕ) (vs : List (ℕ × ℕ)) → open_run (line ∷ log) ≡ Some (v ∷ vs) → at_zero (line ∷ log) ≡ at_zero log
 at_zero_fetched line log v vs e = rw e
 
 pub at_zero_open : (log : Log) → open_run log ≡ Some [] → at_zero log ≡ log
@@ -83,13 +83,13 @@ at_zero_open (line ∷ log) e = rw e
 
 -- Lines that begin no fetched run, publish nothing, and write only where no frame lies that is shown or newest.
 module _ (R image : List ℕ) (log : Log) (event : Happening) (entry : Shown) (s : Shows R image log)
-    (o : (v : ℕ) (vs : List ℕ) → open_run ((event ⟼ entry) ∷ log) ≡ Some (v ∷ vs) → open_run log ≡ Some (v ∷ vs))
+    (o : (v : ℕ × ℕ) (vs : List (ℕ × ℕ)) → open_run ((event ⟼ entry) ∷ log) ≡ Some (v ∷ vs) → open_run log ≡ Some (v ∷ vs))
     (f : before_flip ((event ⟼ entry) ∷ log) ≡ before_flip log)
     (bound : (n : ℕ) → publication log ≡ Some n → IsNoLater n log event entry)
-    (rn : (v : ℕ) (vs : List ℕ) → open_run ((event ⟼ entry) ∷ log) ≡ Some (v ∷ vs) → (m : ℕ) → IsNoLater m log event entry)
+    (rn : (v : ℕ × ℕ) (vs : List (ℕ × ℕ)) → open_run ((event ⟼ entry) ∷ log) ≡ Some (v ∷ vs) → (m : ℕ) → IsNoLater m log event entry)
     (b1 : byte image ((event ⟼ entry) ∷ log) 1 ≡ byte image log 1)
     (keeps_now : (F : List OpKind) → Checked F R → Lies (current image log) F (byte image log) → Lies (current image log) F (byte image ((event ⟼ entry) ∷ log)))
-    (keeps_run : (h : Half) (F : List OpKind) → Checked F R → (words : List ℕ) → open_run log ≡ Some words → LeadsTo words h → Lies h F (byte image log) → Lies h F (byte image ((event ⟼ entry) ∷ log)))
+    (keeps_run : (h : Half) (F : List OpKind) → Checked F R → (words : List (ℕ × ℕ)) → open_run log ≡ Some words → LeadsTo words h → Lies h F (byte image log) → Lies h F (byte image ((event ⟼ entry) ∷ log)))
     (lays : (ws : List (ℕ × ℕ)) → place_of (life image ((event ⟼ entry) ∷ log)) ≡ Some (Writing ws) → Laying R image ((event ⟼ entry) ∷ log) ws) where
   pub carried : Shows R image ((event ⟼ entry) ∷ log)
   carried = record {
@@ -341,11 +341,11 @@ same_laying R image log log2 ws o b y = record {
 
 -- a line that writes nothing
 pub same_line : (R image : List ℕ) (log : Log) (event : Happening) (entry : Shown) → Shows R image log →
-    ((v : ℕ) (vs : List ℕ) → open_run ((event ⟼ entry) ∷ log) ≡ Some (v ∷ vs) → open_run log ≡ Some (v ∷ vs)) →
+    ((v : ℕ × ℕ) (vs : List (ℕ × ℕ)) → open_run ((event ⟼ entry) ∷ log) ≡ Some (v ∷ vs) → open_run log ≡ Some (v ∷ vs)) →
     before_flip ((event ⟼ entry) ∷ log) ≡ before_flip log →
     ((a : ℕ) → byte image ((event ⟼ entry) ∷ log) a ≡ byte image log a) →
     ((n : ℕ) → publication log ≡ Some n → IsNoLater n log event entry) →
-    ((v : ℕ) (vs : List ℕ) → open_run ((event ⟼ entry) ∷ log) ≡ Some (v ∷ vs) → (m : ℕ) → IsNoLater m log event entry) →
+    ((v : ℕ × ℕ) (vs : List (ℕ × ℕ)) → open_run ((event ⟼ entry) ∷ log) ≡ Some (v ∷ vs) → (m : ℕ) → IsNoLater m log event entry) →
     ((ws : List (ℕ × ℕ)) → place_of (life image ((event ⟼ entry) ∷ log)) ≡ Some (Writing ws) → Laying R image ((event ⟼ entry) ∷ log) ws) →
     Shows R image ((event ⟼ entry) ∷ log)
 same_line R image log event entry s o f b n rn lays =
@@ -356,11 +356,11 @@ same_line R image log event entry s o f b n rn lays =
 
 -- the same where the life goes on as it was
 pub same_life : (R image : List ℕ) (log : Log) (event : Happening) (entry : Shown) → Shows R image log →
-    ((v : ℕ) (vs : List ℕ) → open_run ((event ⟼ entry) ∷ log) ≡ Some (v ∷ vs) → open_run log ≡ Some (v ∷ vs)) →
+    ((v : ℕ × ℕ) (vs : List (ℕ × ℕ)) → open_run ((event ⟼ entry) ∷ log) ≡ Some (v ∷ vs) → open_run log ≡ Some (v ∷ vs)) →
     before_flip ((event ⟼ entry) ∷ log) ≡ before_flip log →
     ((a : ℕ) → byte image ((event ⟼ entry) ∷ log) a ≡ byte image log a) →
     ((n : ℕ) → publication log ≡ Some n → IsNoLater n log event entry) →
-    ((v : ℕ) (vs : List ℕ) → open_run ((event ⟼ entry) ∷ log) ≡ Some (v ∷ vs) → (m : ℕ) → IsNoLater m log event entry) →
+    ((v : ℕ × ℕ) (vs : List (ℕ × ℕ)) → open_run ((event ⟼ entry) ∷ log) ≡ Some (v ∷ vs) → (m : ℕ) → IsNoLater m log event entry) →
     life image ((event ⟼ entry) ∷ log) ≡ life image log → offered ((event ⟼ entry) ∷ log) ≡ offered log →
     Shows R image ((event ⟼ entry) ∷ log)
 same_life R image log event entry s o f b n rn l y =

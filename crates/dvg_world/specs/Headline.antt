@@ -32,9 +32,9 @@ pub record DrewPicture (R : List ℕ) (log : Log) (drew : List Stroke) : Type 0 
   pub draft : List OpKind
   pub shown : IsShown log draft
   pub closed : Closed draft R
-  pub words : List ℕ
-  pub open_now : open_run log ≡ Some words
-  pub picture : IsPicture draft R drew (suc (length words))
+  pub fetches : List (ℕ × ℕ)
+  pub open_now : open_run log ≡ Some fetches
+  pub picture : IsPicture draft R drew (suc (length fetches))
 
 -- a run that reaches HALT drew it
 abbrev pub DrewPublished : List ℕ → Log → Happening → Shown → Type 0
@@ -53,8 +53,8 @@ IsNoOlder log event entry = Unit {0}
 
 -- this holds of the number of the open run's next fetch, for each picture of what it shows: its strokes, and its fetches
 abbrev pub ByPicture : List ℕ → Log → (ℕ → List Stroke → ℕ → Type 0) → Type 0
-ByPicture R log P = (words : List ℕ) (F : List OpKind) (drew : List Stroke) (n : ℕ) → open_run log ≡ Some words → IsShown log F → IsPicture F R drew n
-    → P (suc (length words)) drew n
+ByPicture R log P = (fetches : List (ℕ × ℕ)) (F : List OpKind) (drew : List Stroke) (n : ℕ) → open_run log ≡ Some fetches → IsShown log F → IsPicture F R drew n
+    → P (suc (length fetches)) drew n
 
 -- where what a run shows has a picture of n fetches, its n-th fetch is the one that finishes it, with the picture's strokes
 abbrev pub KeepsTime : List ℕ → Log → Happening → Shown → Type 0

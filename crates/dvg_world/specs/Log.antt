@@ -53,22 +53,22 @@ history R image ((event ⟼ Done address word strokes) ∷ log) = Fed (Some word
 history R image ((event ⟼ Broke address fault) ∷ log) = Fed (fetched (ram image log) R address) ∷ history R image log
 history R image (line ∷ log) = history R image log
 
--- the words that the open run has fetched, newest first; none where no run is open
-abbrev pub open_run : Log → Option (List ℕ)
+-- the fetches of the open run, newest first, each with its address and its word; none where no run is open
+abbrev pub open_run : Log → Option (List (ℕ × ℕ))
 open_run [] = None
 open_run ((event ⟼ Started) ∷ log) = Some []
 open_run ((ResetGen ⟼ entry) ∷ log) = None
 open_run ((ResetAll bytes ⟼ entry) ∷ log) = None
-open_run ((event ⟼ Fetched address word) ∷ log) = option_map (λ words. word ∷ words) (open_run log)
+open_run ((event ⟼ Fetched address word) ∷ log) = option_map (λ fetches. (address, word) ∷ fetches) (open_run log)
 open_run ((event ⟼ Done address word strokes) ∷ log) = None
 open_run ((event ⟼ Broke address fault) ∷ log) = None
 open_run (line ∷ log) = open_run log
 
--- a half is being drawn: the first word of the open run is a jump to an address in it
+-- a half is being drawn: the open run's first fetch is of address 000 and met a jump to an address in the half
 pub record IsBeingDrawn (log : Log) (half : Half) : Type 0 where
-  pub later : List ℕ
+  pub later : List (ℕ × ℕ)
   pub target : ℕ
-  pub words : open_run log ≡ Some (later ++ (0xE000 + target) ∷ [])
+  pub fetches : open_run log ≡ Some (later ++ (0x000, 0xE000 + target) ∷ [])
   pub in_half : IsIn (Frame half) target
 
 -- the half that is free: the other one than byte 001 names
@@ -113,9 +113,9 @@ published log = option_and_then offered (before_flip log)
 abbrev pub publication : Log → Option ℕ
 publication log = option_map length (before_flip log)
 
--- the run has fetched a word
-abbrev pub has_fetched : Option (List ℕ) → Bool
-has_fetched (Some (word ∷ words)) = true
+-- the run has a fetch
+abbrev pub has_fetched : Option (List (ℕ × ℕ)) → Bool
+has_fetched (Some (fetch ∷ fetches)) = true
 has_fetched _ = false
 
 -- the log before the open run fetched word zero; the log itself, where that is still to come
