@@ -4,10 +4,12 @@
 mod checking;
 mod drafts;
 mod generating;
+mod running;
 mod ticking;
 
 use checking::check_often;
 use generating::draw;
+use running::run_often;
 use std::{env, io};
 use ticking::tick_often;
 
@@ -41,6 +43,17 @@ fn run_driver(rt: &HostRuntime) -> io::Result<()> {
     }
 }
 
+/// Runs the world.
+fn run_world(rt: &HostRuntime) -> io::Result<()> {
+    match run_often(rt.alloc()) {
+        Some(shown) => println!(rt;
+            "{} pictures, {} strokes, {} writes",
+            shown.pictures, shown.strokes, shown.writes
+        ),
+        None => eprintln!(rt; "out of memory"),
+    }
+}
+
 fn main(rt: HostRuntime) -> io::Result<()> {
     let words: Vec<String> = env::args(&rt)?.collect(rt.alloc())?;
     match words.get(1).map(|word| word.as_str()) {
@@ -48,6 +61,7 @@ fn main(rt: HostRuntime) -> io::Result<()> {
         Some("check") => run_check(&rt, 1024),
         Some("check-half") => run_check(&rt, 512),
         Some("driver") => run_driver(&rt),
-        _ => eprintln!(rt; "usage: dvg_bench generator|check|check-half|driver"),
+        Some("world") => run_world(&rt),
+        _ => eprintln!(rt; "usage: dvg_bench generator|check|check-half|driver|world"),
     }
 }

@@ -108,11 +108,11 @@ module _ {rom bytes : List ℕ} {machine : Machine} {stage : Stage} {sent : Bool
   }
 
 -- what a tick hands in as the flag
-flag_is : (halted : Bool) (run : Option (List ℕ)) (is_open : Bool) → (IsTrue halted ↔ (is_open ≡ false)) → is_open ≡ is_some run → halted ≡ is_none run
+flag_is : (halted : Bool) (run : Option (List (ℕ × ℕ))) (is_open : Bool) → (IsTrue halted ↔ (is_open ≡ false)) → is_open ≡ is_some run → halted ≡ is_none run
 flag_is true None is_open flag same = refl
-flag_is true (Some words) is_open flag same = let shut = flag.0 refl in absurd (cc)
+flag_is true (Some met) is_open flag same = let shut = flag.0 refl in absurd (cc)
 flag_is false None is_open flag same = flag.1 same
-flag_is false (Some words) is_open flag same = refl
+flag_is false (Some met) is_open flag same = refl
 
 true_read : (log : Log) (halted : Bool) (action : Action) → Tells action halted → halted ≡ is_none (open_run log) → IsTrueRead log action
 true_read log halted (Read shown) tells flag = tells ∙ flag
@@ -225,9 +225,9 @@ fails_is A fault More replies = absurd replies
 fails_is A fault (Drew strokes) replies = absurd replies
 fails_is A fault (Fails other) replies = ap Fails (sym replies)
 
-none_open : (run : Option (List ℕ)) → is_some run ≡ false → run ≡ None
+none_open : (run : Option (List (ℕ × ℕ))) → is_some run ≡ false → run ≡ None
 none_open None none = refl
-none_open (Some words) none = absurd (cc)
+none_open (Some met) none = absurd (cc)
 
 module _ {rom bytes : List ℕ} {machine : Machine} {stage : Stage} {sent : Bool} where
   pub fetch_still : machine.is_open ≡ false → AddsLine (world_of rom bytes machine stage sent) Fetch Still (world_of rom bytes machine stage sent)

@@ -24,45 +24,45 @@ image_of : (R image : List ℕ) (log : Log) → IsLegal R image log → IsImage 
 image_of R image [] legal = legal.0
 image_of R image ((event ⟼ entry) ∷ log) legal = image_of R image log legal.2
 
--- a run with one more word had the others
-before_word : (word : ℕ) (run : Option (List ℕ)) (words : List ℕ) → option_map (λ older. word ∷ older) run ≡ Some words → (older : List ℕ) × (run ≡ Some older) × (word ∷ older ≡ words)
-before_word word None words e = absurd (cc)
-before_word word (Some older) words e = (older, refl, same_Some _ _ e)
+-- a run with one more fetch had the others
+before_fetch : (fetch : ℕ × ℕ) (run : Option (List (ℕ × ℕ))) (met : List (ℕ × ℕ)) → option_map (λ older. fetch ∷ older) run ≡ Some met → (older : List (ℕ × ℕ)) × (run ≡ Some older) × (fetch ∷ older ≡ met)
+before_fetch fetch None met e = absurd (cc)
+before_fetch fetch (Some older) met e = (older, refl, same_Some _ _ e)
 
 -- the open run is one over the RAM, to which nothing was written
-runs_over : (R image : List ℕ) (log : Log) {run : Newest} → IsLegal R image log → IsUntouched log → Leaves (history R image log) run → (words : List ℕ) → open_run log ≡ Some words
-    → Runs (fetched (ram image log) R) (length words) run.visits run.held
-runs_over R image [] legal same leaves words is_open = absurd (cc)
-runs_over R image ((event ⟼ Started) ∷ log) legal same (starts leaves) words is_open =
+runs_over : (R image : List ℕ) (log : Log) {run : Newest} → IsLegal R image log → IsUntouched log → Leaves (history R image log) run → (met : List (ℕ × ℕ)) → open_run log ≡ Some met
+    → Runs (fetched (ram image log) R) (length met) run.visits run.held
+runs_over R image [] legal same leaves met is_open = absurd (cc)
+runs_over R image ((event ⟼ Started) ∷ log) legal same (starts leaves) met is_open =
     subst (λ some. Runs (fetched (ram image ((event ⟼ Started) ∷ log)) R) (length some) [] None) (same_Some _ _ is_open) begins
-runs_over R image ((ResetGen ⟼ entry) ∷ log) legal same leaves words is_open = absurd (cc)
-runs_over R image ((ResetAll bytes ⟼ entry) ∷ log) legal same leaves words is_open = absurd (cc)
-runs_over R image ((Fetch ⟼ Fetched a word) ∷ log) legal same (takes {run = run} {visits = visits} {held = held} leaves is_running adds) words is_open =
-    let older = before_word word (open_run log) words is_open in
+runs_over R image ((ResetGen ⟼ entry) ∷ log) legal same leaves met is_open = absurd (cc)
+runs_over R image ((ResetAll bytes ⟼ entry) ∷ log) legal same leaves met is_open = absurd (cc)
+runs_over R image ((Fetch ⟼ Fetched a word) ∷ log) legal same (takes {run = run} {visits = visits} {held = held} leaves is_running adds) met is_open =
+    let older = before_fetch (a, word) (open_run log) met is_open in
     let fetch = legal.0.1 in
     let fetching_run = fetching R image log a (Some word) More legal.2 fetch in
     let at : a ≡ wanted run.visits run.held = subst (λ r. a ≡ wanted r.visits r.held) (leaves_same fetch.leaves leaves) fetching_run.at in
     let there : fetched (ram image log) R (wanted run.visits run.held) ≡ Some word = subst (λ b. fetched (ram image log) R b ≡ Some word) at legal.0.0 in
     subst (λ some. Runs (fetched (ram image log) R) (length some) visits held) older.2
     (fetches (runs_over R image log legal.2 same leaves older.0 older.1) (open_goes leaves is_running) there adds)
-runs_over R image ((event ⟼ Fetched a word) ∷ log) legal same leaves words is_open = absurd legal.0
-runs_over R image ((event ⟼ Done a word drew) ∷ log) legal same leaves words is_open = absurd (cc)
-runs_over R image ((event ⟼ Broke a fault) ∷ log) legal same leaves words is_open = absurd (cc)
-runs_over R image ((event ⟼ Acted (Wrote a byte)) ∷ log) legal same leaves words is_open = absurd same
-runs_over R image (line ∷ log) legal same leaves words is_open = runs_over R image log legal.2 same leaves words is_open
+runs_over R image ((event ⟼ Fetched a word) ∷ log) legal same leaves met is_open = absurd legal.0
+runs_over R image ((event ⟼ Done a word drew) ∷ log) legal same leaves met is_open = absurd (cc)
+runs_over R image ((event ⟼ Broke a fault) ∷ log) legal same leaves met is_open = absurd (cc)
+runs_over R image ((event ⟼ Acted (Wrote a byte)) ∷ log) legal same leaves met is_open = absurd same
+runs_over R image (line ∷ log) legal same leaves met is_open = runs_over R image log legal.2 same leaves met is_open
 
 held_line : (R image : List ℕ) (log : Log) (event : Happening) (entry : Shown) → IsLegal R image log → Fits R image log event entry → DrewHeld R image log event entry
-held_line R image log Fetch (Done a word drew) legal fits = λ half F words draft closed holds same is_open.
+held_line R image log Fetch (Done a word drew) legal fits = λ half F met draft closed holds same is_open.
     let memory = fetched (ram image log) R in
     let fetch = fits.1 in
     let fetching_run = fetching R image log a (Some word) (Drew drew) legal fetch in
     let there : fetched (ram image log) R (wanted fetch.run.visits fetch.run.held) ≡ Some word = subst (λ b. fetched (ram image log) R b ≡ Some word) fetching_run.at fits.0 in
     let more = added fetch in
-    let runs = fetches (runs_over R image log legal same fetch.leaves words is_open) fetching_run.goes there more.2 in
+    let runs = fetches (runs_over R image log legal same fetch.leaves met is_open) fetching_run.goes there more.2 in
     let end = drew_finished more.1 (fate more.0) (strokes fetch.run.first more.0) drew (ap (λ run. reply (Some word) run) (sym more.3) ∙ fetch.replies) in
-    let whole = subst (λ held. Runs memory (suc (length words)) more.0 held) end.0 runs in
+    let whole = subst (λ held. Runs memory (suc (length met)) more.0 held) end.0 runs in
     let drawn = undisturbed half F (ram image log) R draft (image_of R image log legal) closed holds in
-    subst (λ strokes. IsPicture F R strokes (suc (length words))) end.2 (finished_picture drawn fetch.run.first whole end.1)
+    subst (λ strokes. IsPicture F R strokes (suc (length met))) end.2 (finished_picture drawn fetch.run.first whole end.1)
 held_line R image log event (Done a word drew) legal fits = absurd fits
 held_line R image log event entry legal fits = tt
 

@@ -20,6 +20,6 @@ IsUntouched (line ∷ log) = IsUntouched log
 
 -- where the RAM holds a checked frame with the jump to it, and has done so since the run began, a run that reaches HALT drew the picture of the frame's draft, in as many fetches
 abbrev pub DrewHeld : List ℕ → List ℕ → Log → Happening → Shown → Type 0
-DrewHeld R image log event (Done address word drew) = (half : Half) (F : List OpKind) (words : List ℕ) → IsDraft F → Closed F R → HoldsFrame (ram image log) half F → IsUntouched log
-    → open_run log ≡ Some words → IsPicture F R drew (suc (length words))
+DrewHeld R image log event (Done address word drew) = (half : Half) (F : List OpKind) (fetches : List (ℕ × ℕ)) → IsDraft F → Closed F R → HoldsFrame (ram image log) half F → IsUntouched log
+    → open_run log ≡ Some fetches → IsPicture F R drew (suc (length fetches))
 DrewHeld R image log event entry = Unit {0}
