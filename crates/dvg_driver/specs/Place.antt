@@ -1,0 +1,41 @@
+-- Where in its script a life stands, by a program that follows the items. A driver's place is one of these; what is promised of lives themselves is said by the script.
+use Rattle.std.specs.Prelude.{ℕ, Bool, true, false, List, [], ◌∷◌, Option, Some, None, nat_eq, ◌&&◌, if◌then◌else◌, option_and_then}
+use Rattle.dvg_driver.specs.declared.action.Action.TheVariants.{Peek, Wrote, Read, Sent, Idle}
+use Rattle.dvg_driver.specs.Script.{Item, Offered, Asked, Did, frame_writes}
+
+-- a place in the script; a flag says that no frame part was begun before
+pub data Place : Type 0 where
+  Start : Place
+  Booting : Place
+  Resting : Bool → Place
+  -- these writes are still to come
+  Writing : List (ℕ × ℕ) → Place
+  Waiting : Bool → Place
+  Sending : Bool → Place
+
+-- the place where these writes are still to come
+abbrev pub with_left : List (ℕ × ℕ) → Place
+with_left [] = Waiting false
+with_left (write ∷ writes) = Writing (write ∷ writes)
+
+-- the place after a write, if it is the first of those that were to come
+abbrev pub after_write : List (ℕ × ℕ) → ℕ → ℕ → Option Place
+after_write [] a byte = None
+after_write (write ∷ writes) a byte = if nat_eq write.0 a && nat_eq write.1 byte then Some (with_left writes) else None
+
+-- the place after an item, if the item may come there
+abbrev pub next : Place → Item → Option Place
+next Start (Did Peek) = Some Booting
+next Booting (Did (Read halted)) = Some (if halted then Resting true else Booting)
+next (Resting first) (Offered half F) = Some (Writing (frame_writes half F first))
+next (Resting first) Asked = Some (Waiting first)
+next (Resting first) (Did Idle) = Some (Resting first)
+next (Writing writes) (Did (Wrote a byte)) = after_write writes a byte
+next (Waiting first) (Did (Read halted)) = Some (if halted then Sending first else Waiting first)
+next (Sending first) (Did Sent) = Some (Resting first)
+next _ _ = None
+
+-- the place of a life, if it has one
+abbrev pub place_of : List Item → Option Place
+place_of [] = Some Start
+place_of (item ∷ life) = option_and_then (λ place. next place item) (place_of life)

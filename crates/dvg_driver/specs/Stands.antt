@@ -1,0 +1,42 @@
+-- After which lives a driver stands.
+use Rattle.std.specs.Prelude.{ℕ, Bool, List, [], ◌∷◌, ◌≡◌, Some, nat_eq, if◌then◌else◌}
+use Rattle.dvg_mem.specs.declared.half.Half.{Half}
+use Rattle.dvg_mem.specs.Areas.{half_of_high}
+use Rattle.dvg_driver.specs.declared.action.Action.{Action}
+use Rattle.dvg_driver.specs.declared.action.Action.TheVariants.{Peek, Wrote, Read}
+use Rattle.dvg_driver.specs.Script.{Item, Did, has_flip}
+use Rattle.dvg_driver.specs.Place.{Place, Start, place_of}
+
+-- what contracts see of a driver: its place in the script, the current half, and whether it has flipped since its reset
+pub record Stage : Type 0 where
+  pub place : Place
+  pub half : Half
+  pub flipped : Bool
+
+-- byte 001, as the life tells it: what its last flip wrote, or else what was handed in at its peek
+abbrev pub byte1_of : ℕ → List Item → ℕ
+byte1_of peeked [] = peeked
+byte1_of peeked (Did Peek ∷ life) = peeked
+byte1_of peeked (Did (Wrote a byte) ∷ life) = if nat_eq a 1 then byte else byte1_of peeked life
+byte1_of peeked (item ∷ life) = byte1_of peeked life
+
+-- the current half is the one that byte 001 names; before the peek it may be any
+abbrev pub KnowsHalf : Place → Half → ℕ → Type 0
+KnowsHalf Start half byte1 = Unit {0}
+KnowsHalf place half byte1 = half ≡ half_of_high byte1
+
+-- the driver stands after the life, at whose peek this byte was handed in
+pub record StandsAfter (stage : Stage) (peeked : ℕ) (life : List Item) : Type 0 where
+  pub place : place_of life ≡ Some stage.place
+  pub half : KnowsHalf stage.place stage.half (byte1_of peeked life)
+  pub flipped : has_flip life ≡ stage.flipped
+
+-- what was handed in at the peek, after an action at which this byte was handed in
+abbrev pub peeked_after : Action → ℕ → ℕ → ℕ
+peeked_after Peek byte1 peeked = byte1
+peeked_after action byte1 peeked = peeked
+
+-- a read tells the flag that was handed in
+abbrev pub Tells : Action → Bool → Type 0
+Tells (Read shown) halted = shown ≡ halted
+Tells action halted = Unit {0}

@@ -1,0 +1,84 @@
+-- What every legal log shows.
+use Rattle.std.specs.Prelude.{◌≡◌, ℕ, suc, ◌/◌, ◌≤◌, ◌<◌, List, Some, length}
+use Rattle.dvg_mem.specs.declared.half.Half.{Half}
+use Rattle.dvg_mem.specs.declared.areas.Area.TheVariants.{Frame}
+use Rattle.dvg_mem.specs.Areas.{IsIn}
+use Rattle.dvg_gen.specs.declared.stroke.Stroke.{Stroke}
+use Rattle.dvg_frame.specs.declared.op.OpKind.{OpKind}
+use Rattle.dvg_frame.specs.Steps.{Closed}
+use Rattle.dvg_frame.specs.Picture.{IsPicture}
+use Rattle.dvg_driver.specs.declared.action.Action.TheVariants.{Wrote}
+use Rattle.dvg_world.specs.Events.{Happening}
+use Rattle.dvg_world.specs.Entries.{Shown, Acted, Fetched, Done, Broke}
+use Rattle.dvg_world.specs.Log.{Log, Throughout, open_run, IsDrawn, published, publication, at_zero}
+use Rattle.dvg_world.specs.Legal.{IsLegal}
+
+-- a byte that is written isn't in a half being drawn
+abbrev pub SparesDrawn : Log → Happening → Shown → Type 0
+SparesDrawn log event (Acted (Wrote a byte)) = (half : Half) → IsDrawn log half → ¬ IsIn (Frame half) (a / 2)
+SparesDrawn log event entry = Unit {0}
+
+-- the generator doesn't fault
+abbrev pub NoFault : Log → Happening → Shown → Type 0
+NoFault log event (Broke address fault) = ⊥
+NoFault log event entry = Unit {0}
+
+-- the open run shows this draft: the one newest published when it fetched word zero
+abbrev pub IsShown : Log → List OpKind → Type 0
+IsShown log F = published (at_zero log) ≡ Some F
+
+-- a run that is finished by its next fetch drew exactly the picture of what it shows, in as many fetches
+pub record DrewPicture (R : List ℕ) (log : Log) (drew : List Stroke) : Type 0 where
+  pub draft : List OpKind
+  pub shown : IsShown log draft
+  pub closed : Closed draft R
+  pub words : List ℕ
+  pub open_now : open_run log ≡ Some words
+  pub picture : IsPicture draft R drew (suc (length words))
+
+-- a run that reaches HALT drew it
+abbrev pub DrewPublished : List ℕ → Log → Happening → Shown → Type 0
+DrewPublished R log event (Done address word drew) = DrewPicture R log drew
+DrewPublished R log event entry = Unit {0}
+
+-- a run that reaches HALT shows no publication with a number above n
+abbrev pub IsNoLater : ℕ → Log → Happening → Shown → Type 0
+IsNoLater n log event (Done address word drew) = (m : ℕ) → publication (at_zero log) ≡ Some m → m ≤ n
+IsNoLater n log event entry = Unit {0}
+
+-- a run that reaches HALT shows no publication older than one that was shown before
+abbrev pub IsNoOlder : Log → Happening → Shown → Type 0
+IsNoOlder log event (Done address word drew) = (n : ℕ) → publication (at_zero log) ≡ Some n → Throughout (IsNoLater n) log
+IsNoOlder log event entry = Unit {0}
+
+-- this holds of the number of the open run's next fetch, for each picture of what it shows: its strokes, and its fetches
+abbrev pub ByPicture : List ℕ → Log → (ℕ → List Stroke → ℕ → Type 0) → Type 0
+ByPicture R log P = (words : List ℕ) (F : List OpKind) (drew : List Stroke) (n : ℕ) → open_run log ≡ Some words → IsShown log F → IsPicture F R drew n
+    → P (suc (length words)) drew n
+
+-- where what a run shows has a picture of n fetches, its n-th fetch is the one that finishes it, with the picture's strokes
+abbrev pub KeepsTime : List ℕ → Log → Happening → Shown → Type 0
+KeepsTime R log event (Fetched address word) = ByPicture R log (λ number drew n. number < n)
+KeepsTime R log event (Broke address fault) = ByPicture R log (λ number drew n. number < n)
+KeepsTime R log event (Done address word strokes) = ByPicture R log (λ number drew n. (number ≡ n) × (strokes ≡ drew))
+KeepsTime R log event entry = Unit {0}
+
+-- no byte is written in the half being drawn
+abbrev pub NeverTorn : Type 0
+NeverTorn = (R image : List ℕ) (log : Log) → IsLegal R image log → Throughout SparesDrawn log
+
+-- the generator never faults
+abbrev pub NeverFaults : Type 0
+NeverFaults = (R image : List ℕ) (log : Log) → IsLegal R image log → Throughout NoFault log
+
+-- each run that reaches HALT drew exactly the picture of the frame newest published when it fetched word zero
+abbrev pub DrawsPublished : Type 0
+DrawsPublished = (R image : List ℕ) (log : Log) → IsLegal R image log → Throughout (DrewPublished R) log
+
+-- no picture is older than the one before
+abbrev pub NeverOlder : Type 0
+NeverOlder = (R image : List ℕ) (log : Log) → IsLegal R image log → Throughout IsNoOlder log
+
+-- a run of a frame that has a picture is finished at the picture's last fetch
+abbrev pub AlwaysInTime : Type 0
+AlwaysInTime = (R image : List ℕ) (log : Log) → IsLegal R image log → Throughout (KeepsTime R) log

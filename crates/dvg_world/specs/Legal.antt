@@ -1,0 +1,59 @@
+-- Legal logs: each event has the entry that it gets over the log before it.
+use Rattle.std.specs.Prelude.{◌≡◌, ℕ, true, false, List, [], ◌∷◌, Option, Some, None, is_none}
+use Rattle.dvg_mem.specs.Memory.{fetched, IsImage}
+use Rattle.dvg_gen.specs.Told.{Told, Fed, Newest, Leaves, Reply, More, Drew, Fails, reply, wants}
+use Rattle.dvg_frame.specs.Steps.{Closed}
+use Rattle.dvg_frame.specs.Faults.{Refuses}
+use Rattle.dvg_driver.specs.declared.action.Action.{Action}
+use Rattle.dvg_driver.specs.declared.action.Action.TheVariants.{Read}
+use Rattle.dvg_driver.specs.Script.{Did, IsWhole, IsLife, has_flip}
+use Rattle.dvg_world.specs.Events.{Happening, Offer, Redraw, Tick, Strobe, Fetch, ResetGen, ResetCpu, ResetAll, IsEvent}
+use Rattle.dvg_world.specs.Entries.{Shown, Offered, Refused, Busy, Asked, NothingPublished, Acted, Started, NoStrobe, Fetched, Done, Broke, Still, Cleared}
+use Rattle.dvg_world.specs.Log.{◌⟼◌, Log, events_of, ram, history, open_run, life, strobed}
+
+-- a read of the HALT flag shows whether no run is open
+abbrev pub IsTrueRead : Log → Action → Type 0
+IsTrueRead log (Read halted) = halted ≡ is_none (open_run log)
+IsTrueRead log action = Unit {0}
+
+-- after this history the next fetch is of this address, and it is answered so where it meets this word, or a hole
+pub record IsFetch (before : List Told) (address : ℕ) (word : Option ℕ) (answer : Reply) : Type 0 where
+  pub run : Newest
+  pub leaves : Leaves before run
+  pub wanted : wants run ≡ Some address
+  pub later : Newest
+  pub leaves_later : Leaves (Fed word ∷ before) later
+  pub replies : reply word later ≡ answer
+
+-- the event gets this entry over the log before it
+abbrev pub Fits : List ℕ → List ℕ → Log → Happening → Shown → Type 0
+-- a draft that has a fault is refused for the fault that is picked, a good one while the driver isn't idle
+Fits R image log (Offer F) (Refused fault) = Refuses F R fault
+Fits R image log (Offer F) Busy = Closed F R × ¬ IsWhole (life image log)
+Fits R image log (Offer F) Offered = Closed F R × IsWhole (life image log)
+-- there is nothing to draw again before the life's first flip
+Fits R image log Redraw NothingPublished = has_flip (life image log) ≡ false
+Fits R image log Redraw Busy = (has_flip (life image log) ≡ true) × ¬ IsWhole (life image log)
+Fits R image log Redraw Asked = (has_flip (life image log) ≡ true) × IsWhole (life image log)
+-- the action is the next one of the script
+Fits R image log Tick (Acted action) = IsLife (Did action ∷ life image log) × IsTrueRead log action
+Fits R image log Strobe Started = strobed log ≡ true
+Fits R image log Strobe NoStrobe = strobed log ≡ false
+-- the word is the one that memory has now, and the run goes on, is finished or breaks by it
+Fits R image log Fetch Still = open_run log ≡ None
+Fits R image log Fetch (Fetched address word) = (fetched (ram image log) R address ≡ Some word) × IsFetch (history R image log) address (Some word) More
+Fits R image log Fetch (Done address word strokes) = (fetched (ram image log) R address ≡ Some word) × IsFetch (history R image log) address (Some word) (Drew strokes)
+Fits R image log Fetch (Broke address fault) = IsFetch (history R image log) address (fetched (ram image log) R address) (Fails fault)
+Fits R image log ResetGen Cleared = Unit {0}
+Fits R image log ResetCpu Cleared = Unit {0}
+Fits R image log (ResetAll bytes) Cleared = Unit {0}
+Fits R image log event entry = ⊥
+
+-- a legal log over a ROM and a first image of the RAM
+abbrev pub IsLegal : List ℕ → List ℕ → Log → Type 0
+IsLegal R image [] = IsImage R × IsImage image
+IsLegal R image ((event ⟼ entry) ∷ log) = Fits R image log event entry × IsEvent event × IsLegal R image log
+
+-- a list of events has one legal log at most
+abbrev pub SameLog : Type 0
+SameLog = (R image : List ℕ) (one other : Log) → IsLegal R image one → IsLegal R image other → events_of one ≡ events_of other → one ≡ other

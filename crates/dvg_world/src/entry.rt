@@ -1,0 +1,38 @@
+//! What a log shows of an event.
+use dvg_driver::Action;
+use dvg_frame::FrameFault;
+use dvg_gen::{GenFault, Stroke};
+use std::alloc::{Allocator, Global};
+
+/// What an event led to. Each event has exactly one entry.
+#[derive(Debug, Drop)]
+pub enum Entry<A: Allocator = Global> {
+    /// The draft was checked, and the driver took its frame.
+    Offered,
+    /// The check refused the draft.
+    Refused(FrameFault),
+    /// The driver isn't idle. The frame was dropped, or there is no redraw.
+    Busy,
+    /// The driver took the redraw.
+    Asked,
+    /// There is no redraw, as the driver hasn't published a frame since its reset.
+    NothingPublished,
+    /// The driver did this action. A byte that it wrote stands in the RAM.
+    Acted(Action),
+    /// The strobe began a run, at word zero. A run that was open is abandoned.
+    Started,
+    /// The strobe had no effect: the driver hasn't sent one since the last reset of the whole system, or
+    /// the beginning.
+    NoStrobe,
+    /// The generator fetched at this word address this word, and its run goes on.
+    Fetched(u16, u16),
+    /// The generator fetched at this word address this word, the last one of a HALT. Its run is finished
+    /// and drew these strokes, in order.
+    Done(u16, u16, Vec<Stroke, A>),
+    /// The fetch at this word address broke the run.
+    Broke(u16, GenFault),
+    /// Nothing was fetched, as no run is open.
+    Still,
+    /// A reset was done.
+    Cleared,
+}

@@ -1,0 +1,27 @@
+//! What can happen to a world.
+use dvg_frame::Draft;
+use dvg_mem::Image;
+use std::alloc::{Allocator, Global};
+
+/// One thing that happens. Events come in any order and number: a strobe that is sent and never given as
+/// an event is a lost one, and one that is given again is a repeated one.
+#[derive(Drop)]
+pub enum Event<A: Allocator = Global> {
+    /// The driver is handed a draft to show.
+    Offer(Box<Draft, A>),
+    /// The driver is asked to have the published frame drawn again.
+    Redraw,
+    /// The driver does one action.
+    Tick,
+    /// A start strobe reaches the generator. It has no effect before the driver sent one.
+    Strobe,
+    /// The generator fetches one word.
+    Fetch,
+    /// A reset of the generator alone: its run is abandoned.
+    ResetGen,
+    /// A reset of the processor alone: the driver forgets everything. RAM, generator and strobes under way
+    /// stay as they are.
+    ResetCpu,
+    /// A reset of the whole system: both of them, strobes under way end, and the RAM holds these bytes.
+    ResetAll(Image<A>),
+}
