@@ -3,7 +3,7 @@ use Rattle.std.specs.Prelude.{◌≡◌, ℕ, ◌+◌, ◌<◌, ◌≤◌, List,
 use Rattle.std.specs.List.{AllZip}
 use Rattle.dvg_frame.specs.declared.op.OpKind.{OpKind}
 use Rattle.dvg_tool.specs.declared.fault.TextFault.{TextFault}
-use Rattle.dvg_tool.specs.declared.fault.TextFault.TheVariants.{TooLong, Odd, Cut, RomSize, Syntax, Full}
+use Rattle.dvg_tool.specs.declared.fault.TextFault.TheVariants.{TooLong, Syntax, Full}
 use Rattle.dvg_tool.specs.Texts.{is_passed, lines, told}
 use Rattle.dvg_tool.specs.OpLines.{IsOpLine}
 use Rattle.dvg_tool.specs.RomTexts.{IsRomLine, RomLine}
@@ -60,6 +60,4 @@ abbrev pub HasFault : List ℕ → TextFault → Type 0
 HasFault text TooLong = 1048576 < length text
 HasFault text (Syntax n) = MeetsSyntax text n
 HasFault text (Full n) = MeetsFull text n
-HasFault text Odd = ⊥
-HasFault text (Cut place) = ⊥
-HasFault text RomSize = ⊥
+HasFault text _ = ⊥

@@ -12,3 +12,5 @@ pub mod Verdicts
 pub mod Checks
 pub mod DraftReading
 pub mod TextLaws
+pub mod TraceTexts
+pub mod Shows
