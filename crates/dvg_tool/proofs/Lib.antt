@@ -8,3 +8,6 @@ pub mod OneMeaning
 pub mod OneStop
 pub mod OneRom
 pub mod OneVerdict
+pub mod Decimals
+pub mod Cuts
+pub mod OpRows

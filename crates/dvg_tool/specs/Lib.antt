@@ -10,6 +10,9 @@ pub mod RomTexts
 pub mod DraftTexts
 pub mod Verdicts
 pub mod Checks
+pub mod LineParts
+pub mod TextLines
+pub mod RomWords
 pub mod DraftReading
 pub mod TextLaws
 pub mod TraceTexts
