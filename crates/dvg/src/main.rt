@@ -1,7 +1,7 @@
 //! The program `dvg`, for people who write and debug display lists of the Digital Vector Generator.
 #![tactic(auto)]
 
-use dvg_tool::{Job, ToolFault, Watched, finish, job, perform, status};
+use dvg_tool::{Done, Job, ToolFault, Watched, finish, job, perform, status};
 use std::io::BufWriter;
 use std::process::ExitCode;
 use std::{env, io};
@@ -20,7 +20,7 @@ fn asked(rt: &HostRuntime) -> io::Result<Option<Job>> {
 }
 
 /// Does a job from standard input to standard output.
-fn run(rt: &HostRuntime, job: Job) -> Result<(), ToolFault> {
+fn run(rt: &HostRuntime, job: Job) -> Result<Done, ToolFault> {
     let Ok(output) = BufWriter::new(rt.alloc(), io::writer(rt)) else {
         return Err(ToolFault::Memory);
     };
@@ -32,7 +32,7 @@ fn run(rt: &HostRuntime, job: Job) -> Result<(), ToolFault> {
 
 fn main(rt: HostRuntime) -> ExitCode {
     let Ok(Some(job)) = asked(&rt) else {
-        let _ = eprintln!(rt; "usage: dvg list|rom");
+        let _ = eprintln!(rt; "usage: dvg list|rom|check");
         return ExitCode::from(MISUSE);
     };
     let answer = run(&rt, job);

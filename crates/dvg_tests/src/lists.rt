@@ -1,6 +1,6 @@
 //! The engine `list`.
 use crate::devices::{Endless, Failure, Slow, Stubborn};
-use dvg_tool::{MOST_LIST_BYTES, TextFault, ToolFault, Watched, finish, list};
+use dvg_tool::{MOST_LIST_BYTES, TextFault, ToolFault, Watched, list};
 use linked_list_allocator::LocalHeap;
 use std::test::Fail;
 
@@ -158,28 +158,5 @@ fn lists_the_longest_input(rt: HostRuntime) -> Result<(), Fail> {
     assert_eq!(rt; text.iter().filter(|byte| **byte == b'\n').count(), 4096);
     assert!(rt; text.as_slice().ends_with(b"\nFFE HALT\nFFF HALT\n"));
     assert!(rt; text.as_slice().starts_with(b"000 HALT\n001 HALT\n"));
-    Ok(())
-}
-
-#[test]
-fn a_failing_flush_is_the_writers_fault(rt: HostRuntime) -> Result<(), Fail> {
-    for answer in [Ok(()), CUT, Err(ToolFault::Reader)] {
-        for calls_left in 0..2u32 {
-            let mut writer = Watched::new(Stubborn {
-                taken: Vec::new(rt.alloc()),
-                step: 1,
-                calls_left,
-                failure: Failure::Error,
-            });
-            let finished = finish(answer, &mut writer);
-            if calls_left == 0 {
-                assert_eq!(rt; finished, Err(ToolFault::Writer));
-                assert_eq!(rt; writer.failures(), 1);
-            } else {
-                assert_eq!(rt; finished, answer);
-                assert_eq!(rt; writer.failures(), 0);
-            }
-        }
-    }
     Ok(())
 }

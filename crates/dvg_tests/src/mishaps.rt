@@ -1,7 +1,8 @@
 //! Devices that fail once, at each call in turn: every failure is told at once, and nothing is tried
 //! again.
-use crate::devices::{FailsOnce, Mishap};
-use dvg_tool::{Job, ToolFault, Watched, perform};
+use crate::devices::{FailsOnce, Failure, Mishap, Stubborn};
+use dvg_frame::FrameFault;
+use dvg_tool::{Done, Job, TextFault, ToolFault, Verdict, Watched, finish, perform};
 use std::alloc::Global;
 use std::test::Fail;
 
@@ -89,6 +90,73 @@ fn engines_stop_at_the_first_failure(rt: HostRuntime) -> Result<(), Fail> {
                 let taken = writer.into_inner().taken;
                 let lines = taken.iter().filter(|byte| **byte == b'\n').count();
                 assert_eq!(rt; lines, calls_before as usize);
+            }
+        }
+    }
+    Ok(())
+}
+
+#[test]
+fn check_stops_at_the_first_failure(rt: HostRuntime) -> Result<(), Fail> {
+    let text = b"rom 800 E001\nlabs 0 0 0\ncallrom 800\nhalt\n";
+    let line = b"fault 6 out of rom word 800\n";
+    for mishap in [Mishap::Error, Mishap::Interrupted] {
+        for calls_before in 0..=text.len() as u32 {
+            let broken = device(rt.alloc(), text.as_slice(), 1, calls_before, mishap);
+            let mut reader = Watched::new(broken);
+            let mut writer = Watched::new(Vec::new(rt.alloc()));
+            let answer = perform(rt.alloc(), Job::Check, &mut reader, &mut writer);
+            assert_eq!(rt;
+                answer,
+                Err(ToolFault::Reader),
+                "after {calls_before} reads"
+            );
+            assert_eq!(rt; reader.failures(), 1);
+            assert!(rt; writer.into_inner().is_empty());
+        }
+    }
+    for mishap in [Mishap::Error, Mishap::Interrupted, Mishap::TakesNothing] {
+        for calls_before in 0..line.len() as u32 {
+            let mut reader = Watched::new(text.as_slice());
+            let mut writer = Watched::new(device(rt.alloc(), &[], 1, calls_before, mishap));
+            let answer = perform(rt.alloc(), Job::Check, &mut reader, &mut writer);
+            assert_eq!(rt;
+                answer,
+                Err(ToolFault::Writer),
+                "after {calls_before} writes"
+            );
+            assert_eq!(rt; writer.failures(), 1);
+            let taken = writer.into_inner().taken;
+            assert_eq!(rt; taken.len(), calls_before as usize);
+            assert!(rt; line.starts_with(taken.as_slice()));
+        }
+    }
+    Ok(())
+}
+
+#[test]
+fn a_failing_flush_is_the_writers_fault(rt: HostRuntime) -> Result<(), Fail> {
+    for answer in [
+        Ok(Done::Written),
+        Ok(Done::Judged(Verdict::Good(3))),
+        Ok(Done::Judged(Verdict::Refused(FrameFault::Empty))),
+        Err(ToolFault::Text(TextFault::Cut(4))),
+        Err(ToolFault::Reader),
+    ] {
+        for calls_left in 0..2u32 {
+            let mut writer = Watched::new(Stubborn {
+                taken: Vec::new(rt.alloc()),
+                step: 1,
+                calls_left,
+                failure: Failure::Error,
+            });
+            let finished = finish(answer, &mut writer);
+            if calls_left == 0 {
+                assert_eq!(rt; finished, Err(ToolFault::Writer));
+                assert_eq!(rt; writer.failures(), 1);
+            } else {
+                assert_eq!(rt; finished, answer);
+                assert_eq!(rt; writer.failures(), 0);
             }
         }
     }

@@ -18,7 +18,9 @@ one_said F R (Refused fault) (Good words) a b = absurd (closed_stays F R fault b
 one_said F R (Refused fault) (Refused found) a b = ap Refused (one_fault F R fault found a b)
 
 pub one_verdict : (text : List ℕ) (one other : Verdict) → Judges text one → Judges text other → other ≡ one
-one_verdict text one other a b =
-    let (roms, ops) = one_meaning text a.roms b.roms a.F b.F a.denotes b.denotes in
-    let rom = one_rom a.roms a.R b.R a.rom (subst (λ roms. IsRomOf roms b.R) roms b.rom) in
-    one_said a.F a.R one other a.said (subst (λ R. IsVerdict a.F R other) rom (subst (λ F. IsVerdict F b.R other) ops b.said))
+one_verdict text said also a b =
+    let one = a.gives in
+    let other = b.gives in
+    let (roms, ops) = one_meaning text one.roms other.roms a.F b.F one.denotes other.denotes in
+    let rom = one_rom one.roms a.R b.R one.rom (subst (λ roms. IsRomOf roms b.R) roms other.rom) in
+    one_said a.F a.R said also a.said (subst (λ R. IsVerdict a.F R also) rom (subst (λ F. IsVerdict F b.R also) ops b.said))

@@ -1,6 +1,14 @@
 -- From what was read to what the reader had.
-use Rattle.std.proofs.Common.{◌≡◌, ◌≢◌, ℕ, ◌+◌, ◌*◌, [], ◌∷◌, refl, sym, ◌%◌, ◌<◌, ◌≤◌, List, Option, None, Some, Result, Ok, Err, IfSome, length, take, length-take, take_all, ap, subst, ◌∙◌, arith}
+use Rattle.std.proofs.Common.{◌≡◌, ◌≢◌, ℕ, ◌+◌, ◌*◌, [], ◌∷◌, refl, sym, ◌%◌, ◌<◌, ◌≤◌, List, Option, None, Some, Result, Ok, Err, IfSome, length, take, length-take, take_all, ap, subst, ◌∙◌, arith, ◌⊎◌, inl, inr, ⊎_elim}
+use Rattle.std.proofs.lemmas.Bool.{cases_lt}
+use Rattle.std.specs.Io.KnownBytes.{Appends}
 use Rattle.dvg_code.specs.Words.{words_of}
+use Rattle.dvg_tool.specs.declared.fault.TextFault.{TextFault}
+use Rattle.dvg_tool.specs.declared.verdict.Verdict.{Verdict}
+use Rattle.dvg_tool.specs.Checks.{Checks, IsJudgingFault, Judges, StopsCheck, StopsJudging}
+use Rattle.dvg_tool.specs.DraftTexts.{HasFault}
+use Rattle.dvg_tool.specs.Verdicts.{verdict_line}
+use Rattle.dvg_tool.specs.Watching.{BeginsToWrite}
 use Rattle.dvg_tool.specs.Lines.{rom_text}
 use Rattle.dvg_tool.specs.Roms.{WritesRom, WritesText}
 use Rattle.dvg_tool.specs.Lists.{IsListable, Lists, ListsWords}
@@ -70,3 +78,55 @@ writes_rom answer None old new read e h w = tt
 writes_rom answer (Some input) old new read e h w =
     let same = whole 2048 read input e (omega arith) in
     rom_written answer input old new (sym (ap length same) ∙ h) (subst (λ l. WritesText answer (rom_text l) old new) same w)
+
+-- what was read is the whole input, or both are too long
+whole_or_long : (most : ℕ) (read input : List ℕ) → read ≡ take (most + 1) input → (read ≡ input) ⊎ ((most < length read) × (most < length input))
+whole_or_long most read input e = ⊎_elim
+    (λ fits. inl (whole most read input e (omega arith)))
+    (λ over. inr (omega arith, omega (arith, ap length e, length-take (most + 1) input)))
+    (cases_lt (length read) (most + 1))
+
+-- what is said of what was read is said of the input
+pub judged : (verdict : Verdict) (input read : List ℕ) → read ≡ take 1048577 input → Judges read verdict → Judges input verdict
+judged verdict input read e j =
+    let short = j.gives.denotes.short in
+    subst (λ text. Judges text verdict) (whole 1048576 read input e short) j
+
+-- a text that is at fault but not too long is short
+short_or_long : (fault : TextFault) (read : List ℕ) → HasFault read fault → (fault ≡ TooLong) ⊎ (length read ≤ 1048576)
+short_or_long TooLong read h = inl refl
+short_or_long (Syntax n) read h = inr h.reaches.short
+short_or_long (Full n) read h = inr h.reaches.short
+short_or_long Odd read h = absurd h
+short_or_long (Cut place) read h = absurd h
+short_or_long RomSize read h = absurd h
+
+-- the fault of what was read is that of the input
+pub faulted : (fault : TextFault) (input read : List ℕ) → read ≡ take 1048577 input → HasFault read fault → HasFault input fault
+faulted fault input read e h = ⊎_elim
+    (λ same. subst (λ text. HasFault text fault) same h)
+    (λ long. ⊎_elim (λ is. subst (HasFault input) (sym is) long.1) (λ short. absurd (omega arith)) (short_or_long fault read h))
+    (whole_or_long 1048576 read input e)
+
+-- so is where nothing is said
+stopped_by : (fault : ToolFault) (known old new : Option (List ℕ)) (read : List ℕ) → Read 1048576 known read → IsJudgingFault read fault → IfSome known (λ input. StopsCheck fault input old new)
+stopped_by fault None old new read e h = tt
+stopped_by (Text fault) (Some input) old new read e h = faulted fault input read e h
+stopped_by Memory (Some input) old new read e h = tt
+stopped_by Reader (Some input) old new read e h = absurd h
+stopped_by Writer (Some input) old new read e h = absurd h
+
+pub stopped : (answer : Result Verdict ToolFault) (fault : ToolFault) (known old new : Option (List ℕ)) (read : List ℕ) → answer ≡ Err fault → Read 1048576 known read → IsJudgingFault read fault
+    → IfSome known (λ input. Checks answer input old new)
+stopped answer fault known old new read is e h = subst (λ answer. IfSome known (λ input. Checks answer input old new)) (sym is) (stopped_by fault known old new read e h)
+
+-- and what went out
+pub said : (verdict : Verdict) (known old new : Option (List ℕ)) (read : List ℕ) → Read 1048576 known read → Judges read verdict → Appends old new (verdict_line verdict)
+    → IfSome known (λ input. Judges input verdict × Appends old new (verdict_line verdict))
+said verdict None old new read e j w = tt
+said verdict (Some input) old new read e j w = (judged verdict input read e j, w)
+
+pub broken_off : (verdict : Verdict) (known old new : Option (List ℕ)) (read : List ℕ) → Read 1048576 known read → Judges read verdict → BeginsToWrite (verdict_line verdict) old new
+    → IfSome known (λ input. StopsJudging input old new)
+broken_off verdict None old new read e j w = tt
+broken_off verdict (Some input) old new read e j w = record { verdict = verdict; judges = judged verdict input read e j; begun = w }

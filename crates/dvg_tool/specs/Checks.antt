@@ -5,25 +5,29 @@ use Rattle.dvg_frame.specs.declared.op.OpKind.{OpKind}
 use Rattle.dvg_tool.specs.declared.fault.ToolFault.{ToolFault}
 use Rattle.dvg_tool.specs.declared.fault.ToolFault.TheVariants.{Text, Reader, Writer, Memory}
 use Rattle.dvg_tool.specs.declared.verdict.Verdict.{Verdict}
-use Rattle.dvg_tool.specs.DraftTexts.{Denotes, HasFault}
-use Rattle.dvg_tool.specs.RomTexts.{IsRomOf, RomLine}
+use Rattle.dvg_tool.specs.DraftReading.{Gives}
+use Rattle.dvg_tool.specs.DraftTexts.{HasFault}
 use Rattle.dvg_tool.specs.Verdicts.{IsVerdict, verdict_line}
 use Rattle.dvg_tool.specs.Watching.{BeginsToWrite}
 
--- the text denotes a draft and the lines of a ROM, over which the check says this of the draft
+-- the text denotes a draft and a ROM, over which the check says this of the draft
 pub record Judges (text : List ℕ) (verdict : Verdict) : Type 0 where
-  pub roms : List RomLine
-  pub R : List ℕ
   pub F : List OpKind
-  pub denotes : Denotes text roms F
-  pub rom : IsRomOf roms R
+  pub R : List ℕ
+  pub gives : Gives text F R
   pub said : IsVerdict F R verdict
+
+-- a fault at which nothing is said of a text: its own, or want of memory (for a private contract)
+abbrev pub IsJudgingFault : List ℕ → ToolFault → Type 0
+IsJudgingFault text (Text fault) = HasFault text fault
+IsJudgingFault text Memory = Unit {0}
+IsJudgingFault text _ = ⊥
 
 -- where the writer failed, a beginning of the verdict's line went out
 pub record StopsJudging (text : List ℕ) (old new : Option (List ℕ)) : Type 0 where
-  pub said : Verdict
-  pub judges : Judges text said
-  pub begun : BeginsToWrite (verdict_line said) old new
+  pub verdict : Verdict
+  pub judges : Judges text verdict
+  pub begun : BeginsToWrite (verdict_line verdict) old new
 
 -- when each fault comes of an input, and what went out at `Writer` (that nothing went out at the others is a clause of its own)
 abbrev pub StopsCheck : ToolFault → (input : List ℕ) → Option (List ℕ) → Option (List ℕ) → Type 0

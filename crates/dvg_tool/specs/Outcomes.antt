@@ -3,6 +3,9 @@ use Rattle.std.specs.Prelude.{◌≡◌, ℕ, ◌⊎◌, Result, Ok, Err}
 use Rattle.dvg_tool.specs.declared.fault.TextFault.TheVariants.{Cut}
 use Rattle.dvg_tool.specs.declared.fault.ToolFault.{ToolFault}
 use Rattle.dvg_tool.specs.declared.fault.ToolFault.TheVariants.{Text, Reader, Writer, Memory}
+use Rattle.dvg_tool.specs.declared.outcome.Done.{Done}
+use Rattle.dvg_tool.specs.declared.outcome.Done.TheVariants.{Written, Judged}
+use Rattle.dvg_tool.specs.declared.verdict.Verdict.TheVariants.{Good, Refused}
 use Rattle.dvg_tool.specs.Watching.{one_more}
 
 -- the faults that come before the first write
@@ -18,8 +21,10 @@ abbrev pub FinishesAs : {T : Type 0} → Result T ToolFault → Result T ToolFau
 FinishesAs answer result old new = ((result ≡ answer) × (new ≡ old)) ⊎ ((result ≡ Err Writer) × (new ≡ one_more old))
 
 -- the exit status
-abbrev pub status_of : {T : Type 0} → Result T ToolFault → ℕ
-status_of (Ok done) = 0
+abbrev pub status_of : Result Done ToolFault → ℕ
+status_of (Ok Written) = 0
+status_of (Ok (Judged (Good words))) = 0
+status_of (Ok (Judged (Refused fault))) = 1
 status_of (Err (Text fault)) = 1
 status_of (Err Reader) = 2
 status_of (Err Writer) = 2

@@ -1,8 +1,9 @@
 -- Laws of the texts of drafts.
-use Rattle.std.specs.Prelude.{◌≡◌, ℕ, List}
+use Rattle.std.specs.Prelude.{◌≡◌, ◌⊎◌, ℕ, List}
 use Rattle.dvg_frame.specs.declared.op.OpKind.{OpKind}
 use Rattle.dvg_tool.specs.declared.fault.TextFault.{TextFault}
 use Rattle.dvg_tool.specs.declared.verdict.Verdict.{Verdict}
+use Rattle.dvg_tool.specs.DraftReading.{Gives}
 use Rattle.dvg_tool.specs.DraftTexts.{Denotes, HasFault}
 use Rattle.dvg_tool.specs.RomTexts.{IsRomOf, RomLine}
 use Rattle.dvg_tool.specs.Checks.{Judges}
@@ -18,6 +19,10 @@ OneRom = (roms : List RomLine) (R S : List ℕ) → IsRomOf roms R → IsRomOf r
 -- a text has one fault at most
 abbrev pub OneTextFault : Type 0
 OneTextFault = (text : List ℕ) (one other : TextFault) → HasFault text one → HasFault text other → other ≡ one
+
+-- each text denotes a draft and a ROM, or has a fault
+abbrev pub IsRead : List ℕ → Type 0
+IsRead text = ((F : List OpKind) × (R : List ℕ) × Gives text F R) ⊎ ((fault : TextFault) × HasFault text fault)
 
 -- a text that denotes something has no fault
 abbrev pub NoFaultBeside : Type 0

@@ -13,6 +13,8 @@ fn named(name: &str) -> Option<Job>
         Some(Job::List)
     } else if name == "rom" {
         Some(Job::Rom)
+    } else if name == "check" {
+        Some(Job::Check)
     } else {
         None
     }

@@ -1,5 +1,8 @@
-//! Laws of the texts of drafts. Each is the contract of a function that does nothing.
-ghost use Rattle.dvg_tool.specs.TextLaws.{NoFaultBeside, OneMeaning, OneRom, OneTextFault, OneVerdict};
+//! Laws of the texts of drafts. Each is the contract of a function that does nothing, but one, which
+//! reads the text.
+ghost use Rattle.dvg_tool.specs.TextLaws.{IsRead, NoFaultBeside, OneMeaning, OneRom, OneTextFault, OneVerdict};
+
+use crate::draft_text::read_draft;
 
 /// A text denotes one draft, and one list of ROM lines, at most.
 pub fn one_meaning()
@@ -15,6 +18,14 @@ pub fn one_rom()
 pub fn one_text_fault()
     ensures { OneTextFault }
 {}
+
+/// Each text denotes a draft and a ROM, or has a fault. That one of them holds shows by what the reader
+/// of texts itself answers.
+pub fn each_is_read(text: &[u8])
+    ensures { IsRead text.now }
+{
+    let _answer = read_draft(text);
+}
 
 /// A text that denotes a draft has no fault.
 pub fn no_fault_beside()

@@ -5,6 +5,7 @@
 //! lines are made in an array of fixed size (that what writes is handed no allocator is seen by reading). It stops at the first failure of its reader or writer.
 #![tactic(auto)]
 
+mod checking;
 mod command;
 mod draft_text;
 mod fault;
@@ -24,10 +25,11 @@ mod transfer;
 mod verdict;
 mod watched;
 
+pub use checking::{MOST_TEXT_BYTES, check_text};
 pub use command::job;
 pub use fault::{TextFault, ToolFault};
 pub use listing::{MOST_LIST_BYTES, list};
-pub use outcome::{finish, status};
+pub use outcome::{Done, finish, status};
 pub use performing::perform;
 pub use roms::rom_text;
 pub use task::Job;

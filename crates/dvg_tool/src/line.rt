@@ -2,9 +2,12 @@
 ghost use Rattle.std.specs.Prelude.{◌≡◌, ◌≤◌, ◌<◌, ◌+◌, ◌++◌, ◌∷◌, [], List, ℕ, length, codes, decimal, true};
 ghost use Rattle.std.specs.Fmt.{digit_glyph};
 ghost use Rattle.dvg_tool.specs.Lines.{hex_3, hex_4, instr_parts, line_text, rom_line, spaced, vector_parts};
+ghost use Rattle.dvg_tool.specs.Verdicts.{fault_parts, place_parts, verdict_line};
 
+use crate::verdict::Verdict;
 use arrayvec::ArrayVec;
 use dvg_code::{Code, Instr};
+use dvg_frame::{FrameFault, Place};
 use itoa::{Buffer, Integer};
 use std::marker::Model;
 
@@ -180,6 +183,78 @@ impl Line {
         self.hex_3(address);
         for word in words {
             self.hex_4(*word);
+        }
+        self.text(b"\n");
+    }
+
+    // Appends a place: an operation's number, or a ROM word's address.
+    fn place(&mut self, place: Place)
+        requires { length self.old + 9 ≤ 64 }
+        ensures text { self.new ≡ self.old ++ spaced (place_parts place) }
+        ensures grew { length self.new ≤ length self.old + 9 }
+    {
+        match place {
+            Place::InFrame(i) => {
+                self.part(b"op");
+                self.number(i);
+            }
+            Place::InRom(a) => self.with_address(b"word", a),
+        }
+    }
+
+    // Appends a fault's number and name, and a place.
+    fn fault_at(&mut self, name: &[u8], place: Place)
+        requires { length self.old + length name.now + 10 ≤ 64 }
+        ensures text { self.new ≡ self.old ++ spaced (name.now ∷ place_parts place) }
+        ensures grew { length self.new ≤ length self.old + length name.now + 10 }
+    {
+        self.part(name);
+        self.place(place);
+    }
+
+    // Appends a fault's number and name, and the number of an operation.
+    fn fault_of(&mut self, name: &[u8], i: u16)
+        requires { length self.old + length name.now + 7 ≤ 64 }
+        ensures text { self.new ≡ self.old ++ spaced (name.now ∷ decimal i ∷ []) }
+        ensures grew { length self.new ≤ length self.old + length name.now + 7 }
+    {
+        self.part(name);
+        self.number(i);
+    }
+
+    // Appends the parts of a fault's text.
+    fn fault(&mut self, fault: FrameFault)
+        requires { length self.old + 22 ≤ 64 }
+        ensures text { self.new ≡ self.old ++ spaced (fault_parts fault) }
+        ensures grew { length self.new ≤ length self.old + 22 }
+    {
+        match fault {
+            FrameFault::Empty => self.part(b"1 empty"),
+            FrameFault::NoLabs => self.part(b"2 no labs"),
+            FrameFault::TooLong => self.part(b"3 too long"),
+            FrameFault::Target(i) => self.fault_of(b"4 target", i),
+            FrameFault::RunsOff(i) => self.fault_of(b"5 runs off", i),
+            FrameFault::OutOfRom(place) => self.fault_at(b"6 out of rom", place),
+            FrameFault::TooDeep(place) => self.fault_at(b"7 too deep", place),
+            FrameFault::NoCaller(place) => self.fault_at(b"8 no caller", place),
+        }
+    }
+
+    /// Becomes the line that `check` writes of a verdict.
+    pub fn become_verdict(&mut self, verdict: Verdict)
+        ensures { self.new ≡ verdict_line verdict }
+    {
+        self.bytes.clear();
+        match verdict {
+            Verdict::Good(words) => {
+                self.text(b"ok");
+                self.number(words);
+                self.part(b"words");
+            }
+            Verdict::Refused(fault) => {
+                self.text(b"fault");
+                self.fault(fault);
+            }
         }
         self.text(b"\n");
     }

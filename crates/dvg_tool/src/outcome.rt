@@ -5,15 +5,25 @@ ghost use Rattle.dvg_tool.specs.Outcomes.{FinishesAs, status_of};
 ghost use Rattle.dvg_tool.specs.Watching.{device_of, failures_of};
 
 use crate::fault::ToolFault;
+use crate::verdict::Verdict;
 use crate::watched::Watched;
 use std::io::Write;
+
+/// What an engine that is done has to tell.
+#[derive(Clone, Copy, Debug, PartialEq, Eq)]
+pub enum Done {
+    /// The text was written.
+    Written,
+    /// This was said of a draft, and the line of it was written.
+    Judged(Verdict),
+}
 
 /// Flushes the writer of an engine that is done. A flush that fails is `Writer`, whatever the engine
 /// answered; else the engine's answer stays.
 pub fn finish<W: Write>(
-    answer: Result<(), ToolFault>,
+    answer: Result<Done, ToolFault>,
     writer: &mut Watched<W>,
-) -> Result<(), ToolFault>
+) -> Result<Done, ToolFault>
     ensures bytes { Keeps (W.contents (device_of writer.old)) (W.contents (device_of writer.new)) }
     ensures answer { FinishesAs answer result (failures_of writer.old) (failures_of writer.new) }
 {
@@ -23,15 +33,15 @@ pub fn finish<W: Write>(
     }
 }
 
-/// The program's exit status: 0 where the job is done, 1 for a fault of the text, 2 for a device that
-/// failed or want of memory; words that ask for no job are 64, which is not an answer of an engine (this
-/// project's own choice).
-pub fn status(answer: &Result<(), ToolFault>) -> u8
+/// The program's exit status: 0 where the job is done, 1 for a fault of the text and for a draft that
+/// `check` refuses, 2 for a device that failed or want of memory; words that ask for no job are 64, which
+/// is not an answer of an engine (this project's own choice).
+pub fn status(answer: &Result<Done, ToolFault>) -> u8
     ensures { result ≡ status_of answer.now }
 {
     match answer {
-        Ok(()) => 0,
-        Err(ToolFault::Text(_)) => 1,
+        Ok(Done::Written | Done::Judged(Verdict::Good(_))) => 0,
+        Ok(Done::Judged(Verdict::Refused(_))) | Err(ToolFault::Text(_)) => 1,
         Err(ToolFault::Reader | ToolFault::Writer | ToolFault::Memory) => 2,
     }
 }

@@ -4,21 +4,23 @@ ghost use Rattle.dvg_tool.specs.Jobs.{Performs, most_taken};
 ghost use Rattle.dvg_tool.specs.Outcomes.{StopsBeforeWriting};
 ghost use Rattle.dvg_tool.specs.Watching.{TakesAtMost, device_of, failures_of};
 
+use crate::checking::check_text;
 use crate::fault::ToolFault;
 use crate::listing::list;
+use crate::outcome::Done;
 use crate::roms::rom_text;
 use crate::task::Job;
 use crate::watched::Watched;
 use std::alloc::Allocator;
 use std::io::{Read, Write};
 
-/// Does a job by its engine: `list` or `rom_text`.
+/// Does a job by its engine: `list`, `rom_text` or `check_text`, whose verdict it tells.
 pub fn perform<A: Allocator, R: Read, W: Write>(
     alloc: A,
     job: Job,
     reader: &mut Watched<R>,
     writer: &mut Watched<W>,
-) -> Result<(), ToolFault>
+) -> Result<Done, ToolFault>
     requires fresh_reader { failures_of reader.old ≡ 0 }
     requires fresh_writer { failures_of writer.old ≡ 0 }
 
@@ -34,7 +36,8 @@ pub fn perform<A: Allocator, R: Read, W: Write>(
     ensures stops { (failures_of reader.new ≤ 1) × (failures_of writer.new ≤ 1) }
 {
     match job {
-        Job::List => list(alloc, reader, writer),
-        Job::Rom => rom_text(alloc, reader, writer),
+        Job::List => list(alloc, reader, writer).map(|()| Done::Written),
+        Job::Rom => rom_text(alloc, reader, writer).map(|()| Done::Written),
+        Job::Check => check_text(alloc, reader, writer).map(Done::Judged),
     }
 }

@@ -7,4 +7,6 @@ pub enum Job {
     List,
     /// Write a ROM as text.
     Rom,
+    /// Check the draft of a text.
+    Check,
 }
