@@ -5,9 +5,14 @@ pub mod Asking
 pub mod RomLines
 pub mod OneOperation
 pub mod OneMeaning
+pub mod FirstStop
 pub mod OneStop
 pub mod OneRom
 pub mod OneVerdict
 pub mod Decimals
 pub mod Cuts
 pub mod OpRows
+pub mod Zips
+pub mod EventRows
+pub mod TraceSteps
+pub mod OneTrace

@@ -25,7 +25,7 @@ same_line : (a b : ℕ) (ws vs : List ℕ) → b ≡ a → vs ≡ ws → (let li
 same_line a b ws vs e f = cc
 
 -- a line gives one list of words of the ROM at most
-one_rom_line : (given other : RomLine) (line : List ℕ) → IsRomLine given line → IsRomLine other line → other ≡ given
+pub one_rom_line : (given other : RomLine) (line : List ℕ) → IsRomLine given line → IsRomLine other line → other ≡ given
 one_rom_line given other line h k =
     let p = h.split in
     let q = k.split in

@@ -1,16 +1,18 @@
 -- What the lines of a trace spell, line by line.
 use Rattle.std.proofs.Common.{◌≡◌, ◌<◌, ◌≤◌, ◌+◌, ℕ, List, [], ◌∷◌, ◌++◌, length, refl, sym, ap, subst, ◌∙◌, arith, append_assoc, append-nil, length-append, codes, All, Option, Some, None, IfSome}
 use Rattle.std.specs.List.{AllZip}
-use Rattle.std.proofs.lemmas.List.Elements.{All-front}
+use Rattle.std.proofs.lemmas.List.{get_or_append_left}
+use Rattle.std.proofs.Math.Seq.{get_or-append_seam}
 use Rattle.dvg_frame.specs.declared.op.OpKind.{OpKind}
 use Rattle.dvg_world.specs.Events.{Happening, Offer}
 use Rattle.dvg_tool.specs.Texts.{parts}
 use Rattle.dvg_tool.specs.OpLines.{IsOpLine, OpParts}
 use Rattle.dvg_tool.specs.RomTexts.{IsRomLine, RomLine}
-use Rattle.dvg_tool.specs.TraceTexts.{Begun, EventParts, Fits, FitsDraft, SpellsTrace, Whole, alone, inside, nothing, offer, whole}
+use Rattle.dvg_tool.specs.TraceTexts.{Begun, EventParts, Fits, FitsDraft, IsFine, SpellsTrace, Whole, alone, inside, nothing, offer, whole}
 use Rattle.dvg_tool.specs.TraceReading.{Goes, SoFar, Takes, does, ends, events, opens, rom}
 use Rattle.dvg_tool.proofs.OneOperation.{one_operation}
 use Rattle.dvg_tool.proofs.OneMeaning.{one_rom_line}
+use Rattle.dvg_tool.proofs.Zips.{zip_push}
 use Rattle.dvg_tool.proofs.EventRows.{no_offer, no_rom, one_events, some_events}
 
 abbrev so_far : List RomLine → List Happening → Option (List OpKind) → SoFar
@@ -25,12 +27,6 @@ abbrev pub start : SoFar
 start = record { roms = []; events = []; opened = None }
 
 -- one line more
-
-zip_push : {A B : Type 0} (R : A → B → Type 0) (xs : List A) (ys : List B) (x : A) (y : B) → AllZip R xs ys → R x y → AllZip R (xs ++ x ∷ []) (ys ++ y ∷ [])
-zip_push R [] [] x y h r = (r, tt)
-zip_push R [] (b ∷ ys) x y h r = absurd h
-zip_push R (a ∷ xs) [] x y h r = absurd h
-zip_push R (a ∷ xs) (b ∷ ys) x y h r = (h.0, zip_push R xs ys x y h.1 r)
 
 whole_of : {old : List Happening} {ls : List (List ℕ)} → Begun old None ls → Whole old ls
 whole_of (whole w) = w
@@ -91,9 +87,8 @@ says_more s (ends {F = F}) =
     let o = open_of s.begun in
     record {
       front = s.front;
-      rest = o.front ++ codes "offer" ∷ (o.ops ++ codes "end" ∷ []);
-      cut = ap (λ k. k ++ codes "end" ∷ []) s.cut ∙ append_assoc s.front s.rest (codes "end" ∷ [])
-          ∙ ap (λ k. s.front ++ k) (ap (λ k. k ++ codes "end" ∷ []) o.cut ∙ append_assoc o.front (codes "offer" ∷ o.ops) (codes "end" ∷ []));
+      rest = (o.front ++ codes "offer" ∷ o.ops) ++ codes "end" ∷ [];
+      cut = ap (λ k. k ++ codes "end" ∷ []) s.cut ∙ append_assoc s.front s.rest (codes "end" ∷ []) ∙ ap (λ k. s.front ++ (k ++ codes "end" ∷ [])) o.cut;
       rom = s.rom;
       begun = whole (offer F o.ops o.done o.draft);
     }
@@ -142,7 +137,7 @@ whole_leads roms (alone {events = old} {more = more} l w p) =
     further (whole_leads roms w) (on last here)
 whole_leads roms (offer {events = old} {ls = ls} F ops w all) =
     let last : Goes (so_far roms old (Some F)) (codes "end") (so_far roms (old ++ Offer F ∷ []) None) = ends in
-    further (whole_leads roms w) (further (offer_leads roms old F ops all) (on last here))
+    further (further (whole_leads roms w) (offer_leads roms old F ops all)) (on last here)
 
 begun_leads : (roms : List RomLine) {old : List Happening} {opened : Option (List OpKind)} {ls : List (List ℕ)} → Begun old opened ls → Leads (so_far roms [] None) ls (so_far roms old opened)
 begun_leads roms (whole w) = whole_leads roms w
@@ -198,6 +193,12 @@ one_end {u = u} (on {ls = ls} g p) (on h q) = one_end p (subst (λ m. Leads m ls
 pub one_saying : (s t : SoFar) (ls : List (List ℕ)) → Says s ls → Says t ls → t ≡ s
 one_saying s t ls p q = one_end (leads_to s ls p) (leads_to t ls q)
 
+pub one_spelled_trace : {roms others : List RomLine} {one other : List Happening} {opened left : Option (List OpKind)} {ls : List (List ℕ)}
+    → SpellsTrace roms one opened ls → SpellsTrace others other left ls → (others ≡ roms) × (other ≡ one) × (left ≡ opened)
+one_spelled_trace {roms} {others} {one} {other} {opened} {left} {ls} p q =
+    let same = one_saying (so_far roms one opened) (so_far others other left) ls p q in
+    (ap (λ s. s.roms) same, ap (λ s. s.events) same, ap (λ s. s.opened) same)
+
 -- where lines lead that are cut in two
 record Halfway (s : SoFar) (ls more : List (List ℕ)) (u : SoFar) : Type 0 where
   mid : SoFar
@@ -219,3 +220,37 @@ pub last_line : (s t : SoFar) (ls : List (List ℕ)) (l : List ℕ) → Says s l
 last_line s t ls l p q =
     let h = halfway start t ls (l ∷ []) (leads_to t (ls ++ l ∷ []) q) in
     goes_on s h.mid t l (one_end (leads_to s ls p) h.first) h.second
+
+-- what fits
+
+all_front : {A : Type 0} (P : A → Type 0) (xs ys : List A) → All P (xs ++ ys) → All P xs
+all_front P xs ys h k d l = subst P (get_or_append_left xs ys d k l) (h k d (omega (arith, length-append xs ys)))
+
+all_last : {A : Type 0} (P : A → Type 0) (xs : List A) (y : A) → All P (xs ++ y ∷ []) → P y
+all_last P xs y h = subst P (get_or-append_seam xs y [] y) (h (length xs) y (omega (arith, length-append xs (y ∷ []))))
+
+fits_before : {roms given : List RomLine} {old new : List Happening} {opened left : Option (List OpKind)} {l : List ℕ} → Takes roms old opened l given new left → Fits new left → Fits old opened
+fits_before (rom g h) f = record { count = f.count; drafts = f.drafts; last = tt }
+fits_before (events {old = old} {more = more} p) f = let count = f.count in record { count = omega (arith, length-append old more); drafts = all_front FitsDraft old more f.drafts; last = tt }
+fits_before opens f = record { count = f.count; drafts = f.drafts; last = tt }
+fits_before (does {F = F} op h) f = let last = f.last in record { count = f.count; drafts = f.drafts; last = omega (arith, length-append F (op ∷ [])) }
+fits_before (ends {old = old} {F = F}) f =
+    let count = f.count in
+    record { count = omega (arith, length-append old (Offer F ∷ [])); drafts = all_front FitsDraft old (Offer F ∷ []) f.drafts; last = all_last FitsDraft old (Offer F) f.drafts }
+
+fits_along : {s t : SoFar} {ls : List (List ℕ)} → Leads s ls t → Fits t.events t.opened → Fits s.events s.opened
+fits_along here f = f
+fits_along (on g p) f = fits_before g (fits_along p f)
+
+-- a front of lines without fault is without fault
+pub fine_front : (ls more : List (List ℕ)) → IsFine (ls ++ more) → IsFine ls
+fine_front ls more h =
+    let all = so_far h.roms h.events h.opened in
+    let way = halfway start all ls more (leads_to all (ls ++ more) h.spelled) in
+    record {
+      roms = way.mid.roms;
+      events = way.mid.events;
+      opened = way.mid.opened;
+      spelled = says_along start way.mid [] ls says_nothing way.first;
+      fits = fits_along way.second h.fits;
+    }

@@ -15,5 +15,8 @@ pub mod TextLines
 pub mod RomWords
 pub mod DraftReading
 pub mod TextLaws
+pub mod FirstFaults
 pub mod TraceTexts
 pub mod Shows
+pub mod TraceReading
+pub mod TraceLaws

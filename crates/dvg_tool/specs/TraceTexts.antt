@@ -1,14 +1,15 @@
 -- What the text of a trace denotes, and its first fault.
-use Rattle.std.specs.Prelude.{◌≡◌, ℕ, ◌+◌, ◌<◌, ◌≤◌, List, [], ◌∷◌, ◌++◌, length, replicate, codes, decimal, Option, Some, None, All, IfSome, false}
+use Rattle.std.specs.Prelude.{◌≡◌, ℕ, ◌<◌, ◌≤◌, List, [], ◌∷◌, ◌++◌, length, replicate, codes, decimal, Option, Some, None, All, IfSome}
 use Rattle.std.specs.List.{AllZip}
 use Rattle.dvg_frame.specs.declared.op.OpKind.{OpKind}
 use Rattle.dvg_world.specs.Events.{Happening, Offer, Redraw, Tick, Strobe, Fetch, ResetGen, ResetCpu, ResetAll}
 use Rattle.dvg_tool.specs.declared.fault.TextFault.{TextFault}
 use Rattle.dvg_tool.specs.declared.fault.TextFault.TheVariants.{TooLong, Syntax, Full, Many, Unended}
-use Rattle.dvg_tool.specs.Texts.{IsHex, is_passed, lines, parts, told}
+use Rattle.dvg_tool.specs.Texts.{IsHex, lines, parts, told}
 use Rattle.dvg_tool.specs.OpLines.{IsOpLine}
 use Rattle.dvg_tool.specs.RomTexts.{IsRomLine, RomLine}
 use Rattle.dvg_tool.specs.DraftTexts.{IsShort}
+use Rattle.dvg_tool.specs.FirstFaults.{Reaches}
 
 -- a name alone, or a name and a count
 pub data Counts (name : List ℕ) : ℕ → List (List ℕ) → Type 0 where
@@ -63,31 +64,26 @@ pub record DenotesTrace (text : List ℕ) (roms : List RomLine) (events : List H
   pub spelled : SpellsTrace roms events None (told (lines text))
   pub fits : Fits events None
 
--- line n isn't passed over, and the lines before it are without fault
-pub record ReachesLine (text : List ℕ) (n : ℕ) (before : List (List ℕ)) (line : List ℕ) : Type 0 where
-  pub short : IsShort text
-  pub after : List (List ℕ)
-  pub cut : lines text ≡ before ++ line ∷ after
-  pub number : n ≡ length before + 1
+-- lines that spell ROM lines and events within the limits, perhaps with an offer that isn't ended
+pub record IsFine (ls : List (List ℕ)) : Type 0 where
   pub roms : List RomLine
   pub events : List Happening
   pub opened : Option (List OpKind)
-  pub fine : SpellsTrace roms events opened (told before)
+  pub spelled : SpellsTrace roms events opened ls
   pub fits : Fits events opened
-  pub is_told : is_passed line ≡ false
 
 -- line n is the first with which the lines spell nothing
 pub record MeetsSyntax (text : List ℕ) (n : ℕ) : Type 0 where
   pub before : List (List ℕ)
   pub line : List ℕ
-  pub reaches : ReachesLine text n before line
+  pub reaches : Reaches IsFine text n before line
   pub wrong : (roms : List RomLine) (events : List Happening) (opened : Option (List OpKind)) → ¬ SpellsTrace roms events opened (told before ++ line ∷ [])
 
 -- line n is that of operation number 511 of an offer, which no draft can hold
 pub record MeetsFull (text : List ℕ) (n : ℕ) : Type 0 where
   pub before : List (List ℕ)
   pub line : List ℕ
-  pub reaches : ReachesLine text n before line
+  pub reaches : Reaches IsFine text n before line
   pub roms : List RomLine
   pub events : List Happening
   pub F : List OpKind
@@ -98,7 +94,7 @@ pub record MeetsFull (text : List ℕ) (n : ℕ) : Type 0 where
 pub record MeetsMany (text : List ℕ) (n : ℕ) : Type 0 where
   pub before : List (List ℕ)
   pub line : List ℕ
-  pub reaches : ReachesLine text n before line
+  pub reaches : Reaches IsFine text n before line
   pub roms : List RomLine
   pub events : List Happening
   pub right : SpellsTrace roms events None (told before ++ line ∷ [])
