@@ -1,8 +1,12 @@
 -- A line spells one list of events at most, and what it spells shows by its name.
-use Rattle.std.proofs.Common.{◌≡◌, ◌<◌, ◌≤◌, ℕ, List, [], ◌∷◌, ◌⊎◌, inl, inr, ⊎_elim, length, replicate, get_or, refl, sym, ap, ◌∙◌, arith, codes, decimal}
+use Rattle.std.proofs.Common.{◌≡◌, ◌<◌, ◌≤◌, ℕ, List, [], ◌∷◌, Some, ◌⊎◌, inl, inr, ⊎_elim, length, replicate, get_or, refl, sym, ap, subst, ◌∙◌, arith, codes, decimal}
 use Rattle.std.proofs.lemmas.Fmt.{decimal_injective}
 use Rattle.std.proofs.lemmas.List.{length-replicate}
 use Rattle.dvg_world.specs.Events.{Happening, Redraw, Tick, Strobe, Fetch, ResetGen, ResetCpu, ResetAll}
+use Rattle.std.proofs.lemmas.Int.Digits.{digits_value-lt}
+use Rattle.dvg_tool.specs.declared.event_line.BareEvent.{BareEvent}
+use Rattle.dvg_tool.specs.declared.event_line.BareEvent.TheVariants as bare
+use Rattle.dvg_tool.specs.EventLines.{IsCounted, event_of, name_of}
 use Rattle.dvg_tool.specs.Texts.{IsHex}
 use Rattle.dvg_tool.specs.TraceTexts.{Counts, EventParts, once, times, redraw, tick, strobe, fetch, resetgen, resetcpu, resetall}
 
@@ -118,3 +122,103 @@ some_events (fetch {n = n} c) = let (some, most) = count_bounds c in omega (arit
 some_events resetgen = omega arith
 some_events resetcpu = omega arith
 some_events (resetall h) = omega arith
+
+pub byte_fits : {n : ℕ} {digits : List ℕ} → IsHex 2 n digits → n < 256
+byte_fits {n} {digits} h = let small = digits_value-lt 16 digits h.digits in let size = rw h.size at small in omega (arith, size, h.value)
+
+-- the rows of a name alone
+
+pub alone_made : (event : BareEvent) (name : List ℕ) → name ≡ name_of event → EventParts (event_of event ∷ []) (name ∷ [])
+alone_made bare.Redraw name e = rw e redraw
+alone_made bare.Tick name e = rw e (tick once)
+alone_made bare.Strobe name e = rw e (strobe once)
+alone_made bare.Fetch name e = rw e (fetch once)
+alone_made bare.ResetGen name e = rw e resetgen
+alone_made bare.ResetCpu name e = rw e resetcpu
+
+alone_count_of : (name first : List ℕ) (n : ℕ) → Counted name n (first ∷ []) → (first ≡ name) × (1 ≡ n)
+alone_count_of name first n (inl (e, is)) = (cc, sym is)
+alone_count_of name first n (inr (e, some, most)) = absurd (cc)
+
+alone_count : {name first : List ℕ} {n : ℕ} → Counts name n (first ∷ []) → (first ≡ name) × (1 ≡ n)
+alone_count {name} {first} {n} c = alone_count_of name first n (counted c)
+
+-- an event by its name
+pub record Alone (events : List Happening) (name : List ℕ) : Type 0 where
+  pub event : BareEvent
+  pub named : name ≡ name_of event
+  pub all : event_of event ∷ [] ≡ events
+
+pub alone_row : {events : List Happening} {name : List ℕ} → EventParts events (name ∷ []) → Alone events name
+alone_row redraw = record { event = bare.Redraw; named = refl; all = refl }
+alone_row (tick c) = let is = alone_count c in record { event = bare.Tick; named = is.0; all = ap (λ n. replicate n Tick) is.1 }
+alone_row (strobe c) = let is = alone_count c in record { event = bare.Strobe; named = is.0; all = ap (λ n. replicate n Strobe) is.1 }
+alone_row (fetch c) = let is = alone_count c in record { event = bare.Fetch; named = is.0; all = ap (λ n. replicate n Fetch) is.1 }
+alone_row resetgen = record { event = bare.ResetGen; named = refl; all = refl }
+alone_row resetcpu = record { event = bare.ResetCpu; named = refl; all = refl }
+
+-- the rows of a name and an operand
+
+pub times_made : (event : BareEvent) (n : ℕ) (name operand : List ℕ) → name ≡ name_of event → IsCounted event → operand ≡ decimal n → 1 ≤ n → n ≤ 9999 → EventParts (replicate n (event_of event)) (name ∷ operand ∷ [])
+times_made bare.Tick n name operand e h is some most = rw (e, is) (tick (times some most))
+times_made bare.Strobe n name operand e h is some most = rw (e, is) (strobe (times some most))
+times_made bare.Fetch n name operand e h is some most = rw (e, is) (fetch (times some most))
+times_made bare.Redraw n name operand e h is some most = absurd h
+times_made bare.ResetGen n name operand e h is some most = absurd h
+times_made bare.ResetCpu n name operand e h is some most = absurd h
+
+pub resetall_made : (byte : ℕ) (name operand : List ℕ) → name ≡ codes "resetall" → IsHex 2 byte operand → EventParts (ResetAll (replicate 2048 byte) ∷ []) (name ∷ operand ∷ [])
+resetall_made byte name operand e h = rw e (resetall h)
+
+-- a name with a count
+pub record Repeated (events : List Happening) (name operand : List ℕ) : Type 0 where
+  pub event : BareEvent
+  pub counts : IsCounted event
+  pub named : name ≡ name_of event
+  pub n : ℕ
+  pub some : 1 ≤ n
+  pub most : n ≤ 9999
+  pub spelled : operand ≡ decimal n
+  pub all : replicate n (event_of event) ≡ events
+
+-- the name of a reset of the whole system, with the byte
+pub record Filled (events : List Happening) (name operand : List ℕ) : Type 0 where
+  pub named : name ≡ codes "resetall"
+  pub byte : ℕ
+  pub spelled : IsHex 2 byte operand
+  pub all : ResetAll (replicate 2048 byte) ∷ [] ≡ events
+
+count_row_of : (name first operand : List ℕ) (n : ℕ) → Counted name n (first ∷ operand ∷ []) → (first ≡ name) × (operand ≡ decimal n) × (1 ≤ n) × (n ≤ 9999)
+count_row_of name first operand n (inl (e, is)) = absurd (cc)
+count_row_of name first operand n (inr (e, some, most)) = (cc, cc, some, most)
+
+count_row : {name first operand : List ℕ} {n : ℕ} → Counts name n (first ∷ operand ∷ []) → (first ≡ name) × (operand ≡ decimal n) × (1 ≤ n) × (n ≤ 9999)
+count_row {name} {first} {operand} {n} c = count_row_of name first operand n (counted c)
+
+pub operand_row : {events : List Happening} {name operand : List ℕ} → EventParts events (name ∷ operand ∷ []) → Repeated events name operand ⊎ Filled events name operand
+operand_row (tick {n = n} c) = let r = count_row c in inl (record { event = bare.Tick; counts = tt; named = r.0; n = n; some = r.2; most = r.3; spelled = r.1; all = refl })
+operand_row (strobe {n = n} c) = let r = count_row c in inl (record { event = bare.Strobe; counts = tt; named = r.0; n = n; some = r.2; most = r.3; spelled = r.1; all = refl })
+operand_row (fetch {n = n} c) = let r = count_row c in inl (record { event = bare.Fetch; counts = tt; named = r.0; n = n; some = r.2; most = r.3; spelled = r.1; all = refl })
+operand_row (resetall {byte = byte} h) = inr (record { named = refl; byte = byte; spelled = h; all = refl })
+
+-- a `resetall` has one byte
+pub resetall_only : (byte : ℕ) (name operand : List ℕ) → name ≡ codes "resetall" → ((n : ℕ) → IsHex 2 n operand → Some byte ≡ Some n) → (events : List Happening) → EventParts events (name ∷ operand ∷ []) → ResetAll (replicate 2048 byte) ∷ [] ≡ events
+resetall_only byte name operand e only events h =
+    let (n, spelled, is) = resetall_row (subst (λ name. EventParts events (name ∷ operand ∷ [])) e h) in
+    let same = only n spelled in
+    let equal : n ≡ byte = cc in
+    sym (is ∙ ap (λ n. ResetAll (replicate 2048 n) ∷ []) equal)
+
+few_of : {name : List ℕ} {n : ℕ} {ps : List (List ℕ)} → Counted name n ps → length ps ≤ 2
+few_of (inl (e, is)) = omega (arith, ap length e)
+few_of (inr (e, some, most)) = omega (arith, ap length e)
+
+-- there are two parts at most
+pub few_parts : {events : List Happening} {ps : List (List ℕ)} → EventParts events ps → length ps ≤ 2
+few_parts redraw = omega arith
+few_parts (tick c) = few_of (counted c)
+few_parts (strobe c) = few_of (counted c)
+few_parts (fetch c) = few_of (counted c)
+few_parts resetgen = omega arith
+few_parts resetcpu = omega arith
+few_parts (resetall h) = omega arith

@@ -212,8 +212,8 @@ halfway s u (l ∷ ls) more (on {t = t} g p) = let h = halfway t u ls more p in 
 goes_on : (s t u : SoFar) (l : List ℕ) → t ≡ s → Leads t (l ∷ []) u → Goes s l u
 goes_on s t u l e p = only_step s u l (subst (λ k. Leads k (l ∷ []) u) e p)
   where
-  only_step : (s u : SoFar) (l : List ℕ) → Leads s (l ∷ []) u → Goes s l u
-  only_step s u l (on g here) = g
+    only_step : (s u : SoFar) (l : List ℕ) → Leads s (l ∷ []) u → Goes s l u
+    only_step s u l (on g here) = g
 
 -- where one line more spells something, it goes on from what the others spell
 pub last_line : (s t : SoFar) (ls : List (List ℕ)) (l : List ℕ) → Says s ls → Says t (ls ++ l ∷ []) → Goes s l t

@@ -18,5 +18,7 @@ pub mod TextLaws
 pub mod FirstFaults
 pub mod TraceTexts
 pub mod Shows
+pub mod EventLines
 pub mod TraceReading
+pub mod TraceGives
 pub mod TraceLaws

@@ -1,5 +1,5 @@
--- How a reader of traces goes from line to line (for private contracts).
-use Rattle.std.specs.Prelude.{◌≡◌, ℕ, List, [], ◌∷◌, ◌++◌, codes, Option, Some, None}
+-- How the lines of a trace's text lead from one to the next (for private contracts).
+use Rattle.std.specs.Prelude.{ℕ, List, [], ◌∷◌, ◌++◌, codes, Option, Some, None}
 use Rattle.dvg_frame.specs.declared.op.OpKind.{OpKind}
 use Rattle.dvg_world.specs.Events.{Happening, Offer}
 use Rattle.dvg_tool.specs.Texts.{parts}
