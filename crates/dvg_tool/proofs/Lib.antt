@@ -16,3 +16,5 @@ pub mod Zips
 pub mod EventRows
 pub mod TraceSteps
 pub mod OneTrace
+pub mod TraceMoves
+pub mod ReadTrace

@@ -15,7 +15,7 @@ use Rattle.dvg_tool.proofs.OneMeaning.{one_rom_line}
 use Rattle.dvg_tool.proofs.Zips.{zip_push}
 use Rattle.dvg_tool.proofs.EventRows.{no_offer, no_rom, one_events, some_events}
 
-abbrev so_far : List RomLine → List Happening → Option (List OpKind) → SoFar
+abbrev pub so_far : List RomLine → List Happening → Option (List OpKind) → SoFar
 so_far roms old opened = record { roms = roms; events = old; opened = opened }
 
 -- what lines spell, of a whole state

@@ -156,12 +156,12 @@ impl<A: Allocator + Copy> Reading<A> {
         ensures room { OnOk result (HasRoom self.new) }
         ensures fault { IfErr result (λ fault. StopsLine fault (events_of self.old) self.old.opened (codes "end")) }
     {
-        if self.events.len() == MAX_EVENTS {
-            return Err(LineFault::Many);
-        }
         let Some(draft) = self.opened.take() else {
             unreachable!()
         };
+        if self.events.len() == MAX_EVENTS {
+            return Err(LineFault::Many);
+        }
         let Ok(draft) = Box::new(self.alloc, draft) else {
             return Err(LineFault::Memory);
         };
