@@ -18,3 +18,6 @@ pub mod TraceSteps
 pub mod OneTrace
 pub mod TraceMoves
 pub mod ReadTrace
+pub mod LineEnds
+pub mod GivenWords
+pub mod ReadTo

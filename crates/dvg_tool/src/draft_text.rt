@@ -44,11 +44,9 @@ pub fn read_draft(text: &[u8]) -> Result<DraftText, TextFault>
         if is_passed(line) {
             continue;
         }
-        if draft.is_empty() {
-            if let Some(given) = read_rom_line(line) {
-                given.put(&mut rom);
-                continue;
-            }
+        if draft.is_empty() && let Some(given) = read_rom_line(line) {
+            given.put(&mut rom);
+            continue;
         }
         let Some(op) = read_op(line) else {
             return Err(TextFault::Syntax(number));

@@ -1,6 +1,7 @@
 //! Lines that give words of a ROM.
 ghost use Rattle.std.specs.Prelude.{◌≡◌, ◌≢◌, ℕ, ◌<◌, ◌≤◌, List, [], length, IfSome, IsSomeAnd, Some};
 ghost use Rattle.dvg_code.specs.Words.{word_in};
+ghost use Rattle.dvg_mem.specs.Memory.{IsImage};
 ghost use Rattle.dvg_tool.specs.LineParts.{bytes_of};
 ghost use Rattle.dvg_tool.specs.RomTexts.{IsRomLine, RomLine};
 ghost use Rattle.dvg_tool.specs.RomWords.{AreAfter, IsBehind, SpellsWords};
@@ -81,7 +82,8 @@ fn hex_words(parts: &[&[u8]]) -> Option<ArrayVec<u16, MAX_WORDS>>
 impl RomWords {
     /// Puts the words into the bytes of a ROM.
     pub fn put(&self, rom: &mut [u8; MEMORY_BYTES])
-        ensures { IsBehind self.now rom.old rom.new }
+        ensures behind { IsBehind self.now rom.old rom.new }
+        ensures image { IsImage rom.new }
     {
         let first = usize::from(self.address - FIRST_ROM_WORD);
         for (k, word) in self.words.as_slice().iter().enumerate() {
@@ -106,6 +108,7 @@ fn put_word(bytes: &mut [u8; MEMORY_BYTES], k: usize, word: u16)
     requires { k < 1024 }
     ensures word { word_in bytes.new k ≡ word }
     ensures others { (j : ℕ) → j ≢ k → word_in bytes.new j ≡ word_in bytes.old j }
+    ensures image { IsImage bytes.new }
 {
     bytes[2 * k] = (word % 256) as u8;
     bytes[2 * k + 1] = (word / 256) as u8;

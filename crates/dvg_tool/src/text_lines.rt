@@ -25,13 +25,13 @@ impl<'a> TextLines<'a> {
 impl<'a> Iterator for TextLines<'a> {
     ghost use Rattle.std.specs.Prelude.{length};
     ghost use Rattle.std.specs.Iterator.{at_most};
-    ghost use Rattle.dvg_tool.specs.TextLines.{NextLine, lines_left};
+    ghost use Rattle.dvg_tool.specs.TextLines.{NextLine};
 
     type Item = &'a [u8];
 
     ghost next_gives = { NextLine };
 
-    ghost remaining = { λ text. at_most (length (lines_left text)) };
+    ghost remaining = { λ text. at_most (length text.rest.now) };
 
     fn next(&mut self) -> Option<&'a [u8]> {
         let rest = self.rest;
