@@ -1,19 +1,19 @@
 -- The text of a trace, read up to some line.
-use Rattle.std.proofs.Common.{◌≡◌, ◌<◌, ◌≤◌, ◌+◌, ◌-◌, ℕ, List, [], ◌∷◌, ◌++◌, length, refl, sym, ap, subst, ◌∙◌, arith, append_assoc, append-nil, length-append, true, false, nat_le, nat_lt, Option, Some, None}
-use Rattle.std.proofs.lemmas.List.Elements.{filter-append}
-use Rattle.std.proofs.lemmas.Bool.{le-leb, lt-ltb}
-use Rattle.dvg_mem.specs.Memory.{IsImage, rom_word}
+use Rattle.std.proofs.Common.{◌≡◌, ◌<◌, ◌≤◌, ◌+◌, ◌-◌, ℕ, List, [], ◌∷◌, ◌++◌, length, refl, sym, ap, subst, ◌∙◌, arith, append_assoc, append-nil, length-append, Bool, true, false, Option, Some, None}
+use Rattle.std.specs.Option.{is_some}
+use Rattle.dvg_mem.specs.Memory.{IsImage}
 use Rattle.dvg_frame.specs.declared.op.OpKind.{OpKind}
 use Rattle.dvg_world.specs.Events.{Happening}
 use Rattle.dvg_tool.specs.declared.trace_text.LineFault.{LineFault}
 use Rattle.dvg_tool.specs.declared.trace_text.LineFault.TheVariants.{Syntax, Full, Many, Memory}
 use Rattle.dvg_tool.specs.Texts.{is_passed, lines, told}
-use Rattle.dvg_tool.specs.RomTexts.{RomLine, word_after}
+use Rattle.dvg_tool.specs.RomTexts.{RomLine}
 use Rattle.dvg_tool.specs.RomWords.{AreAfter}
 use Rattle.dvg_tool.specs.DraftTexts.{IsShort}
 use Rattle.dvg_tool.specs.FirstFaults.{Reaches}
 use Rattle.dvg_tool.specs.TraceTexts.{EndsInside, Fits, IsFine, SpellsTrace}
 use Rattle.dvg_tool.specs.TraceGives.{GivesTrace, StopsLine, StopsReading, TakesLine, fault_at}
+use Rattle.dvg_tool.proofs.ReadTo.{count_on, cut_on, lines_length, told_more, told_one, word_at_address}
 use Rattle.dvg_tool.proofs.TraceSteps.{last_line, says_more, says_nothing, so_far}
 
 -- n lines were read, which spell these events and give these bytes; those are left
@@ -25,15 +25,6 @@ pub record ReadTrace (text : List ℕ) (left : List (List ℕ)) (n : ℕ) (event
   pub spelled : SpellsTrace roms events opened (told before)
   pub words : AreAfter roms R
 
-cut_on : (text : List ℕ) (before left rest : List (List ℕ)) (line : List ℕ) → lines text ≡ before ++ left → left ≡ line ∷ rest → lines text ≡ (before ++ line ∷ []) ++ rest
-cut_on text before left rest line cut e = cut ∙ ap (λ l. before ++ l) e ∙ sym (append_assoc before (line ∷ []) rest)
-
-told_more : (ls : List (List ℕ)) (line : List ℕ) → is_passed line ≡ true → told (ls ++ line ∷ []) ≡ told ls
-told_more ls line e = filter-append _ ls (line ∷ []) ∙ rw e (append-nil _)
-
-told_one : (ls : List (List ℕ)) (line : List ℕ) → is_passed line ≡ false → told (ls ++ line ∷ []) ≡ told ls ++ line ∷ []
-told_one ls line e = filter-append _ ls (line ∷ []) ∙ rw e
-
 pub begins : (text : List ℕ) (left : List (List ℕ)) (events : List Happening) (opened : Option (List OpKind)) (R : List ℕ) → left ≡ lines text → events ≡ [] → opened ≡ None → AreAfter [] R → ReadTrace text left 0 events opened R
 begins text left events opened R all none closed words = record { before = []; cut = sym all; number = refl; roms = []; spelled = rw (none, closed) says_nothing; words = words }
 
@@ -43,7 +34,7 @@ module _ (text : List ℕ) (left rest : List (List ℕ)) (n : ℕ) (old : List H
   passes is = record {
     before = r.before ++ line ∷ [];
     cut = cut_on text r.before left rest line r.cut next;
-    number = omega (arith, r.number, length-append r.before (line ∷ []));
+    number = count_on n r.before line r.number;
     roms = r.roms;
     spelled = subst (SpellsTrace r.roms old opened) (sym (told_more r.before line is)) r.spelled;
     words = r.words;
@@ -56,7 +47,7 @@ module _ (text : List ℕ) (left rest : List (List ℕ)) (n : ℕ) (old : List H
       record {
         before = r.before ++ line ∷ [];
         cut = cut_on text r.before left rest line r.cut next;
-        number = omega (arith, r.number, length-append r.before (line ∷ []));
+        number = count_on n r.before line r.number;
         roms = t.given;
         spelled = subst (SpellsTrace t.given new kept) (sym (told_one r.before line is)) (says_more r.spelled t.takes);
         words = t.words;
@@ -106,14 +97,6 @@ module _ (text : List ℕ) (left rest : List (List ℕ)) (n : ℕ) (old : List H
 all_told : (text : List ℕ) (left before : List (List ℕ)) → left ≡ [] → lines text ≡ before ++ left → told before ≡ told (lines text)
 all_told text left before none cut = ap told (sym (cut ∙ ap (λ l. before ++ l) none ∙ append-nil before))
 
--- the word at an address of the ROM
-word_at_address : (R : List ℕ) (roms : List RomLine) (a : ℕ) → 0x800 ≤ a → a < 0xC00 → AreAfter roms R → rom_word R a ≡ Some (word_after roms a 0xD000)
-word_at_address R roms a low high words =
-    let first : nat_le 0x800 a ≡ true = le-leb _ _ low in
-    let last : nat_lt a 0xC00 ≡ true = lt-ltb _ _ high in
-    let place : 0x800 + (a - 0x800) ≡ a = omega arith in
-    rw (first, last) (ap Some (words (a - 0x800) (omega arith) ∙ ap (λ b. word_after roms b 0xD000) place))
-
 pub gives_all : (text : List ℕ) (left : List (List ℕ)) (n : ℕ) (events : List Happening) (opened : Option (List OpKind)) (R : List ℕ) → left ≡ [] → ReadTrace text left n events opened R → IsShort text → Fits events opened → opened ≡ None → IsImage R
     → GivesTrace text events R
 gives_all text left n events opened R none r short fits closed image = record {
@@ -132,3 +115,17 @@ ends_inside text left n events opened R F none r short fits inside = record {
   spelled = subst (λ kept. SpellsTrace r.roms events kept (told (lines text))) inside (subst (SpellsTrace r.roms events opened) (all_told text left r.before none r.cut) r.spelled);
   fits = subst (Fits events) inside fits;
 }
+
+pub ends_open : (text : List ℕ) (left : List (List ℕ)) (n : ℕ) (events : List Happening) (opened : Option (List OpKind)) (R : List ℕ) → left ≡ [] → ReadTrace text left n events opened R → IsShort text → Fits events opened
+    → (b : Bool) → b ≡ is_some opened → b ≡ true → EndsInside text
+ends_open text left n events (Some F) R none r short fits b e test = ends_inside text left n events (Some F) R F none r short fits refl
+ends_open text left n events None R none r short fits b e test = absurd (cc)
+
+pub closed_all : (text : List ℕ) (left : List (List ℕ)) (n : ℕ) (events : List Happening) (opened : Option (List OpKind)) (R : List ℕ) → left ≡ [] → ReadTrace text left n events opened R → IsShort text → Fits events opened
+    → (b : Bool) → b ≡ is_some opened → b ≡ false → IsImage R → GivesTrace text events R
+closed_all text left n events None R none r short fits b e test image = gives_all text left n events None R none r short fits refl image
+closed_all text left n events (Some F) R none r short fits b e test image = absurd (cc)
+
+-- no text has more lines than bytes
+pub bounded : (text : List ℕ) (left : List (List ℕ)) (n : ℕ) (events : List Happening) (opened : Option (List OpKind)) (R : List ℕ) → ReadTrace text left n events opened R → IsShort text → n ≤ 1048576
+bounded text left n events opened R r short = omega (arith, r.number, ap length r.cut, length-append r.before left, lines_length text)

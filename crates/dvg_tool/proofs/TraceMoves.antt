@@ -1,21 +1,39 @@
 -- What a line more makes of a trace that is read.
-use Rattle.std.proofs.Common.{◌≡◌, ◌<◌, ◌≤◌, ◌+◌, ℕ, zero, suc, List, [], ◌∷◌, ◌++◌, length, replicate, refl, sym, ap, subst, ◌∙◌, arith, length-append, codes, All, Option, Some, None, Result, Ok, Err, OnOk, IfErr}
+use Rattle.std.proofs.Common.{◌≡◌, ◌<◌, ◌≤◌, ◌+◌, ℕ, zero, suc, List, [], ◌∷◌, ◌++◌, length, replicate, refl, sym, ap, subst, ◌∙◌, arith, length-append, codes, All, Option, Some, None, Result, Ok, Err, OnOk, IfErr, Bool, true, false, map, nat_eq}
 use Rattle.std.proofs.lemmas.List.Elements.{All-append, All-nil, All-replicate}
+use Rattle.std.proofs.lemmas.Bool.Decides.{nat_tests}
+use Rattle.dvg_mem.specs.Memory.{IsImage}
 use Rattle.dvg_frame.specs.declared.op.OpKind.{OpKind}
 use Rattle.dvg_world.specs.Events.{Happening, Offer, Redraw, Tick, Strobe, Fetch, ResetGen, ResetCpu, ResetAll}
 use Rattle.dvg_tool.specs.declared.trace_text.LineFault.{LineFault}
 use Rattle.dvg_tool.specs.declared.trace_text.LineFault.TheVariants.{Syntax, Full, Many, Memory}
 use Rattle.dvg_tool.specs.Texts.{parts}
 use Rattle.dvg_tool.specs.OpLines.{IsOpLine}
-use Rattle.dvg_tool.specs.RomTexts.{IsRomLine, RomLine, word_after, word_behind}
+use Rattle.dvg_tool.specs.RomTexts.{IsRomLine, RomLine, word_behind}
 use Rattle.dvg_tool.specs.RomWords.{AreAfter, IsBehind}
 use Rattle.dvg_tool.specs.TraceTexts.{EventParts, Fits, FitsDraft, redraw, tick, strobe, fetch, resetgen, resetcpu, resetall}
 use Rattle.dvg_tool.specs.TraceReading.{Takes, does, ends, events, opens, rom}
-use Rattle.dvg_tool.specs.TraceGives.{StopsEvents, StopsLine, StopsOperation, TakesLine}
+use Rattle.dvg_tool.proofs.ReadTo.{after_more}
+use Rattle.dvg_tool.specs.declared.trace_text.Reading.{Reading}
+use Rattle.dvg_tool.specs.TraceGives.{IsHeld, StopsEvents, StopsLine, StopsOperation, TakesLine, events_of}
 
 all_one : {A : Type 0} (P : A → Type 0) (y : A) → P y → All P (y ∷ [])
 all_one P y h zero d l = h
 all_one P y h (suc k) d l = absurd (omega arith)
+
+-- what is held, where it is taken
+pub held_on : {A E B : Type 0} (answer : Result A E) (reading : Reading B) → OnOk answer (Fits (events_of reading) reading.opened) → IsImage reading.rom → OnOk answer (IsHeld reading)
+held_on (Ok x) reading fits image = record { fits = fits; image = image }
+held_on (Err x) reading fits image = tt
+
+-- whether there are no events
+pub not_none : {A B : Type 0} (f : A → B) (xs : List A) (n : ℕ) (b : Bool) → b ≡ nat_eq n 0 → n ≡ length xs → b ≡ false → map f xs ≡ [] → ⊥
+not_none f [] n b e k test m = let empty : b ≡ true = e ∙ ap (λ n. nat_eq n 0) k in absurd (cc)
+not_none f (x ∷ xs) n b e k test m = absurd (cc)
+
+pub none_of : {A B : Type 0} (f : A → B) (xs : List A) (n : ℕ) (b : Bool) → b ≡ nat_eq n 0 → n ≡ length xs → b ≡ true → map f xs ≡ []
+none_of f [] n b e k test = refl
+none_of f (x ∷ xs) n b e k test = let zero_of : nat_eq n 0 ≡ true = sym e ∙ test in absurd (grind (arith, nat_tests))
 
 -- the end of an offer
 
@@ -38,9 +56,6 @@ pub offer_taken : (old : List Happening) (opened left : Option (List OpKind)) (l
     → (roms : List RomLine) → AreAfter roms R → TakesLine roms old opened l old left R
 offer_taken old opened left l R e is f roms words = record { given = roms; takes = rw (e, is, f) opens; words = words }
 
-pub offer_fits : (old : List Happening) (opened left : Option (List OpKind)) → left ≡ Some [] → Fits old opened → Fits old left
-offer_fits old opened left f fits = let count = fits.count in rw f (record { count = count; drafts = fits.drafts; last = omega arith })
-
 pub events_taken : {A E : Type 0} (answer : Result A E) (old more new : List Happening) (opened : Option (List OpKind)) (l R : List ℕ) → opened ≡ None → EventParts more (parts l) → OnOk answer (new ≡ old ++ more)
     → OnOk answer ((roms : List RomLine) → AreAfter roms R → TakesLine roms old opened l new opened R)
 events_taken (Ok x) old more new opened l R e p g = λ roms words. record { given = roms; takes = rw (e, g) (events p); words = words }
@@ -55,10 +70,10 @@ fine_events resetgen = all_one FitsDraft ResetGen tt
 fine_events resetcpu = all_one FitsDraft ResetCpu tt
 fine_events (resetall {byte = byte} h) = all_one FitsDraft (ResetAll (replicate 2048 byte)) tt
 
-pub events_fit : {A E : Type 0} (answer : Result A E) (old more new : List Happening) (opened : Option (List OpKind)) (ps : List (List ℕ)) → EventParts more ps → OnOk answer (new ≡ old ++ more) → OnOk answer (length new ≤ 65536)
+pub events_fit : {A E : Type 0} (answer : Result A E) (old more new : List Happening) (count : ℕ) (opened : Option (List OpKind)) (ps : List (List ℕ)) → EventParts more ps → OnOk answer (new ≡ old ++ more) → count ≡ length new → OnOk answer (count ≤ 65536)
     → Fits old opened → OnOk answer (Fits new opened)
-events_fit (Ok x) old more new opened ps p g room fits = record { count = room; drafts = subst (All FitsDraft) (sym g) (All-append FitsDraft old more fits.drafts (fine_events p)); last = fits.last }
-events_fit (Err x) old more new opened ps p g room fits = tt
+events_fit (Ok x) old more new count opened ps p g is room fits = record { count = omega arith; drafts = subst (All FitsDraft) (sym g) (All-append FitsDraft old more fits.drafts (fine_events p)); last = fits.last }
+events_fit (Err x) old more new count opened ps p g is room fits = tt
 
 many_events : (fault : LineFault) (old more : List Happening) (l : List ℕ) → EventParts more (parts l) → StopsEvents fault old more → StopsLine fault old None l
 many_events Many old more l p h = (old ++ more, omega (arith, length-append old more), λ roms. events p)
@@ -70,11 +85,6 @@ pub events_stop : {A : Type 0} (answer : Result A LineFault) (old more : List Ha
     → IfErr answer (λ fault. StopsLine fault old opened l)
 events_stop (Ok x) old more opened l e p h = tt
 events_stop (Err fault) old more opened l e p h = rw e (many_events fault old more l p h)
-
--- the words behind one ROM line more
-after_more : (roms : List RomLine) (given : RomLine) (a word : ℕ) → word_after (roms ++ given ∷ []) a word ≡ word_behind given a (word_after roms a word)
-after_more [] given a word = refl
-after_more (r ∷ roms) given a word = after_more roms given a (word_behind r a word)
 
 pub rom_taken : (old : List Happening) (opened : Option (List OpKind)) (l R S : List ℕ) (given : RomLine) → old ≡ [] → opened ≡ None → IsRomLine given l → IsBehind given R S
     → (roms : List RomLine) → AreAfter roms R → TakesLine roms old opened l old opened S
@@ -102,14 +112,6 @@ pub op_taken : {A E : Type 0} (answer : Result A E) (old : List Happening) (F G 
     → OnOk answer ((op : OpKind) × IsOpLine op l × (G ≡ F ++ op ∷ [])) → OnOk answer ((roms : List RomLine) → AreAfter roms R → TakesLine roms old opened l old left R)
 op_taken (Ok x) old F G opened left l R e f h = λ roms words. let is = h.2 in record { given = roms; takes = rw (e, f, is) (does h.0 h.1); words = words }
 op_taken (Err x) old F G opened left l R e f h = tt
-
-pub op_fits : {A E : Type 0} (answer : Result A E) (old : List Happening) (F G : List OpKind) (opened left : Option (List OpKind)) (l : List ℕ) → left ≡ Some G
-    → OnOk answer ((op : OpKind) × IsOpLine op l × (G ≡ F ++ op ∷ [])) → OnOk answer (length F < 511) → Fits old opened → OnOk answer (Fits old left)
-op_fits (Ok x) old F G opened left l f h room fits =
-    let is = h.2 in
-    let last : length G ≤ 511 = rw is (omega (arith, length-append F (h.0 ∷ []))) in
-    rw f (record { count = fits.count; drafts = fits.drafts; last = last })
-op_fits (Err x) old F G opened left l f h room fits = tt
 
 nothing_inside : {roms given : List RomLine} {old new : List Happening} {opened left : Option (List OpKind)} {l : List ℕ} (F : List OpKind) → opened ≡ Some F → (l ≡ codes "end" → ⊥) → ((op : OpKind) → IsOpLine op l → ⊥)
     → Takes roms old opened l given new left → ⊥

@@ -1,5 +1,6 @@
 -- What the reader of traces answers.
 use Rattle.std.specs.Prelude.{ℕ, ◌+◌, ◌<◌, ◌≤◌, List, length, map, Option, Some, None}
+use Rattle.dvg_mem.specs.Memory.{IsImage}
 use Rattle.dvg_frame.specs.declared.op.OpKind.{OpKind}
 use Rattle.dvg_world.specs.Events.{Happening, happening_of}
 use Rattle.dvg_tool.specs.declared.fault.TextFault.TheVariants.{Syntax, Full, Many}
@@ -37,9 +38,10 @@ fault_at line_fault.Memory n = Memory
 abbrev pub events_of : {A : Type 0} → Reading A → List Happening
 events_of reading = map happening_of reading.events.items
 
--- what was read is within the limits
-abbrev pub HasRoom : {A : Type 0} → Reading A → Type 0
-HasRoom reading = Fits (events_of reading) reading.opened
+-- what was read is within the limits, over a whole ROM
+pub record IsHeld {A : Type 0} (reading : Reading A) : Type 0 where
+  pub fits : Fits (events_of reading) reading.opened
+  pub image : IsImage reading.rom
 
 -- a line more was read, behind ROM lines that gave the bytes before it
 pub record TakesLine (roms : List RomLine) (old : List Happening) (opened : Option (List OpKind)) (l : List ℕ) (new : List Happening) (left : Option (List OpKind)) (S : List ℕ) : Type 0 where

@@ -3,7 +3,7 @@ ghost use Rattle.std.specs.Prelude.{◌≡◌, ◌+◌, ◌^◌, ◌<◌, ◌≤
 ghost use Rattle.dvg_frame.specs.declared.op.OpKind.{OpKind};
 ghost use Rattle.dvg_tool.specs.EventLines.{event_of, happenings};
 ghost use Rattle.dvg_tool.specs.OpLines.{IsOpLine};
-ghost use Rattle.dvg_tool.specs.TraceGives.{GivesTrace, HasRoom, ReadsLine, StopsEvents, StopsLine, StopsOperation, StopsReading, events_of, fault_at};
+ghost use Rattle.dvg_tool.specs.TraceGives.{GivesTrace, IsHeld, ReadsLine, StopsEvents, StopsLine, StopsOperation, StopsReading, events_of, fault_at};
 ghost use Rattle.dvg_world.specs.Events.{happening_of};
 
 use crate::draft_text::MAX_TEXT_BYTES;
@@ -17,6 +17,9 @@ use dvg_frame::Draft;
 use dvg_mem::{Image, MEMORY_BYTES};
 use dvg_world::Event;
 use std::alloc::{Allocator, Global};
+
+#[cfg(test)]
+mod tests;
 
 /// The most events of a trace (this project's own choice).
 pub const MAX_EVENTS: usize = 65_536;
@@ -58,8 +61,9 @@ pub fn read_trace<A: Allocator + Copy>(alloc: A, text: &[u8]) -> Result<TraceTex
         if is_passed(line) {
             continue;
         }
-        if let Err(fault) = reading.take(line) {
-            return Err(at_line(fault, number));
+        match reading.take(line) {
+            Ok(()) => {}
+            Err(fault) => return Err(at_line(fault, number)),
         }
     }
     if reading.opened.is_some() {
@@ -109,9 +113,9 @@ struct Reading<A: Allocator> {
 impl<A: Allocator + Copy> Reading<A> {
     // Reads one line more, which isn't passed over.
     fn take(&mut self, line: &[u8]) -> Result<(), LineFault>
-        requires room { HasRoom self.old }
+        requires held { IsHeld self.old }
         ensures taken { OnOk result (ReadsLine self.old line.now self.new) }
-        ensures room { OnOk result (HasRoom self.new) }
+        ensures held { OnOk result (IsHeld self.new) }
         ensures fault { IfErr result (λ fault. StopsLine fault (events_of self.old) self.old.opened line.now) }
     {
         let Some(draft) = &mut self.opened else {
@@ -126,9 +130,9 @@ impl<A: Allocator + Copy> Reading<A> {
     // Reads one line more where no offer is open.
     fn take_outside(&mut self, line: &[u8]) -> Result<(), LineFault>
         requires outside { self.old.opened ≡ None }
-        requires room { HasRoom self.old }
+        requires held { IsHeld self.old }
         ensures taken { OnOk result (ReadsLine self.old line.now self.new) }
-        ensures room { OnOk result (HasRoom self.new) }
+        ensures held { OnOk result (IsHeld self.new) }
         ensures fault { IfErr result (λ fault. StopsLine fault (events_of self.old) self.old.opened line.now) }
     {
         if line == b"offer".as_slice() {
@@ -151,9 +155,9 @@ impl<A: Allocator + Copy> Reading<A> {
     // Ends the offer that is open.
     fn end_offer(&mut self) -> Result<(), LineFault>
         requires inside { IsSome self.old.opened }
-        requires room { HasRoom self.old }
+        requires held { IsHeld self.old }
         ensures taken { OnOk result (ReadsLine self.old (codes "end") self.new) }
-        ensures room { OnOk result (HasRoom self.new) }
+        ensures held { OnOk result (IsHeld self.new) }
         ensures fault { IfErr result (λ fault. StopsLine fault (events_of self.old) self.old.opened (codes "end")) }
     {
         let Some(draft) = self.opened.take() else {

@@ -19,10 +19,10 @@ returns-clause-taken g c =
     let pushed : map happening_of c.push_event.new.events.items ≡ events_of c.args.self.now ++ Offer c.in-Some.draft ∷ [] = grind (arith, common_steps) in
     end_taken (events_of c.args.self.now) _ c.args.self.now.opened c.take.new.self c.in-Some.draft c.args.self.now.rom inside closed pushed
 
-pub returns-clause-room : goal.returns-clause-room
-returns-clause-room g c =
+pub returns-clause-held : goal.returns-clause-held
+returns-clause-held g c =
     let inside : c.args.self.now.opened ≡ Some c.in-Some.draft = search rules in
     let closed : c.take.new.self ≡ None = search rules in
     let pushed : map happening_of c.push_event.new.events.items ≡ events_of c.args.self.now ++ Offer c.in-Some.draft ∷ [] = grind (arith, common_steps) in
     let room : length (events_of c.args.self.now) < 65536 = grind (arith, common_steps) in
-    end_fits (events_of c.args.self.now) _ c.args.self.now.opened c.take.new.self c.in-Some.draft inside closed pushed room c.requires.room
+    record { fits = end_fits (events_of c.args.self.now) _ c.args.self.now.opened c.take.new.self c.in-Some.draft inside closed pushed room c.requires.held.fits; image = c.requires.held.image }
