@@ -2,6 +2,7 @@
 use Rattle.std.proofs.Common.{◌≡◌, ◌<◌, ◌≤◌, ◌+◌, ℕ, List, [], ◌∷◌, ◌++◌, length, refl, sym, ap, subst, ◌∙◌, arith, append_assoc, not, false}
 use Rattle.std.proofs.lemmas.List.Elements.{filter-append}
 use Rattle.dvg_tool.specs.Texts.{is_passed, lines, told}
+use Rattle.dvg_tool.specs.FirstFaults.{Reaches}
 
 -- two items of one list stand at one place, or one stands before the other
 data Places {A : Type 0} (before other : List A) (x y : A) : Type 0 where
@@ -31,12 +32,12 @@ told_past before more line is = filter-append (λ line. not (is_passed line)) be
 pub record StopsAt (Fine : List (List ℕ) → Type 0) (text : List ℕ) (n : ℕ) : Type 0 where
   pub before : List (List ℕ)
   pub line : List ℕ
-  pub after : List (List ℕ)
-  pub cut : lines text ≡ before ++ line ∷ after
-  pub number : n ≡ length before + 1
-  pub is_told : is_passed line ≡ false
-  pub fine : Fine (told before)
+  pub reaches : Reaches Fine text n before line
   pub wrong : ¬ Fine (told before ++ line ∷ [])
+
+-- a text that is stopped by a line is short
+pub too_short : {Fine : List (List ℕ) → Type 0} {text : List ℕ} {n : ℕ} → StopsAt Fine text n → 1048576 < length text → ⊥
+too_short s long = let short = s.reaches.short in omega arith
 
 -- where each front of lines without fault is without fault
 module _ (Fine : List (List ℕ) → Type 0) (front : (ls more : List (List ℕ)) → Fine (ls ++ more) → Fine ls) where
@@ -47,18 +48,18 @@ module _ (Fine : List (List ℕ) → Type 0) (front : (ls more : List (List ℕ)
 
   one_place : {text : List ℕ} {m n : ℕ} (a : StopsAt Fine text m) (b : StopsAt Fine text n) → Places a.before b.before a.line b.line → (a.before ≡ b.before) × (a.line ≡ b.line)
   one_place a b (same e f) = (e, f)
-  one_place a b (sooner more e) = absurd (no_sooner a.before b.before more a.line e a.is_told b.fine a.wrong)
-  one_place a b (later more e) = absurd (no_sooner b.before a.before more b.line e b.is_told a.fine b.wrong)
+  one_place a b (sooner more e) = absurd (no_sooner a.before b.before more a.line e a.reaches.is_told b.reaches.fine a.wrong)
+  one_place a b (later more e) = absurd (no_sooner b.before a.before more b.line e b.reaches.is_told a.reaches.fine b.wrong)
 
   -- two lines that stop the text are one
   pub one_stop : {text : List ℕ} {m n : ℕ} (a : StopsAt Fine text m) (b : StopsAt Fine text n) → (a.before ≡ b.before) × (a.line ≡ b.line) × (n ≡ m)
   one_stop a b =
-      let (e, f) = one_place a b (places a.before b.before a.after b.after a.line b.line (sym a.cut ∙ b.cut)) in
-      let p = a.number in
-      let q = b.number in
+      let (e, f) = one_place a b (places a.before b.before a.reaches.after b.reaches.after a.line b.line (sym a.reaches.cut ∙ b.reaches.cut)) in
+      let p = a.reaches.number in
+      let q = b.reaches.number in
       let count = ap length e in
       (e, f, omega arith)
 
   -- no line stops a text whose lines are without fault
   pub never_stops : {text : List ℕ} {n : ℕ} → Fine (told (lines text)) → StopsAt Fine text n → ⊥
-  never_stops {text = text} fine s = no_sooner s.before (lines text) s.after s.line s.cut s.is_told fine s.wrong
+  never_stops {text = text} fine s = no_sooner s.before (lines text) s.reaches.after s.line s.reaches.cut s.reaches.is_told fine s.wrong

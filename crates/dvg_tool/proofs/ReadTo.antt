@@ -11,7 +11,8 @@ use Rattle.dvg_tool.specs.Texts.{is_passed, lines, parts, told}
 use Rattle.dvg_tool.specs.OpLines.{IsOpLine, OpParts}
 use Rattle.dvg_tool.specs.RomTexts.{IsRomLine, RomLine, word_after, word_behind}
 use Rattle.dvg_tool.specs.RomWords.{AreAfter, IsBehind}
-use Rattle.dvg_tool.specs.DraftTexts.{IsShort, MeetsFull, MeetsSyntax, Reaches, Spells}
+use Rattle.dvg_tool.specs.FirstFaults.{IsShort, Reaches}
+use Rattle.dvg_tool.specs.DraftTexts.{IsFine, MeetsFull, MeetsSyntax, Spells}
 use Rattle.dvg_tool.proofs.Zips.{zip_in, zip_push}
 
 -- ---- lines that spell ROM lines and operations
@@ -149,16 +150,13 @@ module _ (text : List ℕ) (left rest : List (List ℕ)) (n : ℕ) (ops : List O
   }
 
   module _ (short : IsShort text) (count : length ops ≤ 511) (e : is_passed line ≡ false) where
-    reaches : Reaches text (n + 1) r.before line
+    reaches : Reaches IsFine text (n + 1) r.before line
     reaches = record {
       short = short;
       after = rest;
       cut = r.cut ∙ ap (λ l. r.before ++ l) next;
       number = ap (λ k. k + 1) r.number;
-      roms = r.roms;
-      ops = ops;
-      fine = r.spelled;
-      count = count;
+      fine = record { roms = r.roms; ops = ops; spelled = r.spelled; count = count };
       is_told = e;
     }
 

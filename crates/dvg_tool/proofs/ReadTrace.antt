@@ -9,8 +9,7 @@ use Rattle.dvg_tool.specs.declared.trace_text.LineFault.TheVariants.{Syntax, Ful
 use Rattle.dvg_tool.specs.Texts.{is_passed, lines, told}
 use Rattle.dvg_tool.specs.RomTexts.{RomLine}
 use Rattle.dvg_tool.specs.RomWords.{AreAfter}
-use Rattle.dvg_tool.specs.DraftTexts.{IsShort}
-use Rattle.dvg_tool.specs.FirstFaults.{Reaches}
+use Rattle.dvg_tool.specs.FirstFaults.{IsShort, Reaches}
 use Rattle.dvg_tool.specs.TraceTexts.{EndsInside, Fits, IsFine, SpellsTrace}
 use Rattle.dvg_tool.specs.TraceGives.{GivesTrace, StopsLine, StopsReading, TakesLine, fault_at}
 use Rattle.dvg_tool.proofs.ReadTo.{count_on, cut_on, lines_length, told_more, told_one, word_at_address}

@@ -1,7 +1,10 @@
 -- The first line of a text at fault.
-use Rattle.std.specs.Prelude.{◌≡◌, ℕ, ◌+◌, List, ◌∷◌, ◌++◌, length, false}
+use Rattle.std.specs.Prelude.{◌≡◌, ℕ, ◌+◌, ◌≤◌, List, ◌∷◌, ◌++◌, length, false}
 use Rattle.dvg_tool.specs.Texts.{is_passed, lines, told}
-use Rattle.dvg_tool.specs.DraftTexts.{IsShort}
+
+-- the text is no longer than a text may be
+abbrev pub IsShort : List ℕ → Type 0
+IsShort text = length text ≤ 1048576
 
 -- line n isn't passed over, and the lines before it are without fault
 pub record Reaches (Fine : List (List ℕ) → Type 0) (text : List ℕ) (n : ℕ) (before : List (List ℕ)) (line : List ℕ) : Type 0 where

@@ -8,8 +8,7 @@ use Rattle.dvg_tool.specs.declared.fault.TextFault.TheVariants.{TooLong, Syntax,
 use Rattle.dvg_tool.specs.Texts.{IsHex, lines, parts, told}
 use Rattle.dvg_tool.specs.OpLines.{IsOpLine}
 use Rattle.dvg_tool.specs.RomTexts.{IsRomLine, RomLine}
-use Rattle.dvg_tool.specs.DraftTexts.{IsShort}
-use Rattle.dvg_tool.specs.FirstFaults.{Reaches}
+use Rattle.dvg_tool.specs.FirstFaults.{IsShort, Reaches}
 
 -- a name alone, or a name and a count
 pub data Counts (name : List ℕ) : ℕ → List (List ℕ) → Type 0 where

@@ -1,5 +1,5 @@
 use Rattle.dvg_mem.specs.Memory.{IsImage}
-use Rattle.dvg_tool.specs.DraftTexts.{IsShort}
+use Rattle.dvg_tool.specs.FirstFaults.{IsShort}
 use Rattle.dvg_tool.specs.TextLines.{lines_left}
 use Rattle.dvg_tool.specs.TraceTexts.{Fits}
 use Rattle.dvg_tool.specs.TraceGives.{IsHeld, events_of}
