@@ -1,5 +1,5 @@
 -- How a text is cut.
-use Rattle.std.proofs.Common.{ℕ, ◌<◌, List, [], ◌∷◌, Option, Some, length, sym, subst, arith}
+use Rattle.std.proofs.Common.{◌<◌, List, [], ◌∷◌, Option, Some, length, sym, subst, arith}
 use Rattle.std.specs.Iterator.{AlwaysYields, Yields, YieldsThen}
 use Rattle.std.proofs.lemmas.Iterator.{YieldsList}
 

@@ -8,7 +8,7 @@ use Rattle.dvg_code.specs.declared.instr.Instr.TheVariants.{Vctr, Svec, Labs}
 use Rattle.std.proofs.lemmas.Int.Digits.{digits_value-lt}
 use Rattle.dvg_frame.specs.Ops.{IsOp}
 use Rattle.dvg_frame.specs.declared.op.OpKind.{OpKind}
-use Rattle.dvg_frame.specs.declared.op.OpKind.TheVariants.{Draw, CallRom, JumpRom, Call, Jump, Return, Halt}
+use Rattle.dvg_frame.specs.declared.op.OpKind.TheVariants.{Draw, Call, Jump}
 use Rattle.dvg_tool.specs.OpLines.{OpParts, vctr, svec, labs, callrom, jumprom, call, jump, return, halt}
 use Rattle.dvg_tool.specs.Texts.{IsHex}
 

@@ -1,5 +1,5 @@
 -- A text of a draft, read up to some line.
-use Rattle.std.proofs.Common.{◌≡◌, ◌≢◌, ◌<◌, ◌≤◌, ◌+◌, ℕ, List, [], ◌∷◌, ◌++◌, length, refl, sym, ap, subst, ◌∙◌, arith, true, false, Bool, cond, eqb, suc, append_assoc, length-append, append-nil, codes, nat_le, nat_lt, ◌-◌, Some, ◌⊎◌, inl, inr, Result, Ok, Err, IsOk, OnOk}
+use Rattle.std.proofs.Common.{◌≡◌, ◌<◌, ◌≤◌, ◌+◌, ℕ, List, [], ◌∷◌, ◌++◌, length, refl, sym, ap, subst, ◌∙◌, arith, true, false, Bool, cond, eqb, suc, append_assoc, length-append, append-nil, codes, nat_le, nat_lt, ◌-◌, Some, ◌⊎◌, inl, inr, Result, Ok, Err, IsOk, OnOk}
 use Rattle.std.specs.Result.{is_err}
 use Rattle.std.specs.List.{AllZip, Contains, onto_first}
 use Rattle.std.proofs.lemmas.List.Elements.{Contains-append_left, Contains-append_right, Contains-push, filter-append}
@@ -7,7 +7,7 @@ use Rattle.std.proofs.lemmas.Bool.{cases_lt, le-leb, lt-ltb}
 use Rattle.dvg_mem.specs.Memory.{IsImage, rom_word}
 use Rattle.dvg_tool.specs.DraftReading.{Gives}
 use Rattle.dvg_frame.specs.declared.op.OpKind.{OpKind}
-use Rattle.dvg_tool.specs.Texts.{is_passed, lines, parts, told}
+use Rattle.dvg_tool.specs.Texts.{is_passed, lines, told}
 use Rattle.dvg_tool.specs.OpLines.{IsOpLine, OpParts}
 use Rattle.dvg_tool.specs.RomTexts.{IsRomLine, RomLine, word_after, word_behind}
 use Rattle.dvg_tool.specs.RomWords.{AreAfter, IsBehind}

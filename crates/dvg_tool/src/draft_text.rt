@@ -10,6 +10,9 @@ use crate::text_lines::{TextLines, is_passed};
 use dvg_frame::Draft;
 use dvg_mem::MEMORY_BYTES;
 
+#[cfg(test)]
+mod tests;
+
 /// The most bytes of a text (this project's own choice).
 pub const MAX_TEXT_BYTES: usize = 1_048_576;
 
@@ -44,7 +47,9 @@ pub fn read_draft(text: &[u8]) -> Result<DraftText, TextFault>
         if is_passed(line) {
             continue;
         }
-        if draft.is_empty() && let Some(given) = read_rom_line(line) {
+        if draft.is_empty()
+            && let Some(given) = read_rom_line(line)
+        {
             given.put(&mut rom);
             continue;
         }

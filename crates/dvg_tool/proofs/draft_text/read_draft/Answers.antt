@@ -40,8 +40,10 @@ loop-line-preserved-in-loop-line c = record {
 pub returns-in_default-clause-fault : goal.returns-in_default-clause-fault
 returns-in_default-clause-fault c =
     let no_rom : c.loop-line.draft ≡ [] → (given : RomLine) → IsRomLine given c.in-Some.line.now → ⊥ =
-    elim c.else-is_empty.branch [ else-is_empty-via-else-is_empty w ↦ λ none given h. let some = c.is_empty.ensures.1 none in let is = w.if-is_empty.false in absurd cc
-    | else-is_empty-via-then-is_empty+in-None-1 w ↦ λ none given h. let answered = w.read_rom_line.ensures.only given h in search rules ] in
+    elim c.else-is_empty.branch [
+      | else-is_empty-via-else-is_empty w ↦ λ none given h. let some = c.is_empty.ensures.1 none in let is = w.if-is_empty.false in absurd cc
+      | else-is_empty-via-then-is_empty+in-None-1 w ↦ λ none given h. let answered = w.read_rom_line.ensures.only given h in search rules
+    ] in
     meets_syntax c.args.text.now _ _ c.loop-line.number c.loop-line.draft c.loop-line.rom c.in-Some.line.now c.in-Some.ensures.steps c.loop-line.invariant.read c.loop-line.invariant.short c.loop-line.invariant.count (search rules) no_rom
     (λ op h. let answered = c.in_default.ensures.only op h in absurd cc)
 
@@ -54,7 +56,7 @@ pub loop-line-preserved : goal.loop-line-preserved
 loop-line-preserved c =
     let is_ok = sym c.is_err.ensures.value ∙ c.if-is_err.false in
     let pushed = taken c.push.result (c.push.new.self ≡ c.loop-line.draft ++ c.in-Some-read_op.op ∷ []) (length c.loop-line.draft) (length c.push.new.self) is_ok c.push.ensures.pushed c.push.ensures.room.0
-        (λ e. ap length e ∙ length-append c.loop-line.draft (c.in-Some-read_op.op ∷ [])) in
+    (λ e. ap length e ∙ length-append c.loop-line.draft (c.in-Some-read_op.op ∷ [])) in
     let read = takes c.args.text.now _ _ c.loop-line.number c.loop-line.draft c.loop-line.rom c.in-Some.line.now c.in-Some.ensures.steps c.loop-line.invariant.read c.in-Some-read_op.op (search rules) c.in-Some-read_op.ensures.found in
     record {
       next = tt;

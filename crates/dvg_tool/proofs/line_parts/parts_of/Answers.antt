@@ -1,10 +1,9 @@
-use Rattle.std.proofs.Common.{◌≡◌, ◌<◌, ◌++◌, ap, ◌∙◌, rules, eqb, length, arith}
-use Rattle.std.proofs.lemmas.Iterator.{YieldsList, items_from_drains}
+use Rattle.std.proofs.Common.{◌++◌, ap, ◌∙◌, rules, eqb, length, arith}
+use Rattle.std.proofs.lemmas.Iterator.{items_from_drains}
 use Rattle.std.proofs.lemmas.Iterator.Splits.{YieldsList-from_slice_split}
 use Rattle.std.specs.Slice.Iter.{split_callee, split_done, split_rest}
 use borrow.Author.Tests.{tests}
 use Rattle.dvg_tool.specs.LineParts.{bytes_of}
-use Rattle.dvg_tool.specs.Texts.{parts}
 use Rattle.dvg_tool.proofs.Cuts.{fewer}
 use Rattle.dvg_tool.proofs.line_parts.parts_of.Goals as goal
 

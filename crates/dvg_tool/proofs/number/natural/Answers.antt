@@ -1,6 +1,6 @@
 use Rattle.std.proofs.Common.{◌≡◌, arith, ◌∙◌}
 use Rattle.std.proofs.lemmas.Grind.{common_steps}
-use Rattle.dvg_tool.proofs.Decimals.{shaped, read_back, read_only}
+use Rattle.dvg_tool.proofs.Decimals.{shaped, parsed_back, parsed_only}
 use Rattle.dvg_tool.proofs.number.natural.Goals as goal
 
 pub returns-in_err-first-clause-only : goal.returns-in_err-first-clause-only
@@ -20,7 +20,7 @@ returns-clause-found c =
     let e = bytes_of c in
     let p = c.parse.ensures.value.0 in
     let q = rw e at p in
-    rw c.ok-2.ensures.value (read_back c.args.part.now c.parse.result q (grind (arith, common_steps)) (grind (arith, common_steps)))
+    rw c.ok-2.ensures.value (parsed_back c.args.part.now c.parse.result q (grind (arith, common_steps)) (grind (arith, common_steps)))
 
 pub returns-clause-only : goal.returns-clause-only
-returns-clause-only c n h e = c.ok-2.ensures.value ∙ read_only _ _ c.parse.ensures.value.0 n h (bytes_of c ∙ e)
+returns-clause-only c n h e = c.ok-2.ensures.value ∙ parsed_only _ _ c.parse.ensures.value.0 n h (bytes_of c ∙ e)

@@ -1,4 +1,4 @@
-use Rattle.std.proofs.Common.{rules, ◌≡◌, ap, arith, eqb, length, true, false}
+use Rattle.std.proofs.Common.{rules, ◌≡◌, arith, eqb, true, false}
 use Rattle.std.proofs.lemmas.Grind.{common_steps}
 use Rattle.std.proofs.lemmas.Iterator.{IsFirst-from_position, YieldsList-from_slice}
 use borrow.Author.Tests.{tests}
