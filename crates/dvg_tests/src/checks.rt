@@ -179,7 +179,7 @@ fn checks_the_worked_examples(rt: HostRuntime) -> Result<(), Fail> {
     for (lines, wanted) in DRAFTS {
         let text = text_of(rt.alloc(), lines)?;
         let (written, _) = checked(rt.alloc(), text.as_bytes())?;
-        assert_eq!(rt; written.as_str().trim_end(), wanted, "of {lines}");
+        assert_eq!(rt; written.as_str().trim_end(), wanted, "in {lines}");
     }
     let (written, answer) = checked(rt.alloc(), TEXT.as_bytes())?;
     assert_eq!(rt; written.as_str(), LINE);

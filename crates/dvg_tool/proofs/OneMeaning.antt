@@ -1,25 +1,19 @@
 -- A text denotes one draft and one ROM at most, and the front of what spells something does too.
-use Rattle.std.proofs.Common.{◌≡◌, ◌<◌, ◌≤◌, ◌+◌, ℕ, List, [], ◌∷◌, ◌++◌, codes, length, refl, sym, ap, subst, ◌∙◌, arith, length-append}
+use Rattle.std.proofs.Common.{◌≡◌, ◌≤◌, ℕ, List, [], ◌∷◌, ◌++◌, length, refl, sym, ap, subst, ◌∙◌, arith}
 use Rattle.std.specs.List.{AllZip}
 use Rattle.dvg_frame.specs.declared.op.OpKind.{OpKind}
-use Rattle.dvg_tool.specs.Texts.{IsHex, lines, parts, told}
-use Rattle.dvg_tool.specs.OpLines.{IsOpLine, OpParts}
+use Rattle.dvg_tool.specs.Texts.{IsHex}
+use Rattle.dvg_tool.specs.OpLines.{IsOpLine}
 use Rattle.dvg_tool.specs.RomTexts.{IsRomLine, RomLine}
 use Rattle.dvg_tool.specs.DraftTexts.{Denotes, IsFine, Spells}
-use Rattle.dvg_tool.proofs.OneOperation.{no_rom_line, one_operation}
-
--- where each part spells one thing at most, so does a list of parts
-one_list : {A B : Type 0} (R : A → B → Type 0) → ((x y : A) (part : B) → R x part → R y part → y ≡ x) → (xs ys : List A) (ps : List B) → AllZip R xs ps → AllZip R ys ps → ys ≡ xs
-one_list R one [] [] [] h k = refl
-one_list R one [] [] (p ∷ ps) h k = absurd h
-one_list R one [] (y ∷ ys) [] h k = absurd k
-one_list R one [] (y ∷ ys) (p ∷ ps) h k = absurd h
-one_list R one (x ∷ xs) ys [] h k = absurd h
-one_list R one (x ∷ xs) [] (p ∷ ps) h k = absurd k
-one_list R one (x ∷ xs) (y ∷ ys) (p ∷ ps) h k = let e = one x y p h.0 k.0 in let f = one_list R one xs ys ps h.1 k.1 in cc
+use Rattle.dvg_tool.specs.RomWords.{SpellsWords}
+use Rattle.dvg_tool.proofs.GivenWords.{same_words}
+use Rattle.dvg_tool.proofs.OneOperation.{one_operation}
+use Rattle.dvg_tool.proofs.ReadTo.{not_both}
+use Rattle.dvg_tool.proofs.Zips.{zip_same}
 
 one_hex : (count m n : ℕ) (part : List ℕ) → IsHex count m part → IsHex count n part → n ≡ m
-one_hex count m n part h k = let p = h.value in let q = k.value in cc
+one_hex count m n part h k = sym k.value ∙ h.value
 
 same_line : (a b : ℕ) (ws vs : List ℕ) → b ≡ a → vs ≡ ws → (let line : RomLine = record { address = b; words = vs } in line) ≡ record { address = a; words = ws }
 same_line a b ws vs e f = cc
@@ -32,14 +26,10 @@ one_rom_line given other line h k =
     let digits : k.digits ≡ h.digits = cc in
     let spelled : k.spelled ≡ h.spelled = cc in
     let a : other.address ≡ given.address = one_hex 3 given.address other.address h.digits h.address (subst (IsHex 3 other.address) digits k.address) in
-    let ws : other.words ≡ given.words = one_list (λ word part. IsHex 4 word part) (λ m n part. one_hex 4 m n part) given.words other.words h.spelled h.words (subst (AllZip (λ word part. IsHex 4 word part) other.words) spelled k.words) in
+    let ws : other.words ≡ given.words = same_words other.words given.words h.spelled (subst (SpellsWords other.words) spelled k.words) h.words in
     same_line given.address other.address given.words other.words a ws
 
--- no line is both
-not_both : (given : RomLine) (op : OpKind) (line : List ℕ) → IsRomLine given line → IsOpLine op line → ⊥
-not_both given op line h k = no_rom_line (subst (OpParts op) h.split k)
-
--- nor does a line of the ROM begin lines of operations
+-- a line of the ROM begins no lines of operations
 not_ops : (given : RomLine) (F : List OpKind) (line : List ℕ) (ls : List (List ℕ)) → IsRomLine given line → AllZip IsOpLine F (line ∷ ls) → ⊥
 not_ops given [] line ls h k = k
 not_ops given (op ∷ F) line ls h k = not_both given op line h k.0
@@ -47,7 +37,7 @@ not_ops given (op ∷ F) line ls h k = not_both given op line h k.0
 -- two cuts of the same lines give the same
 same_cut : (front fore rest back : List (List ℕ)) (roms others : List RomLine) (F G : List OpKind) → front ++ rest ≡ fore ++ back
     → AllZip IsRomLine roms front → AllZip IsRomLine others fore → AllZip IsOpLine F rest → AllZip IsOpLine G back → (others ≡ roms) × (G ≡ F)
-same_cut [] [] rest back [] [] F G e p r q s = (refl, one_list IsOpLine (λ op other line h k. one_operation h k) F G rest q (subst (AllZip IsOpLine G) (sym e) s))
+same_cut [] [] rest back [] [] F G e p r q s = (refl, zip_same IsOpLine (λ op other line h k. one_operation k h) G F rest (subst (AllZip IsOpLine G) (sym e) s) q)
 same_cut [] [] rest back [] (o ∷ others) F G e p r q s = absurd r
 same_cut [] [] rest back (g ∷ roms) others F G e p r q s = absurd p
 same_cut [] (l ∷ fore) rest back roms [] F G e p r q s = absurd r
@@ -82,6 +72,10 @@ front_ops [] more F h = ([], tt, omega arith)
 front_ops (l ∷ ls) more [] h = absurd h
 front_ops (l ∷ ls) more (op ∷ F) h = let (G, all, count) = front_ops ls more F h.1 in (op ∷ G, (h.0, all), omega arith)
 
+-- a ROM line before others
+rom_line_before : {roms : List RomLine} {F : List OpKind} {ls : List (List ℕ)} (given : RomLine) (line : List ℕ) → IsRomLine given line → Spells roms F ls → Spells (given ∷ roms) F (line ∷ ls)
+rom_line_before given line h s = record { front = line ∷ s.front; rest = s.rest; cut = ap (λ ls. line ∷ ls) s.cut; rom = (h, s.rom); draft = s.draft }
+
 fits_front_of : (front rest ls more : List (List ℕ)) (roms : List RomLine) (F : List OpKind) → front ++ rest ≡ ls ++ more → AllZip IsRomLine roms front → AllZip IsOpLine F rest → Fits (length F) ls
 fits_front_of front rest [] more roms F e p q = record { roms = []; ops = []; spelled = record { front = []; rest = []; cut = refl; rom = tt; draft = tt }; count = omega arith }
 fits_front_of [] rest (l ∷ ls) more roms F e p q =
@@ -92,13 +86,7 @@ fits_front_of (m ∷ front) rest (l ∷ ls) more (g ∷ roms) F e p q =
     let first : m ≡ l = cc in
     let others : front ++ rest ≡ ls ++ more = cc in
     let fits = fits_front_of front rest ls more roms F others p.1 q in
-    let s = fits.spelled in
-    record {
-      roms = g ∷ fits.roms;
-      ops = fits.ops;
-      spelled = record { front = l ∷ s.front; rest = s.rest; cut = ap (λ k. l ∷ k) s.cut; rom = (subst (IsRomLine g) first p.0, s.rom); draft = s.draft };
-      count = fits.count;
-    }
+    record { roms = g ∷ fits.roms; ops = fits.ops; spelled = rom_line_before g l (subst (IsRomLine g) first p.0) fits.spelled; count = fits.count }
 
 -- a front of lines without fault is without fault
 pub fine_front : (ls more : List (List ℕ)) → IsFine (ls ++ more) → IsFine ls

@@ -136,7 +136,3 @@ one_operation (call {n = n} h) q = let (w, is) = call_row q in is ∙ ap Call (s
 one_operation (jump {n = n} h) q = let (w, is) = jump_row q in is ∙ ap Jump (sym (same_number (record { n = n; fits = h; rest = refl }) w))
 one_operation return q = return_row q
 one_operation halt q = halt_row q
-
--- no operation's line begins with the name of a ROM line
-pub no_rom_line : {op : OpKind} {ws : List (List ℕ)} → OpParts op (codes "rom" ∷ ws) → ⊥
-no_rom_line h = elim h [ ]

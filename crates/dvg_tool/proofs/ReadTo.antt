@@ -50,7 +50,7 @@ no_rom_op : {op : OpKind} {ps : List (List ℕ)} → OpParts op (codes "rom" ∷
 no_rom_op h = elim h [ ]
 
 -- no line is both
-not_both : (given : RomLine) (op : OpKind) (line : List ℕ) → IsRomLine given line → IsOpLine op line → ⊥
+pub not_both : (given : RomLine) (op : OpKind) (line : List ℕ) → IsRomLine given line → IsOpLine op line → ⊥
 not_both given op line r h = no_rom_op (subst (OpParts op) r.split h)
 
 -- the last of these lines is the last line

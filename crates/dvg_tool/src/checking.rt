@@ -4,7 +4,7 @@ ghost use Rattle.dvg_tool.specs.Checks.{Checks, IsJudgingFault, Judges};
 ghost use Rattle.dvg_tool.specs.Outcomes.{StopsBeforeWriting};
 ghost use Rattle.dvg_tool.specs.Watching.{TakesAtMost, device_of, failures_of};
 
-use crate::draft_text::read_draft;
+use crate::draft_text::{MOST_TEXT_BYTES, read_draft};
 use crate::fault::ToolFault;
 use crate::line::Line;
 use crate::transfer::{read_up_to, write_whole};
@@ -14,9 +14,6 @@ use dvg_frame::check;
 use dvg_mem::Rom;
 use std::alloc::Allocator;
 use std::io::{Read, Write};
-
-/// The most bytes that the text of a draft has (this project's own choice).
-pub const MOST_TEXT_BYTES: usize = 1_048_576;
 
 // What the check says of the draft that a text denotes, over the ROM that it denotes.
 fn judge<A: Allocator>(alloc: A, text: &[u8]) -> Result<Verdict, ToolFault>

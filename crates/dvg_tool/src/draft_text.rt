@@ -14,7 +14,7 @@ use dvg_mem::MEMORY_BYTES;
 mod tests;
 
 /// The most bytes of a text (this project's own choice).
-pub const MAX_TEXT_BYTES: usize = 1_048_576;
+pub const MOST_TEXT_BYTES: usize = 1_048_576;
 
 /// What the text of a draft denotes.
 #[derive(Drop)]
@@ -36,7 +36,7 @@ pub fn read_draft(text: &[u8]) -> Result<DraftText, TextFault>
     ensures gives { IfOk result (λ told. Gives text.now told.draft told.rom) }
     ensures fault { IfErr result (λ fault. HasFault text.now fault) }
 {
-    if text.len() > MAX_TEXT_BYTES {
+    if text.len() > MOST_TEXT_BYTES {
         return Err(TextFault::TooLong);
     }
     let mut draft = Draft::new();

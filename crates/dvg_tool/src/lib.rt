@@ -27,8 +27,9 @@ mod transfer;
 mod verdict;
 mod watched;
 
-pub use checking::{MOST_TEXT_BYTES, check_text};
+pub use checking::check_text;
 pub use command::job;
+pub use draft_text::MOST_TEXT_BYTES;
 pub use fault::{TextFault, ToolFault};
 pub use listing::{MOST_LIST_BYTES, list};
 pub use outcome::{Done, finish, status};

@@ -159,34 +159,6 @@ impl Line {
         }
     }
 
-    /// Becomes the line that `list` writes of an instruction at a place, of words that are canonical or
-    /// not.
-    pub fn become_listed(&mut self, place: usize, code: &Code, canonical: bool)
-        ensures { self.new ≡ line_text place code.now canonical }
-    {
-        self.bytes.clear();
-        self.hex_3(place);
-        self.instr(code.instr());
-        if !canonical {
-            self.part(b"*");
-        }
-        self.text(b"\n");
-    }
-
-    /// Becomes the ROM line of eight words, from an address on.
-    pub fn become_rom(&mut self, address: usize, words: &[u16])
-        requires { length words.now ≡ 8 }
-        ensures { self.new ≡ rom_line address words.now }
-    {
-        self.bytes.clear();
-        self.text(b"rom ");
-        self.hex_3(address);
-        for word in words {
-            self.hex_4(*word);
-        }
-        self.text(b"\n");
-    }
-
     // Appends a place: an operation's number, or a ROM word's address.
     fn place(&mut self, place: Place)
         requires { length self.old + 9 ≤ 64 }
@@ -238,6 +210,34 @@ impl Line {
             FrameFault::TooDeep(place) => self.fault_at(b"7 too deep", place),
             FrameFault::NoCaller(place) => self.fault_at(b"8 no caller", place),
         }
+    }
+
+    /// Becomes the line that `list` writes of an instruction at a place, of words that are canonical or
+    /// not.
+    pub fn become_listed(&mut self, place: usize, code: &Code, canonical: bool)
+        ensures { self.new ≡ line_text place code.now canonical }
+    {
+        self.bytes.clear();
+        self.hex_3(place);
+        self.instr(code.instr());
+        if !canonical {
+            self.part(b"*");
+        }
+        self.text(b"\n");
+    }
+
+    /// Becomes the ROM line of eight words, from an address on.
+    pub fn become_rom(&mut self, address: usize, words: &[u16])
+        requires { length words.now ≡ 8 }
+        ensures { self.new ≡ rom_line address words.now }
+    {
+        self.bytes.clear();
+        self.text(b"rom ");
+        self.hex_3(address);
+        for word in words {
+            self.hex_4(*word);
+        }
+        self.text(b"\n");
     }
 
     /// Becomes the line that `check` writes of a verdict.
