@@ -6,7 +6,7 @@ ghost use Rattle.dvg_tool.specs.OpLines.{IsOpLine};
 ghost use Rattle.dvg_tool.specs.TraceGives.{GivesTrace, IsHeld, ReadsLine, StopsEvents, StopsLine, StopsOperation, StopsReading, events_of, fault_at};
 ghost use Rattle.dvg_world.specs.Events.{happening_of};
 
-use crate::draft_text::MAX_TEXT_BYTES;
+use crate::draft_text::MOST_TEXT_BYTES;
 use crate::event_line::{BareEvent, EventLine, read_event_line};
 use crate::fault::{TextFault, ToolFault};
 use crate::op_line::read_op;
@@ -22,7 +22,7 @@ use std::alloc::{Allocator, Global};
 mod tests;
 
 /// The most events of a trace (this project's own choice).
-pub const MAX_EVENTS: usize = 65_536;
+pub const MOST_EVENTS: usize = 65_536;
 
 /// What the text of a trace denotes.
 #[derive(Drop)]
@@ -46,7 +46,7 @@ pub fn read_trace<A: Allocator + Copy>(alloc: A, text: &[u8]) -> Result<TraceTex
     ensures gives { IfOk result (λ told. GivesTrace text.now (map happening_of told.events.items) told.rom) }
     ensures fault { IfErr result (λ fault. StopsReading fault text.now) }
 {
-    if text.len() > MAX_TEXT_BYTES {
+    if text.len() > MOST_TEXT_BYTES {
         return Err(ToolFault::Text(TextFault::TooLong));
     }
     let mut reading = Reading {
@@ -163,7 +163,7 @@ impl<A: Allocator + Copy> Reading<A> {
         let Some(draft) = self.opened.take() else {
             unreachable!()
         };
-        if self.events.len() == MAX_EVENTS {
+        if self.events.len() == MOST_EVENTS {
             return Err(LineFault::Many);
         }
         let Ok(draft) = Box::new(self.alloc, draft) else {
@@ -202,7 +202,7 @@ fn add_events<A: Allocator>(
     ensures room { OnOk result (vec_len events.new ≤ 65536) }
     ensures fault { IfErr result (λ fault. StopsEvents fault (map happening_of events.old.items) (happenings told)) }
 {
-    if events.len() + count(told) > MAX_EVENTS {
+    if events.len() + count(told) > MOST_EVENTS {
         return Err(LineFault::Many);
     }
     let added = match told {

@@ -1,5 +1,5 @@
 //! Lines and texts of drafts, read.
-use crate::draft_text::{MAX_TEXT_BYTES, read_draft};
+use crate::draft_text::{MOST_TEXT_BYTES, read_draft};
 use crate::fault::TextFault;
 use crate::op_line::read_op;
 use crate::rom_line::read_rom_line;
@@ -272,7 +272,7 @@ fn operation_number_511_is_one_too_many(rt: HostRuntime) -> Result<(), Fail> {
 fn a_long_text_is_too_long_before_all_else(rt: HostRuntime) -> Result<(), Fail> {
     let mut text = Vec::new(rt.alloc());
     text.extend_from_slice(b"stop\n")?;
-    text.resize(MAX_TEXT_BYTES, b'\n')?;
+    text.resize(MOST_TEXT_BYTES, b'\n')?;
     assert_eq!(rt; fault(text.as_slice()), Some(TextFault::Syntax(1)));
     text.push(b'\n')?;
     assert_eq!(rt; fault(text.as_slice()), Some(TextFault::TooLong));
@@ -282,7 +282,7 @@ fn a_long_text_is_too_long_before_all_else(rt: HostRuntime) -> Result<(), Fail> 
 #[test]
 fn the_longest_text_is_read_whole(rt: HostRuntime) -> Result<(), Fail> {
     let mut text = Vec::new(rt.alloc());
-    text.resize(MAX_TEXT_BYTES - 5, b'\n')?;
+    text.resize(MOST_TEXT_BYTES - 5, b'\n')?;
     text.extend_from_slice(b"stop\n")?;
     assert_eq!(rt; fault(text.as_slice()), Some(TextFault::Syntax(1_048_572)));
     Ok(())

@@ -6,8 +6,8 @@ use Rattle.dvg_tool.specs.TraceGives.{events_of}
 use Rattle.dvg_tool.proofs.TraceMoves.{end_fits, end_stops, end_taken}
 use Rattle.dvg_tool.proofs.trace_text.Reading.end_offer.Goals as goal
 
-pub returns-then-len-eq-MAX_EVENTS-clause-fault : goal.returns-then-len-eq-MAX_EVENTS-clause-fault
-returns-then-len-eq-MAX_EVENTS-clause-fault g c =
+pub returns-then-len-eq-MOST_EVENTS-clause-fault : goal.returns-then-len-eq-MOST_EVENTS-clause-fault
+returns-then-len-eq-MOST_EVENTS-clause-fault g c =
     let inside : c.args.self.now.opened ≡ Some c.in-Some.draft = search rules in
     let full : length (events_of c.args.self.now) ≡ 65536 = grind (arith, common_steps) in
     end_stops (events_of c.args.self.now) c.args.self.now.opened c.in-Some.draft inside full
