@@ -49,7 +49,7 @@ no_lines (offer {events = old} F ops w all) h = absurd (omega (arith, length-app
 
 pub says_more : {roms given : List RomLine} {old new : List Happening} {opened left : Option (List OpKind)} {l : List ℕ} {ls : List (List ℕ)}
     → SpellsTrace roms old opened ls → Takes roms old opened l given new left → SpellsTrace given new left (ls ++ l ∷ [])
-says_more {ls = ls} s (rom {roms = roms} {l = l} g h) =
+says_more {ls = ls} s (rom {roms = roms} {line = l} g h) =
     let none : s.rest ≡ [] = no_lines (whole_of s.begun) refl in
     let all : ls ≡ s.front = s.cut ∙ ap (λ k. s.front ++ k) none ∙ append-nil s.front in
     record {
@@ -59,7 +59,7 @@ says_more {ls = ls} s (rom {roms = roms} {l = l} g h) =
       rom = zip_push IsRomLine roms s.front g l s.rom h;
       begun = whole nothing;
     }
-says_more s (events {l = l} p) = record {
+says_more s (events {line = l} p) = record {
   front = s.front;
   rest = s.rest ++ l ∷ [];
   cut = ap (λ k. k ++ l ∷ []) s.cut ∙ append_assoc s.front s.rest (l ∷ []);
@@ -73,7 +73,7 @@ says_more s opens = record {
   rom = s.rom;
   begun = inside [] [] (whole_of s.begun) tt;
 }
-says_more s (does {F = F} {l = l} op h) =
+says_more s (does {F = F} {line = l} op h) =
     let o = open_of s.begun in
     record {
       front = s.front;
@@ -171,7 +171,7 @@ end_is_no_op op h = elim h [ ]
 
 one_way : {roms given others : List RomLine} {old new next : List Happening} {opened left kept : Option (List OpKind)} {l : List ℕ}
     → Takes roms old opened l given new left → Takes roms old opened l others next kept → so_far others next kept ≡ so_far given new left
-one_way (rom {roms = roms} {l = l} g h) (rom k m) = ap (λ g. so_far (roms ++ g ∷ []) [] None) (one_rom_line g k l h m)
+one_way (rom {roms = roms} {line = l} g h) (rom k m) = ap (λ g. so_far (roms ++ g ∷ []) [] None) (one_rom_line g k l h m)
 one_way (rom g h) (events p) = absurd (rom_is_no_events g h p)
 one_way (rom g h) opens = absurd (offer_is_no_rom g h)
 one_way (events p) (rom g h) = absurd (rom_is_no_events g h p)

@@ -44,27 +44,27 @@ pub record IsHeld {A : Type 0} (reading : Reading A) : Type 0 where
   pub image : IsImage reading.rom
 
 -- a line more was read, behind ROM lines that gave the bytes before it
-pub record TakesLine (roms : List RomLine) (old : List Happening) (opened : Option (List OpKind)) (l : List ℕ) (new : List Happening) (left : Option (List OpKind)) (S : List ℕ) : Type 0 where
+pub record TakesLine (roms : List RomLine) (old : List Happening) (opened : Option (List OpKind)) (line : List ℕ) (new : List Happening) (left : Option (List OpKind)) (S : List ℕ) : Type 0 where
   pub given : List RomLine
-  pub takes : Takes roms old opened l given new left
+  pub takes : Takes roms old opened line given new left
   pub words : AreAfter given S
 
 -- the same, of the reader before the line and behind it
 abbrev pub ReadsLine : {A : Type 0} → Reading A → List ℕ → Reading A → Type 0
-ReadsLine old l new = (roms : List RomLine) → AreAfter roms old.rom → TakesLine roms (events_of old) old.opened l (events_of new) new.opened new.rom
+ReadsLine old line new = (roms : List RomLine) → AreAfter roms old.rom → TakesLine roms (events_of old) old.opened line (events_of new) new.opened new.rom
 
 -- why a line more isn't read
 abbrev pub StopsLine : LineFault → List Happening → Option (List OpKind) → List ℕ → Type 0
-StopsLine line_fault.Syntax old opened l = (roms given : List RomLine) (new : List Happening) (left : Option (List OpKind)) → ¬ Takes roms old opened l given new left
-StopsLine line_fault.Full old opened l = (F : List OpKind) × (511 < length F) × ((roms : List RomLine) → Takes roms old opened l roms old (Some F))
-StopsLine line_fault.Many old opened l = (new : List Happening) × (65536 < length new) × ((roms : List RomLine) → Takes roms old opened l roms new None)
-StopsLine line_fault.Memory old opened l = Unit {0}
+StopsLine line_fault.Syntax old opened line = (roms given : List RomLine) (new : List Happening) (left : Option (List OpKind)) → ¬ Takes roms old opened line given new left
+StopsLine line_fault.Full old opened line = (F : List OpKind) × (511 < length F) × ((roms : List RomLine) → Takes roms old opened line roms old (Some F))
+StopsLine line_fault.Many old opened line = (new : List Happening) × (65536 < length new) × ((roms : List RomLine) → Takes roms old opened line roms new None)
+StopsLine line_fault.Memory old opened line = Unit {0}
 
 -- why an operation more isn't read
 abbrev pub StopsOperation : LineFault → List OpKind → List ℕ → Type 0
-StopsOperation line_fault.Syntax F l = (op : OpKind) → ¬ IsOpLine op l
-StopsOperation line_fault.Full F l = (op : OpKind) × (511 ≤ length F) × IsOpLine op l
-StopsOperation _ F l = ⊥
+StopsOperation line_fault.Syntax F line = (op : OpKind) → ¬ IsOpLine op line
+StopsOperation line_fault.Full F line = (op : OpKind) × (511 ≤ length F) × IsOpLine op line
+StopsOperation _ F line = ⊥
 
 -- why these events more aren't held
 abbrev pub StopsEvents : LineFault → List Happening → List Happening → Type 0

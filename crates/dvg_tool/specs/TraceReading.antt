@@ -15,12 +15,12 @@ pub record SoFar : Type 0 where
 
 -- what a line more makes of ROM lines, events and an open offer
 pub data Takes : List RomLine → List Happening → Option (List OpKind) → List ℕ → List RomLine → List Happening → Option (List OpKind) → Type 0 where
-  rom : {roms : List RomLine} {l : List ℕ} (given : RomLine) → IsRomLine given l → Takes roms [] None l (roms ++ given ∷ []) [] None
-  events : {roms : List RomLine} {old more : List Happening} {l : List ℕ} → EventParts more (parts l) → Takes roms old None l roms (old ++ more) None
+  rom : {roms : List RomLine} {line : List ℕ} (given : RomLine) → IsRomLine given line → Takes roms [] None line (roms ++ given ∷ []) [] None
+  events : {roms : List RomLine} {old more : List Happening} {line : List ℕ} → EventParts more (parts line) → Takes roms old None line roms (old ++ more) None
   opens : {roms : List RomLine} {old : List Happening} → Takes roms old None (codes "offer") roms old (Some [])
-  does : {roms : List RomLine} {old : List Happening} {F : List OpKind} {l : List ℕ} (op : OpKind) → IsOpLine op l → Takes roms old (Some F) l roms old (Some (F ++ op ∷ []))
+  does : {roms : List RomLine} {old : List Happening} {F : List OpKind} {line : List ℕ} (op : OpKind) → IsOpLine op line → Takes roms old (Some F) line roms old (Some (F ++ op ∷ []))
   ends : {roms : List RomLine} {old : List Happening} {F : List OpKind} → Takes roms old (Some F) (codes "end") roms (old ++ Offer F ∷ []) None
 
 -- the same, of whole states
 abbrev pub Goes : SoFar → List ℕ → SoFar → Type 0
-Goes old l new = Takes old.roms old.events old.opened l new.roms new.events new.opened
+Goes old line new = Takes old.roms old.events old.opened line new.roms new.events new.opened

@@ -28,7 +28,7 @@ pub data EventParts : List Happening → List (List ℕ) → Type 0 where
 -- lines of whole events, in order: lines that spell events by themselves, and offers from `offer` to `end`
 pub data Whole : List Happening → List (List ℕ) → Type 0 where
   nothing : Whole [] []
-  alone : {events more : List Happening} {ls : List (List ℕ)} (l : List ℕ) → Whole events ls → EventParts more (parts l) → Whole (events ++ more) (ls ++ l ∷ [])
+  alone : {events more : List Happening} {ls : List (List ℕ)} (line : List ℕ) → Whole events ls → EventParts more (parts line) → Whole (events ++ more) (ls ++ line ∷ [])
   offer : {events : List Happening} {ls : List (List ℕ)} (F : List OpKind) (ops : List (List ℕ)) → Whole events ls → AllZip IsOpLine F ops
       → Whole (events ++ Offer F ∷ []) (ls ++ codes "offer" ∷ ops ++ codes "end" ∷ [])
 
