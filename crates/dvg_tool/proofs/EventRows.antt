@@ -1,5 +1,5 @@
 -- A line spells one list of events at most, and what it spells shows by its name.
-use Rattle.std.proofs.Common.{◌≡◌, ◌<◌, ◌≤◌, ℕ, List, [], ◌∷◌, Some, ◌⊎◌, inl, inr, ⊎_elim, length, replicate, get_or, refl, sym, ap, subst, ◌∙◌, arith, codes, decimal}
+use Rattle.std.proofs.Common.{◌≡◌, ◌<◌, ◌≤◌, ℕ, List, [], ◌∷◌, Some, ◌⊎◌, inl, inr, length, replicate, get_or, refl, sym, ap, subst, ◌∙◌, arith, codes, decimal}
 use Rattle.std.proofs.lemmas.Fmt.{decimal_injective}
 use Rattle.std.proofs.lemmas.List.{length-replicate}
 use Rattle.dvg_world.specs.Events.{Happening, Redraw, Tick, Strobe, Fetch, ResetGen, ResetCpu, ResetAll}

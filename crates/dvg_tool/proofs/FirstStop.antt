@@ -1,5 +1,5 @@
 -- A text has one first line at fault at most, and none where it has no fault.
-use Rattle.std.proofs.Common.{◌≡◌, ◌<◌, ◌≤◌, ◌+◌, ℕ, List, [], ◌∷◌, ◌++◌, length, refl, sym, ap, subst, ◌∙◌, arith, append_assoc, not, false}
+use Rattle.std.proofs.Common.{◌≡◌, ◌<◌, ℕ, List, [], ◌∷◌, ◌++◌, length, refl, sym, ap, subst, ◌∙◌, arith, append_assoc, not, false}
 use Rattle.std.proofs.lemmas.List.Elements.{filter-append}
 use Rattle.dvg_tool.specs.Texts.{is_passed, lines, told}
 use Rattle.dvg_tool.specs.FirstFaults.{Reaches}

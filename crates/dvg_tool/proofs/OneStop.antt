@@ -1,9 +1,9 @@
 -- The text of a draft has one fault at most, and none where it denotes something.
-use Rattle.std.proofs.Common.{◌≡◌, ◌<◌, ◌≤◌, ℕ, List, [], ◌∷◌, ◌++◌, length, refl, sym, ap, subst, arith}
+use Rattle.std.proofs.Common.{◌≡◌, ◌<◌, ℕ, List, [], ◌∷◌, ◌++◌, length, refl, sym, ap, subst, arith}
 use Rattle.dvg_frame.specs.declared.op.OpKind.{OpKind}
 use Rattle.dvg_tool.specs.declared.fault.TextFault.{TextFault}
 use Rattle.dvg_tool.specs.declared.fault.TextFault.TheVariants.{TooLong, Syntax, Full}
-use Rattle.dvg_tool.specs.Texts.{lines, told}
+use Rattle.dvg_tool.specs.Texts.{told}
 use Rattle.dvg_tool.specs.RomTexts.{RomLine}
 use Rattle.dvg_tool.specs.DraftTexts.{Denotes, HasFault, IsFine, MeetsFull, MeetsSyntax, Spells}
 use Rattle.dvg_tool.proofs.FirstStop.{StopsAt, never_stops, one_stop, too_short}

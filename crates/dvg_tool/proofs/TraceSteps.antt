@@ -1,12 +1,12 @@
 -- What the lines of a trace spell, line by line.
-use Rattle.std.proofs.Common.{◌≡◌, ◌<◌, ◌≤◌, ◌+◌, ℕ, List, [], ◌∷◌, ◌++◌, length, refl, sym, ap, subst, ◌∙◌, arith, append_assoc, append-nil, length-append, codes, All, Option, Some, None, IfSome}
+use Rattle.std.proofs.Common.{◌≡◌, ℕ, List, [], ◌∷◌, ◌++◌, length, refl, sym, ap, subst, ◌∙◌, arith, append_assoc, append-nil, length-append, codes, All, Option, Some, None}
 use Rattle.std.specs.List.{AllZip}
 use Rattle.std.proofs.lemmas.List.{get_or_append_left}
 use Rattle.std.proofs.Math.Seq.{get_or-append_seam}
 use Rattle.dvg_frame.specs.declared.op.OpKind.{OpKind}
 use Rattle.dvg_world.specs.Events.{Happening, Offer}
 use Rattle.dvg_tool.specs.Texts.{parts}
-use Rattle.dvg_tool.specs.OpLines.{IsOpLine, OpParts}
+use Rattle.dvg_tool.specs.OpLines.{IsOpLine}
 use Rattle.dvg_tool.specs.RomTexts.{IsRomLine, RomLine}
 use Rattle.dvg_tool.specs.TraceTexts.{Begun, EventParts, Fits, FitsDraft, IsFine, SpellsTrace, Whole, alone, inside, nothing, offer, whole}
 use Rattle.dvg_tool.specs.TraceReading.{Goes, SoFar, Takes, does, ends, events, opens, rom}

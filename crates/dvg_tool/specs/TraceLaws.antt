@@ -1,5 +1,5 @@
 -- Laws of the texts of traces.
-use Rattle.std.specs.Prelude.{◌≡◌, ◌⊎◌, ℕ, List}
+use Rattle.std.specs.Prelude.{◌≡◌, ℕ, List}
 use Rattle.dvg_world.specs.Events.{Happening}
 use Rattle.dvg_tool.specs.declared.fault.TextFault.{TextFault}
 use Rattle.dvg_tool.specs.RomTexts.{RomLine}

@@ -1,6 +1,6 @@
-use Rattle.std.proofs.Common.{◌≡◌, ◌+◌, [], None, Some, List, length, map, refl, ap, arith, rules}
+use Rattle.std.proofs.Common.{◌≡◌, [], None, length, map, refl, ap, arith, rules}
 use Rattle.std.proofs.lemmas.List.Elements.{All-nil}
-use Rattle.dvg_world.specs.Events.{Happening, happening_of}
+use Rattle.dvg_world.specs.Events.{happening_of}
 use Rattle.dvg_tool.specs.Texts.{lines}
 use Rattle.dvg_tool.specs.TextLines.{lines_left}
 use Rattle.dvg_tool.specs.TraceTexts.{FitsDraft}

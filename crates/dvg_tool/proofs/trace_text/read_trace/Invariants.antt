@@ -1,7 +1,5 @@
-use Rattle.dvg_mem.specs.Memory.{IsImage}
 use Rattle.dvg_tool.specs.FirstFaults.{IsShort}
 use Rattle.dvg_tool.specs.TextLines.{lines_left}
-use Rattle.dvg_tool.specs.TraceTexts.{Fits}
 use Rattle.dvg_tool.specs.TraceGives.{IsHeld, events_of}
 use Rattle.dvg_tool.proofs.ReadTrace.{ReadTrace}
 use Rattle.dvg_tool.proofs.trace_text.read_trace.Given as goal

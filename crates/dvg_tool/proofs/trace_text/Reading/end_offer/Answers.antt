@@ -1,6 +1,5 @@
-use Rattle.std.proofs.Common.{◌≡◌, ◌<◌, [], ◌∷◌, ◌++◌, None, Some, length, map, sym, ap, ◌∙◌, arith, rules}
+use Rattle.std.proofs.Common.{◌≡◌, ◌<◌, [], ◌∷◌, ◌++◌, None, Some, length, map, arith, rules}
 use Rattle.std.proofs.lemmas.Grind.{common_steps}
-use Rattle.std.proofs.lemmas.List.{length-map}
 use Rattle.dvg_world.specs.Events.{Offer, happening_of}
 use Rattle.dvg_tool.specs.TraceGives.{events_of}
 use Rattle.dvg_tool.proofs.TraceMoves.{end_fits, end_stops, end_taken}
