@@ -5,7 +5,7 @@ use Rattle.dvg_frame.specs.declared.op.OpKind.{OpKind}
 use Rattle.dvg_tool.specs.Texts.{IsHex}
 use Rattle.dvg_tool.specs.OpLines.{IsOpLine}
 use Rattle.dvg_tool.specs.RomTexts.{IsRomLine, RomLine}
-use Rattle.dvg_tool.specs.DraftTexts.{Denotes, Spells}
+use Rattle.dvg_tool.specs.DraftTexts.{Denotes, IsFine, Spells}
 use Rattle.dvg_tool.specs.RomWords.{SpellsWords}
 use Rattle.dvg_tool.proofs.GivenWords.{same_words}
 use Rattle.dvg_tool.proofs.OneOperation.{one_operation}
@@ -19,7 +19,7 @@ same_line : (a b : ℕ) (ws vs : List ℕ) → b ≡ a → vs ≡ ws → (let li
 same_line a b ws vs e f = cc
 
 -- a line gives one list of words of the ROM at most
-one_rom_line : (given other : RomLine) (line : List ℕ) → IsRomLine given line → IsRomLine other line → other ≡ given
+pub one_rom_line : (given other : RomLine) (line : List ℕ) → IsRomLine given line → IsRomLine other line → other ≡ given
 one_rom_line given other line h k =
     let p = h.split in
     let q = k.split in
@@ -60,11 +60,11 @@ pub one_meaning : (text : List ℕ) (roms others : List RomLine) (F G : List OpK
 one_meaning text roms others F G a b = one_spelled a.spelled b.spelled
 
 -- lines that spell no more operations than this
-pub record Fits (most : ℕ) (ls : List (List ℕ)) : Type 0 where
-  pub roms : List RomLine
-  pub ops : List OpKind
-  pub spelled : Spells roms ops ls
-  pub count : length ops ≤ most
+record Fits (most : ℕ) (ls : List (List ℕ)) : Type 0 where
+  roms : List RomLine
+  ops : List OpKind
+  spelled : Spells roms ops ls
+  count : length ops ≤ most
 
 -- a front of lines of operations
 front_ops : (ls more : List (List ℕ)) (F : List OpKind) → AllZip IsOpLine F (ls ++ more) → (G : List OpKind) × AllZip IsOpLine G ls × (length G ≤ length F)
@@ -88,9 +88,9 @@ fits_front_of (m ∷ front) rest (l ∷ ls) more (g ∷ roms) F e p q =
     let fits = fits_front_of front rest ls more roms F others p.1 q in
     record { roms = g ∷ fits.roms; ops = fits.ops; spelled = rom_line_before g l (subst (IsRomLine g) first p.0) fits.spelled; count = fits.count }
 
--- a front of lines that fit fits
-pub fits_front : (most : ℕ) (ls more : List (List ℕ)) → Fits most (ls ++ more) → Fits most ls
-fits_front most ls more h =
+-- a front of lines without fault is without fault
+pub fine_front : (ls more : List (List ℕ)) → IsFine (ls ++ more) → IsFine ls
+fine_front ls more h =
     let s = h.spelled in
     let fits = fits_front_of s.front s.rest ls more h.roms h.ops (sym s.cut) s.rom s.draft in
     let count = fits.count in

@@ -11,7 +11,8 @@ use Rattle.dvg_tool.specs.Texts.{is_passed, lines, told}
 use Rattle.dvg_tool.specs.OpLines.{IsOpLine, OpParts}
 use Rattle.dvg_tool.specs.RomTexts.{IsRomLine, RomLine, word_after, word_behind}
 use Rattle.dvg_tool.specs.RomWords.{AreAfter, IsBehind}
-use Rattle.dvg_tool.specs.DraftTexts.{IsShort, MeetsFull, MeetsSyntax, Reaches, Spells}
+use Rattle.dvg_tool.specs.FirstFaults.{IsShort, Reaches}
+use Rattle.dvg_tool.specs.DraftTexts.{IsFine, MeetsFull, MeetsSyntax, Spells}
 use Rattle.dvg_tool.proofs.Zips.{zip_in, zip_push}
 
 -- ---- lines that spell ROM lines and operations
@@ -79,19 +80,19 @@ goes_not_on roms ops ls line s no_rom no_op roms2 ops2 t = by_rest roms ops ls l
 
 -- ---- the lines of a text, up to some line
 
-told_more : (ls : List (List ℕ)) (line : List ℕ) → is_passed line ≡ true → told (ls ++ line ∷ []) ≡ told ls
+pub told_more : (ls : List (List ℕ)) (line : List ℕ) → is_passed line ≡ true → told (ls ++ line ∷ []) ≡ told ls
 told_more ls line e = filter-append _ ls (line ∷ []) ∙ rw e (append-nil _)
 
-told_one : (ls : List (List ℕ)) (line : List ℕ) → is_passed line ≡ false → told (ls ++ line ∷ []) ≡ told ls ++ line ∷ []
+pub told_one : (ls : List (List ℕ)) (line : List ℕ) → is_passed line ≡ false → told (ls ++ line ∷ []) ≡ told ls ++ line ∷ []
 told_one ls line e = filter-append _ ls (line ∷ []) ∙ rw e
 
 -- the words behind one line more
-after_more : (roms : List RomLine) (given : RomLine) (a word : ℕ) → word_after (roms ++ given ∷ []) a word ≡ word_behind given a (word_after roms a word)
+pub after_more : (roms : List RomLine) (given : RomLine) (a word : ℕ) → word_after (roms ++ given ∷ []) a word ≡ word_behind given a (word_after roms a word)
 after_more [] given a word = refl
 after_more (r ∷ roms) given a word = after_more roms given a (word_behind r a word)
 
 -- the word at an address of the ROM
-word_at_address : (R : List ℕ) (roms : List RomLine) (a : ℕ) → 0x800 ≤ a → a < 0xC00 → AreAfter roms R → rom_word R a ≡ Some (word_after roms a 0xD000)
+pub word_at_address : (R : List ℕ) (roms : List RomLine) (a : ℕ) → 0x800 ≤ a → a < 0xC00 → AreAfter roms R → rom_word R a ≡ Some (word_after roms a 0xD000)
 word_at_address R roms a low high words =
     let first : nat_le 0x800 a ≡ true = le-leb _ _ low in
     let last : nat_lt a 0xC00 ≡ true = lt-ltb _ _ high in
@@ -107,10 +108,10 @@ pub record ReadTo (text : List ℕ) (left : List (List ℕ)) (n : ℕ) (ops : Li
   pub spelled : Spells roms ops (told before)
   pub words : AreAfter roms R
 
-cut_on : (text : List ℕ) (before left rest : List (List ℕ)) (line : List ℕ) → lines text ≡ before ++ left → left ≡ line ∷ rest → lines text ≡ (before ++ line ∷ []) ++ rest
+pub cut_on : (text : List ℕ) (before left rest : List (List ℕ)) (line : List ℕ) → lines text ≡ before ++ left → left ≡ line ∷ rest → lines text ≡ (before ++ line ∷ []) ++ rest
 cut_on text before left rest line cut e = cut ∙ ap (λ l. before ++ l) e ∙ sym (append_assoc before (line ∷ []) rest)
 
-count_on : (n : ℕ) (before : List (List ℕ)) (line : List ℕ) → n ≡ length before → n + 1 ≡ length (before ++ line ∷ [])
+pub count_on : (n : ℕ) (before : List (List ℕ)) (line : List ℕ) → n ≡ length before → n + 1 ≡ length (before ++ line ∷ [])
 count_on n before line e = omega (arith, e, length-append before (line ∷ []))
 
 module _ (text : List ℕ) (left rest : List (List ℕ)) (n : ℕ) (ops : List OpKind) (R line : List ℕ) (next : left ≡ line ∷ rest) (r : ReadTo text left n ops R) where
@@ -149,16 +150,13 @@ module _ (text : List ℕ) (left rest : List (List ℕ)) (n : ℕ) (ops : List O
   }
 
   module _ (short : IsShort text) (count : length ops ≤ 511) (e : is_passed line ≡ false) where
-    reaches : Reaches text (n + 1) r.before line
+    reaches : Reaches IsFine text (n + 1) r.before line
     reaches = record {
       short = short;
       after = rest;
       cut = r.cut ∙ ap (λ l. r.before ++ l) next;
       number = ap (λ k. k + 1) r.number;
-      roms = r.roms;
-      ops = ops;
-      fine = r.spelled;
-      count = count;
+      fine = record { roms = r.roms; ops = ops; spelled = r.spelled; count = count };
       is_told = e;
     }
 
@@ -218,7 +216,7 @@ lines_by : (end : Bool) (byte : ℕ) (ls : List (List ℕ)) (n : ℕ) → length
 lines_by true byte ls n h = omega arith
 lines_by false byte ls n h = omega (arith, onto_length byte ls)
 
-lines_length : (text : List ℕ) → length (lines text) ≤ length text
+pub lines_length : (text : List ℕ) → length (lines text) ≤ length text
 lines_length [] = omega arith
 lines_length (byte ∷ text) = lines_by (eqb byte 10) byte (lines text) (length text) (lines_length text)
 

@@ -12,7 +12,7 @@ use Rattle.dvg_tool.specs.Watching.{BeginsToWrite}
 use Rattle.dvg_tool.specs.Lines.{rom_text}
 use Rattle.dvg_tool.specs.Roms.{WritesRom, WritesText}
 use Rattle.dvg_tool.specs.Lists.{IsListable, Lists, ListsWords}
-use Rattle.dvg_tool.specs.declared.fault.TextFault.TheVariants.{TooLong, Odd, Cut, RomSize, Syntax, Full}
+use Rattle.dvg_tool.specs.declared.fault.TextFault.TheVariants.{TooLong, Cut, Syntax, Full}
 use Rattle.dvg_tool.specs.declared.fault.ToolFault.{ToolFault}
 use Rattle.dvg_tool.specs.declared.fault.ToolFault.TheVariants.{Text, Reader, Writer, Memory}
 
@@ -36,12 +36,8 @@ odd (Some input) read e h o = let same = ap length (whole 8192 read input e h) i
 
 listed : {T : Type 0} (answer : Result T ToolFault) (input : List ℕ) (old new : Option (List ℕ)) → IsListable input → ListsWords answer (words_of input) old new → Lists answer input old new
 listed (Ok done) input old new w h = (w, h)
-listed (Err (Text TooLong)) input old new w h = absurd h
-listed (Err (Text Odd)) input old new w h = absurd h
 listed (Err (Text (Cut place))) input old new w h = (w, h)
-listed (Err (Text RomSize)) input old new w h = absurd h
-listed (Err (Text (Syntax n))) input old new w h = absurd h
-listed (Err (Text (Full n))) input old new w h = absurd h
+listed (Err (Text _)) input old new w h = absurd h
 listed (Err Reader) input old new w h = absurd h
 listed (Err Writer) input old new w h = (w, h)
 listed (Err Memory) input old new w h = absurd h
@@ -97,9 +93,7 @@ short_or_long : (fault : TextFault) (read : List ℕ) → HasFault read fault �
 short_or_long TooLong read h = inl refl
 short_or_long (Syntax n) read h = inr h.reaches.short
 short_or_long (Full n) read h = inr h.reaches.short
-short_or_long Odd read h = absurd h
-short_or_long (Cut place) read h = absurd h
-short_or_long RomSize read h = absurd h
+short_or_long _ read h = absurd h
 
 -- the fault of what was read is that of the input
 pub faulted : (fault : TextFault) (input read : List ℕ) → read ≡ take 1048577 input → HasFault read fault → HasFault input fault

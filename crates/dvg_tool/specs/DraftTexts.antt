@@ -1,10 +1,11 @@
 -- What the text of a draft denotes, and its first fault.
-use Rattle.std.specs.Prelude.{◌≡◌, ℕ, ◌+◌, ◌<◌, ◌≤◌, List, [], ◌∷◌, ◌++◌, length, false}
+use Rattle.std.specs.Prelude.{◌≡◌, ℕ, ◌<◌, ◌≤◌, List, [], ◌∷◌, ◌++◌, length}
 use Rattle.std.specs.List.{AllZip}
 use Rattle.dvg_frame.specs.declared.op.OpKind.{OpKind}
 use Rattle.dvg_tool.specs.declared.fault.TextFault.{TextFault}
-use Rattle.dvg_tool.specs.declared.fault.TextFault.TheVariants.{TooLong, Odd, Cut, RomSize, Syntax, Full}
-use Rattle.dvg_tool.specs.Texts.{is_passed, lines, told}
+use Rattle.dvg_tool.specs.declared.fault.TextFault.TheVariants.{TooLong, Syntax, Full}
+use Rattle.dvg_tool.specs.Texts.{lines, told}
+use Rattle.dvg_tool.specs.FirstFaults.{IsShort, Reaches}
 use Rattle.dvg_tool.specs.OpLines.{IsOpLine}
 use Rattle.dvg_tool.specs.RomTexts.{IsRomLine, RomLine}
 
@@ -16,40 +17,31 @@ pub record Spells (roms : List RomLine) (ops : List OpKind) (ls : List (List ℕ
   pub rom : AllZip IsRomLine roms front
   pub draft : AllZip IsOpLine ops rest
 
--- the text is no longer than a text may be
-abbrev pub IsShort : List ℕ → Type 0
-IsShort text = length text ≤ 1048576
-
 -- the text denotes these ROM lines and this draft: what its lines spell that aren't passed over
 pub record Denotes (text : List ℕ) (roms : List RomLine) (ops : List OpKind) : Type 0 where
   pub short : IsShort text
   pub spelled : Spells roms ops (told (lines text))
   pub count : length ops ≤ 511
 
--- line n isn't passed over, and the lines before it are without fault
-pub record Reaches (text : List ℕ) (n : ℕ) (before : List (List ℕ)) (line : List ℕ) : Type 0 where
-  pub short : IsShort text
-  pub after : List (List ℕ)
-  pub cut : lines text ≡ before ++ line ∷ after
-  pub number : n ≡ length before + 1
+-- lines that spell ROM lines and no more operations than a draft holds
+pub record IsFine (ls : List (List ℕ)) : Type 0 where
   pub roms : List RomLine
   pub ops : List OpKind
-  pub fine : Spells roms ops (told before)
+  pub spelled : Spells roms ops ls
   pub count : length ops ≤ 511
-  pub is_told : is_passed line ≡ false
 
 -- line n is the first with which the lines spell nothing
 pub record MeetsSyntax (text : List ℕ) (n : ℕ) : Type 0 where
   pub before : List (List ℕ)
   pub line : List ℕ
-  pub reaches : Reaches text n before line
+  pub reaches : Reaches IsFine text n before line
   pub wrong : (roms : List RomLine) (ops : List OpKind) → ¬ Spells roms ops (told before ++ line ∷ [])
 
 -- line n is that of operation number 511, which no draft can hold
 pub record MeetsFull (text : List ℕ) (n : ℕ) : Type 0 where
   pub before : List (List ℕ)
   pub line : List ℕ
-  pub reaches : Reaches text n before line
+  pub reaches : Reaches IsFine text n before line
   pub roms : List RomLine
   pub ops : List OpKind
   pub right : Spells roms ops (told before ++ line ∷ [])
@@ -60,6 +52,4 @@ abbrev pub HasFault : List ℕ → TextFault → Type 0
 HasFault text TooLong = 1048576 < length text
 HasFault text (Syntax n) = MeetsSyntax text n
 HasFault text (Full n) = MeetsFull text n
-HasFault text Odd = ⊥
-HasFault text (Cut place) = ⊥
-HasFault text RomSize = ⊥
+HasFault text _ = ⊥

@@ -7,6 +7,7 @@ pub mod Outcomes
 pub mod Texts
 pub mod OpLines
 pub mod RomTexts
+pub mod FirstFaults
 pub mod DraftTexts
 pub mod Verdicts
 pub mod Checks
@@ -15,3 +16,9 @@ pub mod TextLines
 pub mod RomWords
 pub mod DraftReading
 pub mod TextLaws
+pub mod TraceTexts
+pub mod Shows
+pub mod EventLines
+pub mod TraceReading
+pub mod TraceGives
+pub mod TraceLaws

@@ -9,6 +9,10 @@ use Rattle.dvg_code.specs.Words.{words_of}
 use Rattle.dvg_code.specs.Spelling.{canon}
 use Rattle.dvg_code.specs.Cutting.{Placed}
 
+-- a number of 8 bits as two hexadecimal digits in upper case
+abbrev pub hex_2 : ℕ → List ℕ
+hex_2 n = digit_glyph true (n / 16 % 16) ∷ digit_glyph true (n % 16) ∷ []
+
 -- a number below 4096 as three hexadecimal digits in upper case
 abbrev pub hex_3 : ℕ → List ℕ
 hex_3 n = digit_glyph true (n / 256 % 16) ∷ digit_glyph true (n / 16 % 16) ∷ digit_glyph true (n % 16) ∷ []

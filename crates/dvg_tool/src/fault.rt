@@ -26,6 +26,12 @@ pub enum TextFault {
     /// The line of this number, counted from 1, spells operation number 511 of a draft, which can't hold it.
     #[error("full at line {0}")]
     Full(usize),
+    /// The line of this number, counted from 1, brings the number of a trace's events above 65,536.
+    #[error("too many events at line {0}")]
+    Many(usize),
+    /// The text ends inside an offer.
+    #[error("offer without end")]
+    Unended,
 }
 
 /// Why an engine stopped. Its text is what `dvg` prints of it (this project's own choice).

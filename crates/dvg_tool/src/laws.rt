@@ -1,5 +1,6 @@
 //! Laws of the texts of drafts. Each is the contract of a function that does nothing, but one, which
 //! reads the text.
+ghost use Rattle.dvg_tool.specs.TraceLaws.{NoFaultBesideTrace, OneTraceFault, OneTraceMeaning};
 ghost use Rattle.dvg_tool.specs.TextLaws.{IsRead, NoFaultBeside, OneMeaning, OneRom, OneTextFault, OneVerdict};
 
 use crate::draft_text::read_draft;
@@ -35,4 +36,19 @@ pub fn no_fault_beside()
 /// Of a text one verdict is given at most.
 pub fn one_verdict()
     ensures { OneVerdict }
+{}
+
+/// The text of a trace denotes one list of events, and one list of ROM lines, at most.
+pub fn one_trace_meaning()
+    ensures { OneTraceMeaning }
+{}
+
+/// The text of a trace has one fault at most.
+pub fn one_trace_fault()
+    ensures { OneTraceFault }
+{}
+
+/// The text of a trace that denotes events has no fault.
+pub fn no_fault_beside_trace()
+    ensures { NoFaultBesideTrace }
 {}

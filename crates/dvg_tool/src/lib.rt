@@ -8,6 +8,7 @@
 mod checking;
 mod command;
 mod draft_text;
+mod event_line;
 mod fault;
 pub mod laws;
 mod line;
@@ -21,6 +22,7 @@ mod rom_line;
 mod roms;
 mod task;
 mod text_lines;
+mod trace_text;
 mod transfer;
 mod verdict;
 mod watched;

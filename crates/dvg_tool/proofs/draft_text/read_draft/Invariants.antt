@@ -1,6 +1,6 @@
 use Rattle.std.proofs.Common.{◌≤◌, length}
 use Rattle.dvg_mem.specs.Memory.{IsImage}
-use Rattle.dvg_tool.specs.DraftTexts.{IsShort}
+use Rattle.dvg_tool.specs.FirstFaults.{IsShort}
 use Rattle.dvg_tool.specs.TextLines.{lines_left}
 use Rattle.dvg_tool.proofs.ReadTo.{ReadTo}
 use Rattle.dvg_tool.proofs.draft_text.read_draft.Given as goal

@@ -1,0 +1,48 @@
+use Rattle.std.proofs.Common.{◌≡◌, Some, List, codes, length, map, sym, ap, ◌∙◌, vec_len, rules}
+use Rattle.std.proofs.lemmas.List.{length-map}
+use Rattle.dvg_world.specs.Events.{Happening, happening_of}
+use Rattle.dvg_tool.specs.declared.trace_text.Reading.{Reading}
+use Rattle.dvg_tool.specs.EventLines.{happenings}
+use Rattle.dvg_tool.specs.Texts.{parts}
+use Rattle.dvg_tool.specs.TraceTexts.{EventParts}
+use Rattle.dvg_tool.specs.TraceGives.{events_of}
+use Rattle.dvg_tool.proofs.TraceMoves.{events_fit, events_stop, events_taken, held_on, none_of, not_none, offer_taken, outside_stops, rom_taken}
+use Rattle.dvg_tool.proofs.trace_text.Reading.take_outside.Goals as goal
+
+pub returns-then-eq-clause-taken : goal.returns-then-eq-clause-taken
+returns-then-eq-clause-taken g c =
+    let named : c.args.line.now ≡ codes "offer" = search rules in
+    offer_taken (events_of c.args.self.now) c.args.self.now.opened (Some c.new.result) c.args.line.now c.args.self.now.rom c.requires.outside named (ap Some c.new.ensures)
+
+pub returns-in-Some-clause-taken : goal.returns-in-Some-clause-taken
+returns-in-Some-clause-taken g c =
+    events_taken c.add_events.result (events_of c.args.self.now) (happenings c.in-Some.told) (map happening_of c.add_events.new.events.items) c.args.self.now.opened c.args.line.now c.args.self.now.rom c.requires.outside c.in-Some.ensures.found c.add_events.ensures.added
+
+pub returns-in-Some-clause-held : goal.returns-in-Some-clause-held
+returns-in-Some-clause-held g c =
+    let new : Reading g.row.A.Denot = record { alloc = c.args.self.now.alloc; rom = c.args.self.now.rom; events = c.add_events.new.events; opened = c.args.self.now.opened } in
+    let size : vec_len new.events ≡ length (events_of new) = new.events.ok.0 ∙ sym (length-map new.events.items happening_of) in
+    held_on c.add_events.result new
+    (events_fit c.add_events.result (events_of c.args.self.now) (happenings c.in-Some.told) (events_of new) (vec_len new.events) c.args.self.now.opened (parts c.args.line.now) c.in-Some.ensures.found c.add_events.ensures.added size c.add_events.ensures.room c.requires.held.fits)
+    c.requires.held.image
+
+pub returns-in-Some-clause-fault : goal.returns-in-Some-clause-fault
+returns-in-Some-clause-fault g c = events_stop c.add_events.result (events_of c.args.self.now) (happenings c.in-Some.told) c.args.self.now.opened c.args.line.now c.requires.outside c.in-Some.ensures.found c.add_events.ensures.fault
+
+pub returns-then-not-is_empty-clause-fault : goal.returns-then-not-is_empty-clause-fault
+returns-then-not-is_empty-clause-fault g c =
+    let other : c.args.line.now ≡ codes "offer" → ⊥ = search rules in
+    let no_events : (more : List Happening) → EventParts more (parts c.args.line.now) → ⊥ = λ more p. let answered = c.in_default.ensures.only more p in search rules in
+    outside_stops (events_of c.args.self.now) c.args.self.now.opened c.args.line.now c.requires.outside other no_events
+    (λ none given h. not_none happening_of c.args.self.now.events.items _ c.is_empty.result c.is_empty.ensures c.args.self.now.events.ok.0 c.if-not-is_empty.true none)
+
+pub returns-in_default-read_rom_line-clause-fault : goal.returns-in_default-read_rom_line-clause-fault
+returns-in_default-read_rom_line-clause-fault g c =
+    let other : c.args.line.now ≡ codes "offer" → ⊥ = search rules in
+    let no_events : (more : List Happening) → EventParts more (parts c.args.line.now) → ⊥ = λ more p. let answered = c.in_default.ensures.only more p in search rules in
+    outside_stops (events_of c.args.self.now) c.args.self.now.opened c.args.line.now c.requires.outside other no_events (λ none given h. let answered = c.in_default-read_rom_line.ensures.only given h in absurd (cc))
+
+pub returns-clause-taken : goal.returns-clause-taken
+returns-clause-taken g c =
+    let none = none_of happening_of c.args.self.now.events.items _ c.is_empty.result c.is_empty.ensures c.args.self.now.events.ok.0 c.if-not-is_empty.false in
+    rom_taken (events_of c.args.self.now) c.args.self.now.opened c.args.line.now c.args.self.now.rom c.put.new.rom c.in-Some-read_rom_line.given none c.requires.outside c.in-Some-read_rom_line.ensures.found c.put.ensures.behind
