@@ -55,8 +55,8 @@ pub counts_pushed : (F G : List OpKind) (table now : List ℕ) (words more : ℕ
 counts_pushed F G table now words more op kind counted valid low same is pushed more_is = record {
   draft = rw is (record { count = omega (arith, length-append F (op ∷ [])); ops = All-push IsOp F op counted.draft.ops (subst IsOp same valid) });
   counts =
-    let all : words ≡ 0 + size F = let same = counted.all in omega arith in
-    pushed ∙ ap (λ l. l ++ words ∷ []) counted.counts ∙ ap (λ n. counts_from 0 F ++ n ∷ []) all ∙ sym (counts-more 0 F op) ∙ ap (counts_from 0) (sym is);
+      let all : words ≡ 0 + size F = let same = counted.all in omega arith in
+      pushed ∙ ap (λ l. l ++ words ∷ []) counted.counts ∙ ap (λ n. counts_from 0 F ++ n ∷ []) all ∙ sym (counts-more 0 F op) ∙ ap (counts_from 0) (sym is);
   all = ap (λ n. n + more) counted.all ∙ ap (λ n. size F + n) (more_is ∙ ap op_words same) ∙ sym (size-more F op) ∙ ap size (sym is);
 }
 
