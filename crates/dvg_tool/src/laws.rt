@@ -1,4 +1,4 @@
-//! Laws of the texts of drafts. Each is the contract of a function that does nothing, but one, which
+//! Laws of the texts of drafts and of traces. Each is the contract of a function that does nothing, but one, which
 //! reads the text.
 ghost use Rattle.dvg_tool.specs.TraceLaws.{NoFaultBesideTrace, OneTraceFault, OneTraceMeaning};
 ghost use Rattle.dvg_tool.specs.TextLaws.{IsRead, NoFaultBeside, OneMeaning, OneRom, OneTextFault, OneVerdict};

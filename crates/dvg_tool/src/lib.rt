@@ -1,5 +1,5 @@
 //! The engines of the program `dvg`, over any watched reader and writer, and what the program's words
-//! ask for.
+//! ask for; and the reader of traces, which are texts of events for `dvg_world::run`.
 //!
 //! An engine reads its whole input before it writes, and takes no memory after its first write: its
 //! lines are made in an array of fixed size (that what writes is handed no allocator is seen by reading). It stops at the first failure of its reader or writer.
@@ -36,5 +36,6 @@ pub use outcome::{Done, finish, status};
 pub use performing::perform;
 pub use roms::rom_text;
 pub use task::Job;
+pub use trace_text::{MOST_EVENTS, TraceText, read_trace};
 pub use verdict::Verdict;
 pub use watched::{DeviceFailed, Watched};

@@ -1,7 +1,6 @@
 //! The world: both ends of the vector RAM, one event at a time.
-ghost use Rattle.std.specs.Prelude.{◌≡◌, ℕ, Option, List, [], ◌∷◌, IfOk, OnErr};
+ghost use Rattle.std.specs.Prelude.{◌≡◌, ℕ, List, [], ◌∷◌, IfOk, OnErr};
 ghost use Rattle.dvg_driver.specs.Stands.{IsInRam};
-ghost use Rattle.dvg_world.specs.Entries as shown;
 ghost use Rattle.dvg_world.specs.Entries.{shown_of};
 ghost use Rattle.dvg_world.specs.Events.{Offer, Redraw, Tick, Strobe, Fetch, ResetGen, ResetCpu, ResetAll, happening_of};
 ghost use Rattle.dvg_world.specs.Headline.{DrewPublished, IsNoOlder, KeepsTime, NoFault, SparesDrawn};
