@@ -21,3 +21,4 @@ pub mod ReadTrace
 pub mod LineEnds
 pub mod GivenWords
 pub mod ReadTo
+pub mod Spaced

@@ -14,6 +14,7 @@ pub mod laws;
 mod line;
 mod line_parts;
 mod listing;
+mod log_line;
 mod number;
 mod op_line;
 mod outcome;

@@ -1,7 +1,7 @@
 //! Lines of output, made without taking memory.
 ghost use Rattle.std.specs.Prelude.{◌≡◌, ◌≤◌, ◌<◌, ◌+◌, ◌++◌, ◌∷◌, [], List, ℕ, length, codes, decimal, true};
 ghost use Rattle.std.specs.Fmt.{digit_glyph};
-ghost use Rattle.dvg_tool.specs.Lines.{hex_3, hex_4, instr_parts, line_text, rom_line, spaced, vector_parts};
+ghost use Rattle.dvg_tool.specs.Lines.{hex_2, hex_3, hex_4, instr_parts, line_text, rom_line, spaced, vector_parts};
 ghost use Rattle.dvg_tool.specs.Verdicts.{fault_parts, place_parts, verdict_line};
 
 use crate::verdict::Verdict;
@@ -43,8 +43,25 @@ impl Line {
         self.bytes.as_slice()
     }
 
+    // Becomes a line with no bytes.
+    pub(crate) fn clear(&mut self)
+        ensures { self.new ≡ [] }
+    {
+        self.bytes.clear();
+    }
+
+    // Becomes a number in decimal.
+    pub(crate) fn become_number<I: Integer>(&mut self, n: I)
+        requires { I.MAX_STR_LEN ≤ 64 }
+        ensures text { self.new ≡ I.text n }
+        ensures grew { length self.new ≤ I.MAX_STR_LEN }
+    {
+        self.bytes.clear();
+        self.text(Buffer::new().format(n).as_bytes());
+    }
+
     // Appends a text.
-    fn text(&mut self, text: &[u8])
+    pub(crate) fn text(&mut self, text: &[u8])
         requires { length self.old + length text.now ≤ 64 }
         ensures text { self.new ≡ self.old ++ text.now }
         ensures grew { length self.new ≡ length self.old + length text.now }
@@ -53,7 +70,7 @@ impl Line {
     }
 
     // Appends a space and a part of the line.
-    fn part(&mut self, part: &[u8])
+    pub(crate) fn part(&mut self, part: &[u8])
         requires { length self.old + length part.now < 64 }
         ensures text { self.new ≡ self.old ++ spaced (part.now ∷ []) }
         ensures grew { length self.new ≡ length self.old + length part.now + 1 }
@@ -63,7 +80,7 @@ impl Line {
     }
 
     // Appends a space and a number in decimal.
-    fn number<I: Integer>(&mut self, n: I)
+    pub(crate) fn number<I: Integer>(&mut self, n: I)
         requires { length self.old + I.MAX_STR_LEN < 64 }
         ensures text { self.new ≡ self.old ++ spaced (I.text n ∷ []) }
         ensures grew { length self.new ≤ length self.old + I.MAX_STR_LEN + 1 }
@@ -81,8 +98,20 @@ impl Line {
         self.bytes.push(b"0123456789ABCDEF"[digit]);
     }
 
+    // Appends a space and two hexadecimal digits.
+    pub(crate) fn hex_2(&mut self, byte: u8)
+        requires { length self.old + 3 ≤ 64 }
+        ensures text { self.new ≡ self.old ++ spaced (hex_2 byte ∷ []) }
+        ensures grew { length self.new ≡ length self.old + 3 }
+    {
+        let n = usize::from(byte);
+        self.text(b" ");
+        self.hex_digit(n / 16);
+        self.hex_digit(n % 16);
+    }
+
     // Appends three hexadecimal digits.
-    fn hex_3(&mut self, n: usize)
+    pub(crate) fn hex_3(&mut self, n: usize)
         requires { length self.old + 3 ≤ 64 }
         ensures text { self.new ≡ self.old ++ hex_3 n }
         ensures grew { length self.new ≡ length self.old + 3 }
@@ -93,7 +122,7 @@ impl Line {
     }
 
     // Appends a space and four hexadecimal digits.
-    fn hex_4(&mut self, word: u16)
+    pub(crate) fn hex_4(&mut self, word: u16)
         requires { length self.old + 5 ≤ 64 }
         ensures text { self.new ≡ self.old ++ spaced (hex_4 word ∷ []) }
         ensures grew { length self.new ≡ length self.old + 5 }
@@ -130,7 +159,7 @@ impl Line {
     }
 
     // Appends the name of an instruction and a word address.
-    fn with_address(&mut self, name: &[u8], address: u16)
+    pub(crate) fn with_address(&mut self, name: &[u8], address: u16)
         requires { length self.old + length name.now + 5 ≤ 64 }
         ensures text { self.new ≡ self.old ++ spaced (name.now ∷ hex_3 address ∷ []) }
         ensures grew { length self.new ≡ length self.old + length name.now + 5 }
@@ -195,7 +224,7 @@ impl Line {
     }
 
     // Appends the parts of a fault's text.
-    fn fault(&mut self, fault: FrameFault)
+    pub(crate) fn fault(&mut self, fault: FrameFault)
         requires { length self.old + 22 ≤ 64 }
         ensures text { self.new ≡ self.old ++ spaced (fault_parts fault) }
         ensures grew { length self.new ≤ length self.old + 22 }

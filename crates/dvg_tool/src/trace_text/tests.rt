@@ -18,7 +18,7 @@ enum Seen {
 }
 
 // What the tests see of an event.
-fn seen(event: &Event) -> Seen {
+fn seen_of(event: &Event) -> Seen {
     match event {
         Event::Offer(draft) => Seen::Offer(draft.len()),
         Event::Redraw => Seen::Bare(BareEvent::Redraw),
@@ -39,7 +39,7 @@ fn events(alloc: Global, text: &[u8]) -> Result<Vec<Seen>, Fail> {
     let told = read_trace(alloc, text).map_err(|_| "not a trace")?;
     let mut all = Vec::new(alloc);
     for event in told.events.as_slice() {
-        all.push(seen(event))?;
+        all.push(seen_of(event))?;
     }
     Ok(all)
 }
