@@ -25,6 +25,7 @@ impl Random {
     /// A number below `limit`.
     fn below(&mut self, limit: u64) -> u64
         requires { 0 < limit }
+        ensures { result < limit }
     {
         self.state = self
             .state
@@ -38,7 +39,7 @@ impl Random {
 #[derive(Clone, Copy)]
 pub struct Shown {
     pub pictures: u32,
-    pub strokes: u32,
+    pub strokes: u64,
     pub writes: u32,
 }
 
@@ -49,7 +50,7 @@ impl Shown {
         match entry {
             Entry::Done(_, _, strokes) => {
                 shown.pictures = shown.pictures.wrapping_add(1);
-                shown.strokes = shown.strokes.wrapping_add(strokes.len() as u32);
+                shown.strokes = shown.strokes.wrapping_add(strokes.len() as u64);
             }
             Entry::Acted(Action::Wrote(_, _)) => shown.writes = shown.writes.wrapping_add(1),
             _ => {}
