@@ -22,3 +22,7 @@ pub mod LineEnds
 pub mod GivenWords
 pub mod ReadTo
 pub mod Spaced
+pub mod Went
+pub mod Shown
+pub mod Played
+pub mod TracesPlayed

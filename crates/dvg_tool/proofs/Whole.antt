@@ -20,7 +20,7 @@ use Rattle.dvg_tool.specs.declared.fault.ToolFault.TheVariants.{Text, Reader, Wr
 abbrev pub Read : ℕ → Option (List ℕ) → List ℕ → Type 0
 Read most known read = IfSome known (λ input. read ≡ take (most + 1) input)
 
-whole : (most : ℕ) (read input : List ℕ) → read ≡ take (most + 1) input → length read ≤ most → read ≡ input
+pub whole : (most : ℕ) (read input : List ℕ) → read ≡ take (most + 1) input → length read ≤ most → read ≡ input
 whole most read input e h =
     let short : length input ≤ most + 1 = omega (arith, ap length e, length-take (most + 1) input) in
     e ∙ take_all (most + 1) input short

@@ -58,10 +58,14 @@ abbrev pub picture_line : ℕ → Shown → List ℕ
 picture_line number (Done address word drew) = codes "picture" ++ spaced (decimal number ∷ decimal (length drew) ∷ []) ++ 10 ∷ []
 picture_line number _ = []
 
--- what is shown of one entry: with `all` of each, and else of finished runs alone
+-- the first line that is shown of an entry: with `all` of each, and else of finished runs alone
+abbrev pub head_line : Bool → ℕ → Shown → List ℕ
+head_line true number entry = entry_line number entry
+head_line false number entry = picture_line number entry
+
+-- what is shown of one entry
 abbrev pub shown_entry : Bool → ℕ → Shown → List ℕ
-shown_entry true number entry = entry_line number entry ++ strokes_of entry
-shown_entry false number entry = picture_line number entry ++ strokes_of entry
+shown_entry all number entry = head_line all number entry ++ strokes_of entry
 
 -- what is shown of entries in order, the first of which is that of this event's number
 abbrev pub shown : Bool → ℕ → List Shown → List ℕ

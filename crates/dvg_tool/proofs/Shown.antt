@@ -1,0 +1,36 @@
+-- What is shown of entries, one after the other.
+use Rattle.std.proofs.Common.{◌≡◌, ℕ, ◌+◌, ◌<◌, List, [], ◌∷◌, ◌++◌, map, length, drop, get_or, Bool, refl, sym, ap, ◌∙◌, Vec, flat_map, add-one}
+use Rattle.std.proofs.lemmas.List.{drop_more}
+use Rattle.dvg_gen.specs.declared.stroke.Stroke.{Stroke}
+use Rattle.dvg_world.specs.declared.entry.Entry.{Entry}
+use Rattle.dvg_world.specs.declared.entry.Entry.TheVariants.{Done}
+use Rattle.dvg_world.specs.Entries.{Shown, shown_of}
+use Rattle.dvg_tool.specs.Shows.{picture_line, shown, shown_entry, stroke_line, strokes_of}
+
+-- the entry isn't one of a finished run
+abbrev pub IsNoPicture : {A : Type 0} → Entry A → Type 0
+IsNoPicture {A = A} entry = (address word : ℕ) (strokes : Vec Stroke A) → entry ≡ Done address word strokes → ⊥
+
+pub no_line : {A : Type 0} (number : ℕ) (entry : Entry A) → IsNoPicture entry → [] ≡ picture_line number (shown_of entry)
+no_line number (Done address word strokes) none = absurd (none address word strokes refl)
+no_line number _ none = refl
+
+pub no_strokes : {A : Type 0} (entry : Entry A) → IsNoPicture entry → [] ≡ strokes_of (shown_of entry)
+no_strokes (Done address word strokes) none = absurd (none address word strokes refl)
+no_strokes _ none = refl
+
+-- the stroke that stands for one behind the end of a list
+abbrev pub no_stroke : Stroke
+no_stroke = record { x0 = 0; y0 = 0; x1 = 0; y1 = 0; z = 0 }
+
+-- the next stroke is that at this index
+pub next_stroke : (strokes : List Stroke) (i : ℕ) → i < length strokes
+    → flat_map stroke_line (drop i strokes) ≡ stroke_line (get_or strokes i no_stroke) ++ flat_map stroke_line (drop (i + 1) strokes)
+next_stroke strokes i low = ap (flat_map stroke_line) (drop_more strokes i no_stroke low)
+
+-- the next entry is that at this index
+pub next_entry : {A : Type 0} (all : Bool) (entries : List (Entry A)) (i : ℕ) (entry : Entry A) → i < length entries → entry ≡ get_or entries i entry
+    → shown all i (map shown_of (drop i entries)) ≡ shown_entry all i (shown_of entry) ++ shown all (i + 1) (map shown_of (drop (i + 1) entries))
+next_entry all entries i entry low is =
+    ap (λ l. shown all i (map shown_of l)) (drop_more entries i entry low ∙ ap (λ e. e ∷ drop (i + 1) entries) (sym is))
+    ∙ ap (λ n. shown_entry all i (shown_of entry) ++ shown all n (map shown_of (drop (i + 1) entries))) (sym (add-one i))

@@ -1,0 +1,53 @@
+-- How far a text has gone out.
+use Rattle.std.proofs.Common.{◌≡◌, ℕ, List, [], ◌++◌, Option, OnErr, Result, Ok, Err, refl, sym, ap, ◌∙◌, subst, append_assoc, append-nil}
+use Rattle.std.specs.Io.KnownBytes.{Appends}
+use Rattle.dvg_tool.specs.Watching.{BeginsToWrite}
+use Rattle.dvg_tool.proofs.Known.{Appends-nil, Appends-trans}
+
+-- the text went out but for this rest
+pub record Went (text rest : List ℕ) (old now : Option (List ℕ)) : Type 0 where
+  pub done : List ℕ
+  pub parts : text ≡ done ++ rest
+  pub wrote : Appends old now done
+
+pub nothing : (text : List ℕ) (known : Option (List ℕ)) → Went text text known known
+nothing text known = record { done = []; parts = refl; wrote = Appends-nil known }
+
+-- a piece more
+pub piece_more : {text rest : List ℕ} {old now new : Option (List ℕ)} (piece later : List ℕ) → Went text rest old now → rest ≡ piece ++ later → Appends now new piece → Went text later old new
+piece_more {old = old} {now = now} {new = new} piece later went is wrote = record {
+  done = went.done ++ piece;
+  parts = went.parts ∙ ap (λ l. went.done ++ l) is ∙ sym (append_assoc went.done piece later);
+  wrote = Appends-trans old now new _ _ went.wrote wrote;
+}
+
+-- a beginning of a piece more
+pub piece_begun : {text rest : List ℕ} {old now new : Option (List ℕ)} (piece later : List ℕ) → Went text rest old now → rest ≡ piece ++ later → BeginsToWrite piece now new → BeginsToWrite text old new
+piece_begun {old = old} {now = now} {new = new} piece later went is begun = record {
+  front = went.done ++ begun.front;
+  rest = begun.rest ++ later;
+  parts = went.parts ∙ ap (λ l. went.done ++ l) (is ∙ ap (λ l. l ++ later) begun.parts ∙ append_assoc begun.front begun.rest later)
+      ∙ sym (append_assoc went.done begun.front (begun.rest ++ later));
+  wrote = Appends-trans old now new _ _ went.wrote begun.wrote;
+}
+
+-- nothing is left
+pub all_of_it : {text rest : List ℕ} {old now : Option (List ℕ)} → Went text rest old now → rest ≡ [] → Appends old now text
+all_of_it {old = old} {now = now} went none = subst (Appends old now) (sym (went.parts ∙ ap (λ l. went.done ++ l) none ∙ append-nil went.done)) went.wrote
+
+-- one text behind another, of which both went out, or a beginning of the second
+pub both : (first second : List ℕ) (old now new : Option (List ℕ)) → Appends old now first → Appends now new second → Appends old new (first ++ second)
+both first second old now new one other = Appends-trans old now new first second one other
+
+pub first_begun : {first : List ℕ} {old new : Option (List ℕ)} (second : List ℕ) → BeginsToWrite first old new → BeginsToWrite (first ++ second) old new
+first_begun {first = first} {old = old} second begun = piece_begun first second (nothing (first ++ second) old) refl begun
+
+pub second_begun : (first second : List ℕ) {old now new : Option (List ℕ)} → Appends old now first → BeginsToWrite second now new → BeginsToWrite (first ++ second) old new
+second_begun first second {old = old} wrote begun =
+    piece_begun second [] (piece_more first second (nothing (first ++ second) old) refl wrote) (sym (append-nil second)) begun
+
+-- or only what an error says
+pub or_second_begun : {V E : Type 0} (first second : List ℕ) (old now new : Option (List ℕ)) (answer : Result V E) → Appends old now first → OnErr answer (BeginsToWrite second now new)
+    → OnErr answer (BeginsToWrite (first ++ second) old new)
+or_second_begun first second old now new (Ok done) wrote begun = tt
+or_second_begun first second old now new (Err fault) wrote begun = second_begun first second wrote begun

@@ -1,0 +1,71 @@
+-- What `play` answers and writes.
+use Rattle.std.specs.Prelude.{◌≡◌, ℕ, ◌⊎◌, List, [], ◌∷◌, ◌++◌, map, replicate, reverse, Bool, Option, Result, MatchResult}
+use Rattle.std.specs.Io.KnownBytes.{Appends}
+use Rattle.dvg_world.specs.Entries.{Shown}
+use Rattle.dvg_world.specs.Events.{Happening}
+use Rattle.dvg_world.specs.Legal.{IsLegal}
+use Rattle.dvg_world.specs.Log.{Line, Log, ◌⟼◌}
+use Rattle.dvg_world.specs.Wanting.{TakesMemory}
+use Rattle.dvg_tool.specs.declared.fault.ToolFault.{ToolFault}
+use Rattle.dvg_tool.specs.declared.fault.ToolFault.TheVariants.{Text, Reader, Writer, Memory}
+use Rattle.dvg_tool.specs.Outcomes.{StopsBeforeWriting}
+use Rattle.dvg_tool.specs.Shows.{shown}
+use Rattle.dvg_tool.specs.TraceGives.{GivesTrace}
+use Rattle.dvg_tool.specs.TraceTexts.{HasTraceFault}
+use Rattle.dvg_tool.specs.Watching.{BeginsToWrite}
+
+-- the bytes of a memory of zeros
+abbrev pub zeros : List ℕ
+zeros = replicate 2048 0
+
+-- the event of a line
+abbrev pub event_of : Line → Happening
+event_of (event ⟼ entry) = event
+
+-- the entry of a line
+abbrev pub entry_of : Line → Shown
+entry_of (event ⟼ entry) = entry
+
+-- what is shown of a log: of its entries, the oldest first
+abbrev pub log_text : Bool → Log → List ℕ
+log_text all log = shown all 0 (map entry_of (reverse log))
+
+-- no event comes later, or memory was refused: before the first event, or at one that takes memory
+abbrev pub IsEnd : (R : List ℕ) → Log → (later : List Happening) → Type 0
+IsEnd R log [] = Unit {0}
+IsEnd R [] later = Unit {0}
+IsEnd R log (event ∷ later) = TakesMemory R zeros log event
+
+-- the text denotes the events of this legal log, and then these, over the ROM that it denotes and from a memory of zeros
+pub record IsPlayed (text : List ℕ) (log : Log) (later : List Happening) : Type 0 where
+  pub events : List Happening
+  pub R : List ℕ
+  pub gives : GivesTrace text events R
+  pub legal : IsLegal R zeros log
+  pub in_order : events ≡ map event_of (reverse log) ++ later
+  pub ended : IsEnd R log later
+
+-- this holds of what is shown of a log that was played, up to the last event or to where memory was refused
+pub record ShowsPart (all : Bool) (text : List ℕ) (Holds : List ℕ → Type 0) : Type 0 where
+  pub log : Log
+  pub later : List Happening
+  pub played : IsPlayed text log later
+  pub holds : Holds (log_text all log)
+
+-- the faults that come before the first write; want of memory may come after it
+abbrev pub StopsBeforeShowing : ToolFault → Type 0
+StopsBeforeShowing Memory = ⊥
+StopsBeforeShowing fault = StopsBeforeWriting fault
+
+-- when each fault comes of an input, and what went out (that nothing went out at the first two is a clause of its own)
+abbrev pub StopsPlay : Bool → ToolFault → (input : List ℕ) → Option (List ℕ) → Option (List ℕ) → Type 0
+StopsPlay all (Text fault) input old new = HasTraceFault input fault
+StopsPlay all Reader input old new = Unit {0}
+StopsPlay all Memory input old new = Appends old new [] ⊎ ShowsPart all input (Appends old new)
+StopsPlay all Writer input old new = ShowsPart all input (λ text. BeginsToWrite text old new)
+
+-- what `play` answers of an input, and what went out
+abbrev pub Plays : {T : Type 0} → Bool → Result T ToolFault → (input : List ℕ) → Option (List ℕ) → Option (List ℕ) → Type 0
+Plays all answer input old new = MatchResult answer
+    (λ _. (log : Log) × IsPlayed input log [] × Appends old new (log_text all log))
+    (λ fault. StopsPlay all fault input old new)

@@ -1,0 +1,109 @@
+//! What is written of a log's entries.
+ghost use Rattle.std.specs.Prelude.{◌≡◌, ◌↔◌, ◌≤◌, flat_map, map, IsErrOf, OnErr, OnOk};
+ghost use Rattle.std.specs.Io.KnownBytes.{Appends};
+ghost use Rattle.dvg_world.specs.Entries.{shown_of};
+ghost use Rattle.dvg_tool.specs.Roms.{WritesText};
+ghost use Rattle.dvg_tool.specs.Shows.{head_line, shown, shown_entry, stroke_line, strokes_of};
+ghost use Rattle.dvg_tool.specs.Watching.{BeginsToWrite, CountsErrors, device_of, failures_of};
+
+use crate::fault::ToolFault;
+use crate::line::Line;
+use crate::transfer::write_whole;
+use crate::watched::{DeviceFailed, Watched};
+use dvg_gen::Stroke;
+use dvg_world::Entry;
+use std::alloc::Allocator;
+use std::io::Write;
+
+// Writes the line of each stroke. The lines are made in `line`.
+fn write_strokes<W: Write>(
+    line: &mut Line,
+    strokes: &[Stroke],
+    writer: &mut Watched<W>,
+) -> Result<(), DeviceFailed>
+    ensures ok { OnOk result (Appends (W.contents (device_of writer.old)) (W.contents (device_of writer.new)) (flat_map stroke_line strokes.now)) }
+    ensures err { OnErr result (BeginsToWrite (flat_map stroke_line strokes.now) (W.contents (device_of writer.old)) (W.contents (device_of writer.new))) }
+    ensures counts { CountsErrors result (failures_of writer.old) (failures_of writer.new) }
+{
+    for stroke in strokes {
+        line.become_stroke(*stroke);
+        write_whole(writer, line.as_bytes())?;
+    }
+    Ok(())
+}
+
+// Writes the line of an entry, or with its pictures alone that of a picture, if it is one. The line is made
+// in `line`.
+fn write_head<A: Allocator, W: Write>(
+    line: &mut Line,
+    number: usize,
+    entry: &Entry<A>,
+    all: bool,
+    writer: &mut Watched<W>,
+) -> Result<(), DeviceFailed>
+    ensures ok { OnOk result (Appends (W.contents (device_of writer.old)) (W.contents (device_of writer.new)) (head_line all number (shown_of entry.now))) }
+    ensures err { OnErr result (BeginsToWrite (head_line all number (shown_of entry.now)) (W.contents (device_of writer.old)) (W.contents (device_of writer.new))) }
+    ensures counts { CountsErrors result (failures_of writer.old) (failures_of writer.new) }
+{
+    if all {
+        line.become_entry(number, entry);
+    } else if let Entry::Done(_, _, strokes) = entry {
+        line.become_picture(number, strokes.len());
+    } else {
+        return Ok(());
+    }
+    write_whole(writer, line.as_bytes())
+}
+
+// Writes the strokes of a finished run; nothing for another entry. The lines are made in `line`.
+fn write_drawn<A: Allocator, W: Write>(
+    line: &mut Line,
+    entry: &Entry<A>,
+    writer: &mut Watched<W>,
+) -> Result<(), DeviceFailed>
+    ensures ok { OnOk result (Appends (W.contents (device_of writer.old)) (W.contents (device_of writer.new)) (strokes_of (shown_of entry.now))) }
+    ensures err { OnErr result (BeginsToWrite (strokes_of (shown_of entry.now)) (W.contents (device_of writer.old)) (W.contents (device_of writer.new))) }
+    ensures counts { CountsErrors result (failures_of writer.old) (failures_of writer.new) }
+{
+    match entry {
+        Entry::Done(_, _, strokes) => write_strokes(line, strokes.as_slice(), writer),
+        _ => Ok(()),
+    }
+}
+
+// Writes what is shown of one entry, of the event of this number. The lines are made in `line`.
+fn write_entry<A: Allocator, W: Write>(
+    line: &mut Line,
+    number: usize,
+    entry: &Entry<A>,
+    all: bool,
+    writer: &mut Watched<W>,
+) -> Result<(), DeviceFailed>
+    ensures ok { OnOk result (Appends (W.contents (device_of writer.old)) (W.contents (device_of writer.new)) (shown_entry all number (shown_of entry.now))) }
+    ensures err { OnErr result (BeginsToWrite (shown_entry all number (shown_of entry.now)) (W.contents (device_of writer.old)) (W.contents (device_of writer.new))) }
+    ensures counts { CountsErrors result (failures_of writer.old) (failures_of writer.new) }
+{
+    write_head(line, number, entry, all, writer)?;
+    write_drawn(line, entry, writer)
+}
+
+/// Writes what is shown of entries, the first of which is that of event 0: with `all` of each, and else of
+/// finished runs alone.
+pub fn write_entries<A: Allocator, W: Write>(
+    entries: &[Entry<A>],
+    all: bool,
+    writer: &mut Watched<W>,
+) -> Result<(), ToolFault>
+    requires fresh { failures_of writer.old ≡ 0 }
+    ensures writes { WritesText result (shown all 0 (map shown_of entries.now)) (W.contents (device_of writer.old)) (W.contents (device_of writer.new)) }
+    ensures writer { IsErrOf result ToolFault.Writer ↔ (failures_of writer.new ≡ 1) }
+    ensures stops { failures_of writer.new ≤ 1 }
+{
+    let mut line = Line::new();
+    for (number, entry) in entries.iter().enumerate() {
+        if write_entry(&mut line, number, entry, all, writer).is_err() {
+            return Err(ToolFault::Writer);
+        }
+    }
+    Ok(())
+}
