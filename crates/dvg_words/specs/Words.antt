@@ -1,0 +1,50 @@
+-- The words of the program.
+use Rattle.std.specs.Prelude.{◌≡◌, ◌⊎◌, ℕ, Bool, true, false, List, [], ◌∷◌, Option, Some, codes, option_map}
+use Rattle.std.specs.Option.{option_map_or}
+use Rattle.std.specs.Str.{bytes_eq}
+use Rattle.clap.specs.Words.{App, Row, Rule, Shape, Text, first_of, new_app, new_rule, with_rule}
+use Rattle.clap.specs.declared.builder.ArgAction.TheVariants.{SetTrue}
+use Rattle.clap.specs.declared.error.kind.ErrorKind.{ErrorKind}
+use Rattle.clap.specs.declared.error.kind.ErrorKind.TheVariants.{DisplayHelp, OutOfMemory}
+use Rattle.dvg_words.specs.declared.task.Job.{Job}
+use Rattle.dvg_words.specs.declared.task.Job.TheVariants.{List as list_job, Rom, Check, Play}
+
+-- a subcommand with no option of its own
+abbrev pub plain : Text → Shape
+plain name = (new_app name).top
+
+-- the option `--all`, which is given or not and takes no value
+abbrev pub all_option : Rule
+all_option = record (new_rule (codes "all")) { long = Some (codes "all"); action = Some SetTrue }
+
+-- the subcommand `play`, with its option
+abbrev pub play : Shape
+play = (with_rule (new_app (codes "play")) all_option).top
+
+-- the program's command, which requires one of four subcommands; clap adds `help` and the option `--help`
+unfoldable pub dvg_app : App
+dvg_app = record {
+  top = record (plain (codes "dvg")) { is_leaf = false; subcommand_required = true };
+  subs = plain (codes "list") ∷ plain (codes "rom") ∷ plain (codes "check") ∷ play ∷ [];
+}
+
+-- the matching sets the option
+abbrev pub sets : Text → List Row → Bool
+sets id rows = option_map_or (λ t. bytes_eq t (codes "true")) (first_of id rows) false
+
+-- the job is the subcommand that was matched, with the options that the matching sets
+abbrev pub IsJob : Job → Option (Text × List Row) → Type 0
+IsJob list_job met = option_map (λ p. p.0) met ≡ Some (codes "list")
+IsJob Rom met = option_map (λ p. p.0) met ≡ Some (codes "rom")
+IsJob Check met = option_map (λ p. p.0) met ≡ Some (codes "check")
+IsJob (Play all) met = option_map {U = Text × Bool} (λ p. (p.0, sets (codes "all") p.1)) met ≡ Some (codes "play", all)
+
+-- the name of a subcommand that is a job
+abbrev pub IsJobName : Text → Type 0
+IsJobName name = (name ≡ codes "list") ⊎ ((name ≡ codes "rom") ⊎ ((name ≡ codes "check") ⊎ (name ≡ codes "play")))
+
+-- the exit status of words that give no job, by the kind of the error
+abbrev pub status_of : ErrorKind → ℕ
+status_of DisplayHelp = 0
+status_of OutOfMemory = 2
+status_of _ = 64

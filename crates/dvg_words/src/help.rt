@@ -1,0 +1,104 @@
+//! The help texts.
+
+/// What the program's help says behind its commands.
+pub(crate) const PROGRAM: &str =
+    "Each command reads standard input and writes standard output. What it reads
+and writes, and an example, is told by `dvg help COMMAND`.
+
+Exit status:
+   0  done, or a help text that was asked for
+   1  a fault of the input, or a draft that `check` refuses
+   2  a failing read or write, or want of memory
+  64  words that ask for nothing the program can do
+
+Example:
+  $ printf 'labs 512 400 0\\nvctr 9 -100 100 7\\nhalt\\n' | dvg check
+  ok 5 words";
+
+/// The input and output of `list`.
+pub(crate) const LIST: &str =
+    "Standard input: words, the low byte of each first, at most 8,192 bytes.
+
+Standard output: a line an instruction: the place of its first word, counted in
+words from 000, its name and its numbers. Places and addresses are hexadecimal,
+other numbers decimal. A `*` ends the line of words that aren't the canonical
+spelling.
+
+Example:
+  $ printf '\\x64\\x90\\x64\\x74' | dvg list
+  000 VCTR 9 -100 100 7";
+
+/// The input and output of `rom`.
+pub(crate) const ROM: &str =
+    "Standard input: the 2,048 bytes of a ROM, the low byte of each word first.
+
+Standard output: 128 lines `rom HHH W1 .. W8`, each with a word address and the
+eight words that stand from there on, in hexadecimal. The first address is 800,
+the last BF8. `check` and `play` read such lines.
+
+Example:
+  $ head -c 2048 /dev/zero | dvg rom | tail -n 1
+  rom BF8 0000 0000 0000 0000 0000 0000 0000 0000";
+
+/// The input and output of `check`.
+pub(crate) const CHECK: &str =
+    "Standard input: a draft as text, at most 1,048,576 bytes. Lines `rom` may come
+first, as `dvg rom` writes them; a ROM word that no line gives is D000. Then a
+line an operation, at most 511, which are numbered from 0:
+
+  labs X Y S        put the beam at X Y and set the global scale
+                    (X and Y 0 to 4095, S 0 to 15)
+  vctr S DX DY Z    draw to DX DY from the beam, with local scale S and
+                    intensity Z, where 0 draws nothing
+                    (S 0 to 9, DX and DY -1023 to 1023, Z 0 to 15)
+  svec S DX DY Z    the same, in one word
+                    (S 2 to 5, DX and DY -3 to 3, Z 0 to 15)
+  call N            call operation N (0 to 65535)
+  jump N            go on at operation N (0 to 65535)
+  callrom HHH       call the ROM word at this address
+  jumprom HHH       go on at the ROM word at this address
+  return            return from the newest call
+  halt              end the picture
+
+Exactly one space parts two parts of a line, and numbers have no leading zeros.
+An empty line and a line that begins with `#` are passed over.
+
+Standard output: `ok W words` for a draft that may be drawn, else `fault N ..`
+with the number and the name of its fault.
+
+Example:
+  $ printf 'labs 512 400 0\\nvctr 9 -100 100 7\\nhalt\\n' | dvg check
+  ok 5 words";
+
+/// The input and output of `play`.
+pub(crate) const PLAY: &str =
+    "Standard input: a trace as text, at most 1,048,576 bytes. Lines `rom` may come
+first, as `dvg rom` writes them; a ROM word that no line gives is D000. Then
+events, at most 65,536, which are numbered from 0:
+
+  offer             offer a frame: this line, then the lines of its operations
+  ..                (`dvg help check` tells them), then `end`
+  end
+  redraw            ask for the published frame once more
+  tick [N]          a step of the driver
+  strobe [N]        a strobe that was sent arrives at the generator
+  fetch [N]         the generator fetches a word
+  resetgen          reset the generator
+  resetcpu          reset the driver
+  resetall HH       reset both, with a RAM of which each byte is HH
+
+N is 1 to 9999 and repeats the event. The RAM holds zeros at first. An empty line
+and a line that begins with `#` are passed over.
+
+Standard output: for each finished picture a line `picture EVENT STROKES`, with
+the event that finished it and the number of its strokes, and then a line
+`x0 y0 x1 y1 z` a stroke: from where to where, in 1/512 of a screen unit, and the
+intensity. With `--all` a line for each event and what came of it, where the lines
+of its strokes stand behind the event that finished a picture.
+
+Example:
+  $ printf 'tick 2\\noffer\\nlabs 512 400 0\\nvctr 9 -100 100 7\\nhalt\\nend\\n' >trace
+  $ printf 'tick 14\\nstrobe\\nfetch 6\\n' >>trace
+  $ dvg play <trace
+  picture 23 1
+  262144 204800 210944 256000 7";

@@ -1,0 +1,14 @@
+//! What the program can be asked to do.
+
+/// What the program is to do.
+#[derive(Clone, Copy, Debug, PartialEq, Eq)]
+pub enum Job {
+    /// List the instructions of words.
+    List,
+    /// Write a ROM as text.
+    Rom,
+    /// Check the draft of a text.
+    Check,
+    /// Play a trace, with every entry or its pictures alone.
+    Play { all: bool },
+}
