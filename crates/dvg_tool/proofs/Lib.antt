@@ -1,7 +1,6 @@
 pub mod Known
 pub mod Progress
 pub mod Whole
-pub mod Asking
 pub mod RomLines
 pub mod OneOperation
 pub mod OneMeaning

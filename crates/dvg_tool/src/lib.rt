@@ -1,12 +1,12 @@
-//! The engines of the program `dvg`, over any watched reader and writer, and what the program's words
-//! ask for; and the reader of traces, which are texts of events for `dvg_world::run`.
+//! The engines of the program `dvg`, over any watched reader and writer; the jobs that its words ask for, which
+//! are those of `dvg_words`; and the reader of traces, which are texts of events for `dvg_world::run`.
 //!
-//! An engine reads its whole input before it writes, and takes no memory after its first write: its
-//! lines are made in an array of fixed size (that what writes is handed no allocator is seen by reading). It stops at the first failure of its reader or writer.
+//! An engine reads its whole input before it writes, and takes no memory after its first write: its lines are
+//! made in an array of fixed size (that what writes is handed no allocator is seen by reading). It stops at the
+//! first failure of its reader or writer.
 #![tactic(auto)]
 
 mod checking;
-mod command;
 mod draft_text;
 mod event_line;
 mod fault;
@@ -23,7 +23,6 @@ mod playing;
 mod rom_line;
 mod roms;
 mod showing;
-mod task;
 mod text_lines;
 mod trace_text;
 mod transfer;
@@ -31,15 +30,14 @@ mod verdict;
 mod watched;
 
 pub use checking::check_text;
-pub use command::job;
 pub use draft_text::MOST_TEXT_BYTES;
+pub use dvg_words::{Job, job, words_status};
 pub use fault::{TextFault, ToolFault};
 pub use listing::{MOST_LIST_BYTES, list};
 pub use outcome::{Done, finish, status};
 pub use performing::perform;
 pub use playing::play;
 pub use roms::rom_text;
-pub use task::Job;
 pub use trace_text::{MOST_EVENTS, TraceText, read_trace};
 pub use verdict::Verdict;
 pub use watched::{DeviceFailed, Watched};

@@ -1,21 +1,21 @@
 //! Which engine does which job.
 ghost use Rattle.std.specs.Prelude.{◌≡◌, ◌↔◌, ◌≤◌, IfErr, IfSome, IsErrOf};
-ghost use Rattle.dvg_tool.specs.Jobs.{Performs, most_taken};
-ghost use Rattle.dvg_tool.specs.Outcomes.{StopsBeforeWriting};
+ghost use Rattle.dvg_tool.specs.Jobs.{Performs, StaysUnwritten, most_taken};
 ghost use Rattle.dvg_tool.specs.Watching.{TakesAtMost, device_of, failures_of};
 
 use crate::checking::check_text;
 use crate::fault::ToolFault;
 use crate::listing::list;
 use crate::outcome::Done;
+use crate::playing::play;
 use crate::roms::rom_text;
-use crate::task::Job;
 use crate::watched::Watched;
+use dvg_words::Job;
 use std::alloc::Allocator;
 use std::io::{Read, Write};
 
-/// Does a job by its engine: `list`, `rom_text` or `check_text`, whose verdict it tells.
-pub fn perform<A: Allocator, R: Read, W: Write>(
+/// Does a job by its engine: `list`, `rom_text`, `check_text`, whose verdict it tells, or `play`.
+pub fn perform<A: Allocator + Copy, R: Read, W: Write>(
     alloc: A,
     job: Job,
     reader: &mut Watched<R>,
@@ -30,7 +30,7 @@ pub fn perform<A: Allocator, R: Read, W: Write>(
     ensures took { TakesAtMost (most_taken job) (R.remaining (device_of reader.old)) (R.remaining (device_of reader.new)) }
 
     // Whatever the reader and the writer are.
-    ensures unwritten { IfErr result (λ fault. StopsBeforeWriting fault → writer.new ≡ writer.old) }
+    ensures unwritten { IfErr result (λ fault. StaysUnwritten job fault → writer.new ≡ writer.old) }
     ensures reader { IsErrOf result ToolFault.Reader ↔ (failures_of reader.new ≡ 1) }
     ensures writer { IsErrOf result ToolFault.Writer ↔ (failures_of writer.new ≡ 1) }
     ensures stops { (failures_of reader.new ≤ 1) × (failures_of writer.new ≤ 1) }
@@ -39,5 +39,6 @@ pub fn perform<A: Allocator, R: Read, W: Write>(
         Job::List => list(alloc, reader, writer).map(|()| Done::Written),
         Job::Rom => rom_text(alloc, reader, writer).map(|()| Done::Written),
         Job::Check => check_text(alloc, reader, writer).map(Done::Judged),
+        Job::Play { all } => play(alloc, reader, writer, all).map(|()| Done::Written),
     }
 }
