@@ -34,7 +34,44 @@ const DVG_ROWS: &[Row] = &[
         &["check"],
         nested_over_rom,
     ),
+    row("play, 65,536 mixed events", &["play"], mixed_events),
+    row(
+        "play --all, 65,536 mixed events",
+        &["play", "--all"],
+        mixed_events,
+    ),
+    row("play, 65,536 ticks", &["play"], ticks),
+    row("play --all, 65,536 ticks", &["play", "--all"], ticks),
+    row("play, 123 pictures of 254 strokes", &["play"], pictures),
+    row(
+        "play --all, 123 pictures of 254 strokes",
+        &["play", "--all"],
+        pictures,
+    ),
+    row(
+        "play, 1 MiB of offers, 510 operations each",
+        &["play"],
+        || offers(&operations(510)),
+    ),
+    row(
+        "play --all, 1 MiB of offers, 510 operations each",
+        &["play", "--all"],
+        || offers(&operations(510)),
+    ),
+    row(
+        "play, 1 MiB of offers, 2 operations each",
+        &["play"],
+        || offers(SMALLEST),
+    ),
+    row(
+        "play --all, 1 MiB of offers, 2 operations each",
+        &["play", "--all"],
+        || offers(SMALLEST),
+    ),
 ];
+
+/// The text of the smallest draft that may be drawn.
+const SMALLEST: &[u8] = b"labs 0 0 0\nhalt\n";
 
 /// What is compared of single parts, each of which runs many times in one process and reads nothing.
 const PART_ROWS: &[Row] = &[
@@ -194,6 +231,61 @@ fn nested_over_rom() -> Vec<u8> {
     }
     text += "jumprom 800\n";
     text.into_bytes()
+}
+
+/// The text of 65,536 random events, a line each but for offers. Most are ticks and fetches.
+fn mixed_events() -> Vec<u8> {
+    let mut random = Random(1979);
+    let mut text = String::new();
+    for _ in 0..65_536 {
+        text += match random.below(64) {
+            0 => {
+                let vectors = usize::from(1 + random.below(3));
+                text += "offer\nlabs 512 400 3\n";
+                text += &"svec 3 -3 -2 3\n".repeat(vectors);
+                "halt\nend\n"
+            }
+            1 => "redraw\n",
+            2..=41 => "tick\n",
+            42..=44 => "strobe\n",
+            45..=61 => "fetch\n",
+            62 => "resetgen\n",
+            _ if random.once_in(16) => "resetall FF\n",
+            _ => "resetcpu\n",
+        };
+    }
+    text.into_bytes()
+}
+
+/// The text of 65,536 ticks. The driver is idle in all but the first two.
+fn ticks() -> Vec<u8> {
+    let mut text = "tick 9999\n".repeat(6);
+    text += "tick 5542\n";
+    text.into_bytes()
+}
+
+/// The text of a frame of 254 vectors that are seen, which is drawn again and again: 64,129 events.
+fn pictures() -> Vec<u8> {
+    let mut random = Random(1979);
+    let mut text = String::from("tick 2\noffer\nlabs 512 400 0\n");
+    for _ in 0..254 {
+        text += &format!(
+            "vctr {} {} -{} {}\n",
+            random.below(10),
+            random.below(1024),
+            1 + random.below(1023),
+            1 + random.below(15)
+        );
+    }
+    text += "halt\nend\ntick 1026\n";
+    text += &"strobe\nfetch 512\n".repeat(123);
+    text.into_bytes()
+}
+
+/// As many offers of a draft as a text of 1,048,576 bytes has room for.
+fn offers(draft: &[u8]) -> Vec<u8> {
+    let offer = [b"offer\n", draft, b"end\n"].concat();
+    offer.repeat(1_048_576 / offer.len())
 }
 
 /// So many random bytes.

@@ -3,11 +3,21 @@
 //! It has the same limits, texts and statuses. Only where standard input or standard output was closed by the
 //! caller do the two differ: Rust's runtime opens /dev/null in its place.
 
+mod plain_driver;
 mod plain_frames;
+mod plain_generator;
+mod plain_lines;
+mod plain_shows;
 mod plain_texts;
+mod plain_traces;
+mod plain_world;
 
 use plain_frames::check;
+use plain_lines::Line;
+use plain_shows::write_entries;
 use plain_texts::{MOST_TEXT_BYTES, TextFault, read_draft};
+use plain_traces::read_trace;
+use plain_world::run;
 use std::fmt;
 use std::fs::File;
 use std::io::{self, BufWriter, Read, Write};
@@ -37,8 +47,22 @@ enum Fault {
     RomSize,
     Syntax(usize),
     Full(usize),
+    Many(usize),
+    Unended,
     Reader,
     Writer,
+}
+
+impl From<TextFault> for Fault {
+    fn from(fault: TextFault) -> Fault {
+        match fault {
+            TextFault::TooLong => Fault::TooLong,
+            TextFault::Syntax(line) => Fault::Syntax(line),
+            TextFault::Full(line) => Fault::Full(line),
+            TextFault::Many(line) => Fault::Many(line),
+            TextFault::Unended => Fault::Unended,
+        }
+    }
 }
 
 impl Fault {
@@ -60,6 +84,8 @@ impl fmt::Display for Fault {
             Fault::RomSize => write!(f, "rom size"),
             Fault::Syntax(line) => write!(f, "syntax at line {line}"),
             Fault::Full(line) => write!(f, "full at line {line}"),
+            Fault::Many(line) => write!(f, "too many events at line {line}"),
+            Fault::Unended => write!(f, "offer without end"),
             Fault::Reader => write!(f, "read failed"),
             Fault::Writer => write!(f, "write failed"),
         }
@@ -98,49 +124,8 @@ fn is_first_of_two(word: u16) -> bool {
     word < 0xB000
 }
 
-/// A line of text that numbers are written into, with room for the longest line.
-struct Line {
-    bytes: [u8; 64],
-    length: usize,
-}
-
+// What `list` writes of instructions.
 impl Line {
-    fn new() -> Line {
-        Line {
-            bytes: [0; 64],
-            length: 0,
-        }
-    }
-
-    fn push(&mut self, byte: u8) {
-        self.bytes[self.length] = byte;
-        self.length += 1;
-    }
-
-    fn text(&mut self, text: &[u8]) {
-        self.bytes[self.length..self.length + text.len()].copy_from_slice(text);
-        self.length += text.len();
-    }
-
-    /// Writes so many hexadecimal digits of a number.
-    fn hex<const DIGITS: usize>(&mut self, number: usize) {
-        for digit in (0..DIGITS).rev() {
-            self.push(b"0123456789ABCDEF"[number >> (4 * digit) & 15]);
-        }
-    }
-
-    /// Writes a space and a number, of at most four digits, in decimal.
-    fn number(&mut self, number: i16) {
-        self.text(if number < 0 { b" -" } else { b" " });
-        let number = number.unsigned_abs();
-        for unit in [1000, 100, 10] {
-            if number >= unit {
-                self.push(b'0' + (number / unit % 10) as u8);
-            }
-        }
-        self.push(b'0' + (number % 10) as u8);
-    }
-
     /// Writes a name and the numbers of a vector.
     fn vector(&mut self, name: &[u8], scale: u16, dx: i16, dy: i16, z: u16) {
         self.text(name);
@@ -198,13 +183,6 @@ impl Line {
             }
         }
     }
-
-    /// Writes the line on a device.
-    fn write(&self, writer: &mut impl Write) -> Result<(), Fault> {
-        writer
-            .write_all(&self.bytes[..self.length])
-            .map_err(|_| Fault::Writer)
-    }
 }
 
 /// Writes a line for each instruction of the words.
@@ -225,7 +203,7 @@ fn list_words(bytes: &[u8], writer: &mut impl Write) -> Result<(), Fault> {
             line.text(b" *");
         }
         line.push(b'\n');
-        line.write(writer)?;
+        line.write(writer).map_err(|_| Fault::Writer)?;
         place += length;
     }
     Ok(())
@@ -242,7 +220,7 @@ fn write_rom(bytes: &[u8], writer: &mut impl Write) -> Result<(), Fault> {
             line.hex::<4>(usize::from(u16::from_le_bytes(*word)));
         }
         line.push(b'\n');
-        line.write(writer)?;
+        line.write(writer).map_err(|_| Fault::Writer)?;
     }
     Ok(())
 }
@@ -295,8 +273,8 @@ fn rom() -> Result<(), Fault> {
     writer.flush().map_err(|_| Fault::Writer)
 }
 
-/// Checks the draft that standard input holds as text, and writes what is said of it on standard output.
-fn check_text() -> Result<ExitCode, Fault> {
+/// The text that standard input holds, or a beginning that is one byte too long.
+fn read_text() -> Result<Vec<u8>, Fault> {
     let mut text = Vec::new();
     let input = io::stdin()
         .as_fd()
@@ -306,11 +284,12 @@ fn check_text() -> Result<ExitCode, Fault> {
         .take(MOST_TEXT_BYTES as u64 + 1)
         .read_to_end(&mut text)
         .map_err(|_| Fault::Reader)?;
-    let (ops, rom) = read_draft(&text).map_err(|fault| match fault {
-        TextFault::TooLong => Fault::TooLong,
-        TextFault::Syntax(line) => Fault::Syntax(line),
-        TextFault::Full(line) => Fault::Full(line),
-    })?;
+    Ok(text)
+}
+
+/// Checks the draft that standard input holds as text, and writes what is said of it on standard output.
+fn check_text() -> Result<ExitCode, Fault> {
+    let (ops, rom) = read_draft(&read_text()?)?;
     let mut writer = output()?;
     let (line, status) = match check(&ops, &rom) {
         Ok(frame) => (format!("ok {} words\n", frame.words), ExitCode::SUCCESS),
@@ -321,6 +300,16 @@ fn check_text() -> Result<ExitCode, Fault> {
         .and_then(|()| writer.flush())
         .map_err(|_| Fault::Writer)?;
     Ok(status)
+}
+
+/// Plays the trace that standard input holds as text, and writes its pictures, or all entries, on standard output.
+fn play(all: bool) -> Result<(), Fault> {
+    let (events, rom) = read_trace(&read_text()?)?;
+    let entries = run(&rom, [0; 2048], &events);
+    let mut writer = output()?;
+    write_entries(&entries, all, &mut writer)
+        .and_then(|()| writer.flush())
+        .map_err(|_| Fault::Writer)
 }
 
 /// Writes a line on standard error. The status is the same where it can't be written, and `eprintln!` would panic.
@@ -336,8 +325,12 @@ fn main() -> ExitCode {
         rom().map(|()| ExitCode::SUCCESS)
     } else if words == ["check"] {
         check_text()
+    } else if words == ["play"] {
+        play(false).map(|()| ExitCode::SUCCESS)
+    } else if words == ["play", "--all"] {
+        play(true).map(|()| ExitCode::SUCCESS)
     } else {
-        complain(format_args!("usage: dvg list|rom|check"));
+        complain(format_args!("usage: dvg list|rom|check|play [--all]"));
         return ExitCode::from(MISUSE);
     };
     match done {

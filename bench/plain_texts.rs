@@ -10,10 +10,12 @@ pub enum TextFault {
     TooLong,
     Syntax(usize),
     Full(usize),
+    Many(usize),
+    Unended,
 }
 
 /// A number without leading zeros, up to `most`.
-fn natural(part: &[u8], most: u32) -> Option<u32> {
+pub fn natural(part: &[u8], most: u32) -> Option<u32> {
     if part.len() > 5 || part.is_empty() || part.len() > 1 && part[0] == b'0' {
         return None;
     }
@@ -39,7 +41,7 @@ fn integer(part: &[u8], most: u32) -> Option<i16> {
 }
 
 /// A number of so many hexadecimal digits.
-fn hex(part: &[u8], count: usize) -> Option<u16> {
+pub fn hex(part: &[u8], count: usize) -> Option<u16> {
     if part.len() != count {
         return None;
     }
@@ -50,7 +52,7 @@ fn hex(part: &[u8], count: usize) -> Option<u16> {
     Some(number as u16)
 }
 
-fn last<'a, T>(mut parts: impl Iterator<Item = &'a [u8]>, value: T) -> Option<T> {
+pub fn last<'a, T>(mut parts: impl Iterator<Item = &'a [u8]>, value: T) -> Option<T> {
     match parts.next() {
         None => Some(value),
         Some(_) => None,
@@ -58,7 +60,7 @@ fn last<'a, T>(mut parts: impl Iterator<Item = &'a [u8]>, value: T) -> Option<T>
 }
 
 /// The operation that a line spells.
-fn read_op(line: &[u8]) -> Option<Op> {
+pub fn read_op(line: &[u8]) -> Option<Op> {
     let mut parts = line.split(|byte| *byte == b' ');
     let op = match parts.next()? {
         b"vctr" => Op::Draw(Instr::Vctr {
@@ -90,7 +92,7 @@ fn read_op(line: &[u8]) -> Option<Op> {
 }
 
 /// Puts the words of a ROM line into the ROM. None where the line is none.
-fn read_rom_line(line: &[u8], rom: &mut Rom) -> Option<()> {
+pub fn read_rom_line(line: &[u8], rom: &mut Rom) -> Option<()> {
     let mut parts = line.split(|byte| *byte == b' ');
     if parts.next()? != b"rom" {
         return None;
