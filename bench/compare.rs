@@ -238,12 +238,11 @@ fn mixed_events() -> Vec<u8> {
     let mut random = Random(1979);
     let mut text = String::new();
     for _ in 0..65_536 {
-        text += match random.below(64) {
+        let line = match random.below(64) {
             0 => {
-                let vectors = usize::from(1 + random.below(3));
-                text += "offer\nlabs 512 400 3\n";
-                text += &"svec 3 -3 -2 3\n".repeat(vectors);
-                "halt\nend\n"
+                let vectors = "svec 3 -3 -2 3\n".repeat(usize::from(1 + random.below(3)));
+                text += &format!("offer\nlabs 512 400 3\n{vectors}halt\n");
+                "end\n"
             }
             1 => "redraw\n",
             2..=41 => "tick\n",
@@ -253,6 +252,7 @@ fn mixed_events() -> Vec<u8> {
             _ if random.once_in(16) => "resetall FF\n",
             _ => "resetcpu\n",
         };
+        text += line;
     }
     text.into_bytes()
 }
@@ -264,7 +264,7 @@ fn ticks() -> Vec<u8> {
     text.into_bytes()
 }
 
-/// The text of a frame of 254 vectors that are seen, which is drawn again and again: 64,129 events.
+/// The text of a frame of 254 vectors that are seen, which is drawn 123 times: 64,128 events.
 fn pictures() -> Vec<u8> {
     let mut random = Random(1979);
     let mut text = String::from("tick 2\noffer\nlabs 512 400 0\n");
