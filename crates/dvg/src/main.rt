@@ -1,22 +1,57 @@
 //! The program `dvg`, for people who write and debug display lists of the Digital Vector Generator.
 #![tactic(auto)]
 
-use dvg_tool::{Done, Job, ToolFault, Watched, finish, job, perform, status};
-use std::io::BufWriter;
+use clap::Error;
+use clap::error::ErrorKind;
+use dvg_tool::{Done, Job, ToolFault, Watched, finish, job, perform, status, words_status};
+use std::io::{BufWriter, Write};
 use std::process::ExitCode;
 use std::{env, io};
 
-/// The exit status of words that ask for nothing the program can do.
+/// The exit status of words that can't be had as text.
 const MISUSE: u8 = 64;
 
-/// What the program's words ask for.
-fn asked(rt: &HostRuntime) -> io::Result<Option<Job>> {
-    let words: Vec<String> = env::args(rt)?.collect(rt.alloc())?;
+/// The program's words.
+fn words(rt: &HostRuntime) -> io::Result<Vec<String>> {
+    Ok(env::args(rt)?.collect(rt.alloc())?)
+}
+
+/// What the words ask for.
+fn asked(rt: &HostRuntime, words: &[String]) -> Result<Job, Error> {
     let mut texts = Vec::new(rt.alloc());
-    for word in &words {
+    for word in words {
         texts.push(word.as_str())?;
     }
-    Ok(job(texts.as_slice()))
+    job(rt.alloc(), texts.as_slice())
+}
+
+/// Writes a help text on standard output.
+fn help(rt: &HostRuntime, text: &Error) -> io::Result<()> {
+    let mut output = io::writer(rt);
+    write!(output, "{text}")?;
+    output.flush()
+}
+
+/// Tells on standard error why the program could not do a job.
+fn complain(rt: &HostRuntime, fault: ToolFault) {
+    let _ = eprintln!(rt; "dvg: {fault}");
+}
+
+/// Writes the help that was asked for, or why the words ask for nothing. Answers the exit status.
+fn answer_words(rt: &HostRuntime, error: &Error) -> u8 {
+    match error.kind() {
+        ErrorKind::DisplayHelp => {
+            if help(rt, error).is_err() {
+                complain(rt, ToolFault::Writer);
+                return status(&Err(ToolFault::Writer));
+            }
+        }
+        ErrorKind::OutOfMemory => complain(rt, ToolFault::Memory),
+        _ => {
+            let _ = eprint!(rt; "{error}");
+        }
+    }
+    words_status(error)
 }
 
 /// Does a job from standard input to standard output.
@@ -30,14 +65,23 @@ fn run(rt: &HostRuntime, job: Job) -> Result<Done, ToolFault> {
     finish(answer, &mut writer)
 }
 
+/// Does what the words ask for. Answers the exit status.
+fn do_words(rt: &HostRuntime, words: &[String]) -> u8 {
+    let job = match asked(rt, words) {
+        Ok(job) => job,
+        Err(error) => return answer_words(rt, &error),
+    };
+    let answer = run(rt, job);
+    if let Err(fault) = &answer {
+        complain(rt, *fault);
+    }
+    status(&answer)
+}
+
 fn main(rt: HostRuntime) -> ExitCode {
-    let Ok(Some(job)) = asked(&rt) else {
-        let _ = eprintln!(rt; "usage: dvg list|rom|check");
+    let Ok(words) = words(&rt) else {
+        let _ = eprintln!(rt; "dvg: the words are no text");
         return ExitCode::from(MISUSE);
     };
-    let answer = run(&rt, job);
-    if let Err(fault) = &answer {
-        let _ = eprintln!(rt; "dvg: {fault}");
-    }
-    ExitCode::from(status(&answer))
+    ExitCode::from(do_words(&rt, words.as_slice()))
 }

@@ -82,12 +82,12 @@ stopped_early : {A : Type 0} (R : List ℕ) (events : List (Event A)) (stopped :
     → IsEnd R (log_of events stopped.entries.items) (map happening_of (drop (length stopped.entries.items) events))
 stopped_early R events stopped count stop = ⊎_elim
     (λ first. let none = no_item stopped.entries.items (count ∙ first) in
-        subst (λ log. IsEnd R log (map happening_of (drop (length stopped.entries.items) events))) (sym (ap (log_of events) none ∙ log_of-none events)) (ends_at_once R _))
+    subst (λ log. IsEnd R log (map happening_of (drop (length stopped.entries.items) events))) (sym (ap (log_of events) none ∙ log_of-none events)) (ends_at_once R _))
     (λ at.
-        let item = get_or_from_slice_get events stopped.event at.0 at.0 at.1 in
-        let there : drop (length stopped.entries.items) events ≡ at.0 ∷ drop (stopped.event + 1) events =
-        ap (λ k. drop k events) count ∙ drop_more events stopped.event at.0 (slice_get_within events stopped.event at.0 at.1) ∙ ap (λ e. e ∷ drop (stopped.event + 1) events) item in
-        subst (λ l. IsEnd R (log_of events stopped.entries.items) (map happening_of l)) (sym there) (ends_there R _ _ _ at.2))
+    let item = get_or_from_slice_get events stopped.event at.0 at.0 at.1 in
+    let there : drop (length stopped.entries.items) events ≡ at.0 ∷ drop (stopped.event + 1) events =
+    ap (λ k. drop k events) count ∙ drop_more events stopped.event at.0 (slice_get_within events stopped.event at.0 at.1) ∙ ap (λ e. e ∷ drop (stopped.event + 1) events) item in
+    subst (λ l. IsEnd R (log_of events stopped.entries.items) (map happening_of l)) (sym there) (ends_there R _ _ _ at.2))
     stop
 
 -- the events before the one at which memory was refused were played
