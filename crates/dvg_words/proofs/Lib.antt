@@ -1,1 +1,2 @@
 mod Jobs
+mod Written

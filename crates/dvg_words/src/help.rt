@@ -2,8 +2,9 @@
 
 /// What the program's help says behind its commands.
 pub(crate) const PROGRAM: &str =
-    "Each command reads standard input and writes standard output. What it reads
-and writes, and an example, is told by `dvg help COMMAND`.
+    "Each command reads standard input and writes standard output. `dvg help COMMAND`
+tells what a command reads and writes, with its limits and an example.
+A fault of the input is printed on standard error, behind `dvg: `.
 
 Exit status:
    0  done, or a help text that was asked for
@@ -24,6 +25,9 @@ words from 000, its name and its numbers. Places and addresses are hexadecimal,
 other numbers decimal. A `*` ends the line of words that aren't the canonical
 spelling.
 
+Faults: `too long`, `odd length`, and `cut at HHH` where the last word begins an
+instruction of two words.
+
 Example:
   $ printf '\\x64\\x90\\x64\\x74' | dvg list
   000 VCTR 9 -100 100 7";
@@ -36,35 +40,54 @@ Standard output: 128 lines `rom HHH W1 .. W8`, each with a word address and the
 eight words that stand from there on, in hexadecimal. The first address is 800,
 the last BF8. `check` and `play` read such lines.
 
+Fault: `rom size` for any other number of bytes.
+
 Example:
   $ head -c 2048 /dev/zero | dvg rom | tail -n 1
   rom BF8 0000 0000 0000 0000 0000 0000 0000 0000";
 
 /// The input and output of `check`.
 pub(crate) const CHECK: &str =
-    "Standard input: a draft as text, at most 1,048,576 bytes. Lines `rom` may come
-first, as `dvg rom` writes them; a ROM word that no line gives is D000. Then a
-line an operation, at most 511, which are numbered from 0:
+    "Standard input: a draft as text, at most 1,048,576 bytes. First may come lines
+`rom HHH W1 .. Wn`: one to eight words of the ROM from a word address of 800 to
+BFF on, in hexadecimal. A word that no line gives is D000. Then a line an
+operation, at most 511, which are numbered from 0:
 
   labs X Y S        put the beam at X Y and set the global scale
                     (X and Y 0 to 4095, S 0 to 15)
-  vctr S DX DY Z    draw to DX DY from the beam, with local scale S and
-                    intensity Z, where 0 draws nothing
+  vctr S DX DY Z    move the beam by DX and DY, with local scale S, and draw
+                    with intensity Z, where 0 draws nothing
                     (S 0 to 9, DX and DY -1023 to 1023, Z 0 to 15)
-  svec S DX DY Z    the same, in one word
+  svec S DX DY Z    the same in one word, with moves of 256 times DX and DY
                     (S 2 to 5, DX and DY -3 to 3, Z 0 to 15)
   call N            call operation N (0 to 65535)
   jump N            go on at operation N (0 to 65535)
-  callrom HHH       call the ROM word at this address
-  jumprom HHH       go on at the ROM word at this address
+  callrom HHH       call the ROM word at this address (800 to BFF)
+  jumprom HHH       go on at the ROM word at this address (800 to BFF)
   return            return from the newest call
   halt              end the picture
+
+With scales that add up to 9, moves are in units of the screen; each step less
+halves them, and from 10 to 15 nothing moves (scales add up modulo 16).
 
 Exactly one space parts two parts of a line, and numbers have no leading zeros.
 An empty line and a line that begins with `#` are passed over.
 
-Standard output: `ok W words` for a draft that may be drawn, else `fault N ..`
-with the number and the name of its fault.
+Standard output: `ok W words` for a draft that may be drawn, else one of these,
+where I is an operation and PLACE is `op I` or `word HHH`:
+
+  fault 1 empty              there is no operation
+  fault 2 no labs            operation 0 is no labs
+  fault 3 too long           the operations take more than 511 words: labs and
+                             vctr two, others one
+  fault 4 target I           I names an operation that isn't there
+  fault 5 runs off I         I is the last operation, and one must come after it
+  fault 6 out of rom PLACE   this leads out of the ROM's words
+  fault 7 too deep PLACE     this calls inside of four calls
+  fault 8 no caller PLACE    this returns outside of any call
+
+Faults of the text: `too long`, `syntax at line N`, and `full at line N` for
+operation 512. Lines are numbered from 1.
 
 Example:
   $ printf 'labs 512 400 0\\nvctr 9 -100 100 7\\nhalt\\n' | dvg check
@@ -73,28 +96,34 @@ Example:
 /// The input and output of `play`.
 pub(crate) const PLAY: &str =
     "Standard input: a trace as text, at most 1,048,576 bytes. Lines `rom` may come
-first, as `dvg rom` writes them; a ROM word that no line gives is D000. Then
-events, at most 65,536, which are numbered from 0:
+first, as `dvg rom` writes them; a word that no line gives is D000. Then events,
+at most 65,536, which are numbered from 0:
 
-  offer             offer a frame: this line, then the lines of its operations
-  ..                (`dvg help check` tells them), then `end`
+  offer         offer a frame to the driver: this line, a line for each of its
+  ..            operations (`dvg help check` tells them, at most 511), and `end`
   end
-  redraw            ask for the published frame once more
-  tick [N]          a step of the driver
-  strobe [N]        a strobe that was sent arrives at the generator
-  fetch [N]         the generator fetches a word
-  resetgen          reset the generator
-  resetcpu          reset the driver
-  resetall HH       reset both, with a RAM of which each byte is HH
+  redraw        ask for the published frame once more
+  tick [N]      a step of the driver
+  strobe [N]    a strobe that the driver sent arrives at the generator
+  fetch [N]     the generator fetches a word
+  resetgen      reset the generator
+  resetcpu      reset the driver
+  resetall HH   reset both, with a RAM of bytes HH
 
-N is 1 to 9999 and repeats the event. The RAM holds zeros at first. An empty line
-and a line that begins with `#` are passed over.
+N is 1 to 9999 and repeats the event. The RAM holds zeros at first. A driver is
+busy at first, for two ticks and until the generator is halted, and then from
+an offer or a redraw until it sends the strobe. An empty line and a line that
+begins with `#` are passed over.
 
 Standard output: for each finished picture a line `picture EVENT STROKES`, with
 the event that finished it and the number of its strokes, and then a line
-`x0 y0 x1 y1 z` a stroke: from where to where, in 1/512 of a screen unit, and the
-intensity. With `--all` a line for each event and what came of it, where the lines
-of its strokes stand behind the event that finished a picture.
+`x0 y0 x1 y1 z` a stroke: from where to where, in 1/512 of a screen unit, and
+the intensity. With `--all` a line for each event instead, with what came of it,
+and a picture's strokes behind the event that finished it.
+
+Faults: `too long`, `syntax at line N`, `full at line N` for operation 512 of a
+frame, `too many events at line N`, `offer without end`. Lines are numbered from
+1.
 
 Example:
   $ printf 'tick 2\\noffer\\nlabs 512 400 0\\nvctr 9 -100 100 7\\nhalt\\nend\\n' >trace

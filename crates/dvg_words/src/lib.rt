@@ -8,6 +8,7 @@
 
 mod command;
 mod help;
+pub mod laws;
 mod refusal;
 mod task;
 mod words;

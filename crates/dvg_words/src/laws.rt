@@ -1,0 +1,17 @@
+//! What some words ask for, written out. Each law is the contract of a function that does nothing.
+ghost use Rattle.dvg_words.specs.Laws.{HelpWords, JobWords, OtherWords};
+
+/// The words of each job, behind any name of the program, are taken and ask for that job.
+pub fn job_words()
+    ensures { JobWords }
+{}
+
+/// Words that ask for help.
+pub fn help_words()
+    ensures { HelpWords }
+{}
+
+/// Words that ask for nothing the program can do.
+pub fn other_words()
+    ensures { OtherWords }
+{}
