@@ -1,5 +1,5 @@
 -- What is shown of the log of a run.
-use Rattle.std.proofs.Common.{◌≡◌, ℕ, zero, suc, ◌+◌, ◌≤◌, ◌<◌, List, [], ◌∷◌, ◌++◌, map, reverse, length, drop, get_or, Bool, refl, sym, ap, ◌∙◌, subst, append-nil, le_of_suc-le-suc, not-suc-le-zero, ◌⊎◌, ⊎_elim, Some, slice_get, arith}
+use Rattle.std.proofs.Common.{◌≡◌, ℕ, ◌+◌, ◌≤◌, ◌<◌, List, [], ◌∷◌, ◌++◌, map, reverse, length, drop, Bool, refl, sym, ap, ◌∙◌, subst, le_of_suc-le-suc, not-suc-le-zero, ⊎_elim, arith}
 use Rattle.std.proofs.lemmas.List.{drop_all, length-replicate, reverse-reverse, drop_more}
 use Rattle.std.proofs.lemmas.List.Elements.{All-replicate}
 use Rattle.dvg_mem.specs.Memory.{IsImage}
@@ -9,7 +9,7 @@ use Rattle.dvg_world.specs.declared.event.Event.{Event}
 use Rattle.dvg_world.specs.declared.entry.Entry.{Entry}
 use Rattle.dvg_world.specs.declared.stopped.Stopped.{Stopped}
 use Rattle.dvg_world.specs.Events.{Happening, happening_of}
-use Rattle.dvg_world.specs.Entries.{Shown, shown_of}
+use Rattle.dvg_world.specs.Entries.{shown_of}
 use Rattle.dvg_world.specs.Legal.{IsLegal}
 use Rattle.dvg_world.specs.Log.{Line, Log, ◌⟼◌}
 use Rattle.dvg_world.specs.Runs.{IsStop, log_of}

@@ -1,5 +1,5 @@
 -- From what was read of a trace to what the reader had.
-use Rattle.std.proofs.Common.{◌≡◌, ◌+◌, ◌≤◌, ℕ, List, [], ◌⊎◌, inl, inr, ⊎_elim, Bool, Option, None, Some, IfSome, Result, Ok, Err, length, take, length-take, ap, subst, sym, ◌∙◌, arith}
+use Rattle.std.proofs.Common.{◌≡◌, ℕ, List, [], ◌⊎◌, inl, inr, ⊎_elim, Bool, Option, None, Some, IfSome, Result, Ok, Err, length, take, length-take, ap, subst, sym, arith}
 use Rattle.std.specs.Io.KnownBytes.{Appends}
 use Rattle.dvg_world.specs.Events.{Happening}
 use Rattle.dvg_world.specs.Log.{Log}
@@ -7,7 +7,7 @@ use Rattle.dvg_tool.specs.declared.fault.TextFault.{TextFault}
 use Rattle.dvg_tool.specs.declared.fault.TextFault.TheVariants.{TooLong, Syntax, Full, Many, Unended}
 use Rattle.dvg_tool.specs.declared.fault.ToolFault.{ToolFault}
 use Rattle.dvg_tool.specs.declared.fault.ToolFault.TheVariants.{Text, Reader, Writer, Memory}
-use Rattle.dvg_tool.specs.Plays.{IsPlayed, Plays, ShowsPart, StopsPlay, log_text}
+use Rattle.dvg_tool.specs.Plays.{IsPlayed, Plays, StopsPlay, log_text}
 use Rattle.dvg_tool.specs.Roms.{StopsWriting, WritesText}
 use Rattle.dvg_tool.specs.TraceGives.{StopsReading}
 use Rattle.dvg_tool.specs.TraceTexts.{HasTraceFault, MeetsSyntax, MeetsFull, MeetsMany, EndsInside}

@@ -1,4 +1,4 @@
-use Rattle.std.proofs.Common.{rules, subst, ap, sym, ◌∙◌, ◌≡◌, Err, map, List, ℕ, Option, arith}
+use Rattle.std.proofs.Common.{rules, subst, ap, ◌∙◌, Err, map, arith}
 use Rattle.std.proofs.lemmas.Result.{err_from_is_err_and}
 use Rattle.dvg_world.specs.Events.{happening_of}
 use Rattle.dvg_world.specs.Entries.{shown_of}

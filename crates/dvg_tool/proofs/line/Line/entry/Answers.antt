@@ -1,4 +1,4 @@
-use Rattle.std.proofs.Common.{◌≡◌, ◌∷◌, ◌++◌, [], codes, decimal, length, ap, ◌∙◌}
+use Rattle.std.proofs.Common.{◌∷◌, ◌++◌, [], codes, decimal, length, ap, ◌∙◌}
 use Rattle.dvg_tool.specs.Lines.{hex_3, hex_4, spaced}
 use Rattle.dvg_tool.proofs.Spaced.{spaced_more}
 use Rattle.dvg_tool.proofs.line.Line.entry.Goals as goal
