@@ -46,7 +46,12 @@ fn is_set(found: &ArgMatches, id: &str) -> bool
 /// program can do, or want of memory (`OutOfMemory`). Its text is its `Display`.
 pub fn job<'a>(alloc: Global, words: &'a [&'a str]) -> Result<Job, Error>
     ensures ok { IfOk result (λ j. IsJob j (subcommand_of dvg_app (map (λ w. w.now) words.entry.now))) }
+
+    // Words that are taken fail for want of memory alone.
     ensures err { IfErr result (λ e. takes dvg_app (map (λ w. w.now) words.entry.now) ≡ true → kind_of e ≡ ErrorKind.OutOfMemory) }
+
+    // A job is answered only where the words come to no kind of error; an error has one of the kinds that they come
+    // to, or memory ran out.
     ensures kinds { FailsBy (fault_of dvg_app (map (λ w. w.now) words.entry.now)) result }
 {
     let matches = match command(alloc)?.try_get_matches_from(words) {
