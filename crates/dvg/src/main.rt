@@ -11,7 +11,7 @@ use std::{env, io};
 /// The exit status of words that can't be had as text.
 const MISUSE: u8 = 64;
 
-/// The program's words.
+/// The program's words. They may be no text, and memory may be refused.
 fn words(rt: &HostRuntime) -> io::Result<Vec<String>> {
     Ok(env::args(rt)?.collect(rt.alloc())?)
 }
@@ -78,10 +78,19 @@ fn do_words(rt: &HostRuntime, words: &[String]) -> u8 {
     status(&answer)
 }
 
+/// Tells why the words can't be had. Answers the exit status.
+fn refuse_words(rt: &HostRuntime, error: &io::Error) -> u8 {
+    if error.kind() == io::ErrorKind::OutOfMemory {
+        complain(rt, ToolFault::Memory);
+        return status(&Err(ToolFault::Memory));
+    }
+    let _ = eprintln!(rt; "dvg: the words are no text");
+    MISUSE
+}
+
 fn main(rt: HostRuntime) -> ExitCode {
-    let Ok(words) = words(&rt) else {
-        let _ = eprintln!(rt; "dvg: the words are no text");
-        return ExitCode::from(MISUSE);
-    };
-    ExitCode::from(do_words(&rt, words.as_slice()))
+    ExitCode::from(match words(&rt) {
+        Ok(words) => do_words(&rt, words.as_slice()),
+        Err(error) => refuse_words(&rt, &error),
+    })
 }
