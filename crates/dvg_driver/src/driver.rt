@@ -1,5 +1,5 @@
 //! The driver.
-ghost use Rattle.std.specs.Prelude.{◌≡◌, ◌↔◌, ℕ, true, false, List, [], ◌∷◌, IfErr, IsOk, OnErr, OnOk};
+ghost use Rattle.std.specs.Prelude.{◌≡◌, ◌↔◌, ℕ, true, false, List, [], ◌∷◌, IfErr, IsOk, IsTrue, OnErr, OnOk};
 ghost use Rattle.dvg_mem.specs.Areas.{half_of_high, high, other};
 ghost use Rattle.dvg_driver.specs.Place.{Waiting, Writing};
 ghost use Rattle.dvg_driver.specs.Script.{Item, Offered, Asked, Did, IsLife, IsWhole, has_flip, word_zero};
@@ -71,6 +71,16 @@ impl Driver {
         ensures { (peeked : ℕ) → StandsAfter self.new peeked [] }
     {
         *self = Driver::new();
+    }
+
+    /// Whether it is idle, so that it would take a frame.
+    pub fn is_idle(&self) -> bool
+        ensures { (peeked : ℕ) (life : List Item) → StandsAfter self.now peeked life → (IsTrue result ↔ IsWhole life) }
+    {
+        match self.phase {
+            Phase::Resting => true,
+            _ => false,
+        }
     }
 
     /// Takes a frame, which the next ticks write into the free half and publish. It is refused exactly
