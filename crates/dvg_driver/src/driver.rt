@@ -1,6 +1,7 @@
 //! The driver.
-ghost use Rattle.std.specs.Prelude.{◌≡◌, ◌↔◌, ℕ, true, false, List, [], ◌∷◌, IfErr, IsOk, IsTrue, OnErr, OnOk};
+ghost use Rattle.std.specs.Prelude.{◌≡◌, ◌↔◌, ℕ, true, false, List, [], ◌∷◌, IfErr, IfNone, IfSome, IsOk, IsTrue, OnErr, OnOk};
 ghost use Rattle.dvg_mem.specs.Areas.{half_of_high, high, other};
+ghost use Rattle.dvg_driver.specs.Phases.{items_of};
 ghost use Rattle.dvg_driver.specs.Place.{Waiting, Writing};
 ghost use Rattle.dvg_driver.specs.Script.{Item, Offered, Asked, Did, IsLife, IsWhole, has_flip, word_zero};
 ghost use Rattle.dvg_driver.specs.Stands.{IsInRam, StandsAfter, Tells, byte1_of, peeked_after};
@@ -11,8 +12,9 @@ use dvg_frame::{Cursor, Frame};
 use dvg_mem::Half;
 use std::marker::Model;
 
-/// How far the driver is.
-#[derive(Drop)]
+/// How far the driver is. What it writes of a frame stands beside it, so that a change of the phase moves
+/// no frame.
+#[derive(Clone, Copy)]
 enum Phase {
     /// It has done nothing since its reset.
     Start,
@@ -21,7 +23,7 @@ enum Phase {
     /// It is idle.
     Resting,
     /// It writes a frame into the free half, and then word zero.
-    Writing(Cursor),
+    Writing,
     /// It has written byte 000, and flips next.
     Flipping,
     /// It waits until the generator is halted.
@@ -35,6 +37,8 @@ enum Phase {
 #[derive(Drop)]
 pub struct Driver {
     phase: Phase,
+    /// The bytes of the newest frame. They count only while the driver writes.
+    cursor: Option<Cursor>,
     /// The current half, once the driver has looked at byte 001.
     half: Half,
     /// Whether it has flipped since its reset.
@@ -61,6 +65,7 @@ impl Driver {
     {
         Driver {
             phase: Phase::Start,
+            cursor: None,
             half: Half::H0,
             flipped: false,
         }
@@ -70,7 +75,9 @@ impl Driver {
     pub fn reset(&mut self)
         ensures { (peeked : ℕ) → StandsAfter self.new peeked [] }
     {
-        *self = Driver::new();
+        // The half and the cursor count no more: the peek and the next frame set them.
+        self.phase = Phase::Start;
+        self.flipped = false;
     }
 
     /// Whether it is idle, so that it would take a frame.
@@ -94,7 +101,8 @@ impl Driver {
     {
         match self.phase {
             Phase::Resting => {
-                self.phase = Phase::Writing(Cursor::new(frame, self.half.other()));
+                self.cursor = Some(Cursor::new(frame, self.half.other()));
+                self.phase = Phase::Writing;
                 Ok(())
             }
             _ => Err(DriverFault::Busy),
@@ -144,7 +152,7 @@ impl Driver {
         ensures told { Tells result halted }
         ensures in_ram { IsInRam result }
     {
-        match &mut self.phase {
+        match self.phase {
             Phase::Start => {
                 self.half = Half::of_high(byte1);
                 self.phase = Phase::Booting;
@@ -157,7 +165,7 @@ impl Driver {
                 Action::Read(halted)
             }
             Phase::Resting => Action::Idle,
-            Phase::Writing(cursor) => match cursor.next() {
+            Phase::Writing => match next_of(&mut self.cursor) {
                 Some((address, byte)) => Action::Wrote(address, byte),
                 None if self.flipped => self.flip(),
                 None => {
@@ -189,5 +197,16 @@ impl Driver {
         self.flipped = true;
         self.phase = Phase::Waiting;
         Action::Wrote(1, self.half.high())
+    }
+}
+
+// The next byte, if one is still to come, with its address.
+fn next_of(cursor: &mut Option<Cursor>) -> Option<(u16, u8)>
+    ensures given { IfSome result (λ item. items_of cursor.old ≡ item ∷ items_of cursor.new) }
+    ensures ended { IfNone result ((items_of cursor.old ≡ []) × (items_of cursor.new ≡ [])) }
+{
+    match cursor {
+        Some(cursor) => cursor.next(),
+        None => None,
     }
 }

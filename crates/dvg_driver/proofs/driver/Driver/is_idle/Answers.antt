@@ -14,4 +14,4 @@ pub returns-in_default : goal.returns-in_default
 returns-in_default c peeked life stands =
     let driver = c.self.inside in
     let at = at_phase driver c.args.self.now driver.phase peeked life c.self.view_is refl stands in
-    (λ idle. absurd (cc), λ whole. absurd (not_whole driver.phase driver.half driver.flipped life c.in_default.not-Resting at.place whole))
+    (λ idle. absurd (cc), λ whole. absurd (not_whole driver.phase driver.cursor driver.half driver.flipped life c.in_default.not-Resting at.place whole))
