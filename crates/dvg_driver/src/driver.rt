@@ -1,6 +1,8 @@
 //! The driver.
-ghost use Rattle.std.specs.Prelude.{◌≡◌, ◌↔◌, ℕ, true, false, List, [], ◌∷◌, IfErr, IfNone, IfSome, IsOk, IsTrue, OnErr, OnOk};
-ghost use Rattle.dvg_mem.specs.Areas.{half_of_high, high, other};
+ghost use Rattle.std.specs.Prelude.{◌≡◌, ◌↔◌, ℕ, ◌*◌, true, false, All, List, [], ◌∷◌, IfErr, IfNone, IfSome, IsOk, IsTrue, OnErr, OnOk};
+ghost use Rattle.dvg_frame.specs.Bytes.{IsBehindWordZero, addressed, bytes};
+ghost use Rattle.dvg_frame.specs.Layout.{laid};
+ghost use Rattle.dvg_mem.specs.Areas.{base, half_of_high, high, other};
 ghost use Rattle.dvg_driver.specs.Phases.{items_of};
 ghost use Rattle.dvg_driver.specs.Place.{Waiting, Writing};
 ghost use Rattle.dvg_driver.specs.Script.{Item, Offered, Asked, Did, IsLife, IsWhole, has_flip, word_zero};
@@ -8,7 +10,7 @@ ghost use Rattle.dvg_driver.specs.Stands.{IsInRam, StandsAfter, Tells, byte1_of,
 
 use crate::action::Action;
 use crate::fault::DriverFault;
-use dvg_frame::{Cursor, Frame};
+use dvg_frame::{Checked, Cursor, Frame};
 use dvg_mem::Half;
 use std::marker::Model;
 
@@ -109,6 +111,25 @@ impl Driver {
         }
     }
 
+    /// Takes a checked draft, as `offer` takes its frame. It is copied only where it is taken, into the memory
+    /// that the driver has.
+    pub fn offer_checked(&mut self, checked: &Checked) -> Result<(), DriverFault>
+        ensures accepted { (peeked : ℕ) (life : List Item) → StandsAfter self.old peeked life → (IsOk result ↔ IsWhole life) }
+        ensures busy { IfErr result (λ fault. fault ≡ DriverFault.Busy) }
+        ensures stands { (peeked : ℕ) (life : List Item) → StandsAfter self.old peeked life →
+            OnOk result (StandsAfter self.new peeked (Offered (other (half_of_high (byte1_of peeked life))) checked.now ∷ life)) }
+        ensures refused { OnErr result (self.new ≡ self.old) }
+    {
+        match self.phase {
+            Phase::Resting => {
+                begin(&mut self.cursor, checked, self.half.other());
+                self.phase = Phase::Writing;
+                Ok(())
+            }
+            _ => Err(DriverFault::Busy),
+        }
+    }
+
     /// Asks for the published frame once more. It is refused as `NothingPublished` exactly where the
     /// driver hasn't flipped since its reset, and else as `Busy` exactly where it isn't idle. Nothing has
     /// changed then.
@@ -197,6 +218,17 @@ impl Driver {
         self.flipped = true;
         self.phase = Phase::Waiting;
         Action::Wrote(1, self.half.high())
+    }
+}
+
+// Begins a cursor over the bytes of a checked draft's frame.
+fn begin(cursor: &mut Option<Cursor>, checked: &Checked, half: Half)
+    ensures items { items_of cursor.new ≡ addressed (2 * base half) (bytes (laid half checked.now)) }
+    ensures in_ram { All IsBehindWordZero (items_of cursor.new) }
+{
+    match cursor {
+        Some(cursor) => cursor.restart(checked, half),
+        None => *cursor = Some(Cursor::new(checked.to_frame(), half)),
     }
 }
 

@@ -47,4 +47,11 @@ impl<'a> Checked<'a> {
     {
         Frame::of(self.draft.copy(), self.words)
     }
+
+    // Makes a frame that is there the one of this draft, in the memory that it has.
+    pub(crate) fn copy_to(&self, frame: &mut Frame)
+        ensures { frame.new ≡ self.now }
+    {
+        frame.copy_from(self.draft, self.words);
+    }
 }

@@ -62,7 +62,7 @@ fn words_or_fault(draft: &Draft) -> Result<u16, FrameFault>
     if !is_labs(draft.op(0).kind()) {
         return Err(FrameFault::NoLabs);
     }
-    let words = draft.words_before(count);
+    let words = draft.words();
     if words > MAX_WORDS {
         return Err(FrameFault::TooLong);
     }

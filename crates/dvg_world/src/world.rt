@@ -1,8 +1,6 @@
 //! The world: both ends of the vector RAM, one event at a time.
 ghost use Rattle.std.specs.Prelude.{◌≡◌, ℕ, List, [], ◌∷◌, IfOk, OnErr};
 ghost use Rattle.dvg_driver.specs.Stands.{IsInRam};
-ghost use Rattle.dvg_frame.specs.Ops.{IsDraft};
-ghost use Rattle.dvg_frame.specs.Steps.{Closed};
 ghost use Rattle.dvg_world.specs.Entries.{shown_of};
 ghost use Rattle.dvg_world.specs.Events.{Offer, Redraw, Tick, Strobe, Fetch, ResetGen, ResetCpu, ResetAll, happening_of};
 ghost use Rattle.dvg_world.specs.Headline.{DrewPublished, IsNoOlder, KeepsTime, NoFault, SparesDrawn};
@@ -17,7 +15,7 @@ use crate::entry::Entry;
 use crate::event::Event;
 use dvg_code::OutOfMemory;
 use dvg_driver::{Action, Driver, DriverFault};
-use dvg_frame::{Checked, Checker, Draft};
+use dvg_frame::{Checker, Draft};
 use dvg_gen::{GenFault, Generator, Taken};
 use dvg_mem::{Image, Rom, Store, fetch};
 use std::alloc::Allocator;
@@ -141,19 +139,7 @@ impl<S: Store> World<S> {
             Ok(checked) => checked,
             Err(fault) => return Entry::Refused(fault),
         };
-        if !self.driver.is_idle() {
-            return Entry::Busy;
-        }
-        self.hand_over(&checked)
-    }
-
-    // The driver is handed the frame of a checked draft, which is copied.
-    fn hand_over(&mut self, checked: &Checked) -> Entry<S::Alloc>
-        requires draft { IsDraft checked.now }
-        requires closed { Closed checked.now self.old.rom }
-        ensures { AddsLine self.old (Offer checked.now) (shown_of result) self.new }
-    {
-        match self.driver.offer(checked.to_frame()) {
+        match self.driver.offer_checked(&checked) {
             Ok(()) => Entry::Offered,
             Err(_) => Entry::Busy,
         }
