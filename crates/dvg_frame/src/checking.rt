@@ -1,8 +1,9 @@
 //! The check of a draft.
-ghost use Rattle.std.specs.Prelude.{ℕ, ◌<◌, ◌↔◌, List, IsTrue, MatchOption, MatchResult};
+ghost use Rattle.std.specs.Prelude.{◌≡◌, [], ℕ, ◌<◌, ◌↔◌, List, IsTrue, MatchOption, MatchResult};
 ghost use Rattle.dvg_frame.specs.Faults.{IsChecked, Misses, Refuses};
 ghost use Rattle.dvg_frame.specs.Firsts.{IsLabs, NamesNone};
 ghost use Rattle.dvg_frame.specs.Frames.{IsFrame};
+ghost use Rattle.dvg_frame.specs.Steps.{Closed};
 
 use crate::checked::Checked;
 use crate::draft::Draft;
@@ -72,6 +73,22 @@ fn words_or_fault(draft: &Draft) -> Result<u16, FrameFault>
     }
 }
 
+// How many words a draft without a fault has, and else the fault that is picked. The list has no pair at first,
+// and the reached ones at the end.
+fn judge<A: Allocator>(list: &mut Worklist, draft: &Draft, rom: &Rom<A>) -> Result<u16, FrameFault>
+    requires { list.old ≡ [] }
+    ensures { MatchResult result (λ words. IsFrame draft.now words × Closed draft.now rom.now) (λ fault. Refuses draft.now rom.now fault) }
+{
+    let words = match words_or_fault(draft) {
+        Ok(words) => words,
+        Err(fault) => return Err(fault),
+    };
+    match sweep(list, draft, rom) {
+        Some(found) => Err(found.fault),
+        None => Ok(words),
+    }
+}
+
 /// The tables of the check, kept from one check to the next: a check takes time for the pairs that it
 /// reaches, and none for the size of the tables. They are about 54 KB.
 #[derive(Drop)]
@@ -81,8 +98,6 @@ pub struct Checker {
 
 /// Contracts see nothing of it: between checks the tables are empty.
 impl Model for Checker {
-    ghost use Rattle.std.specs.Prelude.{◌≡◌, []};
-
     ghost Value = { Unit {0} };
 
     ghost view = { λ checker. tt };
@@ -116,16 +131,12 @@ impl Checker {
     ) -> Result<Checked<'a>, FrameFault>
         ensures { IsChecked draft.now rom.now result }
     {
-        let words = match words_or_fault(draft) {
-            Ok(words) => words,
-            Err(fault) => return Err(fault),
-        };
-        let found = sweep(&mut self.reached, draft, rom);
+        let words = judge(&mut self.reached, draft, rom);
         self.reached.clear();
-        if let Some(found) = found {
-            return Err(found.fault);
+        match words {
+            Ok(words) => Ok(Checked::of(draft, words)),
+            Err(fault) => Err(fault),
         }
-        Ok(Checked::of(draft, words))
     }
 }
 
@@ -134,8 +145,8 @@ impl Checker {
 pub fn check<A: Allocator>(draft: &Draft, rom: &Rom<A>) -> Result<Frame, FrameFault>
     ensures { IsChecked draft.now rom.now result }
 {
-    match Checker::new().check(draft, rom) {
-        Ok(checked) => Ok(checked.to_frame()),
+    match judge(&mut Worklist::new(), draft, rom) {
+        Ok(words) => Ok(Frame::of(draft.copy(), words)),
         Err(fault) => Err(fault),
     }
 }
