@@ -1,7 +1,7 @@
 -- How a driver goes on standing after its life.
-use Rattle.std.proofs.Common.{◌≡◌, ℕ, ◌≤◌, Bool, false, not, List, ◌∷◌, ◌++◌, refl, sym, ◌∙◌, ap, subst, Some, nat_eq, arith, inl, inr, eq-eqb}
+use Rattle.std.proofs.Common.{◌≡◌, ℕ, ◌≤◌, Bool, true, false, not, List, [], ◌∷◌, ◌++◌, refl, sym, ◌∙◌, ap, subst, Option, Some, nat_eq, arith, inl, inr, eq-eqb}
 use Rattle.std.specs.Prelude.{All, option_and_then}
-use Rattle.std.proofs.lemmas.List.Elements.{All-head, All-tail}
+use Rattle.std.proofs.lemmas.List.Elements.{All-head, All-nil, All-tail}
 use Rattle.std.proofs.lemmas.Bool.Decides.{eqb_tells}
 use Rattle.dvg_mem.specs.declared.half.Half.{Half}
 use Rattle.dvg_mem.specs.Areas.{other, high}
@@ -13,7 +13,7 @@ use Rattle.dvg_driver.specs.declared.action.Action.TheVariants.{Wrote}
 use Rattle.dvg_driver.specs.Script.{Item, Did, IsWhole, IsLife, word_zero}
 use Rattle.dvg_driver.specs.Place.{Resting, Writing, next, place_of, with_left}
 use Rattle.dvg_driver.specs.Stands.{Stage, StandsAfter}
-use Rattle.dvg_driver.specs.Phases.{Keeps, place_in, stage_of}
+use Rattle.dvg_driver.specs.Phases.{Keeps, items_of, place_in, stage_of}
 use Rattle.dvg_driver.proofs.Places.{whole_rests, with_left-append}
 use Rattle.dvg_driver.proofs.Shapes.{place_life}
 
@@ -21,14 +21,14 @@ pub stands_life : (stage : Stage) (peeked : ℕ) (life : List Item) → StandsAf
 stands_life stage peeked life stands = place_life life stage.place stands.place
 
 -- a driver that does not rest stands after no life of whole parts
-pub not_whole : (at : Phase) (half : Half) (flipped : Bool) (life : List Item) → (at ≡ phase.Resting → ⊥) → place_of life ≡ Some (place_in at half flipped) → IsWhole life → ⊥
-not_whole at half flipped life moves stands whole = let rests = whole_rests life whole in differs at moves (sym stands ∙ rests.1)
+pub not_whole : (at : Phase) (cursor : Option (List (ℕ × ℕ))) (half : Half) (flipped : Bool) (life : List Item) → (at ≡ phase.Resting → ⊥) → place_of life ≡ Some (place_in at cursor half flipped) → IsWhole life → ⊥
+not_whole at cursor half flipped life moves stands whole = let rests = whole_rests life whole in differs at moves (sym stands ∙ rests.1)
   where
-    differs : {first : Bool} (v : Phase) → (v ≡ phase.Resting → ⊥) → Some (place_in v half flipped) ≡ Some (Resting first) → ⊥
+    differs : {first : Bool} (v : Phase) → (v ≡ phase.Resting → ⊥) → Some (place_in v cursor half flipped) ≡ Some (Resting first) → ⊥
     differs phase.Start n is = absurd (cc)
     differs phase.Booting n is = absurd (cc)
     differs phase.Resting n is = n refl
-    differs (phase.Writing cursor) n is = absurd (cc)
+    differs phase.Writing n is = absurd (cc)
     differs phase.Flipping n is = absurd (cc)
     differs phase.Waiting n is = absurd (cc)
     differs phase.Sending n is = absurd (cc)
@@ -56,16 +56,33 @@ writes_on half flipped a byte items more peeked life items_is high stands =
 
 -- what a driver in a phase stands after
 pub at_phase : (inside : Inside) (now : Stage) (v : Phase) (peeked : ℕ) (life : List Item) → stage_of inside ≡ now → inside.phase ≡ v → StandsAfter now peeked life
-    → StandsAfter (record { place = place_in v inside.half inside.flipped; half = inside.half; flipped = inside.flipped }) peeked life
+    → StandsAfter (record { place = place_in v inside.cursor inside.half inside.flipped; half = inside.half; flipped = inside.flipped }) peeked life
 at_phase inside now v peeked life view_is phase_is stands =
-    let now_is : now ≡ record { place = place_in v inside.half inside.flipped; half = inside.half; flipped = inside.flipped } =
-    sym view_is ∙ ap (λ (u : Phase). let stage : Stage = record { place = place_in u inside.half inside.flipped; half = inside.half; flipped = inside.flipped } in stage) phase_is in
+    let now_is : now ≡ record { place = place_in v inside.cursor inside.half inside.flipped; half = inside.half; flipped = inside.flipped } =
+    sym view_is ∙ ap (λ (u : Phase). let stage : Stage = record { place = place_in u inside.cursor inside.half inside.flipped; half = inside.half; flipped = inside.flipped } in stage) phase_is in
     let P : Stage → Type 0 = λ stage. StandsAfter stage peeked life in
     subst P now_is stands
 
+-- what a driver that is in a phase stands after
+pub in_phase : (inside : Inside) (v : Phase) (peeked : ℕ) (life : List Item) → inside.phase ≡ v
+    → StandsAfter (record { place = place_in v inside.cursor inside.half inside.flipped; half = inside.half; flipped = inside.flipped }) peeked life → StandsAfter (stage_of inside) peeked life
+in_phase inside v peeked life phase_is stands =
+    let P : Phase → Type 0 = λ u. StandsAfter (record { place = place_in u inside.cursor inside.half inside.flipped; half = inside.half; flipped = inside.flipped }) peeked life in
+    subst P (sym phase_is) stands
+
+-- a driver that writes has no byte of a frame left
+pub none_left : (inside : Inside) → inside.phase ≡ phase.Writing → items_of inside.cursor ≡ [] → Keeps inside.phase inside.cursor inside.flipped
+none_left inside phase_is none = subst (λ v. Keeps v inside.cursor inside.flipped) (sym phase_is) (subst (λ list. All IsBehindWordZero list) (sym none) (All-nil IsBehindWordZero))
+
+pub flips_next : (inside : Inside) → inside.phase ≡ phase.Writing → items_of inside.cursor ≡ [] → inside.flipped ≡ true → (stage_of inside).place ≡ Writing (word_zero (other inside.half) false)
+flips_next inside phase_is none flipped =
+    ap (λ v. place_in v inside.cursor inside.half inside.flipped) phase_is ∙ ap (λ list. Writing (list ++ word_zero (other inside.half) (not inside.flipped))) none
+    ∙ ap (λ flag. Writing (word_zero (other inside.half) (not flag))) flipped
+
 -- the first byte of a frame goes behind word zero, and so do the others
-pub behind_word_zero : (at : Phase) (flipped : Bool) (items more : List (ℕ × ℕ)) (item : ℕ × ℕ) → Keeps at flipped → at ≡ phase.Writing items → items ≡ item ∷ more → IsBehindWordZero item × All IsBehindWordZero more
-behind_word_zero at flipped items more item keeps at_is items_is =
-    let old : All IsBehindWordZero items = subst (λ v. Keeps v flipped) at_is keeps in
+pub behind_word_zero : (at : Phase) (cursor : Option (List (ℕ × ℕ))) (flipped : Bool) (more : List (ℕ × ℕ)) (item : ℕ × ℕ) → Keeps at cursor flipped → at ≡ phase.Writing → items_of cursor ≡ item ∷ more
+    → IsBehindWordZero item × All IsBehindWordZero more
+behind_word_zero at cursor flipped more item keeps at_is items_is =
+    let old : All IsBehindWordZero (items_of cursor) = subst (λ v. Keeps v cursor flipped) at_is keeps in
     let all : All IsBehindWordZero (item ∷ more) = subst (λ list. All IsBehindWordZero list) items_is old in
     (All-head IsBehindWordZero item more all, All-tail IsBehindWordZero item more all)

@@ -1,18 +1,22 @@
 //! The driver.
-ghost use Rattle.std.specs.Prelude.{◌≡◌, ◌↔◌, ℕ, true, false, List, [], ◌∷◌, IfErr, IsOk, OnErr, OnOk};
-ghost use Rattle.dvg_mem.specs.Areas.{half_of_high, high, other};
+ghost use Rattle.std.specs.Prelude.{◌≡◌, ◌↔◌, ℕ, ◌*◌, true, false, All, List, [], ◌∷◌, IfErr, IfNone, IfSome, IsOk, IsTrue, OnErr, OnOk};
+ghost use Rattle.dvg_frame.specs.Bytes.{IsBehindWordZero, addressed, bytes};
+ghost use Rattle.dvg_frame.specs.Layout.{laid};
+ghost use Rattle.dvg_mem.specs.Areas.{base, half_of_high, high, other};
+ghost use Rattle.dvg_driver.specs.Phases.{items_of};
 ghost use Rattle.dvg_driver.specs.Place.{Waiting, Writing};
 ghost use Rattle.dvg_driver.specs.Script.{Item, Offered, Asked, Did, IsLife, IsWhole, has_flip, word_zero};
 ghost use Rattle.dvg_driver.specs.Stands.{IsInRam, StandsAfter, Tells, byte1_of, peeked_after};
 
 use crate::action::Action;
 use crate::fault::DriverFault;
-use dvg_frame::{Cursor, Frame};
+use dvg_frame::{Checked, Cursor, Frame};
 use dvg_mem::Half;
 use std::marker::Model;
 
-/// How far the driver is.
-#[derive(Drop)]
+/// How far the driver is. What it writes of a frame stands beside it, so that a change of the phase moves
+/// no frame.
+#[derive(Clone, Copy)]
 enum Phase {
     /// It has done nothing since its reset.
     Start,
@@ -21,7 +25,7 @@ enum Phase {
     /// It is idle.
     Resting,
     /// It writes a frame into the free half, and then word zero.
-    Writing(Cursor),
+    Writing,
     /// It has written byte 000, and flips next.
     Flipping,
     /// It waits until the generator is halted.
@@ -35,6 +39,8 @@ enum Phase {
 #[derive(Drop)]
 pub struct Driver {
     phase: Phase,
+    /// The bytes of the newest frame. They count only while the driver writes.
+    cursor: Option<Cursor>,
     /// The current half, once the driver has looked at byte 001.
     half: Half,
     /// Whether it has flipped since its reset.
@@ -61,6 +67,7 @@ impl Driver {
     {
         Driver {
             phase: Phase::Start,
+            cursor: None,
             half: Half::H0,
             flipped: false,
         }
@@ -70,7 +77,19 @@ impl Driver {
     pub fn reset(&mut self)
         ensures { (peeked : ℕ) → StandsAfter self.new peeked [] }
     {
-        *self = Driver::new();
+        // The half and the cursor count no more: the peek and the next frame set them.
+        self.phase = Phase::Start;
+        self.flipped = false;
+    }
+
+    /// Whether it is idle, so that it would take a frame.
+    pub fn is_idle(&self) -> bool
+        ensures { (peeked : ℕ) (life : List Item) → StandsAfter self.now peeked life → (IsTrue result ↔ IsWhole life) }
+    {
+        match self.phase {
+            Phase::Resting => true,
+            _ => false,
+        }
     }
 
     /// Takes a frame, which the next ticks write into the free half and publish. It is refused exactly
@@ -84,7 +103,27 @@ impl Driver {
     {
         match self.phase {
             Phase::Resting => {
-                self.phase = Phase::Writing(Cursor::new(frame, self.half.other()));
+                self.cursor = Some(Cursor::new(frame, self.half.other()));
+                self.phase = Phase::Writing;
+                Ok(())
+            }
+            _ => Err(DriverFault::Busy),
+        }
+    }
+
+    /// Takes a checked draft, as `offer` takes its frame. It is copied only where it is taken, into the memory
+    /// that the driver has.
+    pub fn offer_checked(&mut self, checked: &Checked) -> Result<(), DriverFault>
+        ensures accepted { (peeked : ℕ) (life : List Item) → StandsAfter self.old peeked life → (IsOk result ↔ IsWhole life) }
+        ensures busy { IfErr result (λ fault. fault ≡ DriverFault.Busy) }
+        ensures stands { (peeked : ℕ) (life : List Item) → StandsAfter self.old peeked life →
+            OnOk result (StandsAfter self.new peeked (Offered (other (half_of_high (byte1_of peeked life))) checked.now ∷ life)) }
+        ensures refused { OnErr result (self.new ≡ self.old) }
+    {
+        match self.phase {
+            Phase::Resting => {
+                begin(&mut self.cursor, checked, self.half.other());
+                self.phase = Phase::Writing;
                 Ok(())
             }
             _ => Err(DriverFault::Busy),
@@ -134,7 +173,7 @@ impl Driver {
         ensures told { Tells result halted }
         ensures in_ram { IsInRam result }
     {
-        match &mut self.phase {
+        match self.phase {
             Phase::Start => {
                 self.half = Half::of_high(byte1);
                 self.phase = Phase::Booting;
@@ -147,7 +186,7 @@ impl Driver {
                 Action::Read(halted)
             }
             Phase::Resting => Action::Idle,
-            Phase::Writing(cursor) => match cursor.next() {
+            Phase::Writing => match next_of(&mut self.cursor) {
                 Some((address, byte)) => Action::Wrote(address, byte),
                 None if self.flipped => self.flip(),
                 None => {
@@ -179,5 +218,27 @@ impl Driver {
         self.flipped = true;
         self.phase = Phase::Waiting;
         Action::Wrote(1, self.half.high())
+    }
+}
+
+// Begins a cursor over the bytes of a checked draft's frame.
+fn begin(cursor: &mut Option<Cursor>, checked: &Checked, half: Half)
+    ensures items { items_of cursor.new ≡ addressed (2 * base half) (bytes (laid half checked.now)) }
+    ensures in_ram { All IsBehindWordZero (items_of cursor.new) }
+{
+    match cursor {
+        Some(cursor) => cursor.restart(checked, half),
+        None => *cursor = Some(Cursor::new(checked.to_frame(), half)),
+    }
+}
+
+// The next byte, if one is still to come, with its address.
+fn next_of(cursor: &mut Option<Cursor>) -> Option<(u16, u8)>
+    ensures given { IfSome result (λ item. items_of cursor.old ≡ item ∷ items_of cursor.new) }
+    ensures ended { IfNone result ((items_of cursor.old ≡ []) × (items_of cursor.new ≡ [])) }
+{
+    match cursor {
+        Some(cursor) => cursor.next(),
+        None => None,
     }
 }

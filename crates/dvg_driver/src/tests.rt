@@ -1,7 +1,7 @@
 //! Worked examples: what a driver answers, and what its writes leave in a store.
 use crate::*;
 use dvg_code::{Code, Instr};
-use dvg_frame::{Draft, Frame, Op, OpKind, check};
+use dvg_frame::{Checker, Draft, Frame, Op, OpKind, check};
 use dvg_mem::{Flat, Half, Image, Rom, Store};
 use std::alloc::Global;
 use std::test::Fail;
@@ -13,17 +13,26 @@ const F2: [u8; 10] = [0x00, 0xA0, 0x00, 0x00, 0x00, 0x90, 0x0A, 0x50, 0x00, 0xB0
 
 const F3: [u8; 8] = [0x00, 0xA0, 0x00, 0x00, 0x37, 0xFE, 0x00, 0xB0];
 
-// The frame of LABS x y 0, this instruction, and a halt.
-fn frame(alloc: Global, x: u16, y: u16, drawing: Instr) -> Result<Frame, Fail> {
+// LABS x y 0, this instruction, and a halt.
+fn draft(x: u16, y: u16, drawing: Instr) -> Result<Draft, Fail> {
     let mut draft = Draft::new();
     for instr in [Instr::Labs { x, y, scale: 0 }, drawing] {
         let code = Code::new(instr).ok_or("out of range")?;
         draft.push(Op::new(OpKind::Draw(code)).ok_or("no operation")?)?;
     }
     draft.push(Op::new(OpKind::Halt).ok_or("no operation")?)?;
+    Ok(draft)
+}
+
+// A ROM of zeros.
+fn rom(alloc: Global) -> Result<Rom, Fail> {
     let zeros = [0; 2048].to_vec(alloc)?;
-    let rom = Rom::new(alloc, zeros.as_slice()).map_err(|_| "no ROM")?;
-    check(&draft, &rom).map_err(|_| "refused".into())
+    Rom::new(alloc, zeros.as_slice()).map_err(|_| "no ROM".into())
+}
+
+// The frame of LABS x y 0, this instruction, and a halt.
+fn frame(alloc: Global, x: u16, y: u16, drawing: Instr) -> Result<Frame, Fail> {
+    check(&draft(x, y, drawing)?, &rom(alloc)?).map_err(|_| "refused".into())
 }
 
 // LABS 512 400 0, VCTR 9 -100 100 7, HALT.
@@ -239,5 +248,34 @@ fn a_redraw_waits_and_strobes_again(rt: HostRuntime) -> Result<(), Fail> {
     assert!(rt; strobes(&mut driver, &mut store));
     assert_eq!(rt; driver.redraw(), Ok(()));
     assert!(rt; strobes(&mut driver, &mut store));
+    Ok(())
+}
+
+#[test]
+fn a_checked_draft_is_taken_where_the_driver_is_idle(rt: HostRuntime) -> Result<(), Fail> {
+    let alloc = rt.alloc();
+    let mut store = store(alloc, 0x00)?;
+    let mut driver = published(alloc, &mut store)?;
+    let (dx, dy) = (10, 0);
+    let vector = Instr::Vctr {
+        scale: 9,
+        dx,
+        dy,
+        z: 5,
+    };
+    let draft = draft(0, 0, vector)?;
+    let rom = rom(alloc)?;
+    let mut checker = Checker::new();
+    let Ok(checked) = checker.check(&draft, &rom) else {
+        return Err("refused".into());
+    };
+    assert!(rt; driver.is_idle());
+    assert_eq!(rt; driver.offer_checked(&checked), Ok(()));
+    assert!(rt; !driver.is_idle());
+    assert_eq!(rt; driver.offer_checked(&checked), Err(DriverFault::Busy));
+    assert!(rt; writes(&mut driver, &mut store, 0x002, &F2));
+    assert!(rt; writes(&mut driver, &mut store, 0x001, &[0xE0]));
+    assert!(rt; strobes(&mut driver, &mut store));
+    assert!(rt; driver.is_idle());
     Ok(())
 }

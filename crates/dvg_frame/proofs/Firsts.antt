@@ -1,5 +1,5 @@
 -- The faults that are looked for first.
-use Rattle.std.proofs.Common.{◌≡◌, ℕ, ◌<◌, ◌≤◌, ⊎_elim, List, [], ◌∷◌, length, take, Some, refl, sym, ◌∙◌, subst, arith}
+use Rattle.std.proofs.Common.{◌≡◌, ℕ, ◌<◌, ◌≤◌, ⊎_elim, List, [], ◌∷◌, length, Some, refl, sym, ◌∙◌, subst, arith}
 use Rattle.std.specs.Prelude.{slice_get}
 use Rattle.std.proofs.lemmas.Bool.{cases_lt}
 use Rattle.std.proofs.lemmas.Option.{slice_get_within}
@@ -17,7 +17,6 @@ use Rattle.dvg_frame.specs.Faults.{Misses, misses, number, Begins, Least, Refuse
 use Rattle.dvg_frame.specs.Firsts.{IsLabsCode, IsLabs, NamesNone}
 use Rattle.dvg_frame.specs.Frames.{IsFrame}
 use Rattle.dvg_frame.specs.Ops.{IsDraft}
-use Rattle.dvg_frame.proofs.Sizes.{size-take_all}
 
 -- operation 0 is a LABS exactly where the draft begins with one
 labs_by_code : (instr : Instr) (ops : List OpKind) → IsLabsCode instr → BeginsWithLabs (Draw instr ∷ ops)
@@ -83,19 +82,19 @@ pub names_some : (F : List OpKind) (i : ℕ) (op kind : OpKind) → Begins F →
 names_some F i op kind begins is kind_is none = begins.targets i (misses_at F i (length F) op kind is kind_is refl none)
 
 -- what the looks at faults 1 to 4 show
-pub too_long : (F : List OpKind) (count words : ℕ) → count ≡ length F → words ≡ size (take count F) → 511 < words → 511 < size F
-too_long F count words count_is words_is long = let all = size-take_all F count count_is in omega arith
+pub too_long : (F : List OpKind) (words : ℕ) → words ≡ size F → 511 < words → 511 < size F
+too_long F words words_is long = omega arith
 
-pub fits_by : (F : List OpKind) (count words : ℕ) → count ≡ length F → words ≡ size (take count F) → words ≤ 511 → size F ≤ 511
-fits_by F count words count_is words_is fits = let all = size-take_all F count count_is in omega arith
+pub fits_by : (F : List OpKind) (words : ℕ) → words ≡ size F → words ≤ 511 → size F ≤ 511
+fits_by F words words_is fits = omega arith
 
-pub frame_by : (F : List OpKind) (op kind : OpKind) (count words : ℕ) → IsDraft F → slice_get F 0 ≡ Some op → kind ≡ op → IsLabs kind → count ≡ length F → words ≡ size (take count F) → words ≤ 511
+pub frame_by : (F : List OpKind) (op kind : OpKind) (words : ℕ) → IsDraft F → slice_get F 0 ≡ Some op → kind ≡ op → IsLabs kind → words ≡ size F → words ≤ 511
     → ((i : ℕ) → ¬ Misses F i) → IsFrame F words
-frame_by F op kind count words draft is kind_is labs_is count_is words_is fits none =
+frame_by F op kind words draft is kind_is labs_is words_is fits none =
     record {
       draft = draft;
-      begins = record { begins = begins_with F op kind is kind_is labs_is; fits = fits_by F count words count_is words_is fits; targets = none };
-      count = words_is ∙ size-take_all F count count_is;
+      begins = record { begins = begins_with F op kind is kind_is labs_is; fits = fits_by F words words_is fits; targets = none };
+      count = words_is;
     }
 
 -- the faults 1 to 4 hold at no pair

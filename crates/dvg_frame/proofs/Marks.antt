@@ -1,9 +1,8 @@
 -- A list that grows at its end, and the table of what it holds.
-use Rattle.std.proofs.Common.{◌≡◌, ℕ, zero, suc, ◌+◌, ◌*◌, ◌<◌, ◌≤◌, ◌⊎◌, inl, inr, ⊎_elim, List, [], ◌∷◌, ◌++◌, length, get_or, set, replicate, refl, sym, ap, ◌∙◌, subst, arith, append-nil, append_assoc, length-append, length-set, get_or-set_other, Bool, true, false, cond}
+use Rattle.std.proofs.Common.{◌≡◌, ℕ, zero, suc, ◌+◌, ◌*◌, ◌<◌, ◌≤◌, ◌⊎◌, inl, inr, ⊎_elim, List, [], ◌∷◌, ◌++◌, length, get_or, get_or-set_same, set, replicate, Some, refl, sym, ap, ◌∙◌, subst, arith, append-nil, append_assoc, length-append, length-set, get_or-set_other, Bool, true, false, cond}
 use Rattle.std.specs.List.{Contains, All, count_by}
 use Rattle.std.proofs.lemmas.List.{length-replicate, get_or-replicate}
-use Rattle.std.proofs.lemmas.List.Elements.{All-nil, All-push, Contains-append_left, Contains-push, Contains-push_cases}
-use Rattle.std.proofs.lemmas.List.Folds.{sum_by-replicate}
+use Rattle.std.proofs.lemmas.List.Elements.{All-nil, All-pop, All-push, Contains-append_left, Contains-push, Contains-push_cases}
 use Rattle.std.proofs.lemmas.List.Sums.{sum_by-set, sum_by-cons, count_by-le-length}
 use Rattle.std.proofs.lemmas.Bool.{cases_lt, cases_eq}
 use Rattle.std.proofs.Math.ListN.{get_or-eq_default}
@@ -11,7 +10,7 @@ use Rattle.dvg_frame.specs.declared.pair.TheConstants.{PAIRS}
 use Rattle.dvg_frame.specs.declared.pair.Pair.{Pair}
 use Rattle.dvg_frame.specs.declared.place.Place.{Place}
 use Rattle.dvg_frame.specs.declared.place.Place.TheVariants.{InFrame, InRom}
-use Rattle.dvg_frame.specs.Growth.{Grows, AreMarked}
+use Rattle.dvg_frame.specs.Growth.{Grows, AreListed, AreMarked}
 use Rattle.dvg_frame.specs.Pairs.{IsPlace, IsPair, pair_of, place_index, index}
 
 -- pairs that have one index are one
@@ -87,21 +86,22 @@ none_marked marks n count is =
     let size : length marks ≡ n = ap length is ∙ length-replicate n false in
     let unset : (k : ℕ) → get_or marks k false ≡ false =
     λ k. ⊎_elim (λ within. ap (λ xs. get_or xs k false) is ∙ get_or-replicate n k false false within) (λ past. get_or-eq_default marks false (omega arith)) (cases_lt k n) in
-    let counted : count_by (λ mark. mark) marks ≡ n * 0 = ap (count_by (λ mark. mark)) is ∙ sum_by-replicate (λ mark. cond mark 1 0) n false in
     record {
-      size = size ∙ count;
+      listed = record {
+        size = size ∙ count;
+        held = λ pair valid is_set. let never : false ≡ true = sym (unset (index pair)) ∙ is_set in cc;
+        valid = All-nil IsPair;
+      };
       counted = omega arith;
-      held = λ pair valid is_set. let never : false ≡ true = sym (unset (index pair)) ∙ is_set in cc;
-      valid = All-nil IsPair;
     }
 
 module _ (marks : List Bool) (items : List Pair) (marked : AreMarked marks items) (pair : Pair) (valid : IsPair pair) (i : ℕ) (i_is : i ≡ index pair) (low : i < PAIRS) where
   pub is_held : get_or marks i false ≡ true → Contains items pair
-  is_held is_set = marked.held pair valid (ap (λ k. get_or marks k false) (sym i_is) ∙ is_set)
+  is_held is_set = marked.listed.held pair valid (ap (λ k. get_or marks k false) (sym i_is) ∙ is_set)
 
   pub has_room : get_or marks i false ≡ false → length items < PAIRS
   has_room unset =
-      let size = marked.size in
+      let size = marked.listed.size in
       let counted = marked.counted in
       let room = count_room marks i (omega arith) unset in
       omega arith
@@ -111,20 +111,50 @@ module _ (marks : List Bool) (items : List Pair) (marked : AreMarked marks items
       subst (λ xs. Contains xs other) (sym new_is)
       (⊎_elim
       (λ same. subst (Contains (items ++ pair ∷ [])) (same_pair pair other valid other_valid (sym i_is ∙ sym same)) (Contains-push items pair))
-      (λ differ. Contains-append_left items (pair ∷ []) other (marked.held other other_valid (sym (get_or-set_other marks i (index other) true false differ) ∙ is_set)))
+      (λ differ. Contains-append_left items (pair ∷ []) other (marked.listed.held other other_valid (sym (get_or-set_other marks i (index other) true false differ) ∙ is_set)))
       (cases_eq (index other) i))
 
   pub push_marked : get_or marks i false ≡ false → (new : List Pair) → new ≡ items ++ pair ∷ [] → AreMarked (set marks i true) new
   push_marked unset new new_is =
-      let size = marked.size in
+      let size = marked.listed.size in
       let counted = marked.counted in
       let within : i < length marks = omega arith in
       let counts : count_by (λ mark. mark) (set marks i true) + cond (get_or marks i false) 1 0 ≡ count_by (λ mark. mark) marks + 1 = sum_by-set (λ mark. cond mark 1 0) marks i true false within in
       let none = unset_counts (get_or marks i false) unset in
       let longer : length new ≡ length items + 1 = ap length new_is ∙ length-append items (pair ∷ []) in
       record {
-        size = length-set marks i true ∙ size;
+        listed = record {
+          size = length-set marks i true ∙ size;
+          held = held_other new new_is;
+          valid = subst (All IsPair) (sym new_is) (All-push IsPair items pair marked.listed.valid valid);
+        };
         counted = omega arith;
-        held = held_other new new_is;
-        valid = subst (All IsPair) (sym new_is) (All-push IsPair items pair marked.valid valid);
       }
+
+-- the last pair is taken out, and its mark is taken back
+module _ (marks : List Bool) (items rest : List Pair) (pair : Pair) (listed : AreListed marks items) (is : items ≡ rest ++ pair ∷ []) where
+  pub last_pair : IsPair pair
+  last_pair = (All-pop IsPair items rest (Some pair) is listed.valid).1
+
+  pub pop_listed : (i : ℕ) → i ≡ index pair → i < PAIRS → AreListed (set marks i false) rest
+  pop_listed i i_is low =
+      let size = listed.size in
+      let within : i < length marks = omega arith in
+      record {
+        size = length-set marks i false ∙ size;
+        held = λ other valid is_set.
+            ⊎_elim
+            (λ same. let never : false ≡ true = sym (get_or-set_same marks i false false within) ∙ ap (λ k. get_or (set marks i false) k false) (sym same) ∙ is_set in absurd (cc))
+            (λ differ.
+            let before = listed.held other valid (sym (get_or-set_other marks i (index other) false false differ) ∙ is_set) in
+            ⊎_elim (λ held. held) (λ last. absurd (differ (ap index (sym last) ∙ sym i_is))) (Contains-push_cases rest pair other (subst (λ xs. Contains xs other) is before)))
+            (cases_eq (index other) i);
+        valid = (All-pop IsPair items rest (Some pair) is listed.valid).0;
+      }
+
+-- with no item left, no mark is set
+pub none_left : (marks : List Bool) (items rest : List Pair) → AreListed marks items → rest ≡ items → (0 < length items → false ≡ true) → AreMarked marks rest
+none_left marks items rest listed same none =
+    let empty : length items ≡ 0 = ⊎_elim (λ some. let never : false ≡ true = none some in absurd (cc)) (λ few. omega arith) (cases_lt 0 (length items)) in
+    let size = ap length same in
+    record { listed = subst (AreListed marks) (sym same) listed; counted = omega arith }

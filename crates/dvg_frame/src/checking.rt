@@ -1,17 +1,21 @@
 //! The check of a draft.
-ghost use Rattle.std.specs.Prelude.{ℕ, ◌<◌, ◌↔◌, List, IsTrue, MatchOption, MatchResult};
+ghost use Rattle.std.specs.Prelude.{◌≡◌, [], ℕ, ◌<◌, ◌↔◌, List, IsTrue, MatchOption, MatchResult};
 ghost use Rattle.dvg_frame.specs.Faults.{IsChecked, Misses, Refuses};
 ghost use Rattle.dvg_frame.specs.Firsts.{IsLabs, NamesNone};
 ghost use Rattle.dvg_frame.specs.Frames.{IsFrame};
+ghost use Rattle.dvg_frame.specs.Steps.{Closed};
 
+use crate::checked::Checked;
 use crate::draft::Draft;
 use crate::frame::{Frame, MAX_WORDS};
 use crate::op::OpKind;
 use crate::place::FrameFault;
 use crate::sweep::sweep;
+use crate::worklist::Worklist;
 use dvg_code::Instr;
 use dvg_mem::Rom;
 use std::alloc::Allocator;
+use std::marker::Model;
 
 // Whether it is a LABS.
 fn is_labs(kind: OpKind) -> bool
@@ -59,7 +63,7 @@ fn words_or_fault(draft: &Draft) -> Result<u16, FrameFault>
     if !is_labs(draft.op(0).kind()) {
         return Err(FrameFault::NoLabs);
     }
-    let words = draft.words_before(count);
+    let words = draft.words();
     if words > MAX_WORDS {
         return Err(FrameFault::TooLong);
     }
@@ -69,25 +73,80 @@ fn words_or_fault(draft: &Draft) -> Result<u16, FrameFault>
     }
 }
 
-/// The frame of a draft that has no fault over the ROM, and else the fault that is picked: faults 1 to
-/// 4 in their order, then that of the first reached pair of place and depth that has one. Operations
-/// come before ROM words, each by number, and of one place the lesser depth comes first; if several
-/// faults hold at that pair, the least number is answered (this project's own choice).
-///
-/// The pairs begin with operation 0 at depth 0. A vector or a LABS leads to the place after it, a jump
-/// to its target, a call to its target one deeper and to the place after it at its own depth. A return,
-/// a halt and a pair with a fault lead nowhere.
-///
-/// Exactly one answer holds of each draft and ROM. The time is linear in the pairs that are reached.
-pub fn check<A: Allocator>(draft: &Draft, rom: &Rom<A>) -> Result<Frame, FrameFault>
-    ensures { IsChecked draft.now rom.now result }
+// How many words a draft without a fault has, and else the fault that is picked. The list has no pair at first,
+// and the reached ones at the end.
+fn judge<A: Allocator>(list: &mut Worklist, draft: &Draft, rom: &Rom<A>) -> Result<u16, FrameFault>
+    requires { list.old ≡ [] }
+    ensures { MatchResult result (λ words. IsFrame draft.now words × Closed draft.now rom.now) (λ fault. Refuses draft.now rom.now fault) }
 {
     let words = match words_or_fault(draft) {
         Ok(words) => words,
         Err(fault) => return Err(fault),
     };
-    match sweep(draft, rom) {
+    match sweep(list, draft, rom) {
         Some(found) => Err(found.fault),
-        None => Ok(Frame::of(draft.copy(), words)),
+        None => Ok(words),
+    }
+}
+
+/// The tables of the check, kept from one check to the next: a check takes time for the pairs that it
+/// reaches, and none for the size of the tables. They are about 54 KB.
+#[derive(Drop)]
+pub struct Checker {
+    reached: Worklist,
+}
+
+/// Contracts see nothing of it: between checks the tables are empty.
+impl Model for Checker {
+    ghost Value = { Unit {0} };
+
+    ghost view = { λ checker. tt };
+
+    ghost invariant = { λ checker. checker.reached ≡ [] };
+}
+
+impl Checker {
+    /// A checker. What it answers doesn't depend on what it checked before.
+    pub fn new() -> Checker {
+        Checker {
+            reached: Worklist::new(),
+        }
+    }
+
+    /// The draft, checked, where it has no fault over the ROM, and else the fault that is picked: faults 1 to
+    /// 4 in their order, then that of the first reached pair of place and depth that has one. Operations
+    /// come before ROM words, each by number, and of one place the lesser depth comes first; if several
+    /// faults hold at that pair, the least number is answered (this project's own choice).
+    ///
+    /// The pairs begin with operation 0 at depth 0. A vector or a LABS leads to the place after it, a jump
+    /// to its target, a call to its target one deeper and to the place after it at its own depth. A return,
+    /// a halt and a pair with a fault lead nowhere.
+    ///
+    /// Exactly one answer holds of each draft and ROM. The time is linear in the draft's operations and the
+    /// pairs that are reached.
+    pub fn check<'a, A: Allocator>(
+        &mut self,
+        draft: &'a Draft,
+        rom: &Rom<A>,
+    ) -> Result<Checked<'a>, FrameFault>
+        ensures { IsChecked draft.now rom.now result }
+    {
+        let words = judge(&mut self.reached, draft, rom);
+        self.reached.clear();
+        match words {
+            Ok(words) => Ok(Checked::of(draft, words)),
+            Err(fault) => Err(fault),
+        }
+    }
+}
+
+/// The frame of a draft that has no fault over the ROM, and else the fault that is picked, as by a
+/// `Checker`. Whoever checks many drafts keeps one of these, and saves the time to lay out its tables.
+pub fn check<A: Allocator>(draft: &Draft, rom: &Rom<A>) -> Result<Frame, FrameFault>
+    ensures { IsChecked draft.now rom.now result }
+{
+    match judge(&mut Worklist::new(), draft, rom) {
+        Ok(words) => Ok(Frame::of(draft.copy(), words)),
+        Err(fault) => Err(fault),
     }
 }

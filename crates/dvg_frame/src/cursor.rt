@@ -1,4 +1,5 @@
 //! Cursors: the bytes of a frame, one after the other.
+use crate::checked::Checked;
 use crate::frame::{Frame, byte_of};
 use dvg_code::Words;
 use dvg_mem::Half;
@@ -60,6 +61,22 @@ impl Cursor {
             address: 2 * half.base(),
             left,
         }
+    }
+
+    /// Begins anew, with the bytes of a checked draft's frame, laid out for this half. The draft is copied
+    /// into the memory that the cursor has: the time is linear in its operations, and in those of the frame
+    /// that the cursor kept.
+    pub fn restart(&mut self, checked: &Checked, half: Half)
+        ensures items { self.new ≡ addressed (2 * base half) (bytes (laid half checked.now)) }
+        ensures in_ram { All IsBehindWordZero self.new }
+    {
+        checked.copy_to(&mut self.frame);
+        self.half = half;
+        self.words = Words::new();
+        self.given = 0;
+        self.op = 0;
+        self.address = 2 * half.base();
+        self.left = 2 * self.frame.len_words();
     }
 
     /// How many items are still to come.

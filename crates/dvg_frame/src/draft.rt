@@ -23,11 +23,11 @@ pub struct DraftFull;
 /// found in constant time.
 #[derive(Drop)]
 pub struct Draft {
+    /// How many words all operations have.
+    words: u16,
     ops: ArrayVec<Op, MAX_OPS>,
     /// How many words the operations before each one have.
     words_before: ArrayVec<u16, MAX_OPS>,
-    /// How many words all operations have.
-    words: u16,
 }
 
 /// Contracts see the list of the operations.
@@ -45,9 +45,9 @@ impl Draft {
         ensures { result ≡ [] }
     {
         Draft {
+            words: 0,
             ops: ArrayVec::new(),
             words_before: ArrayVec::new(),
-            words: 0,
         }
     }
 
@@ -96,17 +96,31 @@ impl Draft {
     pub(crate) fn copy(&self) -> Draft
         ensures { result ≡ self.now }
     {
-        let mut ops = ArrayVec::new();
-        ops.try_extend_from_slice(self.ops.as_slice()).unwrap();
-        let mut words_before = ArrayVec::new();
-        words_before
-            .try_extend_from_slice(self.words_before.as_slice())
+        let mut copy = Draft::new();
+        copy.copy_from(self);
+        copy
+    }
+
+    // Takes the operations of another draft in place of its own, in the memory that it has.
+    pub(crate) fn copy_from(&mut self, other: &Draft)
+        ensures { self.new ≡ other.now }
+    {
+        self.ops.clear();
+        self.ops
+            .try_extend_from_slice(other.ops.as_slice())
             .unwrap();
-        Draft {
-            ops,
-            words_before,
-            words: self.words,
-        }
+        self.words_before.clear();
+        self.words_before
+            .try_extend_from_slice(other.words_before.as_slice())
+            .unwrap();
+        self.words = other.words;
+    }
+
+    // How many words all operations have.
+    pub(crate) fn words(&self) -> u16
+        ensures { result ≡ size self.now }
+    {
+        self.words
     }
 
     // How many words the operations before this number have.

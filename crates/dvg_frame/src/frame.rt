@@ -46,6 +46,16 @@ impl Frame {
         Frame { draft, words }
     }
 
+    // Becomes the frame of a draft without the faults 1 to 4, which has so many words, in the memory that
+    // it has.
+    pub(crate) fn copy_from(&mut self, draft: &Draft, words: u16)
+        requires { IsFrame draft.now words }
+        ensures { self.new ≡ draft.now }
+    {
+        self.draft.copy_from(draft);
+        self.words = words;
+    }
+
     /// How many words the frame has in a half, 1 to 511.
     pub fn len_words(&self) -> u16
         ensures value { result ≡ layout.size self.now }

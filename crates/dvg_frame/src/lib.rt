@@ -10,6 +10,7 @@
 //! of Margolin's *The Secret Life of Vector Generators*. No call of this crate takes memory.
 #![tactic(auto)]
 
+mod checked;
 mod checking;
 mod cursor;
 mod draft;
@@ -25,7 +26,8 @@ mod tests;
 mod way;
 mod worklist;
 
-pub use checking::check;
+pub use checked::Checked;
+pub use checking::{Checker, check};
 pub use cursor::Cursor;
 pub use draft::{Draft, DraftFull};
 pub use frame::Frame;

@@ -1,5 +1,5 @@
 //! The sweep over all pairs that a draft's run can come to.
-ghost use Rattle.std.specs.Prelude.{◌≡◌, ◌≤◌, ◌⊎◌, ℕ, IfSome, MatchOption, Some};
+ghost use Rattle.std.specs.Prelude.{◌≡◌, ◌≤◌, ◌⊎◌, ℕ, [], IfSome, MatchOption, Some};
 ghost use Rattle.dvg_frame.specs.Faults.{Begins, Least};
 ghost use Rattle.dvg_frame.specs.Growth.{Grows};
 ghost use Rattle.dvg_frame.specs.Pairs.{IsPair, index};
@@ -67,24 +67,25 @@ fn first_of(best: Option<Found>, found: Found) -> Found
     }
 }
 
-/// The first reached pair that has a fault, with that of least number there.
+/// The first reached pair that has a fault, with that of least number there. The list has no pair at first,
+/// and the reached ones at the end.
 ///
 /// Each pair is looked at once, when its turn comes in a list without doubles, so the time is linear in
 /// the number of reached pairs.
-pub(crate) fn sweep<A: Allocator>(draft: &Draft, rom: &Rom<A>) -> Option<Found>
-    requires { Begins draft.now }
+pub(crate) fn sweep<A: Allocator>(list: &mut Worklist, draft: &Draft, rom: &Rom<A>) -> Option<Found>
+    requires empty { list.old ≡ [] }
+    requires begins { Begins draft.now }
     ensures { MatchOption result
         ((p : Place) → (d : ℕ) → Reached draft.now rom.now p d → IsFine draft.now rom.now p d)
         (λ found. Least draft.now rom.now found.fault) }
 {
-    let mut list = Worklist::new();
     list.add(Pair::default());
     let mut best = None;
     let mut done = 0;
     while done < list.len() {
         let pair = list.at(done);
         match look(draft, rom, pair) {
-            Ok(way) => spread(&mut list, way, pair.depth),
+            Ok(way) => spread(list, way, pair.depth),
             Err(fault) => best = Some(first_of(best, Found { pair, fault })),
         }
         done += 1;

@@ -442,3 +442,57 @@ fn a_cursor_gives_what_the_frame_has(rt: HostRuntime) -> Result<(), Fail> {
     }
     Ok(())
 }
+
+// The next check by the checker answers what `check` answers.
+fn agrees(checker: &mut Checker, draft: &Draft, rom: &Rom) -> bool {
+    let answer = checker
+        .check(draft, rom)
+        .map(|checked| checked.to_frame().len_words());
+    answer == verdict(draft, rom)
+}
+
+#[test]
+fn a_checker_answers_as_if_each_check_were_its_first(rt: HostRuntime) -> Result<(), Fail> {
+    let rom = rom(rt.alloc(), &[(0x800, 0xF000), (0x801, 0xE800)])?;
+    let fine = after_labs(&[OpKind::CallRom(0x802), OpKind::JumpRom(0x800)])?;
+    let faulty = after_labs(&[OpKind::Call(2), OpKind::JumpRom(0x801), OpKind::Return])?;
+    let deep = after_labs(&[OpKind::Call(1), OpKind::Halt])?;
+    assert_eq!(rt; verdict(&fine, &rom), Ok(4));
+    assert!(rt; verdict(&deep, &rom).is_err());
+    let mut checker = Checker::new();
+    for draft in [&fine, &deep, &faulty, &Draft::new(), &deep, &fine, &fine] {
+        assert!(rt; agrees(&mut checker, draft, &rom));
+    }
+    Ok(())
+}
+
+#[test]
+fn a_cursor_that_begins_anew_gives_the_new_frame(rt: HostRuntime) -> Result<(), Fail> {
+    let rom = rom(rt.alloc(), &[])?;
+    let long = after_labs(&[OpKind::Jump(2), vctr()?, OpKind::Halt])?;
+    let short = after_labs(&[OpKind::Halt])?;
+    let mut checker = Checker::new();
+    let Ok(checked) = checker.check(&long, &rom) else {
+        return Err("refused".into());
+    };
+    assert_eq!(rt; checked.len_words(), 6);
+    let mut cursor = Cursor::new(checked.to_frame(), Half::H1);
+    assert_eq!(rt; cursor.next(), Some((0x402, 0x00)));
+    let Ok(checked) = checker.check(&short, &rom) else {
+        return Err("refused".into());
+    };
+    cursor.restart(&checked, Half::H0);
+    let items = [
+        (0x002, 0x00),
+        (0x003, 0xA0),
+        (0x004, 0x00),
+        (0x005, 0x00),
+        (0x006, 0x00),
+        (0x007, 0xB0),
+    ];
+    for item in items {
+        assert_eq!(rt; cursor.next(), Some(item));
+    }
+    assert_eq!(rt; cursor.next(), None);
+    Ok(())
+}

@@ -52,6 +52,15 @@ impl Worklist {
         self.pairs[i]
     }
 
+    // Takes all pairs out. Only their own marks are taken back, so the time is linear in their number.
+    pub(crate) fn clear(&mut self)
+        ensures { self.new ≡ [] }
+    {
+        while let Some(pair) = self.pairs.pop() {
+            self.marks[index_of(pair)] = false;
+        }
+    }
+
     // Adds a pair at the end, unless it is there.
     pub(crate) fn add(&mut self, pair: Pair)
         requires { IsPair pair }

@@ -15,7 +15,7 @@ use crate::entry::Entry;
 use crate::event::Event;
 use dvg_code::OutOfMemory;
 use dvg_driver::{Action, Driver, DriverFault};
-use dvg_frame::{Draft, check};
+use dvg_frame::{Checker, Draft};
 use dvg_gen::{GenFault, Generator, Taken};
 use dvg_mem::{Image, Rom, Store, fetch};
 use std::alloc::Allocator;
@@ -34,6 +34,8 @@ pub struct World<S: Store> {
     generator: Generator<S::Alloc>,
     driver: Driver,
     strobe_sent: bool,
+    /// The tables by which drafts are checked.
+    checker: Checker,
 }
 
 /// Contracts see a `State`.
@@ -72,6 +74,7 @@ impl<S: Store> World<S> {
             generator: Generator::new(alloc),
             driver: Driver::new(),
             strobe_sent: false,
+            checker: Checker::new(),
         })
     }
 
@@ -132,11 +135,11 @@ impl<S: Store> World<S> {
     {
         // A draft has at most 511 operations, as its type says.
         let _ = draft.len();
-        let frame = match check(draft, &self.rom) {
-            Ok(frame) => frame,
+        let checked = match self.checker.check(draft, &self.rom) {
+            Ok(checked) => checked,
             Err(fault) => return Entry::Refused(fault),
         };
-        match self.driver.offer(frame) {
+        match self.driver.offer_checked(&checked) {
             Ok(()) => Entry::Offered,
             Err(_) => Entry::Busy,
         }

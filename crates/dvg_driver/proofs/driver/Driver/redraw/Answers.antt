@@ -15,4 +15,4 @@ pub returns-in_default-clause-accepted : goal.returns-in_default-clause-accepted
 returns-in_default-clause-accepted c peeked life stands =
     let driver = c.self.inside in
     let at = at_phase driver c.args.self.now driver.phase peeked life c.self.view_is refl stands in
-    (λ ok. absurd (cc), λ both. absurd (not_whole driver.phase driver.half driver.flipped life c.in_default.not-Resting at.place both.1))
+    (λ ok. absurd (cc), λ both. absurd (not_whole driver.phase driver.cursor driver.half driver.flipped life c.in_default.not-Resting at.place both.1))

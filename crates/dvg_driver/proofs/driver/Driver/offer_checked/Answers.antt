@@ -1,0 +1,17 @@
+use Rattle.std.proofs.Common.{not, refl}
+use Rattle.dvg_driver.specs.declared.driver.Phase.TheVariants as phase
+use Rattle.dvg_driver.proofs.Shapes.{rests_whole}
+use Rattle.dvg_driver.proofs.Standing.{at_phase, not_whole}
+use Rattle.dvg_driver.proofs.driver.Driver.offer_checked.Goals as goal
+
+pub returns-in-Resting-clause-accepted : goal.returns-in-Resting-clause-accepted
+returns-in-Resting-clause-accepted c peeked life stands =
+    let driver = c.self.inside in
+    let at = at_phase driver c.args.self.now phase.Resting peeked life c.self.view_is c.in-Resting.is stands in
+    (λ ok. rests_whole life (not driver.flipped) at.place, λ whole. refl)
+
+pub returns-in_default-clause-accepted : goal.returns-in_default-clause-accepted
+returns-in_default-clause-accepted c peeked life stands =
+    let driver = c.self.inside in
+    let at = at_phase driver c.args.self.now driver.phase peeked life c.self.view_is refl stands in
+    (λ ok. absurd (cc), λ whole. absurd (not_whole driver.phase driver.cursor driver.half driver.flipped life c.in_default.not-Resting at.place whole))
