@@ -22,3 +22,5 @@ mod runs;
 mod scripts;
 #[cfg(test)]
 mod texts;
+#[cfg(test)]
+mod transcripts;
