@@ -13,6 +13,14 @@ mod memory;
 #[cfg(test)]
 mod mishaps;
 #[cfg(test)]
+mod plays;
+#[cfg(test)]
+mod plays_mishaps;
+#[cfg(test)]
+mod plays_resets;
+#[cfg(test)]
+mod plays_texts;
+#[cfg(test)]
 mod refusals;
 #[cfg(test)]
 mod roms;
@@ -22,3 +30,7 @@ mod runs;
 mod scripts;
 #[cfg(test)]
 mod texts;
+#[cfg(test)]
+mod traces;
+#[cfg(test)]
+mod transcripts;

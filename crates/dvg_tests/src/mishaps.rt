@@ -1,6 +1,7 @@
 //! Devices that fail once, at each call in turn: every failure is told at once, and nothing is tried
 //! again.
 use crate::devices::{FailsOnce, Failure, Mishap, Stubborn};
+use crate::traces::{FIRST_PICTURE, first_picture_shown, text_of};
 use dvg_frame::FrameFault;
 use dvg_tool::{Done, Job, TextFault, ToolFault, Verdict, Watched, finish, perform};
 use std::alloc::Global;
@@ -129,6 +130,71 @@ fn check_stops_at_the_first_failure(rt: HostRuntime) -> Result<(), Fail> {
             let taken = writer.into_inner().taken;
             assert_eq!(rt; taken.len(), calls_before as usize);
             assert!(rt; line.starts_with(taken.as_slice()));
+        }
+    }
+    Ok(())
+}
+
+#[test]
+fn play_is_a_job(rt: HostRuntime) -> Result<(), Fail> {
+    let text = text_of(rt.alloc(), FIRST_PICTURE)?;
+    for all in [false, true] {
+        let mut reader = Watched::new(text.as_str().as_bytes());
+        let mut writer = Watched::new(Vec::new(rt.alloc()));
+        let answer = perform(rt.alloc(), Job::Play { all }, &mut reader, &mut writer);
+        assert_eq!(rt; answer, Ok(Done::Written));
+        let wanted = first_picture_shown(rt.alloc(), all)?;
+        assert_eq!(rt; writer.into_inner().as_slice(), wanted.as_str().as_bytes());
+    }
+    Ok(())
+}
+
+#[test]
+fn play_stops_at_the_first_failing_read(rt: HostRuntime) -> Result<(), Fail> {
+    let text = text_of(rt.alloc(), FIRST_PICTURE)?;
+    let text = text.as_str().as_bytes();
+    let last = u32::try_from(text.len())?;
+    for mishap in [Mishap::Error, Mishap::Interrupted] {
+        for calls_before in 0..=last {
+            let mut reader = Watched::new(device(rt.alloc(), text, 1, calls_before, mishap));
+            let mut writer = Watched::new(Vec::new(rt.alloc()));
+            let job = Job::Play { all: true };
+            let answer = perform(rt.alloc(), job, &mut reader, &mut writer);
+            assert_eq!(rt;
+                answer,
+                Err(ToolFault::Reader),
+                "after {calls_before} reads"
+            );
+            assert_eq!(rt; reader.failures(), 1);
+            assert!(rt; writer.into_inner().is_empty());
+        }
+    }
+    Ok(())
+}
+
+#[test]
+fn play_stops_at_the_first_failing_write(rt: HostRuntime) -> Result<(), Fail> {
+    let text = text_of(rt.alloc(), FIRST_PICTURE)?;
+    for all in [false, true] {
+        let wanted = first_picture_shown(rt.alloc(), all)?;
+        let wanted = wanted.as_str().as_bytes();
+        let calls = u32::try_from(wanted.len())?;
+        for mishap in [Mishap::Error, Mishap::Interrupted, Mishap::TakesNothing] {
+            for calls_before in 0..calls {
+                let mut reader = Watched::new(text.as_str().as_bytes());
+                let mut writer = Watched::new(device(rt.alloc(), &[], 1, calls_before, mishap));
+                let job = Job::Play { all };
+                let answer = perform(rt.alloc(), job, &mut reader, &mut writer);
+                assert_eq!(rt;
+                    answer,
+                    Err(ToolFault::Writer),
+                    "after {calls_before} writes"
+                );
+                assert_eq!(rt; writer.failures(), 1);
+                let taken = writer.into_inner().taken;
+                assert_eq!(rt; taken.len(), calls_before as usize);
+                assert!(rt; wanted.starts_with(taken.as_slice()));
+            }
         }
     }
     Ok(())

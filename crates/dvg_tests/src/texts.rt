@@ -1,10 +1,10 @@
 //! The texts of faults, and what the program's words ask for.
 use dvg_frame::FrameFault;
-use dvg_tool::{Done, Job, TextFault, ToolFault, Verdict, job, status};
+use dvg_tool::{Done, Job, TextFault, ToolFault, Verdict, job, status, words_status};
 use std::test::Fail;
 
 /// Each fault, its text and the exit status.
-const FAULTS: [(ToolFault, &str, u8); 10] = [
+const FAULTS: [(ToolFault, &str, u8); 12] = [
     (ToolFault::Text(TextFault::TooLong), "too long", 1),
     (ToolFault::Text(TextFault::Odd), "odd length", 1),
     (ToolFault::Text(TextFault::Cut(0)), "cut at 000", 1),
@@ -12,6 +12,12 @@ const FAULTS: [(ToolFault, &str, u8); 10] = [
     (ToolFault::Text(TextFault::RomSize), "rom size", 1),
     (ToolFault::Text(TextFault::Syntax(2)), "syntax at line 2", 1),
     (ToolFault::Text(TextFault::Full(512)), "full at line 512", 1),
+    (
+        ToolFault::Text(TextFault::Many(8)),
+        "too many events at line 8",
+        1,
+    ),
+    (ToolFault::Text(TextFault::Unended), "offer without end", 1),
     (ToolFault::Reader, "read failed", 2),
     (ToolFault::Writer, "write failed", 2),
     (ToolFault::Memory, "out of memory", 2),
@@ -32,15 +38,25 @@ fn faults_have_their_texts(rt: HostRuntime) -> Result<(), Fail> {
     Ok(())
 }
 
+/// Words that ask for a job.
+const JOBS: [(&[&str], Job); 5] = [
+    (&["dvg", "list"], Job::List),
+    (&["dvg", "rom"], Job::Rom),
+    (&["dvg", "check"], Job::Check),
+    (&["dvg", "play"], Job::Play { all: false }),
+    (&["dvg", "play", "--all"], Job::Play { all: true }),
+];
+
+/// Words that ask for nothing the program can do.
+const REFUSED: [&[&str]; 3] = [&["dvg"], &["dvg", "draw"], &["dvg", "list", "--all"]];
+
 #[test]
-fn exactly_one_word_asks_for_a_job(rt: HostRuntime) {
-    assert_eq!(rt; job(&["dvg", "list"]), Some(Job::List));
-    assert_eq!(rt; job(&["dvg", "rom"]), Some(Job::Rom));
-    assert_eq!(rt; job(&["dvg", "check"]), Some(Job::Check));
-    assert_eq!(rt; job(&["any name", "list"]), Some(Job::List));
-    assert_eq!(rt; job(&[]), None);
-    assert_eq!(rt; job(&["list"]), None);
-    assert_eq!(rt; job(&["dvg", ""]), None);
-    assert_eq!(rt; job(&["dvg", "lists"]), None);
-    assert_eq!(rt; job(&["dvg", "list", "list"]), None);
+fn words_ask_for_jobs(rt: HostRuntime) {
+    for (words, asked) in &JOBS {
+        assert!(rt; job(rt.alloc(), words).is_ok_and(|job| job == *asked));
+    }
+    for words in &REFUSED {
+        let error = job(rt.alloc(), words).expect_err(&rt, "a refusal");
+        assert_eq!(rt; words_status(&error), 64);
+    }
 }

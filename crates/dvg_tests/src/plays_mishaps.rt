@@ -1,0 +1,255 @@
+//! The engine `play`: devices that give or take little or fail, and memory that is refused.
+use crate::devices::{Failure, Slow, Stubborn};
+use crate::traces::{FIRST_PICTURE, first_picture_shown, joined, played, text_of};
+use dvg_tool::{ToolFault, Watched, play};
+use dvg_world::{Entry, Event};
+use linked_list_allocator::LocalHeap;
+use std::alloc::{AllocError, Global};
+use std::mem::size_of;
+use std::test::Fail;
+
+/// A writer that takes at most so many bytes a call, and fails after so many calls.
+fn stubborn(alloc: Global, step: usize, calls_left: u32, failure: Failure) -> Stubborn {
+    Stubborn {
+        taken: Vec::new(alloc),
+        step,
+        calls_left,
+        failure,
+    }
+}
+
+/// Each line is one write, as far as the writer takes it: the second one fails.
+#[test]
+fn a_failing_second_write_leaves_the_first_line(rt: HostRuntime) -> Result<(), Fail> {
+    let text = text_of(rt.alloc(), FIRST_PICTURE)?;
+    for failure in [Failure::Error, Failure::TakesNothing] {
+        let mut reader = Watched::new(text.as_str().as_bytes());
+        let mut writer = Watched::new(stubborn(rt.alloc(), 64, 1, failure));
+        let answer = play(rt.alloc(), &mut reader, &mut writer, false);
+        assert_eq!(rt; answer, Err(ToolFault::Writer));
+        assert_eq!(rt; writer.failures(), 1);
+        assert_eq!(rt;
+            writer.into_inner().taken.as_slice(),
+            b"picture 23 1\n".as_slice()
+        );
+    }
+    Ok(())
+}
+
+/// Each call of a writer that takes one byte fails in turn.
+#[test]
+fn each_write_fails_in_turn(rt: HostRuntime) -> Result<(), Fail> {
+    let text = text_of(rt.alloc(), FIRST_PICTURE)?;
+    for all in [false, true] {
+        let wanted = first_picture_shown(rt.alloc(), all)?;
+        let calls = u32::try_from(wanted.len())?;
+        for failure in [Failure::Error, Failure::TakesNothing] {
+            for calls_left in 0..=calls {
+                let mut reader = Watched::new(text.as_str().as_bytes());
+                let mut writer = Watched::new(stubborn(rt.alloc(), 1, calls_left, failure));
+                let answer = play(rt.alloc(), &mut reader, &mut writer, all);
+                let failures = writer.failures();
+                let taken = writer.into_inner().taken;
+                assert!(rt; wanted.as_str().as_bytes().starts_with(taken.as_slice()));
+                assert_eq!(rt; taken.len(), calls_left as usize);
+                if calls_left < calls {
+                    assert_eq!(rt; answer, Err(ToolFault::Writer), "after {calls_left} writes");
+                    assert_eq!(rt; failures, 1);
+                } else {
+                    assert_eq!(rt; answer, Ok(()));
+                    assert_eq!(rt; failures, 0);
+                }
+            }
+        }
+    }
+    Ok(())
+}
+
+/// Each call of a reader that gives one byte fails in turn.
+#[test]
+fn each_read_fails_in_turn(rt: HostRuntime) -> Result<(), Fail> {
+    let text = text_of(rt.alloc(), FIRST_PICTURE)?;
+    let wanted = first_picture_shown(rt.alloc(), false)?;
+    let last = u32::try_from(text.len())?;
+    for calls_left in 0..=last.saturating_add(1) {
+        let mut reader = Watched::new(Slow {
+            rest: text.as_str().as_bytes(),
+            step: 1,
+            calls_left,
+        });
+        let mut writer = Watched::new(Vec::new(rt.alloc()));
+        let answer = play(rt.alloc(), &mut reader, &mut writer, false);
+        let written = writer.into_inner();
+        if calls_left <= last {
+            assert_eq!(rt; answer, Err(ToolFault::Reader), "after {calls_left} reads");
+            assert_eq!(rt; reader.failures(), 1);
+            assert!(rt; written.is_empty());
+        } else {
+            assert_eq!(rt; answer, Ok(()));
+            assert_eq!(rt; reader.failures(), 0);
+            assert_eq!(rt; written.as_slice(), wanted.as_str().as_bytes());
+        }
+    }
+    Ok(())
+}
+
+/// What is written of the first picture in a heap of so many bytes, and what is answered.
+fn played_in(
+    alloc: Global,
+    text: &str,
+    bytes: usize,
+    all: bool,
+) -> Result<(Vec<u8>, Result<(), ToolFault>), Fail> {
+    let heap = LocalHeap::new(alloc, bytes)?;
+    let mut reader = Watched::new(text.as_bytes());
+    let mut writer = Watched::new(Vec::new(alloc));
+    let answer = play(&heap, &mut reader, &mut writer, all);
+    Ok((writer.into_inner(), answer))
+}
+
+/// The entries of the first picture before the fetch that completes its vector.
+fn before_the_vector(alloc: Global) -> Result<String, Fail> {
+    let text = first_picture_shown(alloc, true)?;
+    match text.as_str().split_once("22 fetched") {
+        Some((before, _)) => joined(alloc, &[before]),
+        None => Err("no such entry".into()),
+    }
+}
+
+/// Heaps of rising sizes, up to the first that has room for the whole picture.
+#[test]
+fn a_refusal_leaves_a_beginning_of_the_log(rt: HostRuntime) -> Result<(), Fail> {
+    let text = text_of(rt.alloc(), FIRST_PICTURE)?;
+    let before = before_the_vector(rt.alloc())?;
+    let wanted = first_picture_shown(rt.alloc(), true)?;
+    let mut refused = 0u32;
+    for slots in 0..4096usize {
+        let (written, answer) = played_in(rt.alloc(), text.as_str(), slots * 16, true)?;
+        if answer == Ok(()) {
+            assert_eq!(rt; written.as_slice(), wanted.as_str().as_bytes());
+            break;
+        }
+        refused = refused.saturating_add(1);
+        assert_eq!(rt; answer, Err(ToolFault::Memory));
+        assert!(rt; written.is_empty() || written.as_slice() == before.as_str().as_bytes());
+    }
+    assert!(rt; 128 < refused && refused < 4096, "refused {refused}");
+    Ok(())
+}
+
+/// A heap whose free bytes are parted by a wall: so many are before it, and the rest is behind it.
+fn wall_in<'a>(heap: &'a LocalHeap, front: usize) -> Result<Vec<u8, &'a LocalHeap>, AllocError> {
+    let room = Vec::<u8, &'a LocalHeap>::with_capacity(heap, front)?;
+    let wall = Vec::with_capacity(heap, 16)?;
+    drop(room);
+    Ok(wall)
+}
+
+/// In front of the wall there is room for the text and for a vector of events that grows from 4 to 8, 16 and 32.
+/// What is given back of that is just enough for the log, so the stroke has to find room behind the wall.
+#[test]
+fn a_refusal_at_the_vector_leaves_the_entries_before(rt: HostRuntime) -> Result<(), Fail> {
+    let event = size_of::<Event<&LocalHeap>>();
+    let entry = size_of::<Entry<&LocalHeap>>();
+    let given_back = event.saturating_mul(28).saturating_add(96);
+    let more = given_back
+        .checked_div(entry)
+        .unwrap_or(0)
+        .saturating_sub(24);
+    let mut text = text_of(rt.alloc(), FIRST_PICTURE)?;
+    text.push_str(format!(in rt.alloc(); "tick {more}\n")?.as_str())?;
+    let front = event.saturating_mul(60).saturating_add(96);
+    let before = before_the_vector(rt.alloc())?;
+    let (mut refused, mut whole) = (0u32, false);
+    for slots in 0..2048usize {
+        let heap = LocalHeap::new(rt.alloc(), front.saturating_add(slots * 16))?;
+        let Ok(wall) = wall_in(&heap, front) else {
+            continue;
+        };
+        let mut reader = Watched::new(text.as_str().as_bytes());
+        let mut writer = Watched::new(Vec::new(rt.alloc()));
+        let answer = play(&heap, &mut reader, &mut writer, true);
+        drop(wall);
+        let written = writer.into_inner();
+        if answer == Ok(()) {
+            whole = true;
+            break;
+        }
+        assert_eq!(rt; answer, Err(ToolFault::Memory));
+        if !written.is_empty() {
+            assert_eq!(rt; written.as_slice(), before.as_str().as_bytes());
+            refused = refused.saturating_add(1);
+        }
+    }
+    assert!(rt; whole);
+    assert!(rt; refused > 0);
+    Ok(())
+}
+
+/// Without `--all` nothing goes out before the picture is whole.
+#[test]
+fn a_refusal_leaves_no_picture(rt: HostRuntime) -> Result<(), Fail> {
+    let text = text_of(rt.alloc(), FIRST_PICTURE)?;
+    let wanted = first_picture_shown(rt.alloc(), false)?;
+    let mut whole = false;
+    for slots in 0..4096usize {
+        let (written, answer) = played_in(rt.alloc(), text.as_str(), slots * 16, false)?;
+        if answer == Ok(()) {
+            assert_eq!(rt; written.as_slice(), wanted.as_str().as_bytes());
+            whole = true;
+            break;
+        }
+        assert_eq!(rt; answer, Err(ToolFault::Memory));
+        assert!(rt; written.is_empty());
+    }
+    assert!(rt; whole);
+    Ok(())
+}
+
+/// A trace with a picture of 70 strokes: its vectors are fetched by the events 157 to 226.
+fn long_picture(alloc: Global) -> Result<String, Fail> {
+    let mut text = text_of(alloc, "tick 2; offer; labs 0 0 0")?;
+    for _ in 0..70 {
+        text.push_str("svec 2 0 0 1\n")?;
+    }
+    text.push_str("halt\nend\ntick 150\nstrobe\nfetch 74\n")?;
+    Ok(text)
+}
+
+/// The number at the front of a line.
+fn number_of(line: &str) -> Option<usize> {
+    line.split(' ').next()?.parse().ok()
+}
+
+/// In some heaps the memory for one stroke more is refused: what goes out is the log before that fetch.
+#[test]
+fn a_refusal_amid_a_picture_leaves_the_log_before(rt: HostRuntime) -> Result<(), Fail> {
+    let text = long_picture(rt.alloc())?;
+    let (wanted, answer) = played(rt.alloc(), text.as_str(), true)?;
+    assert_eq!(rt; answer, Ok(()));
+    let (mut stopped, mut whole) = (0u32, false);
+    for slots in 0..4096usize {
+        let (written, answer) = played_in(rt.alloc(), text.as_str(), slots * 16, true)?;
+        if answer == Ok(()) {
+            assert_eq!(rt; written.as_slice(), wanted.as_str().as_bytes());
+            whole = true;
+            break;
+        }
+        assert_eq!(rt; answer, Err(ToolFault::Memory));
+        if written.is_empty() {
+            continue;
+        }
+        stopped = stopped.saturating_add(1);
+        let written = String::from_utf8(written)?;
+        let rest = wanted
+            .as_str()
+            .strip_prefix(written.as_str())
+            .ok_or("other text")?;
+        let number = number_of(rest).ok_or("not a whole line")?;
+        assert!(rt; 157 <= number && number <= 226, "event {number}");
+        assert_eq!(rt; written.as_str().split('\n').count(), number + 1);
+    }
+    assert!(rt; whole);
+    assert!(rt; stopped > 0);
+    Ok(())
+}
