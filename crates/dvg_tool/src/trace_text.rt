@@ -136,7 +136,7 @@ impl<A: Allocator + Copy> Reading<A> {
         ensures fault { IfErr result (λ fault. StopsLine fault (events_of self.old) self.old.opened line.now) }
     {
         if line == b"offer".as_slice() {
-            self.opened = Some(Draft::new());
+            self.open_offer();
             return Ok(());
         }
         if let Some(told) = read_event_line(line) {
@@ -150,6 +150,14 @@ impl<A: Allocator + Copy> Reading<A> {
         };
         given.put(&mut self.rom);
         Ok(())
+    }
+
+    // Opens an offer. It stands by itself, as other lines are not to pay for the room of a draft.
+    #[inline(never)]
+    fn open_offer(&mut self)
+        ensures { self.new ≡ record self.old { opened = Some [] } }
+    {
+        self.opened = Some(Draft::new());
     }
 
     // Ends the offer that is open.
