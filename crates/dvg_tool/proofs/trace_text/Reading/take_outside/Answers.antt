@@ -1,18 +1,19 @@
-use Rattle.std.proofs.Common.{◌≡◌, Some, List, codes, length, map, sym, ap, ◌∙◌, vec_len, rules}
+use Rattle.std.proofs.Common.{◌≡◌, Some, List, [], codes, length, map, refl, sym, subst, ◌∙◌, vec_len, rules}
 use Rattle.std.proofs.lemmas.List.{length-map}
 use Rattle.dvg_world.specs.Events.{Happening, happening_of}
 use Rattle.dvg_tool.specs.declared.trace_text.Reading.{Reading}
 use Rattle.dvg_tool.specs.EventLines.{happenings}
 use Rattle.dvg_tool.specs.Texts.{parts}
 use Rattle.dvg_tool.specs.TraceTexts.{EventParts}
-use Rattle.dvg_tool.specs.TraceGives.{events_of}
+use Rattle.dvg_tool.specs.TraceGives.{ReadsLine, events_of}
 use Rattle.dvg_tool.proofs.TraceMoves.{events_fit, events_stop, events_taken, held_on, none_of, not_none, offer_taken, outside_stops, rom_taken}
 use Rattle.dvg_tool.proofs.trace_text.Reading.take_outside.Goals as goal
 
 pub returns-then-eq-clause-taken : goal.returns-then-eq-clause-taken
 returns-then-eq-clause-taken g c =
     let named : c.args.line.now ≡ codes "offer" = search rules in
-    offer_taken (events_of c.args.self.now) c.args.self.now.opened (Some c.new.result) c.args.line.now c.args.self.now.rom c.requires.outside named (ap Some c.new.ensures)
+    let taken = offer_taken (events_of c.args.self.now) c.args.self.now.opened (Some []) c.args.line.now c.args.self.now.rom c.requires.outside named refl in
+    subst (ReadsLine c.args.self.now c.args.line.now) (sym c.open_offer.ensures) taken
 
 pub returns-in-Some-clause-taken : goal.returns-in-Some-clause-taken
 returns-in-Some-clause-taken g c =
