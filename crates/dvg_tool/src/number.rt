@@ -1,7 +1,27 @@
 //! Numbers in a line of a text.
-ghost use Rattle.std.specs.Prelude.{◌≡◌, ◌<◌, ◌≤◌, ◌^◌, ℕ, ℤ, IfSome, Some, decimal, unsigned_abs};
+ghost use Rattle.std.specs.Prelude.{◌≡◌, ◌<◌, ◌≤◌, ◌^◌, ℕ, ℤ, IfSome, Some, length, decimal, unsigned_abs};
 ghost use Rattle.std.specs.Fmt.{signed_decimal};
+ghost use Rattle.std.specs.Str.Parse.{AllDigits, digits_value};
 ghost use Rattle.dvg_tool.specs.Texts.{IsHex};
+
+/// The most decimal digits of a number of 16 bits.
+const MAX_DIGITS: usize = 5;
+
+// The number that decimal digits spell. None where another byte is among them.
+fn natural_value(digits: &[u8]) -> Option<u32>
+    requires { length digits.now ≤ 5 }
+    ensures found { IfSome result (λ n. AllDigits 10 digits.now × (digits_value 10 digits.now ≡ n)) }
+    ensures only { AllDigits 10 digits.now → result ≡ Some (digits_value 10 digits.now) }
+{
+    let mut number = 0;
+    for digit in digits {
+        if !digit.is_ascii_digit() {
+            return None;
+        }
+        number = 10 * number + u32::from(*digit - b'0');
+    }
+    Some(number)
+}
 
 /// A decimal number of at most 16 bits, without a sign and without leading zeros.
 pub fn natural(part: &[u8]) -> Option<u16>
@@ -9,10 +29,10 @@ pub fn natural(part: &[u8]) -> Option<u16>
     ensures only { (n : ℕ) → n < 2 ^ 16 → part.now ≡ decimal n → result ≡ Some n }
 {
     let first = *part.first()?;
-    if !first.is_ascii_digit() || (first == b'0' && part.len() > 1) {
+    if part.len() > MAX_DIGITS || (first == b'0' && part.len() > 1) {
         return None;
     }
-    str::from_utf8(part).ok()?.parse().ok()
+    u16::try_from(natural_value(part)?).ok()
 }
 
 /// A decimal number of at most 8 bits, without a sign and without leading zeros.
