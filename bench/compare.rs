@@ -87,7 +87,7 @@ const PART_ROWS: &[Row] = &[
         Vec::new,
     ),
     row("driver, 1,000,000 ticks", &["driver"], Vec::new),
-    row("10 runs of 65,536 mixed events", &["world"], Vec::new),
+    row("100 runs of 65,536 mixed events", &["world"], Vec::new),
 ];
 
 /// How long all rows together are timed; each gets the same part.

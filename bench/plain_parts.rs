@@ -193,7 +193,7 @@ fn mixed_events() -> Vec<Event> {
 }
 
 /// How often the events are run.
-const RUNS: u32 = 10;
+const RUNS: u32 = 100;
 
 /// Runs the events from a RAM of zeros.
 fn run_events() {

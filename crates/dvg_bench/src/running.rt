@@ -13,7 +13,7 @@ use std::alloc::Global;
 const EVENTS: usize = 65_536;
 
 /// How often they are run.
-const RUNS: u32 = 10;
+const RUNS: u32 = 100;
 
 /// A small linear congruential generator (Knuth's MMIX constants), of which the high bits are used.
 #[derive(Clone, Copy)]
