@@ -1,7 +1,8 @@
 //! Compares the proved program with its plain twin: the same inputs, many times, one program after the other.
 //!
 //! `compare ROWS PROVED PLAIN FOLDER` runs both programs on each row's input, checks that they write the same and end
-//! with the row's status each time, and prints a table. ROWS is `dvg` or `parts`. It makes the inputs itself and keeps its files in FOLDER.
+//! with the row's status each time, and prints a table. ROWS is `dvg`, `play` or `parts`. It makes the inputs itself and
+//! keeps its files in FOLDER.
 //! It is made for 64-bit Linux, whose `wait4` tells what a single process used.
 
 use std::fs::{self, File};
@@ -34,6 +35,10 @@ const DVG_ROWS: &[Row] = &[
         &["check"],
         nested_over_rom,
     ),
+];
+
+/// What is compared of the command `play`, which is compared with two twins.
+const PLAY_ROWS: &[Row] = &[
     row("play, 65,536 mixed events", &["play"], mixed_events),
     row(
         "play --all, 65,536 mixed events",
@@ -562,6 +567,7 @@ fn main() -> ExitCode {
     };
     let rows = match rows.as_str() {
         "dvg" => DVG_ROWS,
+        "play" => PLAY_ROWS,
         "parts" => PART_ROWS,
         _ => return misuse(),
     };

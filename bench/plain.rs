@@ -3,6 +3,7 @@
 //! It has the same limits, texts and statuses. Only where standard input or standard output was closed by the
 //! caller do the two differ: Rust's runtime opens /dev/null in its place.
 
+mod plain_drafts;
 mod plain_driver;
 mod plain_frames;
 mod plain_generator;

@@ -1,11 +1,13 @@
 //! The plain Rust twin of the proved program `dvg_bench`, with the same words and lines: a generator that is handed
 //! one word a call with a looping display list, and the check of a draft, written for speed and clarity with no proof.
 
+mod plain_drafts;
 mod plain_driver;
 mod plain_frames;
 mod plain_generator;
 mod plain_world;
 
+use plain_drafts::Draft;
 use plain_driver::{Action, Driver};
 use plain_frames::{Instr, Op, Rom, check};
 use plain_generator::{Generator, Taken};
@@ -155,22 +157,23 @@ impl Random {
 const EVENTS: usize = 65_536;
 
 /// A draft of one, two or three short vectors.
-fn small_draft(vectors: u64) -> Vec<Op> {
-    let mut ops = vec![Op::Draw(Instr::Labs {
+fn small_draft(vectors: u64) -> Draft {
+    let mut draft = Draft::new();
+    draft.push(Op::Draw(Instr::Labs {
         x: 512,
         y: 400,
         scale: 3,
-    })];
+    }));
     for _ in 0..vectors {
-        ops.push(Op::Draw(Instr::Svec {
+        draft.push(Op::Draw(Instr::Svec {
             scale: 3,
             dx: -3,
             dy: -2,
             z: 3,
         }));
     }
-    ops.push(Op::Halt);
-    ops
+    draft.push(Op::Halt);
+    draft
 }
 
 /// Mixed events: most are ticks and fetches.

@@ -1,6 +1,7 @@
 //! Texts of traces in plain Rust, for the plain twin.
 
-use crate::plain_frames::{MOST, Op, Rom};
+use crate::plain_drafts::Draft;
+use crate::plain_frames::{MOST, Rom};
 use crate::plain_texts::{MOST_TEXT_BYTES, TextFault, hex, last, natural, read_op, read_rom_line};
 use crate::plain_world::Event;
 
@@ -46,23 +47,23 @@ pub fn read_trace(text: &[u8]) -> Result<(Vec<Event>, Rom), TextFault> {
     }
     let mut rom = [0xD000; 1024];
     let mut events = Vec::new();
-    let mut offer = None;
+    let mut offer: Option<Box<Draft>> = None;
     // The part behind the last LF is no line where it is empty, and such a line is passed over.
     for (line, number) in text.split(|byte| *byte == b'\n').zip(1..) {
         if line.is_empty() || line[0] == b'#' {
             continue;
         }
-        if let Some(ops) = offer.take() {
+        if let Some(draft) = &mut offer {
             if line != b"end" {
-                offer = Some(add_op(ops, line, number)?);
+                add_op(draft, line, number)?;
                 continue;
             }
             if events.len() == MOST_EVENTS {
                 return Err(TextFault::Many(number));
             }
-            events.push(Event::Offer(Box::new(ops)));
+            events.extend(offer.take().map(Event::Offer));
         } else if line == b"offer" {
-            offer = Some(Vec::new());
+            offer = Some(Box::new(Draft::new()));
         } else if let Some(told) = read_event(line) {
             add_events(told, &mut events).ok_or(TextFault::Many(number))?;
         } else if !events.is_empty() || read_rom_line(line, &mut rom).is_none() {
@@ -75,14 +76,14 @@ pub fn read_trace(text: &[u8]) -> Result<(Vec<Event>, Rom), TextFault> {
     }
 }
 
-/// The operations with that of one line more.
-fn add_op(mut ops: Vec<Op>, line: &[u8], number: usize) -> Result<Vec<Op>, TextFault> {
+/// Adds the operation of one line more.
+fn add_op(draft: &mut Draft, line: &[u8], number: usize) -> Result<(), TextFault> {
     let op = read_op(line).ok_or(TextFault::Syntax(number))?;
-    if ops.len() == MOST {
+    if draft.ops().len() == MOST {
         return Err(TextFault::Full(number));
     }
-    ops.push(op);
-    Ok(ops)
+    draft.push(op);
+    Ok(())
 }
 
 /// Adds the events of a line. None where there would be too many.

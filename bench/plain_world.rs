@@ -1,12 +1,13 @@
 //! Both ends of the vector RAM in plain Rust, for the plain twins.
 
+use crate::plain_drafts::Draft;
 use crate::plain_driver::{Action, Driver};
-use crate::plain_frames::{FrameFault, Op, Rom, check};
+use crate::plain_frames::{FrameFault, Rom, check};
 use crate::plain_generator::{GenFault, Generator, Stroke, Taken};
 
 /// What can happen.
 pub enum Event {
-    Offer(Box<Vec<Op>>),
+    Offer(Box<Draft>),
     Redraw,
     Tick,
     Strobe,
@@ -88,7 +89,7 @@ impl World<'_> {
 
     pub fn apply(&mut self, event: &Event) -> Entry {
         match event {
-            Event::Offer(ops) => match check(ops, self.rom) {
+            Event::Offer(draft) => match check(draft.ops(), self.rom) {
                 Err(fault) => Entry::Refused(fault),
                 Ok(frame) => {
                     if self.driver.offer(frame) {
