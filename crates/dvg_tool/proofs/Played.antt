@@ -1,5 +1,5 @@
 -- What is shown of the log of a run.
-use Rattle.std.proofs.Common.{◌≡◌, ℕ, ◌+◌, ◌≤◌, ◌<◌, List, [], ◌∷◌, ◌++◌, map, reverse, length, drop, Bool, refl, sym, ap, ◌∙◌, subst, le_of_suc-le-suc, not-suc-le-zero, ⊎_elim, arith}
+use Rattle.std.proofs.Common.{◌≡◌, ℕ, ◌+◌, ◌≤◌, ◌<◌, List, [], ◌∷◌, ◌++◌, map, reverse, length, drop, Bool, refl, sym, ap, ◌∙◌, subst, le_of_suc-le-suc, not-suc-le-zero, ⊎_elim, arith, ◌⊎◌, inl, inr}
 use Rattle.std.proofs.lemmas.List.{drop_all, length-replicate, reverse-reverse, drop_more}
 use Rattle.std.proofs.lemmas.List.Elements.{All-replicate}
 use Rattle.dvg_mem.specs.Memory.{IsImage}
@@ -15,7 +15,7 @@ use Rattle.dvg_world.specs.Log.{Line, Log, ◌⟼◌}
 use Rattle.dvg_world.specs.Runs.{IsStop, log_of}
 use Rattle.dvg_world.specs.Wanting.{TakesMemory}
 use Rattle.dvg_world.proofs.Runs.{log_of-none}
-use Rattle.dvg_tool.specs.Plays.{IsEnd, IsPlayed, entry_of, event_of, log_text, zeros}
+use Rattle.dvg_tool.specs.Plays.{IsPlayed, StopsNext, entry_of, event_of, log_text, zeros}
 use Rattle.dvg_tool.specs.Shows.{shown}
 use Rattle.dvg_tool.specs.TraceGives.{GivesTrace}
 
@@ -60,16 +60,7 @@ played_whole text R events entries gives legal all = record {
   legal = legal;
   in_order = in_order events entries (omega arith)
       ∙ ap (λ l. map event_of (reverse (log_of events entries)) ++ map happening_of l) (drop_all (length entries) events (omega arith));
-  ended = tt;
 }
-
-ends_at_once : (R : List ℕ) (later : List Happening) → IsEnd R [] later
-ends_at_once R [] = tt
-ends_at_once R (event ∷ later) = tt
-
-ends_there : (R : List ℕ) (log : Log) (event : Happening) (later : List Happening) → TakesMemory R zeros log event → IsEnd R log (event ∷ later)
-ends_there R [] event later takes = tt
-ends_there R (line ∷ log) event later takes = takes
 
 within : {A : Type 0} (R : List ℕ) (events : List (Event A)) (stopped : Stopped A) → IsStop R zeros events stopped → stopped.event ≤ length events
 within R events stopped stop = ⊎_elim (λ first. omega arith) (λ at. let low = slice_get_within events stopped.event at.0 at.1 in omega arith) stop
@@ -78,29 +69,35 @@ no_item : {X : Type 0} (xs : List X) → length xs ≡ 0 → xs ≡ []
 no_item [] none = refl
 no_item (x ∷ xs) none = absurd (omega arith)
 
+-- some events were played, up to where memory was refused
+pub record PlayedPart (text : List ℕ) (log : Log) (later : List Happening) : Type 0 where
+  pub played : IsPlayed text log later
+  pub stops : (log ≡ []) ⊎ StopsNext played.R log later
+
 stopped_early : {A : Type 0} (R : List ℕ) (events : List (Event A)) (stopped : Stopped A) → length stopped.entries.items ≡ stopped.event → IsStop R zeros events stopped
-    → IsEnd R (log_of events stopped.entries.items) (map happening_of (drop (length stopped.entries.items) events))
+    → (log_of events stopped.entries.items ≡ []) ⊎ StopsNext R (log_of events stopped.entries.items) (map happening_of (drop (length stopped.entries.items) events))
 stopped_early R events stopped count stop = ⊎_elim
-    (λ first. let none = no_item stopped.entries.items (count ∙ first) in
-    subst (λ log. IsEnd R log (map happening_of (drop (length stopped.entries.items) events))) (sym (ap (log_of events) none ∙ log_of-none events)) (ends_at_once R _))
+    (λ first. inl (ap (log_of events) (no_item stopped.entries.items (count ∙ first)) ∙ log_of-none events))
     (λ at.
     let item = get_or_from_slice_get events stopped.event at.0 at.0 at.1 in
     let there : drop (length stopped.entries.items) events ≡ at.0 ∷ drop (stopped.event + 1) events =
     ap (λ k. drop k events) count ∙ drop_more events stopped.event at.0 (slice_get_within events stopped.event at.0 at.1) ∙ ap (λ e. e ∷ drop (stopped.event + 1) events) item in
-    subst (λ l. IsEnd R (log_of events stopped.entries.items) (map happening_of l)) (sym there) (ends_there R _ _ _ at.2))
+    inr (subst (λ l. StopsNext R (log_of events stopped.entries.items) (map happening_of l)) (sym there) at.2))
     stop
 
 -- the events before the one at which memory was refused were played
 pub played_part : {A : Type 0} (text R : List ℕ) (events : List (Event A)) (stopped : Stopped A) → GivesTrace text (map happening_of events) R → IsLegal R zeros (log_of events stopped.entries.items)
     → length stopped.entries.items ≡ stopped.event → IsStop R zeros events stopped
-    → IsPlayed text (log_of events stopped.entries.items) (map happening_of (drop (length stopped.entries.items) events))
+    → PlayedPart text (log_of events stopped.entries.items) (map happening_of (drop (length stopped.entries.items) events))
 played_part text R events stopped gives legal count stop = record {
-  events = map happening_of events;
-  R = R;
-  gives = gives;
-  legal = legal;
-  in_order = in_order events stopped.entries.items (let h = within R events stopped stop in omega arith);
-  ended = stopped_early R events stopped count stop;
+  played = record {
+    events = map happening_of events;
+    R = R;
+    gives = gives;
+    legal = legal;
+    in_order = in_order events stopped.entries.items (let h = within R events stopped stop in omega arith);
+  };
+  stops = stopped_early R events stopped count stop;
 }
 
 pub few : {A : Type 0} (R : List ℕ) (events : List (Event A)) (stopped : Stopped A) → length stopped.entries.items ≡ stopped.event → IsStop R zeros events stopped → length stopped.entries.items ≤ length events

@@ -1,5 +1,5 @@
 -- From what was read of a trace to what the reader had.
-use Rattle.std.proofs.Common.{◌≡◌, ℕ, List, [], ◌⊎◌, inl, inr, ⊎_elim, Bool, Option, None, Some, IfSome, Result, Ok, Err, length, take, length-take, ap, subst, sym, arith}
+use Rattle.std.proofs.Common.{◌≡◌, ℕ, List, [], ◌⊎◌, inl, inr, ⊎_elim, Bool, Option, None, Some, IfSome, Result, Ok, Err, length, take, length-take, ap, refl, subst, sym, ◌∙◌, arith}
 use Rattle.std.specs.Io.KnownBytes.{Appends}
 use Rattle.dvg_world.specs.Events.{Happening}
 use Rattle.dvg_world.specs.Log.{Log}
@@ -13,6 +13,7 @@ use Rattle.dvg_tool.specs.TraceGives.{StopsReading}
 use Rattle.dvg_tool.specs.TraceTexts.{HasTraceFault, MeetsSyntax, MeetsFull, MeetsMany, EndsInside}
 use Rattle.dvg_tool.specs.Watching.{BeginsToWrite}
 use Rattle.dvg_tool.proofs.Known.{Appends-nil}
+use Rattle.dvg_tool.proofs.Played.{PlayedPart}
 use Rattle.dvg_tool.proofs.Whole.{Read, whole}
 
 -- the fault of what was read is that of the input
@@ -44,28 +45,37 @@ misread all Memory (Some input) old read e h = inl (Appends-nil old)
 misread all Reader (Some input) old read e h = absurd h
 misread all Writer (Some input) old read e h = absurd h
 
+-- so was a part
+played_so_far : {log : Log} {later : List Happening} (input read : List ℕ) → read ≡ take 1048577 input → PlayedPart read log later → PlayedPart input log later
+played_so_far {log = log} {later = later} input read e p = subst (λ text. PlayedPart text log later) (whole 1048576 read input e p.played.gives.denotes.short) p
+
 -- all events were played, and what is shown of them was written, or the writer failed
 pub told_whole : {T : Type 0} {log : Log} (all : Bool) (answer : Result T ToolFault) (known old new : Option (List ℕ)) (read text : List ℕ) → Read 1048576 known read → IsPlayed read log [] → text ≡ log_text all log
     → WritesText answer text old new → IfSome known (λ input. Plays all answer input old new)
 told_whole all answer None old new read text e p is wrote = tt
 told_whole {log = log} all (Ok done) (Some input) old new read text e p is wrote = (log, played input read e p, subst (Appends old new) is wrote)
 told_whole {log = log} all (Err Writer) (Some input) old new read text e p is wrote =
-    record { log = log; later = []; played = played input read e p; holds = subst (λ text. BeginsToWrite text old new) is wrote }
+    record { log = log; later = []; played = played input read e p; ends = inl refl; holds = subst (λ text. BeginsToWrite text old new) is wrote }
 told_whole all (Err _) (Some input) old new read text e p is wrote = absurd wrote
 
 -- some events were played, and what is shown of them was written
-pub told_part : {log : Log} {later : List Happening} (all : Bool) (known old new : Option (List ℕ)) (read text : List ℕ) → Read 1048576 known read → IsPlayed read log later → text ≡ log_text all log → Appends old new text
+pub told_part : {log : Log} {later : List Happening} (all : Bool) (known old new : Option (List ℕ)) (read text : List ℕ) → Read 1048576 known read → PlayedPart read log later → text ≡ log_text all log → Appends old new text
     → IfSome known (λ input. StopsPlay all Memory input old new)
 told_part all None old new read text e p is wrote = tt
 told_part {log = log} {later = later} all (Some input) old new read text e p is wrote =
-    inr (record { log = log; later = later; played = played input read e p; holds = subst (Appends old new) is wrote })
+    let here = played_so_far input read e p in
+    ⊎_elim
+        (λ none. inl (subst (Appends old new) (is ∙ ap (log_text all) none) wrote))
+        (λ stops. inr (record { log = log; later = later; played = here.played; ends = stops; holds = subst (Appends old new) is wrote }))
+        here.stops
 
 -- or the writer failed
-pub broke_off : {log : Log} {later : List Happening} (all : Bool) (fault : ToolFault) (known old new : Option (List ℕ)) (read text : List ℕ) → Read 1048576 known read → IsPlayed read log later → text ≡ log_text all log
+pub broke_off : {log : Log} {later : List Happening} (all : Bool) (fault : ToolFault) (known old new : Option (List ℕ)) (read text : List ℕ) → Read 1048576 known read → PlayedPart read log later → text ≡ log_text all log
     → StopsWriting fault text old new → IfSome known (λ input. StopsPlay all fault input old new)
 broke_off all fault None old new read text e p is wrote = tt
 broke_off {log = log} {later = later} all Writer (Some input) old new read text e p is wrote =
-    record { log = log; later = later; played = played input read e p; holds = subst (λ text. BeginsToWrite text old new) is wrote }
+    let here = played_so_far input read e p in
+    record { log = log; later = later; played = here.played; ends = inr here.stops; holds = subst (λ text. BeginsToWrite text old new) is wrote }
 broke_off all (Text fault) (Some input) old new read text e p is wrote = absurd wrote
 broke_off all Reader (Some input) old new read text e p is wrote = absurd wrote
 broke_off all Memory (Some input) old new read text e p is wrote = absurd wrote

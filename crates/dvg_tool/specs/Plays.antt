@@ -30,11 +30,14 @@ entry_of (event ⟼ entry) = entry
 abbrev pub log_text : Bool → Log → List ℕ
 log_text all log = shown all 0 (map entry_of (reverse log))
 
--- no event comes later, or memory was refused: before the first event, or at one that takes memory
+-- memory was refused at the next event, which takes memory
+abbrev pub StopsNext : (R : List ℕ) → Log → (later : List Happening) → Type 0
+StopsNext R log [] = ⊥
+StopsNext R log (event ∷ later) = TakesMemory R zeros log event
+
+-- no event comes later, or memory was refused before the first one, or at the next one
 abbrev pub IsEnd : (R : List ℕ) → Log → (later : List Happening) → Type 0
-IsEnd R log [] = Unit {0}
-IsEnd R [] later = Unit {0}
-IsEnd R log (event ∷ later) = TakesMemory R zeros log event
+IsEnd R log later = (later ≡ []) ⊎ ((log ≡ []) ⊎ StopsNext R log later)
 
 -- the text denotes the events of this legal log, and then these, over the ROM that it denotes and from a memory of zeros
 pub record IsPlayed (text : List ℕ) (log : Log) (later : List Happening) : Type 0 where
@@ -43,13 +46,13 @@ pub record IsPlayed (text : List ℕ) (log : Log) (later : List Happening) : Typ
   pub gives : GivesTrace text events R
   pub legal : IsLegal R zeros log
   pub in_order : events ≡ map event_of (reverse log) ++ later
-  pub ended : IsEnd R log later
 
--- this holds of what is shown of a log that was played, up to the last event or to where memory was refused
-pub record ShowsPart (all : Bool) (text : List ℕ) (Holds : List ℕ → Type 0) : Type 0 where
+-- this holds of what is shown of a log that was played, which ends so
+pub record ShowsUntil (all : Bool) (text : List ℕ) (Ends : List ℕ → Log → List Happening → Type 0) (Holds : List ℕ → Type 0) : Type 0 where
   pub log : Log
   pub later : List Happening
   pub played : IsPlayed text log later
+  pub ends : Ends played.R log later
   pub holds : Holds (log_text all log)
 
 -- the faults that come before the first write; want of memory may come after it
@@ -61,8 +64,8 @@ StopsBeforeShowing fault = StopsBeforeWriting fault
 abbrev pub StopsPlay : Bool → ToolFault → (input : List ℕ) → Option (List ℕ) → Option (List ℕ) → Type 0
 StopsPlay all (Text fault) input old new = HasTraceFault input fault
 StopsPlay all Reader input old new = Unit {0}
-StopsPlay all Memory input old new = Appends old new [] ⊎ ShowsPart all input (Appends old new)
-StopsPlay all Writer input old new = ShowsPart all input (λ text. BeginsToWrite text old new)
+StopsPlay all Memory input old new = Appends old new [] ⊎ ShowsUntil all input StopsNext (Appends old new)
+StopsPlay all Writer input old new = ShowsUntil all input IsEnd (λ text. BeginsToWrite text old new)
 
 -- what `play` answers of an input, and what went out
 abbrev pub Plays : {T : Type 0} → Bool → Result T ToolFault → (input : List ℕ) → Option (List ℕ) → Option (List ℕ) → Type 0

@@ -36,7 +36,7 @@ Example:
 pub(crate) const ROM: &str =
     "Standard input: the 2,048 bytes of a ROM, the low byte of each word first.
 
-Standard output: 128 lines `rom HHH W1 .. W8`, each with a word address and the
+Standard output: 128 lines `rom HHH HHHH ..`, each with a word address and the
 eight words that stand from there on, in hexadecimal. The first address is 800,
 the last BF8. `check` and `play` read such lines.
 
@@ -49,7 +49,7 @@ Example:
 /// The input and output of `check`.
 pub(crate) const CHECK: &str =
     "Standard input: a draft as text, at most 1,048,576 bytes. First may come lines
-`rom HHH W1 .. Wn`: one to eight words of the ROM from a word address of 800 to
+`rom HHH HHHH ..`: one to eight words of the ROM from a word address of 800 to
 BFF on, in hexadecimal. A word that no line gives is D000. Then a line an
 operation, at most 511, which are numbered from 0:
 
