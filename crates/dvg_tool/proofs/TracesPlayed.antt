@@ -65,9 +65,9 @@ told_part all None old new read text e p is wrote = tt
 told_part {log = log} {later = later} all (Some input) old new read text e p is wrote =
     let here = played_so_far input read e p in
     ⊎_elim
-        (λ none. inl (subst (Appends old new) (is ∙ ap (log_text all) none) wrote))
-        (λ stops. inr (record { log = log; later = later; played = here.played; ends = stops; holds = subst (Appends old new) is wrote }))
-        here.stops
+    (λ none. inl (subst (Appends old new) (is ∙ ap (log_text all) none) wrote))
+    (λ stops. inr (record { log = log; later = later; played = here.played; ends = stops; holds = subst (Appends old new) is wrote }))
+    here.stops
 
 -- or the writer failed
 pub broke_off : {log : Log} {later : List Happening} (all : Bool) (fault : ToolFault) (known old new : Option (List ℕ)) (read text : List ℕ) → Read 1048576 known read → PlayedPart read log later → text ≡ log_text all log
