@@ -1,8 +1,10 @@
 -- What a line more makes of a trace that is read.
-use Rattle.std.proofs.Common.{◌≡◌, ◌<◌, ◌≤◌, ◌+◌, ℕ, zero, suc, List, [], ◌∷◌, ◌++◌, length, replicate, refl, sym, ap, subst, ◌∙◌, arith, length-append, codes, All, Option, Some, None, Result, Ok, Err, OnOk, IfErr, Bool, true, false, map, nat_eq}
+use Rattle.std.proofs.Common.{◌≡◌, ◌<◌, ◌≤◌, ◌+◌, ℕ, zero, suc, List, [], ◌∷◌, ◌++◌, length, replicate, refl, sym, ap, subst, ◌∙◌, arith, length-append, codes, All, Option, Some, None, Result, Ok, Err, OnOk, IfErr, Bool, true, false, map, nat_eq, Box, option_map}
+use Rattle.std.specs.Option.{is_some}
 use Rattle.std.proofs.lemmas.List.Elements.{All-append, All-replicate}
 use Rattle.std.proofs.lemmas.Bool.Decides.{nat_tests}
 use Rattle.dvg_mem.specs.Memory.{IsImage}
+use Rattle.dvg_frame.specs.declared.draft.Draft.{Draft}
 use Rattle.dvg_frame.specs.declared.op.OpKind.{OpKind}
 use Rattle.dvg_world.specs.Events.{Happening, Offer, Redraw, Tick, Strobe, Fetch, ResetGen, ResetCpu, ResetAll}
 use Rattle.dvg_tool.specs.declared.trace_text.LineFault.{LineFault}
@@ -15,14 +17,28 @@ use Rattle.dvg_tool.specs.TraceTexts.{EventParts, Fits, FitsDraft, redraw, tick,
 use Rattle.dvg_tool.specs.TraceReading.{Takes, does, ends, events, opens, rom}
 use Rattle.dvg_tool.proofs.ReadTo.{after_more}
 use Rattle.dvg_tool.specs.declared.trace_text.Reading.{Reading}
-use Rattle.dvg_tool.specs.TraceGives.{IsHeld, StopsEvents, StopsLine, StopsOperation, TakesLine, events_of}
+use Rattle.dvg_tool.specs.TraceGives.{IsHeld, ReadsLine, StopsEvents, StopsLine, StopsOperation, TakesLine, events_of, opened_of}
 
 all_one : {A : Type 0} (P : A → Type 0) (y : A) → P y → All P (y ∷ [])
 all_one P y h zero d l = h
 all_one P y h (suc k) d l = absurd (omega arith)
 
+-- the open draft, by the box that has it
+abbrev pub listed : {B : Type 0} → Option (Box Draft B) → Option (List OpKind)
+listed draft = option_map (λ draft. draft.value) draft
+
+pub none_opened : {B : Type 0} (draft : Option (Box Draft B)) → draft ≡ None → listed draft ≡ None
+none_opened draft e = rw e refl
+
+pub some_opened : {B : Type 0} (boxed : Option (Box Draft B)) (draft : Box Draft B) → boxed ≡ Some draft → listed boxed ≡ Some draft.value
+some_opened boxed draft e = rw e refl
+
+pub any_opened : {B : Type 0} (draft : Option (Box Draft B)) → is_some draft ≡ is_some (listed draft)
+any_opened None = refl
+any_opened (Some draft) = refl
+
 -- what is held, where it is taken
-pub held_on : {A E B : Type 0} (answer : Result A E) (reading : Reading B) → OnOk answer (Fits (events_of reading) reading.opened) → IsImage reading.rom → OnOk answer (IsHeld reading)
+pub held_on : {A E B : Type 0} (answer : Result A E) (reading : Reading B) → OnOk answer (Fits (events_of reading) (opened_of reading)) → IsImage reading.rom → OnOk answer (IsHeld reading)
 held_on (Ok x) reading fits image = record { fits = fits; image = image }
 held_on (Err x) reading fits image = tt
 
@@ -55,6 +71,23 @@ end_stops old opened F e full = rw e (old ++ Offer F ∷ [], omega (arith, lengt
 pub offer_taken : (old : List Happening) (opened left : Option (List OpKind)) (l R : List ℕ) → opened ≡ None → l ≡ codes "offer" → left ≡ Some []
     → (roms : List RomLine) → AreAfter roms R → TakesLine roms old opened l old left R
 offer_taken old opened left l R e is f roms words = record { given = roms; takes = rw (e, is, f) opens; words = words }
+
+-- what the reader is, where an offer was opened
+pub opened_taken : {A E B : Type 0} (answer : Result A E) (old new : Reading B) (l : List ℕ) → opened_of old ≡ None → l ≡ codes "offer" → OnOk answer (opened_of new ≡ Some []) → (new.events ≡ old.events) × (new.rom ≡ old.rom)
+    → OnOk answer (ReadsLine old l new)
+opened_taken (Ok x) old new l e is made kept = rw (kept.0, kept.1) (offer_taken (events_of old) (opened_of old) (opened_of new) l old.rom e is made)
+opened_taken (Err x) old new l e is made kept = tt
+
+pub opened_held : {A E B : Type 0} (answer : Result A E) (old new : Reading B) → OnOk answer (opened_of new ≡ Some []) → (new.events ≡ old.events) × (new.rom ≡ old.rom) → IsHeld old → OnOk answer (IsHeld new)
+opened_held (Ok x) old new made kept held =
+    let fits : Fits (events_of old) (Some []) = record { count = held.fits.count; drafts = held.fits.drafts; last = omega arith } in
+    let all : Fits (events_of new) (opened_of new) = rw (kept.0) (subst (Fits (events_of old)) (sym made) fits) in
+    record { fits = all; image = subst IsImage (sym kept.1) held.image }
+opened_held (Err x) old new made kept held = tt
+
+pub opening_stops : {A : Type 0} (answer : Result A LineFault) (old : List Happening) (opened : Option (List OpKind)) (l : List ℕ) → IfErr answer (λ fault. fault ≡ Memory) → IfErr answer (λ fault. StopsLine fault old opened l)
+opening_stops (Ok x) old opened l e = tt
+opening_stops (Err fault) old opened l e = rw e tt
 
 pub events_taken : {A E : Type 0} (answer : Result A E) (old more new : List Happening) (opened : Option (List OpKind)) (l R : List ℕ) → opened ≡ None → EventParts more (parts l) → OnOk answer (new ≡ old ++ more)
     → OnOk answer ((roms : List RomLine) → AreAfter roms R → TakesLine roms old opened l new opened R)

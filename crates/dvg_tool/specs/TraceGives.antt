@@ -1,5 +1,5 @@
 -- What the reader of traces answers.
-use Rattle.std.specs.Prelude.{ℕ, ◌+◌, ◌<◌, ◌≤◌, List, length, map, Option, Some, None}
+use Rattle.std.specs.Prelude.{ℕ, ◌+◌, ◌<◌, ◌≤◌, List, length, map, option_map, Option, Some, None}
 use Rattle.dvg_mem.specs.Memory.{IsImage}
 use Rattle.dvg_frame.specs.declared.op.OpKind.{OpKind}
 use Rattle.dvg_world.specs.Events.{Happening, happening_of}
@@ -38,9 +38,13 @@ fault_at line_fault.Memory n = Memory
 abbrev pub events_of : {A : Type 0} → Reading A → List Happening
 events_of reading = map happening_of reading.events.items
 
+-- the operations of the offer that isn't ended
+abbrev pub opened_of : {A : Type 0} → Reading A → Option (List OpKind)
+opened_of reading = option_map (λ draft. draft.value) reading.opened
+
 -- what was read is within the limits, over a whole ROM
 pub record IsHeld {A : Type 0} (reading : Reading A) : Type 0 where
-  pub fits : Fits (events_of reading) reading.opened
+  pub fits : Fits (events_of reading) (opened_of reading)
   pub image : IsImage reading.rom
 
 -- a line more was read, behind ROM lines that gave the bytes before it
@@ -51,7 +55,7 @@ pub record TakesLine (roms : List RomLine) (old : List Happening) (opened : Opti
 
 -- the same, of the reader before the line and behind it
 abbrev pub ReadsLine : {A : Type 0} → Reading A → List ℕ → Reading A → Type 0
-ReadsLine old line new = (roms : List RomLine) → AreAfter roms old.rom → TakesLine roms (events_of old) old.opened line (events_of new) new.opened new.rom
+ReadsLine old line new = (roms : List RomLine) → AreAfter roms old.rom → TakesLine roms (events_of old) (opened_of old) line (events_of new) (opened_of new) new.rom
 
 -- why a line more isn't read
 abbrev pub StopsLine : LineFault → List Happening → Option (List OpKind) → List ℕ → Type 0

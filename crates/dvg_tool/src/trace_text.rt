@@ -1,9 +1,10 @@
 //! Texts of traces.
 ghost use Rattle.std.specs.Prelude.{◌≡◌, ◌+◌, ◌^◌, ◌<◌, ◌≤◌, ◌∷◌, [], ◌++◌, ℕ, List, None, Some, codes, length, map, replicate, vec_len, IfErr, IfOk, IsSome, OnOk};
 ghost use Rattle.dvg_frame.specs.declared.op.OpKind.{OpKind};
+ghost use Rattle.dvg_tool.specs.declared.trace_text.LineFault.TheVariants.{Memory};
 ghost use Rattle.dvg_tool.specs.EventLines.{event_of, happenings};
 ghost use Rattle.dvg_tool.specs.OpLines.{IsOpLine};
-ghost use Rattle.dvg_tool.specs.TraceGives.{GivesTrace, IsHeld, ReadsLine, StopsEvents, StopsLine, StopsOperation, StopsReading, events_of, fault_at};
+ghost use Rattle.dvg_tool.specs.TraceGives.{GivesTrace, IsHeld, ReadsLine, StopsEvents, StopsLine, StopsOperation, StopsReading, events_of, fault_at, opened_of};
 ghost use Rattle.dvg_world.specs.Events.{happening_of};
 
 use crate::draft_text::MOST_TEXT_BYTES;
@@ -106,8 +107,8 @@ struct Reading<A: Allocator> {
     alloc: A,
     rom: [u8; MEMORY_BYTES],
     events: Vec<Event<A>, A>,
-    // The draft of the offer that isn't ended.
-    opened: Option<Draft>,
+    // The draft of the offer that isn't ended, at the place where its event will have it.
+    opened: Option<Box<Draft, A>>,
 }
 
 impl<A: Allocator + Copy> Reading<A> {
@@ -116,7 +117,7 @@ impl<A: Allocator + Copy> Reading<A> {
         requires held { IsHeld self.old }
         ensures taken { OnOk result (ReadsLine self.old line.now self.new) }
         ensures held { OnOk result (IsHeld self.new) }
-        ensures fault { IfErr result (λ fault. StopsLine fault (events_of self.old) self.old.opened line.now) }
+        ensures fault { IfErr result (λ fault. StopsLine fault (events_of self.old) (opened_of self.old) line.now) }
     {
         let Some(draft) = &mut self.opened else {
             return self.take_outside(line);
@@ -133,11 +134,10 @@ impl<A: Allocator + Copy> Reading<A> {
         requires held { IsHeld self.old }
         ensures taken { OnOk result (ReadsLine self.old line.now self.new) }
         ensures held { OnOk result (IsHeld self.new) }
-        ensures fault { IfErr result (λ fault. StopsLine fault (events_of self.old) self.old.opened line.now) }
+        ensures fault { IfErr result (λ fault. StopsLine fault (events_of self.old) (opened_of self.old) line.now) }
     {
         if line == b"offer".as_slice() {
-            self.open_offer();
-            return Ok(());
+            return self.open_offer();
         }
         if let Some(told) = read_event_line(line) {
             return add_events(self.alloc, told, &mut self.events);
@@ -154,10 +154,16 @@ impl<A: Allocator + Copy> Reading<A> {
 
     // Opens an offer. It stands by itself, as other lines are not to pay for the room of a draft.
     #[inline(never)]
-    fn open_offer(&mut self)
-        ensures { self.new ≡ record self.old { opened = Some [] } }
+    fn open_offer(&mut self) -> Result<(), LineFault>
+        ensures opened { OnOk result (opened_of self.new ≡ Some []) }
+        ensures kept { (self.new.events ≡ self.old.events) × (self.new.rom ≡ self.old.rom) }
+        ensures fault { IfErr result (λ fault. fault ≡ Memory) }
     {
-        self.opened = Some(Draft::new());
+        let Ok(draft) = Box::new(self.alloc, Draft::new()) else {
+            return Err(LineFault::Memory);
+        };
+        self.opened = Some(draft);
+        Ok(())
     }
 
     // Ends the offer that is open.
@@ -166,7 +172,7 @@ impl<A: Allocator + Copy> Reading<A> {
         requires held { IsHeld self.old }
         ensures taken { OnOk result (ReadsLine self.old (codes "end") self.new) }
         ensures held { OnOk result (IsHeld self.new) }
-        ensures fault { IfErr result (λ fault. StopsLine fault (events_of self.old) self.old.opened (codes "end")) }
+        ensures fault { IfErr result (λ fault. StopsLine fault (events_of self.old) (opened_of self.old) (codes "end")) }
     {
         let Some(draft) = self.opened.take() else {
             unreachable!()
@@ -174,9 +180,6 @@ impl<A: Allocator + Copy> Reading<A> {
         if self.events.len() == MOST_EVENTS {
             return Err(LineFault::Many);
         }
-        let Ok(draft) = Box::new(self.alloc, draft) else {
-            return Err(LineFault::Memory);
-        };
         if push_event(Event::Offer(draft), &mut self.events).is_err() {
             return Err(LineFault::Memory);
         }
