@@ -1,12 +1,16 @@
 -- The table of the words before each operation.
-use Rattle.std.proofs.Common.{◌≡◌, ℕ, zero, suc, ◌+◌, ◌*◌, ◌<◌, ◌≤◌, List, [], ◌∷◌, ◌++◌, length, take, get_or, refl, sym, ap, ◌∙◌, subst, arith, length-append}
+use Rattle.std.proofs.Common.{◌≡◌, ℕ, zero, suc, ◌+◌, ◌*◌, ◌<◌, ◌≤◌, List, [], ◌∷◌, ◌++◌, length, take, get_or, Some, refl, sym, ap, ◌∙◌, subst, arith, length-append}
+use Rattle.std.specs.Prelude.{slice_get}
+use Rattle.std.proofs.lemmas.List.{length-take}
 use Rattle.std.proofs.lemmas.List.Elements.{All-push}
+use Rattle.std.proofs.lemmas.Option.{slice_get_within}
+use Rattle.std.proofs.Math.Seq.{take-length, take-suc}
 use Rattle.dvg_code.specs.declared.instr.Instr.TheVariants.{Vctr, Labs}
 use Rattle.dvg_frame.specs.declared.op.OpKind.{OpKind}
 use Rattle.dvg_frame.specs.declared.op.OpKind.TheVariants.{Draw}
 use Rattle.dvg_frame.specs.Layout.{op_words, size}
-use Rattle.dvg_frame.specs.Counting.{counts_from, IsCounted}
-use Rattle.dvg_frame.specs.Ops.{IsOp}
+use Rattle.dvg_frame.specs.Counting.{counts_from, IsCounted, IsSized}
+use Rattle.dvg_frame.specs.Ops.{IsDraft, IsOp}
 use Rattle.dvg_frame.proofs.Sizes.{size-take_all}
 
 pub counts-length : (n : ℕ) (F : List OpKind) → length (counts_from n F) ≡ length F
@@ -31,34 +35,48 @@ count_at n [] i d low = absurd (omega arith)
 count_at n (op ∷ ops) zero d low = omega arith
 count_at n (op ∷ ops) (suc i) d low = let rest = count_at (n + op_words op) ops i d (omega arith) in omega arith
 
--- what was found in the table
-pub found_count : (F view : List OpKind) (table now : List ℕ) (i words : ℕ) → table ≡ counts_from 0 F → now ≡ table → F ≡ view → i < length now → words ≡ get_or now i words → words ≡ size (take i view)
-found_count F view table now i words is same viewed low found =
-    let counts : now ≡ counts_from 0 F = same ∙ is in
-    let size_now = ap length counts in
+-- what stands in the table
+pub in_table : (F view : List OpKind) (table now : List ℕ) (i : ℕ) → IsCounted F table → now ≡ table → F ≡ view → i < length view → i < length now
+in_table F view table now i counted same viewed low =
+    let counts = ap length (same ∙ counted.counts) in
     let count = counts-length 0 F in
-    let entry : words ≡ 0 + size (take i F) = found ∙ ap (λ l. get_or l i words) counts ∙ count_at 0 F i words (omega arith) in
+    let length_now = ap length viewed in
+    omega arith
+
+pub found_count : (F view : List OpKind) (table now : List ℕ) (i d : ℕ) → IsCounted F table → now ≡ table → F ≡ view → i < length view → get_or now i d ≡ size (take i view)
+found_count F view table now i d counted same viewed low =
+    let entry : get_or now i d ≡ 0 + size (take i F) = ap (λ l. get_or l i d) (same ∙ counted.counts) ∙ count_at 0 F i d (let length_now = ap length viewed in omega arith) in
     let front = ap (λ l. size (take i l)) viewed in
     omega arith
 
--- behind the table's end stand all words
-pub past_counts : (F view : List OpKind) (table now : List ℕ) (i words : ℕ) → table ≡ counts_from 0 F → now ≡ table → F ≡ view → length now ≤ i → i ≤ length view → words ≡ size F → words ≡ size (take i view)
-past_counts F view table now i words is same viewed high low all =
-    let size_now = ap length (same ∙ is) in
-    let count = counts-length 0 F in
-    let length_now = ap length viewed in
-    all ∙ ap size viewed ∙ sym (size-take_all view i (omega arith))
-
 -- a draft with one operation more
-pub counts_pushed : (F G : List OpKind) (table now : List ℕ) (words more : ℕ) (op kind : OpKind) → IsCounted F table words → IsOp kind → length F < 511 → kind ≡ op → G ≡ F ++ op ∷ []
-    → now ≡ table ++ words ∷ [] → more ≡ op_words kind → IsCounted G now (words + more)
-counts_pushed F G table now words more op kind counted valid low same is pushed more_is = record {
-  draft = rw is (record { count = omega (arith, length-append F (op ∷ [])); ops = All-push IsOp F op counted.draft.ops (subst IsOp same valid) });
-  counts =
-      let all : words ≡ 0 + size F = let same = counted.all in omega arith in
-      pushed ∙ ap (λ l. l ++ words ∷ []) counted.counts ∙ ap (λ n. counts_from 0 F ++ n ∷ []) all ∙ sym (counts-more 0 F op) ∙ ap (counts_from 0) (sym is);
-  all = ap (λ n. n + more) counted.all ∙ ap (λ n. size F + n) (more_is ∙ ap op_words same) ∙ sym (size-more F op) ∙ ap size (sym is);
+pub size_pushed : (F G : List OpKind) (words more : ℕ) (op kind : OpKind) → IsSized F words → IsOp kind → length F < 511 → kind ≡ op → G ≡ F ++ op ∷ [] → more ≡ op_words kind → IsSized G (words + more)
+size_pushed F G words more op kind sized valid low same is more_is = record {
+  draft = rw is (record { count = omega (arith, length-append F (op ∷ [])); ops = All-push IsOp F op sized.draft.ops (subst IsOp same valid) });
+  all = ap (λ n. n + more) sized.all ∙ ap (λ n. size F + n) (more_is ∙ ap op_words same) ∙ sym (size-more F op) ∙ ap size (sym is);
 }
+
+-- the table of one operation more
+pub counts-take_more : (F : List OpKind) (k words : ℕ) (op : OpKind) (table now : List ℕ) → slice_get F k ≡ Some op → table ≡ counts_from 0 (take k F) → words ≡ size (take k F) → now ≡ table ++ words ∷ []
+    → now ≡ counts_from 0 (take (k + 1) F)
+counts-take_more F k words op table now is so_far words_is pushed =
+    let within = slice_get_within F k op is in
+    let next : k + 1 ≡ suc k = omega arith in
+    let more : take (k + 1) F ≡ take k F ++ get_or F k op ∷ [] = ap (λ n. take n F) next ∙ take-suc F k op within in
+    let all : words ≡ 0 + size (take k F) = omega arith in
+    pushed ∙ ap (λ l. l ++ words ∷ []) so_far ∙ ap (λ n. counts_from 0 (take k F) ++ n ∷ []) all ∙ sym (counts-more 0 (take k F) (get_or F k op)) ∙ ap (counts_from 0) (sym more)
+
+-- the table has an entry for each of the first operations
+pub counts-length_take : (F : List OpKind) (k : ℕ) (table : List ℕ) → table ≡ counts_from 0 (take k F) → length table ≤ k
+counts-length_take F k table is =
+    let same = ap length is in
+    let count = counts-length 0 (take k F) in
+    let front = length-take k F in
+    omega arith
+
+-- the table of all operations
+pub counted_all : (F : List OpKind) (k : ℕ) (table : List ℕ) → IsDraft F → k ≡ length F → table ≡ counts_from 0 (take k F) → IsCounted F table
+counted_all F k table draft all is = record { draft = draft; counts = is ∙ ap (λ n. counts_from 0 (take n F)) all ∙ ap (counts_from 0) (take-length F) }
 
 few_words : (op : OpKind) → op_words op ≤ 2
 few_words (Draw (Vctr scale dx dy z)) = omega arith

@@ -1,4 +1,4 @@
--- What a draft keeps beside its operations.
+-- What drafts and frames keep beside operations.
 use Rattle.std.specs.Prelude.{◌≡◌, ℕ, ◌+◌, List, [], ◌∷◌}
 use Rattle.dvg_frame.specs.declared.op.OpKind.{OpKind}
 use Rattle.dvg_frame.specs.Layout.{op_words, size}
@@ -9,8 +9,12 @@ abbrev pub counts_from : ℕ → List OpKind → List ℕ
 counts_from n [] = []
 counts_from n (op ∷ ops) = n ∷ counts_from (n + op_words op) ops
 
--- the words before each operation, and the words of all
-pub record IsCounted (F : List OpKind) (words_before : List ℕ) (words : ℕ) : Type 0 where
+-- a draft, and how many words it has
+pub record IsSized (F : List OpKind) (words : ℕ) : Type 0 where
+  pub draft : IsDraft F
+  pub all : words ≡ size F
+
+-- a draft, and how many words stand before each operation
+pub record IsCounted (F : List OpKind) (words_before : List ℕ) : Type 0 where
   pub draft : IsDraft F
   pub counts : words_before ≡ counts_from 0 F
-  pub all : words ≡ size F

@@ -45,7 +45,7 @@ impl<'a> Checked<'a> {
     pub fn to_frame(&self) -> Frame
         ensures { result ≡ self.now }
     {
-        Frame::of(self.draft.copy(), self.words)
+        Frame::of(self.draft, self.words)
     }
 
     // Makes a frame that is there the one of this draft, in the memory that it has.

@@ -146,7 +146,7 @@ pub fn check<A: Allocator>(draft: &Draft, rom: &Rom<A>) -> Result<Frame, FrameFa
     ensures { IsChecked draft.now rom.now result }
 {
     match judge(&mut Worklist::new(), draft, rom) {
-        Ok(words) => Ok(Frame::of(draft.copy(), words)),
+        Ok(words) => Ok(Frame::of(draft, words)),
         Err(fault) => Err(fault),
     }
 }

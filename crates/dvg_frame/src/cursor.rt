@@ -9,8 +9,7 @@ use std::marker::Model;
 /// An iterator over the bytes of a frame that is laid out for a half, each with its byte address in the
 /// RAM: from the low byte of the half's first word on, in rising order.
 ///
-/// A cursor keeps the frame and its place in it. An item takes constant time, but for the first byte of a
-/// call or a jump to an operation: there the words before that operation are counted.
+/// A cursor keeps the frame and its place in it. An item takes constant time.
 #[derive(Drop)]
 pub struct Cursor {
     frame: Frame,

@@ -1,7 +1,7 @@
 //! Drafts.
-ghost use Rattle.std.specs.Prelude.{◌≡◌, ◌+◌, ◌<◌, ◌≤◌, ◌↔◌, List, [], ◌∷◌, ◌++◌, length, IfOk, IsOk, IsTrue, OnErr, OnOk, Some, slice_get, take};
+ghost use Rattle.std.specs.Prelude.{◌≡◌, ◌+◌, ◌<◌, ◌≤◌, ◌↔◌, List, [], ◌∷◌, ◌++◌, length, IfOk, IsOk, IsTrue, OnErr, OnOk, Some, slice_get};
 ghost use Rattle.dvg_frame.specs.Layout.{op_words, size};
-ghost use Rattle.dvg_frame.specs.Counting.{IsCounted};
+ghost use Rattle.dvg_frame.specs.Counting.{IsSized};
 ghost use Rattle.dvg_frame.specs.Ops.{IsDraft, IsOp};
 ghost use Rattle.dvg_frame.specs.declared.op.OpKind.{OpKind};
 
@@ -18,16 +18,11 @@ pub(crate) const MAX_OPS: usize = 511;
 pub struct DraftFull;
 
 /// A list of at most 511 operations, numbered from 0.
-///
-/// It keeps a table of how many words stand before each operation, so that the place of an operation is
-/// found in constant time.
 #[derive(Drop)]
 pub struct Draft {
     /// How many words all operations have.
     words: u16,
     ops: ArrayVec<Op, MAX_OPS>,
-    /// How many words the operations before each one have.
-    words_before: ArrayVec<u16, MAX_OPS>,
 }
 
 /// Contracts see the list of the operations.
@@ -36,7 +31,7 @@ impl Model for Draft {
 
     ghost view = { λ draft. draft.ops.items };
 
-    ghost invariant = { λ draft. IsCounted draft.ops.items draft.words_before.items draft.words };
+    ghost invariant = { λ draft. IsSized draft.ops.items draft.words };
 }
 
 impl Draft {
@@ -47,7 +42,6 @@ impl Draft {
         Draft {
             words: 0,
             ops: ArrayVec::new(),
-            words_before: ArrayVec::new(),
         }
     }
 
@@ -79,7 +73,6 @@ impl Draft {
         }
         let number = self.ops.len() as u16;
         self.ops.push(op);
-        self.words_before.push(self.words);
         self.words += words_of(op.kind());
         Ok(number)
     }
@@ -109,10 +102,6 @@ impl Draft {
         self.ops
             .try_extend_from_slice(other.ops.as_slice())
             .unwrap();
-        self.words_before.clear();
-        self.words_before
-            .try_extend_from_slice(other.words_before.as_slice())
-            .unwrap();
         self.words = other.words;
     }
 
@@ -121,18 +110,6 @@ impl Draft {
         ensures { result ≡ size self.now }
     {
         self.words
-    }
-
-    // How many words the operations before this number have.
-    pub(crate) fn words_before(&self, i: usize) -> u16
-        requires { i ≤ length self.now }
-        ensures value { result ≡ size (take i self.now) }
-        ensures bound { result ≤ 1022 }
-    {
-        match self.words_before.get(i) {
-            Some(words) => *words,
-            None => self.words,
-        }
     }
 }
 

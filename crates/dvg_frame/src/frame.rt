@@ -12,6 +12,7 @@ ghost use Rattle.dvg_frame.specs.Ops.{IsDraft, IsOp};
 ghost use Rattle.dvg_frame.specs.declared.op.OpKind.{OpKind};
 ghost use Rattle.dvg_mem.specs.declared.half.Half.{Half};
 
+use crate::counted::Counted;
 use crate::draft::{Draft, words_of};
 use crate::op::OpKind;
 use dvg_code::{Code, Instr, Words, encode};
@@ -21,10 +22,11 @@ use std::marker::Model;
 /// The most words that a frame has: those of a half of the RAM.
 pub(crate) const MAX_WORDS: u16 = 511;
 
-/// A draft that was checked. It keeps the draft and its number of words, and no laid words.
+/// A draft that was checked. It keeps the draft, its number of words and the places of its operations, and no
+/// laid words.
 #[derive(Drop)]
 pub struct Frame {
-    draft: Draft,
+    draft: Counted,
     words: u16,
 }
 
@@ -38,12 +40,15 @@ impl Model for Frame {
 }
 
 impl Frame {
-    // The frame of a draft without the faults 1 to 4, which has so many words.
-    pub(crate) fn of(draft: Draft, words: u16) -> Frame
-        requires { IsFrame draft words }
-        ensures { result ≡ draft }
+    // The frame of a draft without the faults 1 to 4, which has so many words. The draft is copied.
+    pub(crate) fn of(draft: &Draft, words: u16) -> Frame
+        requires { IsFrame draft.now words }
+        ensures { result ≡ draft.now }
     {
-        Frame { draft, words }
+        Frame {
+            draft: Counted::of(draft),
+            words,
+        }
     }
 
     // Becomes the frame of a draft without the faults 1 to 4, which has so many words, in the memory that
@@ -97,7 +102,7 @@ pub(crate) fn byte_of(word: u16, k: u16) -> u8
 }
 
 // Word n of the draft's layout for a half.
-fn word_at(draft: &Draft, half: Half, n: u16) -> u16
+fn word_at(draft: &Counted, half: Half, n: u16) -> u16
     requires begins { Begins draft.now }
     requires within { n < layout.size draft.now }
     ensures { slice_get (layout.laid half draft.now) n ≡ Some result }
@@ -114,7 +119,7 @@ fn word_at(draft: &Draft, half: Half, n: u16) -> u16
 }
 
 // The words of operation i, laid out for a half.
-fn spelling(draft: &Draft, half: Half, i: usize) -> Words
+fn spelling(draft: &Counted, half: Half, i: usize) -> Words
     requires begins { Begins draft.now }
     requires within { i < length draft.now }
     ensures { IsSpelling half draft.now i result.items }
@@ -123,7 +128,7 @@ fn spelling(draft: &Draft, half: Half, i: usize) -> Words
 }
 
 // The instruction of an operation.
-fn code_of(draft: &Draft, half: Half, kind: OpKind) -> Code
+fn code_of(draft: &Counted, half: Half, kind: OpKind) -> Code
     requires op { IsOp kind }
     requires names { ¬ NamesNone (length draft.now) kind }
     requires fits { layout.size draft.now ≤ 511 }
@@ -152,7 +157,7 @@ fn in_range(instr: Instr) -> Code
 }
 
 // The word address of an operation.
-fn address(draft: &Draft, half: Half, j: u16) -> u16
+fn address(draft: &Counted, half: Half, j: u16) -> u16
     requires { j < length draft.now }
     ensures value { result ≡ layout.at half draft.now j }
     ensures bound { result ≤ 4095 }

@@ -12,6 +12,7 @@
 
 mod checked;
 mod checking;
+mod counted;
 mod cursor;
 mod draft;
 mod frame;
