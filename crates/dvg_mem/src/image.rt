@@ -27,7 +27,7 @@ impl From<dvg_code::OutOfMemory> for MemFault {
 /// The 2,048 bytes that a vector RAM holds.
 #[derive(Drop)]
 pub struct Image<A: Allocator = Global> {
-    bytes: Vec<u8, A>,
+    bytes: Box<[u8; MEMORY_BYTES], A>,
 }
 
 /// Contracts see the list of the bytes.
@@ -37,9 +37,9 @@ impl<A: Allocator> Model for Image<A> {
 
     ghost Value = { List ℕ };
 
-    ghost view = { λ image. image.bytes.items };
+    ghost view = { λ image. image.bytes.value };
 
-    ghost invariant = { λ image. IsImage image.bytes.items };
+    ghost invariant = { λ image. IsImage image.bytes.value };
 }
 
 impl<A: Allocator> Image<A> {
@@ -51,7 +51,9 @@ impl<A: Allocator> Image<A> {
         if bytes.len() != MEMORY_BYTES {
             return Err(MemFault::Size);
         }
-        match bytes.to_vec(alloc) {
+        let mut copy = [0; MEMORY_BYTES];
+        copy.copy_from_slice(bytes);
+        match Box::new(alloc, copy) {
             Ok(bytes) => Ok(Image { bytes }),
             Err(_) => Err(MemFault::OutOfMemory),
         }
