@@ -1,14 +1,15 @@
-//! A store in one vector of bytes.
+//! A store in one array of bytes.
+use crate::MEMORY_BYTES;
 use crate::image::Image;
 use crate::store::Store;
 use dvg_code::OutOfMemory;
 use std::alloc::{Allocator, Global};
 use std::marker::Model;
 
-/// A store that keeps its bytes in one vector.
+/// A store that keeps its bytes in one array.
 #[derive(Drop)]
 pub struct Flat<A: Allocator = Global> {
-    bytes: Vec<u8, A>,
+    bytes: Box<[u8; MEMORY_BYTES], A>,
 }
 
 /// Contracts see the list of the bytes.
@@ -18,9 +19,9 @@ impl<A: Allocator> Model for Flat<A> {
 
     ghost Value = { List ℕ };
 
-    ghost view = { λ flat. flat.bytes.items };
+    ghost view = { λ flat. flat.bytes.value };
 
-    ghost invariant = { λ flat. IsImage flat.bytes.items };
+    ghost invariant = { λ flat. IsImage flat.bytes.value };
 }
 
 impl<A: Allocator + Copy> Store for Flat<A> {
@@ -29,7 +30,9 @@ impl<A: Allocator + Copy> Store for Flat<A> {
     ghost content = { λ flat. flat };
 
     fn make(alloc: A, image: &Image<A>) -> Result<Flat<A>, OutOfMemory> {
-        match image.bytes().to_vec(alloc) {
+        let mut copy = [0; MEMORY_BYTES];
+        copy.copy_from_slice(image.bytes());
+        match Box::new(alloc, copy) {
             Ok(bytes) => Ok(Flat { bytes }),
             Err(_) => Err(OutOfMemory),
         }

@@ -11,7 +11,7 @@ use std::marker::Model;
 /// The 2,048 bytes of a vector ROM: the words 800 to BFF.
 #[derive(Drop)]
 pub struct Rom<A: Allocator = Global> {
-    bytes: Vec<u8, A>,
+    bytes: Box<[u8; MEMORY_BYTES], A>,
 }
 
 /// Contracts see the list of the bytes.
@@ -21,9 +21,9 @@ impl<A: Allocator> Model for Rom<A> {
 
     ghost Value = { List ℕ };
 
-    ghost view = { λ rom. rom.bytes.items };
+    ghost view = { λ rom. rom.bytes.value };
 
-    ghost invariant = { λ rom. IsImage rom.bytes.items };
+    ghost invariant = { λ rom. IsImage rom.bytes.value };
 }
 
 impl<A: Allocator> Rom<A> {
@@ -35,7 +35,9 @@ impl<A: Allocator> Rom<A> {
         if bytes.len() != MEMORY_BYTES {
             return Err(MemFault::Size);
         }
-        match bytes.to_vec(alloc) {
+        let mut copy = [0; MEMORY_BYTES];
+        copy.copy_from_slice(bytes);
+        match Box::new(alloc, copy) {
             Ok(bytes) => Ok(Rom { bytes }),
             Err(_) => Err(MemFault::OutOfMemory),
         }
