@@ -11,7 +11,6 @@ use Rattle.dvg_frame.specs.declared.op.OpKind.TheVariants.{Draw}
 use Rattle.dvg_frame.specs.Layout.{op_words, size}
 use Rattle.dvg_frame.specs.Counting.{counts_from, IsCounted, IsSized}
 use Rattle.dvg_frame.specs.Ops.{IsDraft, IsOp}
-use Rattle.dvg_frame.proofs.Sizes.{size-take_all}
 
 pub counts-length : (n : ℕ) (F : List OpKind) → length (counts_from n F) ≡ length F
 counts-length n [] = refl

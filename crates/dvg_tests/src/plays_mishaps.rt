@@ -145,20 +145,34 @@ fn wall_in<'a>(heap: &'a LocalHeap, front: usize) -> Result<Vec<u8, &'a LocalHea
     Ok(wall)
 }
 
+/// The text of the first picture with eight ticks more, which makes 32 events, behind a comment that makes it as
+/// long as is wanted.
+fn text_of_length(alloc: Global, wanted: usize) -> Result<String, Fail> {
+    let picture = text_of(alloc, FIRST_PICTURE)?;
+    let mut text = joined(alloc, &["#"])?;
+    let dots = wanted.saturating_sub(picture.len().saturating_add("#\ntick 8\n".len()));
+    for _dot in 0..dots {
+        text.push_str(".")?;
+    }
+    text.push_str("\n")?;
+    text.push_str(picture.as_str())?;
+    text.push_str("tick 8\n")?;
+    Ok(text)
+}
+
 /// In front of the wall there is room for the text and for a vector of events that grows from 4 to 8, 16 and 32.
-/// What is given back of that is just enough for the log, so the stroke has to find room behind the wall.
+/// What is given back of that, the text and 28 events, is just enough for the log of 32 events, so the stroke has to
+/// find room behind the wall.
 #[test]
 fn a_refusal_at_the_vector_leaves_the_entries_before(rt: HostRuntime) -> Result<(), Fail> {
     let event = size_of::<Event<&LocalHeap>>();
     let entry = size_of::<Entry<&LocalHeap>>();
-    let given_back = event.saturating_mul(28).saturating_add(96);
-    let more = given_back
-        .checked_div(entry)
-        .unwrap_or(0)
-        .saturating_sub(24);
-    let mut text = text_of(rt.alloc(), FIRST_PICTURE)?;
-    text.push_str(format!(in rt.alloc(); "tick {more}\n")?.as_str())?;
-    let front = event.saturating_mul(60).saturating_add(96);
+    let length = entry
+        .saturating_mul(32)
+        .saturating_sub(event.saturating_mul(28));
+    let text = text_of_length(rt.alloc(), length)?;
+    assert_eq!(rt; text.len(), length);
+    let front = event.saturating_mul(60).saturating_add(length);
     let before = before_the_vector(rt.alloc())?;
     let (mut refused, mut whole) = (0u32, false);
     for slots in 0..2048usize {

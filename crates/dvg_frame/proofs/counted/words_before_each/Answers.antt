@@ -1,4 +1,4 @@
-use Rattle.std.proofs.Common.{rules, ◌≡◌, length, arith}
+use Rattle.std.proofs.Common.{◌≡◌, length, arith}
 use Rattle.dvg_frame.proofs.Counts.{counted_all, counts-length_take, counts-take_more, size_bound}
 use Rattle.dvg_frame.proofs.Sizes.{size-take_le, size-take_more}
 use Rattle.dvg_frame.proofs.counted.words_before_each.Goals as goal
@@ -18,10 +18,11 @@ overflow_add-words c =
     omega (arith, size-take_le c.args.draft.now c.loop-i.i, c.words_of-words.ensures.bound)
 
 pub loop-i-preserved : goal.loop-i-preserved
-loop-i-preserved c =
-    (counts-take_more _ _ _ _ _ _ c.op.ensures c.loop-i.invariant.0 c.loop-i.invariant.1 c.push.ensures.items,
-    size-take_more _ _ _ _ _ _ c.loop-i.invariant.1 c.op.ensures c.kind.ensures.value c.words_of-words.ensures.value,
-    omega arith)
+loop-i-preserved c = (
+  counts-take_more _ _ _ _ _ _ c.op.ensures c.loop-i.invariant.0 c.loop-i.invariant.1 c.push.ensures.items,
+  size-take_more _ _ _ _ _ _ c.loop-i.invariant.1 c.op.ensures c.kind.ensures.value c.words_of-words.ensures.value,
+  omega arith,
+)
 
 pub returns : goal.returns
 returns c =

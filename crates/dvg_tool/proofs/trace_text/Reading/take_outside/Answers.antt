@@ -1,4 +1,4 @@
-use Rattle.std.proofs.Common.{◌≡◌, Some, List, [], codes, length, map, refl, sym, ◌∙◌, vec_len, rules}
+use Rattle.std.proofs.Common.{◌≡◌, List, codes, length, map, sym, ◌∙◌, vec_len, rules}
 use Rattle.std.proofs.lemmas.List.{length-map}
 use Rattle.dvg_world.specs.Events.{Happening, happening_of}
 use Rattle.dvg_tool.specs.declared.trace_text.Reading.{Reading}
