@@ -62,8 +62,9 @@ fn run_trace<A: Allocator + Copy>(
 ///   is decided before all others.
 /// - `Syntax`, `Full`, `Many`, `Unended`: this is the first fault of the text, as `read_trace` tells it.
 /// - `Reader`, `Writer`: that device failed. After `Writer` a beginning of the text went out.
-/// - `Memory`: a growth was refused. If it was at an event, which is a fetch that completes a vector with an
-///   intensity of at least 1, the text of the events before it went out.
+/// - `Memory`: a growth was refused. At an event, which is a fetch that completes a vector with an intensity
+///   of at least 1, the text of the events before it went out first. The contract can't tell where memory was
+///   refused, so by it nothing at all may have gone out; tests show that text.
 ///
 /// Where it stops before it writes, which is at any fault but `Writer` and `Memory`, the writer is as it was.
 pub fn play<A: Allocator + Copy, R: Read, W: Write>(
