@@ -5,6 +5,8 @@ use crate::plain_frames::Op;
 
 #[cfg(arrays)]
 use crate::plain_frames::MOST;
+#[cfg(arrays)]
+use std::{mem::MaybeUninit, slice};
 
 /// The operations of a draft, at most 511.
 #[cfg(not(arrays))]
@@ -27,13 +29,10 @@ impl Draft {
     }
 }
 
-/// The operations of a draft, at most 511.
+/// The operations of a draft, at most 511. What isn't used is never written, as in the crate `arrayvec`.
 #[cfg(arrays)]
 pub struct Draft {
-    ops: [Op; MOST],
-    /// How many words stand before each operation.
-    words_before: [u16; MOST],
-    words: u16,
+    ops: [MaybeUninit<Op>; MOST],
     len: usize,
 }
 
@@ -41,21 +40,18 @@ pub struct Draft {
 impl Draft {
     pub fn new() -> Draft {
         Draft {
-            ops: [Op::Halt; MOST],
-            words_before: [0; MOST],
-            words: 0,
+            ops: [const { MaybeUninit::uninit() }; MOST],
             len: 0,
         }
     }
 
     pub fn ops(&self) -> &[Op] {
-        &self.ops[..self.len]
+        // SAFETY: the first `len` operations were written by `push`.
+        unsafe { slice::from_raw_parts(self.ops.as_ptr().cast(), self.len) }
     }
 
     pub fn push(&mut self, op: Op) {
-        self.ops[self.len] = op;
-        self.words_before[self.len] = self.words;
-        self.words += op.words() as u16;
+        self.ops[self.len].write(op);
         self.len += 1;
     }
 }
