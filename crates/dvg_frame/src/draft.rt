@@ -77,6 +77,14 @@ impl Draft {
         Ok(number)
     }
 
+    /// Takes all operations away.
+    pub fn clear(&mut self)
+        ensures { self.new ≡ [] }
+    {
+        self.ops.clear();
+        self.words = 0;
+    }
+
     /// The operation of this number.
     pub fn op(&self, i: usize) -> Op
         requires { i < length self.now }

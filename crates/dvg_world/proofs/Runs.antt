@@ -1,16 +1,16 @@
 -- The log of a run, one entry after the other.
 use Rattle.std.proofs.Common.{◌≡◌, ℕ, zero, suc, ◌+◌, ◌<◌, List, [], ◌∷◌, ◌++◌, map, reverse, length, get_or, slice_get, Some, refl, sym, ap, ◌∙◌, subst, inr, length-append, not-suc-le-zero, le_of_suc-le-suc, Vec, vec_len, vec_capacity}
 use Rattle.std.proofs.lemmas.List.{reverse-append, map-append}
+use Rattle.std.proofs.lemmas.Option.{get_or_from_slice_get, slice_get-get_or}
 use Rattle.std.specs.List.{zip}
-use Rattle.dvg_world.specs.declared.event.Event.{Event}
 use Rattle.dvg_world.specs.declared.entry.Entry.{Entry}
-use Rattle.dvg_world.specs.Events.{happening_of}
+use Rattle.dvg_world.specs.Events.{Happening, Tick}
 use Rattle.dvg_world.specs.Entries.{shown_of}
 use Rattle.dvg_world.specs.Log.{◌⟼◌}
 use Rattle.dvg_world.specs.Legal.{IsLegal}
 use Rattle.dvg_world.specs.Runs.{log_of, IsStop}
-use Rattle.dvg_world.specs.Wanting.{TakesMemory}
 use Rattle.dvg_world.specs.Standing.{State, WorldAfter}
+use Rattle.dvg_world.specs.Stepping.{AddsEvent, WantsMemory}
 
 -- one item more on the right takes the next one on the left
 zip-more : {A B : Type 0} (xs : List A) (ys : List B) (x : A) (y : B) → length ys < length xs → x ≡ get_or xs (length ys) x → zip xs (ys ++ y ∷ []) ≡ zip xs ys ++ (x, y) ∷ []
@@ -20,42 +20,49 @@ zip-more (a ∷ b ∷ xs) [] x y inside item = ap (λ z. (z, y) ∷ []) (sym ite
 zip-more (a ∷ xs) (b ∷ ys) x y inside item = ap (λ pairs. (a, b) ∷ pairs) (zip-more xs ys x y (le_of_suc-le-suc inside) item)
 
 -- one entry more is one line more
-pub log_of-more : {A : Type 0} (events : List (Event A)) (entries : List (Entry A)) (event : Event A) (entry : Entry A) → length entries < length events → event ≡ get_or events (length entries) event
-    → (happening_of event ⟼ shown_of entry) ∷ log_of events entries ≡ log_of events (entries ++ entry ∷ [])
+pub log_of-more : {A : Type 0} (events : List Happening) (entries : List (Entry A)) (event : Happening) (entry : Entry A) → length entries < length events → event ≡ get_or events (length entries) event
+    → (event ⟼ shown_of entry) ∷ log_of events entries ≡ log_of events (entries ++ entry ∷ [])
 log_of-more events entries event entry inside item =
-    sym (ap (λ pairs. reverse (map (λ line. happening_of line.0 ⟼ shown_of line.1) pairs)) (zip-more events entries event entry inside item)
-    ∙ (ap reverse (map-append (λ line. happening_of line.0 ⟼ shown_of line.1) (zip events entries) ((event, entry) ∷ []))
-    ∙ reverse-append (map (λ line. happening_of line.0 ⟼ shown_of line.1) (zip events entries)) ((happening_of event ⟼ shown_of entry) ∷ [])))
+    sym (ap (λ pairs. reverse (map (λ line. line.0 ⟼ shown_of line.1) pairs)) (zip-more events entries event entry inside item)
+    ∙ (ap reverse (map-append (λ line. line.0 ⟼ shown_of line.1) (zip events entries) ((event, entry) ∷ []))
+    ∙ reverse-append (map (λ line. line.0 ⟼ shown_of line.1) (zip events entries)) ((event ⟼ shown_of entry) ∷ [])))
 
 -- no entry is no line
-pub log_of-none : {A : Type 0} (events : List (Event A)) → log_of {A = A} events [] ≡ []
-log_of-none [] = refl
-log_of-none (event ∷ events) = refl
+pub log_of-none : (A : Type 0) (events : List Happening) → log_of {A = A} events [] ≡ []
+log_of-none A [] = refl
+log_of-none A (event ∷ events) = refl
 
 -- what holds of a run so far: the world stands after the log, each event before number n has its entry, and there is room for all
-pub record IsSoFar {A : Type 0} (R image : List ℕ) (events : List (Event A)) (entries : Vec (Entry A) A) (n : ℕ) (world : State) : Type 0 where
+pub record IsSoFar {A : Type 0} (R image : List ℕ) (events : List Happening) (entries : Vec (Entry A) A) (n : ℕ) (world : State) : Type 0 where
   pub after : WorldAfter R image (log_of events entries.items) world
   pub count : length entries.items ≡ n
   pub len : vec_len entries ≡ n
   pub room : vec_capacity entries ≡ length events
 
-pub legal_none : {A : Type 0} (R image : List ℕ) (events : List (Event A)) (entries : Vec (Entry A) A) → entries.items ≡ [] → IsLegal R image [] → IsLegal R image (log_of events entries.items)
+pub legal_none : {A : Type 0} (R image : List ℕ) (events : List Happening) (entries : Vec (Entry A) A) → entries.items ≡ [] → IsLegal R image [] → IsLegal R image (log_of events entries.items)
 legal_none R image events entries none legal =
-    subst (λ items. IsLegal R image (log_of events items)) (sym none) (subst (λ log. IsLegal R image log) (sym (log_of-none events)) legal)
+    subst (λ items. IsLegal R image (log_of events items)) (sym none) (subst (λ log. IsLegal R image log) (sym (log_of-none _ events)) legal)
 
-pub begins_so_far : {A : Type 0} {R image : List ℕ} {events : List (Event A)} {entries : Vec (Entry A) A} {world : State} → WorldAfter R image [] world → entries.items ≡ [] → vec_len entries ≡ 0
+pub begins_so_far : {A : Type 0} {R image : List ℕ} {events : List Happening} {entries : Vec (Entry A) A} {world : State} → WorldAfter R image [] world → entries.items ≡ [] → vec_len entries ≡ 0
     → vec_capacity entries ≡ length events → IsSoFar R image events entries 0 world
 begins_so_far {R = R} {image = image} {events = events} {world = world} after none len room = record {
-  after = subst (λ items. WorldAfter R image (log_of events items) world) (sym none) (subst (λ log. WorldAfter R image log world) (sym (log_of-none events)) after);
+  after = subst (λ items. WorldAfter R image (log_of events items) world) (sym none) (subst (λ log. WorldAfter R image log world) (sym (log_of-none _ events)) after);
   count = ap length none;
   len = len;
   room = room;
 }
 
-pub one_more : {A : Type 0} {R image : List ℕ} {events : List (Event A)} {entries entries' : Vec (Entry A) A} {n : ℕ} {world world' : State} (event : Event A) (entry : Entry A) → IsSoFar R image events entries n world
-    → n < length events → event ≡ get_or events n event → WorldAfter R image ((happening_of event ⟼ shown_of entry) ∷ log_of events entries.items) world' → entries'.items ≡ entries.items ++ entry ∷ []
-    → vec_len entries' ≡ vec_len entries + 1 → vec_capacity entries' ≡ vec_capacity entries → IsSoFar R image events entries' (n + 1) world'
-one_more {R = R} {image = image} {events = events} {entries = entries} {n = n} {world' = world'} event entry so_far inside item after pushed longer same =
+-- the event of a number
+at : (events : List Happening) (n : ℕ) → n < length events → slice_get events n ≡ Some (get_or events n Tick)
+at events n inside = slice_get-get_or events n Tick inside
+
+pub one_more : {A : Type 0} {R image : List ℕ} {events : List Happening} {entries entries' : Vec (Entry A) A} {n : ℕ} {world world' : State} (entry : Entry A) → IsSoFar R image events entries n world
+    → n < length events → AddsEvent events n world (shown_of entry) world' → entries'.items ≡ entries.items ++ entry ∷ [] → vec_len entries' ≡ vec_len entries + 1 → vec_capacity entries' ≡ vec_capacity entries
+    → IsSoFar R image events entries' (n + 1) world'
+one_more {R = R} {image = image} {events = events} {entries = entries} {n = n} {world' = world'} entry so_far inside adds pushed longer same =
+    let event = get_or events n Tick in
+    let item : event ≡ get_or events n event = sym (get_or_from_slice_get events n event event (at events n inside)) in
+    let after = adds event (at events n inside) R image (log_of events entries.items) so_far.after in
     let within : length entries.items < length events = subst (λ k. k < length events) (sym so_far.count) inside in
     let here : event ≡ get_or events (length entries.items) event = subst (λ k. event ≡ get_or events k event) (sym so_far.count) item in
     record {
@@ -65,12 +72,8 @@ one_more {R = R} {image = image} {events = events} {entries = entries} {n = n} {
       room = same ∙ so_far.room;
     }
 
--- an item is the one at its index
-item_at : {X : Type 0} (xs : List X) (n : ℕ) (x : X) → n < length xs → x ≡ get_or xs n x → slice_get xs n ≡ Some x
-item_at [] n x inside item = absurd (not-suc-le-zero inside)
-item_at (y ∷ xs) zero x inside item = ap Some (sym item)
-item_at (y ∷ xs) (suc n) x inside item = item_at xs n x (le_of_suc-le-suc inside) item
-
-pub stops_at : {A : Type 0} {R image : List ℕ} {events : List (Event A)} {entries : Vec (Entry A) A} {n : ℕ} {world : State} (event : Event A) → IsSoFar R image events entries n world → n < length events
-    → event ≡ get_or events n event → TakesMemory R image (log_of events entries.items) (happening_of event) → IsStop R image events (record { entries = entries; event = n })
-stops_at {events = events} {n = n} event so_far inside item takes = inr (event, item_at events n event inside item, takes)
+pub stops_at : {A : Type 0} {R image : List ℕ} {events : List Happening} {entries : Vec (Entry A) A} {n : ℕ} {world : State} → IsSoFar R image events entries n world → n < length events → WantsMemory events n world
+    → IsStop R image events (record { entries = entries; event = n })
+stops_at {R = R} {image = image} {events = events} {entries = entries} {n = n} so_far inside wants =
+    let event = get_or events n Tick in
+    inr (event, at events n inside, wants R image (log_of events entries.items) event so_far.after (at events n inside))

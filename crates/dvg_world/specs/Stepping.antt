@@ -1,5 +1,5 @@
 -- One line more: the words of private contracts.
-use Rattle.std.specs.Prelude.{ℕ, Bool, true, List, ◌∷◌, Option, Some, None, slice_set}
+use Rattle.std.specs.Prelude.{ℕ, Bool, true, List, ◌∷◌, Option, Some, None, slice_get, slice_set, ◌≡◌}
 use Rattle.dvg_gen.specs.declared.taken.GenFault.TheVariants.{Hole}
 use Rattle.dvg_gen.specs.declared.taken.Taken.{Taken}
 use Rattle.dvg_gen.specs.declared.taken.Taken.TheVariants as taken
@@ -9,7 +9,7 @@ use Rattle.dvg_world.specs.Events.{Happening}
 use Rattle.dvg_world.specs.Entries.{Shown, Fetched, Done, Broke}
 use Rattle.dvg_world.specs.Log.{Log, ◌⟼◌}
 use Rattle.dvg_world.specs.Standing.{State, WorldAfter}
-use Rattle.dvg_world.specs.Wanting.{DrawsNext}
+use Rattle.dvg_world.specs.Wanting.{DrawsNext, TakesMemory}
 
 -- after each log that the old world stands after, and this line, the new one stands
 abbrev pub AddsLine : State → Happening → Shown → State → Type 0
@@ -35,3 +35,11 @@ entry_by address None answer = Broke address Hole
 entry_by address (Some word) taken.Word = Fetched address word
 entry_by address (Some word) (taken.Done strokes) = Done address word strokes.items
 entry_by address (Some word) (taken.Broke fault) = Broke address fault
+
+-- the event of this number adds such a line
+abbrev pub AddsEvent : List Happening → ℕ → State → Shown → State → Type 0
+AddsEvent events number old entry new = (event : Happening) → slice_get events number ≡ Some event → AddsLine old event entry new
+
+-- after each log that the world stands after, the event of this number takes memory
+abbrev pub WantsMemory : List Happening → ℕ → State → Type 0
+WantsMemory events number world = (R image : List ℕ) (log : Log) (event : Happening) → WorldAfter R image log world → slice_get events number ≡ Some event → TakesMemory R image log event

@@ -13,10 +13,12 @@ mod running;
 mod stopped;
 #[cfg(test)]
 mod tests;
+mod trace;
 mod world;
 
 pub use entry::Entry;
 pub use event::Event;
-pub use running::run;
+pub use running::{run, run_trace};
 pub use stopped::Stopped;
+pub use trace::{MOST_EVENTS, Trace};
 pub use world::World;

@@ -1,16 +1,23 @@
 //! Whole runs.
-ghost use Rattle.std.specs.Prelude.{◌≡◌, length, IfErr, IfOk};
+ghost use Rattle.std.specs.Prelude.{◌≡◌, ◌<◌, List, length, map, IfErr, IfOk, OnErr};
+ghost use Rattle.dvg_world.specs.Entries.{shown_of};
+ghost use Rattle.dvg_world.specs.Events.{Happening, happening_of};
 ghost use Rattle.dvg_world.specs.Headline.{DrewPublished, IsNoOlder, KeepsTime, NoFault, SparesDrawn};
 ghost use Rattle.dvg_world.specs.Legal.{IsLegal};
 ghost use Rattle.dvg_world.specs.Log.{Throughout};
 ghost use Rattle.dvg_world.specs.Runs.{IsStop, log_by};
+ghost use Rattle.dvg_world.specs.Stepping.{AddsEvent, WantsMemory};
 ghost use Rattle.dvg_world.specs.Untouched.{DrewHeld};
 
 use crate::entry::Entry;
 use crate::event::Event;
 use crate::stopped::Stopped;
+use crate::trace::{Trace, happen_of};
 use crate::world::World;
+use dvg_code::OutOfMemory;
+use dvg_frame::Draft;
 use dvg_mem::{Image, Rom, Store};
+use std::alloc::Allocator;
 
 /// Lets events happen to a new world, one after the other, and answers the entry of each, in their order.
 ///
@@ -38,42 +45,124 @@ pub fn run<S: Store>(
     events: &[Event<S::Alloc>],
 ) -> Result<Vec<Entry<S::Alloc>, S::Alloc>, Stopped<S::Alloc>>
     // The log is legal: each entry is the one that its event gets over the log before it.
-    ensures legal { IsLegal rom image.now (log_by events.now result) }
+    ensures legal { IsLegal rom image.now (log_by (map happening_of events.now) result) }
 
     // No byte is written in the half being drawn.
-    ensures never_torn { Throughout SparesDrawn (log_by events.now result) }
+    ensures never_torn { Throughout SparesDrawn (log_by (map happening_of events.now) result) }
     // The generator never faults.
-    ensures never_faults { Throughout NoFault (log_by events.now result) }
+    ensures never_faults { Throughout NoFault (log_by (map happening_of events.now) result) }
     // Every run that reaches HALT drew exactly the picture of the frame newest published when it fetched
     // word zero.
-    ensures draws_published { Throughout (DrewPublished rom) (log_by events.now result) }
+    ensures draws_published { Throughout (DrewPublished rom) (log_by (map happening_of events.now) result) }
     // No picture is older than the one before.
-    ensures never_older { Throughout IsNoOlder (log_by events.now result) }
+    ensures never_older { Throughout IsNoOlder (log_by (map happening_of events.now) result) }
     // A run of a frame that has a picture is finished at the picture's last fetch.
-    ensures always_in_time { Throughout (KeepsTime rom) (log_by events.now result) }
+    ensures always_in_time { Throughout (KeepsTime rom) (log_by (map happening_of events.now) result) }
     // A run that reaches HALT, during which nothing was written and the RAM held a checked frame, drew the
     // picture of that frame's draft.
-    ensures draws_undisturbed { Throughout (DrewHeld rom image.now) (log_by events.now result) }
+    ensures draws_undisturbed { Throughout (DrewHeld rom image.now) (log_by (map happening_of events.now) result) }
 
     // Every event has an entry, or else those before the one at which the run stopped for want of memory.
     ensures whole { IfOk result (λ entries. length entries.items ≡ length events.now) }
     ensures stopped { IfErr result (λ stopped. length stopped.entries.items ≡ stopped.event) }
-    ensures early { IfErr result (IsStop rom image.now events.now) }
+    ensures early { IfErr result (IsStop rom image.now (map happening_of events.now)) }
 {
-    run_legally::<S>(alloc, rom, image, events)
+    run_each::<S, Listed<S::Alloc>>(alloc, rom, image, Listed { events })
 }
 
-// Lets events happen to a new world. What their log shows follows from its being legal.
-fn run_legally<S: Store>(
+/// Lets the events of a trace happen to a new world, as `run` does with a list of them: the log is the one legal
+/// log of these events, so all that `run` says of logs holds of it.
+pub fn run_trace<S: Store>(
     alloc: S::Alloc,
     rom: Rom<S::Alloc>,
     image: &Image<S::Alloc>,
-    events: &[Event<S::Alloc>],
+    trace: &Trace<S::Alloc>,
 ) -> Result<Vec<Entry<S::Alloc>, S::Alloc>, Stopped<S::Alloc>>
-    ensures legal { IsLegal rom image.now (log_by events.now result) }
-    ensures whole { IfOk result (λ entries. length entries.items ≡ length events.now) }
+    ensures legal { IsLegal rom image.now (log_by trace.now result) }
+    ensures whole { IfOk result (λ entries. length entries.items ≡ length trace.now) }
     ensures stopped { IfErr result (λ stopped. length stopped.entries.items ≡ stopped.event) }
-    ensures early { IfErr result (IsStop rom image.now events.now) }
+    ensures early { IfErr result (IsStop rom image.now trace.now) }
+{
+    let draft = Draft::new();
+    run_each::<S, Playing<S::Alloc>>(alloc, rom, image, Playing { trace, draft })
+}
+
+// Events in order, however they are kept.
+trait Events<S: Store>: Drop {
+    ghost told: { Self → List Happening };
+
+    // How many there are.
+    fn count(&self) -> usize
+        ensures { result ≡ length (told self.now) };
+
+    // Lets the event of this number happen to a world.
+    fn happen(
+        &mut self,
+        number: usize,
+        world: &mut World<S>,
+    ) -> Result<Entry<S::Alloc>, OutOfMemory>
+        requires inside { number < length (told self.old) }
+        ensures same { told self.new ≡ told self.old }
+        ensures stands { IfOk result (λ entry. AddsEvent (told self.old) number world.old (shown_of entry) world.new) }
+        ensures room { OnErr result (WantsMemory (told self.old) number world.old) };
+}
+
+// A list of events.
+#[derive(Drop)]
+struct Listed<'a, A: Allocator> {
+    events: &'a [Event<A>],
+}
+
+impl<'a, S: Store> Events<S> for Listed<'a, S::Alloc> {
+    ghost told = { λ listed. map happening_of listed.events.now };
+
+    fn count(&self) -> usize {
+        self.events.len()
+    }
+
+    fn happen(
+        &mut self,
+        number: usize,
+        world: &mut World<S>,
+    ) -> Result<Entry<S::Alloc>, OutOfMemory> {
+        world.apply(&self.events[number])
+    }
+}
+
+// A trace, and the draft in which those of its offers are made.
+#[derive(Drop)]
+struct Playing<'a, A: Allocator> {
+    trace: &'a Trace<A>,
+    draft: Draft,
+}
+
+impl<'a, S: Store> Events<S> for Playing<'a, S::Alloc> {
+    ghost told = { λ playing. playing.trace.now };
+
+    fn count(&self) -> usize {
+        self.trace.len()
+    }
+
+    fn happen(
+        &mut self,
+        number: usize,
+        world: &mut World<S>,
+    ) -> Result<Entry<S::Alloc>, OutOfMemory> {
+        happen_of(self.trace, number, &mut self.draft, world)
+    }
+}
+
+// Lets events happen to a new world. What their log shows follows from its being legal.
+fn run_each<S: Store, E: Events<S>>(
+    alloc: S::Alloc,
+    rom: Rom<S::Alloc>,
+    image: &Image<S::Alloc>,
+    events: E,
+) -> Result<Vec<Entry<S::Alloc>, S::Alloc>, Stopped<S::Alloc>>
+    ensures legal { IsLegal rom image.now (log_by (E.told events) result) }
+    ensures whole { IfOk result (λ entries. length entries.items ≡ length (E.told events)) }
+    ensures stopped { IfErr result (λ stopped. length stopped.entries.items ≡ stopped.event) }
+    ensures early { IfErr result (IsStop rom image.now (E.told events)) }
 {
     let Ok(mut world) = World::<S>::new(alloc, rom, image) else {
         return Err(Stopped {
@@ -81,14 +170,15 @@ fn run_legally<S: Store>(
             event: 0,
         });
     };
-    let Ok(mut entries) = Vec::with_capacity(alloc, events.len()) else {
+    let mut events = events;
+    let Ok(mut entries) = Vec::with_capacity(alloc, events.count()) else {
         return Err(Stopped {
             entries: Vec::new(alloc),
             event: 0,
         });
     };
-    for (number, event) in events.iter().enumerate() {
-        let Ok(entry) = world.apply(event) else {
+    for number in 0..events.count() {
+        let Ok(entry) = events.happen(number, &mut world) else {
             return Err(Stopped {
                 entries,
                 event: number,

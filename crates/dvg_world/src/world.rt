@@ -130,7 +130,7 @@ impl<S: Store> World<S> {
     }
 
     // The driver is handed a draft.
-    fn offer(&mut self, draft: &Draft) -> Entry<S::Alloc>
+    pub(crate) fn offer(&mut self, draft: &Draft) -> Entry<S::Alloc>
         ensures { AddsLine self.old (Offer draft.now) (shown_of result) self.new }
     {
         // A draft has at most 511 operations, as its type says.
@@ -146,7 +146,7 @@ impl<S: Store> World<S> {
     }
 
     // The driver is asked for a redraw.
-    fn redraw(&mut self) -> Entry<S::Alloc>
+    pub(crate) fn redraw(&mut self) -> Entry<S::Alloc>
         ensures { AddsLine self.old Redraw (shown_of result) self.new }
     {
         match self.driver.redraw() {
@@ -157,7 +157,7 @@ impl<S: Store> World<S> {
     }
 
     // The driver does one action.
-    fn tick(&mut self) -> Entry<S::Alloc>
+    pub(crate) fn tick(&mut self) -> Entry<S::Alloc>
         ensures { AddsLine self.old Tick (shown_of result) self.new }
     {
         let byte1 = self.store.read(1);
@@ -179,7 +179,7 @@ impl<S: Store> World<S> {
     }
 
     // A strobe reaches the generator, if one was sent.
-    fn strobe(&mut self) -> Entry<S::Alloc>
+    pub(crate) fn strobe(&mut self) -> Entry<S::Alloc>
         ensures { AddsLine self.old Strobe (shown_of result) self.new }
     {
         if !self.strobe_sent {
@@ -190,7 +190,7 @@ impl<S: Store> World<S> {
     }
 
     // The generator fetches one word.
-    fn fetch(&mut self) -> Result<Entry<S::Alloc>, OutOfMemory>
+    pub(crate) fn fetch(&mut self) -> Result<Entry<S::Alloc>, OutOfMemory>
         ensures stands { IfOk result (λ entry. AddsLine self.old Fetch (shown_of entry) self.new) }
         ensures refused { OnErr result (self.new ≡ self.old) }
         ensures room { OnErr result (DrawsNow self.old) }
@@ -204,7 +204,7 @@ impl<S: Store> World<S> {
     }
 
     // The generator is reset.
-    fn reset_generator(&mut self) -> Entry<S::Alloc>
+    pub(crate) fn reset_generator(&mut self) -> Entry<S::Alloc>
         ensures { AddsLine self.old ResetGen (shown_of result) self.new }
     {
         self.generator.reset();
@@ -212,7 +212,7 @@ impl<S: Store> World<S> {
     }
 
     // The driver is reset.
-    fn reset_processor(&mut self) -> Entry<S::Alloc>
+    pub(crate) fn reset_processor(&mut self) -> Entry<S::Alloc>
         ensures { AddsLine self.old ResetCpu (shown_of result) self.new }
     {
         self.driver.reset();
@@ -220,7 +220,7 @@ impl<S: Store> World<S> {
     }
 
     // The whole system is reset, and the RAM holds this image.
-    fn reset_all(&mut self, image: &Image<S::Alloc>) -> Entry<S::Alloc>
+    pub(crate) fn reset_all(&mut self, image: &Image<S::Alloc>) -> Entry<S::Alloc>
         ensures { AddsLine self.old (ResetAll image.now) (shown_of result) self.new }
     {
         self.store.load(image);

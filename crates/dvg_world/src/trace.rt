@@ -1,0 +1,165 @@
+//! Lists of events that take little room.
+ghost use Rattle.std.specs.Prelude.{◌≡◌, ◌+◌, ◌<◌, ◌≤◌, ◌↔◌, ◌++◌, ◌∷◌, [], List, length, vec_capacity, vec_len, IfOk, IsTrue, OnErr, OnOk};
+ghost use Rattle.dvg_world.specs.Entries.{shown_of};
+ghost use Rattle.dvg_world.specs.Events.{Happening, Offer, happening_of};
+ghost use Rattle.dvg_world.specs.Stepping.{AddsEvent, WantsMemory};
+ghost use Rattle.dvg_world.specs.Traces.{IsTrace, events_of};
+
+use crate::entry::Entry;
+use crate::event::Event;
+use crate::world::World;
+use dvg_code::OutOfMemory;
+use dvg_frame::{Draft, Op};
+use dvg_mem::{Image, Store};
+use std::alloc::{Allocator, Global};
+use std::marker::Model;
+
+/// The most events of a trace (this project's own choice).
+pub const MOST_EVENTS: usize = 65_536;
+
+/// Events in order, at most 65,536 of them, in little room: the operations of all its offers lie in one list, so
+/// an offer takes what its own operations want, where a `Draft` has room for 511.
+#[derive(Drop)]
+pub struct Trace<A: Allocator = Global> {
+    steps: Vec<Step<A>, A>,
+    /// The operations of all offers.
+    ops: Vec<Op, A>,
+}
+
+/// Contracts see the list of the events.
+impl<A: Allocator> Model for Trace<A> {
+    ghost Value = { List Happening };
+
+    ghost view = { λ trace. events_of trace.steps.items trace.ops.items };
+
+    ghost invariant = { λ trace. IsTrace trace.steps.items trace.ops.items };
+}
+
+/// An event of a trace.
+#[derive(Drop)]
+pub(crate) enum Step<A: Allocator> {
+    /// An offer: the number of its first operation among those of all offers, and how many it has.
+    Offer(u32, u16),
+    Redraw,
+    Tick,
+    Strobe,
+    Fetch,
+    ResetGen,
+    ResetCpu,
+    ResetAll(Image<A>),
+}
+
+impl<A: Allocator + Copy> Trace<A> {
+    /// No events.
+    pub fn new(alloc: A) -> Trace<A>
+        ensures { result ≡ [] }
+    {
+        Trace {
+            steps: Vec::new(alloc),
+            ops: Vec::new(alloc),
+        }
+    }
+}
+
+impl<A: Allocator> Trace<A> {
+    /// How many events there are.
+    pub fn len(&self) -> usize
+        ensures value { result ≡ length self.now }
+        ensures most { result ≤ 65536 }
+    {
+        self.steps.len()
+    }
+
+    /// Whether there is no event.
+    pub fn is_empty(&self) -> bool
+        ensures { IsTrue result ↔ (self.now ≡ []) }
+    {
+        self.steps.is_empty()
+    }
+
+    /// Adds an event at the end of fewer than 65,536. An error is want of memory, and then nothing has changed.
+    pub fn push(&mut self, event: Event<A>) -> Result<(), OutOfMemory>
+        requires { length self.old < 65536 }
+        ensures pushed { OnOk result (self.new ≡ self.old ++ happening_of event ∷ []) }
+        ensures refused { OnErr result (self.new ≡ self.old) }
+    {
+        let step = match event {
+            Event::Offer(draft) => return self.push_offer(&draft),
+            Event::Redraw => Step::Redraw,
+            Event::Tick => Step::Tick,
+            Event::Strobe => Step::Strobe,
+            Event::Fetch => Step::Fetch,
+            Event::ResetGen => Step::ResetGen,
+            Event::ResetCpu => Step::ResetCpu,
+            Event::ResetAll(image) => Step::ResetAll(image),
+        };
+        self.steps.push(step)?;
+        Ok(())
+    }
+
+    /// Adds an offer of a draft, which is copied, at the end of fewer than 65,536 events. An error is want of
+    /// memory, and then nothing has changed.
+    pub fn push_offer(&mut self, draft: &Draft) -> Result<(), OutOfMemory>
+        requires { length self.old < 65536 }
+        ensures pushed { OnOk result (self.new ≡ self.old ++ Offer draft.now ∷ []) }
+        ensures refused { OnErr result (self.new ≡ self.old) }
+    {
+        let first = self.ops.len() as u32;
+        let count = draft.len();
+        self.ops.reserve(count)?;
+        self.steps.reserve(1)?;
+        append(&mut self.ops, draft);
+        self.steps.push_reserved(Step::Offer(first, count as u16));
+        Ok(())
+    }
+}
+
+// Adds a draft's operations, for which there is room.
+fn append<A: Allocator>(ops: &mut Vec<Op, A>, draft: &Draft)
+    requires { vec_len ops.old + length draft.now ≤ vec_capacity ops.old }
+    ensures { ops.new.items ≡ ops.old.items ++ draft.now }
+{
+    for i in 0..draft.len() {
+        ops.push_reserved(draft.op(i));
+    }
+}
+
+// Takes these operations in place of a draft's own.
+fn fill(draft: &mut Draft, ops: &[Op])
+    requires { length ops.now ≤ 511 }
+    ensures { draft.new ≡ ops.now }
+{
+    draft.clear();
+    for op in ops {
+        let Ok(_) = draft.push(*op) else {
+            unreachable!()
+        };
+    }
+}
+
+// Lets the event of this number of a trace happen to a world. The draft of an offer is made in `draft`.
+pub(crate) fn happen_of<S: Store>(
+    trace: &Trace<S::Alloc>,
+    number: usize,
+    draft: &mut Draft,
+    world: &mut World<S>,
+) -> Result<Entry<S::Alloc>, OutOfMemory>
+    requires { number < length trace.now }
+    ensures stands { IfOk result (λ entry. AddsEvent trace.now number world.old (shown_of entry) world.new) }
+    ensures room { OnErr result (WantsMemory trace.now number world.old) }
+{
+    match &trace.steps[number] {
+        Step::Offer(first, count) => {
+            let first = *first as usize;
+            fill(draft, &trace.ops[first..first + usize::from(*count)]);
+            Ok(world.offer(draft))
+        }
+        Step::Redraw => Ok(world.redraw()),
+        Step::Tick => Ok(world.tick()),
+        Step::Strobe => Ok(world.strobe()),
+        Step::Fetch => world.fetch(),
+        Step::ResetGen => Ok(world.reset_generator()),
+        Step::ResetCpu => Ok(world.reset_processor()),
+        Step::ResetAll(image) => Ok(world.reset_all(image)),
+    }
+}
