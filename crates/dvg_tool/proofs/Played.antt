@@ -5,10 +5,9 @@ use Rattle.std.proofs.lemmas.List.Elements.{All-replicate}
 use Rattle.dvg_mem.specs.Memory.{IsImage}
 use Rattle.std.proofs.lemmas.Option.{slice_get_within, get_or_from_slice_get}
 use Rattle.std.specs.List.{zip}
-use Rattle.dvg_world.specs.declared.event.Event.{Event}
 use Rattle.dvg_world.specs.declared.entry.Entry.{Entry}
 use Rattle.dvg_world.specs.declared.stopped.Stopped.{Stopped}
-use Rattle.dvg_world.specs.Events.{Happening, happening_of}
+use Rattle.dvg_world.specs.Events.{Happening}
 use Rattle.dvg_world.specs.Entries.{shown_of}
 use Rattle.dvg_world.specs.Legal.{IsLegal}
 use Rattle.dvg_world.specs.Log.{Line, Log, ◌⟼◌}
@@ -19,49 +18,49 @@ use Rattle.dvg_tool.specs.Shows.{shown}
 use Rattle.dvg_tool.specs.TraceGives.{GivesTrace}
 
 -- the lines of events and entries, oldest first
-abbrev lines_of : {A : Type 0} → List (Event A) → List (Entry A) → List Line
-lines_of events entries = map (λ line. happening_of line.0 ⟼ shown_of line.1) (zip events entries)
+abbrev lines_of : {A : Type 0} → List Happening → List (Entry A) → List Line
+lines_of events entries = map (λ line. line.0 ⟼ shown_of line.1) (zip events entries)
 
-oldest_first : {A : Type 0} (events : List (Event A)) (entries : List (Entry A)) → reverse (log_of events entries) ≡ lines_of events entries
+oldest_first : {A : Type 0} (events : List Happening) (entries : List (Entry A)) → reverse (log_of events entries) ≡ lines_of events entries
 oldest_first events entries = reverse-reverse (lines_of events entries)
 
-entries_told : {A : Type 0} (events : List (Event A)) (entries : List (Entry A)) → length entries ≤ length events → map entry_of (lines_of events entries) ≡ map shown_of entries
+entries_told : {A : Type 0} (events : List Happening) (entries : List (Entry A)) → length entries ≤ length events → map entry_of (lines_of events entries) ≡ map shown_of entries
 entries_told [] [] h = refl
 entries_told (event ∷ events) [] h = refl
 entries_told [] (entry ∷ entries) h = absurd (not-suc-le-zero h)
 entries_told (event ∷ events) (entry ∷ entries) h = ap (λ l. shown_of entry ∷ l) (entries_told events entries (le_of_suc-le-suc h))
 
 -- those that have an entry, and the later ones
-events_told : {A : Type 0} (events : List (Event A)) (entries : List (Entry A)) → length entries ≤ length events
-    → map happening_of events ≡ map event_of (lines_of events entries) ++ map happening_of (drop (length entries) events)
+events_told : {A : Type 0} (events : List Happening) (entries : List (Entry A)) → length entries ≤ length events
+    → events ≡ map event_of (lines_of events entries) ++ drop (length entries) events
 events_told [] [] h = refl
 events_told (event ∷ events) [] h = refl
 events_told [] (entry ∷ entries) h = absurd (not-suc-le-zero h)
-events_told (event ∷ events) (entry ∷ entries) h = ap (λ l. happening_of event ∷ l) (events_told events entries (le_of_suc-le-suc h))
+events_told (event ∷ events) (entry ∷ entries) h = ap (λ l. event ∷ l) (events_told events entries (le_of_suc-le-suc h))
 
 -- what is shown of the log is what is shown of the entries
-pub log_shown : {A : Type 0} (all : Bool) (events : List (Event A)) (entries : List (Entry A)) → length entries ≤ length events
+pub log_shown : {A : Type 0} (all : Bool) (events : List Happening) (entries : List (Entry A)) → length entries ≤ length events
     → shown all 0 (map shown_of entries) ≡ log_text all (log_of events entries)
 log_shown all events entries h = sym (ap (λ lines. shown all 0 (map entry_of lines)) (oldest_first events entries) ∙ ap (shown all 0) (entries_told events entries h))
 
-in_order : {A : Type 0} (events : List (Event A)) (entries : List (Entry A)) → length entries ≤ length events
-    → map happening_of events ≡ map event_of (reverse (log_of events entries)) ++ map happening_of (drop (length entries) events)
+in_order : {A : Type 0} (events : List Happening) (entries : List (Entry A)) → length entries ≤ length events
+    → events ≡ map event_of (reverse (log_of events entries)) ++ drop (length entries) events
 in_order events entries h =
-    events_told events entries h ∙ ap (λ lines. map event_of lines ++ map happening_of (drop (length entries) events)) (sym (oldest_first events entries))
+    events_told events entries h ∙ ap (λ lines. map event_of lines ++ drop (length entries) events) (sym (oldest_first events entries))
 
 -- all events were played
-pub played_whole : {A : Type 0} (text R : List ℕ) (events : List (Event A)) (entries : List (Entry A)) → GivesTrace text (map happening_of events) R → IsLegal R zeros (log_of events entries)
+pub played_whole : {A : Type 0} (text R : List ℕ) (events : List Happening) (entries : List (Entry A)) → GivesTrace text (events) R → IsLegal R zeros (log_of events entries)
     → length entries ≡ length events → IsPlayed text (log_of events entries) []
 played_whole text R events entries gives legal all = record {
-  events = map happening_of events;
+  events = events;
   R = R;
   gives = gives;
   legal = legal;
   in_order = in_order events entries (omega arith)
-      ∙ ap (λ l. map event_of (reverse (log_of events entries)) ++ map happening_of l) (drop_all (length entries) events (omega arith));
+      ∙ ap (λ l. map event_of (reverse (log_of events entries)) ++ l) (drop_all (length entries) events (omega arith));
 }
 
-within : {A : Type 0} (R : List ℕ) (events : List (Event A)) (stopped : Stopped A) → IsStop R zeros events stopped → stopped.event ≤ length events
+within : {A : Type 0} (R : List ℕ) (events : List Happening) (stopped : Stopped A) → IsStop R zeros events stopped → stopped.event ≤ length events
 within R events stopped stop = ⊎_elim (λ first. omega arith) (λ at. let low = slice_get_within events stopped.event at.0 at.1 in omega arith) stop
 
 no_item : {X : Type 0} (xs : List X) → length xs ≡ 0 → xs ≡ []
@@ -73,24 +72,24 @@ pub record PlayedPart (text : List ℕ) (log : Log) (later : List Happening) : T
   pub played : IsPlayed text log later
   pub stops : (log ≡ []) ⊎ StopsNext played.R log later
 
-stopped_early : {A : Type 0} (R : List ℕ) (events : List (Event A)) (stopped : Stopped A) → length stopped.entries.items ≡ stopped.event → IsStop R zeros events stopped
-    → (log_of events stopped.entries.items ≡ []) ⊎ StopsNext R (log_of events stopped.entries.items) (map happening_of (drop (length stopped.entries.items) events))
+stopped_early : {A : Type 0} (R : List ℕ) (events : List Happening) (stopped : Stopped A) → length stopped.entries.items ≡ stopped.event → IsStop R zeros events stopped
+    → (log_of events stopped.entries.items ≡ []) ⊎ StopsNext R (log_of events stopped.entries.items) (drop (length stopped.entries.items) events)
 stopped_early R events stopped count stop = ⊎_elim
-    (λ first. inl (ap (log_of events) (no_item stopped.entries.items (count ∙ first)) ∙ log_of-none events))
+    (λ first. inl (ap (log_of events) (no_item stopped.entries.items (count ∙ first)) ∙ log_of-none _ events))
     (λ at.
     let item = get_or_from_slice_get events stopped.event at.0 at.0 at.1 in
     let there : drop (length stopped.entries.items) events ≡ at.0 ∷ drop (stopped.event + 1) events =
     ap (λ k. drop k events) count ∙ drop_more events stopped.event at.0 (slice_get_within events stopped.event at.0 at.1) ∙ ap (λ e. e ∷ drop (stopped.event + 1) events) item in
-    inr (subst (λ l. StopsNext R (log_of events stopped.entries.items) (map happening_of l)) (sym there) at.2))
+    inr (subst (λ l. StopsNext R (log_of events stopped.entries.items) (l)) (sym there) at.2))
     stop
 
 -- the events before the one at which memory was refused were played
-pub played_part : {A : Type 0} (text R : List ℕ) (events : List (Event A)) (stopped : Stopped A) → GivesTrace text (map happening_of events) R → IsLegal R zeros (log_of events stopped.entries.items)
+pub played_part : {A : Type 0} (text R : List ℕ) (events : List Happening) (stopped : Stopped A) → GivesTrace text (events) R → IsLegal R zeros (log_of events stopped.entries.items)
     → length stopped.entries.items ≡ stopped.event → IsStop R zeros events stopped
-    → PlayedPart text (log_of events stopped.entries.items) (map happening_of (drop (length stopped.entries.items) events))
+    → PlayedPart text (log_of events stopped.entries.items) (drop (length stopped.entries.items) events)
 played_part text R events stopped gives legal count stop = record {
   played = record {
-    events = map happening_of events;
+    events = events;
     R = R;
     gives = gives;
     legal = legal;
@@ -99,12 +98,12 @@ played_part text R events stopped gives legal count stop = record {
   stops = stopped_early R events stopped count stop;
 }
 
-pub few : {A : Type 0} (R : List ℕ) (events : List (Event A)) (stopped : Stopped A) → length stopped.entries.items ≡ stopped.event → IsStop R zeros events stopped → length stopped.entries.items ≤ length events
+pub few : {A : Type 0} (R : List ℕ) (events : List Happening) (stopped : Stopped A) → length stopped.entries.items ≡ stopped.event → IsStop R zeros events stopped → length stopped.entries.items ≤ length events
 few R events stopped count stop = let h = within R events stopped stop in omega arith
 
 zeros_are_image : IsImage zeros
 zeros_are_image = record { count = length-replicate {A = ℕ} 2048 0; bytes = All-replicate (λ byte. byte < 256) 2048 0 (omega arith) }
 
 -- before the first event there is a log, and it is legal
-pub legal_at_once : {A : Type 0} (R : List ℕ) (events : List (Event A)) (entries : List (Entry A)) → entries ≡ [] → IsImage R → IsLegal R zeros (log_of events entries)
-legal_at_once R events entries none image = subst (IsLegal R zeros) (sym (ap (log_of events) none ∙ log_of-none events)) (image, zeros_are_image)
+pub legal_at_once : {A : Type 0} (R : List ℕ) (events : List Happening) (entries : List (Entry A)) → entries ≡ [] → IsImage R → IsLegal R zeros (log_of events entries)
+legal_at_once R events entries none image = subst (IsLegal R zeros) (sym (ap (log_of events) none ∙ log_of-none _ events)) (image, zeros_are_image)

@@ -1,10 +1,8 @@
 -- What a line more makes of a trace that is read.
-use Rattle.std.proofs.Common.{◌≡◌, ◌<◌, ◌≤◌, ◌+◌, ℕ, zero, suc, List, [], ◌∷◌, ◌++◌, length, replicate, refl, sym, ap, subst, ◌∙◌, arith, length-append, codes, All, Option, Some, None, Result, Ok, Err, OnOk, IfErr, Bool, true, false, map, nat_eq, Box, option_map}
+use Rattle.std.proofs.Common.{◌≡◌, ◌<◌, ◌≤◌, ◌+◌, ℕ, zero, suc, List, [], ◌∷◌, ◌++◌, length, replicate, refl, sym, ap, subst, ◌∙◌, arith, length-append, codes, All, Option, Some, None, Result, Ok, Err, OnOk, IfErr, Bool, true, false}
 use Rattle.std.specs.Option.{is_some}
 use Rattle.std.proofs.lemmas.List.Elements.{All-append, All-replicate}
-use Rattle.std.proofs.lemmas.Bool.Decides.{nat_tests}
 use Rattle.dvg_mem.specs.Memory.{IsImage}
-use Rattle.dvg_frame.specs.declared.draft.Draft.{Draft}
 use Rattle.dvg_frame.specs.declared.op.OpKind.{OpKind}
 use Rattle.dvg_world.specs.Events.{Happening, Offer, Redraw, Tick, Strobe, Fetch, ResetGen, ResetCpu, ResetAll}
 use Rattle.dvg_tool.specs.declared.trace_text.LineFault.{LineFault}
@@ -17,39 +15,27 @@ use Rattle.dvg_tool.specs.TraceTexts.{EventParts, Fits, FitsDraft, redraw, tick,
 use Rattle.dvg_tool.specs.TraceReading.{Takes, does, ends, events, opens, rom}
 use Rattle.dvg_tool.proofs.ReadTo.{after_more}
 use Rattle.dvg_tool.specs.declared.trace_text.Reading.{Reading}
-use Rattle.dvg_tool.specs.TraceGives.{IsHeld, ReadsLine, StopsEvents, StopsLine, StopsOperation, TakesLine, events_of, opened_of}
+use Rattle.dvg_tool.specs.TraceGives.{IsHeld, StopsEvents, StopsLine, StopsOperation, TakesLine, events_of, opened_by, opened_of}
 
 all_one : {A : Type 0} (P : A → Type 0) (y : A) → P y → All P (y ∷ [])
 all_one P y h zero d l = h
 all_one P y h (suc k) d l = absurd (omega arith)
 
--- the open draft, by the box that has it
-abbrev pub listed : {B : Type 0} → Option (Box Draft B) → Option (List OpKind)
-listed draft = option_map (λ draft. draft.value) draft
+-- whether an offer is open
+pub none_opened : (b : Bool) (F : List OpKind) → b ≡ false → opened_by b F ≡ None
+none_opened b F e = rw e refl
 
-pub none_opened : {B : Type 0} (draft : Option (Box Draft B)) → draft ≡ None → listed draft ≡ None
-none_opened draft e = rw e refl
+pub some_opened : (b : Bool) (F : List OpKind) → b ≡ true → opened_by b F ≡ Some F
+some_opened b F e = rw e refl
 
-pub some_opened : {B : Type 0} (boxed : Option (Box Draft B)) (draft : Box Draft B) → boxed ≡ Some draft → listed boxed ≡ Some draft.value
-some_opened boxed draft e = rw e refl
-
-pub any_opened : {B : Type 0} (draft : Option (Box Draft B)) → is_some draft ≡ is_some (listed draft)
-any_opened None = refl
-any_opened (Some draft) = refl
+pub any_opened : (b : Bool) (F : List OpKind) → b ≡ is_some (opened_by b F)
+any_opened true F = refl
+any_opened false F = refl
 
 -- what is held, where it is taken
 pub held_on : {A E B : Type 0} (answer : Result A E) (reading : Reading B) → OnOk answer (Fits (events_of reading) (opened_of reading)) → IsImage reading.rom → OnOk answer (IsHeld reading)
 held_on (Ok x) reading fits image = record { fits = fits; image = image }
 held_on (Err x) reading fits image = tt
-
--- whether there are no events
-pub not_none : {A B : Type 0} (f : A → B) (xs : List A) (n : ℕ) (b : Bool) → b ≡ nat_eq n 0 → n ≡ length xs → b ≡ false → map f xs ≡ [] → ⊥
-not_none f [] n b e k test m = let empty : b ≡ true = e ∙ ap (λ n. nat_eq n 0) k in absurd (cc)
-not_none f (x ∷ xs) n b e k test m = absurd (cc)
-
-pub none_of : {A B : Type 0} (f : A → B) (xs : List A) (n : ℕ) (b : Bool) → b ≡ nat_eq n 0 → n ≡ length xs → b ≡ true → map f xs ≡ []
-none_of f [] n b e k test = refl
-none_of f (x ∷ xs) n b e k test = let zero_of : nat_eq n 0 ≡ true = sym e ∙ test in absurd (grind (arith, nat_tests))
 
 -- the end of an offer
 
@@ -72,22 +58,8 @@ pub offer_taken : (old : List Happening) (opened left : Option (List OpKind)) (l
     → (roms : List RomLine) → AreAfter roms R → TakesLine roms old opened l old left R
 offer_taken old opened left l R e is f roms words = record { given = roms; takes = rw (e, is, f) opens; words = words }
 
--- what the reader is, where an offer was opened
-pub opened_taken : {A E B : Type 0} (answer : Result A E) (old new : Reading B) (l : List ℕ) → opened_of old ≡ None → l ≡ codes "offer" → OnOk answer (opened_of new ≡ Some []) → (new.events ≡ old.events) × (new.rom ≡ old.rom)
-    → OnOk answer (ReadsLine old l new)
-opened_taken (Ok x) old new l e is made kept = rw (kept.0, kept.1) (offer_taken (events_of old) (opened_of old) (opened_of new) l old.rom e is made)
-opened_taken (Err x) old new l e is made kept = tt
-
-pub opened_held : {A E B : Type 0} (answer : Result A E) (old new : Reading B) → OnOk answer (opened_of new ≡ Some []) → (new.events ≡ old.events) × (new.rom ≡ old.rom) → IsHeld old → OnOk answer (IsHeld new)
-opened_held (Ok x) old new made kept held =
-    let fits : Fits (events_of old) (Some []) = record { count = held.fits.count; drafts = held.fits.drafts; last = omega arith } in
-    let all : Fits (events_of new) (opened_of new) = rw (kept.0) (subst (Fits (events_of old)) (sym made) fits) in
-    record { fits = all; image = subst IsImage (sym kept.1) held.image }
-opened_held (Err x) old new made kept held = tt
-
-pub opening_stops : {A : Type 0} (answer : Result A LineFault) (old : List Happening) (opened : Option (List OpKind)) (l : List ℕ) → IfErr answer (λ fault. fault ≡ Memory) → IfErr answer (λ fault. StopsLine fault old opened l)
-opening_stops (Ok x) old opened l e = tt
-opening_stops (Err fault) old opened l e = rw e tt
+pub offer_fits : (old : List Happening) (opened : Option (List OpKind)) → Fits old opened → Fits old (Some [])
+offer_fits old opened fits = record { count = fits.count; drafts = fits.drafts; last = omega arith }
 
 pub events_taken : {A E : Type 0} (answer : Result A E) (old more new : List Happening) (opened : Option (List OpKind)) (l R : List ℕ) → opened ≡ None → EventParts more (parts l) → OnOk answer (new ≡ old ++ more)
     → OnOk answer ((roms : List RomLine) → AreAfter roms R → TakesLine roms old opened l new opened R)
@@ -103,10 +75,10 @@ fine_events resetgen = all_one FitsDraft ResetGen tt
 fine_events resetcpu = all_one FitsDraft ResetCpu tt
 fine_events (resetall {byte = byte} h) = all_one FitsDraft (ResetAll (replicate 2048 byte)) tt
 
-pub events_fit : {A E : Type 0} (answer : Result A E) (old more new : List Happening) (count : ℕ) (opened : Option (List OpKind)) (ps : List (List ℕ)) → EventParts more ps → OnOk answer (new ≡ old ++ more) → count ≡ length new → OnOk answer (count ≤ 65536)
+pub events_fit : {A E : Type 0} (answer : Result A E) (old more new : List Happening) (opened : Option (List OpKind)) (ps : List (List ℕ)) → EventParts more ps → OnOk answer (new ≡ old ++ more) → OnOk answer (length new ≤ 65536)
     → Fits old opened → OnOk answer (Fits new opened)
-events_fit (Ok x) old more new count opened ps p g is room fits = record { count = omega arith; drafts = subst (All FitsDraft) (sym g) (All-append FitsDraft old more fits.drafts (fine_events p)); last = fits.last }
-events_fit (Err x) old more new count opened ps p g is room fits = tt
+events_fit (Ok x) old more new opened ps p g room fits = record { count = room; drafts = subst (All FitsDraft) (sym g) (All-append FitsDraft old more fits.drafts (fine_events p)); last = fits.last }
+events_fit (Err x) old more new opened ps p g room fits = tt
 
 many_events : (fault : LineFault) (old more : List Happening) (l : List ℕ) → EventParts more (parts l) → StopsEvents fault old more → StopsLine fault old None l
 many_events Many old more l p h = (old ++ more, omega (arith, length-append old more), λ roms. events p)

@@ -1,8 +1,8 @@
 -- What the reader of traces answers.
-use Rattle.std.specs.Prelude.{ℕ, ◌+◌, ◌<◌, ◌≤◌, List, length, map, option_map, Option, Some, None}
+use Rattle.std.specs.Prelude.{ℕ, ◌+◌, ◌<◌, ◌≤◌, List, length, Bool, true, false, Option, Some, None}
 use Rattle.dvg_mem.specs.Memory.{IsImage}
 use Rattle.dvg_frame.specs.declared.op.OpKind.{OpKind}
-use Rattle.dvg_world.specs.Events.{Happening, happening_of}
+use Rattle.dvg_world.specs.Events.{Happening}
 use Rattle.dvg_tool.specs.declared.fault.TextFault.TheVariants.{Syntax, Full, Many}
 use Rattle.dvg_tool.specs.declared.fault.ToolFault.{ToolFault}
 use Rattle.dvg_tool.specs.declared.fault.ToolFault.TheVariants.{Text, Memory}
@@ -36,11 +36,16 @@ fault_at line_fault.Memory n = Memory
 
 -- the events that were read
 abbrev pub events_of : {A : Type 0} → Reading A → List Happening
-events_of reading = map happening_of reading.events.items
+events_of reading = reading.events
+
+-- the operations of the newest offer, where it isn't ended
+abbrev pub opened_by : Bool → List OpKind → Option (List OpKind)
+opened_by true F = Some F
+opened_by false F = None
 
 -- the operations of the offer that isn't ended
 abbrev pub opened_of : {A : Type 0} → Reading A → Option (List OpKind)
-opened_of reading = option_map (λ draft. draft.value) reading.opened
+opened_of reading = opened_by reading.is_open reading.draft
 
 -- what was read is within the limits, over a whole ROM
 pub record IsHeld {A : Type 0} (reading : Reading A) : Type 0 where

@@ -1,7 +1,6 @@
 //! The engine `play`.
-ghost use Rattle.std.specs.Prelude.{◌≡◌, ◌↔◌, ◌≤◌, [], length, map, IfErr, IfOk, IfSome, IsErrOf};
+ghost use Rattle.std.specs.Prelude.{◌≡◌, ◌↔◌, ◌≤◌, [], length, IfErr, IfOk, IfSome, IsErrOf};
 ghost use Rattle.dvg_mem.specs.Memory.{IsImage};
-ghost use Rattle.dvg_world.specs.Events.{happening_of};
 ghost use Rattle.dvg_world.specs.Legal.{IsLegal};
 ghost use Rattle.dvg_world.specs.Runs.{IsStop, log_by};
 ghost use Rattle.dvg_tool.specs.Plays.{Plays, StopsBeforeShowing, zeros};
@@ -15,7 +14,7 @@ use crate::trace_text::{TraceText, read_trace};
 use crate::transfer::read_up_to;
 use crate::watched::Watched;
 use dvg_mem::{Flat, Image, MEMORY_BYTES, Rom};
-use dvg_world::{Entry, Stopped, run};
+use dvg_world::{Entry, Stopped, run_trace};
 use std::alloc::Allocator;
 use std::io::{Read, Write};
 
@@ -31,15 +30,15 @@ fn unstarted<A: Allocator>(alloc: A) -> Stopped<A>
 }
 
 // Lets the events of a trace happen over its ROM, from a RAM of zeros.
-fn run_trace<A: Allocator + Copy>(
+fn run_text<A: Allocator + Copy>(
     alloc: A,
     told: &TraceText<A>,
 ) -> Result<Vec<Entry<A>, A>, Stopped<A>>
     requires { IsImage told.now.rom }
-    ensures legal { IsLegal told.now.rom zeros (log_by told.now.events.items result) }
-    ensures whole { IfOk result (λ entries. length entries.items ≡ length told.now.events.items) }
+    ensures legal { IsLegal told.now.rom zeros (log_by told.now.events result) }
+    ensures whole { IfOk result (λ entries. length entries.items ≡ length told.now.events) }
     ensures stopped { IfErr result (λ stopped. length stopped.entries.items ≡ stopped.event) }
-    ensures early { IfErr result (IsStop told.now.rom zeros told.now.events.items) }
+    ensures early { IfErr result (IsStop told.now.rom zeros told.now.events) }
 {
     let Ok(rom) = Rom::new(alloc, &told.rom) else {
         return Err(unstarted(alloc));
@@ -47,7 +46,7 @@ fn run_trace<A: Allocator + Copy>(
     let Ok(image) = Image::new(alloc, &[0; MEMORY_BYTES]) else {
         return Err(unstarted(alloc));
     };
-    run::<Flat<A>>(alloc, rom, &image, told.events.as_slice())
+    run_trace::<Flat<A>>(alloc, rom, &image, &told.events)
 }
 
 /// Reads a trace as text, with the lines of a ROM before it, lets its events happen from a RAM of zeros, and
@@ -91,7 +90,7 @@ pub fn play<A: Allocator + Copy, R: Read, W: Write>(
         let text = read_up_to(alloc, reader, MOST_TEXT_BYTES)?;
         read_trace(alloc, text.as_slice())?
     };
-    match run_trace(alloc, &told) {
+    match run_text(alloc, &told) {
         Ok(entries) => write_entries(entries.as_slice(), all, writer),
         Err(stopped) => {
             write_entries(stopped.entries.as_slice(), all, writer)?;

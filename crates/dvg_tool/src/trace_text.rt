@@ -1,7 +1,6 @@
 //! Texts of traces.
-ghost use Rattle.std.specs.Prelude.{◌≡◌, ◌+◌, ◌^◌, ◌<◌, ◌≤◌, ◌∷◌, [], ◌++◌, ℕ, List, None, Some, codes, length, map, replicate, vec_len, IfErr, IfOk, IsSome, OnOk};
+ghost use Rattle.std.specs.Prelude.{◌≡◌, ◌+◌, ◌^◌, ◌<◌, ◌≤◌, ◌∷◌, [], ◌++◌, ℕ, List, codes, length, replicate, IfErr, IfOk, IsFalse, IsTrue, OnOk};
 ghost use Rattle.dvg_frame.specs.declared.op.OpKind.{OpKind};
-ghost use Rattle.dvg_tool.specs.declared.trace_text.LineFault.TheVariants.{Memory};
 ghost use Rattle.dvg_tool.specs.EventLines.{event_of, happenings};
 ghost use Rattle.dvg_tool.specs.OpLines.{IsOpLine};
 ghost use Rattle.dvg_tool.specs.TraceGives.{GivesTrace, IsHeld, ReadsLine, StopsEvents, StopsLine, StopsOperation, StopsReading, events_of, fault_at, opened_of};
@@ -16,20 +15,17 @@ use crate::text_lines::{TextLines, is_passed};
 use dvg_code::OutOfMemory;
 use dvg_frame::Draft;
 use dvg_mem::{Image, MEMORY_BYTES};
-use dvg_world::Event;
+use dvg_world::{Event, MOST_EVENTS, Trace};
 use std::alloc::{Allocator, Global};
 
 #[cfg(test)]
 mod tests;
 
-/// The most events of a trace (this project's own choice).
-pub const MOST_EVENTS: usize = 65_536;
-
 /// What the text of a trace denotes.
 #[derive(Drop)]
 pub struct TraceText<A: Allocator = Global> {
     /// Its events, in order.
-    pub events: Vec<Event<A>, A>,
+    pub events: Trace<A>,
     /// The bytes of the ROM: the words that its ROM lines give, and D000, an RTSL, for each other.
     pub rom: [u8; MEMORY_BYTES],
 }
@@ -44,7 +40,7 @@ pub struct TraceText<A: Allocator = Global> {
 /// - `Unended`: no line is at fault, and the text ends inside an offer.
 /// - `Memory`: a growth was refused.
 pub fn read_trace<A: Allocator + Copy>(alloc: A, text: &[u8]) -> Result<TraceText<A>, ToolFault>
-    ensures gives { IfOk result (λ told. GivesTrace text.now (map happening_of told.events.items) told.rom) }
+    ensures gives { IfOk result (λ told. GivesTrace text.now told.events told.rom) }
     ensures fault { IfErr result (λ fault. StopsReading fault text.now) }
 {
     if text.len() > MOST_TEXT_BYTES {
@@ -53,8 +49,9 @@ pub fn read_trace<A: Allocator + Copy>(alloc: A, text: &[u8]) -> Result<TraceTex
     let mut reading = Reading {
         alloc,
         rom: ungiven_rom(),
-        events: Vec::new(alloc),
-        opened: None,
+        events: Trace::new(alloc),
+        draft: Draft::new(),
+        is_open: false,
     };
     let mut number = 0;
     for line in TextLines::new(text) {
@@ -67,7 +64,7 @@ pub fn read_trace<A: Allocator + Copy>(alloc: A, text: &[u8]) -> Result<TraceTex
             Err(fault) => return Err(at_line(fault, number)),
         }
     }
-    if reading.opened.is_some() {
+    if reading.is_open {
         return Err(ToolFault::Text(TextFault::Unended));
     }
     Ok(TraceText {
@@ -106,9 +103,11 @@ fn at_line(fault: LineFault, number: usize) -> ToolFault
 struct Reading<A: Allocator> {
     alloc: A,
     rom: [u8; MEMORY_BYTES],
-    events: Vec<Event<A>, A>,
-    // The draft of the offer that isn't ended, at the place where its event will have it.
-    opened: Option<Box<Draft, A>>,
+    events: Trace<A>,
+    // The draft of the newest offer.
+    draft: Draft,
+    // Whether that offer isn't ended.
+    is_open: bool,
 }
 
 impl<A: Allocator + Copy> Reading<A> {
@@ -119,25 +118,27 @@ impl<A: Allocator + Copy> Reading<A> {
         ensures held { OnOk result (IsHeld self.new) }
         ensures fault { IfErr result (λ fault. StopsLine fault (events_of self.old) (opened_of self.old) line.now) }
     {
-        let Some(draft) = &mut self.opened else {
+        if !self.is_open {
             return self.take_outside(line);
-        };
+        }
         if line == b"end".as_slice() {
             return self.end_offer();
         }
-        add_op(draft, line)
+        add_op(&mut self.draft, line)
     }
 
     // Reads one line more where no offer is open.
     fn take_outside(&mut self, line: &[u8]) -> Result<(), LineFault>
-        requires outside { self.old.opened ≡ None }
+        requires outside { IsFalse self.old.is_open }
         requires held { IsHeld self.old }
         ensures taken { OnOk result (ReadsLine self.old line.now self.new) }
         ensures held { OnOk result (IsHeld self.new) }
         ensures fault { IfErr result (λ fault. StopsLine fault (events_of self.old) (opened_of self.old) line.now) }
     {
         if line == b"offer".as_slice() {
-            return self.open_offer();
+            self.draft.clear();
+            self.is_open = true;
+            return Ok(());
         }
         if let Some(told) = read_event_line(line) {
             return add_events(self.alloc, told, &mut self.events);
@@ -152,37 +153,21 @@ impl<A: Allocator + Copy> Reading<A> {
         Ok(())
     }
 
-    // Opens an offer. It stands by itself, as other lines are not to pay for the room of a draft.
-    #[inline(never)]
-    fn open_offer(&mut self) -> Result<(), LineFault>
-        ensures opened { OnOk result (opened_of self.new ≡ Some []) }
-        ensures kept { (self.new.events ≡ self.old.events) × (self.new.rom ≡ self.old.rom) }
-        ensures fault { IfErr result (λ fault. fault ≡ Memory) }
-    {
-        let Ok(draft) = Box::new(self.alloc, Draft::new()) else {
-            return Err(LineFault::Memory);
-        };
-        self.opened = Some(draft);
-        Ok(())
-    }
-
     // Ends the offer that is open.
     fn end_offer(&mut self) -> Result<(), LineFault>
-        requires inside { IsSome self.old.opened }
+        requires inside { IsTrue self.old.is_open }
         requires held { IsHeld self.old }
         ensures taken { OnOk result (ReadsLine self.old (codes "end") self.new) }
         ensures held { OnOk result (IsHeld self.new) }
         ensures fault { IfErr result (λ fault. StopsLine fault (events_of self.old) (opened_of self.old) (codes "end")) }
     {
-        let Some(draft) = self.opened.take() else {
-            unreachable!()
-        };
         if self.events.len() == MOST_EVENTS {
             return Err(LineFault::Many);
         }
-        if push_event(Event::Offer(draft), &mut self.events).is_err() {
+        if self.events.push_offer(&self.draft).is_err() {
             return Err(LineFault::Memory);
         }
+        self.is_open = false;
         Ok(())
     }
 }
@@ -206,12 +191,11 @@ fn add_op(draft: &mut Draft, line: &[u8]) -> Result<(), LineFault>
 fn add_events<A: Allocator>(
     alloc: A,
     told: EventLine,
-    events: &mut Vec<Event<A>, A>,
+    events: &mut Trace<A>,
 ) -> Result<(), LineFault>
-    requires few { vec_len events.old ≤ 65536 }
-    ensures added { OnOk result (map happening_of events.new.items ≡ map happening_of events.old.items ++ happenings told) }
-    ensures room { OnOk result (vec_len events.new ≤ 65536) }
-    ensures fault { IfErr result (λ fault. StopsEvents fault (map happening_of events.old.items) (happenings told)) }
+    ensures added { OnOk result (events.new ≡ events.old ++ happenings told) }
+    ensures room { OnOk result (length events.new ≤ 65536) }
+    ensures fault { IfErr result (λ fault. StopsEvents fault events.old (happenings told)) }
 {
     if events.len() + count(told) > MOST_EVENTS {
         return Err(LineFault::Many);
@@ -241,12 +225,13 @@ fn count(told: EventLine) -> usize
 fn add_times<A: Allocator>(
     event: BareEvent,
     count: u16,
-    events: &mut Vec<Event<A>, A>,
+    events: &mut Trace<A>,
 ) -> Result<(), OutOfMemory>
-    ensures { OnOk result (map happening_of events.new.items ≡ map happening_of events.old.items ++ replicate count (event_of event)) }
+    requires { length events.old + count ≤ 65536 }
+    ensures { OnOk result (events.new ≡ events.old ++ replicate count (event_of event)) }
 {
     for _time in 0..count {
-        push_event(one(event), events)?;
+        events.push(one(event))?;
     }
     Ok(())
 }
@@ -269,23 +254,13 @@ fn one<A: Allocator>(event: BareEvent) -> Event<A>
 fn add_reset<A: Allocator>(
     alloc: A,
     byte: u8,
-    events: &mut Vec<Event<A>, A>,
+    events: &mut Trace<A>,
 ) -> Result<(), OutOfMemory>
-    ensures { OnOk result (map happening_of events.new.items ≡ map happening_of events.old.items ++ happenings (EventLine.ResetAll byte)) }
+    requires { length events.old < 65536 }
+    ensures { OnOk result (events.new ≡ events.old ++ happenings (EventLine.ResetAll byte)) }
 {
     let Ok(image) = Image::new(alloc, &[byte; MEMORY_BYTES]) else {
         return Err(OutOfMemory);
     };
-    push_event(Event::ResetAll(image), events)
-}
-
-// Adds one event.
-fn push_event<A: Allocator>(
-    event: Event<A>,
-    events: &mut Vec<Event<A>, A>,
-) -> Result<(), OutOfMemory>
-    ensures { OnOk result (map happening_of events.new.items ≡ map happening_of events.old.items ++ happening_of event ∷ []) }
-{
-    events.push(event)?;
-    Ok(())
+    events.push(Event::ResetAll(image))
 }

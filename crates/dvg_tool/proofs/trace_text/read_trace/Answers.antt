@@ -1,6 +1,5 @@
 use Rattle.std.proofs.Common.{◌≡◌, [], None, length, map, refl, ap, ◌∙◌, arith, rules}
 use Rattle.std.proofs.lemmas.List.Elements.{All-nil}
-use Rattle.dvg_world.specs.Events.{happening_of}
 use Rattle.dvg_tool.specs.Texts.{lines}
 use Rattle.dvg_tool.specs.TextLines.{lines_left}
 use Rattle.dvg_tool.specs.TraceTexts.{FitsDraft}
@@ -14,14 +13,14 @@ pub loop-line-init : goal.loop-line-init
 loop-line-init g c =
     let start = c.into_iter-line-iterator.result in
     let all : lines_left start ≡ lines c.args.text.now = search rules in
-    let none : map (happening_of {A = g.row.A.Denot}) c.new.result.items ≡ [] = ap (map happening_of) c.new.ensures.items in
+    let none : c.new.result ≡ [] = c.new.ensures in
     let image = image_of c.ungiven_rom.result (search rules) (search rules) in
     record {
       next = tt;
       ends = tt;
       short = search rules;
       held = record { fits = record { count = omega (arith, ap length none); drafts = rw none (All-nil FitsDraft); last = tt }; image = image };
-      read = begins c.args.text.now (lines_left start) (map happening_of c.new.result.items) None c.ungiven_rom.result all none refl c.ungiven_rom.ensures;
+      read = begins c.args.text.now (lines_left start) c.new.result None c.ungiven_rom.result all none refl c.ungiven_rom.ensures;
     }
 
 pub overflow_add-number : goal.overflow_add-number
@@ -51,10 +50,10 @@ loop-line-preserved g c = record {
   read = takes c.args.text.now _ _ c.loop-line.number (events_of c.loop-line.reading) (opened_of c.loop-line.reading) c.loop-line.reading.rom c.in-Some.line.now c.in-Some.ensures.steps c.loop-line.invariant.read (events_of c.take.new.self) (opened_of c.take.new.self) c.take.new.self.rom (search rules) c.in-Ok.ensures.taken;
 }
 
-pub returns-then-is_some-clause-fault : goal.returns-then-is_some-clause-fault
-returns-then-is_some-clause-fault g c =
-    ends_open c.args.text.now _ c.loop-line.number (events_of c.loop-line.reading) (opened_of c.loop-line.reading) c.loop-line.reading.rom c.in-None.ensures.steps.0 c.loop-line.invariant.read c.loop-line.invariant.short c.loop-line.invariant.held.fits c.is_some.result (c.is_some.ensures ∙ any_opened c.loop-line.reading.opened) c.if-is_some.true
+pub returns-then-reading-clause-fault : goal.returns-then-reading-clause-fault
+returns-then-reading-clause-fault g c =
+    ends_open c.args.text.now _ c.loop-line.number (events_of c.loop-line.reading) (opened_of c.loop-line.reading) c.loop-line.reading.rom c.in-None.ensures.steps.0 c.loop-line.invariant.read c.loop-line.invariant.short c.loop-line.invariant.held.fits c.loop-line.reading.is_open (any_opened c.loop-line.reading.is_open c.loop-line.reading.draft) c.if-reading.true
 
 pub returns-clause-gives : goal.returns-clause-gives
 returns-clause-gives g c =
-    closed_all c.args.text.now _ c.loop-line.number (events_of c.loop-line.reading) (opened_of c.loop-line.reading) c.loop-line.reading.rom c.in-None.ensures.steps.0 c.loop-line.invariant.read c.loop-line.invariant.short c.loop-line.invariant.held.fits c.is_some.result (c.is_some.ensures ∙ any_opened c.loop-line.reading.opened) c.if-is_some.false c.loop-line.invariant.held.image
+    closed_all c.args.text.now _ c.loop-line.number (events_of c.loop-line.reading) (opened_of c.loop-line.reading) c.loop-line.reading.rom c.in-None.ensures.steps.0 c.loop-line.invariant.read c.loop-line.invariant.short c.loop-line.invariant.held.fits c.loop-line.reading.is_open (any_opened c.loop-line.reading.is_open c.loop-line.reading.draft) c.if-reading.false c.loop-line.invariant.held.image
