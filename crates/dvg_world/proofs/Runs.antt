@@ -1,5 +1,5 @@
 -- The log of a run, one entry after the other.
-use Rattle.std.proofs.Common.{◌≡◌, ℕ, zero, suc, ◌+◌, ◌<◌, List, [], ◌∷◌, ◌++◌, map, reverse, length, get_or, slice_get, Some, refl, sym, ap, ◌∙◌, subst, inr, length-append, not-suc-le-zero, le_of_suc-le-suc, Vec, vec_len, vec_capacity}
+use Rattle.std.proofs.Common.{◌≡◌, ℕ, ◌+◌, ◌<◌, List, [], ◌∷◌, ◌++◌, map, reverse, length, get_or, slice_get, Some, refl, sym, ap, ◌∙◌, subst, inr, length-append, not-suc-le-zero, le_of_suc-le-suc, Vec, vec_len, vec_capacity}
 use Rattle.std.proofs.lemmas.List.{reverse-append, map-append}
 use Rattle.std.proofs.lemmas.Option.{get_or_from_slice_get, slice_get-get_or}
 use Rattle.std.specs.List.{zip}

@@ -1,69 +1,39 @@
 -- The events of lists and of traces, by their numbers.
 use Rattle.std.proofs.Common.{◌≡◌, ℕ, zero, suc, ◌+◌, ◌-◌, ◌<◌, ◌≤◌, List, [], ◌∷◌, ◌++◌, map, length, take, drop, get_or, slice_get, slice_range, All, Some, Result, Ok, Err, IfOk, OnErr, refl, sym, ap, ◌∙◌, subst, arith, not-suc-le-zero, le_of_suc-le-suc}
 use Rattle.std.proofs.lemmas.Option.{get_or_from_slice_get, same_Some, slice_get_within}
-use Rattle.std.proofs.lemmas.List.{append_assoc, map-append, take_more, take-append-le, drop-append-le, length-drop, length-map}
+use Rattle.std.proofs.lemmas.List.{append_assoc, map-append, take_more, take-append-le, drop-append-le, length-drop}
 use Rattle.std.proofs.lemmas.List.Elements.{All-head, All-tail}
 use Rattle.std.proofs.Math.Seq.{drop-append_seam, take-length}
 use Rattle.dvg_frame.specs.declared.op.OpKind.{OpKind}
 use Rattle.dvg_world.specs.declared.entry.Entry.{Entry}
 use Rattle.dvg_world.specs.declared.trace.Step.{Step}
 use Rattle.dvg_world.specs.declared.trace.Step.TheVariants as step
-use Rattle.dvg_world.specs.Entries.{Shown, shown_of}
+use Rattle.dvg_world.specs.Entries.{shown_of}
 use Rattle.dvg_world.specs.Events.{Happening, Offer}
-use Rattle.dvg_world.specs.Log.{Log, ◌⟼◌}
+use Rattle.dvg_world.specs.Log.{Log}
 use Rattle.dvg_world.specs.Standing.{State, WorldAfter}
-use Rattle.dvg_world.specs.Stepping.{AddsEvent, AddsLine, DrawsNow, WantsMemory}
+use Rattle.dvg_world.specs.Stepping.{AddsEvent, AddsLine, WantsMemory}
 use Rattle.dvg_world.specs.Traces.{IsWithin, event_of, events_of}
-use Rattle.dvg_world.specs.Wanting.{DrawsNext, TakesMemory}
+use Rattle.dvg_world.specs.Wanting.{TakesMemory}
 
 -- the event of an item is the one that its number has
-same_event : {X : Type 0} (f : X → Happening) (xs : List X) (n : ℕ) (x d : X) (event : Happening) → n < length xs → x ≡ get_or xs n d → slice_get (map f xs) n ≡ Some event → f x ≡ event
+same_event : {X : Type 0} (f : X → Happening) (xs : List X) (n : ℕ) (x d : X) (event : Happening) → n < length (map f xs) → x ≡ get_or xs n d → slice_get (map f xs) n ≡ Some event → f x ≡ event
 same_event f [] n x d event low item at = absurd (not-suc-le-zero low)
 same_event f (y ∷ xs) zero x d event low item at = ap f item ∙ same_Some (f y) event at
 same_event f (y ∷ xs) (suc n) x d event low item at = same_event f xs n x d event (le_of_suc-le-suc low) item at
 
 -- a line of an item's event is one of the event that its number has
-pub adds : {X : Type 0} {old new : State} {entry : Shown} (f : X → Happening) (xs : List X) (n : ℕ) (x d : X) → n < length xs → x ≡ get_or xs n d → AddsLine old (f x) entry new → AddsEvent (map f xs) n old entry new
-adds {old = old} {new = new} {entry = entry} f xs n x d low item line event at = subst (λ event. AddsLine old event entry new) (same_event f xs n x d event low item at) line
-
-pub adds_where_ok : {A E X : Type 0} (old new : State) (answer : Result (Entry A) E) (f : X → Happening) (xs : List X) (n : ℕ) (x d : X) → n < length xs → x ≡ get_or xs n d
+pub adds : {A E X : Type 0} (old new : State) (answer : Result (Entry A) E) (f : X → Happening) (xs : List X) (n : ℕ) (x d : X) → n < length (map f xs) → x ≡ get_or xs n d
     → IfOk answer (λ entry. AddsLine old (f x) (shown_of entry) new) → IfOk answer (λ entry. AddsEvent (map f xs) n old (shown_of entry) new)
-adds_where_ok old new (Ok entry) f xs n x d low item line = adds f xs n x d low item line
-adds_where_ok old new (Err e) f xs n x d low item line = tt
+adds old new (Ok entry) f xs n x d low item line = λ event at. subst (λ event. AddsLine old event (shown_of entry) new) (same_event f xs n x d event low item at) line
+adds old new (Err e) f xs n x d low item line = tt
 
--- a world's contract speaks of each log apart
-pub each_log : {A E : Type 0} (old new : State) (answer : Result (Entry A) E) (event : Happening)
-    → ((R image : List ℕ) (log : Log) → WorldAfter R image log old → IfOk answer (λ entry. WorldAfter R image ((event ⟼ shown_of entry) ∷ log) new)) → IfOk answer (λ entry. AddsLine old event (shown_of entry) new)
-each_log old new (Ok entry) event stands = stands
-each_log old new (Err e) event stands = tt
-
-pub wants_where_refused : {T E X : Type 0} {world : State} (answer : Result T E) (f : X → Happening) (xs : List X) (n : ℕ) (x d : X) → n < length xs → x ≡ get_or xs n d
+-- where it takes memory, the event that its number has does
+pub wants : {T E X : Type 0} {world : State} (answer : Result T E) (f : X → Happening) (xs : List X) (n : ℕ) (x d : X) → n < length (map f xs) → x ≡ get_or xs n d
     → ((R image : List ℕ) (log : Log) → WorldAfter R image log world → OnErr answer (TakesMemory R image log (f x))) → OnErr answer (WantsMemory (map f xs) n world)
-wants_where_refused (Ok y) f xs n x d low item room = tt
-wants_where_refused (Err e) f xs n x d low item room = λ R image log event after at. subst (TakesMemory R image log) (same_event f xs n x d event low item at) (room R image log after)
+wants (Ok y) f xs n x d low item room = tt
+wants (Err e) f xs n x d low item room = λ R image log event after at. subst (TakesMemory R image log) (same_event f xs n x d event low item at) (room R image log after)
 
-among : {A : Type 0} (steps : List (Step A)) (ops : List OpKind) (events : List Happening) (n : ℕ) → events_of steps ops ≡ events → n < length events → n < length steps
-among steps ops events n is low = subst (λ k. n < k) (ap length (sym is) ∙ length-map steps (event_of ops)) low
-
--- the same of a trace, whose steps have these events
-pub of_step : {A : Type 0} {old new : State} {entry : Shown} (steps : List (Step A)) (ops : List OpKind) (events : List Happening) (n : ℕ) (s d : Step A) → events_of steps ops ≡ events → n < length events → s ≡ get_or steps n d
-    → AddsLine old (event_of ops s) entry new → AddsEvent events n old entry new
-of_step {old = old} {new = new} {entry = entry} steps ops events n s d is low item line =
-    subst (λ events. AddsEvent events n old entry new) is (adds (event_of ops) steps n s d (among steps ops events n is low) item line)
-
-pub of_fetch : {A E : Type 0} (old new : State) (answer : Result (Entry A) E) (steps : List (Step A)) (ops : List OpKind) (events : List Happening) (n : ℕ) (s d : Step A) → events_of steps ops ≡ events → n < length events → s ≡ get_or steps n d
-    → IfOk answer (λ entry. AddsLine old (event_of ops s) (shown_of entry) new) → IfOk answer (λ entry. AddsEvent events n old (shown_of entry) new)
-of_fetch old new (Ok entry) steps ops events n s d is low item line = of_step steps ops events n s d is low item line
-of_fetch old new (Err e) steps ops events n s d is low item line = tt
-
-draws_next : {T E : Type 0} (world : State) (answer : Result T E) (R image : List ℕ) (log : Log) → WorldAfter R image log world → OnErr answer (DrawsNow world) → OnErr answer (DrawsNext R image log)
-draws_next world (Ok x) R image log after draws = tt
-draws_next world (Err e) R image log after draws = draws R image log after
-
-pub fetch_wants : {A T E : Type 0} (world : State) (answer : Result T E) (steps : List (Step A)) (ops : List OpKind) (events : List Happening) (n : ℕ) (d : Step A) → events_of steps ops ≡ events → n < length events → step.Fetch ≡ get_or steps n d
-    → OnErr answer (DrawsNow world) → OnErr answer (WantsMemory events n world)
-fetch_wants world answer steps ops events n d is low item draws =
-    subst (λ events. OnErr answer (WantsMemory events n world)) is (wants_where_refused answer (event_of ops) steps n step.Fetch d (among steps ops events n is low) item (λ R image log after. draws_next world answer R image log after draws))
 -- more operations change no offer before them
 same_range : (ops more : List OpKind) (first count : ℕ) → first + count ≤ length ops → slice_range (ops ++ more) first (first + count) ≡ slice_range ops first (first + count)
 same_range ops more first count low =

@@ -1,8 +1,10 @@
 -- The events of traces.
-use Rattle.std.specs.Prelude.{ℕ, ◌+◌, ◌*◌, ◌≤◌, List, All, length, map, slice_range}
+use Rattle.std.specs.Prelude.{◌+◌, ◌*◌, ◌≤◌, List, All, length, map, slice_range}
 use Rattle.dvg_frame.specs.declared.op.OpKind.{OpKind}
 use Rattle.dvg_world.specs.declared.trace.Step.{Step}
 use Rattle.dvg_world.specs.declared.trace.Step.TheVariants as step
+use Rattle.dvg_world.specs.declared.trace.TraceEvent.{TraceEvent}
+use Rattle.dvg_world.specs.declared.trace.TraceEvent.TheVariants as seen
 use Rattle.dvg_world.specs.Events.{Happening, Offer, Redraw, Tick, Strobe, Fetch, ResetGen, ResetCpu, ResetAll}
 
 -- the event of a step, by the operations of all offers
@@ -30,3 +32,19 @@ pub record IsTrace {A : Type 0} (steps : List (Step A)) (ops : List OpKind) : Ty
   pub count : length steps ≤ 65536
   pub few : length ops ≤ 511 * length steps
   pub within : All (IsWithin ops) steps
+
+-- an event of a trace, as it lies there
+abbrev pub seen_as : {A : Type 0} → TraceEvent A → Happening
+seen_as (seen.Offer ops) = Offer ops.now
+seen_as seen.Redraw = Redraw
+seen_as seen.Tick = Tick
+seen_as seen.Strobe = Strobe
+seen_as seen.Fetch = Fetch
+seen_as seen.ResetGen = ResetGen
+seen_as seen.ResetCpu = ResetCpu
+seen_as (seen.ResetAll image) = ResetAll image.now
+
+-- a draft can hold what an offer brings
+abbrev pub FitsInDraft : {A : Type 0} → TraceEvent A → Type 0
+FitsInDraft (seen.Offer ops) = length ops.now ≤ 511
+FitsInDraft event = Unit {0}

@@ -20,5 +20,5 @@ pub use entry::Entry;
 pub use event::Event;
 pub use running::{run, run_trace};
 pub use stopped::Stopped;
-pub use trace::{MOST_EVENTS, Trace};
+pub use trace::{MOST_EVENTS, Trace, TraceEvent};
 pub use world::World;

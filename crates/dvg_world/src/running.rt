@@ -125,7 +125,7 @@ impl<'a, S: Store> Events<S> for Listed<'a, S::Alloc> {
         number: usize,
         world: &mut World<S>,
     ) -> Result<Entry<S::Alloc>, OutOfMemory> {
-        world.apply(&self.events[number])
+        world.happen(&self.events[number])
     }
 }
 

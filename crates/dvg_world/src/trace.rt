@@ -1,9 +1,9 @@
 //! Lists of events that take little room.
-ghost use Rattle.std.specs.Prelude.{◌≡◌, ◌+◌, ◌<◌, ◌≤◌, ◌↔◌, ◌++◌, ◌∷◌, [], List, length, vec_capacity, vec_len, IfOk, IsTrue, OnErr, OnOk};
+ghost use Rattle.std.specs.Prelude.{◌≡◌, ◌+◌, ◌<◌, ◌≤◌, ◌↔◌, ◌++◌, ◌∷◌, [], List, Some, length, slice_get, vec_capacity, vec_len, IfOk, IsTrue, OnErr, OnOk};
 ghost use Rattle.dvg_world.specs.Entries.{shown_of};
 ghost use Rattle.dvg_world.specs.Events.{Happening, Offer, happening_of};
 ghost use Rattle.dvg_world.specs.Stepping.{AddsEvent, WantsMemory};
-ghost use Rattle.dvg_world.specs.Traces.{IsTrace, events_of};
+ghost use Rattle.dvg_world.specs.Traces.{FitsInDraft, IsTrace, events_of, seen_as};
 
 use crate::entry::Entry;
 use crate::event::Event;
@@ -49,6 +49,27 @@ pub(crate) enum Step<A: Allocator> {
     ResetAll(Image<A>),
 }
 
+/// An event of a trace, as it lies there.
+#[derive(Clone, Copy)]
+pub enum TraceEvent<'a, A: Allocator = Global> {
+    /// The driver is handed a draft of these operations.
+    Offer(&'a [Op]),
+    /// As `Event::Redraw`.
+    Redraw,
+    /// As `Event::Tick`.
+    Tick,
+    /// As `Event::Strobe`.
+    Strobe,
+    /// As `Event::Fetch`.
+    Fetch,
+    /// As `Event::ResetGen`.
+    ResetGen,
+    /// As `Event::ResetCpu`.
+    ResetCpu,
+    /// A reset of the whole system, behind which the RAM holds these bytes.
+    ResetAll(&'a Image<A>),
+}
+
 impl<A: Allocator + Copy> Trace<A> {
     /// No events.
     pub fn new(alloc: A) -> Trace<A>
@@ -75,6 +96,27 @@ impl<A: Allocator> Trace<A> {
         ensures { IsTrue result ↔ (self.now ≡ []) }
     {
         self.steps.is_empty()
+    }
+
+    /// The event of this number, counted from 0. An offer has at most 511 operations.
+    pub fn event(&self, number: usize) -> TraceEvent<'_, A>
+        requires { number < length self.now }
+        ensures value { slice_get self.now number ≡ Some (seen_as result) }
+        ensures draft { FitsInDraft result }
+    {
+        match &self.steps[number] {
+            Step::Offer(first, count) => {
+                let first = *first as usize;
+                TraceEvent::Offer(&self.ops[first..first + usize::from(*count)])
+            }
+            Step::Redraw => TraceEvent::Redraw,
+            Step::Tick => TraceEvent::Tick,
+            Step::Strobe => TraceEvent::Strobe,
+            Step::Fetch => TraceEvent::Fetch,
+            Step::ResetGen => TraceEvent::ResetGen,
+            Step::ResetCpu => TraceEvent::ResetCpu,
+            Step::ResetAll(image) => TraceEvent::ResetAll(image),
+        }
     }
 
     /// Adds an event at the end of fewer than 65,536. An error is want of memory, and then nothing has changed.
@@ -148,18 +190,17 @@ pub(crate) fn happen_of<S: Store>(
     ensures stands { IfOk result (λ entry. AddsEvent trace.now number world.old (shown_of entry) world.new) }
     ensures room { OnErr result (WantsMemory trace.now number world.old) }
 {
-    match &trace.steps[number] {
-        Step::Offer(first, count) => {
-            let first = *first as usize;
-            fill(draft, &trace.ops[first..first + usize::from(*count)]);
+    match trace.event(number) {
+        TraceEvent::Offer(ops) => {
+            fill(draft, ops);
             Ok(world.offer(draft))
         }
-        Step::Redraw => Ok(world.redraw()),
-        Step::Tick => Ok(world.tick()),
-        Step::Strobe => Ok(world.strobe()),
-        Step::Fetch => world.fetch(),
-        Step::ResetGen => Ok(world.reset_generator()),
-        Step::ResetCpu => Ok(world.reset_processor()),
-        Step::ResetAll(image) => Ok(world.reset_all(image)),
+        TraceEvent::Redraw => Ok(world.redraw()),
+        TraceEvent::Tick => Ok(world.tick()),
+        TraceEvent::Strobe => Ok(world.strobe()),
+        TraceEvent::Fetch => world.fetch(),
+        TraceEvent::ResetGen => Ok(world.reset_generator()),
+        TraceEvent::ResetCpu => Ok(world.reset_processor()),
+        TraceEvent::ResetAll(image) => Ok(world.reset_all(image)),
     }
 }

@@ -111,7 +111,7 @@ impl<S: Store> World<S> {
     }
 
     // Lets an event happen. What its entry shows follows from the log being legal.
-    fn happen(&mut self, event: &Event<S::Alloc>) -> Result<Entry<S::Alloc>, OutOfMemory>
+    pub(crate) fn happen(&mut self, event: &Event<S::Alloc>) -> Result<Entry<S::Alloc>, OutOfMemory>
         ensures stands { IfOk result (λ entry. AddsLine self.old (happening_of event.now) (shown_of entry) self.new) }
         ensures refused { OnErr result (self.new ≡ self.old) }
         ensures room { (R image : List ℕ) (log : Log) → WorldAfter R image log self.old

@@ -1,4 +1,4 @@
-use Rattle.std.proofs.Common.{rules, arith, ◌<◌, length, refl, ◌∙◌, subst}
+use Rattle.std.proofs.Common.{rules, ◌<◌, length, refl, ◌∙◌, subst}
 use Rattle.dvg_world.specs.Entries.{shown_of}
 use Rattle.dvg_world.specs.Stepping.{AddsEvent, WantsMemory}
 use Rattle.dvg_world.proofs.Runs.{begins_so_far, legal_none, one_more, stops_at}

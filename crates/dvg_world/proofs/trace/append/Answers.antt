@@ -1,4 +1,4 @@
-use Rattle.std.proofs.Common.{rules, arith}
+use Rattle.std.proofs.Common.{rules}
 use Rattle.dvg_world.proofs.Traces.{one_op_more}
 use Rattle.dvg_world.proofs.trace.append.Goals as goal
 

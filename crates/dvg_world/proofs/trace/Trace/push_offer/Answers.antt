@@ -1,4 +1,4 @@
-use Rattle.std.proofs.Common.{rules, arith, ◌≡◌, ◌∷◌, ◌++◌, [], length, ap, ◌∙◌}
+use Rattle.std.proofs.Common.{rules, ◌≡◌, ◌∷◌, ◌++◌, [], length, ap, ◌∙◌}
 use Rattle.dvg_world.specs.declared.trace.Step.TheVariants as step
 use Rattle.dvg_world.specs.Events.{Offer}
 use Rattle.dvg_world.specs.Traces.{events_of}
