@@ -106,7 +106,7 @@ impl Draft {
     pub(crate) fn copy_from(&mut self, other: &Draft)
         ensures { self.new ≡ other.now }
     {
-        self.ops.clear();
+        self.clear();
         self.ops
             .try_extend_from_slice(other.ops.as_slice())
             .unwrap();

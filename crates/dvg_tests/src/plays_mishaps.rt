@@ -1,6 +1,7 @@
 //! The engine `play`: devices that give or take little or fail, and memory that is refused.
 use crate::devices::{Failure, Slow, Stubborn};
 use crate::traces::{FIRST_PICTURE, first_picture_shown, joined, played, text_of};
+use dvg_mem::MEMORY_BYTES;
 use dvg_tool::{ToolFault, Watched, play};
 use dvg_world::{Entry, Event};
 use linked_list_allocator::LocalHeap;
@@ -107,12 +108,15 @@ fn played_in(
     Ok((writer.into_inner(), answer))
 }
 
-/// The entries of the first picture before the fetch that completes its vector.
-fn before_the_vector(alloc: Global) -> Result<String, Fail> {
-    let text = first_picture_shown(alloc, true)?;
-    match text.as_str().split_once("22 fetched") {
+/// What is written with `--all` of a text before this line.
+fn shown_before(alloc: Global, text: &str, line: &str) -> Result<String, Fail> {
+    let (shown, answer) = played(alloc, text, true)?;
+    if answer.is_err() {
+        return Err("not a trace".into());
+    }
+    match shown.as_str().split_once(line) {
         Some((before, _)) => joined(alloc, &[before]),
-        None => Err("no such entry".into()),
+        None => Err("no such line".into()),
     }
 }
 
@@ -120,7 +124,7 @@ fn before_the_vector(alloc: Global) -> Result<String, Fail> {
 #[test]
 fn a_refusal_leaves_a_beginning_of_the_log(rt: HostRuntime) -> Result<(), Fail> {
     let text = text_of(rt.alloc(), FIRST_PICTURE)?;
-    let before = before_the_vector(rt.alloc())?;
+    let before = shown_before(rt.alloc(), text.as_str(), "22 fetched")?;
     let wanted = first_picture_shown(rt.alloc(), true)?;
     let mut refused = 0u32;
     for slots in 0..4096usize {
@@ -145,35 +149,36 @@ fn wall_in<'a>(heap: &'a LocalHeap, front: usize) -> Result<Vec<u8, &'a LocalHea
     Ok(wall)
 }
 
-/// The text of the first picture with eight ticks more, which makes 32 events, behind a comment that makes it as
-/// long as is wanted.
+/// The first picture behind an offer of one operation, and with eleven ticks more before its own offer: 36 events, of
+/// which the last but one draws.
+const LATE_PICTURE: &str = "offer; halt; end; tick 13; offer F1; tick 14; strobe; fetch 6";
+
+/// The text of the late picture, behind a comment that makes it as long as is wanted.
 fn text_of_length(alloc: Global, wanted: usize) -> Result<String, Fail> {
-    let picture = text_of(alloc, FIRST_PICTURE)?;
+    let picture = text_of(alloc, LATE_PICTURE)?;
     let mut text = joined(alloc, &["#"])?;
-    let dots = wanted.saturating_sub(picture.len().saturating_add("#\ntick 8\n".len()));
+    let dots = wanted.saturating_sub(picture.len().saturating_add("#\n".len()));
     for _dot in 0..dots {
         text.push_str(".")?;
     }
     text.push_str("\n")?;
     text.push_str(picture.as_str())?;
-    text.push_str("tick 8\n")?;
     Ok(text)
 }
 
-/// In front of the wall there is room for the text and for a vector of events that grows from 4 to 8, 16 and 32.
-/// What is given back of that, the text and 28 events, is just enough for the log of 32 events, so the stroke has to
-/// find room behind the wall.
+/// In front of the wall there is room for the text, for the operations of both offers and for a list of events that
+/// grows from 4 to 8, 16, 32 and 64, each of which takes as much as an `Event`. The text gives its room back to the
+/// ROM, which is as long. The 60 events that the list gives back are just enough for the log of 36 events, so the
+/// stroke has to find room behind the wall.
 #[test]
 fn a_refusal_at_the_vector_leaves_the_entries_before(rt: HostRuntime) -> Result<(), Fail> {
     let event = size_of::<Event<&LocalHeap>>();
     let entry = size_of::<Entry<&LocalHeap>>();
-    let length = entry
-        .saturating_mul(32)
-        .saturating_sub(event.saturating_mul(28));
-    let text = text_of_length(rt.alloc(), length)?;
-    assert_eq!(rt; text.len(), length);
-    let front = event.saturating_mul(60).saturating_add(length);
-    let before = before_the_vector(rt.alloc())?;
+    assert_eq!(rt; event * 60, entry * 36);
+    let text = text_of_length(rt.alloc(), MEMORY_BYTES)?;
+    assert_eq!(rt; text.len(), MEMORY_BYTES);
+    let front = MEMORY_BYTES + 48 + event * 124;
+    let before = shown_before(rt.alloc(), text.as_str(), "34 fetched")?;
     let (mut refused, mut whole) = (0u32, false);
     for slots in 0..2048usize {
         let heap = LocalHeap::new(rt.alloc(), front.saturating_add(slots * 16))?;

@@ -2,7 +2,7 @@
 use crate::devices::Endless;
 use crate::traces::{FIRST_PICTURE, first_picture_shown, played, text_of};
 use dvg_tool::{MOST_EVENTS, MOST_TEXT_BYTES, TextFault, ToolFault, Watched, play, read_trace};
-use dvg_world::Event;
+use dvg_world::TraceEvent;
 use std::alloc::Global;
 use std::test::Fail;
 
@@ -169,11 +169,13 @@ fn takes_bytes_as_they_are(rt: HostRuntime) -> Result<(), Fail> {
 fn a_trace_gives_events_and_a_rom(rt: HostRuntime) -> Result<(), Fail> {
     let text = text_of(rt.alloc(), "rom 801 FE37; tick 2; offer F1; strobe")?;
     let told = read_trace(rt.alloc(), text.as_str().as_bytes()).map_err(|_| "not a trace")?;
-    assert_eq!(rt; told.events.len(), 4);
-    let Some(Event::Offer(draft)) = told.events.get(2) else {
+    if told.events.len() != 4 {
+        return Err("not four events".into());
+    }
+    let TraceEvent::Offer(ops) = told.events.event(2) else {
         return Err("not an offer".into());
     };
-    assert_eq!(rt; draft.len(), 3);
+    assert_eq!(rt; ops.len(), 3);
     assert!(rt;
         told.rom
             .as_slice()

@@ -2,7 +2,7 @@
 use crate::event_line::{BareEvent, EventLine, read_event_line};
 use crate::fault::{TextFault, ToolFault};
 use crate::trace_text::read_trace;
-use dvg_world::Event;
+use dvg_world::TraceEvent;
 use std::alloc::{AllocError, Global};
 use std::test::Fail;
 
@@ -18,16 +18,16 @@ enum Seen {
 }
 
 // What the tests see of an event.
-fn seen_of(event: &Event) -> Seen {
+fn seen_of(event: TraceEvent) -> Seen {
     match event {
-        Event::Offer(draft) => Seen::Offer(draft.len()),
-        Event::Redraw => Seen::Bare(BareEvent::Redraw),
-        Event::Tick => Seen::Bare(BareEvent::Tick),
-        Event::Strobe => Seen::Bare(BareEvent::Strobe),
-        Event::Fetch => Seen::Bare(BareEvent::Fetch),
-        Event::ResetGen => Seen::Bare(BareEvent::ResetGen),
-        Event::ResetCpu => Seen::Bare(BareEvent::ResetCpu),
-        Event::ResetAll(image) => {
+        TraceEvent::Offer(ops) => Seen::Offer(ops.len()),
+        TraceEvent::Redraw => Seen::Bare(BareEvent::Redraw),
+        TraceEvent::Tick => Seen::Bare(BareEvent::Tick),
+        TraceEvent::Strobe => Seen::Bare(BareEvent::Strobe),
+        TraceEvent::Fetch => Seen::Bare(BareEvent::Fetch),
+        TraceEvent::ResetGen => Seen::Bare(BareEvent::ResetGen),
+        TraceEvent::ResetCpu => Seen::Bare(BareEvent::ResetCpu),
+        TraceEvent::ResetAll(image) => {
             let bytes = image.bytes();
             Seen::ResetAll(bytes[0], bytes[2047])
         }
@@ -38,8 +38,8 @@ fn seen_of(event: &Event) -> Seen {
 fn events(alloc: Global, text: &[u8]) -> Result<Vec<Seen>, Fail> {
     let told = read_trace(alloc, text).map_err(|_| "not a trace")?;
     let mut all = Vec::new(alloc);
-    for event in told.events.as_slice() {
-        all.push(seen_of(event))?;
+    for number in 0..told.events.len() {
+        all.push(seen_of(told.events.event(number)))?;
     }
     Ok(all)
 }
