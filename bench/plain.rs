@@ -3,7 +3,6 @@
 //! It has the same limits, texts and statuses. Only where standard input or standard output was closed by the
 //! caller do the two differ: Rust's runtime opens /dev/null in its place.
 
-mod plain_drafts;
 mod plain_driver;
 mod plain_frames;
 mod plain_generator;
@@ -305,8 +304,8 @@ fn check_text() -> Result<ExitCode, Fault> {
 
 /// Plays the trace that standard input holds as text, and writes its pictures, or all entries, on standard output.
 fn play(all: bool) -> Result<(), Fault> {
-    let (events, rom) = read_trace(&read_text()?)?;
-    let entries = run(&rom, [0; 2048], &events);
+    let (trace, rom) = read_trace(&read_text()?)?;
+    let entries = run(&rom, [0; 2048], &trace);
     let mut writer = output()?;
     write_entries(&entries, all, &mut writer)
         .and_then(|()| writer.flush())

@@ -1,17 +1,15 @@
 //! The plain Rust twin of the proved program `dvg_bench`, with the same words and lines: a generator that is handed
 //! one word a call with a looping display list, and the check of a draft, written for speed and clarity with no proof.
 
-mod plain_drafts;
 mod plain_driver;
 mod plain_frames;
 mod plain_generator;
 mod plain_world;
 
-use plain_drafts::Draft;
 use plain_driver::{Action, Driver};
 use plain_frames::{Instr, Op, Rom, check};
 use plain_generator::{Generator, Taken};
-use plain_world::{Entry, Event, run};
+use plain_world::{Entry, Event, Trace, run};
 use std::hint::black_box;
 
 /// How many steps are made: of each 15, one start and 14 words taken, so 1,000,000 words in all.
@@ -156,33 +154,33 @@ impl Random {
 /// How many events there are.
 const EVENTS: usize = 65_536;
 
-/// A draft of one, two or three short vectors.
-fn small_draft(vectors: u64) -> Draft {
-    let mut draft = Draft::new();
-    draft.push(Op::Draw(Instr::Labs {
+/// Offers a draft of one, two or three short vectors.
+fn offer_small(vectors: u64, ops: &mut Vec<Op>) -> Event {
+    let first = ops.len();
+    ops.push(Op::Draw(Instr::Labs {
         x: 512,
         y: 400,
         scale: 3,
     }));
     for _ in 0..vectors {
-        draft.push(Op::Draw(Instr::Svec {
+        ops.push(Op::Draw(Instr::Svec {
             scale: 3,
             dx: -3,
             dy: -2,
             z: 3,
         }));
     }
-    draft.push(Op::Halt);
-    draft
+    ops.push(Op::Halt);
+    Event::Offer(first as u32, (ops.len() - first) as u16)
 }
 
 /// Mixed events: most are ticks and fetches.
-fn mixed_events() -> Vec<Event> {
+fn mixed_events() -> Trace {
     let mut random = Random(1979);
-    let mut events = Vec::new();
+    let mut trace = Trace::default();
     for _ in 0..EVENTS {
-        events.push(match random.below(64) {
-            0 => Event::Offer(Box::new(small_draft(1 + random.below(3)))),
+        trace.events.push(match random.below(64) {
+            0 => offer_small(1 + random.below(3), &mut trace.ops),
             1 => Event::Redraw,
             2..=41 => Event::Tick,
             42..=44 => Event::Strobe,
@@ -192,7 +190,7 @@ fn mixed_events() -> Vec<Event> {
             _ => Event::ResetCpu,
         });
     }
-    events
+    trace
 }
 
 /// How often the events are run.
@@ -201,10 +199,10 @@ const RUNS: u32 = 100;
 /// Runs the events from a RAM of zeros.
 fn run_events() {
     let rom: Rom = [0xD000; 1024];
-    let events = mixed_events();
+    let trace = mixed_events();
     let (mut pictures, mut strokes, mut writes) = (0u32, 0u32, 0u32);
     for _ in 0..RUNS {
-        for entry in &run(&rom, [0; 2048], black_box(&events)) {
+        for entry in &run(&rom, [0; 2048], black_box(&trace)) {
             match entry {
                 Entry::Done(_, _, drawn) => {
                     pictures = pictures.wrapping_add(1);

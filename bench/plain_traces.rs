@@ -1,9 +1,8 @@
 //! Texts of traces in plain Rust, for the plain twin.
 
-use crate::plain_drafts::Draft;
-use crate::plain_frames::{MOST, Rom};
+use crate::plain_frames::{MOST, Op, Rom};
 use crate::plain_texts::{MOST_TEXT_BYTES, TextFault, hex, last, natural, read_op, read_rom_line};
-use crate::plain_world::Event;
+use crate::plain_world::{Event, Trace};
 
 /// The most events of a trace.
 const MOST_EVENTS: usize = 65_536;
@@ -41,48 +40,51 @@ fn read_event(line: &[u8]) -> Option<EventLine> {
 }
 
 /// The events and the ROM that a text denotes.
-pub fn read_trace(text: &[u8]) -> Result<(Vec<Event>, Rom), TextFault> {
+pub fn read_trace(text: &[u8]) -> Result<(Trace, Rom), TextFault> {
     if text.len() > MOST_TEXT_BYTES {
         return Err(TextFault::TooLong);
     }
     let mut rom = [0xD000; 1024];
-    let mut events = Vec::new();
-    let mut offer: Option<Box<Draft>> = None;
+    let mut trace = Trace::default();
+    // Where the operations of the open offer begin.
+    let mut opened = None;
     // The part behind the last LF is no line where it is empty, and such a line is passed over.
     for (line, number) in text.split(|byte| *byte == b'\n').zip(1..) {
         if line.is_empty() || line[0] == b'#' {
             continue;
         }
-        if let Some(draft) = &mut offer {
+        if let Some(first) = opened {
             if line != b"end" {
-                add_op(draft, line, number)?;
+                add_op(&mut trace.ops, first, line, number)?;
                 continue;
             }
-            if events.len() == MOST_EVENTS {
+            if trace.events.len() == MOST_EVENTS {
                 return Err(TextFault::Many(number));
             }
-            events.extend(offer.take().map(Event::Offer));
+            let count = trace.ops.len() - first;
+            trace.events.push(Event::Offer(first as u32, count as u16));
+            opened = None;
         } else if line == b"offer" {
-            offer = Some(Box::new(Draft::new()));
+            opened = Some(trace.ops.len());
         } else if let Some(told) = read_event(line) {
-            add_events(told, &mut events).ok_or(TextFault::Many(number))?;
-        } else if !events.is_empty() || read_rom_line(line, &mut rom).is_none() {
+            add_events(told, &mut trace.events).ok_or(TextFault::Many(number))?;
+        } else if !trace.events.is_empty() || read_rom_line(line, &mut rom).is_none() {
             return Err(TextFault::Syntax(number));
         }
     }
-    match offer {
+    match opened {
         Some(_) => Err(TextFault::Unended),
-        None => Ok((events, rom)),
+        None => Ok((trace, rom)),
     }
 }
 
-/// Adds the operation of one line more.
-fn add_op(draft: &mut Draft, line: &[u8], number: usize) -> Result<(), TextFault> {
+/// Adds the operation of one line more to the offer that begins there.
+fn add_op(ops: &mut Vec<Op>, first: usize, line: &[u8], number: usize) -> Result<(), TextFault> {
     let op = read_op(line).ok_or(TextFault::Syntax(number))?;
-    if draft.ops().len() == MOST {
+    if ops.len() - first == MOST {
         return Err(TextFault::Full(number));
     }
-    draft.push(op);
+    ops.push(op);
     Ok(())
 }
 

@@ -1,13 +1,13 @@
 //! Both ends of the vector RAM in plain Rust, for the plain twins.
 
-use crate::plain_drafts::Draft;
 use crate::plain_driver::{Action, Driver};
-use crate::plain_frames::{FrameFault, Rom, check};
+use crate::plain_frames::{FrameFault, Op, Rom, check};
 use crate::plain_generator::{GenFault, Generator, Stroke, Taken};
 
 /// What can happen.
 pub enum Event {
-    Offer(Box<Draft>),
+    /// An offer: the number of its first operation among those of all offers, and how many it has.
+    Offer(u32, u16),
     Redraw,
     Tick,
     Strobe,
@@ -15,6 +15,13 @@ pub enum Event {
     ResetGen,
     ResetCpu,
     ResetAll(Box<[u8; 2048]>),
+}
+
+/// Events in order, and the operations of all offers.
+#[derive(Default)]
+pub struct Trace {
+    pub events: Vec<Event>,
+    pub ops: Vec<Op>,
 }
 
 /// What an event led to.
@@ -87,18 +94,24 @@ impl World<'_> {
         }
     }
 
-    pub fn apply(&mut self, event: &Event) -> Entry {
+    fn offer(&mut self, ops: &[Op]) -> Entry {
+        let frame = match check(ops, self.rom) {
+            Err(fault) => return Entry::Refused(fault),
+            Ok(frame) => frame,
+        };
+        if self.driver.offer(frame) {
+            Entry::Offered
+        } else {
+            Entry::Busy
+        }
+    }
+
+    pub fn apply(&mut self, event: &Event, ops: &[Op]) -> Entry {
         match event {
-            Event::Offer(draft) => match check(draft.ops(), self.rom) {
-                Err(fault) => Entry::Refused(fault),
-                Ok(frame) => {
-                    if self.driver.offer(frame) {
-                        Entry::Offered
-                    } else {
-                        Entry::Busy
-                    }
-                }
-            },
+            Event::Offer(first, count) => {
+                let first = *first as usize;
+                self.offer(&ops[first..first + usize::from(*count)])
+            }
             Event::Redraw => match self.driver.redraw() {
                 None => Entry::NothingPublished,
                 Some(true) => Entry::Asked,
@@ -131,9 +144,14 @@ impl World<'_> {
 }
 
 /// The entries of all events.
-pub fn run(rom: &Rom, image: [u8; 2048], events: &[Event]) -> Vec<Entry> {
+pub fn run(rom: &Rom, image: [u8; 2048], trace: &Trace) -> Vec<Entry> {
     let mut world = World::new(rom, image);
-    let mut entries = Vec::with_capacity(events.len());
-    entries.extend(events.iter().map(|event| world.apply(event)));
+    let mut entries = Vec::with_capacity(trace.events.len());
+    entries.extend(
+        trace
+            .events
+            .iter()
+            .map(|event| world.apply(event, &trace.ops)),
+    );
     entries
 }
