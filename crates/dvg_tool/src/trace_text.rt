@@ -251,11 +251,7 @@ fn one<A: Allocator>(event: BareEvent) -> Event<A>
 }
 
 // Adds a reset of the whole system, behind which each byte is this one.
-fn add_reset<A: Allocator>(
-    alloc: A,
-    byte: u8,
-    events: &mut Trace<A>,
-) -> Result<(), OutOfMemory>
+fn add_reset<A: Allocator>(alloc: A, byte: u8, events: &mut Trace<A>) -> Result<(), OutOfMemory>
     requires { length events.old < 65536 }
     ensures { OnOk result (events.new ≡ events.old ++ happenings (EventLine.ResetAll byte)) }
 {
