@@ -37,7 +37,7 @@ const DVG_ROWS: &[Row] = &[
     ),
 ];
 
-/// What is compared of the command `play`, which is compared with two twins.
+/// What is compared of the command `play`.
 const PLAY_ROWS: &[Row] = &[
     row("play, 65,536 mixed events", &["play"], mixed_events),
     row(

@@ -171,7 +171,7 @@ fn offer_small(vectors: u64, ops: &mut Vec<Op>) -> Event {
         }));
     }
     ops.push(Op::Halt);
-    Event::Offer(first as u32, (ops.len() - first) as u16)
+    Event::Offer(ops.len() - first)
 }
 
 /// Mixed events: most are ticks and fetches.

@@ -61,8 +61,7 @@ pub fn read_trace(text: &[u8]) -> Result<(Trace, Rom), TextFault> {
             if trace.events.len() == MOST_EVENTS {
                 return Err(TextFault::Many(number));
             }
-            let count = trace.ops.len() - first;
-            trace.events.push(Event::Offer(first as u32, count as u16));
+            trace.events.push(Event::Offer(trace.ops.len() - first));
             opened = None;
         } else if line == b"offer" {
             opened = Some(trace.ops.len());

@@ -6,8 +6,8 @@ use crate::plain_generator::{GenFault, Generator, Stroke, Taken};
 
 /// What can happen.
 pub enum Event {
-    /// An offer: the number of its first operation among those of all offers, and how many it has.
-    Offer(u32, u16),
+    /// An offer of so many operations, which stand behind those of the offers before it.
+    Offer(usize),
     Redraw,
     Tick,
     Strobe,
@@ -106,11 +106,13 @@ impl World<'_> {
         }
     }
 
-    pub fn apply(&mut self, event: &Event, ops: &[Op]) -> Entry {
+    /// `rest` has the operations of this offer, if it is one, and of all later ones.
+    pub fn apply(&mut self, event: &Event, rest: &mut &[Op]) -> Entry {
         match event {
-            Event::Offer(first, count) => {
-                let first = *first as usize;
-                self.offer(&ops[first..first + usize::from(*count)])
+            Event::Offer(count) => {
+                let (ops, later) = rest.split_at(*count);
+                *rest = later;
+                self.offer(ops)
             }
             Event::Redraw => match self.driver.redraw() {
                 None => Entry::NothingPublished,
@@ -146,12 +148,9 @@ impl World<'_> {
 /// The entries of all events.
 pub fn run(rom: &Rom, image: [u8; 2048], trace: &Trace) -> Vec<Entry> {
     let mut world = World::new(rom, image);
+    let mut rest = trace.ops.as_slice();
     let mut entries = Vec::with_capacity(trace.events.len());
-    entries.extend(
-        trace
-            .events
-            .iter()
-            .map(|event| world.apply(event, &trace.ops)),
-    );
+    let events = trace.events.iter();
+    entries.extend(events.map(|event| world.apply(event, &mut rest)));
     entries
 }

@@ -124,6 +124,7 @@ fn read_one(word: u16) -> Code
 /// A sign bit of 1 means negative: sign and magnitude, where minus zero reads as zero. Bit 11 of both
 /// words of a VCTR and bits 11 to 0 of HALT and RTSL are ignored (this project's own choice), so there
 /// are spellings that aren't canonical, and they are read all the same.
+#[inline(always)]
 pub fn decode(words: &[u16]) -> Result<(Code, usize), CodeFault>
     ensures spelled { IfOk result (λ read. Fronts words.now read.0 read.1) }
     ensures found { (instr : Instr) (count : ℕ) → Fronts words.now instr count → result ≡ Ok (instr, count) }

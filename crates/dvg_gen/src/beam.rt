@@ -58,6 +58,7 @@ impl Beam {
     /// a move so many times; 10 to 15 move the beam by nothing (this project's own choice). A vector of
     /// intensity 1 to 15 draws one stroke, also where it moves by nothing. Instructions other than
     /// LABS, VCTR and SVEC leave the beam as it is.
+    #[inline(always)]
     pub fn step(&mut self, code: &Code) -> Option<Stroke>
         ensures moved { self.new ≡ spec.moved self.old code.now }
         ensures drawn { option_to_list result ≡ spec.drawn self.old code.now }
