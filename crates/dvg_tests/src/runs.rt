@@ -1,11 +1,12 @@
 //! Worked runs: what happens, and what a log shows of each event.
 use crate::scripts::Picture::{F1, F2, F3, Shape};
 use crate::scripts::Step::{Fetch, Offer, Redraw, ResetAll, ResetCpu, ResetGen, Strobe, Tick};
-use crate::scripts::{Step, transcript};
+use crate::scripts::{Step, trace_transcript, transcript};
 use crate::transcripts::{
     DRAWN, DRAWN_AFTER_A_RESET, DRAWN_AFTER_A_RESTART, DRAWN_AGAIN, FLIPPED, FROM_FF, PUBLISHED,
     REPLACED, RESET_BEFORE_ITS_STROBE, SHAPE_OF_THE_ROM, STILL_THE_FIRST,
 };
+use dvg_world::{Event, Trace};
 use std::alloc::Global;
 use std::test::Fail;
 
@@ -15,7 +16,7 @@ const FIRST_PICTURE: [Step; 5] = [Tick(2), Offer(F1), Tick(14), Strobe, Fetch(6)
 /// F2 is offered and written after the first picture; a strobe that is repeated begins a run before the flip.
 const BEFORE_THE_FLIP: [Step; 5] = [Offer(F2), Tick(10), Strobe, Fetch(1), Tick(1)];
 
-/// The run of these steps shows these parts, one after the other.
+/// The run of these steps shows these parts, one after the other, and so does that of their trace.
 fn shows(alloc: Global, rom: &[u16], steps: &[&[Step]], parts: &[&str]) -> Result<bool, Fail> {
     let mut all = Vec::new(alloc);
     for some in steps {
@@ -25,7 +26,9 @@ fn shows(alloc: Global, rom: &[u16], steps: &[&[Step]], parts: &[&str]) -> Resul
     for part in parts {
         wanted.push_str(part)?;
     }
-    Ok(transcript(alloc, rom, all.as_slice())?.as_str() == wanted.as_str())
+    let listed = transcript(alloc, rom, all.as_slice())?;
+    let traced = trace_transcript(alloc, rom, all.as_slice())?;
+    Ok(listed.as_str() == wanted.as_str() && traced.as_str() == wanted.as_str())
 }
 
 #[test]
@@ -173,5 +176,17 @@ fn a_shape_of_the_rom_is_drawn(rt: HostRuntime) -> Result<(), Fail> {
             &[SHAPE_OF_THE_ROM]
         )?
     );
+    Ok(())
+}
+
+#[test]
+fn a_trace_begins_empty(rt: HostRuntime) -> Result<(), Fail> {
+    let mut trace = Trace::new(rt.alloc());
+    assert!(rt; trace.is_empty());
+    trace
+        .push(Event::Redraw)
+        .map_err(|_| "no room for an event")?;
+    assert!(rt; !trace.is_empty());
+    assert_eq!(rt; trace.len(), 1);
     Ok(())
 }

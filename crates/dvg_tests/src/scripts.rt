@@ -4,7 +4,7 @@ use dvg_driver::Action;
 use dvg_frame::{Draft, Op, OpKind};
 use dvg_gen::GenFault;
 use dvg_mem::{Flat, Image, Rom};
-use dvg_world::{Entry, Event, run};
+use dvg_world::{Entry, Event, MOST_EVENTS, Trace, run, run_trace};
 use std::alloc::{Allocator, Global};
 use std::test::Fail;
 
@@ -134,6 +134,21 @@ pub fn events<A: Allocator + Copy>(
     Ok(events)
 }
 
+/// The events of steps, as a trace.
+fn trace(alloc: Global, steps: &[Step]) -> Result<Trace, Fail> {
+    let mut trace = Trace::new(alloc);
+    for step in steps {
+        for _ in 0..times(*step) {
+            if trace.len() == MOST_EVENTS {
+                return Err("too many events".into());
+            }
+            let event = event(alloc, alloc, *step)?;
+            trace.push(event).map_err(|_| "no room for an event")?;
+        }
+    }
+    Ok(trace)
+}
+
 /// What the driver did.
 fn action_text(alloc: Global, action: Action) -> Result<String, Fail> {
     Ok(match action {
@@ -197,6 +212,17 @@ pub fn transcript(alloc: Global, rom_words: &[u16], steps: &[Step]) -> Result<St
     let image = image(alloc, alloc, 0)?;
     let events = events(alloc, alloc, steps)?;
     match run::<Flat>(alloc, rom, &image, events.as_slice()) {
+        Ok(entries) => entries_text(alloc, entries.as_slice()),
+        Err(_) => Err("stopped".into()),
+    }
+}
+
+/// The same of the trace of these events.
+pub fn trace_transcript(alloc: Global, rom_words: &[u16], steps: &[Step]) -> Result<String, Fail> {
+    let rom = rom(alloc, alloc, rom_words)?;
+    let image = image(alloc, alloc, 0)?;
+    let trace = trace(alloc, steps)?;
+    match run_trace::<Flat>(alloc, rom, &image, &trace) {
         Ok(entries) => entries_text(alloc, entries.as_slice()),
         Err(_) => Err("stopped".into()),
     }
