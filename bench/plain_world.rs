@@ -150,7 +150,8 @@ pub fn run(rom: &Rom, image: [u8; 2048], trace: &Trace) -> Vec<Entry> {
     let mut world = World::new(rom, image);
     let mut rest = trace.ops.as_slice();
     let mut entries = Vec::with_capacity(trace.events.len());
-    let events = trace.events.iter();
-    entries.extend(events.map(|event| world.apply(event, &mut rest)));
+    for event in &trace.events {
+        entries.push(world.apply(event, &mut rest));
+    }
     entries
 }
