@@ -1,10 +1,10 @@
 -- Laws of the memory map.
-use Rattle.std.specs.Prelude.{◌≡◌, ◌≢◌, ◌<◌, ◌≤◌, ◌+◌, ◌*◌, ◌↔◌, ℕ, List, Some, slice_index}
+use Rattle.std.specs.Prelude.{◌≡◌, ◌≢◌, ◌<◌, ◌≤◌, ◌+◌, ◌*◌, ◌↔◌, ℕ, List, Some, true, false, slice_index}
 use Rattle.dvg_mem.specs.declared.half.Half.{Half}
 use Rattle.dvg_mem.specs.declared.areas.Area.{Area}
 use Rattle.dvg_mem.specs.declared.areas.Area.TheVariants.{Frame}
 use Rattle.dvg_mem.specs.Areas.{IsIn, base, half_of_high, high, other}
-use Rattle.dvg_mem.specs.Memory.{IsImage, rom_word}
+use Rattle.dvg_mem.specs.Memory.{IsImage, rom_word, fetched_byte}
 use Rattle.dvg_code.specs.Words.{words_of}
 
 -- each word address lies in an area, and in no other
@@ -26,3 +26,8 @@ HalfFromBase = (half : Half) (w : ℕ) → IsIn (Frame half) w ↔ ((base half �
 -- the ROM's words, from 800 on, are the words of its bytes in order
 abbrev pub RomWordsInOrder : Type 0
 RomWordsInOrder = (rom : List ℕ) (k : ℕ) → IsImage rom → k < 1024 → rom_word rom (0x800 + k) ≡ Some (slice_index (words_of rom) k)
+
+-- the bytes of a word of the RAM are those at twice its address, the low byte first
+abbrev pub BytesInOrder : Type 0
+BytesInOrder = (ram rom : List ℕ) (w : ℕ) → IsImage ram → w < 0x400
+    → (fetched_byte ram rom w false ≡ Some (slice_index ram (2 * w))) × (fetched_byte ram rom w true ≡ Some (slice_index ram (2 * w + 1)))

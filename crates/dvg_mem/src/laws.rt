@@ -1,5 +1,5 @@
 //! Laws of the definitions alone. Each is the contract of a function that does nothing.
-ghost use Rattle.dvg_mem.specs.Laws.{HalfFromBase, HalvesDiffer, HighNamesHalf, OneArea, RomWordsInOrder};
+ghost use Rattle.dvg_mem.specs.Laws.{BytesInOrder, HalfFromBase, HalvesDiffer, HighNamesHalf, OneArea, RomWordsInOrder};
 
 /// Each word address lies in exactly one area.
 pub fn one_area()
@@ -14,6 +14,11 @@ pub fn half_from_base()
 /// The ROM's words, from 800 on, are the words of its bytes in order.
 pub fn rom_words_in_order()
     ensures { RomWordsInOrder }
+{}
+
+/// The two bytes of a word of the RAM are those at twice its address, the low byte first.
+pub fn bytes_in_order()
+    ensures { BytesInOrder }
 {}
 
 /// The high byte of the jump to a half, over the low byte 01, is that jump, and names the half.

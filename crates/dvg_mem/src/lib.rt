@@ -29,7 +29,7 @@ mod rom;
 mod store;
 
 pub use areas::Area;
-pub use fetching::fetch;
+pub use fetching::{fetch, fetch_byte};
 pub use flat::Flat;
 pub use half::Half;
 pub use image::{Image, MemFault};
