@@ -1,19 +1,20 @@
 -- A generator still stands after its history once it is told one thing more.
 use Rattle.std.proofs.Common.{◌≡◌, ℕ, suc, ◌+◌, ◌<◌, true, false, List, [], ◌∷◌, ◌++◌, length, get_or, Option, Some, None, refl, sym, ap, ◌∙◌, subst, arith, append-nil, cond, eqb}
 use Rattle.std.proofs.lemmas.Bool.{eq-eqb}
-use Rattle.std.specs.Prelude.{Result, Ok, Err, IfOk}
+use Rattle.std.specs.Prelude.{Result, Ok, Err, IfOk, IsSome}
 use Rattle.dvg_code.specs.declared.instr.Instr.{Instr}
-use Rattle.dvg_code.specs.Spelling.{IsFirst}
+use Rattle.dvg_code.specs.Spelling.{IsFirst, vctr, labs, halt, jsrl, rtsl, jmpl, svec}
 use Rattle.dvg_gen.specs.declared.beam.Beam.{Beam}
 use Rattle.dvg_gen.specs.declared.taken.GenFault.TheVariants.{StackOver, StackUnder, Hole}
 use Rattle.dvg_gen.specs.declared.taken.Taken.{Taken}
-use Rattle.dvg_gen.specs.declared.taken.Taken.TheVariants.{Word, Done, Broke}
+use Rattle.dvg_gen.specs.declared.taken.Taken.TheVariants.{Low, Word, Done, Broke}
 use Rattle.dvg_gen.specs.Completing.{Completes}
 use Rattle.dvg_gen.specs.Drawing.{moved, drawn}
+use Rattle.dvg_gen.specs.Bytes.{Met, met, Waits, Whole}
 use Rattle.dvg_gen.specs.Machine.{Machine, IsReply, IsIn, StandsAfter, Answers}
-use Rattle.dvg_gen.specs.Obeyed.{stack_by, to_of, CanGo, gone, IsShut, Obeyed}
+use Rattle.dvg_gen.specs.Obeyed.{stack_by, to_of, past, CanGo, gone, IsShut, Obeyed}
 use Rattle.dvg_code.specs.Acts.{act_of}
-use Rattle.dvg_gen.specs.Run.{Visit, next, calls, returns, Fate, Goes, Finished, Breaks, fate_by, fate, beam_after, strokes, Adds, first, one, two}
+use Rattle.dvg_gen.specs.Run.{Visit, on, next, wanted, calls, returns, Fate, Goes, Finished, Breaks, fate_by, fate, beam_after, strokes, Adds, first, one, two}
 use Rattle.dvg_gen.specs.Told.{Told, Newest, nothing, goes_on, grown, stopped, begun, Leaves, new, starts, resets, meets_hole, takes, Start, Reset, reply_by}
 use Rattle.dvg_gen.proofs.Stack.{stack, past_call_is, next_is, Sound, sound_none, sound_more, goes_more, can_more, halts_finish}
 
@@ -70,181 +71,260 @@ stack_is {run = run} {machine = machine} leaves opened inside =
 never : {A : Type 0} → false ≡ true → A
 never e = cc
 
+-- nothing waits
+none_waits : {P : Type 0} → IsSome {T = ℕ} None → P
+none_waits some = absurd (cc)
+
 -- nothing was told
-pub stands_new : (machine : Machine) → machine.is_open ≡ false → machine.beam ≡ record { x = 0; y = 0; scale = 0 } → StandsAfter machine []
-stands_new machine shut beam =
-    record { run = nothing; leaves = new; stands = record { is_open = shut; beam = beam; running = λ opened. never opened } }
+pub stands_new : (machine : Machine) → machine.is_open ≡ false → machine.low ≡ None → machine.beam ≡ record { x = 0; y = 0; scale = 0 } → StandsAfter machine [] None
+stands_new machine shut low beam =
+    record { run = nothing; leaves = new; stands = record { is_open = shut; beam = beam; running = λ opened. never opened }; low = low; waits = none_waits }
 
 -- a start was told
-pub stands_start : (old machine : Machine) (history : List Told) → StandsAfter old history →
-    machine.place ≡ 0 → machine.held ≡ None → machine.stack ≡ [] → machine.beam ≡ old.beam → machine.strokes ≡ [] → machine.is_open ≡ true → StandsAfter machine (Start ∷ history)
-stands_start old machine history after place held empty beam none opened =
+pub stands_start : (old machine : Machine) (history : List Told) (low : Option ℕ) → StandsAfter old history low →
+    machine.at ≡ 0 → machine.held ≡ None → machine.low ≡ None → machine.stack ≡ [] → machine.beam ≡ old.beam → machine.strokes ≡ [] → machine.is_open ≡ true → StandsAfter machine (Start ∷ history) None
+stands_start old machine history low after at held dropped empty beam none opened =
     record {
       run = begun after.run;
       leaves = starts after.leaves;
       stands = record {
         is_open = opened;
         beam = beam ∙ after.stands.beam;
-        running = λ _. record { place = place; held = held; strokes = none; count = simp empty (omega arith); brackets = λ k below. let size = ap length empty in absurd (omega arith) };
+        running = λ _. record { at = at; held = held; strokes = none; count = simp empty (omega arith); brackets = λ k below. let size = ap length empty in absurd (omega arith) };
       };
+      low = dropped;
+      waits = none_waits;
     }
 
 -- a reset was told
-pub stands_reset : (old machine : Machine) (history : List Told) → StandsAfter old history → machine.beam ≡ old.beam → machine.is_open ≡ false → StandsAfter machine (Reset ∷ history)
-stands_reset old machine history after beam shut =
-    record { run = stopped after.run; leaves = resets after.leaves; stands = record { is_open = shut; beam = beam ∙ after.stands.beam; running = λ opened. never opened } }
-
--- a fetch, of a machine that stands in an opened run
-module _ (history : List Told) (old : Machine) (after : StandsAfter old history) (opened : old.is_open ≡ true) where
-  is_open : after.run.is_open ≡ true
-  is_open = sym after.stands.is_open ∙ opened
-
-  inside : IsIn old after.run
-  inside = after.stands.running is_open
-
-  -- of a hole
-  pub at_hole : {A : Type 0} (machine : Machine) → machine.is_open ≡ false → machine.beam ≡ old.beam → Answers {A = A} history None machine (Broke Hole)
-  at_hole {A} machine shut beam =
-      record {
-        run = stopped after.run;
-        leaves = meets_hole after.leaves is_open;
-        stands = record { is_open = shut; beam = beam ∙ after.stands.beam; running = λ o. never o };
-        replies = refl;
-      }
-
-  -- of a first word
-  pub at_first : {A : Type 0} (word : ℕ) → IsFirst word → old.held ≡ None → (machine : Machine)
-      → machine ≡ record { place = old.place; held = Some word; stack = old.stack; beam = old.beam; strokes = old.strokes; is_open = true } → Answers {A = A} history (Some word) machine Word
-  at_first {A} word is_first none machine same =
-      let goes = open_goes after.leaves is_open in
-      let adds : Adds after.run.visits after.run.held word after.run.visits (Some word) =
-      subst (λ held. Adds after.run.visits held word after.run.visits (Some word)) (sym none ∙ inside.held) (first is_first) in
-      let holding : Machine = record { place = old.place; held = Some word; stack = old.stack; beam = old.beam; strokes = old.strokes; is_open = true } in
-      let answers : Answers {A = A} history (Some word) holding Word =
-      record {
-        run = grown after.run after.run.visits (Some word);
-        leaves = takes after.leaves is_open adds;
-        stands = record {
-          is_open = ap goes_on (sym goes);
-          beam = after.stands.beam;
-          running = λ _. record { place = inside.place; held = refl; strokes = inside.strokes; count = inside.count; brackets = inside.brackets };
-        };
-        replies = tt;
-      } in
-      subst (λ m. Answers {A = A} history (Some word) m Word) (sym same) answers
-
-  -- of a word that completes an instruction
-  module _ (word : ℕ) (code : Instr) (adds : Adds after.run.visits after.run.held word (record { place = next after.run.visits; code = code } ∷ after.run.visits) None) where
-    -- which the machine goes on from
-    at_go : {A : Type 0} → CanGo (act_of code) old.stack → (machine : Machine) → machine ≡ gone old code → Answers {A = A} history (Some word) machine Word
-    at_go {A} can machine same =
-        let visits = after.run.visits in
-        let newest : Visit = record { place = next visits; code = code } in
-        let saved = stack_is after.leaves is_open inside in
-        let sound = open_sound after.leaves is_open in
-        let can_run : CanGo (act_of code) (stack visits) = subst (λ st. CanGo (act_of code) st) saved can in
-        let goes = goes_more newest visits sound can_run in
-        let stack_after : stack_by (act_of code) old.place old.stack ≡ stack (newest ∷ visits) =
-        ap (λ at. stack_by (act_of code) at old.stack) inside.place ∙ ap (λ st. stack_by (act_of code) (next visits) st) saved in
-        let place_after : to_of (act_of code) old.place old.stack ≡ next (newest ∷ visits) =
-        ap (λ at. to_of (act_of code) at old.stack) inside.place ∙ ap (λ st. to_of (act_of code) (next visits) st) saved ∙ sym (next_is newest visits) in
-        let sound_after = sound_more newest visits sound can_run in
-        let counted : calls (newest ∷ visits) ≡ returns (newest ∷ visits) + length (stack (newest ∷ visits)) = sound_after.counted in
-        let answers : Answers {A = A} history (Some word) (gone old code) Word =
-        record {
-          run = grown after.run (newest ∷ visits) None;
-          leaves = takes after.leaves is_open adds;
-          stands = record {
-            is_open = ap goes_on (sym goes);
-            beam = ap (λ b. moved b code) after.stands.beam;
-            running = λ _. record {
-              place = place_after;
-              held = refl;
-              strokes = ap (λ drew. drew ++ drawn old.beam code) inside.strokes ∙ ap (λ b. strokes after.run.first visits ++ drawn b code) after.stands.beam;
-              count = counted ∙ ap (λ st. returns (newest ∷ visits) + length st) (sym stack_after);
-              brackets = λ k below. ap (λ st. get_or st k 0) stack_after ∙ sym (past_call_is (newest ∷ visits) k);
-            };
-          };
-          replies = subst (λ f. IsReply {A = A} Word (reply_by None f (strokes after.run.first (newest ∷ visits)))) (sym goes) tt;
-        } in
-        subst (λ m. Answers {A = A} history (Some word) m Word) (sym same) answers
-
-    -- which ends the run
-    at_stop : {A : Type 0} (ends : Fate) → fate (record { place = next after.run.visits; code = code } ∷ after.run.visits) ≡ ends → goes_on ends ≡ false → ((b : Beam) → moved b code ≡ b)
-        → (machine : Machine) (taken : Taken A) → IsShut old machine → IsReply taken (reply_by None ends (strokes after.run.first (record { place = next after.run.visits; code = code } ∷ after.run.visits)))
-        → Answers history (Some word) machine taken
-    at_stop ends is_end over still machine taken shut replies =
-        let newest : Visit = record { place = next after.run.visits; code = code } in
-        let closed : goes_on (fate (newest ∷ after.run.visits)) ≡ false = ap goes_on is_end ∙ over in
-        record {
-          run = grown after.run (newest ∷ after.run.visits) None;
-          leaves = takes after.leaves is_open adds;
-          stands = record {
-            is_open = shut.0 ∙ sym closed;
-            beam = shut.1 ∙ after.stands.beam ∙ sym (still (beam_after after.run.first after.run.visits));
-            running = λ opened. never (sym closed ∙ opened);
-          };
-          replies = subst (λ f. IsReply taken (reply_by None f (strokes after.run.first (newest ∷ after.run.visits)))) (sym is_end) replies;
-        }
-
-    -- whichever it is
-    pub at_obeyed : {A : Type 0} (machine : Machine) (taken : Taken A) → Obeyed old code machine taken → Answers history (Some word) machine taken
-    at_obeyed machine Word obeyed = at_go obeyed.0 machine obeyed.1
-    at_obeyed machine (Done list) obeyed =
-        let visits = after.run.visits in
-        let newest : Visit = record { place = next visits; code = code } in
-        let finished = halts_finish newest visits (ap act_of obeyed.0) in
-        let none : drawn (beam_after after.run.first visits) code ≡ [] = ap (λ k. drawn (beam_after after.run.first visits) k) obeyed.0 in
-        let drew : strokes after.run.first (newest ∷ visits) ≡ strokes after.run.first visits =
-        ap (λ ys. strokes after.run.first visits ++ ys) none ∙ append-nil (strokes after.run.first visits) in
-        at_stop Finished finished refl (λ b. ap (λ k. moved b k) obeyed.0) machine (Done list) obeyed.1 (obeyed.2 ∙ inside.strokes ∙ sym drew)
-    at_obeyed machine (Broke StackOver) obeyed =
-        let visits = after.run.visits in
-        let count : calls visits ≡ returns visits + length old.stack = inside.count in
-        let four : length old.stack ≡ 4 = obeyed.1 in
-        let full : eqb (calls visits) (returns visits + 4) ≡ true = eq-eqb _ _ (omega arith) in
-        let breaks = ap (λ k. fate_by (act_of k) visits) obeyed.0.1 ∙ ap (λ b. cond b (Breaks StackOver) Goes) full in
-        at_stop (Breaks StackOver) breaks refl (λ b. ap (λ k. moved b k) obeyed.0.1) machine (Broke StackOver) obeyed.2 refl
-    at_obeyed machine (Broke StackUnder) obeyed =
-        let visits = after.run.visits in
-        let count : calls visits ≡ returns visits + length old.stack = inside.count in
-        let none : length old.stack ≡ 0 = ap length obeyed.1 in
-        let empty : eqb (calls visits) (returns visits) ≡ true = eq-eqb _ _ (omega arith) in
-        let breaks = ap (λ k. fate_by (act_of k) visits) obeyed.0 ∙ ap (λ b. cond b (Breaks StackUnder) Goes) empty in
-        at_stop (Breaks StackUnder) breaks refl (λ b. ap (λ k. moved b k) obeyed.0) machine (Broke StackUnder) obeyed.2 refl
-    at_obeyed machine (Broke Hole) obeyed = absurd obeyed
+pub stands_reset : (old machine : Machine) (history : List Told) (low : Option ℕ) → StandsAfter old history low → machine.low ≡ None → machine.beam ≡ old.beam → machine.is_open ≡ false → StandsAfter machine (Reset ∷ history) None
+stands_reset old machine history low after dropped beam shut =
+    record { run = stopped after.run; leaves = resets after.leaves; stands = record { is_open = shut; beam = beam ∙ after.stands.beam; running = λ opened. never opened }; low = dropped; waits = none_waits }
 
 -- a word that completes an instruction adds it to the run
 adds_by : (visits : List Visit) (held : Option ℕ) (word : ℕ) (code : Instr) → Completes held word code → Adds visits held word (record { place = next visits; code = code } ∷ visits) None
 adds_by visits None word code completes = one completes
 adds_by visits (Some held) word code completes = two completes
 
--- what `take` ensures of its answer
-abbrev pub Claim : {A : Type 0} → Option ℕ → Machine → Machine → Taken A → Type 0
-Claim word old machine taken = (history : List Told) → StandsAfter old history → Answers history word machine taken
+two_on : (place : ℕ) → on (on place 1) 1 ≡ on place 2
+two_on place = omega arith
+
+-- an instruction leads on from its last word as from its first
+last_word : (visits : List Visit) (held : Option ℕ) (word : ℕ) (code : Instr) (stack : List ℕ) → Completes held word code
+    → (past (act_of code) (wanted visits held) stack ≡ to_of (act_of code) (next visits) stack) × (stack_by (act_of code) (wanted visits held) stack ≡ stack_by (act_of code) (next visits) stack)
+last_word visits None word code stack (halt p q) = (refl, refl)
+last_word visits None word code stack (jsrl r p) = (refl, refl)
+last_word visits None word code stack (rtsl p q) = (refl, refl)
+last_word visits None word code stack (jmpl r p) = (refl, refl)
+last_word visits None word code stack (svec r p) = (refl, refl)
+last_word visits (Some held) word code stack (vctr r p q) = (two_on (next visits), refl)
+last_word visits (Some held) word code stack (labs r p q) = (two_on (next visits), refl)
+
+-- a fetch, of a machine that stands in an opened run
+module _ (history : List Told) (low : Option ℕ) (old : Machine) (after : StandsAfter old history low) (opened : old.is_open ≡ true) where
+  is_open : after.run.is_open ≡ true
+  is_open = sym after.stands.is_open ∙ opened
+
+  inside : IsIn old after.run
+  inside = after.stands.running is_open
+
+  -- of a low byte
+  pub at_low : (A : Type 0) (byte : ℕ) (machine : Machine) → machine ≡ record old { low = Some byte } → Answers {A = A} history (Waits byte) machine Low
+  at_low A byte machine same =
+      let run = after.run in
+      let holding : Machine = record old { low = Some byte } in
+      let answers : Answers {A = A} history (Waits byte) holding Low = (
+        record {
+          run = run;
+          leaves = after.leaves;
+          stands = record {
+            is_open = after.stands.is_open;
+            beam = after.stands.beam;
+            running = λ _. record { at = inside.at; held = inside.held; strokes = inside.strokes; count = inside.count; brackets = inside.brackets };
+          };
+          low = refl;
+          waits = λ _. is_open;
+        },
+        refl,
+      ) in
+      subst (λ m. Answers {A = A} history (Waits byte) m Low) (sym same) answers
+
+  -- of a hole
+  pub at_hole : (A : Type 0) (machine : Machine) → machine.is_open ≡ false → machine.low ≡ None → machine.beam ≡ old.beam → Answers {A = A} history (Whole None) machine (Broke Hole)
+  at_hole A machine shut dropped beam = (
+    record {
+      run = stopped after.run;
+      leaves = meets_hole after.leaves is_open;
+      stands = record { is_open = shut; beam = beam ∙ after.stands.beam; running = λ o. never o };
+      low = dropped;
+      waits = none_waits;
+    },
+    refl,
+  )
+
+  -- of a first word
+  pub at_first : (A : Type 0) (word : ℕ) → IsFirst word → old.held ≡ None → (machine : Machine)
+      → machine ≡ record { at = on old.at 1; held = Some word; low = None; stack = old.stack; beam = old.beam; strokes = old.strokes; is_open = true } → Answers {A = A} history (Whole (Some word)) machine Word
+  at_first A word is_first none machine same =
+      let goes = open_goes after.leaves is_open in
+      let adds : Adds after.run.visits after.run.held word after.run.visits (Some word) =
+      subst (λ held. Adds after.run.visits held word after.run.visits (Some word)) (sym none ∙ inside.held) (first is_first) in
+      let holding : Machine = record { at = on old.at 1; held = Some word; low = None; stack = old.stack; beam = old.beam; strokes = old.strokes; is_open = true } in
+      let answers : Answers {A = A} history (Whole (Some word)) holding Word = (
+        record {
+          run = grown after.run after.run.visits (Some word);
+          leaves = takes after.leaves is_open adds;
+          stands = record {
+            is_open = ap goes_on (sym goes);
+            beam = after.stands.beam;
+            running = λ _. record { at = ap (λ a. on a 1) (inside.at ∙ ap (wanted after.run.visits) (sym inside.held ∙ none)); held = refl; strokes = inside.strokes; count = inside.count; brackets = inside.brackets };
+          };
+          low = refl;
+          waits = none_waits;
+        },
+        tt,
+      ) in
+      subst (λ m. Answers {A = A} history (Whole (Some word)) m Word) (sym same) answers
+
+  -- of a word that completes an instruction
+  module _ (word : ℕ) (code : Instr) (completes : Completes after.run.held word code) where
+    adds : Adds after.run.visits after.run.held word (record { place = next after.run.visits; code = code } ∷ after.run.visits) None
+    adds = adds_by after.run.visits after.run.held word code completes
+
+    -- which the machine goes on from
+    at_go : (A : Type 0) → CanGo (act_of code) old.stack → (machine : Machine) → machine ≡ gone old code → Answers {A = A} history (Whole (Some word)) machine Word
+    at_go A can machine same =
+        let visits = after.run.visits in
+        let newest : Visit = record { place = next visits; code = code } in
+        let saved = stack_is after.leaves is_open inside in
+        let sound = open_sound after.leaves is_open in
+        let can_run : CanGo (act_of code) (stack visits) = subst (λ st. CanGo (act_of code) st) saved can in
+        let goes = goes_more newest visits sound can_run in
+        let last = last_word visits after.run.held word code old.stack completes in
+        let stack_after : stack_by (act_of code) old.at old.stack ≡ stack (newest ∷ visits) =
+        ap (λ at. stack_by (act_of code) at old.stack) inside.at ∙ last.1 ∙ ap (λ st. stack_by (act_of code) (next visits) st) saved in
+        let at_after : past (act_of code) old.at old.stack ≡ next (newest ∷ visits) =
+        ap (λ at. past (act_of code) at old.stack) inside.at ∙ last.0 ∙ ap (λ st. to_of (act_of code) (next visits) st) saved ∙ sym (next_is newest visits) in
+        let sound_after = sound_more newest visits sound can_run in
+        let counted : calls (newest ∷ visits) ≡ returns (newest ∷ visits) + length (stack (newest ∷ visits)) = sound_after.counted in
+        let answers : Answers {A = A} history (Whole (Some word)) (gone old code) Word = (
+          record {
+            run = grown after.run (newest ∷ visits) None;
+            leaves = takes after.leaves is_open adds;
+            stands = record {
+              is_open = ap goes_on (sym goes);
+              beam = ap (λ b. moved b code) after.stands.beam;
+              running = λ _. record {
+                at = at_after;
+                held = refl;
+                strokes = ap (λ drew. drew ++ drawn old.beam code) inside.strokes ∙ ap (λ b. strokes after.run.first visits ++ drawn b code) after.stands.beam;
+                count = counted ∙ ap (λ st. returns (newest ∷ visits) + length st) (sym stack_after);
+                brackets = λ k below. ap (λ st. get_or st k 0) stack_after ∙ sym (past_call_is (newest ∷ visits) k);
+              };
+            };
+            low = refl;
+            waits = none_waits;
+          },
+          subst (λ f. IsReply {A = A} Word (reply_by None f (strokes after.run.first (newest ∷ visits)))) (sym goes) tt,
+        ) in
+        subst (λ m. Answers {A = A} history (Whole (Some word)) m Word) (sym same) answers
+
+    -- which ends the run
+    at_stop : (A : Type 0) (ends : Fate) → fate (record { place = next after.run.visits; code = code } ∷ after.run.visits) ≡ ends → goes_on ends ≡ false → ((b : Beam) → moved b code ≡ b)
+        → (machine : Machine) (taken : Taken A) → IsShut old machine → IsReply taken (reply_by None ends (strokes after.run.first (record { place = next after.run.visits; code = code } ∷ after.run.visits)))
+        → Answers history (Whole (Some word)) machine taken
+    at_stop A ends is_end over still machine taken shut replies =
+        let newest : Visit = record { place = next after.run.visits; code = code } in
+        let closed : goes_on (fate (newest ∷ after.run.visits)) ≡ false = ap goes_on is_end ∙ over in (
+          record {
+            run = grown after.run (newest ∷ after.run.visits) None;
+            leaves = takes after.leaves is_open adds;
+            stands = record {
+              is_open = shut.0 ∙ sym closed;
+              beam = shut.2 ∙ after.stands.beam ∙ sym (still (beam_after after.run.first after.run.visits));
+              running = λ opened. never (sym closed ∙ opened);
+            };
+            low = shut.1;
+            waits = none_waits;
+          },
+          subst (λ f. IsReply taken (reply_by None f (strokes after.run.first (newest ∷ after.run.visits)))) (sym is_end) replies,
+        )
+
+    -- whichever it is
+    pub at_obeyed : (A : Type 0) (machine : Machine) (taken : Taken A) → Obeyed old code machine taken → Answers history (Whole (Some word)) machine taken
+    at_obeyed A machine Low obeyed = absurd obeyed
+    at_obeyed A machine Word obeyed = at_go A obeyed.0 machine obeyed.1
+    at_obeyed A machine (Done list) obeyed =
+        let visits = after.run.visits in
+        let newest : Visit = record { place = next visits; code = code } in
+        let finished = halts_finish newest visits (ap act_of obeyed.0) in
+        let none : drawn (beam_after after.run.first visits) code ≡ [] = ap (λ k. drawn (beam_after after.run.first visits) k) obeyed.0 in
+        let drew : strokes after.run.first (newest ∷ visits) ≡ strokes after.run.first visits =
+        ap (λ ys. strokes after.run.first visits ++ ys) none ∙ append-nil (strokes after.run.first visits) in
+        at_stop A Finished finished refl (λ b. ap (λ k. moved b k) obeyed.0) machine (Done list) obeyed.1 (obeyed.2 ∙ inside.strokes ∙ sym drew)
+    at_obeyed A machine (Broke StackOver) obeyed =
+        let visits = after.run.visits in
+        let count : calls visits ≡ returns visits + length old.stack = inside.count in
+        let four : length old.stack ≡ 4 = obeyed.1 in
+        let full : eqb (calls visits) (returns visits + 4) ≡ true = eq-eqb _ _ (omega arith) in
+        let breaks = ap (λ k. fate_by (act_of k) visits) obeyed.0.1 ∙ ap (λ b. cond b (Breaks StackOver) Goes) full in
+        at_stop A (Breaks StackOver) breaks refl (λ b. ap (λ k. moved b k) obeyed.0.1) machine (Broke StackOver) obeyed.2 refl
+    at_obeyed A machine (Broke StackUnder) obeyed =
+        let visits = after.run.visits in
+        let count : calls visits ≡ returns visits + length old.stack = inside.count in
+        let none : length old.stack ≡ 0 = ap length obeyed.1 in
+        let empty : eqb (calls visits) (returns visits) ≡ true = eq-eqb _ _ (omega arith) in
+        let breaks = ap (λ k. fate_by (act_of k) visits) obeyed.0 ∙ ap (λ b. cond b (Breaks StackUnder) Goes) empty in
+        at_stop A (Breaks StackUnder) breaks refl (λ b. ap (λ k. moved b k) obeyed.0) machine (Broke StackUnder) obeyed.2 refl
+    at_obeyed A machine (Broke Hole) obeyed = absurd obeyed
+
+-- what a fetch that met this leaves and is answered, after whatever history
+abbrev pub Claim : {A : Type 0} → Met → Machine → Machine → Taken A → Type 0
+Claim found old machine taken = (history : List Told) (low : Option ℕ) → StandsAfter old history low → Answers history found machine taken
+
+-- what a fetch of this byte leaves and is answered, after whatever history and low byte
+abbrev pub Claims : {A : Type 0} → Option ℕ → Machine → Machine → Taken A → Type 0
+Claims byte old machine taken = (history : List Told) (low : Option ℕ) → StandsAfter old history low → Answers history (met low byte) machine taken
+
+-- it is what it meets with the low byte that the machine has
+pub claim_met : {A E : Type 0} (result : Result (Taken A) E) (byte : Option ℕ) (found : Met) (old machine : Machine) → met old.low byte ≡ found → IfOk result (λ taken. Claim found old machine taken) → IfOk result (λ taken. Claims byte old machine taken)
+claim_met (Err e) byte found old machine same claim = claim
+claim_met (Ok taken) byte found old machine same claim = λ history low after.
+    subst (λ l. Answers history (met l byte) machine taken) after.low (subst (λ f. Answers history f machine taken) (sym same) (claim history low after))
+
+-- a hole is met whether a low byte waits or not
+pub met_hole : (low : Option ℕ) → met low None ≡ Whole None
+met_hole None = refl
+met_hole (Some low) = refl
 
 -- the claim of a hole
-pub claim_hole : {A : Type 0} (word : Option ℕ) (old machine : Machine) → word ≡ None → old.is_open ≡ true → machine.is_open ≡ false → machine.beam ≡ old.beam → Claim {A = A} word old machine (Broke Hole)
-claim_hole {A} word old machine none opened shut beam history after =
-    subst (λ w. Answers {A = A} history w machine (Broke Hole)) (sym none) (at_hole history old after opened machine shut beam)
+pub claim_hole : {A : Type 0} (old machine : Machine) (taken : Taken A) → old.is_open ≡ true → taken ≡ Broke Hole → machine ≡ record old { low = None; is_open = false } → Claim (Whole None) old machine taken
+claim_hole {A} old machine taken opened broke shut history low after =
+    subst (λ t. Answers history (Whole None) machine t) (sym broke)
+    (at_hole history low old after opened A machine (ap (λ m. m.is_open) shut) (ap (λ m. m.low) shut) (ap (λ m. m.beam) shut))
+
+-- the claim of a low byte
+pub claim_low : (A : Type 0) (byte : ℕ) (old machine : Machine) → old.is_open ≡ true → machine ≡ record old { low = Some byte } → Claim {A = A} (Waits byte) old machine Low
+claim_low A byte old machine opened same history low after = at_low history low old after opened A byte machine same
 
 -- the claim of a first word
-pub claim_first : {A : Type 0} (word : Option ℕ) (w : ℕ) (old machine : Machine) → word ≡ Some w → old.is_open ≡ true → old.held ≡ None → IsFirst w
-    → machine ≡ record { place = old.place; held = Some w; stack = old.stack; beam = old.beam; strokes = old.strokes; is_open = old.is_open } → Claim {A = A} word old machine Word
-claim_first {A} word w old machine some opened none is_first same history after =
-    let holding = same ∙ ap (λ o. record { place = old.place; held = Some w; stack = old.stack; beam = old.beam; strokes = old.strokes; is_open = o }) opened in
-    subst (λ k. Answers {A = A} history k machine Word) (sym some) (at_first history old after opened w is_first none machine holding)
+pub claim_first : (A : Type 0) (w at : ℕ) (old machine : Machine) → old.is_open ≡ true → old.held ≡ None → IsFirst w → at ≡ on old.at 1
+    → machine ≡ record old { at = at; held = Some w; low = None } → Claim {A = A} (Whole (Some w)) old machine Word
+claim_first A w at old machine opened none is_first on_one same history low after =
+    let moved = same ∙ ap (λ a. record old { at = a; held = Some w; low = None }) on_one in
+    let holding = moved ∙ ap (λ o. record { at = on old.at 1; held = Some w; low = None; stack = old.stack; beam = old.beam; strokes = old.strokes; is_open = o }) opened in
+    at_first history low old after opened A w is_first none machine holding
 
 -- the claim of a word that completes an instruction
-claim_obeyed : {A : Type 0} (word : Option ℕ) (w : ℕ) (old machine : Machine) (code : Instr) (taken : Taken A) → word ≡ Some w → old.is_open ≡ true → Completes old.held w code
-    → Obeyed old code machine taken → Claim word old machine taken
-claim_obeyed word w old machine code taken some opened completes obeyed history after =
+claim_obeyed : (A : Type 0) (w : ℕ) (old machine : Machine) (code : Instr) (taken : Taken A) → old.is_open ≡ true → Completes old.held w code
+    → Obeyed old code machine taken → Claim (Whole (Some w)) old machine taken
+claim_obeyed A w old machine code taken opened completes obeyed history low after =
     let held = (after.stands.running (sym after.stands.is_open ∙ opened)).held in
     let completes_run : Completes after.run.held w code = subst (λ h. Completes h w code) held completes in
-    subst (λ k. Answers history k machine taken) (sym some) (at_obeyed history old after opened w code (adds_by after.run.visits after.run.held w code completes_run) machine taken obeyed)
+    at_obeyed history low old after opened w code completes_run A machine taken obeyed
 
 -- the same of a result
-pub claim_result : {A E : Type 0} (result : Result (Taken A) E) (word : Option ℕ) (w : ℕ) (old machine : Machine) (code : Instr) → word ≡ Some w → old.is_open ≡ true → Completes old.held w code
-    → IfOk result (λ taken. Obeyed old code machine taken) → IfOk result (λ taken. Claim word old machine taken)
-claim_result (Ok taken) word w old machine code some opened completes obeyed = claim_obeyed word w old machine code taken some opened completes obeyed
-claim_result (Err e) word w old machine code some opened completes obeyed = obeyed
+pub claim_result : {A E : Type 0} (result : Result (Taken A) E) (w : ℕ) (old machine : Machine) (code : Instr) → old.is_open ≡ true → Completes old.held w code
+    → IfOk result (λ taken. Obeyed old code machine taken) → IfOk result (λ taken. Claim (Whole (Some w)) old machine taken)
+claim_result {A} (Ok taken) w old machine code opened completes obeyed = claim_obeyed A w old machine code taken opened completes obeyed
+claim_result (Err e) w old machine code opened completes obeyed = obeyed

@@ -1,12 +1,11 @@
 -- What a decoded front says of the one or two words that were decoded.
-use Rattle.std.proofs.Common.{◌≡◌, ℕ, List, [], ◌∷◌, ◌++◌, Option, Some, None, refl, sym, subst}
-use Rattle.std.specs.Prelude.{Result, Ok, IfOk, IfSome}
+use Rattle.std.proofs.Common.{◌≡◌, ℕ, List, [], ◌∷◌, ◌++◌, refl, subst}
+use Rattle.std.specs.Prelude.{Result, Ok, IfOk}
 use Rattle.std.proofs.lemmas.Result.{IfOk-at_ok}
 use Rattle.dvg_code.specs.declared.decoding.CodeFault.{CodeFault}
 use Rattle.dvg_code.specs.declared.instr.Instr.{Instr}
 use Rattle.dvg_code.specs.Cutting.{Fronts}
 use Rattle.dvg_code.specs.Spelling.{IsFirst, Spells, vctr, labs, halt, jsrl, rtsl, jmpl, svec}
-use Rattle.dvg_gen.specs.Completing.{Completes}
 use Rattle.dvg_code.proofs.Unique.{rest_begins_none}
 
 -- no instruction is spelled by no word
@@ -50,16 +49,6 @@ pub two_words : (first word : ℕ) (code : Instr) (count : ℕ) → IsFirst firs
 two_words first word code count wants fronts = two_front first word code fronts.front fronts.after wants fronts.spells fronts.parts
 
 -- one word that was decoded completes what it spells
-pub completes_one : (held : Option ℕ) (word : ℕ) (decoded : Result (Instr × ℕ) CodeFault) (read : Instr × ℕ) → held ≡ None → decoded ≡ Ok read
-    → IfOk decoded (λ r. Fronts (word ∷ []) r.0 r.1) → Completes held word read.0
-completes_one held word decoded read none ok spelled =
-    let fronts : Fronts (word ∷ []) read.0 read.1 = IfOk-at_ok (λ r. Fronts (word ∷ []) r.0 r.1) ok spelled in
-    subst (λ h. Completes h word read.0) (sym none) (one_word word read.0 read.1 fronts)
-
--- two words that were decoded complete what they spell
-pub completes_two : (held : Option ℕ) (first word : ℕ) (decoded : Result (Instr × ℕ) CodeFault) (read : Instr × ℕ) → held ≡ Some first → IfSome held IsFirst → decoded ≡ Ok read
-    → IfOk decoded (λ r. Fronts (first ∷ word ∷ []) r.0 r.1) → Completes held word read.0
-completes_two held first word decoded read some wants ok spelled =
-    let fronts : Fronts (first ∷ word ∷ []) read.0 read.1 = IfOk-at_ok (λ r. Fronts (first ∷ word ∷ []) r.0 r.1) ok spelled in
-    let is_first : IsFirst first = subst (λ h. IfSome h IsFirst) some wants in
-    subst (λ h. Completes h word read.0) (sym some) (two_words first word read.0 read.1 is_first fronts)
+pub completes_one : (word : ℕ) (decoded : Result (Instr × ℕ) CodeFault) (read : Instr × ℕ) → decoded ≡ Ok read
+    → IfOk decoded (λ r. Fronts (word ∷ []) r.0 r.1) → Spells read.0 (word ∷ [])
+completes_one word decoded read ok spelled = one_word word read.0 read.1 (IfOk-at_ok (λ r. Fronts (word ∷ []) r.0 r.1) ok spelled)

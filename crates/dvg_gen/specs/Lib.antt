@@ -4,6 +4,7 @@ pub mod Run
 pub mod Returning
 pub mod Told
 pub mod Whole
+pub mod Bytes
 pub mod Completing
 pub mod Machine
 pub mod Obeyed

@@ -1,31 +1,33 @@
 -- What contracts see of a generator, and after which histories it stands.
-use Rattle.std.specs.Prelude.{◌≡◌, ℕ, ◌+◌, ◌<◌, List, ◌∷◌, length, slice_index, Option, Bool, true, All, IfSome}
+use Rattle.std.specs.Prelude.{◌≡◌, ℕ, ◌+◌, ◌<◌, List, ◌∷◌, length, slice_index, Option, Some, None, Bool, true, All, IfSome, IsSome}
 use Rattle.dvg_code.specs.Spelling.{IsFirst}
 use Rattle.dvg_gen.specs.declared.beam.Beam.{Beam}
 use Rattle.dvg_gen.specs.declared.stroke.Stroke.{Stroke}
 use Rattle.dvg_gen.specs.declared.taken.Taken.{Taken}
-use Rattle.dvg_gen.specs.declared.taken.Taken.TheVariants.{Word, Done, Broke}
-use Rattle.dvg_gen.specs.Run.{past_call, next, calls, returns, beam_after, strokes}
+use Rattle.dvg_gen.specs.declared.taken.Taken.TheVariants.{Low, Word, Done, Broke}
+use Rattle.dvg_gen.specs.Run.{past_call, wanted, calls, returns, beam_after, strokes}
 use Rattle.dvg_gen.specs.Told.{Told, Fed, Newest, Leaves, Reply, More, Drew, Fails, reply}
+use Rattle.dvg_gen.specs.Bytes.{Met, Waits, Whole}
 
--- the place of the instruction that is fetched, its first word if that is here, the return addresses, newest first, the beam, the run's strokes so far, and whether a run is open
+-- the address of the next word, the first word of its instruction and its low byte where they were fetched, the return addresses, newest first, the beam, the run's strokes so far, and whether a run is open
 pub record Machine : Type 0 where
-  pub place : ℕ
+  pub at : ℕ
   pub held : Option ℕ
+  pub low : Option ℕ
   pub stack : List ℕ
   pub beam : Beam
   pub strokes : List Stroke
   pub is_open : Bool
 
 -- what a generator keeps: its addresses have twelve bits, and a word that it holds wants a second one
-pub record IsKept (place : ℕ) (held : Option ℕ) (stack : List ℕ) : Type 0 where
-  pub place_is_address : place < 4096
+pub record IsKept (at : ℕ) (held : Option ℕ) (stack : List ℕ) : Type 0 where
+  pub at_is_address : at < 4096
   pub held_is_first : IfSome held IsFirst
   pub stack_is_addresses : All (λ address. address < 4096) stack
 
--- a machine is in an open run: it is at the run's next instruction, and its stack has the address past each call that is still open
+-- a machine is in an open run: it is at the run's next word, and its stack has the address past each call that is still open
 pub record IsIn (machine : Machine) (run : Newest) : Type 0 where
-  pub place : machine.place ≡ next run.visits
+  pub at : machine.at ≡ wanted run.visits run.held
   pub held : machine.held ≡ run.held
   pub strokes : machine.strokes ≡ strokes run.first run.visits
   pub count : calls run.visits ≡ returns run.visits + length machine.stack
@@ -37,14 +39,17 @@ pub record StandsAt (machine : Machine) (run : Newest) : Type 0 where
   pub beam : machine.beam ≡ beam_after run.first run.visits
   pub running : run.is_open ≡ true → IsIn machine run
 
--- a machine stands after a history: it stands at the run that the history leaves
-pub record StandsAfter (machine : Machine) (history : List Told) : Type 0 where
+-- a machine stands after a history of words and a low byte that waits behind them: it stands at the run that the words leave, and has that low byte, for which the run is open
+pub record StandsAfter (machine : Machine) (history : List Told) (waiting : Option ℕ) : Type 0 where
   pub run : Newest
   pub leaves : Leaves history run
   pub stands : StandsAt machine run
+  pub low : machine.low ≡ waiting
+  pub waits : IsSome waiting → run.is_open ≡ true
 
--- the answer of `take` is that of the definition
+-- the answer to a word or a hole is that of the definition
 abbrev pub IsReply : {A : Type 0} → Taken A → Reply → Type 0
+IsReply Low answer = ⊥
 IsReply Word More = Unit {0}
 IsReply Word (Drew strokes) = ⊥
 IsReply Word (Fails fault) = ⊥
@@ -55,9 +60,14 @@ IsReply (Broke fault) More = ⊥
 IsReply (Broke fault) (Drew strokes) = ⊥
 IsReply (Broke fault) (Fails other) = fault ≡ other
 
--- a machine stands after a history and one more fetch, with the answer that the definition gives to it
-pub record Answers {A : Type 0} (history : List Told) (word : Option ℕ) (machine : Machine) (taken : Taken A) : Type 0 where
-  pub run : Newest
-  pub leaves : Leaves (Fed word ∷ history) run
-  pub stands : StandsAt machine run
-  pub replies : IsReply taken (reply word run)
+-- a machine stands after a history and one fetch more, which met this, with the answer that the definition gives to it: a low byte waits, and a word or a hole is told
+abbrev pub Answers : {A : Type 0} → List Told → Met → Machine → Taken A → Type 0
+Answers history (Waits byte) machine taken = StandsAfter machine history (Some byte) × (taken ≡ Low)
+Answers history (Whole word) machine taken = (after : StandsAfter machine (Fed word ∷ history) None) × IsReply taken (reply word after.run)
+
+-- the run goes on with this answer
+abbrev pub IsOnward : {A : Type 0} → Taken A → Type 0
+IsOnward Low = Unit {0}
+IsOnward Word = Unit {0}
+IsOnward (Done list) = ⊥
+IsOnward (Broke fault) = ⊥

@@ -5,7 +5,7 @@ use Rattle.dvg_code.specs.declared.instr.Instr.TheVariants.{Halt, Jsrl, Rtsl}
 use Rattle.dvg_code.specs.Spelling.{word_count}
 use Rattle.dvg_gen.specs.declared.taken.GenFault.TheVariants.{StackOver, StackUnder, Hole}
 use Rattle.dvg_gen.specs.declared.taken.Taken.{Taken}
-use Rattle.dvg_gen.specs.declared.taken.Taken.TheVariants.{Word, Done, Broke}
+use Rattle.dvg_gen.specs.declared.taken.Taken.TheVariants.{Low, Word, Done, Broke}
 use Rattle.dvg_gen.specs.Drawing.{moved, drawn}
 use Rattle.dvg_gen.specs.Machine.{Machine}
 use Rattle.dvg_code.specs.Acts.{Act, Moves, Jumps, Calls, Returns, Halts, act_of}
@@ -28,6 +28,14 @@ to_of (Calls to) place stack = to
 to_of Returns place stack = slice_index stack 0
 to_of Halts place stack = on place 1
 
+-- where an instruction leads, by the address of its last word
+abbrev pub past : Act ℕ → ℕ → List ℕ → ℕ
+past (Moves code) at stack = on at 1
+past (Jumps to) at stack = to
+past (Calls to) at stack = to
+past Returns at stack = slice_index stack 0
+past Halts at stack = on at 1
+
 -- an instruction after which the machine goes on
 abbrev pub CanGo : Act ℕ → List ℕ → Type 0
 CanGo (Moves code) stack = Unit {0}
@@ -39,20 +47,22 @@ CanGo Halts stack = ⊥
 -- the machine after an instruction that it goes on from
 abbrev pub gone : Machine → Instr → Machine
 gone machine code = record {
-  place = to_of (act_of code) machine.place machine.stack;
+  at = past (act_of code) machine.at machine.stack;
   held = None;
-  stack = stack_by (act_of code) machine.place machine.stack;
+  low = None;
+  stack = stack_by (act_of code) machine.at machine.stack;
   beam = moved machine.beam code;
   strokes = machine.strokes ++ drawn machine.beam code;
   is_open = true;
 }
 
--- the run is over, and the beam stays
+-- the run is over, no low byte waits, and the beam stays
 abbrev pub IsShut : Machine → Machine → Type 0
-IsShut old new = (new.is_open ≡ false) × (new.beam ≡ old.beam)
+IsShut old new = (new.is_open ≡ false) × (new.low ≡ None) × (new.beam ≡ old.beam)
 
 -- what an instruction does, by the answer
 abbrev pub Obeyed : {A : Type 0} → Machine → Instr → Machine → Taken A → Type 0
+Obeyed old code new Low = ⊥
 Obeyed old code new Word = CanGo (act_of code) old.stack × (new ≡ gone old code)
 Obeyed old code new (Done list) = (code ≡ Halt) × IsShut old new × (list.items ≡ old.strokes)
 Obeyed old code new (Broke StackOver) = ((to : ℕ) × (code ≡ Jsrl to)) × (length old.stack ≡ 4) × IsShut old new

@@ -114,8 +114,6 @@ fn shifted(from: u32, by: i16, unit: u32) -> u32
     ensures moved { result ≡ spec.shifted from by unit }
     ensures inside { result < 2097152 }
 {
-    let circle = u64::from(CIRCLE);
-    let far = u64::from(by.unsigned_abs()) * u64::from(unit);
-    let on = if by < 0 { circle - far % circle } else { far };
-    ((u64::from(from) + on) % circle) as u32
+    let moved = i64::from(from) + i64::from(by) * i64::from(unit);
+    moved.rem_euclid(i64::from(CIRCLE)) as u32
 }

@@ -1,16 +1,17 @@
 //! The generator.
-ghost use Rattle.std.specs.Prelude.{◌≡◌, ◌↔◌, ◌+◌, ◌%◌, ◌<◌, ◌≤◌, true, false, List, [], ◌∷◌, ◌++◌, IsTrue, IsNone, IsOk, IfSome, IfOk, OnErr, None};
+ghost use Rattle.std.specs.Prelude.{◌≡◌, ◌↔◌, ◌+◌, ◌%◌, ◌<◌, ◌≤◌, true, false, ℕ, List, Option, [], ◌∷◌, ◌++◌, IsTrue, IsNone, IsSome, IsOk, IfSome, IfOk, OnErr, Some, None};
 ghost use Rattle.dvg_code.specs.Acts.{Moves, act_of};
 ghost use Rattle.dvg_code.specs.Ranges.{InRange};
-ghost use Rattle.dvg_code.specs.Spelling.{IsFirst, word_count};
+ghost use Rattle.dvg_code.specs.Spelling.{IsFirst};
 ghost use Rattle.dvg_code.specs.declared.instr.Instr.{Instr};
-ghost use Rattle.dvg_gen.specs.Completing.{DrawsNothing, IsCompletion, IsSeen};
+ghost use Rattle.dvg_gen.specs.Bytes.{Whole, met};
+ghost use Rattle.dvg_gen.specs.Completing.{Completes, DrawsNothing, IsAlone, IsSeen};
 ghost use Rattle.dvg_gen.specs.Drawing.{drawn};
-ghost use Rattle.dvg_gen.specs.Machine.{Answers, StandsAfter};
+ghost use Rattle.dvg_gen.specs.Machine.{Answers, IsOnward, StandsAfter};
 ghost use Rattle.dvg_gen.specs.Obeyed.{Obeyed};
 ghost use Rattle.dvg_gen.specs.Run as spec;
 ghost use Rattle.dvg_gen.specs.Told.{Told, Start, Reset, wants};
-ghost use Rattle.dvg_gen.specs.declared.taken.Taken.TheVariants.{Broke, Word};
+ghost use Rattle.dvg_gen.specs.declared.taken.Taken.TheVariants.{Broke, Low, Word};
 
 use crate::beam::Beam;
 use crate::stroke::Stroke;
@@ -21,7 +22,8 @@ use std::alloc::Allocator;
 use std::marker::Model;
 use std::mem;
 
-/// The vector generator, which is handed one word a call.
+/// The vector generator, which is handed one byte a call: the low byte of a word, and then its high byte
+/// (this project's own choice).
 ///
 /// A new one is halted, with the beam at 0, 0 and the global scale 0. Beam and scale are kept from run to
 /// run (this project's own choice).
@@ -29,10 +31,14 @@ use std::mem;
 pub struct Generator<A: Allocator> {
     alloc: A,
     is_open: bool,
-    // Not at a multiple of four bytes, where the processor would be made to wait for it: each fetch reads it
-    // as the one before has written it.
-    place: u16,
+    // Neither this nor the address lies at a multiple of four bytes, where the processor would be made to wait
+    // for it: each fetch reads them as the one before has written them. So this is no part of an `Option`.
+    has_low: bool,
+    // The address of the next word.
+    at: u16,
     held: Option<u16>,
+    // The low byte of the next word, where `has_low`.
+    low: u8,
     stack: ArrayVec<u16, 4>,
     beam: Beam,
     strokes: Vec<Stroke, A>,
@@ -40,33 +46,36 @@ pub struct Generator<A: Allocator> {
 
 /// Contracts see a `Machine`.
 impl<A: Allocator> Model for Generator<A> {
-    ghost use Rattle.std.specs.Prelude.{reverse};
+    ghost use Rattle.std.specs.Prelude.{Some, None, if◌then◌else◌, reverse};
     ghost use Rattle.dvg_gen.specs.Machine.{IsKept, Machine};
 
     ghost Value = { Machine };
 
     ghost view = { λ generator. record {
-      place = generator.place;
+      at = generator.at;
       held = generator.held;
+      low = if generator.has_low then Some generator.low else None;
       stack = reverse generator.stack.items;
       beam = generator.beam;
       strokes = generator.strokes.items;
       is_open = generator.is_open;
     } };
 
-    ghost invariant = { λ generator. IsKept generator.place generator.held generator.stack.items };
+    ghost invariant = { λ generator. IsKept generator.at generator.held generator.stack.items };
 }
 
 impl<A: Allocator + Copy> Generator<A> {
     /// A generator that was told nothing. Its strokes will be in memory of this allocator.
     pub fn new(alloc: A) -> Generator<A>
-        ensures stands { StandsAfter result [] }
+        ensures stands { StandsAfter result [] None }
         ensures halted { result.is_open ≡ false }
     {
         Generator {
             alloc,
-            place: 0,
+            at: 0,
             held: None,
+            has_low: false,
+            low: 0,
             stack: ArrayVec::new(),
             beam: Beam::place(0, 0, 0),
             strokes: Vec::new(alloc),
@@ -75,33 +84,34 @@ impl<A: Allocator + Copy> Generator<A> {
     }
 
     /// Begins a run at word zero, with no return address and no stroke. A run that was open is abandoned
-    /// with its strokes (this project's own choice).
+    /// with its strokes and its low byte (this project's own choice).
     pub fn start(&mut self)
-        ensures stands { (history : List Told) → StandsAfter self.old history
-            → StandsAfter self.new (Start ∷ history) }
-        ensures machine { self.new ≡ record self.old { place = 0; held = None; stack = []; strokes = []; is_open = true } }
+        ensures stands { (history : List Told) (low : Option ℕ) → StandsAfter self.old history low
+            → StandsAfter self.new (Start ∷ history) None }
+        ensures machine { self.new ≡ record self.old { at = 0; held = None; low = None; stack = []; strokes = []; is_open = true } }
     {
         self.reset();
-        self.place = 0;
+        self.at = 0;
         self.held = None;
         self.stack.clear();
         self.is_open = true;
     }
 
-    /// Halts. A run that was open is abandoned with its strokes; the beam stays.
+    /// Halts. A run that was open is abandoned with its strokes and its low byte; the beam stays.
     pub fn reset(&mut self)
-        ensures stands { (history : List Told) → StandsAfter self.old history
-            → StandsAfter self.new (Reset ∷ history) }
-        ensures machine { self.new ≡ record self.old { strokes = []; is_open = false } }
+        ensures stands { (history : List Told) (low : Option ℕ) → StandsAfter self.old history low
+            → StandsAfter self.new (Reset ∷ history) None }
+        ensures machine { self.new ≡ record self.old { low = None; strokes = []; is_open = false } }
     {
         self.strokes.clear();
+        self.has_low = false; // The high byte never comes.
         self.is_open = false;
     }
 
     /// Whether no run is open.
     pub fn halted(&self) -> bool
         ensures value { IsTrue result ↔ (self.now.is_open ≡ false) }
-        ensures run { (history : List Told) (after : StandsAfter self.now history)
+        ensures run { (history : List Told) (low : Option ℕ) (after : StandsAfter self.now history low)
             → IsTrue result ↔ (after.run.is_open ≡ false) }
     {
         !self.is_open
@@ -110,45 +120,83 @@ impl<A: Allocator + Copy> Generator<A> {
     /// The address of the next word, or None where the generator is halted.
     pub fn wants(&self) -> Option<u16>
         ensures halted { IsNone result ↔ (self.now.is_open ≡ false) }
-        ensures address { (history : List Told) (after : StandsAfter self.now history)
+        ensures address { (history : List Told) (low : Option ℕ) (after : StandsAfter self.now history low)
             → result ≡ wants after.run }
         ensures in_range { IfSome result (λ address. address < 4096) }
     {
-        if self.halted() {
-            return None;
-        }
-        match self.held {
-            None => Some(self.place),
-            Some(_) => Some(on(self.place, 1)),
-        }
+        (!self.halted()).then_some(self.at)
     }
 
-    /// Takes the word at the address that `wants` gives, or None where no memory answers there. After
-    /// `Done` or `Broke` the generator is halted.
+    /// Whether the next byte is the high one of its word: the last fetch of the open run was of the low byte.
+    pub fn wants_high(&self) -> bool
+        ensures run { (history : List Told) (low : Option ℕ) → StandsAfter self.now history low
+            → IsTrue result ↔ IsSome low }
+        ensures open { (history : List Told) (low : Option ℕ) (after : StandsAfter self.now history low)
+            → IsTrue result → after.run.is_open ≡ true }
+    {
+        self.low_byte().is_some()
+    }
+
+    /// The low byte of the next word, where it was fetched and the high byte comes next.
+    #[inline(always)]
+    pub fn low_byte(&self) -> Option<u8>
+        ensures { result ≡ self.now.low }
+    {
+        self.has_low.then_some(self.low)
+    }
+
+    /// Takes the low byte of the word at the address that `wants` gives, or its high byte where
+    /// `wants_high`; None where no memory answers there. After `Done` or `Broke` the generator is halted.
     ///
-    /// An error is want of memory, and then nothing has changed. It comes only where the word completes a
-    /// vector with an intensity of at least 1.
-    pub fn take(&mut self, word: Option<u16>) -> Result<Taken<A>, OutOfMemory>
+    /// An error is want of memory, and then nothing has changed. It comes only where a high byte completes
+    /// a vector with an intensity of at least 1.
+    #[inline(always)]
+    pub fn take_byte(&mut self, byte: Option<u8>) -> Result<Taken<A>, OutOfMemory>
         requires { self.old.is_open ≡ true }
-        ensures answers { IfOk result (λ taken. (history : List Told) → StandsAfter self.old history
-            → Answers history word self.new taken) }
-        ensures goes_on { IfOk result (λ taken. (self.new.is_open ≡ true) ↔ (taken ≡ Word)) }
-        ensures room { DrawsNothing self.old.held word → IsOk result }
+        ensures answers { IfOk result (λ taken. (history : List Told) (low : Option ℕ) → StandsAfter self.old history low
+            → Answers history (met low byte) self.new taken) }
+        ensures goes_on { IfOk result (λ taken. (self.new.is_open ≡ true) ↔ IsOnward taken) }
+        ensures room { DrawsNothing self.old.held (met self.old.low byte) → IsOk result }
         ensures refused { OnErr result (self.new ≡ self.old) }
     {
-        let Some(word) = word else {
+        let Some(byte) = byte else {
             return Ok(self.break_off(GenFault::Hole));
         };
-        match completed(self.held, word) {
+        let Some(low) = self.low_byte() else {
+            self.low = byte;
+            self.has_low = true;
+            return Ok(Taken::Low);
+        };
+        self.take(u16::from_le_bytes([low, byte]))
+    }
+
+    // Takes a whole word.
+    #[inline(always)]
+    fn take(&mut self, word: u16) -> Result<Taken<A>, OutOfMemory>
+        requires { self.old.is_open ≡ true }
+        ensures answers { IfOk result (λ taken. (history : List Told) (low : Option ℕ) → StandsAfter self.old history low
+            → Answers history (Whole (Some word)) self.new taken) }
+        ensures goes_on { IfOk result (λ taken. (self.new.is_open ≡ true) ↔ IsOnward taken) }
+        ensures room { DrawsNothing self.old.held (Whole (Some word)) → IsOk result }
+        ensures refused { OnErr result (self.new ≡ self.old) }
+    {
+        if let Some(first) = self.held {
+            // Always a vector or a LABS: to tell it from all others once more would take time.
+            return self.draw(of_two(first, word));
+        }
+        match of_one(word) {
             Some(code) => self.obey(code),
             None => {
+                self.at = after(self.at);
                 self.held = Some(word);
+                self.has_low = false;
                 Ok(Taken::Word)
             }
         }
     }
 
     // Does what a whole instruction says.
+    #[inline(always)]
     fn obey(&mut self, code: Code) -> Result<Taken<A>, OutOfMemory>
         requires { self.old.is_open ≡ true }
         ensures obeyed { IfOk result (λ taken. Obeyed self.old code self.new taken) }
@@ -156,8 +204,7 @@ impl<A: Allocator + Copy> Generator<A> {
         ensures refused { OnErr result (self.new ≡ self.old) }
     {
         match code.instr() {
-            Instr::Vctr { .. } | Instr::Labs { .. } => self.draw(code, 2),
-            Instr::Svec { .. } => self.draw(code, 1),
+            Instr::Vctr { .. } | Instr::Labs { .. } | Instr::Svec { .. } => self.draw(code),
             Instr::Halt => Ok(self.finish()),
             Instr::Jsrl(address) => Ok(self.call(address)),
             Instr::Rtsl => Ok(self.come_back()),
@@ -165,22 +212,23 @@ impl<A: Allocator + Copy> Generator<A> {
         }
     }
 
-    // Draws a vector, or places the beam by a LABS, of so many words.
+    // Draws a vector, or places the beam by a LABS.
     #[inline(always)]
-    fn draw(&mut self, code: Code, count: u16) -> Result<Taken<A>, OutOfMemory>
+    fn draw(&mut self, code: Code) -> Result<Taken<A>, OutOfMemory>
         requires open { self.old.is_open ≡ true }
         requires moves { act_of code ≡ Moves code }
-        requires words { count ≡ word_count code }
         ensures obeyed { IfOk result (λ taken. Obeyed self.old code self.new taken) }
         ensures room { (IsSeen code → ⊥) → IsOk result }
         ensures refused { OnErr result (self.new ≡ self.old) }
     {
-        let mut beam = self.beam;
+        // Field by field: a copy of the whole would move its unused bytes too.
+        let Beam { x, y, scale } = self.beam;
+        let mut beam = Beam { x, y, scale };
         if let Some(stroke) = beam.step(&code) {
             self.strokes.push(stroke)?;
         }
         self.beam = beam;
-        Ok(self.jump(on(self.place, count)))
+        Ok(self.jump(after(self.at)))
     }
 
     // Saves the address of the next word, and goes to another.
@@ -192,7 +240,7 @@ impl<A: Allocator + Copy> Generator<A> {
         if self.stack.is_full() {
             return self.break_off(GenFault::StackOver);
         }
-        self.stack.push(on(self.place, 1));
+        self.stack.push(after(self.at));
         self.jump(address)
     }
 
@@ -210,11 +258,12 @@ impl<A: Allocator + Copy> Generator<A> {
     // Goes to an address, where the next instruction begins.
     fn jump(&mut self, address: u16) -> Taken<A>
         requires in_range { address ≤ 4095 }
-        ensures moved { self.new ≡ record self.old { place = address; held = None } }
+        ensures moved { self.new ≡ record self.old { at = address; held = None; low = None } }
         ensures goes_on { result ≡ Word }
     {
-        self.place = address;
+        self.at = address;
         self.held = None;
+        self.has_low = false;
         Taken::Word
     }
 
@@ -222,38 +271,49 @@ impl<A: Allocator + Copy> Generator<A> {
     fn finish(&mut self) -> Taken<A>
         ensures { Obeyed self.old Instr.Halt self.new result }
     {
+        self.has_low = false;
         self.is_open = false;
         Taken::Done(mem::replace(&mut self.strokes, Vec::new(self.alloc)))
     }
 
     // Breaks the run.
     fn break_off(&mut self, fault: GenFault) -> Taken<A>
-        ensures shut { self.new ≡ record self.old { is_open = false } }
+        ensures shut { self.new ≡ record self.old { low = None; is_open = false } }
         ensures fault { result ≡ Broke fault }
     {
+        self.has_low = false;
         self.is_open = false;
         Taken::Broke(fault)
     }
 }
 
-// The address so many words on.
-fn on(place: u16, count: u16) -> u16
-    ensures { result ≡ spec.on place count }
+// The address one word on, where 000 comes after FFF.
+fn after(address: u16) -> u16
+    requires { address ≤ 4095 }
+    ensures { result ≡ spec.on address 1 }
 {
-    ((u32::from(place) + u32::from(count)) % 4096) as u16
+    (address + 1) % 4096
 }
 
-// The instruction that a word completes, or None where it is the first word of one.
-fn completed(held: Option<u16>, word: u16) -> Option<Code>
-    requires { IfSome held IsFirst }
-    ensures { IsCompletion held word result }
+// The instruction of one word, or None where it is the first of two.
+#[inline(always)]
+fn of_one(word: u16) -> Option<Code>
+    ensures { IsAlone word result }
 {
-    let read = match held {
-        None => decode(&[word]),
-        Some(first) => decode(&[first, word]),
-    };
-    match read {
+    match decode(&[word]) {
         Ok(read) => Some(read.0),
         Err(_) => None,
+    }
+}
+
+// The instruction of two words.
+#[inline(always)]
+fn of_two(first: u16, word: u16) -> Code
+    requires { IsFirst first }
+    ensures { Completes (Some first) word result }
+{
+    match decode(&[first, word]) {
+        Ok(read) => read.0,
+        Err(_) => unreachable!(),
     }
 }

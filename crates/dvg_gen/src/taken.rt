@@ -16,7 +16,9 @@ pub enum GenFault {
 /// What a fetch led to.
 #[derive(Debug, Drop)]
 pub enum Taken<A: Allocator> {
-    /// The run goes on.
+    /// That was the low byte of a word, whose high byte comes next.
+    Low,
+    /// The word is complete, and the run goes on.
     Word,
     /// A HALT ended the run. These are its strokes, in the order drawn.
     Done(Vec<Stroke, A>),

@@ -74,30 +74,60 @@ fn started<A: Allocator + Copy>(alloc: A) -> Generator<A>
     generator
 }
 
+// Hands a running generator a word, low byte first, and answers the last answer.
+fn fed_word<A: Allocator + Copy>(
+    generator: &mut Generator<A>,
+    word: u16,
+) -> Result<Option<Taken<A>>, OutOfMemory> {
+    let mut last = None;
+    for byte in word.to_le_bytes() {
+        if generator.halted() {
+            return Ok(None);
+        }
+        last = Some(generator.take_byte(Some(byte))?);
+    }
+    Ok(last)
+}
+
 #[test]
 fn faults(rt: HostRuntime) -> Result<(), OutOfMemory> {
     let mut generator = started(rt.alloc());
-    let taken = generator.take(Some(0xD000))?;
+    assert!(rt; !generator.wants_high());
+    assert!(rt; matches!(&generator.take_byte(Some(0x00))?, Taken::Low));
+    assert!(rt; generator.wants_high());
+    assert_eq!(rt; generator.wants(), Some(0));
+    assert!(rt; !generator.halted());
+    let taken = generator.take_byte(Some(0xD0))?;
     assert!(rt; matches!(&taken, Taken::Broke(GenFault::StackUnder)));
+    assert!(rt; !generator.wants_high());
     assert!(rt; generator.halted());
     assert_eq!(rt; generator.wants(), None);
 
     generator.start();
     for _ in 0..4 {
-        assert!(rt; !generator.halted());
-        assert!(rt; matches!(&generator.take(Some(0xC800))?, Taken::Word));
+        assert!(rt; matches!(&fed_word(&mut generator, 0xC800)?, Some(Taken::Word)));
         assert_eq!(rt; generator.wants(), Some(0x800));
     }
-    assert!(rt; !generator.halted());
-    let taken = generator.take(Some(0xC800))?;
-    assert!(rt; matches!(&taken, Taken::Broke(GenFault::StackOver)));
+    let taken = fed_word(&mut generator, 0xC800)?;
+    assert!(rt; matches!(&taken, Some(Taken::Broke(GenFault::StackOver))));
     assert!(rt; generator.halted());
 
     generator.start();
-    let taken = generator.take(None)?;
+    let taken = generator.take_byte(None)?;
     assert!(rt; matches!(&taken, Taken::Broke(GenFault::Hole)));
     assert!(rt; generator.halted());
     Ok(())
+}
+
+// Whether the generator takes its next byte as the low one of word zero.
+fn begins<A: Allocator + Copy>(generator: &mut Generator<A>) -> Result<bool, OutOfMemory> {
+    if generator.wants() != Some(0) || generator.wants_high() {
+        return Ok(false);
+    }
+    if generator.halted() {
+        return Ok(false);
+    }
+    Ok(matches!(&generator.take_byte(Some(0xA5))?, Taken::Low))
 }
 
 // Hands a running generator these words, and answers the last answer.
@@ -110,7 +140,7 @@ fn fed<A: Allocator + Copy>(
         if generator.halted() {
             return Ok(None);
         }
-        last = Some(generator.take(Some(*word))?);
+        last = fed_word(generator, *word)?;
     }
     Ok(last)
 }
@@ -121,6 +151,35 @@ fn strokes<A: Allocator + Copy>(last: &Option<Taken<A>>) -> Option<&[Stroke]> {
         Some(Taken::Done(strokes)) => Some(strokes),
         _ => None,
     }
+}
+
+#[test]
+fn waiting_low_bytes(rt: HostRuntime) -> Result<(), OutOfMemory> {
+    // The high byte of a word is wanted at the address of the low one.
+    let mut generator = started(rt.alloc());
+    assert!(rt; begins(&mut generator)?);
+    assert!(rt; generator.wants_high());
+    assert_eq!(rt; generator.wants(), Some(0));
+
+    // A start drops the byte that waits, and so does a reset.
+    generator.start();
+    assert!(rt; begins(&mut generator)?);
+    generator.reset();
+    assert!(rt; !generator.wants_high());
+    assert!(rt; generator.halted());
+    generator.start();
+    assert!(rt; begins(&mut generator)?);
+
+    // So does a start between the bytes of the second word of a LABS.
+    generator.start();
+    let _ = fed(&mut generator, &[0xA190])?;
+    assert!(rt; !generator.halted());
+    assert!(rt; matches!(&generator.take_byte(Some(0x00))?, Taken::Low));
+    assert_eq!(rt; generator.wants(), Some(1));
+    generator.start();
+    let last = fed(&mut generator, &[0xB000])?;
+    assert_eq!(rt; strokes(&last), Some([].as_slice()));
+    Ok(())
 }
 
 #[test]
@@ -140,9 +199,8 @@ fn addresses(rt: HostRuntime) -> Result<(), OutOfMemory> {
         (0xF000, 0x003),
     ];
     for (word, wanted) in rows {
-        assert!(rt; !generator.halted());
         assert!(rt;
-            matches!(&generator.take(Some(word))?, Taken::Word),
+            matches!(&fed_word(&mut generator, word)?, Some(Taken::Word)),
             "{word:x}"
         );
         assert_eq!(rt; generator.wants(), Some(wanted), "{word:x}");

@@ -1,21 +1,24 @@
-use Rattle.std.proofs.Common.{ap, sym, ◌∙◌, subst, rules, Some}
+use Rattle.std.proofs.Common.{ap, sym, ◌∙◌, subst, None, Some}
 use Rattle.dvg_gen.specs.Completing.{Completes}
-use Rattle.dvg_gen.proofs.Standing.{Claim, claim_hole, claim_first, claim_result}
+use Rattle.dvg_gen.specs.Machine.{Machine}
+use Rattle.dvg_gen.specs.Run.{on}
+use Rattle.dvg_gen.proofs.Standing.{claim_first, claim_result}
 use Rattle.dvg_gen.proofs.generator.Generator.take.Goals as goal
 
-pub returns-in_default-clause-answers : goal.returns-in_default-clause-answers
-returns-in_default-clause-answers g c =
-    let shut = c.break_off.ensures.shut in
-    subst (λ taken. Claim c.args.word c.args.self.now c.break_off.new.self taken) (sym c.break_off.ensures.fault)
-    (claim_hole c.args.word c.args.self.now c.break_off.new.self (search rules) c.requires (ap (λ m. m.is_open) shut) (ap (λ m. m.beam) shut))
+pub returns-in-Some-clause-answers : goal.returns-in-Some-clause-answers
+returns-in-Some-clause-answers g c =
+    let held = ap (λ m. m.held) (sym c.self.view_is) ∙ c.in-Some.is in
+    let completes = subst (λ h. Completes h c.args.word c.of_two.result) (sym held) c.of_two.ensures in
+    claim_result c.draw.result c.args.word c.args.self.now c.draw.new.self c.of_two.result c.requires completes c.draw.ensures.obeyed
 
-pub returns-in-Some-completed-clause-answers : goal.returns-in-Some-completed-clause-answers
-returns-in-Some-completed-clause-answers g c =
-    let completes = subst (λ h. Completes h c.in-Some.word c.in-Some-completed.code) (ap (λ m. m.held) c.self.view_is) c.in-Some-completed.ensures in
-    claim_result c.obey.result c.args.word c.in-Some.word c.args.self.now c.obey.new.self c.in-Some-completed.code c.in-Some.is c.requires completes c.obey.ensures.obeyed
+pub returns-in-Some-of_one-clause-answers : goal.returns-in-Some-of_one-clause-answers
+returns-in-Some-of_one-clause-answers g c =
+    let held = ap (λ m. m.held) (sym c.self.view_is) ∙ c.in_default.is in
+    let completes = subst (λ h. Completes h c.args.word c.in-Some-of_one.code) (sym held) c.in-Some-of_one.ensures in
+    claim_result c.obey.result c.args.word c.args.self.now c.obey.new.self c.in-Some-of_one.code c.requires completes c.obey.ensures.obeyed
 
 pub returns-in-None-clause-answers : goal.returns-in-None-clause-answers
 returns-in-None-clause-answers g c =
-    let first = c.in-None.ensures in
-    claim_first c.args.word c.in-Some.word c.args.self.now _ c.in-Some.is c.requires (ap (λ m. m.held) (sym c.self.view_is) ∙ first.0) first.1
-    (ap (λ m. record { place = m.place; held = Some c.in-Some.word; stack = m.stack; beam = m.beam; strokes = m.strokes; is_open = m.is_open }) c.self.view_is)
+    let held = ap (λ m. m.held) (sym c.self.view_is) ∙ c.in_default.is in
+    claim_first g.row.A.Denot c.args.word c.after-self-inside.result c.args.self.now _ c.requires held c.in-None.ensures (c.after-self-inside.ensures ∙ ap (λ m. on m.at 1) c.self.view_is)
+    (ap {A = Machine} (λ m. record m { at = c.after-self-inside.result; held = Some c.args.word; low = None }) c.self.view_is)

@@ -1,0 +1,18 @@
+-- How fetched bytes make words.
+use Rattle.std.specs.Prelude.{ℕ, ◌+◌, ◌*◌, Option, Some, None}
+
+-- what a fetched byte comes to: a low byte that waits for its high byte, or a whole word or hole
+pub data Met : Type 0 where
+  Waits : ℕ → Met
+  Whole : Option ℕ → Met
+
+-- by the low byte that waits: a hole is met at once, a low byte waits, and a low byte and the high byte after it are one word
+abbrev pub met : Option ℕ → Option ℕ → Met
+met low None = Whole None
+met None (Some byte) = Waits byte
+met (Some low) (Some high) = Whole (Some (low + 256 * high))
+
+-- the whole word, or none for a hole
+abbrev pub word_of : Met → Option ℕ
+word_of (Waits byte) = None
+word_of (Whole word) = word
