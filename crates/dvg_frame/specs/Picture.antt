@@ -16,7 +16,7 @@ pub data End : Type 0 where
   AtHalt : End
   AtReturn : End
 
--- from this place and beam these strokes are drawn, up to a beam and an end, in so many fetches
+-- from this place and beam these strokes are drawn, up to a beam and an end, in so many words
 pub data Draws (F : List OpKind) (R : List ℕ) : Place → Beam → List Stroke → Beam → End → ℕ → Type 0 where
   halts : {p after : Place} {beam : Beam} → Stands F R p Halts after → Draws F R p beam [] beam AtHalt 1
   returns : {p after : Place} {beam : Beam} → Stands F R p Returns after → Draws F R p beam [] beam AtReturn 1
@@ -32,7 +32,7 @@ pub data Draws (F : List OpKind) (R : List ℕ) : Place → Beam → List Stroke
   calls : {p to after : Place} {beam back last : Beam} {strokes more : List Stroke} {end : End} {n m : ℕ} → Stands F R p (Calls to) after
       → Draws F R to beam strokes back AtReturn n → Draws F R after back more last end m → Draws F R p beam (strokes ++ more) last end (suc (n + m))
 
--- the picture of a draft, and the fetches of its whole run, that of word zero included
+-- the picture of a draft, and the words of its whole run, word zero included
 pub record IsPicture (F : List OpKind) (R : List ℕ) (strokes : List Stroke) (n : ℕ) : Type 0 where
   pub last : Beam
   pub rest : ℕ
