@@ -1,4 +1,4 @@
--- What every legal log keeps, and that no byte is written in the half being drawn.
+-- What every legal log of whole words keeps, and that no byte is written in the half being drawn.
 use Rattle.std.proofs.Common.{◌≡◌, ◌≢◌, ℕ, ◌+◌, ◌*◌, ◌/◌, ◌<◌, List, [], ◌∷◌, length, refl, sym, ◌∙◌, ap, subst, Option, Some, None, Bool, true, false, arith, slice_index, inl, inr}
 use Rattle.std.specs.Prelude.{◌==◌, is_none, option_and_then, option_map, slice_set}
 use Rattle.std.proofs.lemmas.Option.{same_Some}
@@ -18,10 +18,11 @@ use Rattle.dvg_driver.specs.Script
 use Rattle.dvg_driver.specs.Script.{Item, Did, IsWhole, IsLife, has_flip, frame_writes}
 use Rattle.dvg_driver.specs.Place.{Place, Start, Booting, Resting, Writing, Waiting, Sending, next, place_of}
 use Rattle.dvg_world.specs.Events.{Happening, Offer, Redraw, Tick, Strobe, Fetch, ResetGen, ResetCpu, ResetAll}
-use Rattle.dvg_world.specs.Entries.{Shown, Offered, Refused, Busy, Asked, NothingPublished, Acted, Started, NoStrobe, Fetched, Done, Broke, Still, Cleared}
+use Rattle.dvg_world.specs.Entries.{Shown, Offered, Refused, Busy, Asked, NothingPublished, Acted, Started, NoStrobe, Low, Fetched, Done, Broke, Still, Cleared}
 use Rattle.dvg_world.specs.Log.{◌⟼◌, Log, Throughout, ram, byte, history, open_run, free_half, life, strobed, before_flip}
 use Rattle.dvg_world.specs.Legal.{IsTrueRead, IsFetch, Fits, IsLegal}
-use Rattle.dvg_world.specs.Headline.{SparesDrawn, NeverTorn}
+use Rattle.dvg_world.specs.Headline.{SparesDrawn}
+use Rattle.dvg_world.specs.Fetches.{IsInMemory}
 use Rattle.dvg_driver.proofs.Places.{whole_rests, life_place, place_before}
 use Rattle.dvg_world.proofs.Drawing.{LeadsTo, drawn_leads, leads_none, leads_before, leads_same, not_both, past_zero, half_high, jump_word, jump_there}
 use Rattle.dvg_world.proofs.Flips.{no_flip}
@@ -233,34 +234,32 @@ begun_step s k = not_drawing (Some []) (λ words half e l. leads_none half (subs
 closed_step : {b0 b1 : ℕ} {run : Option (List (ℕ × ℕ))} {items : List Item} {sent : Bool} {flip : Option Log} {p : Place} → Kept b0 b1 run items sent flip p → Kept b0 b1 None items sent flip p
 closed_step k = not_drawing None (λ words half e l. absurd (cc)) (λ ws e. absurd (cc)) k
 
-step : (R image : List ℕ) (log : Log) (p : Place) (event : Happening) (entry : Shown) → IsLegal R image log → KeptBy image log p → Fits R image log event entry → Goes image log event entry
-step R image log p (Offer F) (Refused fault) g k f = (p, k, tt)
-step R image log p (Offer F) Busy g k f = (p, k, tt)
-step R image log p (Offer F) Offered g k f = let s = offer_step R image log p F k f.0 f.1 in (s.0, s.1, tt)
-step R image log p Redraw NothingPublished g k f = (p, k, tt)
-step R image log p Redraw Busy g k f = (p, k, tt)
-step R image log p Redraw Asked g k f = let s = ask_step image log p k f.0 f.1 in (s.0, s.1, tt)
-step R image log p Tick (Acted action) g k f =
+step : (R image : List ℕ) (log : Log) (p : Place) (event : Happening) (entry : Shown) → IsLegal R image log → KeptBy image log p → IsInMemory R image log event entry → Fits R image log event entry → Goes image log event entry
+step R image log p (Offer F) (Refused fault) g k m f = (p, k, tt)
+step R image log p (Offer F) Busy g k m f = (p, k, tt)
+step R image log p (Offer F) Offered g k m f = let s = offer_step R image log p F k f.0 f.1 in (s.0, s.1, tt)
+step R image log p Redraw NothingPublished g k m f = (p, k, tt)
+step R image log p Redraw Busy g k m f = (p, k, tt)
+step R image log p Redraw Asked g k m f = let s = ask_step image log p k f.0 f.1 in (s.0, s.1, tt)
+step R image log p Tick (Acted action) g k m f =
     let after = life_place (Did action ∷ life image log) f.0 in
     let before = place_before (Did action) (life image log) after.0 after.1 in
     tick_step image log p action after.0 (sized R image log g) k (ap (λ p. next p (Did action)) (same_place (life image log) p before.0 k.stands before.1) ∙ before.2) after.1 f.1
-step R image log p Strobe Started g k f = (p, begun_step f k, tt)
-step R image log p Strobe NoStrobe g k f = (p, k, tt)
-step R image log p Fetch Still g k f = (p, k, tt)
-step R image log p Fetch (Fetched a w) g k f = fetch_step R image log p a w g k f.0 f.1
-step R image log p Fetch (Done a w s) g k f = (p, closed_step k, tt)
-step R image log p Fetch (Broke a fault) g k f = (p, closed_step k, tt)
-step R image log p ResetGen Cleared g k f = (p, closed_step k, tt)
-step R image log p ResetCpu Cleared g k f = (Start, record { stands = refl; jumps = k.jumps; flipped = k.flipped; started = k.started; here = tt }, tt)
-step R image log p (ResetAll bytes) Cleared g k f = (Start, record { stands = refl; jumps = λ (older, e). absurd (cc); flipped = λ e. absurd (cc); started = λ ws e. absurd (cc); here = tt }, tt)
-step R image log p _ _ g k f = absurd f
+step R image log p Strobe Started g k m f = (p, begun_step f k, tt)
+step R image log p Strobe NoStrobe g k m f = (p, k, tt)
+step R image log p Fetch Still g k m f = (p, k, tt)
+step R image log p Fetch (Low a b) g k m f = (p, k, tt)
+step R image log p Fetch (Fetched a w) g k m f = fetch_step R image log p a w g k m f.1
+step R image log p Fetch (Done a w s) g k m f = (p, closed_step k, tt)
+step R image log p Fetch (Broke a fault) g k m f = (p, closed_step k, tt)
+step R image log p ResetGen Cleared g k m f = (p, closed_step k, tt)
+step R image log p ResetCpu Cleared g k m f = (Start, record { stands = refl; jumps = k.jumps; flipped = k.flipped; started = k.started; here = tt }, tt)
+step R image log p (ResetAll bytes) Cleared g k m f = (Start, record { stands = refl; jumps = λ (older, e). absurd (cc); flipped = λ e. absurd (cc); started = λ ws e. absurd (cc); here = tt }, tt)
+step R image log p _ _ g k m f = absurd f
 
-pub kept : (R image : List ℕ) (log : Log) → IsLegal R image log → (p : Place) × KeptBy image log p × Throughout SparesDrawn log
-kept R image [] l = (Start, record { stands = refl; jumps = λ (older, e). absurd (cc); flipped = λ e. absurd (cc); started = λ ws e. absurd (cc); here = tt }, tt)
-kept R image ((event ⟼ entry) ∷ log) l =
-    let before = kept R image log l.2 in
-    let s = step R image log before.0 event entry l.2 before.1 l.0 in
+pub kept : (R image : List ℕ) (log : Log) → IsLegal R image log → Throughout (IsInMemory R image) log → (p : Place) × KeptBy image log p × Throughout SparesDrawn log
+kept R image [] l m = (Start, record { stands = refl; jumps = λ (older, e). absurd (cc); flipped = λ e. absurd (cc); started = λ ws e. absurd (cc); here = tt }, tt)
+kept R image ((event ⟼ entry) ∷ log) l m =
+    let before = kept R image log l.2 m.1 in
+    let s = step R image log before.0 event entry l.2 before.1 m.0 l.0 in
     (s.0, s.1, (s.2, before.2))
-
-pub never_torn : NeverTorn
-never_torn R image log l = (kept R image log l).2

@@ -1,5 +1,5 @@
--- No faults, right pictures, no older picture, and an end in time.
-use Rattle.std.proofs.Common.{◌≡◌, ℕ, suc, ◌+◌, ◌≤◌, List, [], ◌∷◌, length, refl, sym, ◌∙◌, ap, subst, Option, Some, None, arith}
+-- What every legal log of whole words shows: no faults, right pictures, no older picture, and an end in time.
+use Rattle.std.proofs.Common.{◌≡◌, ℕ, suc, ◌+◌, ◌*◌, ◌≤◌, List, [], ◌∷◌, length, refl, sym, ◌∙◌, ap, subst, Option, Some, None, arith}
 use Rattle.std.specs.Prelude.{option_and_then, option_map}
 use Rattle.std.proofs.lemmas.Option.{same_Some}
 use Rattle.dvg_mem.specs.declared.half.Half.{Half}
@@ -10,6 +10,7 @@ use Rattle.dvg_gen.specs.declared.beam.Beam.{Beam}
 use Rattle.dvg_gen.specs.declared.stroke.Stroke.{Stroke}
 use Rattle.dvg_gen.specs.Run.{Visit, wanted, Goes, fate, strokes, Runs, begins, fetches}
 use Rattle.dvg_gen.specs.Told.{Reply, More, Drew, Fails, reply, reply_by}
+use Rattle.dvg_gen.specs.Bytes.{Waits, Whole}
 use Rattle.dvg_gen.proofs.Replies.{more_goes, drew_finished, fails_breaks}
 use Rattle.dvg_frame.specs.declared.op.OpKind.{OpKind}
 use Rattle.dvg_frame.specs.Picture.{IsPicture}
@@ -19,16 +20,18 @@ use Rattle.dvg_driver.specs.Script
 use Rattle.dvg_driver.specs.Script.{Did, IsWhole}
 use Rattle.dvg_driver.specs.Place.{Place, Writing, next, place_of}
 use Rattle.dvg_world.specs.Events.{Happening, Offer, Redraw, Tick, Strobe, Fetch, ResetGen, ResetCpu, ResetAll, IsEvent}
-use Rattle.dvg_world.specs.Entries.{Shown, Offered, Refused, Busy, Asked, NothingPublished, Acted, Started, NoStrobe, Fetched, Done, Broke, Still, Cleared}
-use Rattle.dvg_world.specs.Log.{◌⟼◌, Log, Throughout, ram, byte, history, open_run, free_half, life, published, publication, at_zero}
-use Rattle.dvg_world.specs.Legal.{IsFetch, Fits, IsLegal}
-use Rattle.dvg_world.specs.Headline.{IsShown, IsNoLater, NoFault, DrewPublished, IsNoOlder, KeepsTime, NeverFaults, DrawsPublished, NeverOlder, AlwaysInTime}
+use Rattle.dvg_world.specs.Entries.{Shown, Offered, Refused, Busy, Asked, NothingPublished, Acted, Started, NoStrobe, Low, Fetched, Done, Broke, Still, Cleared}
+use Rattle.dvg_world.specs.Log.{◌⟼◌, Log, Throughout, ram, byte, low_byte, meets, history, open_run, free_half, life, published, publication, at_zero}
+use Rattle.dvg_world.specs.Legal.{IsWanted, IsFetch, Fits, IsLegal}
+use Rattle.dvg_world.specs.Headline.{IsShown, IsNoLater, NoFault, DrewPublished, IsNoOlder, KeepsTime, fetch_count}
+use Rattle.dvg_world.specs.Fetches.{IsInMemory}
 use Rattle.dvg_world.specs.Law.{IsDrawn}
 use Rattle.dvg_driver.proofs.Places.{whole_rests, life_place, place_before}
 use Rattle.dvg_world.proofs.Drawing.{LeadsTo, later, jump_there}
 use Rattle.dvg_world.proofs.Kept.{sized, KeptBy, kept, same_place, zero_jumps}
 use Rattle.dvg_world.proofs.Least.{Checked, fits, frame_memory, least_draws, least_once, goes_in_time, finished_in_time, finished_picture, Lies, agrees}
-use Rattle.dvg_world.proofs.Linked.{Cut, none, word, cut_same, fetching, added}
+use Rattle.dvg_world.proofs.Linked.{Cut, none, word, cut_same, wanting, fetching, added}
+use Rattle.dvg_world.proofs.Bytes.{same_Whole, low_met, word_met}
 use Rattle.dvg_world.proofs.Shows.{current, Running, Shows, at_zero_fetched, at_zero_open, begun, idle_lays, write_shows, same_line, same_life}
 use Rattle.dvg_world.proofs.Todo.{is_write}
 
@@ -53,6 +56,14 @@ some_word d r g (Some w) e = (w, refl)
 some_word {n = n} {vs = vs} {held = held} d r g None e = absurd (d.safe.hole n vs held r g e)
 
 module _ (R image : List ℕ) where
+  -- memory has the frame's word where the run goes on
+  pub memory_is : (log : Log) (v : ℕ × ℕ) (us : List (ℕ × ℕ)) (r : Running R image log (v ∷ us)) → fate r.visits ≡ Goes
+      → (w : ℕ) × (frame_memory r.half r.draft R (wanted r.visits r.held) ≡ Some w) × (fetched (ram image log) R (wanted r.visits r.held) ≡ Some w)
+  memory_is log v us r g =
+      let mem = frame_memory r.half r.draft R in
+      let m = some_word (least_draws r.half r.draft R r.checked) r.runs g (mem (wanted r.visits r.held)) refl in
+      (m.0, m.1, agrees (ram image log) R r.half r.draft (fits r.half r.draft R r.checked) r.holds (wanted r.visits r.held) m.0 (least_once r.half r.draft R r.checked (length us) r.visits r.held r.runs g) m.1)
+
   ready : (log : Log) (p : Place) (ws : List (ℕ × ℕ)) (vs : List Visit) (held : Option ℕ) → KeptBy image log p → Shows R image log → open_run log ≡ Some ws → Cut ws vs held → fate vs ≡ Goes → Ready R image log ws vs held
   ready log p [] vs held k s o none g =
       let flips = k.flipped (k.started [] o) in
@@ -76,8 +87,8 @@ module _ (R image : List ℕ) where
       let e = cut_same r.cut c in
       let mem = frame_memory r.half r.draft R in
       let runs : Runs mem (length (v ∷ us)) vs held = subst (λ x. Runs mem (length (v ∷ us)) x held) e.0 (subst (λ x. Runs mem (length (v ∷ us)) r.visits x) e.1 r.runs) in
-      let d = least_draws r.half r.draft R r.checked in
-      let m = some_word d runs g (mem (wanted vs held)) refl in
+      let at : wanted r.visits r.held ≡ wanted vs held = ap (λ x. wanted x r.held) e.0 ∙ ap (λ x. wanted vs x) e.1 in
+      let m = memory_is log v us r (ap fate e.0 ∙ g) in
       record {
         half = r.half;
         draft = r.draft;
@@ -85,7 +96,7 @@ module _ (R image : List ℕ) where
         checked = r.checked;
         holds = r.holds;
         runs = runs;
-        memory = m.1 ∙ sym (agrees (ram image log) R r.half r.draft (fits r.half r.draft R r.checked) r.holds (wanted vs held) m.0 (least_once r.half r.draft R r.checked (length us) vs held runs g) m.1);
+        memory = subst (λ a. mem a ≡ fetched (ram image log) R a) at (m.1 ∙ sym m.2);
         drawn = λ w e. later r.drawn;
       }
 
@@ -172,11 +183,18 @@ module _ (R image : List ℕ) where
       now_open e = ap (option_map (λ fetches. (a, w) ∷ fetches)) e
 
   -- what a line shows
-  abbrev IsRight : Log → Happening → Shown → Type 0
+  abbrev pub IsRight : Log → Happening → Shown → Type 0
   IsRight log event entry = NoFault log event entry × DrewPublished R log event entry × IsNoOlder log event entry × KeepsTime R log event entry
 
-  done_right : (log : Log) (a w : ℕ) (drew : List Stroke) → Shows R image log → Step log a w (Drew drew) → IsRight log Fetch (Done a w drew)
-  done_right log a w drew s t =
+  -- the number of the fetch, where a low byte waits, and where none does
+  behind_low : (log : Log) (a w : ℕ) (words : List (ℕ × ℕ)) → meets R image log a ≡ Whole (Some w) → fetch_count words (low_byte log) ≡ 2 * length words + 1
+  behind_low log a w words met = let l = word_met (ram image log) R (low_byte log) a w met in ap (fetch_count words) l.1
+
+  of_low : (log : Log) (a b : ℕ) (words : List (ℕ × ℕ)) → meets R image log a ≡ Waits b → fetch_count words (low_byte log) ≡ 2 * length words
+  of_low log a b words met = ap (fetch_count words) (low_met (ram image log) R (low_byte log) a b met).0
+
+  done_right : (log : Log) (a w : ℕ) (drew : List Stroke) → Shows R image log → meets R image log a ≡ Whole (Some w) → Step log a w (Drew drew) → IsRight log Fetch (Done a w drew)
+  done_right log a w drew s met t =
       let ws = t.fetches in
       let d = least_draws t.half t.draft R t.checked in
       let fin = drew_finished t.held (fate t.visits) (strokes t.begun_with t.visits) drew t.replies in
@@ -189,11 +207,14 @@ module _ (R image : List ℕ) where
         (λ vs F u j q f x.
             let y = subst (λ H. IsPicture H R u j) (same_Some _ _ (sym f ∙ t.shown)) x in
             let e = finished_in_time d t.begun_with runs fin.1 y in
-            (ap suc (ap length (same_Some _ _ (sym q ∙ t.open_now))) ∙ e.0, sym fin.2 ∙ e.1)),
+            let len = ap length (same_Some _ _ (sym q ∙ t.open_now)) in
+            let word = e.0 in
+            let count = behind_low log a w vs met in
+            (omega arith, sym fin.2 ∙ e.1)),
       )
 
-  goes_right : (log : Log) (a w : ℕ) → Step log a w More → IsRight log Fetch (Fetched a w)
-  goes_right log a w t =
+  goes_right : (log : Log) (a w : ℕ) → meets R image log a ≡ Whole (Some w) → Step log a w More → IsRight log Fetch (Fetched a w)
+  goes_right log a w met t =
       let d = least_draws t.half t.draft R t.checked in (
         tt,
         tt,
@@ -202,6 +223,22 @@ module _ (R image : List ℕ) where
             let y = subst (λ H. IsPicture H R u j) (same_Some _ _ (sym f ∙ t.shown)) x in
             let e = goes_in_time d t.runs (t.goes refl) y in
             let len = ap length (same_Some _ _ (sym q ∙ t.open_now)) in
+            let count = behind_low log a w vs met in
+            omega arith),
+      )
+
+  low_right : (log : Log) (p : Place) (a b : ℕ) → IsLegal R image log → KeptBy image log p → Shows R image log → meets R image log a ≡ Waits b → IsWanted (history R image log) a → IsRight log Fetch (Low a b)
+  low_right log p a b g k s met f =
+      let t = wanting R image log a g f in
+      let r = ready log p t.fetches f.run.visits f.run.held k s t.open_now t.cut t.goes in (
+        tt,
+        tt,
+        tt,
+        (λ vs F u j q d y.
+            let h = subst (λ H. IsPicture H R u j) (same_Some _ _ (sym d ∙ r.shown)) y in
+            let e = goes_in_time (least_draws r.half r.draft R r.checked) r.runs t.goes h in
+            let len = ap length (same_Some _ _ (sym q ∙ t.open_now)) in
+            let count = of_low log a b vs met in
             omega arith),
       )
 
@@ -224,58 +261,44 @@ module _ (R image : List ℕ) where
   tick_shows log p Idle q size k s e d = same_line R image log Tick (Acted Idle) s (λ v vs o. o) refl (λ a. refl) (λ n f. tt) (λ v vs f m. tt) (λ ws l. absurd (idle_lays image log Idle (λ a b f. cc) ws l))
   tick_shows log _ (Wrote a b) q size k s e d = absurd (cc)
 
-  step : (log : Log) (p : Place) (event : Happening) (entry : Shown) → IsLegal R image log → IsEvent event → KeptBy image log p → Shows R image log → Fits R image log event entry → Shows R image ((event ⟼ entry) ∷ log) × IsRight log event entry
-  step log p (Offer F) (Refused fault) g i k s f = (same_life R image log (Offer F) (Refused fault) s (λ v vs o. o) refl (λ a. refl) (λ n g. tt) (λ v vs g m. tt) refl refl, (tt, tt, tt, tt))
-  step log p (Offer F) Busy g i k s f = (same_life R image log (Offer F) Busy s (λ v vs o. o) refl (λ a. refl) (λ n g. tt) (λ v vs g m. tt) refl refl, (tt, tt, tt, tt))
-  step log p (Offer F) Offered g i k s f = (same_line R image log (Offer F) Offered s (λ v vs o. o) refl (λ a. refl) (λ n g. tt) (λ v vs g m. tt) (begun R image log F (record { draft = i; closed = f.0; image = image_of R image log g }) f.1), (tt, tt, tt, tt))
-  step log p Redraw NothingPublished g i k s f = (same_life R image log Redraw NothingPublished s (λ v vs o. o) refl (λ a. refl) (λ n g. tt) (λ v vs g m. tt) refl refl, (tt, tt, tt, tt))
-  step log p Redraw Busy g i k s f = (same_life R image log Redraw Busy s (λ v vs o. o) refl (λ a. refl) (λ n g. tt) (λ v vs g m. tt) refl refl, (tt, tt, tt, tt))
-  step log p Redraw Asked g i k s f = (same_line R image log Redraw Asked s (λ v vs o. o) refl (λ a. refl) (λ n g. tt) (λ v vs g m. tt) (λ ws l. absurd (ask_lays log ws f.1 l)), (tt, tt, tt, tt))
+  step : (log : Log) (p : Place) (event : Happening) (entry : Shown) → IsLegal R image log → IsEvent event → KeptBy image log p → Shows R image log → IsInMemory R image log event entry → Fits R image log event entry → Shows R image ((event ⟼ entry) ∷ log) × IsRight log event entry
+  step log p (Offer F) (Refused fault) g i k s m f = (same_life R image log (Offer F) (Refused fault) s (λ v vs o. o) refl (λ a. refl) (λ n g. tt) (λ v vs g m. tt) refl refl, (tt, tt, tt, tt))
+  step log p (Offer F) Busy g i k s m f = (same_life R image log (Offer F) Busy s (λ v vs o. o) refl (λ a. refl) (λ n g. tt) (λ v vs g m. tt) refl refl, (tt, tt, tt, tt))
+  step log p (Offer F) Offered g i k s m f = (same_line R image log (Offer F) Offered s (λ v vs o. o) refl (λ a. refl) (λ n g. tt) (λ v vs g m. tt) (begun R image log F (record { draft = i; closed = f.0; image = image_of R image log g }) f.1), (tt, tt, tt, tt))
+  step log p Redraw NothingPublished g i k s m f = (same_life R image log Redraw NothingPublished s (λ v vs o. o) refl (λ a. refl) (λ n g. tt) (λ v vs g m. tt) refl refl, (tt, tt, tt, tt))
+  step log p Redraw Busy g i k s m f = (same_life R image log Redraw Busy s (λ v vs o. o) refl (λ a. refl) (λ n g. tt) (λ v vs g m. tt) refl refl, (tt, tt, tt, tt))
+  step log p Redraw Asked g i k s m f = (same_line R image log Redraw Asked s (λ v vs o. o) refl (λ a. refl) (λ n g. tt) (λ v vs g m. tt) (λ ws l. absurd (ask_lays log ws f.1 l)), (tt, tt, tt, tt))
     where
       ask_lays : (log : Log) (ws : List (ℕ × ℕ)) → IsWhole (life image log) → option_and_then (λ p. next p Script.Asked) (place_of (life image log)) ≡ Some (Writing ws) → ⊥
       ask_lays log ws w l = let r = whole_rests (life image log) w in let d = rw r.1 at l in cc
-  step log p Tick (Acted action) g i k s f =
+  step log p Tick (Acted action) g i k s m f =
       let after = life_place (Did action ∷ life image log) f.0 in
       let before = place_before (Did action) (life image log) after.0 after.1 in
       (tick_shows log p action after.0 (sized R image log g) k s (ap (λ p. next p (Did action)) (same_place (life image log) p before.0 k.stands before.1) ∙ before.2) after.1, (tt, tt, tt, tt))
-  step log p Strobe Started g i k s f = (same_life R image log Strobe Started s (λ v vs o. absurd (cc)) refl (λ a. refl) (λ n g. tt) (λ v vs g m. tt) refl refl, (tt, tt, tt, tt))
-  step log p Strobe NoStrobe g i k s f = (same_life R image log Strobe NoStrobe s (λ v vs o. o) refl (λ a. refl) (λ n g. tt) (λ v vs g m. tt) refl refl, (tt, tt, tt, tt))
-  step log p Fetch Still g i k s f = (same_life R image log Fetch Still s (λ v vs o. o) refl (λ a. refl) (λ n g. tt) (λ v vs g m. tt) refl refl, (tt, tt, tt, tt))
-  step log p Fetch (Fetched a w) g i k s f = (let t = stepped log p a w More g k s f.0 f.1 in (fetch_shows log a w s t, goes_right log a w t))
-  step log p Fetch (Done a w d) g i k s f =
-      let t = stepped log p a w (Drew d) g k s f.0 f.1 in (
+  step log p Strobe Started g i k s m f = (same_life R image log Strobe Started s (λ v vs o. absurd (cc)) refl (λ a. refl) (λ n g. tt) (λ v vs g m. tt) refl refl, (tt, tt, tt, tt))
+  step log p Strobe NoStrobe g i k s m f = (same_life R image log Strobe NoStrobe s (λ v vs o. o) refl (λ a. refl) (λ n g. tt) (λ v vs g m. tt) refl refl, (tt, tt, tt, tt))
+  step log p Fetch Still g i k s m f = (same_life R image log Fetch Still s (λ v vs o. o) refl (λ a. refl) (λ n g. tt) (λ v vs g m. tt) refl refl, (tt, tt, tt, tt))
+  step log p Fetch (Low a b) g i k s m f = (same_life R image log Fetch (Low a b) s (λ v vs o. o) refl (λ a. refl) (λ n g. tt) (λ v vs g m. tt) refl refl, low_right log p a b g k s f.0 f.1)
+  step log p Fetch (Fetched a w) g i k s m f = (let t = stepped log p a w More g k s m f.1 in (fetch_shows log a w s t, goes_right log a w f.0 t))
+  step log p Fetch (Done a w d) g i k s m f =
+      let t = stepped log p a w (Drew d) g k s m f.1 in (
         same_life R image log Fetch (Done a w d) s (λ v vs o. absurd (cc)) refl (λ a. refl) (λ m b n z. rise log t.fetches n m s t.open_now z b) (λ v vs b m. absurd (cc)) refl refl,
-        done_right log a w d s t,
+        done_right log a w d s f.0 t,
       )
-  step log p Fetch (Broke a fault) g i k s f = absurd (broke_right log p a fault g k s f)
-  step log p ResetGen Cleared g i k s f = (same_life R image log ResetGen Cleared s (λ v vs o. absurd (cc)) refl (λ a. refl) (λ n g. tt) (λ v vs g m. tt) refl refl, (tt, tt, tt, tt))
-  step log p ResetCpu Cleared g i k s f = (same_line R image log ResetCpu Cleared s (λ v vs o. o) refl (λ a. refl) (λ n g. tt) (λ v vs g m. tt) (λ ws l. absurd (cc)), (tt, tt, tt, tt))
-  step log p (ResetAll bytes) Cleared g i k s f = (
+  step log p Fetch (Broke a fault) g i k s m f =
+      absurd (broke_right log p a fault g k s (subst (λ w. IsFetch (history R image log) a w (Fails fault)) (same_Whole (sym f.1 ∙ m)) f.2))
+  step log p ResetGen Cleared g i k s m f = (same_life R image log ResetGen Cleared s (λ v vs o. absurd (cc)) refl (λ a. refl) (λ n g. tt) (λ v vs g m. tt) refl refl, (tt, tt, tt, tt))
+  step log p ResetCpu Cleared g i k s m f = (same_line R image log ResetCpu Cleared s (λ v vs o. o) refl (λ a. refl) (λ n g. tt) (λ v vs g m. tt) (λ ws l. absurd (cc)), (tt, tt, tt, tt))
+  step log p (ResetAll bytes) Cleared g i k s m f = (
     record { now = λ (older, e). absurd (cc); laying = λ ws l. absurd (cc); running = λ v vs e. absurd (cc); newest = λ n e. absurd (cc); run_newest = λ v vs n e z. absurd (cc); rises = λ v vs n m e z y. absurd (cc) },
     (tt, tt, tt, tt),
   )
-  step log p _ _ g i k s f = absurd f
+  step log p _ _ g i k s m f = absurd f
 
-  pub shows : (log : Log) → IsLegal R image log → Shows R image log × Throughout IsRight log
-  shows [] l = (record { now = λ (older, e). absurd (cc); laying = λ ws e. absurd (cc); running = λ v vs e. absurd (cc); newest = λ n e. absurd (cc); run_newest = λ v vs n e z. absurd (cc); rises = λ v vs n m e z y. absurd (cc) }, tt)
-  shows ((event ⟼ entry) ∷ log) l =
-      let before = shows log l.2 in
-      let k = kept R image log l.2 in
-      let t = step log k.0 event entry l.2 l.1 k.1 before.0 l.0 in
+  pub shows : (log : Log) → IsLegal R image log → Throughout (IsInMemory R image) log → Shows R image log × Throughout IsRight log
+  shows [] l m = (record { now = λ (older, e). absurd (cc); laying = λ ws e. absurd (cc); running = λ v vs e. absurd (cc); newest = λ n e. absurd (cc); run_newest = λ v vs n e z. absurd (cc); rises = λ v vs n m e z y. absurd (cc) }, tt)
+  shows ((event ⟼ entry) ∷ log) l m =
+      let before = shows log l.2 m.1 in
+      let k = kept R image log l.2 m.1 in
+      let t = step log k.0 event entry l.2 l.1 k.1 before.0 m.0 l.0 in
       (t.0, (t.1, before.1))
-
-through : (P Q : Log → Happening → Shown → Type 0) → ((log : Log) (event : Happening) (entry : Shown) → P log event entry → Q log event entry) → (log : Log) → Throughout P log → Throughout Q log
-through P Q f [] t = tt
-through P Q f ((event ⟼ entry) ∷ log) t = (f log event entry t.0, through P Q f log t.1)
-
-pub never_faults : NeverFaults
-never_faults R image log l = through (IsRight R image) NoFault (λ log event entry t. t.0) log (shows R image log l).1
-
-pub draws_published : DrawsPublished
-draws_published R image log l = through (IsRight R image) (DrewPublished R) (λ log event entry t. t.1) log (shows R image log l).1
-
-pub never_older : NeverOlder
-never_older R image log l = through (IsRight R image) IsNoOlder (λ log event entry t. t.2) log (shows R image log l).1
-
-pub always_in_time : AlwaysInTime
-always_in_time R image log l = through (IsRight R image) (KeepsTime R) (λ log event entry t. t.3) log (shows R image log l).1

@@ -2,16 +2,16 @@
 use Rattle.std.proofs.Common.{◌≡◌, ℕ, true, List, [], ◌∷◌, Option, Some, None, refl, sym, ap, ◌∙◌, subst}
 use Rattle.std.specs.Prelude.{is_some, option_map}
 use Rattle.std.proofs.lemmas.Option.{same_Some}
-use Rattle.dvg_mem.specs.Memory.{fetched}
 use Rattle.dvg_gen.specs.Run.{Visit, wanted, Goes, fate, strokes, Adds}
-use Rattle.dvg_gen.specs.Told.{Told, Fed, Newest, goes_on, grown, Leaves, new, starts, resets, takes, Reply, More, Drew, reply}
+use Rattle.dvg_gen.specs.Told.{Told, Fed, Newest, goes_on, grown, Leaves, new, starts, resets, takes, Reply, More, Drew, Fails, reply, wants}
 use Rattle.dvg_gen.proofs.Standing.{open_goes}
 use Rattle.dvg_gen.proofs.Same.{adds_same, leaves_same}
 use Rattle.dvg_gen.proofs.Replies.{more_goes, drew_finished, fails_shut, wants_open}
 use Rattle.dvg_world.specs.Events.{Fetch, ResetGen, ResetAll}
 use Rattle.dvg_world.specs.Entries.{Started, Fetched, Done, Broke}
-use Rattle.dvg_world.specs.Log.{◌⟼◌, Log, ram, history, open_run}
-use Rattle.dvg_world.specs.Legal.{IsFetch, IsLegal}
+use Rattle.dvg_gen.specs.Bytes.{word_of}
+use Rattle.dvg_world.specs.Log.{◌⟼◌, Log, meets, history, open_run}
+use Rattle.dvg_world.specs.Legal.{IsWanted, IsFetch, IsLegal}
 
 -- the words of these fetches, newest first, are cut into these instructions, and perhaps a first word
 pub data Cut : List (ℕ × ℕ) → List Visit → Option ℕ → Type 0 where
@@ -66,9 +66,10 @@ opened R image ((Fetch ⟼ Done a w s) ∷ log) g (takes {run = run} {visits = v
     let fin = drew_finished held (fate vs) (strokes run.first vs) s rep in
     ap goes_on fin.1
 opened R image ((Fetch ⟼ Broke a fault) ∷ log) g l =
-    let f = g.0 in
+    let found = word_of (meets R image log a) in
+    let f : IsFetch (history R image log) a found (Fails fault) = subst (λ w. IsFetch (history R image log) a w (Fails fault)) (sym (ap word_of g.0.1)) g.0.2 in
     let e = leaves_same l f.leaves_later in
-    fails_shut (fetched (ram image log) R a) fault l (ap (λ q. reply (fetched (ram image log) R a) q) e ∙ f.replies)
+    fails_shut found fault l (ap (λ q. reply found q) e ∙ f.replies)
 opened R image ((event ⟼ Fetched a w) ∷ log) g l = absurd g.0
 opened R image ((event ⟼ Done a w s) ∷ log) g l = absurd g.0
 opened R image ((event ⟼ Broke a fault) ∷ log) g l = absurd g.0
@@ -83,8 +84,8 @@ pub record Fetching (R image : List ℕ) (log : Log) (run : Newest) (a : ℕ) : 
   pub goes : fate run.visits ≡ Goes
   pub cut : Cut fetches run.visits run.held
 
-pub fetching : (R image : List ℕ) (log : Log) (a : ℕ) (found : Option ℕ) (answer : Reply) → IsLegal R image log → (f : IsFetch (history R image log) a found answer) → Fetching R image log f.run a
-fetching R image log a found answer g f =
+pub wanting : (R image : List ℕ) (log : Log) (a : ℕ) → IsLegal R image log → (f : IsWanted (history R image log) a) → Fetching R image log f.run a
+wanting R image log a g f =
     let w = wants_open f.run a f.wanted in
     let s = some_of (open_run log) (sym (opened R image log g f.leaves) ∙ w.0) in
     record { fetches = s.0; open_now = s.1; is_open = w.0; at = w.1; goes = open_goes f.leaves w.0; cut = linked R image log f.leaves s.0 s.1 }
@@ -92,6 +93,17 @@ fetching R image log a found answer g f =
     some_of : (q : Option (List (ℕ × ℕ))) → is_some q ≡ true → (ws : List (ℕ × ℕ)) × (q ≡ Some ws)
     some_of None e = absurd (cc)
     some_of (Some ws) e = (ws, refl)
+
+-- one address is wanted
+pub same_wanted : {told : List Told} {a b : ℕ} → IsWanted told a → IsWanted told b → a ≡ b
+same_wanted f g = same_Some _ _ (sym f.wanted ∙ (ap wants (leaves_same f.leaves g.leaves) ∙ g.wanted))
+
+-- a fetch is of the address that is wanted
+abbrev pub is_wanted : {told : List Told} {a : ℕ} {found : Option ℕ} {answer : Reply} → IsFetch told a found answer → IsWanted told a
+is_wanted f = record { run = f.run; leaves = f.leaves; wanted = f.wanted }
+
+pub fetching : (R image : List ℕ) (log : Log) (a : ℕ) (found : Option ℕ) (answer : Reply) → IsLegal R image log → (f : IsFetch (history R image log) a found answer) → Fetching R image log f.run a
+fetching R image log a found answer g f = wanting R image log a g (is_wanted f)
 
 -- how a fetched word is added
 pub added : {told : List Told} {a w : ℕ} {answer : Reply} → (f : IsFetch told a (Some w) answer) → (vs : List Visit) × (held : Option ℕ) × Adds f.run.visits f.run.held w vs held × (f.later ≡ grown f.run vs held)

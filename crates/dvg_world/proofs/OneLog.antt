@@ -2,7 +2,6 @@
 use Rattle.std.proofs.Common.{◌≡◌, ℕ, List, [], ◌∷◌, refl, sym, ap, ◌∙◌, subst, Option, Some, None}
 use Rattle.std.specs.Prelude.{is_none}
 use Rattle.std.proofs.lemmas.Option.{same_Some}
-use Rattle.dvg_mem.specs.Memory.{fetched}
 use Rattle.dvg_gen.specs.declared.stroke.Stroke.{Stroke}
 use Rattle.dvg_gen.specs.declared.taken.GenFault.{GenFault}
 use Rattle.dvg_gen.specs.Told.{Told, Fed, Leaves, Reply, More, Drew, Fails, reply, wants}
@@ -11,13 +10,15 @@ use Rattle.dvg_frame.proofs.OneFault.{one_fault, closed_stays}
 use Rattle.dvg_driver.specs.declared.action.Action.{Action}
 use Rattle.dvg_driver.specs.Script.{Did, IsLife}
 use Rattle.dvg_world.specs.Events.{Happening, Offer, Redraw, Tick, Strobe, Fetch, ResetGen, ResetCpu, ResetAll}
-use Rattle.dvg_world.specs.Entries.{Shown, Offered, Refused, Busy, Asked, NothingPublished, Acted, Started, NoStrobe, Fetched, Done, Broke, Still, Cleared}
-use Rattle.dvg_world.specs.Log.{◌⟼◌, Log, ram, history, open_run, life}
-use Rattle.dvg_world.specs.Legal.{IsTrueRead, IsFetch, Fits, IsLegal, SameLog}
+use Rattle.dvg_world.specs.Entries.{Shown, Offered, Refused, Busy, Asked, NothingPublished, Acted, Started, NoStrobe, Low, Fetched, Done, Broke, Still, Cleared}
+use Rattle.dvg_gen.specs.Bytes.{Waits, Whole, word_of}
+use Rattle.dvg_world.specs.Log.{◌⟼◌, Log, meets, history, open_run, life}
+use Rattle.dvg_world.specs.Legal.{IsTrueRead, IsWanted, IsFetch, Fits, IsLegal, SameLog}
 use Rattle.dvg_driver.proofs.Places.{life_place, place_before}
 use Rattle.dvg_driver.proofs.Shapes.{place_life}
 use Rattle.dvg_driver.proofs.OneAction.{one_action}
-use Rattle.dvg_world.proofs.Linked.{fetching}
+use Rattle.dvg_world.proofs.Bytes.{same_Whole, same_Waits, not_whole}
+use Rattle.dvg_world.proofs.Linked.{same_wanted, is_wanted, wanting, fetching}
 
 -- a tick has one action
 one_tick : (image : List ℕ) (log : Log) (a b : Action) → IsLife (Did a ∷ life image log) → IsLife (Did b ∷ life image log) → IsTrueRead log a → IsTrueRead log b → a ≡ b
@@ -44,22 +45,29 @@ fault_is e = cc
 
 module _ (R image : List ℕ) (log : Log) (legal : IsLegal R image log) where
   abbrev mem : ℕ → Option ℕ
-  mem = fetched (ram image log) R
+  mem a = word_of (meets R image log a)
 
   abbrev IsFetched : ℕ → Reply → Type 0
   IsFetched a p = IsFetch (history R image log) a (mem a) p
 
-  at_memory : (a w : ℕ) (p : Reply) → mem a ≡ Some w → IsFetch (history R image log) a (Some w) p → IsFetched a p
-  at_memory a w p m f = subst (λ x. IsFetch (history R image log) a x p) (sym m) f
+  at_memory : (a : ℕ) (word : Option ℕ) (p : Reply) → meets R image log a ≡ Whole word → IsFetch (history R image log) a word p → IsFetched a p
+  at_memory a word p m f = subst (λ x. IsFetch (history R image log) a x p) (sym (ap word_of m)) f
 
   not_still : (a : ℕ) (p : Reply) → open_run log ≡ None → IsFetched a p → ⊥
   not_still a p n f = let t = fetching R image log a (mem a) p legal f in let e = sym n ∙ t.open_now in cc
 
+  not_wanted : (a : ℕ) → open_run log ≡ None → IsWanted (history R image log) a → ⊥
+  not_wanted a n f = let t = wanting R image log a legal f in let e = sym n ∙ t.open_now in cc
+
+  -- a low byte is no word
+  not_low : (a b x : ℕ) (word : Option ℕ) → IsWanted (history R image log) a → IsWanted (history R image log) b → meets R image log a ≡ Waits x → meets R image log b ≡ Whole word → ⊥
+  not_low a b x word f g m n = not_whole m (ap (meets R image log) (same_wanted f g) ∙ n)
+
   both_fetch : (a b : ℕ) (p q : Reply) → IsFetched a p → IsFetched b q → (a ≡ b) × (p ≡ q)
   both_fetch a b p q f g = one_fetch mem (history R image log) a b p q f g
 
-  fetched_same : (a w b v : ℕ) → mem a ≡ Some w → mem b ≡ Some v → a ≡ b → w ≡ v
-  fetched_same a w b v m n e = same_Some _ _ (sym m ∙ (ap mem e ∙ n))
+  fetched_same : (a w b v : ℕ) → meets R image log a ≡ Whole (Some w) → meets R image log b ≡ Whole (Some v) → a ≡ b → w ≡ v
+  fetched_same a w b v m n e = same_Some _ _ (same_Whole (sym m ∙ (ap (meets R image log) e ∙ n)))
 
   one_entry : (event : Happening) (x y : Shown) → Fits R image log event x → Fits R image log event y → x ≡ y
   one_entry (Offer d) (Refused f) (Refused g) u v = ap Refused (one_fault d R g f v u)
@@ -86,26 +94,37 @@ module _ (R image : List ℕ) (log : Log) (legal : IsLegal R image log) where
   one_entry Strobe NoStrobe Started u v = let e = sym u ∙ v in absurd (cc)
   one_entry Strobe NoStrobe NoStrobe u v = refl
   one_entry Fetch Still Still u v = refl
-  one_entry Fetch Still (Fetched b w) u v = absurd (not_still b More u (at_memory b w More v.0 v.1))
-  one_entry Fetch Still (Done b w s) u v = absurd (not_still b (Drew s) u (at_memory b w (Drew s) v.0 v.1))
-  one_entry Fetch Still (Broke b f) u v = absurd (not_still b (Fails f) u v)
-  one_entry Fetch (Fetched a w) Still u v = absurd (not_still a More v (at_memory a w More u.0 u.1))
+  one_entry Fetch Still (Fetched b w) u v = absurd (not_still b More u (at_memory b (Some w) More v.0 v.1))
+  one_entry Fetch Still (Done b w s) u v = absurd (not_still b (Drew s) u (at_memory b (Some w) (Drew s) v.0 v.1))
+  one_entry Fetch Still (Broke b f) u v = absurd (not_still b (Fails f) u (at_memory b v.0 (Fails f) v.1 v.2))
+  one_entry Fetch Still (Low b y) u v = absurd (not_wanted b u v.1)
+  one_entry Fetch (Low a x) Still u v = absurd (not_wanted a v u.1)
+  one_entry Fetch (Low a x) (Low b y) u v =
+      let e = same_wanted u.1 v.1 in
+      ap (λ k. Low k x) e ∙ ap (λ k. Low b k) (same_Waits (sym u.0 ∙ (ap (meets R image log) e ∙ v.0)))
+  one_entry Fetch (Low a x) (Fetched b w) u v = absurd (not_low a b x (Some w) u.1 (is_wanted v.1) u.0 v.0)
+  one_entry Fetch (Low a x) (Done b w s) u v = absurd (not_low a b x (Some w) u.1 (is_wanted v.1) u.0 v.0)
+  one_entry Fetch (Low a x) (Broke b f) u v = absurd (not_low a b x v.0 u.1 (is_wanted v.2) u.0 v.1)
+  one_entry Fetch (Fetched a w) (Low b y) u v = absurd (not_low b a y (Some w) v.1 (is_wanted u.1) v.0 u.0)
+  one_entry Fetch (Done a w s) (Low b y) u v = absurd (not_low b a y (Some w) v.1 (is_wanted u.1) v.0 u.0)
+  one_entry Fetch (Broke a f) (Low b y) u v = absurd (not_low b a y u.0 v.1 (is_wanted u.2) v.0 u.1)
+  one_entry Fetch (Fetched a w) Still u v = absurd (not_still a More v (at_memory a (Some w) More u.0 u.1))
   one_entry Fetch (Fetched a w) (Fetched b z) u v =
-      let e = both_fetch a b More More (at_memory a w More u.0 u.1) (at_memory b z More v.0 v.1) in
+      let e = both_fetch a b More More (at_memory a (Some w) More u.0 u.1) (at_memory b (Some z) More v.0 v.1) in
       ap (λ k. Fetched k w) e.0 ∙ ap (λ k. Fetched b k) (fetched_same a w b z u.0 v.0 e.0)
-  one_entry Fetch (Fetched a w) (Done b z s) u v = let e = (both_fetch a b More (Drew s) (at_memory a w More u.0 u.1) (at_memory b z (Drew s) v.0 v.1)).1 in absurd (cc)
-  one_entry Fetch (Fetched a w) (Broke b f) u v = let e = (both_fetch a b More (Fails f) (at_memory a w More u.0 u.1) v).1 in absurd (cc)
-  one_entry Fetch (Done a w s) Still u v = absurd (not_still a (Drew s) v (at_memory a w (Drew s) u.0 u.1))
-  one_entry Fetch (Done a w s) (Fetched b z) u v = let e = (both_fetch a b (Drew s) More (at_memory a w (Drew s) u.0 u.1) (at_memory b z More v.0 v.1)).1 in absurd (cc)
+  one_entry Fetch (Fetched a w) (Done b z s) u v = let e = (both_fetch a b More (Drew s) (at_memory a (Some w) More u.0 u.1) (at_memory b (Some z) (Drew s) v.0 v.1)).1 in absurd (cc)
+  one_entry Fetch (Fetched a w) (Broke b f) u v = let e = (both_fetch a b More (Fails f) (at_memory a (Some w) More u.0 u.1) (at_memory b v.0 (Fails f) v.1 v.2)).1 in absurd (cc)
+  one_entry Fetch (Done a w s) Still u v = absurd (not_still a (Drew s) v (at_memory a (Some w) (Drew s) u.0 u.1))
+  one_entry Fetch (Done a w s) (Fetched b z) u v = let e = (both_fetch a b (Drew s) More (at_memory a (Some w) (Drew s) u.0 u.1) (at_memory b (Some z) More v.0 v.1)).1 in absurd (cc)
   one_entry Fetch (Done a w s) (Done b z t) u v =
-      let e = both_fetch a b (Drew s) (Drew t) (at_memory a w (Drew s) u.0 u.1) (at_memory b z (Drew t) v.0 v.1) in
+      let e = both_fetch a b (Drew s) (Drew t) (at_memory a (Some w) (Drew s) u.0 u.1) (at_memory b (Some z) (Drew t) v.0 v.1) in
       ap (λ k. Done k w s) e.0 ∙ (ap (λ k. Done b k s) (fetched_same a w b z u.0 v.0 e.0) ∙ ap (λ k. Done b z k) (drawn_is e.1))
-  one_entry Fetch (Done a w s) (Broke b f) u v = let e = (both_fetch a b (Drew s) (Fails f) (at_memory a w (Drew s) u.0 u.1) v).1 in absurd (cc)
-  one_entry Fetch (Broke a f) Still u v = absurd (not_still a (Fails f) v u)
-  one_entry Fetch (Broke a f) (Fetched b z) u v = let e = (both_fetch a b (Fails f) More u (at_memory b z More v.0 v.1)).1 in absurd (cc)
-  one_entry Fetch (Broke a f) (Done b z s) u v = let e = (both_fetch a b (Fails f) (Drew s) u (at_memory b z (Drew s) v.0 v.1)).1 in absurd (cc)
+  one_entry Fetch (Done a w s) (Broke b f) u v = let e = (both_fetch a b (Drew s) (Fails f) (at_memory a (Some w) (Drew s) u.0 u.1) (at_memory b v.0 (Fails f) v.1 v.2)).1 in absurd (cc)
+  one_entry Fetch (Broke a f) Still u v = absurd (not_still a (Fails f) v (at_memory a u.0 (Fails f) u.1 u.2))
+  one_entry Fetch (Broke a f) (Fetched b z) u v = let e = (both_fetch a b (Fails f) More (at_memory a u.0 (Fails f) u.1 u.2) (at_memory b (Some z) More v.0 v.1)).1 in absurd (cc)
+  one_entry Fetch (Broke a f) (Done b z s) u v = let e = (both_fetch a b (Fails f) (Drew s) (at_memory a u.0 (Fails f) u.1 u.2) (at_memory b (Some z) (Drew s) v.0 v.1)).1 in absurd (cc)
   one_entry Fetch (Broke a f) (Broke b g) u v =
-      let e = both_fetch a b (Fails f) (Fails g) u v in
+      let e = both_fetch a b (Fails f) (Fails g) (at_memory a u.0 (Fails f) u.1 u.2) (at_memory b v.0 (Fails g) v.1 v.2) in
       ap (λ k. Broke k f) e.0 ∙ ap (λ k. Broke b k) (fault_is e.1)
   one_entry ResetGen Cleared Cleared u v = refl
   one_entry ResetCpu Cleared Cleared u v = refl
@@ -120,6 +139,7 @@ module _ (R image : List ℕ) (log : Log) (legal : IsLegal R image log) where
   one_entry Strobe Started _ u v = absurd v
   one_entry Strobe NoStrobe _ u v = absurd v
   one_entry Fetch Still _ u v = absurd v
+  one_entry Fetch (Low a x) _ u v = absurd v
   one_entry Fetch (Fetched a w) _ u v = absurd v
   one_entry Fetch (Done a w s) _ u v = absurd v
   one_entry Fetch (Broke a f) _ u v = absurd v

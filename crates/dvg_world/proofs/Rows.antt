@@ -1,5 +1,5 @@
 -- Worked examples of legal logs, over a RAM and a ROM of zeros.
-use Rattle.std.proofs.Common.{◌≡◌, ℕ, zero, suc, ◌<◌, pos, negsuc, true, List, [], ◌∷◌, length, Option, Some, None, refl, sym, ap, ◌∙◌, subst, lit<, lit≤, replicate, arith}
+use Rattle.std.proofs.Common.{◌≡◌, ℕ, zero, suc, ◌+◌, ◌<◌, pos, negsuc, true, false, List, [], ◌∷◌, ◌++◌, length, Option, Some, None, refl, sym, ap, ◌∙◌, subst, lit<, lit≤, replicate, arith}
 use Rattle.std.specs.Prelude.{slice_get, option_and_then}
 use Rattle.std.proofs.lemmas.Option.{same_Some}
 use Rattle.std.proofs.lemmas.List.Elements.{All-replicate, All-from_recursion}
@@ -9,7 +9,10 @@ use Rattle.dvg_code.specs.Acts.{Act, Moves, Halts}
 use Rattle.dvg_code.specs.Ranges.{InRange}
 use Rattle.dvg_code.specs.Spelling.{Spells, labs, halt, jmpl}
 use Rattle.dvg_code.proofs.Rows.{long_vector}
-use Rattle.dvg_mem.specs.Memory.{fetched, IsImage}
+use Rattle.dvg_mem.specs.declared.half.Half.{Half}
+use Rattle.dvg_mem.specs.declared.half.Half.TheVariants.{H0}
+use Rattle.dvg_mem.specs.Memory.{IsImage}
+use Rattle.dvg_gen.specs.Bytes.{Met, Waits, Whole}
 use Rattle.dvg_gen.specs.declared.stroke.Stroke.{Stroke}
 use Rattle.dvg_gen.specs.Run.{Visit, first, one, two}
 use Rattle.dvg_gen.specs.Told.{Told, Fed, Newest, nothing, begun, grown, Leaves, new, starts, takes}
@@ -26,8 +29,8 @@ use Rattle.dvg_driver.specs.Script.{Did, IsWhole}
 use Rattle.dvg_driver.specs.Place as place
 use Rattle.dvg_driver.specs.Place.{next, place_of, with_left, after_write}
 use Rattle.dvg_world.specs.Events.{Offer, Redraw, Tick, Strobe, Fetch}
-use Rattle.dvg_world.specs.Entries.{Offered, Busy, NothingPublished, Acted, Started, NoStrobe, Fetched, Done, Still}
-use Rattle.dvg_world.specs.Log.{Line, ◌⟼◌, Log, ram, history, life}
+use Rattle.dvg_world.specs.Entries.{Offered, Busy, NothingPublished, Acted, Started, NoStrobe, Low, Fetched, Done, Still}
+use Rattle.dvg_world.specs.Log.{Line, ◌⟼◌, Log, ram, low_byte, read, history, life, IsBeingDrawn}
 use Rattle.dvg_world.specs.Legal.{IsTrueRead, IsLegal}
 use Rattle.dvg_driver.proofs.Shapes.{place_life, rests_whole}
 use Rattle.dvg_driver.proofs.Places.{whole_rests, write_fits}
@@ -124,16 +127,17 @@ did action = Tick ⟼ Acted action
 ticked : (log : Log) (action : Action) (to : place.Place) → LegalOverZeros log → place_of (Did action ∷ life zeros log) ≡ Some to → IsTrueRead log action → LegalOverZeros (did action ∷ log)
 ticked log action to legal at reads = ((place_life (Did action ∷ life zeros log) to at, reads), tt, legal)
 
--- all writes of a frame part
+-- writes of a frame part
 abbrev wrote : List (ℕ × ℕ) → Log → Log
 wrote [] log = log
 wrote (write ∷ writes) log = wrote writes (did (Wrote write.0 write.1) ∷ log)
 
-written : (writes : List (ℕ × ℕ)) (log : Log) → LegalOverZeros log → place_of (life zeros log) ≡ Some (with_left writes) → LegalOverZeros (wrote writes log)
-written [] log legal at = legal
-written (write ∷ writes) log legal at =
-    let after = ap (option_and_then (λ p. next p (Did (Wrote write.0 write.1)))) at ∙ write_fits write.0 write.1 writes in
-    written writes (did (Wrote write.0 write.1) ∷ log) (ticked log (Wrote write.0 write.1) (with_left writes) legal after tt) after
+written : (writes rest : List (ℕ × ℕ)) (log : Log) → LegalOverZeros log → place_of (life zeros log) ≡ Some (with_left (writes ++ rest))
+    → LegalOverZeros (wrote writes log) × (place_of (life zeros (wrote writes log)) ≡ Some (with_left rest))
+written [] rest log legal at = (legal, at)
+written (write ∷ writes) rest log legal at =
+    let after = ap (option_and_then (λ p. next p (Did (Wrote write.0 write.1)))) at ∙ write_fits write.0 write.1 (writes ++ rest) in
+    written writes rest (did (Wrote write.0 write.1) ∷ log) (ticked log (Wrote write.0 write.1) (with_left (writes ++ rest)) legal after tt) after
 
 -- F1 is offered to a driver that has booted, written to half 1 and published, and a strobe is sent and arrives
 abbrev offered : Log
@@ -157,7 +161,7 @@ offered_legal : LegalOverZeros offered
 offered_legal = ((closed zeros, rests_whole (life zeros (did (Read true) ∷ did Peek ∷ [])) true refl), is_draft, booted_legal)
 
 published_legal : LegalOverZeros published
-published_legal = written F1_writes offered offered_legal refl
+published_legal = (written F1_writes [] offered offered_legal refl).0
 
 started_legal : LegalOverZeros started
 started_legal = (refl, tt, ticked (did (Read true) ∷ published) Sent _ (ticked published (Read true) _ published_legal refl refl) refl tt)
@@ -174,14 +178,28 @@ spells_halt = halt (lit≤ tt) (lit< tt)
 abbrev drew : List Stroke
 drew = record { x0 = 262144; y0 = 204800; x1 = 210944; y1 = 256000; z = 7 } ∷ []
 
--- the fetches of F1 in half 1 but the last
-abbrev five_fetches : Log → Log
-five_fetches log =
-    (Fetch ⟼ Fetched 0x204 0x7464) ∷ (Fetch ⟼ Fetched 0x203 0x9064) ∷ (Fetch ⟼ Fetched 0x202 0x0200) ∷ (Fetch ⟼ Fetched 0x201 0xA190) ∷ (Fetch ⟼ Fetched 0x000 0xE201) ∷ log
+-- the two fetches of a word, of this low byte
+abbrev fetched_word : ℕ → ℕ → ℕ → Log → Log
+fetched_word address low word log = (Fetch ⟼ Fetched address word) ∷ (Fetch ⟼ Low address low) ∷ log
 
--- and the last
+-- the words of F1 in half 1 but the last
+abbrev first_word : Log → Log
+first_word log = fetched_word 0x000 0x01 0xE201 log
+
+abbrev two_words : Log → Log
+two_words log = fetched_word 0x201 0x90 0xA190 (first_word log)
+
+abbrev three_words : Log → Log
+three_words log = fetched_word 0x202 0x00 0x0200 (two_words log)
+
+abbrev four_words : Log → Log
+four_words log = fetched_word 0x203 0x64 0x9064 (three_words log)
+
+abbrev five_words : Log → Log
+five_words log = fetched_word 0x204 0x64 0x7464 (four_words log)
+
 abbrev finished : Log → Log
-finished log = (Fetch ⟼ Done 0x205 0xB000 drew) ∷ five_fetches log
+finished log = (Fetch ⟼ Done 0x205 0xB000 drew) ∷ (Fetch ⟼ Low 0x205 0x00) ∷ five_words log
 
 abbrev visits1 : List Visit
 visits1 = record { place = 0; code = Jmpl 0x201 } ∷ []
@@ -196,12 +214,13 @@ abbrev visits4 : List Visit
 visits4 = record { place = 0x205; code = Halt } ∷ visits3
 
 -- a run that has just begun, over the memory that has F1 published
-module _ (log : Log) (before : Newest) (legal : LegalOverZeros log) (memory : ram zeros log ≡ ram zeros published) (leaves0 : Leaves (history zeros zeros log) (begun before)) where
+module _ (log : Log) (before : Newest) (legal : LegalOverZeros log) (memory : ram zeros log ≡ ram zeros published) (leaves0 : Leaves (history zeros zeros log) (begun before)) (none : low_byte log ≡ None) where
   abbrev run : List Visit → Option ℕ → Newest
   run visits held = grown (begun before) visits held
 
-  word_at : (a word : ℕ) → fetched (ram zeros published) zeros a ≡ Some word → fetched (ram zeros log) zeros a ≡ Some word
-  word_at a word is = ap (λ bytes. fetched bytes zeros a) memory ∙ is
+  -- what a fetch meets, at an address of that memory
+  met_at : (low : Option ℕ) (a : ℕ) (found : Met) → read (ram zeros published) zeros low a ≡ found → read (ram zeros log) zeros low a ≡ found
+  met_at low a found is = ap (λ bytes. read bytes zeros low a) memory ∙ is
 
   leaves1 : Leaves (Fed (Some 0xE201) ∷ history zeros zeros log) (run visits1 None)
   leaves1 = takes leaves0 refl (one spells_jump)
@@ -227,33 +246,104 @@ module _ (log : Log) (before : Newest) (legal : LegalOverZeros log) (memory : ra
   leaves6 : Leaves (Fed (Some 0xB000) ∷ Fed (Some 0x7464) ∷ Fed (Some 0x9064) ∷ told3) (run visits4 None)
   leaves6 = takes leaves5 refl (one spells_halt)
 
-  legal1 : LegalOverZeros ((Fetch ⟼ Fetched 0x000 0xE201) ∷ log)
-  legal1 = ((word_at 0x000 0xE201 refl, record { run = begun before; leaves = leaves0; wanted = refl; later = run visits1 None; leaves_later = leaves1; replies = refl }), tt, legal)
+  low1 : LegalOverZeros ((Fetch ⟼ Low 0x000 0x01) ∷ log)
+  low1 = ((ap (λ low. read (ram zeros log) zeros low 0x000) none ∙ met_at None 0x000 (Waits 0x01) refl, record { run = begun before; leaves = leaves0; wanted = refl }), tt, legal)
 
-  legal2 : LegalOverZeros ((Fetch ⟼ Fetched 0x201 0xA190) ∷ (Fetch ⟼ Fetched 0x000 0xE201) ∷ log)
-  legal2 = ((word_at 0x201 0xA190 refl, record { run = run visits1 None; leaves = leaves1; wanted = refl; later = run visits1 (Some 0xA190); leaves_later = leaves2; replies = refl }), tt, legal1)
+  legal1 : LegalOverZeros (first_word log)
+  legal1 = ((met_at (Some 0x01) 0x000 (Whole (Some 0xE201)) refl, record { run = begun before; leaves = leaves0; wanted = refl; later = run visits1 None; leaves_later = leaves1; replies = refl }), tt, low1)
 
-  legal3 : LegalOverZeros ((Fetch ⟼ Fetched 0x202 0x0200) ∷ (Fetch ⟼ Fetched 0x201 0xA190) ∷ (Fetch ⟼ Fetched 0x000 0xE201) ∷ log)
-  legal3 = ((word_at 0x202 0x0200 refl, record { run = run visits1 (Some 0xA190); leaves = leaves2; wanted = refl; later = run visits2 None; leaves_later = leaves3; replies = refl }), tt, legal2)
+  low2 : LegalOverZeros ((Fetch ⟼ Low 0x201 0x90) ∷ first_word log)
+  low2 = ((met_at None 0x201 (Waits 0x90) refl, record { run = run visits1 None; leaves = leaves1; wanted = refl }), tt, legal1)
 
-  legal4 : LegalOverZeros ((Fetch ⟼ Fetched 0x203 0x9064) ∷ (Fetch ⟼ Fetched 0x202 0x0200) ∷ (Fetch ⟼ Fetched 0x201 0xA190) ∷ (Fetch ⟼ Fetched 0x000 0xE201) ∷ log)
-  legal4 = ((word_at 0x203 0x9064 refl, record { run = run visits2 None; leaves = leaves3; wanted = refl; later = run visits2 (Some 0x9064); leaves_later = leaves4; replies = refl }), tt, legal3)
+  legal2 : LegalOverZeros (two_words log)
+  legal2 = ((met_at (Some 0x90) 0x201 (Whole (Some 0xA190)) refl, record { run = run visits1 None; leaves = leaves1; wanted = refl; later = run visits1 (Some 0xA190); leaves_later = leaves2; replies = refl }), tt, low2)
 
-  legal5 : LegalOverZeros (five_fetches log)
-  legal5 = ((word_at 0x204 0x7464 refl, record { run = run visits2 (Some 0x9064); leaves = leaves4; wanted = refl; later = run visits3 None; leaves_later = leaves5; replies = refl }), tt, legal4)
+  low3 : LegalOverZeros ((Fetch ⟼ Low 0x202 0x00) ∷ two_words log)
+  low3 = ((met_at None 0x202 (Waits 0x00) refl, record { run = run visits1 (Some 0xA190); leaves = leaves2; wanted = refl }), tt, legal2)
+
+  legal3 : LegalOverZeros (three_words log)
+  legal3 = ((met_at (Some 0x00) 0x202 (Whole (Some 0x0200)) refl, record { run = run visits1 (Some 0xA190); leaves = leaves2; wanted = refl; later = run visits2 None; leaves_later = leaves3; replies = refl }), tt, low3)
+
+  low4 : LegalOverZeros ((Fetch ⟼ Low 0x203 0x64) ∷ three_words log)
+  low4 = ((met_at None 0x203 (Waits 0x64) refl, record { run = run visits2 None; leaves = leaves3; wanted = refl }), tt, legal3)
+
+  legal4 : LegalOverZeros (four_words log)
+  legal4 = ((met_at (Some 0x64) 0x203 (Whole (Some 0x9064)) refl, record { run = run visits2 None; leaves = leaves3; wanted = refl; later = run visits2 (Some 0x9064); leaves_later = leaves4; replies = refl }), tt, low4)
+
+  low5 : LegalOverZeros ((Fetch ⟼ Low 0x204 0x64) ∷ four_words log)
+  low5 = ((met_at None 0x204 (Waits 0x64) refl, record { run = run visits2 (Some 0x9064); leaves = leaves4; wanted = refl }), tt, legal4)
+
+  legal5 : LegalOverZeros (five_words log)
+  legal5 = ((met_at (Some 0x64) 0x204 (Whole (Some 0x7464)) refl, record { run = run visits2 (Some 0x9064); leaves = leaves4; wanted = refl; later = run visits3 None; leaves_later = leaves5; replies = refl }), tt, low5)
+
+  low6 : LegalOverZeros ((Fetch ⟼ Low 0x205 0x00) ∷ five_words log)
+  low6 = ((met_at None 0x205 (Waits 0x00) refl, record { run = run visits3 None; leaves = leaves5; wanted = refl }), tt, legal5)
 
   legal6 : LegalOverZeros (finished log)
-  legal6 = ((word_at 0x205 0xB000 refl, record { run = run visits3 None; leaves = leaves5; wanted = refl; later = run visits4 None; leaves_later = leaves6; replies = refl }), tt, legal5)
+  legal6 = ((met_at (Some 0x00) 0x205 (Whole (Some 0xB000)) refl, record { run = run visits3 None; leaves = leaves5; wanted = refl; later = run visits4 None; leaves_later = leaves6; replies = refl }), tt, low6)
 
--- the first picture: F1 is offered, published and drawn at event 23
+-- the first picture: F1 is offered, published and drawn at event 29
 pub first_picture : LegalOverZeros (finished started)
-first_picture = legal6 started nothing started_legal refl (starts new)
+first_picture = legal6 started nothing started_legal refl (starts new) refl
 
--- a strobe that is repeated after five fetches abandons the run; the picture of the next one, at event 29, has the one stroke
-pub restarted_run : LegalOverZeros (finished ((Strobe ⟼ Started) ∷ five_fetches started))
+-- a strobe that is repeated after five words abandons the run; the picture of the next one has the one stroke
+pub restarted_run : LegalOverZeros (finished ((Strobe ⟼ Started) ∷ five_words started))
 restarted_run =
-    legal6 ((Strobe ⟼ Started) ∷ five_fetches started) (grown (begun nothing) visits3 None) (refl, tt, legal5 started nothing started_legal refl (starts new)) refl
-    (starts (leaves5 started nothing started_legal refl (starts new)))
+    legal6 ((Strobe ⟼ Started) ∷ five_words started) (grown (begun nothing) visits3 None) (refl, tt, legal5 started nothing started_legal refl (starts new) refl) refl
+    (starts (leaves5 started nothing started_legal refl (starts new) refl)) refl
+
+-- F1 again: accepted after its picture, and written to half 0
+abbrev F1_again : List (ℕ × ℕ)
+F1_again = (0x002, 0x90) ∷ (0x003, 0xA1) ∷ (0x004, 0x00) ∷ (0x005, 0x02) ∷ (0x006, 0x64) ∷ (0x007, 0x90) ∷ (0x008, 0x64) ∷ (0x009, 0x74) ∷ (0x00A, 0x00) ∷ (0x00B, 0xB0) ∷ []
+
+abbrev written_again : Log
+written_again = wrote F1_again ((Offer F1 ⟼ Offered) ∷ finished started)
+
+is_written_again : LegalOverZeros written_again × (place_of (life zeros written_again) ≡ Some (with_left ((0x001, 0xE0) ∷ [])))
+is_written_again =
+    written F1_again ((0x001, 0xE0) ∷ []) ((Offer F1 ⟼ Offered) ∷ finished started) ((closed zeros, rests_whole (life zeros (finished started)) false refl), is_draft, first_picture) refl
+
+-- a strobe that comes again before the flip begins a run, and the flip comes between the two bytes of word zero
+abbrev low_fetched : Log
+low_fetched = (Fetch ⟼ Low 0x000 0x01) ∷ (Strobe ⟼ Started) ∷ written_again
+
+abbrev between : Log
+between = did (Wrote 0x001 0xE0) ∷ low_fetched
+
+abbrev before_again : Newest
+before_again = grown (begun nothing) visits4 None
+
+leaves_again : Leaves (history zeros zeros between) (begun before_again)
+leaves_again = starts (leaves6 started nothing started_legal refl (starts new) refl)
+
+low_fetched_legal : LegalOverZeros low_fetched
+low_fetched_legal = ((refl, record { run = begun before_again; leaves = leaves_again; wanted = refl }), tt, (refl, tt, is_written_again.0))
+
+between_legal : LegalOverZeros between
+between_legal =
+    let after = ap (option_and_then (λ p. next p (Did (Wrote 0x001 0xE0)))) is_written_again.1 ∙ write_fits 0x001 0xE0 [] in
+    ticked low_fetched (Wrote 0x001 0xE0) (with_left []) low_fetched_legal after tt
+
+-- no half is drawn before the high byte is fetched
+pub nothing_drawn_between : (half : Half) → ¬ IsBeingDrawn between half
+nothing_drawn_between half drawn = none (0x000, 0xE000 + drawn.target) drawn.later (same_Some _ _ drawn.fetches)
+  where
+    none : (at : ℕ × ℕ) (later : List (ℕ × ℕ)) → [] ≡ later ++ at ∷ [] → ⊥
+    none at [] e = cc
+    none at (fetch ∷ later) e = cc
+
+-- the run draws the half that the flip has published
+abbrev again : Log
+again = (Fetch ⟼ Fetched 0x000 0xE001) ∷ between
+
+pub flip_between_the_bytes : LegalOverZeros again
+flip_between_the_bytes =
+    let spells : Spells (Jmpl 0x001) (0xE001 ∷ []) = jmpl (lit≤ tt) refl in
+    let jumps : List Visit = record { place = 0; code = Jmpl 0x001 } ∷ [] in
+    ((refl, record { run = begun before_again; leaves = leaves_again; wanted = refl; later = grown (begun before_again) jumps None; leaves_later = takes leaves_again refl (one spells); replies = refl }), tt, between_legal)
+
+pub half_0_is_drawn : IsBeingDrawn again H0
+half_0_is_drawn = record { later = []; target = 0x001; fetches = refl; in_half = (lit≤ tt, lit≤ tt) }
 
 not_idle : ¬ IsWhole []
 not_idle whole = let rests = whole_rests [] whole in let e = rests.1 in cc

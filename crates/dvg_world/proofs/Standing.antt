@@ -4,16 +4,16 @@ use Rattle.std.proofs.lemmas.Bool.{eqb-true, eqb-false}
 use Rattle.std.proofs.lemmas.List.{get_or-set_other, get_or-set_same}
 use Rattle.std.specs.Prelude.{◌↔◌, IsTrue, IsNone, OnErr, IfOk, Result, Ok, Err, is_some, is_none, slice_index, slice_set, nat_eq, if◌then◌else◌}
 use Rattle.dvg_mem.specs.Areas.{half_of_high, other}
-use Rattle.dvg_mem.specs.Memory.{fetched, IsImage}
+use Rattle.dvg_mem.specs.Memory.{fetched_byte, IsImage}
+use Rattle.dvg_gen.specs.Bytes.{Met, met, Waits, Whole, word_of}
 use Rattle.dvg_gen.specs.Completing.{DrawsNothing}
 use Rattle.dvg_gen.specs.declared.stroke.Stroke.{Stroke}
 use Rattle.dvg_gen.specs.declared.taken.GenFault.{GenFault}
-use Rattle.dvg_gen.specs.declared.taken.GenFault.TheVariants.{Hole}
 use Rattle.dvg_gen.specs.declared.taken.Taken.{Taken}
 use Rattle.dvg_gen.specs.declared.taken.Taken.TheVariants as taken
 use Rattle.dvg_gen.specs.Machine as generator
 use Rattle.dvg_gen.specs.Machine.{Machine, Answers, IsReply}
-use Rattle.dvg_gen.specs.Told.{Told, Start, Reset, Fed, Leaves, Reply, More, Drew, Fails, reply, wants}
+use Rattle.dvg_gen.specs.Told.{Told, Start, Reset, Fed, Reply, More, Drew, Fails, reply, wants}
 use Rattle.dvg_frame.specs.declared.op.OpKind.{OpKind}
 use Rattle.dvg_frame.specs.declared.place.FrameFault.{FrameFault}
 use Rattle.dvg_frame.specs.Ops.{IsDraft}
@@ -28,8 +28,8 @@ use Rattle.dvg_driver.specs.Stands.{Stage, Tells, byte1_of, peeked_after}
 use Rattle.dvg_world.specs.Events.{Happening, Offer, Redraw, Tick, Strobe, Fetch, ResetGen, ResetCpu, ResetAll}
 use Rattle.dvg_world.specs.declared.entry.Entry.{Entry}
 use Rattle.dvg_world.specs.Entries.{Shown, shown_of, Offered, Refused, Busy, Asked, NothingPublished, Acted, Started, NoStrobe, Still, Cleared}
-use Rattle.dvg_world.specs.Log.{◌⟼◌, Log, Throughout, ram, history, open_run, life, strobed}
-use Rattle.dvg_world.specs.Legal.{IsTrueRead, IsFetch, IsLegal}
+use Rattle.dvg_world.specs.Log.{◌⟼◌, Log, Throughout, ram, low_byte, meets, history, open_run, life, strobed}
+use Rattle.dvg_world.specs.Legal.{IsTrueRead, IsLegal}
 use Rattle.dvg_world.specs.Standing.{State, StandsAt, WorldAfter}
 use Rattle.dvg_world.specs.Stepping.{AddsLine, DrawsNow, ram_by, sent_by, entry_by}
 use Rattle.dvg_world.proofs.Linked.{opened}
@@ -43,22 +43,22 @@ pub adds_between : {old old' new new' : State} (event : Happening) (entry : Show
 adds_between {old' = old'} {new = new} event entry same_old same_new adds =
     subst (λ s. AddsLine s event entry new) same_old (subst (λ s. AddsLine old' event entry s) (sym same_new) adds)
 
-pub new_world : (rom image bytes : List ℕ) (machine : Machine) (stage : Stage) → IsImage rom → IsImage bytes → bytes ≡ image → generator.StandsAfter machine []
+pub new_world : (rom image bytes : List ℕ) (machine : Machine) (stage : Stage) → IsImage rom → IsImage bytes → bytes ≡ image → generator.StandsAfter machine [] None
     → ((peeked : ℕ) → driver.StandsAfter stage peeked []) → WorldAfter rom image [] (world_of rom bytes machine stage false)
 new_world rom image bytes machine stage r b same g d = record {
   legal = (r, subst IsImage same b);
   stands = record { rom = refl; ram = same; machine = g; peeked = slice_index image 1; stage = d (slice_index image 1); byte1 = refl; sent = refl };
 }
 
-module _ {rom bytes R ram : List ℕ} {machine : Machine} {stage : Stage} {sent strobe : Bool} {told : List Told} {items : List Item} (stands : StandsAt (world_of rom bytes machine stage sent) R ram told items strobe) where
-  with_machine : {machine' : Machine} {told' : List Told} → generator.StandsAfter machine' told' → StandsAt (world_of rom bytes machine' stage sent) R ram told' items strobe
+module _ {rom bytes R ram : List ℕ} {machine : Machine} {stage : Stage} {sent strobe : Bool} {told : List Told} {low : Option ℕ} {items : List Item} (stands : StandsAt (world_of rom bytes machine stage sent) R ram told low items strobe) where
+  with_machine : {machine' : Machine} {told' : List Told} {low' : Option ℕ} → generator.StandsAfter machine' told' low' → StandsAt (world_of rom bytes machine' stage sent) R ram told' low' items strobe
   with_machine after = record { rom = stands.rom; ram = stands.ram; machine = after; peeked = stands.peeked; stage = stands.stage; byte1 = stands.byte1; sent = stands.sent }
 
   with_stage : {stage' : Stage} {items' : List Item} (peeked : ℕ) → driver.StandsAfter stage' peeked items' → byte1_of peeked items' ≡ slice_index ram 1
-      → StandsAt (world_of rom bytes machine stage' sent) R ram told items' strobe
+      → StandsAt (world_of rom bytes machine stage' sent) R ram told low items' strobe
   with_stage peeked after byte1 = record { rom = stands.rom; ram = stands.ram; machine = stands.machine; peeked = peeked; stage = after; byte1 = byte1; sent = stands.sent }
 
-  same_stage : {stage' : Stage} → stage' ≡ stage → StandsAt (world_of rom bytes machine stage' sent) R ram told items strobe
+  same_stage : {stage' : Stage} → stage' ≡ stage → StandsAt (world_of rom bytes machine stage' sent) R ram told low items strobe
   same_stage same = with_stage stands.peeked (subst (λ s. driver.StandsAfter s stands.peeked items) (sym same) stands.stage) stands.byte1
 
 -- a run is open in the generator exactly where one is open in the log
@@ -178,30 +178,30 @@ module _ {rom bytes : List ℕ} {machine : Machine} {stage : Stage} {sent : Bool
   pub strobe_lost : sent ≡ false → AddsLine (world_of rom bytes machine stage sent) Strobe NoStrobe (world_of rom bytes machine stage sent)
   strobe_lost none R image log w = record { legal = (sym w.stands.sent ∙ none, tt, w.legal); stands = w.stands }
 
-  pub strobe_starts : {machine' : Machine} → sent ≡ true → ((told : List Told) → generator.StandsAfter machine told → generator.StandsAfter machine' (Start ∷ told))
+  pub strobe_starts : {machine' : Machine} → sent ≡ true → ((told : List Told) (low : Option ℕ) → generator.StandsAfter machine told low → generator.StandsAfter machine' (Start ∷ told) None)
       → AddsLine (world_of rom bytes machine stage sent) Strobe Started (world_of rom bytes machine' stage sent)
   strobe_starts some starts R image log w = record {
     legal = (sym w.stands.sent ∙ some, tt, w.legal);
-    stands = with_machine w.stands (starts (history R image log) w.stands.machine);
+    stands = with_machine w.stands (starts (history R image log) (low_byte log) w.stands.machine);
   }
 
-  pub reset_gen : {machine' : Machine} → ((told : List Told) → generator.StandsAfter machine told → generator.StandsAfter machine' (Reset ∷ told))
+  pub reset_gen : {machine' : Machine} → ((told : List Told) (low : Option ℕ) → generator.StandsAfter machine told low → generator.StandsAfter machine' (Reset ∷ told) None)
       → AddsLine (world_of rom bytes machine stage sent) ResetGen Cleared (world_of rom bytes machine' stage sent)
-  reset_gen resets R image log w = record { legal = (tt, tt, w.legal); stands = with_machine w.stands (resets (history R image log) w.stands.machine) }
+  reset_gen resets R image log w = record { legal = (tt, tt, w.legal); stands = with_machine w.stands (resets (history R image log) (low_byte log) w.stands.machine) }
 
   pub reset_cpu : {stage' : Stage} → ((peeked : ℕ) → driver.StandsAfter stage' peeked []) → AddsLine (world_of rom bytes machine stage sent) ResetCpu Cleared (world_of rom bytes machine stage' sent)
   reset_cpu resets R image log w =
       let peeked = slice_index (ram image log) 1 in
       record { legal = (tt, tt, w.legal); stands = with_stage w.stands peeked (resets peeked) refl }
 
-  pub reset_all : {machine' : Machine} {stage' : Stage} {all bytes' : List ℕ} → IsImage bytes' → bytes' ≡ all → ((told : List Told) → generator.StandsAfter machine told → generator.StandsAfter machine' (Reset ∷ told))
+  pub reset_all : {machine' : Machine} {stage' : Stage} {all bytes' : List ℕ} → IsImage bytes' → bytes' ≡ all → ((told : List Told) (low : Option ℕ) → generator.StandsAfter machine told low → generator.StandsAfter machine' (Reset ∷ told) None)
       → ((peeked : ℕ) → driver.StandsAfter stage' peeked []) → AddsLine (world_of rom bytes machine stage sent) (ResetAll all) Cleared (world_of rom bytes' machine' stage' false)
   reset_all {all = all} content same resets again R image log w = record {
     legal = (tt, subst IsImage same content, w.legal);
     stands = record {
       rom = w.stands.rom;
       ram = same;
-      machine = resets (history R image log) w.stands.machine;
+      machine = resets (history R image log) (low_byte log) w.stands.machine;
       peeked = slice_index all 1;
       stage = again (slice_index all 1);
       byte1 = refl;
@@ -233,60 +233,71 @@ module _ {rom bytes : List ℕ} {machine : Machine} {stage : Stage} {sent : Bool
   pub fetch_still : machine.is_open ≡ false → AddsLine (world_of rom bytes machine stage sent) Fetch Still (world_of rom bytes machine stage sent)
   fetch_still shut R image log w = record { legal = (none_open (open_run log) (sym (open_is w) ∙ shut), tt, w.legal); stands = w.stands }
 
-  line_of_fetch : {A : Type 0} {machine' : Machine} (R image : List ℕ) (log : Log) (address : ℕ) (word : Option ℕ) (answer : Taken A)
-      → (w : WorldAfter R image log (world_of rom bytes machine stage sent)) → wants w.stands.machine.run ≡ Some address → word ≡ fetched (ram image log) R address
-      → Answers (history R image log) word machine' answer → WorldAfter R image ((Fetch ⟼ entry_by address word answer) ∷ log) (world_of rom bytes machine' stage sent)
-  line_of_fetch R image log address None answer w wanted found x =
+  -- the line of a fetch, by what it met
+  line_of_fetch : {A : Type 0} {machine' : Machine} (R image : List ℕ) (log : Log) (address : ℕ) (found : Met) (answer : Taken A)
+      → (w : WorldAfter R image log (world_of rom bytes machine stage sent)) → wants w.stands.machine.run ≡ Some address → meets R image log address ≡ found
+      → Answers (history R image log) found machine' answer → WorldAfter R image ((Fetch ⟼ entry_by address found answer) ∷ log) (world_of rom bytes machine' stage sent)
+  line_of_fetch R image log address (Waits byte) answer w wanted met x =
       let m = w.stands.machine in
-      let is_fetch : IsFetch (history R image log) address None (Fails Hole) = record { run = m.run; leaves = m.leaves; wanted = wanted; later = x.run; leaves_later = x.leaves; replies = refl } in
+      record { legal = ((met, record { run = m.run; leaves = m.leaves; wanted = wanted }), tt, w.legal); stands = with_machine w.stands x.0 }
+  line_of_fetch {machine' = machine'} R image log address (Whole None) answer w wanted met x =
+      let m = w.stands.machine in
       record {
-        legal = (subst (λ o. IsFetch (history R image log) address o (Fails Hole)) found is_fetch, tt, w.legal);
-        stands = with_machine w.stands (record { run = x.run; leaves = subst (λ o. Leaves (Fed o ∷ history R image log) x.run) found x.leaves; stands = x.stands });
+        legal = ((None, met, record { run = m.run; leaves = m.leaves; wanted = wanted; later = x.0.run; leaves_later = x.0.leaves; replies = refl }), tt, w.legal);
+        stands = with_machine w.stands (subst (λ o. generator.StandsAfter machine' (Fed o ∷ history R image log) None) (sym (ap word_of met)) x.0);
       }
-  line_of_fetch {A} R image log address (Some word) taken.Word w wanted found x =
+  line_of_fetch R image log address (Whole (Some word)) taken.Low w wanted met x = absurd x.1
+  line_of_fetch {A} R image log address (Whole (Some word)) taken.Word w wanted met x =
       let m = w.stands.machine in
       record {
-        legal = ((sym found, record { run = m.run; leaves = m.leaves; wanted = wanted; later = x.run; leaves_later = x.leaves; replies = more_is A (reply (Some word) x.run) x.replies }), tt, w.legal);
-        stands = with_machine w.stands (record { run = x.run; leaves = x.leaves; stands = x.stands });
+        legal = ((met, record { run = m.run; leaves = m.leaves; wanted = wanted; later = x.0.run; leaves_later = x.0.leaves; replies = more_is A (reply (Some word) x.0.run) x.1 }), tt, w.legal);
+        stands = with_machine w.stands x.0;
       }
-  line_of_fetch {A} R image log address (Some word) (taken.Done strokes) w wanted found x =
+  line_of_fetch {A} R image log address (Whole (Some word)) (taken.Done strokes) w wanted met x =
       let m = w.stands.machine in
       record {
-        legal = ((sym found, record { run = m.run; leaves = m.leaves; wanted = wanted; later = x.run; leaves_later = x.leaves; replies = drew_is A strokes (reply (Some word) x.run) x.replies }), tt, w.legal);
-        stands = with_machine w.stands (record { run = x.run; leaves = x.leaves; stands = x.stands });
+        legal = ((met, record { run = m.run; leaves = m.leaves; wanted = wanted; later = x.0.run; leaves_later = x.0.leaves; replies = drew_is A strokes (reply (Some word) x.0.run) x.1 }), tt, w.legal);
+        stands = with_machine w.stands x.0;
       }
-  line_of_fetch {A} R image log address (Some word) (taken.Broke fault) w wanted found x =
+  line_of_fetch {A} {machine'} R image log address (Whole (Some word)) (taken.Broke fault) w wanted met x =
       let m = w.stands.machine in
-      let is_fetch : IsFetch (history R image log) address (Some word) (Fails fault) = record { run = m.run; leaves = m.leaves; wanted = wanted; later = x.run; leaves_later = x.leaves; replies = fails_is A fault (reply (Some word) x.run) x.replies } in
       record {
-        legal = (subst (λ o. IsFetch (history R image log) address o (Fails fault)) found is_fetch, tt, w.legal);
-        stands = with_machine w.stands (record { run = x.run; leaves = subst (λ o. Leaves (Fed o ∷ history R image log) x.run) found x.leaves; stands = x.stands });
+        legal = ((Some word, met, record { run = m.run; leaves = m.leaves; wanted = wanted; later = x.0.run; leaves_later = x.0.leaves; replies = fails_is A fault (reply (Some word) x.0.run) x.1 }), tt, w.legal);
+        stands = with_machine w.stands (subst (λ o. generator.StandsAfter machine' (Fed o ∷ history R image log) None) (sym (ap word_of met)) x.0);
       }
 
-  -- the word is that of the log's memory
-  found_in : {R image : List ℕ} {log : Log} (address : ℕ) (word : Option ℕ) → WorldAfter R image log (world_of rom bytes machine stage sent) → word ≡ fetched bytes rom address → word ≡ fetched (ram image log) R address
-  found_in {R} {image} {log} address word w found = found ∙ (ap (λ b. fetched b rom address) w.stands.ram ∙ ap (λ r. fetched (ram image log) r address) w.stands.rom)
+  -- what a fetch meets is what the log says
+  met_in : {R image : List ℕ} {log : Log} (address : ℕ) (low byte : Option ℕ) (high : Bool) → WorldAfter R image log (world_of rom bytes machine stage sent) → low ≡ machine.low → high ≡ is_some low → byte ≡ fetched_byte bytes rom address high
+      → (low ≡ low_byte log) × (meets R image log address ≡ met (low_byte log) byte)
+  met_in {R} {image} {log} address low byte high w kept second found =
+      let same = kept ∙ w.stands.machine.low in
+      let there : byte ≡ fetched_byte (ram image log) R address (is_some (low_byte log)) =
+      found ∙ (ap (λ b. fetched_byte b rom address high) w.stands.ram ∙ (ap (λ r. fetched_byte (ram image log) r address high) w.stands.rom ∙ ap (fetched_byte (ram image log) R address) (second ∙ ap is_some same))) in
+      (same, ap (met (low_byte log)) (sym there))
 
-  pub fetch_takes : {A : Type 0} {machine' : Machine} (address : ℕ) (word : Option ℕ) (answer : Taken A) (entry : Shown)
-      → ((told : List Told) (after : generator.StandsAfter machine told) → Some address ≡ wants after.run) → word ≡ fetched bytes rom address
-      → ((told : List Told) → generator.StandsAfter machine told → Answers told word machine' answer) → entry ≡ entry_by address word answer
+  pub fetch_takes : {A : Type 0} {machine' : Machine} (address : ℕ) (low byte : Option ℕ) (high : Bool) (answer : Taken A) (entry : Shown)
+      → ((told : List Told) (l : Option ℕ) (after : generator.StandsAfter machine told l) → Some address ≡ wants after.run) → low ≡ machine.low → high ≡ is_some low → byte ≡ fetched_byte bytes rom address high
+      → ((told : List Told) (l : Option ℕ) → generator.StandsAfter machine told l → Answers told (met l byte) machine' answer) → entry ≡ entry_by address (met low byte) answer
       → AddsLine (world_of rom bytes machine stage sent) Fetch entry (world_of rom bytes machine' stage sent)
-  fetch_takes {machine' = machine'} address word answer entry wanted found answers shown R image log w =
+  fetch_takes {machine' = machine'} address low byte high answer entry wanted kept second found answers shown R image log w =
       let m = w.stands.machine in
-      subst (λ e. WorldAfter R image ((Fetch ⟼ e) ∷ log) (world_of rom bytes machine' stage sent)) (sym shown)
-      (line_of_fetch R image log address word answer w (sym (wanted (history R image log) m)) (found_in address word w found) (answers (history R image log) m))
+      let there = met_in address low byte high w kept second found in
+      subst (λ e. WorldAfter R image ((Fetch ⟼ e) ∷ log) (world_of rom bytes machine' stage sent)) (ap (λ l. entry_by address (met l byte) answer) (sym there.0) ∙ sym shown)
+      (line_of_fetch R image log address (met (low_byte log) byte) answer w (sym (wanted (history R image log) (low_byte log) m)) there.1 (answers (history R image log) (low_byte log) m))
 
-  pub draws_now : (address : ℕ) (word : Option ℕ) → machine.is_open ≡ true → ((told : List Told) (after : generator.StandsAfter machine told) → Some address ≡ wants after.run)
-      → word ≡ fetched bytes rom address → ¬ DrawsNothing machine.held word → DrawsNow (world_of rom bytes machine stage sent)
-  draws_now address word is_open wanted found draws R image log w =
+  pub draws_now : (address : ℕ) (low byte : Option ℕ) (high : Bool) → machine.is_open ≡ true → ((told : List Told) (l : Option ℕ) (after : generator.StandsAfter machine told l) → Some address ≡ wants after.run)
+      → low ≡ machine.low → high ≡ is_some low → byte ≡ fetched_byte bytes rom address high → ¬ DrawsNothing machine.held (met machine.low byte) → DrawsNow (world_of rom bytes machine stage sent)
+  draws_now address low byte high is_open wanted kept second found draws R image log w =
       let m = w.stands.machine in
       let held = (m.stands.running (sym m.stands.is_open ∙ is_open)).held in
+      let there = met_in address low byte high w kept second found in
+      let same : met machine.low byte ≡ meets R image log address = ap (λ l. met l byte) m.low ∙ sym there.1 in
       record {
         run = m.run;
         leaves = m.leaves;
         address = address;
-        wanted = sym (wanted (history R image log) m);
-        draws = λ nothing. draws (subst (λ h. DrawsNothing h word) (sym held) (subst (λ o. DrawsNothing m.run.held o) (sym (found_in address word w found)) nothing));
+        wanted = sym (wanted (history R image log) (low_byte log) m);
+        draws = λ nothing. draws (subst (λ h. DrawsNothing h (met machine.low byte)) (sym held) (subst (λ o. DrawsNothing m.run.held o) (sym same) nothing));
       }
 
 -- an address is wanted while a run is open

@@ -14,6 +14,8 @@ use Rattle.dvg_world.specs.Events.{Happening, Fetch, ResetGen, ResetAll}
 use Rattle.dvg_world.specs.Entries.{Shown, Acted, Started, Fetched, Done, Broke}
 use Rattle.dvg_world.specs.Log.{◌⟼◌, Log, Throughout, ram, history, open_run}
 use Rattle.dvg_world.specs.Legal.{Fits, IsLegal}
+use Rattle.dvg_world.specs.Fetches.{IsInMemory}
+use Rattle.dvg_world.proofs.Words.{words_are_whole}
 use Rattle.dvg_world.specs.Untouched.{IsUntouched, DrewHeld}
 use Rattle.dvg_world.proofs.Law.{undisturbed}
 use Rattle.dvg_world.proofs.Least.{finished_picture}
@@ -42,7 +44,7 @@ runs_over R image ((Fetch ⟼ Fetched a word) ∷ log) legal same (takes {run = 
     let fetch = legal.0.1 in
     let fetching_run = fetching R image log a (Some word) More legal.2 fetch in
     let at : a ≡ wanted run.visits run.held = subst (λ r. a ≡ wanted r.visits r.held) (leaves_same fetch.leaves leaves) fetching_run.at in
-    let there : fetched (ram image log) R (wanted run.visits run.held) ≡ Some word = subst (λ b. fetched (ram image log) R b ≡ Some word) at legal.0.0 in
+    let there : fetched (ram image log) R (wanted run.visits run.held) ≡ Some word = subst (λ b. fetched (ram image log) R b ≡ Some word) at (words_are_whole R image ((Fetch ⟼ Fetched a word) ∷ log) legal).0 in
     subst (λ some. Runs (fetched (ram image log) R) (length some) visits held) older.2
     (fetches (runs_over R image log legal.2 same leaves older.0 older.1) (open_goes leaves is_running) there adds)
 runs_over R image ((event ⟼ Fetched a word) ∷ log) legal same leaves met is_open = absurd legal.0
@@ -51,21 +53,21 @@ runs_over R image ((event ⟼ Broke a fault) ∷ log) legal same leaves met is_o
 runs_over R image ((event ⟼ Acted (Wrote a byte)) ∷ log) legal same leaves met is_open = absurd same
 runs_over R image (line ∷ log) legal same leaves met is_open = runs_over R image log legal.2 same leaves met is_open
 
-held_line : (R image : List ℕ) (log : Log) (event : Happening) (entry : Shown) → IsLegal R image log → Fits R image log event entry → DrewHeld R image log event entry
-held_line R image log Fetch (Done a word drew) legal fits = λ half F met draft closed holds same is_open.
+held_line : (R image : List ℕ) (log : Log) (event : Happening) (entry : Shown) → IsLegal R image log → IsInMemory R image log event entry → Fits R image log event entry → DrewHeld R image log event entry
+held_line R image log Fetch (Done a word drew) legal is_there fits = λ half F met draft closed holds same is_open.
     let memory = fetched (ram image log) R in
     let fetch = fits.1 in
     let fetching_run = fetching R image log a (Some word) (Drew drew) legal fetch in
-    let there : fetched (ram image log) R (wanted fetch.run.visits fetch.run.held) ≡ Some word = subst (λ b. fetched (ram image log) R b ≡ Some word) fetching_run.at fits.0 in
+    let there : fetched (ram image log) R (wanted fetch.run.visits fetch.run.held) ≡ Some word = subst (λ b. fetched (ram image log) R b ≡ Some word) fetching_run.at is_there in
     let more = added fetch in
     let runs = fetches (runs_over R image log legal same fetch.leaves met is_open) fetching_run.goes there more.2 in
     let end = drew_finished more.1 (fate more.0) (strokes fetch.run.first more.0) drew (ap (λ run. reply (Some word) run) (sym more.3) ∙ fetch.replies) in
     let whole = subst (λ held. Runs memory (suc (length met)) more.0 held) end.0 runs in
     let drawn = undisturbed half F (ram image log) R draft (image_of R image log legal) closed holds in
     subst (λ strokes. IsPicture F R strokes (suc (length met))) end.2 (finished_picture drawn fetch.run.first whole end.1)
-held_line R image log event (Done a word drew) legal fits = absurd fits
-held_line R image log event entry legal fits = tt
+held_line R image log event (Done a word drew) legal there fits = absurd fits
+held_line R image log event entry legal there fits = tt
 
 pub draws_held : (R image : List ℕ) (log : Log) → IsLegal R image log → Throughout (DrewHeld R image) log
 draws_held R image [] legal = tt
-draws_held R image ((event ⟼ entry) ∷ log) legal = (held_line R image log event entry legal.2 legal.0, draws_held R image log legal.2)
+draws_held R image ((event ⟼ entry) ∷ log) legal = (held_line R image log event entry legal.2 (words_are_whole R image ((event ⟼ entry) ∷ log) legal).0 legal.0, draws_held R image log legal.2)

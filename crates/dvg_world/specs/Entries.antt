@@ -14,6 +14,8 @@ pub data Shown : Type 0 where
   Busy Asked NothingPublished : Shown
   Acted : Action → Shown
   Started NoStrobe : Shown
+  -- of a word address, the low byte of the word there
+  Low : ℕ → ℕ → Shown
   -- of a word address, the word there
   Fetched : ℕ → ℕ → Shown
   -- of a word address, the word there and what the run drew
@@ -32,6 +34,7 @@ shown_of code.NothingPublished = NothingPublished
 shown_of (code.Acted action) = Acted action
 shown_of code.Started = Started
 shown_of code.NoStrobe = NoStrobe
+shown_of (code.Low address byte) = Low address byte
 shown_of (code.Fetched address word) = Fetched address word
 shown_of (code.Done address word strokes) = Done address word strokes.items
 shown_of (code.Broke address fault) = Broke address fault

@@ -1,5 +1,5 @@
 -- What every legal log shows.
-use Rattle.std.specs.Prelude.{◌≡◌, ℕ, suc, ◌/◌, ◌≤◌, ◌<◌, List, Some, length}
+use Rattle.std.specs.Prelude.{◌≡◌, ℕ, suc, ◌+◌, ◌*◌, ◌/◌, ◌≤◌, ◌<◌, List, length, Option, Some, None}
 use Rattle.dvg_mem.specs.declared.half.Half.{Half}
 use Rattle.dvg_mem.specs.declared.areas.Area.TheVariants.{Frame}
 use Rattle.dvg_mem.specs.Areas.{IsIn}
@@ -9,8 +9,8 @@ use Rattle.dvg_frame.specs.Steps.{Closed}
 use Rattle.dvg_frame.specs.Picture.{IsPicture}
 use Rattle.dvg_driver.specs.declared.action.Action.TheVariants.{Wrote}
 use Rattle.dvg_world.specs.Events.{Happening}
-use Rattle.dvg_world.specs.Entries.{Shown, Acted, Fetched, Done, Broke}
-use Rattle.dvg_world.specs.Log.{Log, Throughout, open_run, IsBeingDrawn, published, publication, at_zero}
+use Rattle.dvg_world.specs.Entries.{Shown, Acted, Low, Fetched, Done, Broke}
+use Rattle.dvg_world.specs.Log.{Log, Throughout, low_byte, open_run, IsBeingDrawn, published, publication, at_zero}
 use Rattle.dvg_world.specs.Legal.{IsLegal}
 
 -- a byte that is written isn't in a half being drawn
@@ -27,7 +27,7 @@ NoFault log event entry = Unit {0}
 abbrev pub IsShown : Log → List OpKind → Type 0
 IsShown log F = published (at_zero log) ≡ Some F
 
--- a run that is finished by its next fetch drew exactly the picture of what it shows, in as many fetches
+-- a run that is finished by its next word drew exactly the picture of what it shows, in as many words
 pub record DrewPicture (R : List ℕ) (log : Log) (drew : List Stroke) : Type 0 where
   pub draft : List OpKind
   pub shown : IsShown log draft
@@ -51,16 +51,22 @@ abbrev pub IsNoOlder : Log → Happening → Shown → Type 0
 IsNoOlder log event (Done address word drew) = (n : ℕ) → publication (at_zero log) ≡ Some n → Throughout (IsNoLater n) log
 IsNoOlder log event entry = Unit {0}
 
--- this holds of the number of the open run's next fetch, for each picture of what it shows: its strokes, and its fetches
-abbrev pub ByPicture : List ℕ → Log → (ℕ → List Stroke → ℕ → Type 0) → Type 0
-ByPicture R log P = (fetches : List (ℕ × ℕ)) (F : List OpKind) (drew : List Stroke) (n : ℕ) → open_run log ≡ Some fetches → IsShown log F → IsPicture F R drew n
-    → P (suc (length fetches)) drew n
+-- how many bytes the open run has fetched: two a word, and the low byte that waits
+abbrev pub fetch_count : List (ℕ × ℕ) → Option ℕ → ℕ
+fetch_count words None = 2 * length words
+fetch_count words (Some low) = 2 * length words + 1
 
--- where what a run shows has a picture of n fetches, its n-th fetch is the one that finishes it, with the picture's strokes
+-- this holds of the number of the open run's next fetch, for each picture of what it shows: its strokes, and its words
+abbrev pub ByPicture : List ℕ → Log → (ℕ → List Stroke → ℕ → Type 0) → Type 0
+ByPicture R log P = (words : List (ℕ × ℕ)) (F : List OpKind) (drew : List Stroke) (n : ℕ) → open_run log ≡ Some words → IsShown log F → IsPicture F R drew n
+    → P (suc (fetch_count words (low_byte log))) drew n
+
+-- where what a run shows has a picture of n words, its fetch number 2n is the one that finishes it, with the picture's strokes
 abbrev pub KeepsTime : List ℕ → Log → Happening → Shown → Type 0
-KeepsTime R log event (Fetched address word) = ByPicture R log (λ number drew n. number < n)
-KeepsTime R log event (Broke address fault) = ByPicture R log (λ number drew n. number < n)
-KeepsTime R log event (Done address word strokes) = ByPicture R log (λ number drew n. (number ≡ n) × (strokes ≡ drew))
+KeepsTime R log event (Low address byte) = ByPicture R log (λ number drew n. number < 2 * n)
+KeepsTime R log event (Fetched address word) = ByPicture R log (λ number drew n. number < 2 * n)
+KeepsTime R log event (Broke address fault) = ByPicture R log (λ number drew n. number < 2 * n)
+KeepsTime R log event (Done address word strokes) = ByPicture R log (λ number drew n. (number ≡ 2 * n) × (strokes ≡ drew))
 KeepsTime R log event entry = Unit {0}
 
 -- no byte is written in the half being drawn

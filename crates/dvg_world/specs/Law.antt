@@ -25,7 +25,7 @@ pub record HoldsFrame (ram : List ℕ) (half : Half) (F : List OpKind) : Type 0 
   pub zero : word_in ram 0 ≡ 0xE000 + base half
   pub laid : (k : ℕ) → k < length (laid half F) → word_in ram (base half + k) ≡ slice_index (laid half F) k
 
--- a run from this beam ends in HALT after n fetches, with these strokes
+-- a run from this beam ends in HALT after n words, with these strokes
 pub record Finishes (memory : ℕ → Option ℕ) (beam : Beam) (drew : List Stroke) (n : ℕ) : Type 0 where
   pub visits : List Visit
   pub runs : Runs memory n visits None
@@ -37,7 +37,7 @@ pub record NeverBreaks (memory : ℕ → Option ℕ) : Type 0 where
   pub fault : (n : ℕ) (visits : List Visit) (held : Option ℕ) → Runs memory n visits held → (fault : GenFault) → fate visits ≢ Breaks fault
   pub hole : (n : ℕ) (visits : List Visit) (held : Option ℕ) → Runs memory n visits held → fate visits ≡ Goes → memory (wanted visits held) ≢ None
 
--- no run breaks, and from any beam there is one of n fetches that ends in HALT with these strokes exactly when they are the draft's picture in n fetches
+-- no run breaks, and from any beam there is one of n words that ends in HALT with these strokes exactly when they are the draft's picture in n words
 pub record IsDrawn (F : List OpKind) (R : List ℕ) (memory : ℕ → Option ℕ) : Type 0 where
   pub safe : NeverBreaks memory
   pub exact : (beam : Beam) (drew : List Stroke) (n : ℕ) → Finishes memory beam drew n ↔ IsPicture F R drew n
@@ -57,7 +57,7 @@ abbrev pub OnlyFirst : Type 0
 OnlyFirst = (half : Half) (F : List OpKind) (R : List ℕ) (memory : ℕ → Option ℕ) → IsDraft F → IsImage R → Closed F R → HasFrame memory half F R
     → (n : ℕ) (visits : List Visit) (held : Option ℕ) → Runs memory (suc n) visits held → fate visits ≡ Goes → wanted visits held ≢ 0
 
--- where the draft has a picture of n fetches, no run has more, and each of n ends in HALT with the picture's strokes
+-- where the draft has a picture of n words, no run has more, and each of n ends in HALT with the picture's strokes
 abbrev pub EndsInTime : Type 0
 EndsInTime = (half : Half) (F : List OpKind) (R : List ℕ) (memory : ℕ → Option ℕ) → IsDraft F → IsImage R → Closed F R → HasFrame memory half F R
     → (beam : Beam) (drew : List Stroke) (n : ℕ) → IsPicture F R drew n → (m : ℕ) (visits : List Visit) (held : Option ℕ) → Runs memory m visits held

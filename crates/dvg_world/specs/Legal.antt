@@ -1,6 +1,7 @@
 -- Legal logs: each event has the entry that it gets over the log before it.
 use Rattle.std.specs.Prelude.{◌≡◌, ℕ, true, false, List, [], ◌∷◌, Option, Some, None, is_none}
-use Rattle.dvg_mem.specs.Memory.{fetched, IsImage}
+use Rattle.dvg_mem.specs.Memory.{IsImage}
+use Rattle.dvg_gen.specs.Bytes.{Waits, Whole}
 use Rattle.dvg_gen.specs.Told.{Told, Fed, Newest, Leaves, Reply, More, Drew, Fails, reply, wants}
 use Rattle.dvg_frame.specs.Steps.{Closed}
 use Rattle.dvg_frame.specs.Faults.{Refuses}
@@ -8,14 +9,20 @@ use Rattle.dvg_driver.specs.declared.action.Action.{Action}
 use Rattle.dvg_driver.specs.Script.{Did, IsWhole, IsLife, has_flip}
 use Rattle.dvg_driver.specs.Stands.{Tells}
 use Rattle.dvg_world.specs.Events.{Happening, Offer, Redraw, Tick, Strobe, Fetch, ResetGen, ResetCpu, ResetAll, IsEvent}
-use Rattle.dvg_world.specs.Entries.{Shown, Offered, Refused, Busy, Asked, NothingPublished, Acted, Started, NoStrobe, Fetched, Done, Broke, Still, Cleared}
-use Rattle.dvg_world.specs.Log.{◌⟼◌, Log, events_of, ram, history, open_run, life, strobed}
+use Rattle.dvg_world.specs.Entries.{Shown, Offered, Refused, Busy, Asked, NothingPublished, Acted, Started, NoStrobe, Low, Fetched, Done, Broke, Still, Cleared}
+use Rattle.dvg_world.specs.Log.{◌⟼◌, Log, events_of, meets, history, open_run, life, strobed}
 
 -- a read of the HALT flag shows whether no run is open
 abbrev pub IsTrueRead : Log → Action → Type 0
 IsTrueRead log action = Tells action (is_none (open_run log))
 
--- after this history the next fetch is of this address, and it is answered so where it meets this word, or a hole
+-- after this history the next word is that at this address
+pub record IsWanted (before : List Told) (address : ℕ) : Type 0 where
+  pub run : Newest
+  pub leaves : Leaves before run
+  pub wanted : wants run ≡ Some address
+
+-- after this history the next word is that at this address, and it is answered so where it is this word, or a hole
 pub record IsFetch (before : List Told) (address : ℕ) (word : Option ℕ) (answer : Reply) : Type 0 where
   pub run : Newest
   pub leaves : Leaves before run
@@ -38,11 +45,12 @@ Fits R image log Redraw Asked = (has_flip (life image log) ≡ true) × IsWhole 
 Fits R image log Tick (Acted action) = IsLife (Did action ∷ life image log) × IsTrueRead log action
 Fits R image log Strobe Started = strobed log ≡ true
 Fits R image log Strobe NoStrobe = strobed log ≡ false
--- the word is the one that memory has now, and the run goes on, is finished or breaks by it
+-- a fetch is of the address that is wanted: a low byte waits; a whole word goes on with the run, finishes it or breaks it, as a hole does
 Fits R image log Fetch Still = open_run log ≡ None
-Fits R image log Fetch (Fetched address word) = (fetched (ram image log) R address ≡ Some word) × IsFetch (history R image log) address (Some word) More
-Fits R image log Fetch (Done address word strokes) = (fetched (ram image log) R address ≡ Some word) × IsFetch (history R image log) address (Some word) (Drew strokes)
-Fits R image log Fetch (Broke address fault) = IsFetch (history R image log) address (fetched (ram image log) R address) (Fails fault)
+Fits R image log Fetch (Low address byte) = (meets R image log address ≡ Waits byte) × IsWanted (history R image log) address
+Fits R image log Fetch (Fetched address word) = (meets R image log address ≡ Whole (Some word)) × IsFetch (history R image log) address (Some word) More
+Fits R image log Fetch (Done address word strokes) = (meets R image log address ≡ Whole (Some word)) × IsFetch (history R image log) address (Some word) (Drew strokes)
+Fits R image log Fetch (Broke address fault) = (word : Option ℕ) × (meets R image log address ≡ Whole word) × IsFetch (history R image log) address word (Fails fault)
 Fits R image log ResetGen Cleared = Unit {0}
 Fits R image log ResetCpu Cleared = Unit {0}
 Fits R image log (ResetAll bytes) Cleared = Unit {0}

@@ -1,16 +1,17 @@
 -- Logs, and what they tell: memory, runs, lives of the driver, what is published and what is drawn.
-use Rattle.std.specs.Prelude.{◌≡◌, ◌+◌, ◌==◌, ℕ, Bool, true, false, List, [], ◌∷◌, ◌++◌, length, slice_index, slice_set, if◌then◌else◌, Option, Some, None, option_and_then, option_map}
+use Rattle.std.specs.Prelude.{◌≡◌, ◌+◌, ◌==◌, ℕ, Bool, true, false, List, [], ◌∷◌, ◌++◌, length, slice_index, slice_set, if◌then◌else◌, Option, Some, None, is_some, option_and_then, option_map}
 use Rattle.dvg_mem.specs.declared.half.Half.{Half}
 use Rattle.dvg_mem.specs.declared.areas.Area.TheVariants.{Frame}
 use Rattle.dvg_mem.specs.Areas.{IsIn, half_of_high, other}
-use Rattle.dvg_mem.specs.Memory.{fetched}
+use Rattle.dvg_mem.specs.Memory.{fetched_byte}
 use Rattle.dvg_gen.specs.Told.{Told, Start, Reset, Fed}
+use Rattle.dvg_gen.specs.Bytes.{Met, met, word_of}
 use Rattle.dvg_frame.specs.declared.op.OpKind.{OpKind}
 use Rattle.dvg_driver.specs.declared.action.Action.TheVariants.{Wrote, Sent}
 use Rattle.dvg_driver.specs.Script
 use Rattle.dvg_driver.specs.Script.{Item, Did}
 use Rattle.dvg_world.specs.Events.{Happening, Offer, ResetGen, ResetCpu, ResetAll}
-use Rattle.dvg_world.specs.Entries.{Shown, Offered, Asked, Acted, Started, Fetched, Done, Broke}
+use Rattle.dvg_world.specs.Entries.{Shown, Offered, Asked, Acted, Started, Low, Fetched, Done, Broke}
 
 -- an event and its entry
 infix 30 ◌⟼◌
@@ -42,7 +43,31 @@ ram image (line ∷ log) = ram image log
 abbrev pub byte : List ℕ → Log → ℕ → ℕ
 byte image log a = slice_index (ram image log) a
 
--- what the generator was told, newest first
+-- the low byte whose high byte the open run fetches next, with its address
+abbrev pub waiting : Log → Option (ℕ × ℕ)
+waiting [] = None
+waiting ((event ⟼ Started) ∷ log) = None
+waiting ((ResetGen ⟼ entry) ∷ log) = None
+waiting ((ResetAll bytes ⟼ entry) ∷ log) = None
+waiting ((event ⟼ Low address byte) ∷ log) = Some (address, byte)
+waiting ((event ⟼ Fetched address word) ∷ log) = None
+waiting ((event ⟼ Done address word strokes) ∷ log) = None
+waiting ((event ⟼ Broke address fault) ∷ log) = None
+waiting (line ∷ log) = waiting log
+
+-- that low byte alone
+abbrev pub low_byte : Log → Option ℕ
+low_byte log = option_map (λ low. low.1) (waiting log)
+
+-- what a fetch meets in these memories, behind a low byte that waits or none: it reads the high byte at an address, or else the low one
+abbrev pub read : (ram rom : List ℕ) → Option ℕ → ℕ → Met
+read ram rom low address = met low (fetched_byte ram rom address (is_some low))
+
+-- what a fetch at this address meets now
+abbrev pub meets : List ℕ → List ℕ → Log → ℕ → Met
+meets R image log address = read (ram image log) R (low_byte log) address
+
+-- the words that the generator was told, newest first
 abbrev pub history : List ℕ → List ℕ → Log → List Told
 history R image [] = []
 history R image ((event ⟼ Started) ∷ log) = Start ∷ history R image log
@@ -50,10 +75,10 @@ history R image ((ResetGen ⟼ entry) ∷ log) = Reset ∷ history R image log
 history R image ((ResetAll bytes ⟼ entry) ∷ log) = Reset ∷ history R image log
 history R image ((event ⟼ Fetched address word) ∷ log) = Fed (Some word) ∷ history R image log
 history R image ((event ⟼ Done address word strokes) ∷ log) = Fed (Some word) ∷ history R image log
-history R image ((event ⟼ Broke address fault) ∷ log) = Fed (fetched (ram image log) R address) ∷ history R image log
+history R image ((event ⟼ Broke address fault) ∷ log) = Fed (word_of (meets R image log address)) ∷ history R image log
 history R image (line ∷ log) = history R image log
 
--- the fetches of the open run, newest first, each with its address and its word; none where no run is open
+-- the whole words that the open run fetched, newest first, each with its address; none where no run is open
 abbrev pub open_run : Log → Option (List (ℕ × ℕ))
 open_run [] = None
 open_run ((event ⟼ Started) ∷ log) = Some []
@@ -64,7 +89,7 @@ open_run ((event ⟼ Done address word strokes) ∷ log) = None
 open_run ((event ⟼ Broke address fault) ∷ log) = None
 open_run (line ∷ log) = open_run log
 
--- a half is being drawn: the open run's first fetch is of address 000 and met a jump to an address in the half
+-- a half is being drawn: the open run's first word is that at 000, a jump to an address in the half
 pub record IsBeingDrawn (log : Log) (half : Half) : Type 0 where
   pub later : List (ℕ × ℕ)
   pub target : ℕ
@@ -113,7 +138,7 @@ published log = option_and_then offered (before_flip log)
 abbrev pub publication : Log → Option ℕ
 publication log = option_map length (before_flip log)
 
--- the run has a fetch
+-- the run has fetched a word
 abbrev pub has_fetched : Option (List (ℕ × ℕ)) → Bool
 has_fetched (Some (fetch ∷ fetches)) = true
 has_fetched _ = false

@@ -1,12 +1,12 @@
 -- After which logs a world stands.
-use Rattle.std.specs.Prelude.{◌≡◌, ℕ, Bool, List, slice_index}
+use Rattle.std.specs.Prelude.{◌≡◌, ℕ, Bool, List, slice_index, Option}
 use Rattle.dvg_gen.specs.Machine as generator
 use Rattle.dvg_gen.specs.Machine.{Machine}
 use Rattle.dvg_gen.specs.Told.{Told}
 use Rattle.dvg_driver.specs.Script.{Item}
 use Rattle.dvg_driver.specs.Stands as driver
 use Rattle.dvg_driver.specs.Stands.{Stage, byte1_of}
-use Rattle.dvg_world.specs.Log.{Log, ram, history, life, strobed}
+use Rattle.dvg_world.specs.Log.{Log, ram, low_byte, history, life, strobed}
 use Rattle.dvg_world.specs.Legal.{IsLegal}
 
 -- what contracts see of a world: the ROM, the RAM, the generator, the driver, and whether a strobe was sent
@@ -17,11 +17,11 @@ pub record State : Type 0 where
   pub stage : Stage
   pub sent : Bool
 
--- a world has this ROM and this RAM; its generator stands after what it was told, and its driver after its life, which tells byte 001 of the RAM; and it knows whether a strobe was sent
-pub record StandsAt (world : State) (R bytes : List ℕ) (told : List Told) (items : List Item) (strobe : Bool) : Type 0 where
+-- a world has this ROM and this RAM; its generator stands after the words that it was told and the low byte that waits, and its driver after its life, which tells byte 001 of the RAM; and it knows whether a strobe was sent
+pub record StandsAt (world : State) (R bytes : List ℕ) (told : List Told) (low : Option ℕ) (items : List Item) (strobe : Bool) : Type 0 where
   pub rom : world.rom ≡ R
   pub ram : world.ram ≡ bytes
-  pub machine : generator.StandsAfter world.machine told
+  pub machine : generator.StandsAfter world.machine told low
   pub peeked : ℕ
   pub stage : driver.StandsAfter world.stage peeked items
   pub byte1 : byte1_of peeked items ≡ slice_index bytes 1
@@ -30,4 +30,4 @@ pub record StandsAt (world : State) (R bytes : List ℕ) (told : List Told) (ite
 -- a world stands after a legal log over this ROM and first image
 pub record WorldAfter (R image : List ℕ) (log : Log) (world : State) : Type 0 where
   pub legal : IsLegal R image log
-  pub stands : StandsAt world R (ram image log) (history R image log) (life image log) (strobed log)
+  pub stands : StandsAt world R (ram image log) (history R image log) (low_byte log) (life image log) (strobed log)

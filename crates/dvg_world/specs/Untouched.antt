@@ -18,7 +18,7 @@ IsUntouched ((event ⟼ Started) ∷ log) = Unit {0}
 IsUntouched ((event ⟼ Acted (Wrote a byte)) ∷ log) = ⊥
 IsUntouched (line ∷ log) = IsUntouched log
 
--- where the RAM holds a checked frame with the jump to it, and has done so since the run began, a run that reaches HALT drew the picture of the frame's draft, in as many fetches
+-- where the RAM holds a checked frame with the jump to it, and has done so since the run began, a run that reaches HALT drew the picture of the frame's draft, in as many words
 abbrev pub DrewHeld : List ℕ → List ℕ → Log → Happening → Shown → Type 0
 DrewHeld R image log event (Done address word drew) = (half : Half) (F : List OpKind) (fetches : List (ℕ × ℕ)) → IsDraft F → Closed F R → HoldsFrame (ram image log) half F → IsUntouched log
     → open_run log ≡ Some fetches → IsPicture F R drew (suc (length fetches))

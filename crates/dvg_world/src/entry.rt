@@ -24,10 +24,12 @@ pub enum Entry<A: Allocator = Global> {
     /// The strobe had no effect: the driver hasn't sent one since the last reset of the whole system, or
     /// the beginning.
     NoStrobe,
-    /// The generator fetched at this word address this word, and its run goes on.
+    /// The generator fetched the low byte of the word at this word address.
+    Low(u16, u8),
+    /// The generator fetched the high byte at this word address. This is the word, and its run goes on.
     Fetched(u16, u16),
-    /// The generator fetched at this word address this word, a HALT. Its run is finished, and drew these
-    /// strokes, in this order.
+    /// The generator fetched the high byte at this word address. This is the word, a HALT. Its run is
+    /// finished, and drew these strokes, in this order.
     Done(u16, u16, Vec<Stroke, A>),
     /// The fetch at this word address broke the run.
     Broke(u16, GenFault),

@@ -16,7 +16,8 @@ pub enum Event<A: Allocator = Global> {
     /// A start strobe reaches the generator. It has no effect unless the driver sent one since the last
     /// reset of the whole system, or the beginning.
     Strobe,
-    /// The generator fetches one word.
+    /// The generator fetches one byte: the low byte of a word, or the high byte of the word whose low byte it
+    /// fetched before (this project's own choice).
     Fetch,
     /// A reset of the generator alone: its run is abandoned.
     ResetGen,

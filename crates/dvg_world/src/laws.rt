@@ -1,4 +1,5 @@
 //! Laws of the definitions alone. Each is the contract of a function that does nothing.
+ghost use Rattle.dvg_world.specs.Fetches.{NextStays, WordsAreWhole, WordsArePaired};
 ghost use Rattle.dvg_world.specs.Headline.{AlwaysInTime, DrawsPublished, NeverFaults, NeverOlder, NeverTorn};
 ghost use Rattle.dvg_world.specs.Law.{AnyMemory, EndsInTime, OnlyFirst, Undisturbed};
 ghost use Rattle.dvg_world.specs.Legal.{SameLog};
@@ -18,7 +19,7 @@ pub fn word_zero_only_first()
     ensures { OnlyFirst }
 {}
 
-/// Where the draft of the frame has a picture of `n` fetches, a run over a memory as in `undisturbed` has at
+/// Where the draft of the frame has a picture of `n` words, a run over a memory as in `undisturbed` has at
 /// most `n`, and one of `n` ended in HALT with the picture's strokes.
 pub fn ends_in_time()
     ensures { EndsInTime }
@@ -42,7 +43,7 @@ pub fn never_faults()
 {}
 
 /// In every legal log each run that reaches HALT drew exactly the picture of the frame that was newest
-/// published when it fetched word zero, and had as many fetches as the picture has. That a run reaches HALT,
+/// published when it fetched word zero, and fetched as many words as the picture has. That a run reaches HALT,
 /// or that a published frame is drawn at all, is not said.
 pub fn draws_published()
     ensures { DrawsPublished }
@@ -54,9 +55,23 @@ pub fn never_older()
     ensures { NeverOlder }
 {}
 
-/// In every legal log a run of a frame that has a picture of `n` fetches has at most `n` of them, and its
-/// `n`-th is the one that finishes it, with the picture's strokes. That so many fetches come is not said, nor
-/// that a frame has a picture: it may loop for ever.
+/// In every legal log a run of a frame that has a picture of `n` words fetches at most `2n` bytes, and its
+/// fetch number `2n` is the one that finishes it, with the picture's strokes. That so many fetches come is
+/// not said, nor that a frame has a picture: it may loop for ever.
 pub fn always_in_time()
     ensures { AlwaysInTime }
+{}
+
+/// In every legal log each word that a run fetched, a byte at a time, is the word that memory has when its high
+/// byte is fetched (`whole`). It comes right after its low byte, which was fetched at the same address (`paired`).
+pub fn words_are_whole()
+    ensures whole { WordsAreWhole }
+    ensures paired { WordsArePaired }
+{}
+
+/// In every legal log no action of the driver changes what the open run fetches next, but for the high byte
+/// of word zero, which is the flip. So the order in which the two bytes of a word are fetched matters for
+/// word zero alone.
+pub fn next_word_stays()
+    ensures { NextStays }
 {}

@@ -32,7 +32,7 @@ use std::alloc::Allocator;
 /// fetch that completes a vector with an intensity of at least 1. `Stopped` then has the entries of the
 /// events before, and all this holds of their log. A strobe arrives only after the driver sent one since the
 /// last reset of the whole system, or the beginning; it may arrive never, once or often. One access of memory
-/// is whole: one byte written, or one word fetched (this project's own choice).
+/// is whole: one byte written, or one byte fetched.
 ///
 /// It isn't said that a strobe, a tick or a fetch ever comes, that a picture is ever drawn, or that a frame
 /// that was accepted is: a later one may replace it. Nothing is said of real hardware.

@@ -2,7 +2,7 @@
 use dvg_code::{Code, Instr};
 use dvg_frame::{Draft, Frame, Op, OpKind, check};
 use dvg_gen::{Generator, Stroke, Taken};
-use dvg_mem::{Flat, Half, Image, Rom, Store, fetch};
+use dvg_mem::{Flat, Half, Image, Rom, Store, fetch_byte};
 use std::alloc::Global;
 use std::test::Fail;
 
@@ -63,7 +63,7 @@ fn store(alloc: Global, frame: &Frame, half: Half) -> Result<Flat, Fail> {
     Ok(store)
 }
 
-// The fetches of a run that ends in HALT, and its strokes.
+// The fetches of a run that ends in HALT, one of each byte, and its strokes.
 fn drawn(alloc: Global, store: &Flat, rom: &Rom) -> Result<(u16, Vec<Stroke>), Fail> {
     let mut generator = Generator::new(alloc);
     generator.start();
@@ -71,8 +71,9 @@ fn drawn(alloc: Global, store: &Flat, rom: &Rom) -> Result<(u16, Vec<Stroke>), F
         let Some(address) = generator.wants() else {
             return Err("halted".into());
         };
-        match generator.take(fetch(store, rom, address))? {
-            Taken::Word => {}
+        let high = generator.wants_high();
+        match generator.take_byte(fetch_byte(store, rom, address, high))? {
+            Taken::Low | Taken::Word => {}
             Taken::Done(strokes) => return Ok((count, strokes)),
             Taken::Broke(_) => return Err("broke".into()),
         }
@@ -111,7 +112,7 @@ fn vectors(rt: HostRuntime) -> Result<(), Fail> {
         y1: 256_000,
         z: 7,
     };
-    assert!(rt; is_drawn(alloc, &rom, &one, 6, &[stroke])?);
+    assert!(rt; is_drawn(alloc, &rom, &one, 12, &[stroke])?);
     let other = [labs(0, 0)?, vctr(10, 0, 5)?, OpKind::Halt];
     let stroke = Stroke {
         x0: 0,
@@ -120,7 +121,7 @@ fn vectors(rt: HostRuntime) -> Result<(), Fail> {
         y1: 0,
         z: 5,
     };
-    assert!(rt; is_drawn(alloc, &rom, &other, 6, &[stroke])?);
+    assert!(rt; is_drawn(alloc, &rom, &other, 12, &[stroke])?);
     Ok(())
 }
 
@@ -136,7 +137,7 @@ fn a_shape_of_the_rom(rt: HostRuntime) -> Result<(), Fail> {
         y1: 2_093_056,
         z: 3,
     };
-    assert!(rt; is_drawn(alloc, &rom, &shape, 7, &[stroke])?);
+    assert!(rt; is_drawn(alloc, &rom, &shape, 14, &[stroke])?);
     Ok(())
 }
 
@@ -156,6 +157,6 @@ fn four_nested_calls(rt: HostRuntime) -> Result<(), Fail> {
         OpKind::Return,
         OpKind::Return,
     ];
-    assert!(rt; is_drawn(alloc, &rom, &nested, 12, &[])?);
+    assert!(rt; is_drawn(alloc, &rom, &nested, 24, &[])?);
     Ok(())
 }

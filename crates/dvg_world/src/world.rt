@@ -1,6 +1,7 @@
 //! The world: both ends of the vector RAM, one event at a time.
 ghost use Rattle.std.specs.Prelude.{◌≡◌, ℕ, List, [], ◌∷◌, IfOk, OnErr};
 ghost use Rattle.dvg_driver.specs.Stands.{IsInRam};
+ghost use Rattle.dvg_gen.specs.Bytes.{met};
 ghost use Rattle.dvg_world.specs.Entries.{shown_of};
 ghost use Rattle.dvg_world.specs.Events.{Offer, Redraw, Tick, Strobe, Fetch, ResetGen, ResetCpu, ResetAll, happening_of};
 ghost use Rattle.dvg_world.specs.Headline.{DrewPublished, IsNoOlder, KeepsTime, NoFault, SparesDrawn};
@@ -17,7 +18,7 @@ use dvg_code::OutOfMemory;
 use dvg_driver::{Action, Driver, DriverFault};
 use dvg_frame::{Checker, Draft};
 use dvg_gen::{GenFault, Generator, Taken};
-use dvg_mem::{Image, Rom, Store, fetch};
+use dvg_mem::{Image, Rom, Store, fetch_byte};
 use std::alloc::Allocator;
 use std::marker::Model;
 
@@ -189,7 +190,7 @@ impl<S: Store> World<S> {
         Entry::Started
     }
 
-    // The generator fetches one word.
+    // The generator fetches one byte.
     pub(crate) fn fetch(&mut self) -> Result<Entry<S::Alloc>, OutOfMemory>
         ensures stands { IfOk result (λ entry. AddsLine self.old Fetch (shown_of entry) self.new) }
         ensures refused { OnErr result (self.new ≡ self.old) }
@@ -198,9 +199,10 @@ impl<S: Store> World<S> {
         let Some(address) = self.generator.wants() else {
             return Ok(Entry::Still);
         };
-        let word = fetch(&self.store, &self.rom, address);
-        let taken = self.generator.take(word)?;
-        Ok(entry_of(address, word, taken))
+        let low = self.generator.low_byte();
+        let byte = fetch_byte(&self.store, &self.rom, address, low.is_some());
+        let taken = self.generator.take_byte(byte)?;
+        Ok(entry_of(address, low, byte, taken))
     }
 
     // The generator is reset.
@@ -231,15 +233,24 @@ impl<S: Store> World<S> {
     }
 }
 
-// The entry of a fetch at this address, of a word or of a hole.
-fn entry_of<A: Allocator>(address: u16, word: Option<u16>, taken: Taken<A>) -> Entry<A>
-    ensures { shown_of result ≡ entry_by address word taken }
+// The entry of a fetch at this address, of a byte behind this low one, or of a hole.
+fn entry_of<A: Allocator>(
+    address: u16,
+    low: Option<u8>,
+    byte: Option<u8>,
+    taken: Taken<A>,
+) -> Entry<A>
+    ensures { shown_of result ≡ entry_by address (met low byte) taken }
 {
-    let Some(word) = word else {
+    let Some(byte) = byte else {
         return Entry::Broke(address, GenFault::Hole);
     };
+    let Some(low) = low else {
+        return Entry::Low(address, byte);
+    };
+    let word = u16::from_le_bytes([low, byte]);
     match taken {
-        Taken::Word => Entry::Fetched(address, word),
+        Taken::Low | Taken::Word => Entry::Fetched(address, word),
         Taken::Done(strokes) => Entry::Done(address, word, strokes),
         Taken::Broke(fault) => Entry::Broke(address, fault),
     }

@@ -1,4 +1,4 @@
-use Rattle.dvg_world.proofs.Later.{always_in_time}
+use Rattle.dvg_world.proofs.Headline.{always_in_time}
 use Rattle.dvg_world.proofs.laws.always_in_time.Goals as goal
 
 pub returns : goal.returns

@@ -1,4 +1,4 @@
-use Rattle.dvg_world.proofs.Later.{draws_published}
+use Rattle.dvg_world.proofs.Headline.{draws_published}
 use Rattle.dvg_world.proofs.laws.draws_published.Goals as goal
 
 pub returns : goal.returns

@@ -1,4 +1,4 @@
-use Rattle.dvg_world.proofs.Later.{never_faults}
+use Rattle.dvg_world.proofs.Headline.{never_faults}
 use Rattle.dvg_world.proofs.laws.never_faults.Goals as goal
 
 pub returns : goal.returns

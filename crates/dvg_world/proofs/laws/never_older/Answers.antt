@@ -1,4 +1,4 @@
-use Rattle.dvg_world.proofs.Later.{never_older}
+use Rattle.dvg_world.proofs.Headline.{never_older}
 use Rattle.dvg_world.proofs.laws.never_older.Goals as goal
 
 pub returns : goal.returns

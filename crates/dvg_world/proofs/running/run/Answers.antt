@@ -1,5 +1,4 @@
-use Rattle.dvg_world.proofs.Kept.{never_torn}
-use Rattle.dvg_world.proofs.Later.{always_in_time, draws_published, never_faults, never_older}
+use Rattle.dvg_world.proofs.Headline.{always_in_time, draws_published, never_faults, never_older, never_torn}
 use Rattle.dvg_world.proofs.Untouched.{draws_held}
 use Rattle.dvg_world.proofs.running.run.Goals as goal
 

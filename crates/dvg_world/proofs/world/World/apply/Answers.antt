@@ -1,8 +1,7 @@
 use Rattle.dvg_world.specs.Events.{happening_of}
 use Rattle.dvg_world.specs.Headline.{DrewPublished, IsNoOlder, KeepsTime, NoFault, SparesDrawn}
 use Rattle.dvg_world.specs.Untouched.{DrewHeld}
-use Rattle.dvg_world.proofs.Kept.{never_torn}
-use Rattle.dvg_world.proofs.Later.{always_in_time, draws_published, never_faults, never_older}
+use Rattle.dvg_world.proofs.Headline.{always_in_time, draws_published, never_faults, never_older, never_torn}
 use Rattle.dvg_world.proofs.Standing.{of_line}
 use Rattle.dvg_world.proofs.Untouched.{draws_held}
 use Rattle.dvg_world.proofs.world.World.apply.Goals as goal
