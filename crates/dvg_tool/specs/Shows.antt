@@ -5,7 +5,7 @@ use Rattle.dvg_gen.specs.declared.taken.GenFault.{GenFault}
 use Rattle.dvg_gen.specs.declared.taken.GenFault.TheVariants.{StackOver, StackUnder, Hole}
 use Rattle.dvg_driver.specs.declared.action.Action.{Action}
 use Rattle.dvg_driver.specs.declared.action.Action.TheVariants.{Peek, Wrote, Read, Sent, Idle}
-use Rattle.dvg_world.specs.Entries.{Shown, Offered, Refused, Busy, Asked, NothingPublished, Acted, Started, NoStrobe, Fetched, Done, Broke, Still, Cleared}
+use Rattle.dvg_world.specs.Entries.{Shown, Offered, Refused, Busy, Asked, NothingPublished, Acted, Started, NoStrobe, Low, Fetched, Done, Broke, Still, Cleared}
 use Rattle.dvg_tool.specs.Lines.{hex_2, hex_3, hex_4, spaced}
 use Rattle.dvg_tool.specs.Verdicts.{fault_parts}
 
@@ -34,6 +34,7 @@ entry_parts NothingPublished = codes "nothing published" ∷ []
 entry_parts (Acted action) = action_parts action
 entry_parts Started = codes "started" ∷ []
 entry_parts NoStrobe = codes "no strobe" ∷ []
+entry_parts (Low address byte) = codes "low" ∷ hex_3 address ∷ hex_2 byte ∷ []
 entry_parts (Fetched address word) = codes "fetched" ∷ hex_3 address ∷ hex_4 word ∷ []
 entry_parts (Done address word drew) = codes "done" ∷ hex_3 address ∷ hex_4 word ∷ decimal (length drew) ∷ []
 entry_parts (Broke address fault) = codes "broke" ∷ hex_3 address ∷ decimal (fault_number fault) ∷ []

@@ -69,6 +69,10 @@ impl Line {
             Entry::Acted(action) => self.action(*action),
             Entry::Started => self.part(b"started"),
             Entry::NoStrobe => self.part(b"no strobe"),
+            Entry::Low(address, byte) => {
+                self.with_address(b"low", *address);
+                self.hex_2(*byte);
+            }
             Entry::Fetched(address, word) => self.fetched(b"fetched", *address, *word),
             Entry::Done(address, word, strokes) => {
                 self.fetched(b"done", *address, *word);
@@ -147,7 +151,8 @@ mod tests {
         assert!(rt; shows(48, &Entry::Acted(Action::Idle), b"48 idle\n"));
         assert!(rt; shows(17, &Entry::Started, b"17 started\n"));
         assert!(rt; shows(0, &Entry::NoStrobe, b"0 no strobe\n"));
-        assert!(rt; shows(18, &Entry::Fetched(0x000, 0xE201), b"18 fetched 000 E201\n"));
+        assert!(rt; shows(18, &Entry::Low(0x000, 0x01), b"18 low 000 01\n"));
+        assert!(rt; shows(19, &Entry::Fetched(0x000, 0xE201), b"19 fetched 000 E201\n"));
         assert!(rt;
             shows(
                 23,

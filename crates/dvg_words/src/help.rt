@@ -105,7 +105,7 @@ at most 65,536, which are numbered from 0:
   redraw        ask for the published frame once more
   tick [N]      a step of the driver
   strobe [N]    a strobe that the driver sent arrives at the generator
-  fetch [N]     the generator fetches a word
+  fetch [N]     the generator fetches a byte: a word's low one, then its high one
   resetgen      reset the generator
   resetcpu      reset the driver
   resetall HH   reset both, with a RAM of bytes HH
@@ -127,7 +127,7 @@ frame, `too many events at line N`, `offer without end`. Lines are numbered from
 
 Example:
   $ printf 'tick 2\\noffer\\nlabs 512 400 0\\nvctr 9 -100 100 7\\nhalt\\nend\\n' >trace
-  $ printf 'tick 14\\nstrobe\\nfetch 6\\n' >>trace
+  $ printf 'tick 14\\nstrobe\\nfetch 12\\n' >>trace
   $ dvg play <trace
-  picture 23 1
+  picture 29 1
   262144 204800 210944 256000 7";

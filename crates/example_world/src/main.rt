@@ -43,7 +43,8 @@ fn draw(rt: &HostRuntime) -> Option<()> {
         world.apply(&Event::Tick).ok()?;
     }
     world.apply(&Event::Strobe).ok()?;
-    for _fetch in 0..6 {
+    // The generator fetches six words, a byte by each event.
+    for _fetch in 0..12 {
         if let Entry::Done(_, _, strokes) = world.apply(&Event::Fetch).ok()? {
             for stroke in &strokes {
                 println!(rt; "{stroke:?}").ok()?;
