@@ -3,9 +3,13 @@
 #![tactic(auto)]
 
 #[cfg(test)]
+mod between_bytes;
+#[cfg(test)]
 mod checks;
 #[cfg(test)]
 mod devices;
+#[cfg(test)]
+mod doubling;
 #[cfg(test)]
 mod lists;
 #[cfg(test)]
@@ -34,3 +38,5 @@ mod texts;
 mod traces;
 #[cfg(test)]
 mod transcripts;
+#[cfg(test)]
+mod whole_words;

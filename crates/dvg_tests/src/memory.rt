@@ -1,5 +1,8 @@
 //! The memory map, images, the ROM and stores.
-use dvg_mem::{Area, Flat, Half, Image, MEMORY_BYTES, MemFault, Rom, Store, area, fetch};
+use crate::scripts::rom;
+use dvg_mem::{
+    Area, Flat, Half, Image, MEMORY_BYTES, MemFault, Rom, Store, area, fetch, fetch_byte,
+};
 use linked_list_allocator::LocalHeap;
 use std::alloc::Global;
 use std::process::Abort;
@@ -19,6 +22,18 @@ const BORDERS: [(u16, Area); 12] = [
     (0xBFF, Area::Rom),
     (0xC00, Area::Hole),
     (0xFFF, Area::Hole),
+];
+
+/// Word addresses, and the low and the high byte that are fetched there.
+const FETCHED: [(u16, Option<u8>, Option<u8>); 8] = [
+    (0x000, Some(0x01), Some(0xE2)),
+    (0x001, Some(0x00), Some(0x00)),
+    (0x3FF, Some(0x00), Some(0x12)),
+    (0x400, None, None),
+    (0x7FF, None, None),
+    (0x800, Some(0x37), Some(0xFE)),
+    (0xBFF, Some(0x00), Some(0xD0)),
+    (0xC00, None, None),
 ];
 
 /// 2,048 bytes of one value.
@@ -81,14 +96,17 @@ fn keeps_bytes<S: Store<Alloc = Global>>(rt: &(impl Abort + AllocGlobal)) -> Res
     let returns = Image::new(rt.alloc(), same_bytes(rt.alloc(), 0xD0)?.as_slice()).map_err(
         |_| Fail::from("no image"),
     )?;
-    let rom = Rom::new(rt.alloc(), same_bytes(rt.alloc(), 0xFF)?.as_slice()).map_err(|_| Fail::from(
-        "no ROM",
-    ))?;
+    let rom = rom(rt.alloc(), rt.alloc(), &[0xFE37])?;
     let mut store = S::make(rt.alloc(), &image).map_err(|_| Fail::from("no store"))?;
     assert_eq!(rt; fetch(&store, &rom, 0x000), Some(0xE201));
     assert_eq!(rt; fetch(&store, &rom, 0x3FF), Some(0x1200));
     assert_eq!(rt; fetch(&store, &rom, 0x400), None);
-    assert_eq!(rt; fetch(&store, &rom, 0x800), Some(0xFFFF));
+    assert_eq!(rt; fetch(&store, &rom, 0x800), Some(0xFE37));
+    for (w, low, high) in FETCHED {
+        assert!(rt; w <= 0xFFF);
+        assert_eq!(rt; fetch_byte(&store, &rom, w, false), low, "at {w:03X}");
+        assert_eq!(rt; fetch_byte(&store, &rom, w, true), high, "at {w:03X}");
+    }
     store.write(0x002, 0xAB);
     assert_eq!(rt; store.read(0x002), 0xAB);
     assert_eq!(rt; store.read(0x402), 0x00);

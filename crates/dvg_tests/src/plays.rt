@@ -1,92 +1,129 @@
 //! The engine `play`: worked traces, and what is written of them.
 use crate::traces::{FIRST_PICTURE, joined, played, shown, text_of};
 use crate::transcripts::{
-    DRAWN, DRAWN_AFTER_A_RESET, DRAWN_AFTER_A_RESTART, DRAWN_AGAIN, FLIPPED, FROM_FF, PUBLISHED,
-    REPLACED, RESET_BEFORE_ITS_STROBE, SHAPE_OF_THE_ROM, STILL_THE_FIRST,
+    DRAWN, DRAWN_AFTER_A_RESET, DRAWN_AFTER_A_RESTART, DRAWN_AFTER_HALF_A_WORD, DRAWN_AGAIN,
+    FLIPPED, FLIPPED_AMID_WORD_ZERO, FROM_FF, PUBLISHED, REPLACED, RESET_BEFORE_ITS_STROBE,
+    SHAPE_DRAWN, SHAPE_PUBLISHED, STILL_THE_FIRST, WRITTEN_UNDRAWN, WRITTEN_UNFLIPPED,
 };
 use std::alloc::Global;
 use std::test::Fail;
 
 /// F2 replaces F1 before a strobe arrives: the first strobe is lost.
-const LOST_STROBE: &str = "tick 2; offer F1; tick 14; offer F2; tick 13; strobe; fetch 6";
+const LOST_STROBE: &str = "tick 2; offer F1; tick 14; offer F2; tick 13; strobe; fetch 12";
 
 /// What is refused before the boot.
-const BEFORE_THE_BOOT: &str = "strobe; fetch; redraw; offer F1";
+const BEFORE_THE_BOOT: &str = "strobe; fetch 2; redraw; offer F1";
 
 /// A strobe amid a run begins it again.
-const RESTART: &str = "tick 2; offer F1; tick 14; strobe; fetch 5; strobe; fetch 6";
+const RESTART: &str = "tick 2; offer F1; tick 14; strobe; fetch 10; strobe; fetch 12";
 
 /// A strobe that is repeated begins a run of F1 before the flip to F2. A third offer comes amid that run.
 const STROBE_BEFORE_THE_FLIP: &str =
-    "tick 2; offer F1; tick 14; strobe; fetch 6; offer F2; tick 10; \
-    strobe; fetch; tick 2; offer F1; tick; fetch 5; tick 2; strobe; fetch 6";
+    "tick 2; offer F1; tick 14; strobe; fetch 12; offer F2; tick 10; \
+    strobe; fetch 2; tick 2; offer F1; tick; fetch 10; tick 2; strobe; fetch 12";
 
 /// The processor is reset after the flip to F2 and before its strobe, and F3 is offered.
-const RESET_AFTER_THE_FLIP: &str = "tick 2; offer F1; tick 14; strobe; fetch 6; offer F2; tick 10; \
-    strobe; fetch; tick; resetcpu; tick 2; offer F3; fetch 5; tick; offer F3; tick 12; strobe; fetch 5";
+const RESET_AFTER_THE_FLIP: &str =
+    "tick 2; offer F1; tick 14; strobe; fetch 12; offer F2; tick 10; \
+    strobe; fetch 2; tick; resetcpu; tick 2; offer F3; fetch 10; tick; offer F3; tick 12; strobe; fetch 10";
 
 /// A memory of FF names half 1.
 const MEMORY_OF_FF: &str = "resetall FF; tick 2; offer F1; tick 14";
 
 /// The first picture is drawn again.
-const REDRAW: &str = "tick 2; offer F1; tick 14; strobe; fetch 6; redraw; tick 2; strobe; fetch 6";
+const REDRAW: &str =
+    "tick 2; offer F1; tick 14; strobe; fetch 12; redraw; tick 2; strobe; fetch 12";
 
 /// A reset of the generator abandons a run.
 const ABANDONED: &str =
-    "tick 2; offer F1; tick 14; strobe; fetch 3; resetgen; fetch; strobe; fetch 6";
+    "tick 2; offer F1; tick 14; strobe; fetch 6; resetgen; fetch 2; strobe; fetch 12";
+
+/// The flip to F2 comes between the bytes of word zero.
+const FLIP_AMID_WORD_ZERO: &str =
+    "tick 2; offer F1; tick 14; strobe; fetch 12; offer F2; tick 10; strobe; fetch; tick; fetch 11";
+
+/// A reset of the generator abandons a run between the bytes of a word.
+const ABANDONED_AMID_A_WORD: &str =
+    "tick 2; offer F1; tick 14; strobe; fetch 5; resetgen; fetch; strobe; fetch 12";
 
 /// A shape of the ROM is drawn.
 const SHAPE: &str =
     "rom 800 FE37 D000; tick 2; offer; labs 0 0 0; callrom 800; halt; end; tick 12; \
-    strobe; fetch 7";
+    strobe; fetch 14";
 
 /// Traces, and the lines that are written of their pictures.
-const PICTURES: [(&str, &str); 11] = [
-    (FIRST_PICTURE, "picture 23 1; 262144 204800 210944 256000 7"),
-    (LOST_STROBE, "picture 37 1; 0 0 5120 0 5"),
+const PICTURES: [(&str, &str); 13] = [
+    (FIRST_PICTURE, "picture 29 1; 262144 204800 210944 256000 7"),
+    (LOST_STROBE, "picture 43 1; 0 0 5120 0 5"),
     (BEFORE_THE_BOOT, ""),
-    (RESTART, "picture 29 1; 262144 204800 210944 256000 7"),
+    (RESTART, "picture 40 1; 262144 204800 210944 256000 7"),
     (
         STROBE_BEFORE_THE_FLIP,
-        "picture 23 1; 262144 204800 210944 256000 7; picture 45 1; 262144 204800 210944 256000 7; \
-        picture 54 1; 0 0 5120 0 5",
+        "picture 29 1; 262144 204800 210944 256000 7; picture 57 1; 262144 204800 210944 256000 7; \
+        picture 72 1; 0 0 5120 0 5",
     ),
     (
         RESET_AFTER_THE_FLIP,
-        "picture 23 1; 262144 204800 210944 256000 7; picture 46 1; 262144 204800 210944 256000 7; \
-        picture 66 1; 0 0 2091008 2093056 3",
+        "picture 29 1; 262144 204800 210944 256000 7; picture 58 1; 262144 204800 210944 256000 7; \
+        picture 83 1; 0 0 2091008 2093056 3",
     ),
     (MEMORY_OF_FF, ""),
     (
         REDRAW,
-        "picture 23 1; 262144 204800 210944 256000 7; picture 33 1; 262144 204800 210944 256000 7",
+        "picture 29 1; 262144 204800 210944 256000 7; picture 45 1; 262144 204800 210944 256000 7",
     ),
-    (ABANDONED, "picture 29 1; 262144 204800 210944 256000 7"),
-    (SHAPE, "picture 22 1; 0 0 2091008 2093056 3"),
+    (ABANDONED, "picture 39 1; 262144 204800 210944 256000 7"),
+    (
+        FLIP_AMID_WORD_ZERO,
+        "picture 29 1; 262144 204800 210944 256000 7; picture 54 1; 0 0 5120 0 5",
+    ),
+    (
+        ABANDONED_AMID_A_WORD,
+        "picture 37 1; 262144 204800 210944 256000 7",
+    ),
+    (SHAPE, "picture 29 1; 0 0 2091008 2093056 3"),
     ("", ""),
 ];
 
 /// What is written of `BEFORE_THE_BOOT` with `--all`.
-const REFUSED_BEFORE_THE_BOOT: &str = "0 no strobe\n1 still\n2 nothing published\n3 busy\n";
+const REFUSED_BEFORE_THE_BOOT: &str =
+    "0 no strobe\n1 still\n2 still\n3 nothing published\n4 busy\n";
 
 /// Traces, and what is written of them with `--all`, in parts.
-const LOGS: [(&str, &[&str]); 11] = [
+const LOGS: [(&str, &[&str]); 13] = [
     (FIRST_PICTURE, &[PUBLISHED, DRAWN]),
-    (LOST_STROBE, &[PUBLISHED, REPLACED]),
+    (LOST_STROBE, &[PUBLISHED, WRITTEN_UNDRAWN, REPLACED]),
     (BEFORE_THE_BOOT, &[REFUSED_BEFORE_THE_BOOT]),
     (RESTART, &[PUBLISHED, DRAWN_AFTER_A_RESTART]),
     (
         STROBE_BEFORE_THE_FLIP,
-        &[PUBLISHED, DRAWN, FLIPPED, STILL_THE_FIRST],
+        &[
+            PUBLISHED,
+            DRAWN,
+            WRITTEN_UNFLIPPED,
+            FLIPPED,
+            STILL_THE_FIRST,
+        ],
     ),
     (
         RESET_AFTER_THE_FLIP,
-        &[PUBLISHED, DRAWN, FLIPPED, RESET_BEFORE_ITS_STROBE],
+        &[
+            PUBLISHED,
+            DRAWN,
+            WRITTEN_UNFLIPPED,
+            FLIPPED,
+            RESET_BEFORE_ITS_STROBE,
+        ],
     ),
     (MEMORY_OF_FF, &[FROM_FF]),
     (REDRAW, &[PUBLISHED, DRAWN, DRAWN_AGAIN]),
     (ABANDONED, &[PUBLISHED, DRAWN_AFTER_A_RESET]),
-    (SHAPE, &[SHAPE_OF_THE_ROM]),
+    (
+        FLIP_AMID_WORD_ZERO,
+        &[PUBLISHED, DRAWN, WRITTEN_UNFLIPPED, FLIPPED_AMID_WORD_ZERO],
+    ),
+    (ABANDONED_AMID_A_WORD, &[PUBLISHED, DRAWN_AFTER_HALF_A_WORD]),
+    (SHAPE, &[SHAPE_PUBLISHED, SHAPE_DRAWN]),
     ("", &[]),
 ];
 
@@ -209,11 +246,11 @@ fn longest_offer(alloc: Global, before: &str, last: &str, after: &str) -> Result
 /// A frame of 511 words fills half 1 to its last byte.
 #[test]
 fn the_longest_frame_is_played(rt: HostRuntime) -> Result<(), Fail> {
-    let after = "tick 1026; strobe; fetch 512";
+    let after = "tick 1026; strobe; fetch 1024";
     let text = longest_offer(rt.alloc(), "tick 2", "halt; end", after)?;
     let (written, answer) = played(rt.alloc(), text.as_str(), false)?;
     assert_eq!(rt; answer, Ok(()));
-    assert_eq!(rt; written.as_str(), "picture 1541 0\n");
+    assert_eq!(rt; written.as_str(), "picture 2053 0\n");
     let (written, answer) = played(rt.alloc(), text.as_str(), true)?;
     assert_eq!(rt; answer, Ok(()));
     assert!(rt; has_line(written.as_str(), "1024 wrote 7FF B0"));
@@ -234,7 +271,7 @@ fn a_longer_frame_is_refused(rt: HostRuntime) -> Result<(), Fail> {
 #[test]
 fn the_deepest_calls_are_played(rt: HostRuntime) -> Result<(), Fail> {
     let parts = "tick 2; offer; labs 0 0 0; call 3; halt; call 5; return; call 7; return; call 9; \
-        return; return; end; tick 26; strobe; fetch 12";
-    assert_eq!(rt; shown(rt.alloc(), parts, false)?.as_str(), "picture 41 0\n");
+        return; return; end; tick 26; strobe; fetch 24";
+    assert_eq!(rt; shown(rt.alloc(), parts, false)?.as_str(), "picture 53 0\n");
     Ok(())
 }

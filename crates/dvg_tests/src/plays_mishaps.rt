@@ -31,7 +31,7 @@ fn a_failing_second_write_leaves_the_first_line(rt: HostRuntime) -> Result<(), F
         assert_eq!(rt; writer.failures(), 1);
         assert_eq!(rt;
             writer.into_inner().taken.as_slice(),
-            b"picture 23 1\n".as_slice()
+            b"picture 29 1\n".as_slice()
         );
     }
     Ok(())
@@ -124,7 +124,7 @@ fn shown_before(alloc: Global, text: &str, line: &str) -> Result<String, Fail> {
 #[test]
 fn a_refusal_leaves_a_beginning_of_the_log(rt: HostRuntime) -> Result<(), Fail> {
     let text = text_of(rt.alloc(), FIRST_PICTURE)?;
-    let before = shown_before(rt.alloc(), text.as_str(), "22 fetched")?;
+    let before = shown_before(rt.alloc(), text.as_str(), "27 fetched")?;
     let wanted = first_picture_shown(rt.alloc(), true)?;
     let mut refused = 0u32;
     for slots in 0..4096usize {
@@ -149,9 +149,9 @@ fn wall_in<'a>(heap: &'a LocalHeap, front: usize) -> Result<Vec<u8, &'a LocalHea
     Ok(wall)
 }
 
-/// The first picture behind an offer of one operation, and with eleven ticks more before its own offer: 36 events, of
-/// which the last but one draws.
-const LATE_PICTURE: &str = "offer; halt; end; tick 13; offer F1; tick 14; strobe; fetch 6";
+/// The first picture behind an offer of one operation, and with five ticks more before its own offer: 36 events, of
+/// which the last but two draws.
+const LATE_PICTURE: &str = "offer; halt; end; tick 7; offer F1; tick 14; strobe; fetch 12";
 
 /// The text of the late picture, behind a comment that makes it as long as is wanted.
 fn text_of_length(alloc: Global, wanted: usize) -> Result<String, Fail> {
@@ -178,7 +178,7 @@ fn a_refusal_at_the_vector_leaves_the_entries_before(rt: HostRuntime) -> Result<
     let text = text_of_length(rt.alloc(), MEMORY_BYTES)?;
     assert_eq!(rt; text.len(), MEMORY_BYTES);
     let front = MEMORY_BYTES + 48 + event * 124;
-    let before = shown_before(rt.alloc(), text.as_str(), "34 fetched")?;
+    let before = shown_before(rt.alloc(), text.as_str(), "33 fetched")?;
     let (mut refused, mut whole) = (0u32, false);
     for slots in 0..2048usize {
         let heap = LocalHeap::new(rt.alloc(), front.saturating_add(slots * 16))?;
@@ -225,13 +225,14 @@ fn a_refusal_leaves_no_picture(rt: HostRuntime) -> Result<(), Fail> {
     Ok(())
 }
 
-/// A trace with a picture of 70 strokes: its vectors are fetched by the events 157 to 226.
+/// A trace with a picture of 58 strokes: the high bytes of its vectors are fetched by every other event from 137 to
+/// 251.
 fn long_picture(alloc: Global) -> Result<String, Fail> {
     let mut text = text_of(alloc, "tick 2; offer; labs 0 0 0")?;
-    for _ in 0..70 {
+    for _ in 0..58 {
         text.push_str("svec 2 0 0 1\n")?;
     }
-    text.push_str("halt\nend\ntick 150\nstrobe\nfetch 74\n")?;
+    text.push_str("halt\nend\ntick 126\nstrobe\nfetch 124\n")?;
     Ok(text)
 }
 
@@ -265,7 +266,10 @@ fn a_refusal_amid_a_picture_leaves_the_log_before(rt: HostRuntime) -> Result<(),
             .strip_prefix(written.as_str())
             .ok_or("other text")?;
         let number = number_of(rest).ok_or("not a whole line")?;
-        assert!(rt; 157 <= number && number <= 226, "event {number}");
+        assert!(rt;
+            137 <= number && number <= 251 && number % 2 == 1,
+            "event {number}"
+        );
         assert_eq!(rt; written.as_str().split('\n').count(), number + 1);
     }
     assert!(rt; whole);

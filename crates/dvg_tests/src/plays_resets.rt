@@ -6,32 +6,33 @@ use std::test::Fail;
 const TRACES: [(&str, &str, &str); 4] = [
     // The run of F1 is abandoned after the flip.
     (
-        "tick 2; offer F1; tick 14; strobe; fetch 6; offer F2; tick 10; strobe; fetch; tick 2; offer F1; \
-        tick; resetgen; fetch 5; tick 2; strobe; fetch 6",
-        "picture 23 1; 262144 204800 210944 256000 7; picture 55 1; 0 0 5120 0 5",
-        "41 cleared; 42 still; 43 still; 44 still; 45 still; 46 still; 47 read halted",
+        "tick 2; offer F1; tick 14; strobe; fetch 12; offer F2; tick 10; strobe; fetch 2; tick 2; offer F1; \
+        tick; resetgen; fetch 10; tick 2; strobe; fetch 12",
+        "picture 29 1; 262144 204800 210944 256000 7; picture 73 1; 0 0 5120 0 5",
+        "48 cleared; 49 still; 50 still; 51 still; 52 still; 53 still; 54 still; 55 still; 56 still; 57 still; \
+        58 still; 59 read halted",
     ),
     // It is begun again after the flip, as a run of F2.
     (
-        "tick 2; offer F1; tick 14; strobe; fetch 6; offer F2; tick 10; strobe; fetch; tick 2; offer F1; \
-        tick; strobe; fetch 5; tick 2; strobe; fetch 6",
-        "picture 23 1; 262144 204800 210944 256000 7; picture 55 1; 0 0 5120 0 5",
-        "46 fetched 004 500A; 47 read running; 48 read running; 49 started",
+        "tick 2; offer F1; tick 14; strobe; fetch 12; offer F2; tick 10; strobe; fetch 2; tick 2; offer F1; \
+        tick; strobe; fetch 10; tick 2; strobe; fetch 12",
+        "picture 29 1; 262144 204800 210944 256000 7; picture 73 1; 0 0 5120 0 5",
+        "57 low 004 0A; 58 fetched 004 500A; 59 read running; 60 read running; 61 started",
     ),
     // The driver forgets F2 before the flip.
     (
-        "tick 2; offer F1; tick 14; strobe; fetch 6; offer F2; tick 10; strobe; fetch; resetcpu; tick 2; \
-        offer F1; tick; fetch 5; tick 2; strobe; fetch 6",
-        "picture 23 1; 262144 204800 210944 256000 7; picture 46 1; 262144 204800 210944 256000 7; \
-        picture 55 1; 262144 204800 210944 256000 7",
-        "37 cleared; 38 peek; 39 read running; 40 busy; 41 read running",
+        "tick 2; offer F1; tick 14; strobe; fetch 12; offer F2; tick 10; strobe; fetch 2; resetcpu; tick 2; \
+        offer F1; tick; fetch 10; tick 2; strobe; fetch 12",
+        "picture 29 1; 262144 204800 210944 256000 7; picture 58 1; 262144 204800 210944 256000 7; \
+        picture 73 1; 262144 204800 210944 256000 7",
+        "44 cleared; 45 peek; 46 read running; 47 busy; 48 read running",
     ),
     // All begins anew, and the strobes under way end.
     (
-        "tick 2; offer F1; tick 14; strobe; fetch 6; offer F2; tick 10; strobe; fetch; resetall 00; tick 2; \
-        offer F1; tick; fetch 5; tick 2; strobe; fetch 6",
-        "picture 23 1; 262144 204800 210944 256000 7",
-        "46 still; 47 wrote 403 A1; 48 wrote 404 00; 49 no strobe; 50 still",
+        "tick 2; offer F1; tick 14; strobe; fetch 12; offer F2; tick 10; strobe; fetch 2; resetall 00; tick 2; \
+        offer F1; tick; fetch 10; tick 2; strobe; fetch 12",
+        "picture 29 1; 262144 204800 210944 256000 7",
+        "58 still; 59 wrote 403 A1; 60 wrote 404 00; 61 no strobe; 62 still",
     ),
 ];
 
@@ -57,10 +58,10 @@ fn an_event_is_put_in(rt: HostRuntime) -> Result<(), Fail> {
 #[test]
 fn a_reset_driver_is_idle_after_the_run(rt: HostRuntime) -> Result<(), Fail> {
     let parts =
-        "tick 2; offer F1; tick 14; strobe; fetch 6; offer F2; tick 10; strobe; fetch; resetcpu; \
-        tick 2; offer F1; tick; fetch 5; tick 2; strobe";
+        "tick 2; offer F1; tick 14; strobe; fetch 12; offer F2; tick 10; strobe; fetch 2; resetcpu; \
+        tick 2; offer F1; tick; fetch 10; tick 2; strobe";
     let log = shown(rt.alloc(), parts, true)?;
-    let end = "262144 204800 210944 256000 7\n47 read halted\n48 idle\n49 started\n";
+    let end = "262144 204800 210944 256000 7\n59 read halted\n60 idle\n61 started\n";
     assert!(rt; log.as_str().ends_with(end));
     Ok(())
 }
@@ -69,10 +70,10 @@ fn a_reset_driver_is_idle_after_the_run(rt: HostRuntime) -> Result<(), Fail> {
 #[test]
 fn a_reset_system_takes_an_offer(rt: HostRuntime) -> Result<(), Fail> {
     let parts =
-        "tick 2; offer F1; tick 14; strobe; fetch 6; offer F2; tick 10; strobe; fetch; resetall 00; \
+        "tick 2; offer F1; tick 14; strobe; fetch 12; offer F2; tick 10; strobe; fetch 2; resetall 00; \
         tick 2; offer F1; tick";
     let log = shown(rt.alloc(), parts, true)?;
-    let end = "37 cleared\n38 peek\n39 read halted\n40 offered\n41 wrote 402 90\n";
+    let end = "44 cleared\n45 peek\n46 read halted\n47 offered\n48 wrote 402 90\n";
     assert!(rt; log.as_str().ends_with(end));
     Ok(())
 }

@@ -68,7 +68,7 @@ fn the_first_line_at_fault_decides(rt: HostRuntime) -> Result<(), Fail> {
 #[test]
 fn nothing_is_written_before_the_last_line_is_read(rt: HostRuntime) -> Result<(), Fail> {
     let first = text_of(rt.alloc(), FIRST_PICTURE)?;
-    let again = "redraw\ntick 2\nstrobe\nfetch 6\n";
+    let again = "redraw\ntick 2\nstrobe\nfetch 12\n";
     let mut text = first.clone()?;
     text.push_str(repeated(rt.alloc(), again, 1000, "halt")?.as_str())?;
     assert!(rt; stops_with(rt.alloc(), text.as_str(), "syntax at line 4010")?);

@@ -172,6 +172,7 @@ fn entry_text<A: Allocator>(alloc: Global, entry: &Entry<A>) -> Result<String, F
         Entry::Acted(action) => action_text(alloc, *action)?,
         Entry::Started => format!(in alloc; "started")?,
         Entry::NoStrobe => format!(in alloc; "no strobe")?,
+        Entry::Low(address, byte) => format!(in alloc; "low {address:03X} {byte:02X}")?,
         Entry::Fetched(address, word) => format!(in alloc; "fetched {address:03X} {word:04X}")?,
         Entry::Done(address, word, strokes) => {
             let count = strokes.len();

@@ -5,10 +5,10 @@ use std::alloc::Global;
 use std::test::Fail;
 
 /// The first picture: F1 is offered, written, published and drawn.
-pub const FIRST_PICTURE: &str = "tick 2; offer F1; tick 14; strobe; fetch 6";
+pub const FIRST_PICTURE: &str = "tick 2; offer F1; tick 14; strobe; fetch 12";
 
 /// What is written of it, without `--all`.
-const ITS_PICTURE: &str = "picture 23 1\n262144 204800 210944 256000 7\n";
+const ITS_PICTURE: &str = "picture 29 1\n262144 204800 210944 256000 7\n";
 
 /// The lines that a part of the compact notation stands for: itself, or the lines of an offer.
 fn lines_of(part: &str) -> &str {
