@@ -47,9 +47,9 @@ const PLAY_ROWS: &[Row] = &[
     ),
     row("play, 65,536 ticks", &["play"], ticks),
     row("play --all, 65,536 ticks", &["play", "--all"], ticks),
-    row("play, 123 pictures of 254 strokes", &["play"], pictures),
+    row("play, 62 pictures of 254 strokes", &["play"], pictures),
     row(
-        "play --all, 123 pictures of 254 strokes",
+        "play --all, 62 pictures of 254 strokes",
         &["play", "--all"],
         pictures,
     ),
@@ -80,7 +80,7 @@ const SMALLEST: &[u8] = b"labs 0 0 0\nhalt\n";
 
 /// What is compared of single parts, each of which runs many times in one process and reads nothing.
 const PART_ROWS: &[Row] = &[
-    row("generator, 1,000,000 words", &["generator"], Vec::new),
+    row("generator, 2,000,000 bytes", &["generator"], Vec::new),
     row(
         "200 checks, 1,024 ROM words at 5 depths",
         &["check"],
@@ -238,11 +238,14 @@ fn nested_over_rom() -> Vec<u8> {
     text.into_bytes()
 }
 
-/// The text of 65,536 random events, a line each but for offers. Most are ticks and fetches.
+/// The text of 65,536 random events, a line each but for offers. Most are ticks and fetches: a fetch of a low byte is
+/// followed by one of a high byte, where there is room for both.
 fn mixed_events() -> Vec<u8> {
     let mut random = Random(1979);
     let mut text = String::new();
-    for _ in 0..65_536 {
+    let mut events = 0;
+    while events < 65_536 {
+        events += 1;
         let line = match random.below(64) {
             0 => {
                 let vectors = "svec 3 -3 -2 3\n".repeat(usize::from(1 + random.below(3)));
@@ -252,6 +255,10 @@ fn mixed_events() -> Vec<u8> {
             1 => "redraw\n",
             2..=41 => "tick\n",
             42..=44 => "strobe\n",
+            45..=61 if events < 65_536 => {
+                events += 1;
+                "fetch\nfetch\n"
+            }
             45..=61 => "fetch\n",
             62 => "resetgen\n",
             _ if random.once_in(16) => "resetall FF\n",
@@ -269,7 +276,7 @@ fn ticks() -> Vec<u8> {
     text.into_bytes()
 }
 
-/// The text of a frame of 254 vectors that are seen, which is drawn 123 times: 64,128 events.
+/// The text of a frame of 254 vectors that are seen, which is drawn 62 times: 64,579 events.
 fn pictures() -> Vec<u8> {
     let mut random = Random(1979);
     let mut text = String::from("tick 2\noffer\nlabs 512 400 0\n");
@@ -283,7 +290,7 @@ fn pictures() -> Vec<u8> {
         );
     }
     text += "halt\nend\ntick 1026\n";
-    text += &"strobe\nfetch 512\n".repeat(123);
+    text += &"strobe\nfetch 1024\n".repeat(62);
     text.into_bytes()
 }
 
@@ -556,7 +563,7 @@ fn compare(rows: &[Row], contenders: [&Contender; 2]) -> io::Result<()> {
 
 /// Says how the program is called.
 fn misuse() -> ExitCode {
-    eprintln!("usage: compare dvg|parts PROVED PLAIN FOLDER");
+    eprintln!("usage: compare dvg|play|parts PROVED PLAIN FOLDER");
     ExitCode::from(64)
 }
 

@@ -28,18 +28,21 @@ pub enum GenFault {
     Hole,
 }
 
-/// What a word led to.
+/// What a byte led to.
 #[allow(dead_code)]
 pub enum Taken {
+    Low,
     Word,
     Done(Vec<Stroke>),
     Broke(GenFault),
 }
 
-/// A generator that is handed one word a call.
+/// A generator that is handed one byte a call: the low byte of a word, and then its high byte.
 pub struct Generator {
     place: u16,
     held: Option<u16>,
+    /// The low byte of the next word.
+    low: Option<u8>,
     stack: [u16; 4],
     saved: usize,
     beam: Beam,
@@ -58,6 +61,7 @@ impl Generator {
         Generator {
             place: 0,
             held: None,
+            low: None,
             stack: [0; 4],
             saved: 0,
             beam: Beam {
@@ -70,10 +74,11 @@ impl Generator {
         }
     }
 
-    /// Halts, and drops the strokes of an open run.
+    /// Halts, and drops the strokes and the low byte of an open run.
     #[allow(dead_code)]
     pub fn reset(&mut self) {
         self.strokes.clear();
+        self.low = None;
         self.open = false;
     }
 
@@ -81,6 +86,7 @@ impl Generator {
         self.strokes.clear();
         self.place = 0;
         self.held = None;
+        self.low = None;
         self.saved = 0;
         self.open = true;
     }
@@ -93,6 +99,11 @@ impl Generator {
             None => self.place,
             Some(_) => (self.place + 1) % 4096,
         })
+    }
+
+    /// Whether the next byte is the high one of its word.
+    pub fn wants_high(&self) -> bool {
+        self.low.is_some()
     }
 
     fn vector(&mut self, local: u8, dx: i32, dy: i32, unit: i64, z: u8) {
@@ -160,10 +171,7 @@ impl Generator {
         }
     }
 
-    pub fn take(&mut self, word: Option<u16>) -> Taken {
-        let Some(word) = word else {
-            return self.broke(GenFault::Hole);
-        };
+    fn take(&mut self, word: u16) -> Taken {
         match self.held.take() {
             Some(first) => self.take_two(first, word),
             None if word < 0xB000 => {
@@ -171,6 +179,21 @@ impl Generator {
                 Taken::Word
             }
             None => self.take_one(word),
+        }
+    }
+
+    #[inline]
+    pub fn take_byte(&mut self, byte: Option<u8>) -> Taken {
+        let Some(byte) = byte else {
+            self.low = None;
+            return self.broke(GenFault::Hole);
+        };
+        match self.low.take() {
+            None => {
+                self.low = Some(byte);
+                Taken::Low
+            }
+            Some(low) => self.take(u16::from_le_bytes([low, byte])),
         }
     }
 }

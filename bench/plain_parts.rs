@@ -1,5 +1,5 @@
 //! The plain Rust twin of the proved program `dvg_bench`, with the same words and lines: a generator that is handed
-//! one word a call with a looping display list, and the check of a draft, written for speed and clarity with no proof.
+//! one byte a call with a looping display list, and the check of a draft, written for speed and clarity with no proof.
 
 mod plain_driver;
 mod plain_frames;
@@ -12,8 +12,8 @@ use plain_generator::{Generator, Taken};
 use plain_world::{Entry, Event, Trace, run};
 use std::hint::black_box;
 
-/// How many steps are made: of each 15, one start and 14 words taken, so 1,000,000 words in all.
-const STEPS: u32 = 1_071_429;
+/// How many steps are made: of each 29, one start and 28 bytes taken, so 2,000,000 bytes in all.
+const STEPS: u32 = 2_071_429;
 
 /// The display list, from word zero on; at 010 stands a subroutine.
 const LIST: [u16; 21] = [
@@ -21,7 +21,13 @@ const LIST: [u16; 21] = [
     0x5010, 0x0410, 0x5410, 0x0010, 0xD000,
 ];
 
-/// Takes the words of the list, and starts again after each run.
+/// The low or the high byte of a word of the list.
+fn byte_at(address: u16, high: bool) -> Option<u8> {
+    let [low_byte, high_byte] = LIST.get(usize::from(address))?.to_le_bytes();
+    Some(if high { high_byte } else { low_byte })
+}
+
+/// Takes the bytes of the list's words, and starts again after each run.
 fn run_generator() {
     let mut generator = Generator::new();
     let (mut runs, mut strokes, mut ends) = (0u32, 0u32, 0u32);
@@ -29,8 +35,8 @@ fn run_generator() {
         match generator.wants() {
             None => generator.start(),
             Some(address) => {
-                let word = LIST.get(usize::from(address)).copied();
-                if let Taken::Done(drawn) = generator.take(word) {
+                let byte = byte_at(address, generator.wants_high());
+                if let Taken::Done(drawn) = generator.take_byte(byte) {
                     runs = runs.wrapping_add(1);
                     for stroke in &drawn {
                         strokes = strokes.wrapping_add(1);
@@ -174,11 +180,12 @@ fn offer_small(vectors: u64, ops: &mut Vec<Op>) -> Event {
     Event::Offer(ops.len() - first)
 }
 
-/// Mixed events: most are ticks and fetches.
+/// Mixed events: most are ticks and fetches. A fetch of a low byte is followed by one of a high byte, where there is room
+/// for both.
 fn mixed_events() -> Trace {
     let mut random = Random(1979);
     let mut trace = Trace::default();
-    for _ in 0..EVENTS {
+    while trace.events.len() < EVENTS {
         trace.events.push(match random.below(64) {
             0 => offer_small(1 + random.below(3), &mut trace.ops),
             1 => Event::Redraw,
@@ -189,6 +196,9 @@ fn mixed_events() -> Trace {
             _ if random.below(16) == 0 => Event::ResetAll(Box::new([0xFF; 2048])),
             _ => Event::ResetCpu,
         });
+        if matches!(trace.events.last(), Some(Event::Fetch)) && trace.events.len() < EVENTS {
+            trace.events.push(Event::Fetch);
+        }
     }
     trace
 }

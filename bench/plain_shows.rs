@@ -27,15 +27,18 @@ impl Line {
         self.hex::<3>(usize::from(address));
     }
 
+    /// Writes a space, a name, a space, an address, a space and a byte.
+    fn byte(&mut self, name: &[u8], address: u16, byte: u8) {
+        self.at(name, address);
+        self.push(b' ');
+        self.hex::<2>(usize::from(byte));
+    }
+
     /// Writes what an action did.
     fn action(&mut self, action: Action) {
         match action {
             Action::Peek => self.part(b"peek"),
-            Action::Wrote(address, byte) => {
-                self.at(b"wrote", address);
-                self.push(b' ');
-                self.hex::<2>(usize::from(byte));
-            }
+            Action::Wrote(address, byte) => self.byte(b"wrote", address, byte),
             Action::Read(true) => self.part(b"read halted"),
             Action::Read(false) => self.part(b"read running"),
             Action::Sent => self.part(b"sent"),
@@ -61,6 +64,7 @@ impl Line {
             Entry::Acted(action) => self.action(*action),
             Entry::Started => self.part(b"started"),
             Entry::NoStrobe => self.part(b"no strobe"),
+            Entry::Low(address, byte) => self.byte(b"low", *address, *byte),
             Entry::Fetched(address, word) => self.fetched(b"fetched", *address, *word),
             Entry::Done(address, word, strokes) => {
                 self.fetched(b"done", *address, *word);

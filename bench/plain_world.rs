@@ -35,6 +35,7 @@ pub enum Entry {
     Acted(Action),
     Started,
     NoStrobe,
+    Low(u16, u8),
     Fetched(u16, u16),
     Done(u16, u16, Vec<Stroke>),
     Broke(u16, GenFault),
@@ -47,6 +48,8 @@ pub struct World<'a> {
     rom: &'a Rom,
     ram: [u8; 2048],
     generator: Generator,
+    /// The byte that was fetched last.
+    last: u8,
     driver: Driver,
     strobed: bool,
 }
@@ -57,16 +60,18 @@ impl World<'_> {
             rom,
             ram: image,
             generator: Generator::new(),
+            last: 0,
             driver: Driver::new(),
             strobed: false,
         }
     }
 
-    fn word(&self, address: u16) -> Option<u16> {
-        let k = usize::from(address);
+    /// The low or the high byte of a word.
+    fn byte(&self, address: u16, high: bool) -> Option<u8> {
+        let (k, side) = (usize::from(address), usize::from(high));
         match address {
-            0..0x400 => Some(u16::from_le_bytes([self.ram[2 * k], self.ram[2 * k + 1]])),
-            0x800..0xC00 => Some(self.rom[k - 0x800]),
+            0..0x400 => Some(self.ram[2 * k + side]),
+            0x800..0xC00 => Some(self.rom[k - 0x800].to_le_bytes()[side]),
             _ => None,
         }
     }
@@ -86,11 +91,15 @@ impl World<'_> {
         let Some(address) = self.generator.wants() else {
             return Entry::Still;
         };
-        let word = self.word(address);
-        match (self.generator.take(word), word) {
-            (Taken::Broke(fault), _) => Entry::Broke(address, fault),
-            (Taken::Word, word) => Entry::Fetched(address, word.unwrap_or(0)),
-            (Taken::Done(strokes), word) => Entry::Done(address, word.unwrap_or(0), strokes),
+        let byte = self.byte(address, self.generator.wants_high());
+        let taken = self.generator.take_byte(byte);
+        let low = std::mem::replace(&mut self.last, byte.unwrap_or(0));
+        let word = u16::from_le_bytes([low, self.last]);
+        match taken {
+            Taken::Low => Entry::Low(address, self.last),
+            Taken::Word => Entry::Fetched(address, word),
+            Taken::Done(strokes) => Entry::Done(address, word, strokes),
+            Taken::Broke(fault) => Entry::Broke(address, fault),
         }
     }
 

@@ -3,8 +3,8 @@ use dvg_code::OutOfMemory;
 use dvg_gen::{Generator, Stroke, Taken};
 use std::alloc::Global;
 
-/// How many steps are made: of each 15, one start and 14 words taken, so 1,000,000 words in all.
-const STEPS: u32 = 1_071_429;
+/// How many steps are made: of each 29, one start and 28 bytes taken, so 2,000,000 bytes in all.
+const STEPS: u32 = 2_071_429;
 
 /// The display list, from word zero on: LABS, a vector, a call, a blank move, a short vector and HALT, and
 /// at 010 a subroutine of two blank moves.
@@ -35,7 +35,13 @@ impl Totals {
     }
 }
 
-/// Takes the words of the list, and starts again after each run.
+/// The low or the high byte of a word of the list.
+fn byte_at(address: u16, high: bool) -> Option<u8> {
+    let [low_byte, high_byte] = LIST.get(usize::from(address))?.to_le_bytes();
+    Some(if high { high_byte } else { low_byte })
+}
+
+/// Takes the bytes of the list's words, and starts again after each run.
 pub fn draw(alloc: Global) -> Result<Totals, OutOfMemory> {
     let mut generator = Generator::new(alloc);
     let mut totals = Totals {
@@ -47,8 +53,8 @@ pub fn draw(alloc: Global) -> Result<Totals, OutOfMemory> {
         match generator.wants() {
             None => generator.start(),
             Some(address) => {
-                let word = LIST.get(usize::from(address)).copied();
-                if let Taken::Done(strokes) = generator.take(word)? {
+                let byte = byte_at(address, generator.wants_high());
+                if let Taken::Done(strokes) = generator.take_byte(byte)? {
                     totals = totals.with_run(strokes.as_slice());
                 }
             }

@@ -99,12 +99,20 @@ fn event(alloc: Global, random: &mut Random) -> Option<Event> {
     })
 }
 
-/// Mixed events.
+/// Mixed events. A fetch of a low byte is followed by one of a high byte, where there is room for both.
 fn mixed_events(alloc: Global) -> Option<Vec<Event>> {
     let mut random = Random { state: 1979 };
     let mut events = Vec::new(alloc);
     for _ in 0..EVENTS {
-        events.push(event(alloc, &mut random)?).ok()?;
+        if events.len() >= EVENTS {
+            break;
+        }
+        let event = event(alloc, &mut random)?;
+        let is_fetch = matches!(&event, Event::Fetch);
+        events.push(event).ok()?;
+        if is_fetch && events.len() < EVENTS {
+            events.push(Event::Fetch).ok()?;
+        }
     }
     Some(events)
 }
