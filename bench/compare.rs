@@ -35,6 +35,11 @@ const DVG_ROWS: &[Row] = &[
         &["check"],
         nested_over_rom,
     ),
+    row(
+        "check --bound, 510 operations",
+        &["check", "--bound"],
+        || operations(510),
+    ),
 ];
 
 /// What is compared of the command `play`.
@@ -91,6 +96,7 @@ const PART_ROWS: &[Row] = &[
         &["check-half"],
         Vec::new,
     ),
+    row("200,000 checks, 5 operations", &["check-short"], Vec::new),
     row("driver, 1,000,000 ticks", &["driver"], Vec::new),
     row("100 runs of 65,536 mixed events", &["world"], Vec::new),
 ];

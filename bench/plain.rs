@@ -287,11 +287,16 @@ fn read_text() -> Result<Vec<u8>, Fault> {
     Ok(text)
 }
 
-/// Checks the draft that standard input holds as text, and writes what is said of it on standard output.
-fn check_text() -> Result<ExitCode, Fault> {
+/// Checks the draft that standard input holds as text, and writes what is said of it on standard output: with its bound
+/// where that is asked for.
+fn check_text(bound: bool) -> Result<ExitCode, Fault> {
     let (ops, rom) = read_draft(&read_text()?)?;
     let mut writer = output()?;
     let (line, status) = match check(&ops, &rom) {
+        Ok(frame) if bound => (
+            format!("ok {} words {} fetches\n", frame.words, frame.bound),
+            ExitCode::SUCCESS,
+        ),
         Ok(frame) => (format!("ok {} words\n", frame.words), ExitCode::SUCCESS),
         Err(fault) => (format!("fault {fault}\n"), ExitCode::from(1)),
     };
@@ -324,13 +329,17 @@ fn main() -> ExitCode {
     } else if words == ["rom"] {
         rom().map(|()| ExitCode::SUCCESS)
     } else if words == ["check"] {
-        check_text()
+        check_text(false)
+    } else if words == ["check", "--bound"] {
+        check_text(true)
     } else if words == ["play"] {
         play(false).map(|()| ExitCode::SUCCESS)
     } else if words == ["play", "--all"] {
         play(true).map(|()| ExitCode::SUCCESS)
     } else {
-        complain(format_args!("usage: dvg list|rom|check|play [--all]"));
+        complain(format_args!(
+            "usage: dvg list|rom|check [--bound]|play [--all]"
+        ));
         return ExitCode::from(MISUSE);
     };
     match done {

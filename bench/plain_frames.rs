@@ -66,6 +66,7 @@ pub enum FrameFault {
     OutOfRom(Place),
     TooDeep(Place),
     NoCaller(Place),
+    Loops,
 }
 
 impl fmt::Display for FrameFault {
@@ -79,6 +80,7 @@ impl fmt::Display for FrameFault {
             FrameFault::OutOfRom(place) => write!(f, "6 out of rom {place}"),
             FrameFault::TooDeep(place) => write!(f, "7 too deep {place}"),
             FrameFault::NoCaller(place) => write!(f, "8 no caller {place}"),
+            FrameFault::Loops => write!(f, "9 loops"),
         }
     }
 }
@@ -88,11 +90,14 @@ pub struct Frame {
     #[allow(dead_code)]
     pub ops: Vec<Op>,
     pub words: u16,
+    /// How many words its whole run fetches, word zero included.
+    #[allow(dead_code)]
+    pub bound: u64,
 }
 
-/// How what stands at a place leads on: on to the place after it, to a target, or both.
+/// How what stands at a place leads on: over its words to the place after it, to a target, or both.
 enum Way {
-    Move(Place),
+    Move(Place, u64),
     Jump(Place),
     Call(Place, Place),
     Return,
@@ -101,6 +106,9 @@ enum Way {
 
 /// The depths of a pair: 0 to 4 calls are open.
 const DEPTHS: usize = 5;
+
+/// How many places there are.
+const PLACES: usize = MOST + 1024;
 
 /// The number of a place: operations come before words of the ROM.
 fn number(place: Place) -> usize {
@@ -121,19 +129,19 @@ fn rom_way(rom: &Rom, a: u16) -> Option<Way> {
     let behind = Place::Word(a + 1);
     Some(match word >> 12 {
         0..=0xA if a + 1 == 0xC00 => return None,
-        0..=0xA => Way::Move(Place::Word(a + 2)),
+        0..=0xA => Way::Move(Place::Word(a + 2), 2),
         0xB => Way::Halt,
         0xC => Way::Call(target, behind),
         0xD => Way::Return,
         0xE => Way::Jump(target),
-        _ => Way::Move(behind),
+        _ => Way::Move(behind, 1),
     })
 }
 
 fn op_way(op: Op, i: u16) -> Way {
     let behind = Place::Op(i + 1);
     match op {
-        Op::Draw(_) => Way::Move(behind),
+        Op::Draw(_) => Way::Move(behind, op.words() as u64),
         Op::CallRom(a) => Way::Call(Place::Word(a), behind),
         Op::JumpRom(a) => Way::Jump(Place::Word(a)),
         Op::Call(j) => Way::Call(Place::Op(j), behind),
@@ -151,16 +159,18 @@ fn look(ops: &[Op], rom: &Rom, place: Place, depth: usize) -> Result<Way, FrameF
     };
     if let Place::Op(i) = place
         && usize::from(i) + 1 == ops.len()
-        && matches!(way, Way::Move(_) | Way::Call(_, _))
+        && matches!(way, Way::Move(..) | Way::Call(..))
     {
         return Err(FrameFault::RunsOff(i));
     }
     match way {
-        Way::Move(next) | Way::Jump(next) if is_outside(next) => Err(FrameFault::OutOfRom(place)),
+        Way::Move(next, _) | Way::Jump(next) if is_outside(next) => {
+            Err(FrameFault::OutOfRom(place))
+        }
         Way::Call(target, behind) if is_outside(target) || is_outside(behind) => {
             Err(FrameFault::OutOfRom(place))
         }
-        Way::Call(_, _) if depth + 1 == DEPTHS => Err(FrameFault::TooDeep(place)),
+        Way::Call(..) if depth + 1 == DEPTHS => Err(FrameFault::TooDeep(place)),
         Way::Return if depth == 0 => Err(FrameFault::NoCaller(place)),
         way => Ok(way),
     }
@@ -168,7 +178,7 @@ fn look(ops: &[Op], rom: &Rom, place: Place, depth: usize) -> Result<Way, FrameF
 
 /// The pairs of a place and a depth that were come to and not looked at yet, and those that were come to.
 struct Pairs {
-    seen: [bool; (MOST + 1024) * DEPTHS],
+    seen: [bool; PLACES * DEPTHS],
     open: Vec<(Place, usize)>,
 }
 
@@ -185,14 +195,14 @@ impl Pairs {
 /// The fault at the first pair, of all that are come to, that has one.
 fn first_fault(ops: &[Op], rom: &Rom) -> Option<FrameFault> {
     let mut pairs = Pairs {
-        seen: [false; (MOST + 1024) * DEPTHS],
+        seen: [false; PLACES * DEPTHS],
         open: Vec::new(),
     };
     let mut first: Option<(usize, FrameFault)> = None;
     pairs.add(Place::Op(0), 0);
     while let Some((place, depth)) = pairs.open.pop() {
         match look(ops, rom, place, depth) {
-            Ok(Way::Move(next) | Way::Jump(next)) => pairs.add(next, depth),
+            Ok(Way::Move(next, _) | Way::Jump(next)) => pairs.add(next, depth),
             Ok(Way::Call(target, behind)) => {
                 pairs.add(target, depth + 1);
                 pairs.add(behind, depth);
@@ -209,6 +219,76 @@ fn first_fault(ops: &[Op], rom: &Rom) -> Option<FrameFault> {
     first.map(|(_, fault)| fault)
 }
 
+/// How what is drawn from a place ends, if that is known.
+#[derive(Clone, Copy)]
+enum End {
+    Unknown,
+    /// It is being found.
+    Open,
+    Halt,
+    Return,
+}
+
+/// What is drawn from the places of a draft without the faults 1 to 8: how it ends, and after how many fetches.
+struct Drawn<'a> {
+    ops: &'a [Op],
+    rom: &'a Rom,
+    ends: [End; PLACES],
+    fetches: [u64; PLACES],
+}
+
+impl Drawn<'_> {
+    /// What is drawn from a place that is come to. None where steps at one depth come back to themselves.
+    ///
+    /// A place that is come to again while it is open is one of those: if it led to itself through a call, there would be
+    /// a call too deep.
+    fn from(&mut self, place: Place) -> Option<(End, u64)> {
+        let number = number(place);
+        match self.ends[number] {
+            End::Unknown => self.ends[number] = End::Open,
+            End::Open => return None,
+            end => return Some((end, self.fetches[number])),
+        }
+        let way = match place {
+            Place::Op(i) => op_way(self.ops[usize::from(i)], i),
+            Place::Word(a) => rom_way(self.rom, a)?,
+        };
+        let (end, fetches) = match way {
+            Way::Move(next, words) => self.after(words, next)?,
+            Way::Jump(next) => self.after(1, next)?,
+            // What stands behind the call is followed in any case: a loop there counts.
+            Way::Call(target, behind) => match (self.after(1, target)?, self.from(behind)?) {
+                ((End::Return, inside), (end, then)) => (end, inside + then),
+                (halts, _) => halts,
+            },
+            Way::Return => (End::Return, 1),
+            Way::Halt => (End::Halt, 1),
+        };
+        self.ends[number] = end;
+        self.fetches[number] = fetches;
+        Some((end, fetches))
+    }
+
+    /// What is drawn from a place, with so many fetches before it.
+    fn after(&mut self, before: u64, place: Place) -> Option<(End, u64)> {
+        let (end, fetches) = self.from(place)?;
+        Some((end, before + fetches))
+    }
+}
+
+/// How many words the whole run of a draft without the faults 1 to 8 fetches, word zero included. None where it has a
+/// loop.
+fn bound(ops: &[Op], rom: &Rom) -> Option<u64> {
+    let mut drawn = Drawn {
+        ops,
+        rom,
+        ends: [End::Unknown; PLACES],
+        fetches: [0; PLACES],
+    };
+    let (_, fetches) = drawn.after(1, Place::Op(0))?;
+    Some(fetches)
+}
+
 /// The frame of a draft that has no fault over the ROM, or the first of its faults.
 pub fn check(ops: &[Op], rom: &Rom) -> Result<Frame, FrameFault> {
     let first = ops.first().ok_or(FrameFault::Empty)?;
@@ -223,11 +303,12 @@ pub fn check(ops: &[Op], rom: &Rom) -> Result<Frame, FrameFault> {
     if let Some(i) = ops.iter().position(misses) {
         return Err(FrameFault::Target(i as u16));
     }
-    match first_fault(ops, rom) {
-        Some(fault) => Err(fault),
-        None => Ok(Frame {
-            ops: ops.to_vec(),
-            words: words as u16,
-        }),
+    if let Some(fault) = first_fault(ops, rom) {
+        return Err(fault);
     }
+    Ok(Frame {
+        ops: ops.to_vec(),
+        words: words as u16,
+        bound: bound(ops, rom).ok_or(FrameFault::Loops)?,
+    })
 }

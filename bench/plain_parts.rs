@@ -49,16 +49,22 @@ fn run_generator() {
     println!("{runs} runs, {strokes} strokes, {ends}");
 }
 
-/// How often the draft is checked.
+/// How often a draft is checked that comes to many words of the ROM.
 const CHECKS: u32 = 200;
+
+/// How often a short draft is checked.
+const SHORT_CHECKS: u32 = 200_000;
+
+/// The LABS that each draft begins with.
+const LABS: Op = Op::Draw(Instr::Labs {
+    x: 0,
+    y: 0,
+    scale: 0,
+});
 
 /// The operations: behind the LABS, the ROM's first word is jumped to from each depth, 0 to 4.
 const NESTED: [Op; 10] = [
-    Op::Draw(Instr::Labs {
-        x: 0,
-        y: 0,
-        scale: 0,
-    }),
+    LABS,
     Op::Call(3),
     Op::JumpRom(0x800),
     Op::Call(5),
@@ -70,20 +76,39 @@ const NESTED: [Op; 10] = [
     Op::JumpRom(0x800),
 ];
 
-/// Checks the draft over a ROM of blank SVECs with a HALT as word number `words - 1`.
+/// A short draft: behind the LABS, a call of the return at its end, a short vector and HALT.
+const SHORT: [Op; 5] = [
+    LABS,
+    Op::Call(4),
+    Op::Draw(Instr::Svec {
+        scale: 3,
+        dx: -3,
+        dy: -2,
+        z: 3,
+    }),
+    Op::Halt,
+    Op::Return,
+];
+
+/// Checks a draft so often.
+fn check_often(checks: u32, ops: &[Op], rom: &Rom) {
+    let (mut passed, mut laid, mut fetched) = (0u32, 0u32, 0u64);
+    for _ in 0..checks {
+        // Neither the draft nor the ROM is known to the compiler, so that no check is made only once.
+        if let Ok(frame) = check(black_box(ops), black_box(rom)) {
+            passed = passed.wrapping_add(1);
+            laid = laid.wrapping_add(u32::from(frame.words));
+            fetched = fetched.wrapping_add(frame.bound);
+        }
+    }
+    println!("{passed} passed, {laid} words, {fetched} fetches");
+}
+
+/// Checks the nested draft over a ROM of blank SVECs with a HALT as word number `words - 1`.
 fn run_check(words: usize) {
     let mut rom: Rom = [0xF000; 1024];
     rom[words - 1] = 0xB000;
-    let (mut passed, mut laid) = (0u32, 0u32);
-    for _ in 0..CHECKS {
-        // Neither the draft nor the ROM is known to the compiler, so that no check is made only once.
-        let (ops, rom) = (black_box(&NESTED), black_box(&rom));
-        if let Ok(frame) = check(ops, rom) {
-            passed = passed.wrapping_add(1);
-            laid = laid.wrapping_add(u32::from(frame.words));
-        }
-    }
-    println!("{passed} passed, {laid} words");
+    check_often(CHECKS, &NESTED, &rom);
 }
 
 /// How often the driver ticks.
@@ -232,8 +257,9 @@ fn main() {
         Some("generator") => run_generator(),
         Some("check") => run_check(1024),
         Some("check-half") => run_check(512),
+        Some("check-short") => check_often(SHORT_CHECKS, &SHORT, &[0xD000; 1024]),
         Some("driver") => run_ticks(),
         Some("world") => run_events(),
-        _ => eprintln!("usage: plain_parts generator|check|check-half|driver|world"),
+        _ => eprintln!("usage: plain_parts generator|check|check-half|check-short|driver|world"),
     }
 }

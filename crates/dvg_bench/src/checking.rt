@@ -1,11 +1,15 @@
-//! The check of a draft that comes to many words of the ROM at every depth.
-use crate::drafts::{labs, put};
-use dvg_frame::{Draft, Op, OpKind, check};
+//! The check of a draft that comes to many words of the ROM at every depth, and of a short draft.
+use crate::drafts::{draw, labs, put};
+use dvg_code::Instr;
+use dvg_frame::{Checker, Draft, Op, OpKind, check};
 use dvg_mem::{MEMORY_BYTES, Rom};
 use std::alloc::Global;
 
-/// How often the draft is checked.
+/// How often a draft is checked that comes to many words of the ROM.
 const CHECKS: u32 = 200;
+
+/// How often a short draft is checked.
+const SHORT_CHECKS: u32 = 200_000;
 
 /// The operations behind the LABS: from each depth, 0 to 4, the ROM's first word is jumped to.
 const NESTED: [OpKind; 9] = [
@@ -20,6 +24,37 @@ const NESTED: [OpKind; 9] = [
     OpKind::JumpRom(0x800),
 ];
 
+/// What the checks showed.
+#[derive(Clone, Copy)]
+pub struct Passed {
+    /// How often the draft passed.
+    pub passed: u32,
+    /// The words of all its frames.
+    pub words: u32,
+    /// The sum of all its bounds, modulo 2 to the 64.
+    pub fetches: u64,
+}
+
+impl Passed {
+    /// Where nothing was checked yet.
+    fn none() -> Passed {
+        Passed {
+            passed: 0,
+            words: 0,
+            fetches: 0,
+        }
+    }
+
+    /// With a draft more that passed.
+    fn with_draft(self, words: u16, bound: u64) -> Passed {
+        Passed {
+            passed: self.passed.wrapping_add(1),
+            words: self.words.wrapping_add(u32::from(words)),
+            fetches: self.fetches.wrapping_add(bound),
+        }
+    }
+}
+
 /// What stands in the ROM: blank SVECs, and a HALT as word number `words - 1`.
 fn bytes(words: usize) -> [u8; MEMORY_BYTES] {
     let mut bytes = [0x00; MEMORY_BYTES];
@@ -29,7 +64,7 @@ fn bytes(words: usize) -> [u8; MEMORY_BYTES] {
     bytes
 }
 
-/// The draft.
+/// The draft that comes to the ROM's first word at each depth.
 fn nested() -> Option<Draft> {
     let mut draft = Draft::new();
     put(&mut draft, labs(0, 0, 0)?)?;
@@ -39,17 +74,47 @@ fn nested() -> Option<Draft> {
     Some(draft)
 }
 
-/// Checks the draft over a ROM of which it comes to so many words, and answers how often it passed, and the words of
-/// all its frames. None where there is no memory.
-pub fn check_often(alloc: Global, words: usize) -> Option<(u32, u32)> {
+/// A short draft: behind the LABS, a call of the return at its end, a short vector and HALT.
+fn short() -> Option<Draft> {
+    let vector = draw(Instr::Svec {
+        scale: 3,
+        dx: -3,
+        dy: -2,
+        z: 3,
+    })?;
+    let mut draft = Draft::new();
+    put(&mut draft, labs(0, 0, 0)?)?;
+    put(&mut draft, Op::new(OpKind::Call(4))?)?;
+    put(&mut draft, vector)?;
+    put(&mut draft, Op::new(OpKind::Halt)?)?;
+    put(&mut draft, Op::new(OpKind::Return)?)?;
+    Some(draft)
+}
+
+/// Checks the nested draft over a ROM of which it comes to so many words, with new tables each time. None where
+/// there is no memory.
+pub fn check_often(alloc: Global, words: usize) -> Option<Passed> {
     let rom = Rom::new(alloc, &bytes(words)).ok()?;
     let draft = nested()?;
-    let (mut passed, mut laid) = (0u32, 0u32);
+    let mut passed = Passed::none();
     for _ in 0..CHECKS {
         if let Ok(frame) = check(&draft, &rom) {
-            passed = passed.wrapping_add(1);
-            laid = laid.wrapping_add(u32::from(frame.len_words()));
+            passed = passed.with_draft(frame.len_words(), frame.bound());
         }
     }
-    Some((passed, laid))
+    Some(passed)
+}
+
+/// Checks the short draft with one checker, which keeps its tables. None where there is no memory.
+pub fn check_short(alloc: Global) -> Option<Passed> {
+    let rom = Rom::new(alloc, &bytes(1)).ok()?;
+    let draft = short()?;
+    let mut checker = Checker::new();
+    let mut passed = Passed::none();
+    for _ in 0..SHORT_CHECKS {
+        if let Ok(checked) = checker.check(&draft, &rom) {
+            passed = passed.with_draft(checked.len_words(), checked.bound());
+        }
+    }
+    Some(passed)
 }

@@ -7,7 +7,7 @@ mod generating;
 mod running;
 mod ticking;
 
-use checking::check_often;
+use checking::{Passed, check_often, check_short};
 use generating::draw;
 use running::run_often;
 use std::{env, io};
@@ -24,10 +24,13 @@ fn run_generator(rt: &HostRuntime) -> io::Result<()> {
     }
 }
 
-/// Runs the check, over a ROM of which so many words are reached.
-fn run_check(rt: &HostRuntime, words: usize) -> io::Result<()> {
-    match check_often(rt.alloc(), words) {
-        Some((passed, laid)) => println!(rt; "{passed} passed, {laid} words"),
+/// Writes what checks showed.
+fn write_passed(rt: &HostRuntime, passed: Option<Passed>) -> io::Result<()> {
+    match passed {
+        Some(passed) => println!(rt;
+            "{} passed, {} words, {} fetches",
+            passed.passed, passed.words, passed.fetches
+        ),
         None => eprintln!(rt; "out of memory"),
     }
 }
@@ -58,10 +61,11 @@ fn main(rt: HostRuntime) -> io::Result<()> {
     let words: Vec<String> = env::args(&rt)?.collect(rt.alloc())?;
     match words.get(1).map(|word| word.as_str()) {
         Some("generator") => run_generator(&rt),
-        Some("check") => run_check(&rt, 1024),
-        Some("check-half") => run_check(&rt, 512),
+        Some("check") => write_passed(&rt, check_often(rt.alloc(), 1024)),
+        Some("check-half") => write_passed(&rt, check_often(rt.alloc(), 512)),
+        Some("check-short") => write_passed(&rt, check_short(rt.alloc())),
         Some("driver") => run_driver(&rt),
         Some("world") => run_world(&rt),
-        _ => eprintln!(rt; "usage: dvg_bench generator|check|check-half|driver|world"),
+        _ => eprintln!(rt; "usage: dvg_bench generator|check|check-half|check-short|driver|world"),
     }
 }

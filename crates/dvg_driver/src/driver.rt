@@ -98,7 +98,7 @@ impl Driver {
         ensures accepted { (peeked : ℕ) (life : List Item) → StandsAfter self.old peeked life → (IsOk result ↔ IsWhole life) }
         ensures busy { IfErr result (λ fault. fault ≡ DriverFault.Busy) }
         ensures stands { (peeked : ℕ) (life : List Item) → StandsAfter self.old peeked life →
-            OnOk result (StandsAfter self.new peeked (Offered (other (half_of_high (byte1_of peeked life))) frame ∷ life)) }
+            OnOk result (StandsAfter self.new peeked (Offered (other (half_of_high (byte1_of peeked life))) frame.operations ∷ life)) }
         ensures refused { OnErr result (self.new ≡ self.old) }
     {
         match self.phase {
@@ -117,7 +117,7 @@ impl Driver {
         ensures accepted { (peeked : ℕ) (life : List Item) → StandsAfter self.old peeked life → (IsOk result ↔ IsWhole life) }
         ensures busy { IfErr result (λ fault. fault ≡ DriverFault.Busy) }
         ensures stands { (peeked : ℕ) (life : List Item) → StandsAfter self.old peeked life →
-            OnOk result (StandsAfter self.new peeked (Offered (other (half_of_high (byte1_of peeked life))) checked.now ∷ life)) }
+            OnOk result (StandsAfter self.new peeked (Offered (other (half_of_high (byte1_of peeked life))) checked.now.operations ∷ life)) }
         ensures refused { OnErr result (self.new ≡ self.old) }
     {
         match self.phase {
@@ -223,7 +223,7 @@ impl Driver {
 
 // Begins a cursor over the bytes of a checked draft's frame.
 fn begin(cursor: &mut Option<Cursor>, checked: &Checked, half: Half)
-    ensures items { items_of cursor.new ≡ addressed (2 * base half) (bytes (laid half checked.now)) }
+    ensures items { items_of cursor.new ≡ addressed (2 * base half) (bytes (laid half checked.now.operations)) }
     ensures in_ram { All IsBehindWordZero (items_of cursor.new) }
 {
     match cursor {

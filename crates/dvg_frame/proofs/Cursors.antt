@@ -70,7 +70,7 @@ gives to_come half F words given op word byte ready word_is byte_is =
 
 -- a cursor whose words at hand have a byte to give; its items to come are those of another one
 pub record GoesOn (old new : Inside) : Type 0 where
-  pub ready : IsReady (bytes_left old) new.half new.frame new.words.items new.given new.op
+  pub ready : IsReady (bytes_left old) new.half new.frame.operations new.words.items new.given new.op
   pub address : new.address ≡ old.address
   pub left : new.left ≡ old.left
 

@@ -10,7 +10,7 @@ use Rattle.dvg_frame.specs.declared.op.OpKind.TheVariants.{Draw, CallRom, JumpRo
 use Rattle.dvg_frame.specs.declared.place.Place.TheVariants.{InFrame, InRom}
 use Rattle.dvg_frame.specs.declared.place.Place.{Place}
 use Rattle.dvg_frame.specs.declared.place.FrameFault.{FrameFault}
-use Rattle.dvg_frame.specs.declared.place.FrameFault.TheVariants.{Empty, NoLabs, TooLong, Target, RunsOff, OutOfRom, TooDeep, NoCaller}
+use Rattle.dvg_frame.specs.declared.place.FrameFault.TheVariants.{Empty, NoLabs, TooLong, Target, RunsOff, OutOfRom, TooDeep, NoCaller, Loops}
 use Rattle.dvg_frame.specs.Layout.{size}
 use Rattle.dvg_frame.specs.Steps.{op_act, Names, Bad, last, target, second, past, deep, bare, IsFine, Reached, BeginsWithLabs, labs, Closed}
 use Rattle.dvg_frame.specs.Faults.{Misses, misses, number, Begins, Least, Refuses}
@@ -106,6 +106,15 @@ late_bad (past stands goes outside) = omega arith
 late_bad (deep stands depth) = omega arith
 late_bad (bare stands depth) = omega arith
 
+-- and neither does a loop
+early_bad : {F : List OpKind} {R : List ℕ} {p : Place} {d : ℕ} {fault : FrameFault} → Bad F R p d fault → number fault < 9
+early_bad (last stands goes end) = omega arith
+early_bad (target stands named outside) = omega arith
+early_bad (second is first outside) = omega arith
+early_bad (past stands goes outside) = omega arith
+early_bad (deep stands depth) = omega arith
+early_bad (bare stands depth) = omega arith
+
 -- the fault of the first reached pair that has one is picked
 pub refuses_by : (F : List OpKind) (R : List ℕ) (fault : FrameFault) → Begins F → Least F R fault → Refuses F R fault
 refuses_by F R Empty begins found = let late = late_bad found.bad in absurd (omega arith)
@@ -116,6 +125,7 @@ refuses_by F R (RunsOff i) begins found = (begins, found)
 refuses_by F R (OutOfRom p) begins found = (begins, found)
 refuses_by F R (TooDeep p) begins found = (begins, found)
 refuses_by F R (NoCaller p) begins found = (begins, found)
+refuses_by F R Loops begins found = let early = early_bad found.bad in absurd (omega arith)
 
 -- where each reached pair is fine, the draft has no fault
 pub closed_by : (F : List OpKind) (R : List ℕ) → Begins F → ((p : Place) → (d : ℕ) → Reached F R p d → IsFine F R p d) → Closed F R

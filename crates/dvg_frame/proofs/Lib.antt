@@ -4,6 +4,12 @@ pub mod Cursors
 pub mod Firsts
 pub mod OneFault
 pub mod Judged
+pub mod Knowing
 pub mod Marks
 pub mod Swept
 pub mod Counts
+pub mod Walks
+pub mod Pictures
+pub mod Bounded
+pub mod Turns
+pub mod Tabled

@@ -14,7 +14,7 @@ use Rattle.dvg_frame.specs.Growth.{Grows, AreListed, AreMarked}
 use Rattle.dvg_frame.specs.Pairs.{IsPlace, IsPair, pair_of, place_index, index}
 
 -- pairs that have one index are one
-same_place : (p q : Place) → IsPlace p → IsPlace q → place_index p ≡ place_index q → p ≡ q
+pub same_place : (p q : Place) → IsPlace p → IsPlace q → place_index p ≡ place_index q → p ≡ q
 same_place (InFrame i) (InFrame j) a b same = ap InFrame same
 same_place (InFrame i) (InRom y) a b same = absurd (omega arith)
 same_place (InRom x) (InFrame j) a b same = absurd (omega arith)

@@ -12,7 +12,7 @@ bytes_from half F words given op = drop given (bytes words) ++ bytes (laid_ops h
 
 -- the bytes that are still to come
 abbrev pub bytes_left : Inside → List ℕ
-bytes_left cursor = bytes_from cursor.half cursor.frame cursor.words.items cursor.given cursor.op
+bytes_left cursor = bytes_from cursor.half cursor.frame.operations cursor.words.items cursor.given cursor.op
 
 -- each with its address
 abbrev pub items_left : Inside → List (ℕ × ℕ)

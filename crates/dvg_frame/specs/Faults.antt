@@ -4,9 +4,11 @@ use Rattle.dvg_frame.specs.declared.op.OpKind.{OpKind}
 use Rattle.dvg_frame.specs.declared.place.Place.{Place}
 use Rattle.dvg_frame.specs.declared.place.Place.TheVariants.{InFrame, InRom}
 use Rattle.dvg_frame.specs.declared.place.FrameFault.{FrameFault}
-use Rattle.dvg_frame.specs.declared.place.FrameFault.TheVariants.{Empty, NoLabs, TooLong, Target, RunsOff, OutOfRom, TooDeep, NoCaller}
+use Rattle.dvg_frame.specs.declared.place.FrameFault.TheVariants.{Empty, NoLabs, TooLong, Target, RunsOff, OutOfRom, TooDeep, NoCaller, Loops}
 use Rattle.dvg_frame.specs.Layout.{size}
 use Rattle.dvg_frame.specs.Steps.{op_act, Names, Bad, Reached, BeginsWithLabs, Closed}
+use Rattle.dvg_frame.specs.Loops.{HasLoop}
+use Rattle.dvg_frame.specs.Picture.{IsBound}
 
 -- the numbers of the faults
 abbrev pub number : FrameFault → ℕ
@@ -18,6 +20,7 @@ number (RunsOff i) = 5
 number (OutOfRom p) = 6
 number (TooDeep p) = 7
 number (NoCaller p) = 8
+number Loops = 9
 
 -- operation i names one that the draft doesn't have
 pub data Misses (F : List OpKind) : ℕ → Type 0 where
@@ -45,7 +48,7 @@ pub record Begins (F : List OpKind) : Type 0 where
   pub fits : size F ≤ 511
   pub targets : (i : ℕ) → ¬ Misses F i
 
--- the fault that is picked: faults 1 to 4 in their order, then that of the first reached pair
+-- the fault that is picked: faults 1 to 4 in their order, then that of the first reached pair, and last a loop
 abbrev pub Refuses : List OpKind → List ℕ → FrameFault → Type 0
 Refuses F R Empty = F ≡ []
 Refuses F R NoLabs = (0 < length F) × ¬ BeginsWithLabs F
@@ -55,8 +58,19 @@ Refuses F R (RunsOff i) = Begins F × Least F R (RunsOff i)
 Refuses F R (OutOfRom p) = Begins F × Least F R (OutOfRom p)
 Refuses F R (TooDeep p) = Begins F × Least F R (TooDeep p)
 Refuses F R (NoCaller p) = Begins F × Least F R (NoCaller p)
+Refuses F R Loops = Closed F R × HasLoop F R
 
--- what the check answers: the draft itself where it has no fault, and else the fault that is picked
-abbrev pub IsChecked : List OpKind → List ℕ → Result (List OpKind) FrameFault → Type 0
-IsChecked F R (Ok G) = Closed F R × (G ≡ F)
+-- the draft has none of the faults 1 to 8, and no loop
+pub record Accepts (F : List OpKind) (R : List ℕ) : Type 0 where
+  pub closed : Closed F R
+  pub ends : ¬ HasLoop F R
+
+-- what contracts see of a frame: the operations of its draft, and the words that its whole run fetches
+pub record FrameState : Type 0 where
+  pub operations : List OpKind
+  pub bound : ℕ
+
+-- what the check answers: a frame of the draft with its bound, where there is no fault, and else the fault that is picked
+abbrev pub IsChecked : List OpKind → List ℕ → Result FrameState FrameFault → Type 0
+IsChecked F R (Ok frame) = Accepts F R × (frame.operations ≡ F) × IsBound F R frame.bound
 IsChecked F R (Err fault) = Refuses F R fault

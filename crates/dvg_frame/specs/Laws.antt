@@ -1,19 +1,32 @@
 -- Laws of the check's answer.
-use Rattle.std.specs.Prelude.{◌≡◌, ℕ, List, Result}
+use Rattle.std.specs.Prelude.{◌≡◌, ◌<◌, ◌^◌, ◌↔◌, ℕ, List, Result}
 use Rattle.dvg_frame.specs.declared.op.OpKind.{OpKind}
 use Rattle.dvg_frame.specs.declared.place.FrameFault.{FrameFault}
+use Rattle.dvg_gen.specs.declared.stroke.Stroke.{Stroke}
+use Rattle.dvg_mem.specs.Memory.{IsImage}
 use Rattle.dvg_frame.specs.Steps.{Closed}
-use Rattle.dvg_frame.specs.Faults.{Refuses, IsChecked}
+use Rattle.dvg_frame.specs.Picture.{IsPicture}
+use Rattle.dvg_frame.specs.Loops.{HasLoop, ComesBack}
+use Rattle.dvg_frame.specs.Faults.{Refuses, Accepts, FrameState, IsChecked}
 
 -- one fault at most is picked
 abbrev pub OneFault : Type 0
 OneFault = (F : List OpKind) (R : List ℕ) (one other : FrameFault) → Refuses F R one → Refuses F R other → other ≡ one
 
--- no fault is picked of a draft that has none
-abbrev pub ClosedStays : Type 0
-ClosedStays = (F : List OpKind) (R : List ℕ) → Closed F R → (fault : FrameFault) → ¬ Refuses F R fault
+-- no fault is picked of a draft that has none and no loop
+abbrev pub AcceptedStays : Type 0
+AcceptedStays = (F : List OpKind) (R : List ℕ) → Accepts F R → (fault : FrameFault) → ¬ Refuses F R fault
 
 -- exactly one answer holds of this draft and this ROM
 abbrev pub OneAnswer : List OpKind → List ℕ → Type 0
-OneAnswer F R = (answer : Result (List OpKind) FrameFault) × IsChecked F R answer
-    × ((other : Result (List OpKind) FrameFault) → IsChecked F R other → other ≡ answer)
+OneAnswer F R = (answer : Result FrameState FrameFault) × IsChecked F R answer
+    × ((other : Result FrameState FrameFault) → IsChecked F R other → other ≡ answer)
+
+-- a draft with no fault and no loop has exactly one picture, of fewer than 2^63 words
+abbrev pub OnePicture : Type 0
+OnePicture = (F : List OpKind) (R : List ℕ) → IsImage R → Accepts F R
+    → (strokes : List Stroke) × (n : ℕ) × IsPicture F R strokes n × (n < 2 ^ 63) × ((others : List Stroke) (m : ℕ) → IsPicture F R others m → (others ≡ strokes) × (m ≡ n))
+
+-- a draft without the faults 1 to 8 has a loop exactly where a reached pair comes back to itself
+abbrev pub LoopsComeBack : Type 0
+LoopsComeBack = (F : List OpKind) (R : List ℕ) → IsImage R → Closed F R → (HasLoop F R ↔ ComesBack F R)

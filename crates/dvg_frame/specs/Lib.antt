@@ -6,6 +6,7 @@ pub mod Steps
 pub mod Faults
 pub mod Frames
 pub mod Picture
+pub mod Loops
 pub mod Laws
 -- What a cursor keeps.
 pub mod Cursors
@@ -17,3 +18,4 @@ pub mod Pairs
 pub mod Ways
 pub mod Growth
 pub mod Sweeps
+pub mod Tables

@@ -38,3 +38,7 @@ pub record IsPicture (F : List OpKind) (R : List ℕ) (strokes : List Stroke) (n
   pub rest : ℕ
   pub draws : Draws F R (InFrame 0) (record { x = 0; y = 0; scale = 0 }) strokes last AtHalt rest
   pub count : n ≡ suc rest
+
+-- the draft has a picture, and its whole run has so many words
+abbrev pub IsBound : List OpKind → List ℕ → ℕ → Type 0
+IsBound F R n = (strokes : List Stroke) × IsPicture F R strokes n

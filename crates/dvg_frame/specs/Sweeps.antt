@@ -65,3 +65,8 @@ pub record Sweeps (F : List OpKind) (R : List ℕ) (items : List Pair) (best : O
   pub reached : (pair : Pair) → Contains items pair → ReachedPair F R pair
   pub looked : (j : ℕ) (pair : Pair) → j < done → slice_get items j ≡ Some pair → IsDone F R items best pair
   pub found : IfSome best (IsFound F R)
+
+-- the list has the reached pairs, and no other
+pub record IsWhole (F : List OpKind) (R : List ℕ) (items : List Pair) : Type 0 where
+  pub all : (pair : Pair) → ReachedPair F R pair → Contains items pair
+  pub only : (pair : Pair) → Contains items pair → ReachedPair F R pair

@@ -8,7 +8,7 @@ use Rattle.dvg_frame.specs.declared.op.OpKind.{OpKind}
 use Rattle.dvg_frame.specs.declared.place.Place.{Place}
 use Rattle.dvg_frame.specs.declared.place.Place.TheVariants.{InFrame, InRom}
 use Rattle.dvg_frame.specs.declared.place.FrameFault.{FrameFault}
-use Rattle.dvg_frame.specs.declared.place.FrameFault.TheVariants.{Empty, NoLabs, TooLong, Target, RunsOff, OutOfRom, TooDeep, NoCaller}
+use Rattle.dvg_frame.specs.declared.place.FrameFault.TheVariants.{Empty, NoLabs, TooLong, Target, RunsOff, OutOfRom, TooDeep, NoCaller, Loops}
 use Rattle.dvg_frame.specs.declared.pair.Pair.{Pair}
 use Rattle.dvg_frame.specs.declared.pair.TheConstants.{DEEPEST, ROM_FIRST, ROM_END}
 use Rattle.dvg_frame.specs.declared.way.Way.{Way}
@@ -88,6 +88,7 @@ HasFault count pair seen (RunsOff i) = (pair.place ≡ InFrame i) × (i + 1 ≡ 
 HasFault count pair seen (OutOfRom p) = (pair.place ≡ p) × LeadsOutside seen
 HasFault count pair seen (TooDeep p) = (pair.place ≡ p) × IsCall seen × (pair.depth ≡ DEEPEST)
 HasFault count pair seen (NoCaller p) = (pair.place ≡ p) × IsReturn seen × (pair.depth ≡ 0)
+HasFault count pair seen Loops = ⊥
 
 -- this fault holds, and none of a lesser number does
 pub record IsLeast (Holds : FrameFault → Type 0) (fault : FrameFault) : Type 0 where

@@ -1,8 +1,8 @@
 //! Checked drafts, where they lie.
-ghost use Rattle.std.specs.Prelude.{◌≡◌, ◌≤◌, List};
+ghost use Rattle.std.specs.Prelude.{◌≡◌, ◌<◌, ◌≤◌, ◌^◌};
+ghost use Rattle.dvg_frame.specs.Faults.{FrameState};
 ghost use Rattle.dvg_frame.specs.Frames.{IsFrame};
 ghost use Rattle.dvg_frame.specs.Layout.{size};
-ghost use Rattle.dvg_frame.specs.declared.op.OpKind.{OpKind};
 
 use crate::draft::Draft;
 use crate::frame::Frame;
@@ -13,45 +13,59 @@ use std::marker::Model;
 pub struct Checked<'a> {
     draft: &'a Draft,
     words: u16,
+    bound: u64,
 }
 
-/// Contracts see the draft.
+/// Contracts see what they see of its frame.
 impl<'a> Model for Checked<'a> {
-    ghost Value = { List OpKind };
+    ghost Value = { FrameState };
 
-    ghost view = { λ checked. checked.draft.now };
+    ghost view = { λ checked. record { operations = checked.draft.now; bound = checked.bound } };
 
-    ghost invariant = { λ checked. IsFrame checked.draft.now checked.words };
+    ghost invariant = { λ checked. IsFrame checked.draft.now checked.words × (checked.bound < 2 ^ 63) };
 }
 
 impl<'a> Checked<'a> {
-    // A draft without the faults 1 to 4, which has so many words.
-    pub(crate) fn of(draft: &'a Draft, words: u16) -> Checked<'a>
-        requires { IsFrame draft.now words }
-        ensures { result ≡ draft.now }
+    // A draft without the faults 1 to 4, with its number of words and its bound.
+    pub(crate) fn of(draft: &'a Draft, words: u16, bound: u64) -> Checked<'a>
+        requires frame { IsFrame draft.now words }
+        requires small { bound < 2 ^ 63 }
+        ensures { result ≡ record { operations = draft.now; bound = bound } }
     {
-        Checked { draft, words }
+        Checked {
+            draft,
+            words,
+            bound,
+        }
     }
 
     /// How many words its frame has in a half, 1 to 511.
     pub fn len_words(&self) -> u16
-        ensures value { result ≡ size self.now }
+        ensures value { result ≡ size self.now.operations }
         ensures bound { result ≤ 511 }
     {
         self.words
+    }
+
+    /// How many words the whole run of its frame fetches at most, as `Frame::bound`.
+    pub fn bound(&self) -> u64
+        ensures value { result ≡ self.now.bound }
+        ensures small { result < 2 ^ 63 }
+    {
+        self.bound
     }
 
     /// A frame of the draft, which is copied.
     pub fn to_frame(&self) -> Frame
         ensures { result ≡ self.now }
     {
-        Frame::of(self.draft, self.words)
+        Frame::of(self.draft, self.words, self.bound)
     }
 
     // Makes a frame that is there the one of this draft, in the memory that it has.
     pub(crate) fn copy_to(&self, frame: &mut Frame)
         ensures { frame.new ≡ self.now }
     {
-        frame.copy_from(self.draft, self.words);
+        frame.copy_from(self.draft, self.words, self.bound);
     }
 }

@@ -1,16 +1,18 @@
 //! The check of a draft.
-ghost use Rattle.std.specs.Prelude.{◌≡◌, [], ℕ, ◌<◌, ◌↔◌, List, IsTrue, MatchOption, MatchResult};
-ghost use Rattle.dvg_frame.specs.Faults.{IsChecked, Misses, Refuses};
+ghost use Rattle.std.specs.Prelude.{◌≡◌, [], ℕ, ◌<◌, ◌^◌, ◌↔◌, List, IsTrue, MatchOption, MatchResult};
+ghost use Rattle.dvg_frame.specs.Faults.{Accepts, IsChecked, Misses, Refuses};
 ghost use Rattle.dvg_frame.specs.Firsts.{IsLabs, NamesNone};
 ghost use Rattle.dvg_frame.specs.Frames.{IsFrame};
-ghost use Rattle.dvg_frame.specs.Steps.{Closed};
+ghost use Rattle.dvg_frame.specs.Picture.{IsBound};
 
 use crate::checked::Checked;
 use crate::draft::Draft;
 use crate::frame::{Frame, MAX_WORDS};
 use crate::op::OpKind;
 use crate::place::FrameFault;
+use crate::settling::{Chain, settle};
 use crate::sweep::sweep;
+use crate::table::Table;
 use crate::worklist::Worklist;
 use dvg_code::Instr;
 use dvg_mem::Rom;
@@ -73,30 +75,25 @@ fn words_or_fault(draft: &Draft) -> Result<u16, FrameFault>
     }
 }
 
-// How many words a draft without a fault has, and else the fault that is picked. The list has no pair at first,
-// and the reached ones at the end.
-fn judge<A: Allocator>(list: &mut Worklist, draft: &Draft, rom: &Rom<A>) -> Result<u16, FrameFault>
-    requires { list.old ≡ [] }
-    ensures { MatchResult result (λ words. IsFrame draft.now words × Closed draft.now rom.now) (λ fault. Refuses draft.now rom.now fault) }
-{
-    let words = match words_or_fault(draft) {
-        Ok(words) => words,
-        Err(fault) => return Err(fault),
-    };
-    match sweep(list, draft, rom) {
-        Some(found) => Err(found.fault),
-        None => Ok(words),
-    }
+// What the check keeps of a draft that it accepts.
+#[derive(Clone, Copy)]
+struct Sizes {
+    // How many words it has in a half.
+    words: u16,
+    // How many words its whole run fetches.
+    bound: u64,
 }
 
 /// The tables of the check, kept from one check to the next: a check takes time for the pairs that it
-/// reaches, and none for the size of the tables. They are about 54 KB.
+/// reaches, and none for the size of the tables. They are about 100 KB.
 #[derive(Drop)]
 pub struct Checker {
     reached: Worklist,
+    table: Table,
+    chain: Chain,
 }
 
-/// Contracts see nothing of it: between checks the tables are empty.
+/// Contracts see nothing of it: between checks no pair is reached, and what else the tables have does not count.
 impl Model for Checker {
     ghost Value = { Unit {0} };
 
@@ -110,13 +107,15 @@ impl Checker {
     pub fn new() -> Checker {
         Checker {
             reached: Worklist::new(),
+            table: Table::new(),
+            chain: Chain::new(),
         }
     }
 
     /// The draft, checked, where it has no fault over the ROM, and else the fault that is picked: faults 1 to
-    /// 4 in their order, then that of the first reached pair of place and depth that has one. Operations
-    /// come before ROM words, each by number, and of one place the lesser depth comes first; if several
-    /// faults hold at that pair, the least number is answered (this project's own choice).
+    /// 4 in their order, then that of the first reached pair of place and depth that has one, then fault 9.
+    /// Operations come before ROM words, each by number, and of one place the lesser depth comes first; if
+    /// several faults hold at that pair, the least number is answered (this project's own choice).
     ///
     /// The pairs begin with operation 0 at depth 0. A vector or a LABS leads to the place after it, a jump
     /// to its target, a call to its target one deeper and to the place after it at its own depth. A return,
@@ -131,12 +130,47 @@ impl Checker {
     ) -> Result<Checked<'a>, FrameFault>
         ensures { IsChecked draft.now rom.now result }
     {
-        let words = judge(&mut self.reached, draft, rom);
+        let sizes = judge(
+            &mut self.reached,
+            &mut self.table,
+            &mut self.chain,
+            draft,
+            rom,
+        );
         self.reached.clear();
-        match words {
-            Ok(words) => Ok(Checked::of(draft, words)),
+        match sizes {
+            Ok(sizes) => Ok(Checked::of(draft, sizes.words, sizes.bound)),
             Err(fault) => Err(fault),
         }
+    }
+}
+
+// The sizes of a draft without a fault, and else the fault that is picked. The list has no pair at first, and
+// the reached ones at the end.
+fn judge<A: Allocator>(
+    list: &mut Worklist,
+    table: &mut Table,
+    chain: &mut Chain,
+    draft: &Draft,
+    rom: &Rom<A>,
+) -> Result<Sizes, FrameFault>
+    requires { list.old ≡ [] }
+    ensures { MatchResult result
+        (λ sizes. IsFrame draft.now sizes.words × Accepts draft.now rom.now × IsBound draft.now rom.now sizes.bound × (sizes.bound < 2 ^ 63))
+        (λ fault. Refuses draft.now rom.now fault) }
+{
+    let words = match words_or_fault(draft) {
+        Ok(words) => words,
+        Err(fault) => return Err(fault),
+    };
+    if let Some(found) = sweep(list, table, draft, rom) {
+        return Err(found.fault);
+    }
+    // A ROM is an image of 2,048 bytes, as its type says.
+    let _ = rom.len_words();
+    match settle(list, draft, rom, table, chain) {
+        Some(bound) => Ok(Sizes { words, bound }),
+        None => Err(FrameFault::Loops),
     }
 }
 
@@ -145,8 +179,14 @@ impl Checker {
 pub fn check<A: Allocator>(draft: &Draft, rom: &Rom<A>) -> Result<Frame, FrameFault>
     ensures { IsChecked draft.now rom.now result }
 {
-    match judge(&mut Worklist::new(), draft, rom) {
-        Ok(words) => Ok(Frame::of(draft, words)),
+    match judge(
+        &mut Worklist::new(),
+        &mut Table::new(),
+        &mut Chain::new(),
+        draft,
+        rom,
+    ) {
+        Ok(sizes) => Ok(Frame::of(draft, sizes.words, sizes.bound)),
         Err(fault) => Err(fault),
     }
 }

@@ -47,7 +47,7 @@ impl Cursor {
 
     /// A cursor over the bytes of the frame, laid out for this half.
     pub fn new(frame: Frame, half: Half) -> Cursor
-        ensures items { result ≡ addressed (2 * base half) (bytes (laid half frame)) }
+        ensures items { result ≡ addressed (2 * base half) (bytes (laid half frame.operations)) }
         ensures in_ram { All IsBehindWordZero result }
     {
         let left = 2 * frame.len_words();
@@ -66,7 +66,7 @@ impl Cursor {
     /// into the memory that the cursor has: the time is linear in its operations, and in those of the frame
     /// that the cursor kept.
     pub fn restart(&mut self, checked: &Checked, half: Half)
-        ensures items { self.new ≡ addressed (2 * base half) (bytes (laid half checked.now)) }
+        ensures items { self.new ≡ addressed (2 * base half) (bytes (laid half checked.now.operations)) }
         ensures in_ram { All IsBehindWordZero self.new }
     {
         checked.copy_to(&mut self.frame);

@@ -1,9 +1,9 @@
 //! Frames: drafts that were checked.
-ghost use Rattle.std.specs.Prelude.{◌≡◌, ◌*◌, ◌%◌, ◌<◌, ◌≤◌, List, [], ◌∷◌, Some, length, slice_get};
+ghost use Rattle.std.specs.Prelude.{◌≡◌, ◌*◌, ◌%◌, ◌^◌, ◌<◌, ◌≤◌, [], ◌∷◌, Some, length, slice_get};
 ghost use Rattle.dvg_code.specs.Ranges.{InRange};
 ghost use Rattle.dvg_code.specs.Spelling.{canon};
 ghost use Rattle.dvg_frame.specs.Bytes.{bytes};
-ghost use Rattle.dvg_frame.specs.Faults.{Begins};
+ghost use Rattle.dvg_frame.specs.Faults.{Begins, FrameState};
 ghost use Rattle.dvg_frame.specs.Firsts.{NamesNone};
 ghost use Rattle.dvg_frame.specs.Frames.{IsFrame};
 ghost use Rattle.dvg_frame.specs.Layout as layout;
@@ -22,69 +22,84 @@ use std::marker::Model;
 /// The most words that a frame has: those of a half of the RAM.
 pub(crate) const MAX_WORDS: u16 = 511;
 
-/// A draft that was checked. It keeps the draft, its number of words and the places of its operations, and no
-/// laid words.
+/// A draft that was checked. It keeps the draft, its number of words, its bound and the places of its
+/// operations, and no laid words.
 #[derive(Drop)]
 pub struct Frame {
     draft: Counted,
     words: u16,
+    bound: u64,
 }
 
-/// Contracts see the draft.
+/// Contracts see the operations of its draft, and its bound.
 impl Model for Frame {
-    ghost Value = { List OpKind };
+    ghost Value = { FrameState };
 
-    ghost view = { λ frame. frame.draft };
+    ghost view = { λ frame. record { operations = frame.draft; bound = frame.bound } };
 
-    ghost invariant = { λ frame. IsFrame frame.draft frame.words };
+    ghost invariant = { λ frame. IsFrame frame.draft frame.words × (frame.bound < 2 ^ 63) };
 }
 
 impl Frame {
-    // The frame of a draft without the faults 1 to 4, which has so many words. The draft is copied.
-    pub(crate) fn of(draft: &Draft, words: u16) -> Frame
-        requires { IsFrame draft.now words }
-        ensures { result ≡ draft.now }
+    // The frame of a draft without the faults 1 to 4, with its number of words and its bound. The draft is
+    // copied.
+    pub(crate) fn of(draft: &Draft, words: u16, bound: u64) -> Frame
+        requires frame { IsFrame draft.now words }
+        requires small { bound < 2 ^ 63 }
+        ensures { result ≡ record { operations = draft.now; bound = bound } }
     {
         Frame {
             draft: Counted::of(draft),
             words,
+            bound,
         }
     }
 
-    // Becomes the frame of a draft without the faults 1 to 4, which has so many words, in the memory that
-    // it has.
-    pub(crate) fn copy_from(&mut self, draft: &Draft, words: u16)
-        requires { IsFrame draft.now words }
-        ensures { self.new ≡ draft.now }
+    // Becomes the frame of a draft without the faults 1 to 4, with its number of words and its bound, in the
+    // memory that it has.
+    pub(crate) fn copy_from(&mut self, draft: &Draft, words: u16, bound: u64)
+        requires frame { IsFrame draft.now words }
+        requires small { bound < 2 ^ 63 }
+        ensures { self.new ≡ record { operations = draft.now; bound = bound } }
     {
         self.draft.copy_from(draft);
         self.words = words;
+        self.bound = bound;
     }
 
     /// How many words the frame has in a half, 1 to 511.
     pub fn len_words(&self) -> u16
-        ensures value { result ≡ layout.size self.now }
-        ensures laid { (half : Half) → length (layout.laid half self.now) ≡ result }
+        ensures value { result ≡ layout.size self.now.operations }
+        ensures laid { (half : Half) → length (layout.laid half self.now.operations) ≡ result }
         ensures bound { result ≤ 511 }
-        ensures draft { IsDraft self.now }
+        ensures draft { IsDraft self.now.operations }
     {
         self.words
+    }
+
+    /// How many words the whole run of the frame fetches, from word zero to its HALT: that of any run of it
+    /// which nobody interrupts, over the ROM that it was checked with. It is below 2^63.
+    pub fn bound(&self) -> u64
+        ensures value { result ≡ self.now.bound }
+        ensures small { result < 2 ^ 63 }
+    {
+        self.bound
     }
 
     /// Byte `k` of the frame's words in this half, the low byte of each word first. Byte 0 stands at
     /// twice the word address of the half's first word.
     pub fn byte(&self, half: Half, k: u16) -> u8
-        requires { k < 2 * layout.size self.now }
-        ensures { slice_get (bytes (layout.laid half self.now)) k ≡ Some result }
+        requires { k < 2 * layout.size self.now.operations }
+        ensures { slice_get (bytes (layout.laid half self.now.operations)) k ≡ Some result }
     {
         byte_of(word_at(&self.draft, half, k / 2), k)
     }
 
     // The words of the operation of this number, laid out for a half.
     pub(crate) fn spelling(&self, half: Half, i: u16) -> Words
-        requires { i < length self.now }
-        ensures words { IsSpelling half self.now i result.items }
-        ensures draft { IsDraft self.now }
+        requires { i < length self.now.operations }
+        ensures words { IsSpelling half self.now.operations i result.items }
+        ensures draft { IsDraft self.now.operations }
     {
         spelling(&self.draft, half, usize::from(i))
     }

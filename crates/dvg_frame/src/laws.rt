@@ -1,5 +1,5 @@
 //! Laws of the check's answer. Each is the contract of a function that does nothing else.
-ghost use Rattle.dvg_frame.specs.Laws.{ClosedStays, OneAnswer, OneFault};
+ghost use Rattle.dvg_frame.specs.Laws.{AcceptedStays, LoopsComeBack, OneAnswer, OneFault, OnePicture};
 
 use crate::checking::check;
 use crate::draft::Draft;
@@ -11,9 +11,9 @@ pub fn one_fault()
     ensures { OneFault }
 {}
 
-/// No fault is picked of a draft that has none.
-pub fn closed_stays()
-    ensures { ClosedStays }
+/// No fault is picked of a draft that has none and no loop.
+pub fn accepted_stays()
+    ensures { AcceptedStays }
 {}
 
 /// Exactly one answer of the check holds of each draft and ROM. That there is one shows by what the
@@ -23,3 +23,13 @@ pub fn one_answer<A: Allocator>(draft: &Draft, rom: &Rom<A>)
 {
     let _answer = check(draft, rom);
 }
+
+/// A draft with no fault and no loop has exactly one picture, of fewer than 2^63 words.
+pub fn one_picture()
+    ensures { OnePicture }
+{}
+
+/// A draft has a loop exactly where a reached pair comes back to itself.
+pub fn loops_come_back()
+    ensures { LoopsComeBack }
+{}

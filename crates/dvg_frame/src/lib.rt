@@ -21,7 +21,9 @@ pub mod laws;
 mod op;
 mod pair;
 mod place;
+mod settling;
 mod sweep;
+mod table;
 #[cfg(test)]
 mod tests;
 mod way;

@@ -13,8 +13,14 @@ pub(crate) const ROM_FIRST: u16 = 0x800;
 
 pub(crate) const ROM_END: u16 = 0xC00;
 
-/// How many pairs there are: at each operation and at each word of the ROM, one for each depth.
-pub(crate) const PAIRS: usize = (MAX_OPS + (ROM_END - ROM_FIRST) as usize) * (DEEPEST as usize + 1);
+/// How many words the ROM has.
+pub(crate) const ROM_WORDS: usize = (ROM_END - ROM_FIRST) as usize;
+
+/// How many places there are: each operation and each word of the ROM.
+pub(crate) const PLACES: usize = MAX_OPS + ROM_WORDS;
+
+/// How many pairs there are: at each place one for each depth.
+pub(crate) const PAIRS: usize = PLACES * (DEEPEST as usize + 1);
 
 /// A place, and how many calls are open there.
 #[derive(Clone, Copy)]

@@ -9,7 +9,7 @@ pub enum Place {
     InRom(u16),
 }
 
-/// Why a draft is refused. The faults have the numbers 1 to 8, in this order (this project's own
+/// Why a draft is refused. The faults have the numbers 1 to 9, in this order (this project's own
 /// choice).
 #[derive(Clone, Copy, Debug, PartialEq, Eq)]
 pub enum FrameFault {
@@ -30,4 +30,7 @@ pub enum FrameFault {
     TooDeep(Place),
     /// 8: at this place there is a return while no call is open.
     NoCaller(Place),
+    /// 9: none of the others holds, and steps at one depth lead from a reached place back to it, so that
+    /// its run may come to no end.
+    Loops,
 }

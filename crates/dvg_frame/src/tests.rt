@@ -195,7 +195,7 @@ fn faults_of_the_run(rt: HostRuntime) -> Result<(), Fail> {
         // a last call goes on, too, and the least number is answered
         (&[OpKind::CallRom(0x005)], Err(FrameFault::RunsOff(1))),
         // runs without an end
-        (&[OpKind::Jump(0)], Ok(3)),
+        (&[OpKind::Jump(0)], Err(FrameFault::Loops)),
         (
             &[OpKind::Call(0), OpKind::Halt],
             Err(FrameFault::TooDeep(Place::InFrame(1))),
@@ -443,24 +443,130 @@ fn a_cursor_gives_what_the_frame_has(rt: HostRuntime) -> Result<(), Fail> {
     Ok(())
 }
 
+// What the check answers, with the number of words and the bound in place of the frame.
+fn sizes(draft: &Draft, rom: &Rom) -> Result<(u16, u64), FrameFault> {
+    check(draft, rom).map(|frame| (frame.len_words(), frame.bound()))
+}
+
 // The next check by the checker answers what `check` answers.
 fn agrees(checker: &mut Checker, draft: &Draft, rom: &Rom) -> bool {
-    let answer = checker
-        .check(draft, rom)
-        .map(|checked| checked.to_frame().len_words());
-    answer == verdict(draft, rom)
+    let answer = checker.check(draft, rom).map(|checked| {
+        let frame = checked.to_frame();
+        (frame.len_words(), checked.bound())
+    });
+    answer == sizes(draft, rom)
+}
+
+#[test]
+fn bounds(rt: HostRuntime) -> Result<(), Fail> {
+    // a word that jumps to itself, one that halts, and an SVEC before a return
+    let rom = rom(
+        rt.alloc(),
+        &[(0x800, 0xE800), (0x900, 0xB000), (0x910, 0xF000)],
+    )?;
+    let rows: [(&[OpKind], (u16, u64)); 7] = [
+        (&[OpKind::Halt], (3, 4)),
+        // a jump back is no loop where it leads to an end
+        (&[OpKind::Jump(3), OpKind::Halt, OpKind::Jump(2)], (5, 6)),
+        (&[OpKind::Call(3), OpKind::Halt, OpKind::Return], (5, 6)),
+        // a call that halts: what stands behind it is not fetched
+        (&[OpKind::Call(3), OpKind::Halt, OpKind::Halt], (5, 5)),
+        (
+            &[
+                OpKind::Call(4),
+                vctr()?,
+                OpKind::Halt,
+                svec()?,
+                OpKind::Return,
+            ],
+            (8, 9),
+        ),
+        (&[OpKind::CallRom(0x910), OpKind::Halt], (4, 7)),
+        // each word of a subroutine counts at each call
+        (
+            &[
+                OpKind::Call(4),
+                OpKind::Call(4),
+                OpKind::Halt,
+                OpKind::Call(6),
+                OpKind::Return,
+                OpKind::Return,
+            ],
+            (8, 12),
+        ),
+    ];
+    for (kinds, expected) in rows {
+        assert_eq!(rt; sizes(&after_labs(kinds)?, &rom), Ok(expected), "{kinds:?}");
+    }
+    Ok(())
+}
+
+#[test]
+fn loops(rt: HostRuntime) -> Result<(), Fail> {
+    let rom = rom(rt.alloc(), &[(0x800, 0xE800), (0x900, 0xB000)])?;
+    let rows: [&[OpKind]; 7] = [
+        &[OpKind::Jump(0)],
+        &[OpKind::Jump(1)],
+        &[OpKind::JumpRom(0x800)],
+        // in a subroutine alone
+        &[OpKind::Call(3), OpKind::Halt, OpKind::Jump(3)],
+        &[OpKind::CallRom(0x800), OpKind::Halt],
+        // behind a call that halts
+        &[OpKind::Call(4), OpKind::Jump(2), OpKind::Halt, OpKind::Halt],
+        &[OpKind::CallRom(0x900), OpKind::Jump(2)],
+    ];
+    for kinds in rows {
+        assert_eq!(rt;
+            sizes(&after_labs(kinds)?, &rom),
+            Err(FrameFault::Loops),
+            "{kinds:?}"
+        );
+    }
+    // any other fault comes first
+    let beside = after_labs(&[
+        OpKind::Call(4),
+        OpKind::Jump(2),
+        OpKind::Halt,
+        OpKind::JumpRom(0x005),
+    ])?;
+    assert_eq!(rt;
+        sizes(&beside, &rom),
+        Err(FrameFault::OutOfRom(Place::InFrame(4)))
+    );
+    // what is not reached is no loop
+    let unreached = after_labs(&[OpKind::Halt, OpKind::Jump(2)])?;
+    assert_eq!(rt; sizes(&unreached, &rom), Ok((4, 4)));
+    Ok(())
 }
 
 #[test]
 fn a_checker_answers_as_if_each_check_were_its_first(rt: HostRuntime) -> Result<(), Fail> {
-    let rom = rom(rt.alloc(), &[(0x800, 0xF000), (0x801, 0xE800)])?;
+    let rom = rom(rt.alloc(), &[(0x800, 0xF000), (0x801, 0xB000)])?;
     let fine = after_labs(&[OpKind::CallRom(0x802), OpKind::JumpRom(0x800)])?;
-    let faulty = after_labs(&[OpKind::Call(2), OpKind::JumpRom(0x801), OpKind::Return])?;
+    let halts = after_labs(&[OpKind::CallRom(0x800), OpKind::JumpRom(0x801)])?;
+    let faulty = after_labs(&[OpKind::Call(2), OpKind::Return])?;
     let deep = after_labs(&[OpKind::Call(1), OpKind::Halt])?;
-    assert_eq!(rt; verdict(&fine, &rom), Ok(4));
+    let endless = after_labs(&[OpKind::CallRom(0x802), OpKind::Jump(1)])?;
+    assert_eq!(rt; sizes(&fine, &rom), Ok((4, 8)));
+    assert_eq!(rt; sizes(&halts, &rom), Ok((4, 6)));
     assert!(rt; verdict(&deep, &rom).is_err());
+    assert_eq!(rt; verdict(&endless, &rom), Err(FrameFault::Loops));
     let mut checker = Checker::new();
-    for draft in [&fine, &deep, &faulty, &Draft::new(), &deep, &fine, &fine] {
+    for draft in [
+        &fine,
+        &endless,
+        &halts,
+        &deep,
+        &fine,
+        &faulty,
+        &Draft::new(),
+        &endless,
+        &endless,
+        &deep,
+        &halts,
+        &fine,
+        &fine,
+    ] {
         assert!(rt; agrees(&mut checker, draft, &rom));
     }
     Ok(())

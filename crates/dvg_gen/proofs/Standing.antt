@@ -3,7 +3,8 @@ use Rattle.std.proofs.Common.{◌≡◌, ℕ, suc, ◌+◌, ◌<◌, true, false
 use Rattle.std.proofs.lemmas.Bool.{eq-eqb}
 use Rattle.std.specs.Prelude.{Result, Ok, Err, IfOk, IsSome}
 use Rattle.dvg_code.specs.declared.instr.Instr.{Instr}
-use Rattle.dvg_code.specs.Spelling.{IsFirst, vctr, labs, halt, jsrl, rtsl, jmpl, svec}
+use Rattle.dvg_code.specs.declared.instr.Instr.TheVariants.{Jmpl}
+use Rattle.dvg_code.specs.Spelling.{IsFirst, Spells, vctr, labs, halt, jsrl, rtsl, jmpl, svec}
 use Rattle.dvg_gen.specs.declared.beam.Beam.{Beam}
 use Rattle.dvg_gen.specs.declared.taken.GenFault.TheVariants.{StackOver, StackUnder, Hole}
 use Rattle.dvg_gen.specs.declared.taken.Taken.{Taken}
@@ -328,3 +329,18 @@ pub claim_result : {A E : Type 0} (result : Result (Taken A) E) (w : ℕ) (old m
     → IfOk result (λ taken. Obeyed old code machine taken) → IfOk result (λ taken. Claim (Whole (Some w)) old machine taken)
 claim_result {A} (Ok taken) w old machine code opened completes obeyed = claim_obeyed A w old machine code taken opened completes obeyed
 claim_result (Err e) w old machine code opened completes obeyed = obeyed
+
+-- the same of a word that alone spells an instruction
+pub claim_alone : {A E : Type 0} (result : Result (Taken A) E) (w : ℕ) (old machine : Machine) (code : Instr) → old.is_open ≡ true → old.held ≡ None → Spells code (w ∷ [])
+    → IfOk result (λ taken. Obeyed old code machine taken) → IfOk result (λ taken. Claim (Whole (Some w)) old machine taken)
+claim_alone result w old machine code opened none spells obeyed =
+    claim_result result w old machine code opened (subst (λ held. Completes held w code) (sym none) spells) obeyed
+
+-- a machine that goes to an address obeys a JMPL
+pub jumped : {A : Type 0} (old machine : Machine) (taken : Taken A) (address : ℕ) → old.is_open ≡ true → machine ≡ record old { at = address; held = None; low = None } → taken ≡ Word
+    → Obeyed old (Jmpl address) machine taken
+jumped old machine taken address opened moved goes =
+    let same : machine ≡ gone old (Jmpl address) =
+    moved ∙ ap (λ o. record old { at = address; held = None; low = None; is_open = o }) opened
+    ∙ ap (λ drew. record old { at = address; held = None; low = None; is_open = true; strokes = drew }) (sym (append-nil old.strokes)) in
+    subst (λ t. Obeyed old (Jmpl address) machine t) (sym goes) (tt, same)

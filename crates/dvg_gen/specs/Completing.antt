@@ -2,18 +2,13 @@
 use Rattle.std.specs.Prelude.{ℕ, ◌≤◌, [], ◌∷◌, Option, Some, None}
 use Rattle.dvg_code.specs.declared.instr.Instr.{Instr}
 use Rattle.dvg_code.specs.declared.instr.Instr.TheVariants.{Vctr, Labs, Halt, Jsrl, Rtsl, Jmpl, Svec}
-use Rattle.dvg_code.specs.Spelling.{IsFirst, Spells}
+use Rattle.dvg_code.specs.Spelling.{Spells}
 use Rattle.dvg_gen.specs.Bytes.{Met, Waits, Whole}
 
 -- a word completes an instruction: it spells it, behind the first word that is held
 abbrev pub Completes : Option ℕ → ℕ → Instr → Type 0
 Completes None word code = Spells code (word ∷ [])
 Completes (Some first) word code = Spells code (first ∷ word ∷ [])
-
--- the instruction that a word alone spells; none where it is a first word
-abbrev pub IsAlone : ℕ → Option Instr → Type 0
-IsAlone word None = IsFirst word
-IsAlone word (Some code) = Spells code (word ∷ [])
 
 -- a vector that is seen: its intensity is at least 1
 abbrev pub IsSeen : Instr → Type 0
@@ -24,6 +19,16 @@ IsSeen (Jsrl address) = ⊥
 IsSeen Rtsl = ⊥
 IsSeen (Jmpl address) = ⊥
 IsSeen (Svec scale dx dy z) = 1 ≤ z
+
+-- a LABS
+abbrev pub IsLabs : Instr → Type 0
+IsLabs (Vctr scale dx dy z) = ⊥
+IsLabs (Labs x y scale) = Unit {0}
+IsLabs Halt = ⊥
+IsLabs (Jsrl address) = ⊥
+IsLabs Rtsl = ⊥
+IsLabs (Jmpl address) = ⊥
+IsLabs (Svec scale dx dy z) = ⊥
 
 -- a fetch draws nothing: what it met completes no vector that is seen
 abbrev pub DrawsNothing : Option ℕ → Met → Type 0

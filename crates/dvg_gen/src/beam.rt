@@ -101,10 +101,11 @@ impl Beam {
 
 // How far a magnitude of 1 moves the beam, at a global and a local scale.
 fn unit(global: u8, local: u8) -> u32
+    requires { global + local ≤ 255 }
     ensures exact { result ≡ spec.unit ((global + local) % 16) }
     ensures small { result ≤ 512 }
 {
-    let effective = (u32::from(global) + u32::from(local)) % 16;
+    let effective = (global + local) % 16;
     if effective <= 9 { 1 << effective } else { 0 }
 }
 

@@ -5,7 +5,7 @@ ghost use Rattle.dvg_code.specs.Ranges.{InRange};
 ghost use Rattle.dvg_code.specs.Spelling.{IsFirst};
 ghost use Rattle.dvg_code.specs.declared.instr.Instr.{Instr};
 ghost use Rattle.dvg_gen.specs.Bytes.{Whole, met};
-ghost use Rattle.dvg_gen.specs.Completing.{Completes, DrawsNothing, IsAlone, IsSeen};
+ghost use Rattle.dvg_gen.specs.Completing.{Completes, DrawsNothing, IsLabs, IsSeen};
 ghost use Rattle.dvg_gen.specs.Drawing.{drawn};
 ghost use Rattle.dvg_gen.specs.Machine.{Answers, IsOnward, StandsAfter};
 ghost use Rattle.dvg_gen.specs.Obeyed.{Obeyed};
@@ -180,39 +180,45 @@ impl<A: Allocator + Copy> Generator<A> {
         ensures room { DrawsNothing self.old.held (Whole (Some word)) → IsOk result }
         ensures refused { OnErr result (self.new ≡ self.old) }
     {
+        // The opcode says which instruction it is. To tell the decoded ones apart once more would take time.
         if let Some(first) = self.held {
-            // Always a vector or a LABS: to tell it from all others once more would take time.
-            return self.draw(of_two(first, word));
+            let code = of_two(first, word);
+            return if first < 0xA000 {
+                self.draw(code)
+            } else {
+                Ok(self.place(code))
+            };
         }
-        match of_one(word) {
-            Some(code) => self.obey(code),
-            None => {
-                self.at = after(self.at);
-                self.held = Some(word);
-                self.has_low = false;
-                Ok(Taken::Word)
-            }
+        if word < 0xB000 {
+            self.at = after(self.at);
+            self.held = Some(word);
+            self.has_low = false;
+            return Ok(Taken::Word);
+        }
+        match word >> 12 {
+            0xB => Ok(self.finish()),
+            0xC => Ok(self.call(word % 4096)),
+            0xD => Ok(self.come_back()),
+            0xE => Ok(self.jump(word % 4096)),
+            _ => self.draw(of_one(word)),
         }
     }
 
-    // Does what a whole instruction says.
+    // Places the beam by a LABS.
     #[inline(always)]
-    fn obey(&mut self, code: Code) -> Result<Taken<A>, OutOfMemory>
-        requires { self.old.is_open ≡ true }
-        ensures obeyed { IfOk result (λ taken. Obeyed self.old code self.new taken) }
-        ensures room { (IsSeen code → ⊥) → IsOk result }
-        ensures refused { OnErr result (self.new ≡ self.old) }
+    fn place(&mut self, code: Code) -> Taken<A>
+        requires open { self.old.is_open ≡ true }
+        requires labs { IsLabs code }
+        ensures { Obeyed self.old code self.new result }
     {
-        match code.instr() {
-            Instr::Vctr { .. } | Instr::Labs { .. } | Instr::Svec { .. } => self.draw(code),
-            Instr::Halt => Ok(self.finish()),
-            Instr::Jsrl(address) => Ok(self.call(address)),
-            Instr::Rtsl => Ok(self.come_back()),
-            Instr::Jmpl(address) => Ok(self.jump(address)),
-        }
+        let Instr::Labs { x, y, scale } = code.instr() else {
+            unreachable!()
+        };
+        self.beam = Beam::place(x, y, scale);
+        self.jump(after(self.at))
     }
 
-    // Draws a vector, or places the beam by a LABS.
+    // Draws a vector.
     #[inline(always)]
     fn draw(&mut self, code: Code) -> Result<Taken<A>, OutOfMemory>
         requires open { self.old.is_open ≡ true }
@@ -295,14 +301,15 @@ fn after(address: u16) -> u16
     (address + 1) % 4096
 }
 
-// The instruction of one word, or None where it is the first of two.
+// The instruction of one word.
 #[inline(always)]
-fn of_one(word: u16) -> Option<Code>
-    ensures { IsAlone word result }
+fn of_one(word: u16) -> Code
+    requires { 0xB000 ≤ word }
+    ensures { Completes None word result }
 {
     match decode(&[word]) {
-        Ok(read) => Some(read.0),
-        Err(_) => None,
+        Ok(read) => read.0,
+        Err(_) => unreachable!(),
     }
 }
 

@@ -1,5 +1,5 @@
 //! The vector ROM.
-ghost use Rattle.std.specs.Prelude.{◌≡◌, ◌≢◌, ◌≤◌, ◌↔◌, length, IfOk, IsErrOf, Some};
+ghost use Rattle.std.specs.Prelude.{◌≡◌, ◌≢◌, ◌*◌, ◌≤◌, ◌↔◌, length, IfOk, IsErrOf, Some};
 ghost use Rattle.dvg_mem.specs.Memory.{IsImage, rom_word};
 
 use crate::image::MemFault;
@@ -41,6 +41,14 @@ impl<A: Allocator> Rom<A> {
             Ok(bytes) => Ok(Rom { bytes }),
             Err(_) => Err(MemFault::OutOfMemory),
         }
+    }
+
+    /// How many words there are: 1,024.
+    pub fn len_words(&self) -> u16
+        ensures count { length self.now ≡ 2 * result }
+        ensures image { IsImage self.now }
+    {
+        (self.bytes.as_slice().len() / 2) as u16
     }
 
     /// The word at a word address from 800 to BFF.

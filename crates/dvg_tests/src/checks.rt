@@ -1,7 +1,7 @@
-//! The engine `check_text`.
+//! The engines `check_text` and `check_bound`.
 use crate::devices::{Endless, Failure, Slow, Stubborn};
 use dvg_frame::{FrameFault, Place};
-use dvg_tool::{MOST_TEXT_BYTES, TextFault, ToolFault, Verdict, Watched, check_text};
+use dvg_tool::{MOST_TEXT_BYTES, TextFault, ToolFault, Verdict, Watched, check_bound, check_text};
 use linked_list_allocator::LocalHeap;
 use std::alloc::Global;
 use std::test::Fail;
@@ -38,7 +38,7 @@ const DRAFTS: [(&str, &str); 50] = [
     ("labs 0 0 0", "fault 5 runs off 0"),
     ("labs 0 0 0; return", "fault 8 no caller op 1"),
     ("labs 0 0 0; jump 2; halt", "ok 4 words"),
-    ("labs 0 0 0; jump 1", "ok 3 words"),
+    ("labs 0 0 0; jump 1", "fault 9 loops"),
     // Words of the ROM. A word that no line gives is an RTSL.
     ("rom 800 E001; labs 0 0 0; halt", "ok 3 words"),
     (
@@ -133,6 +133,58 @@ const DRAFTS: [(&str, &str); 50] = [
     ("labs 0 0 0; call 65536", "syntax at line 2"),
 ];
 
+/// The lines of drafts, parted by `; `, and what is written of each where its bound is asked for.
+const BOUNDS: [(&str, &str); 16] = [
+    (
+        "labs 512 400 3; vctr 9 100 -100 7; halt",
+        "ok 5 words 6 fetches",
+    ),
+    // A jump back that leads to an end.
+    ("labs 0 0 0; jump 3; halt; jump 2", "ok 5 words 6 fetches"),
+    // Two calls of one subroutine, of which each word counts twice.
+    (
+        "labs 0 0 0; call 4; call 4; halt; svec 2 1 1 1; return",
+        "ok 7 words 10 fetches",
+    ),
+    // A call that halts: what stands behind it is not fetched.
+    (
+        "labs 0 0 0; call 3; vctr 0 0 0 0; halt",
+        "ok 6 words 5 fetches",
+    ),
+    (
+        "labs 0 0 0; call 3; halt; call 5; return; call 7; return; call 9; return; return",
+        "ok 11 words 12 fetches",
+    ),
+    // A subroutine of the ROM, of which each word counts.
+    (
+        "rom 800 9001 5000 D000; labs 0 0 0; callrom 800; halt",
+        "ok 4 words 8 fetches",
+    ),
+    // Loops: at once, of one operation, in the ROM, and in a subroutine alone.
+    ("labs 0 0 0; jump 0", "fault 9 loops"),
+    ("labs 0 0 0; jump 1", "fault 9 loops"),
+    ("rom 800 E800; labs 0 0 0; jumprom 800", "fault 9 loops"),
+    ("labs 0 0 0; call 3; halt; jump 3", "fault 9 loops"),
+    (
+        "rom 800 F000 E800; labs 0 0 0; callrom 800; halt",
+        "fault 9 loops",
+    ),
+    // A loop behind a call that never returns.
+    ("labs 0 0 0; call 4; jump 2; halt; halt", "fault 9 loops"),
+    (
+        "rom 800 B000; labs 0 0 0; callrom 800; jump 2",
+        "fault 9 loops",
+    ),
+    // Each other fault comes first.
+    ("labs 0 0 0; call 0; halt", "fault 7 too deep op 1"),
+    (
+        "labs 0 0 0; call 4; jump 2; halt; jumprom 005",
+        "fault 6 out of rom op 4",
+    ),
+    // What is not reached is no loop.
+    ("labs 0 0 0; halt; jump 2", "ok 4 words 4 fetches"),
+];
+
 /// Bytes of texts with an odd byte or line end, and what is answered.
 const ODD_BYTES: [(&[u8], Result<Verdict, ToolFault>); 7] = [
     (b"#\xFF\nhalt\n", Ok(Verdict::Refused(FrameFault::NoLabs))),
@@ -187,6 +239,52 @@ fn checks_the_worked_examples(rt: HostRuntime) -> Result<(), Fail> {
     Ok(())
 }
 
+/// What is written of a text where its bound is asked for.
+fn bounded(alloc: Global, text: &[u8]) -> Result<String, Fail> {
+    let mut reader = Watched::new(text);
+    let mut writer = Watched::new(Vec::new(alloc));
+    check_bound(alloc, &mut reader, &mut writer).map_err(|_| "not checked")?;
+    Ok(String::from_utf8(writer.into_inner())?)
+}
+
+#[test]
+fn tells_bounds(rt: HostRuntime) -> Result<(), Fail> {
+    for (lines, wanted) in BOUNDS {
+        let text = text_of(rt.alloc(), lines)?;
+        let written = bounded(rt.alloc(), text.as_bytes())?;
+        assert_eq!(rt; written.as_str().trim_end(), wanted, "in {lines}");
+    }
+    Ok(())
+}
+
+/// A hundred calls at each of four depths: few operations, and millions of words.
+#[test]
+fn a_short_draft_has_a_long_run(rt: HostRuntime) -> Result<(), Fail> {
+    let mut text = text_of(rt.alloc(), "labs 0 0 0")?;
+    repeated(&mut text, "call 102\n", 100)?;
+    text.push_str("halt\n")?;
+    repeated(&mut text, "call 203\n", 100)?;
+    text.push_str("return\n")?;
+    repeated(&mut text, "call 304\n", 100)?;
+    text.push_str("return\n")?;
+    repeated(&mut text, "call 405\n", 100)?;
+    text.push_str("return\nreturn\n")?;
+    let written = bounded(rt.alloc(), text.as_bytes())?;
+    assert_eq!(rt; written.as_str(), "ok 407 words 202020204 fetches\n");
+    Ok(())
+}
+
+/// A frame of 511 words, in which nothing is called.
+#[test]
+fn the_longest_frame_is_fetched_once(rt: HostRuntime) -> Result<(), Fail> {
+    let mut text = text_of(rt.alloc(), "labs 0 0 0")?;
+    repeated(&mut text, "svec 2 0 0 0\n", 508)?;
+    text.push_str("halt\n")?;
+    let written = bounded(rt.alloc(), text.as_bytes())?;
+    assert_eq!(rt; written.as_str(), "ok 511 words 512 fetches\n");
+    Ok(())
+}
+
 #[test]
 fn takes_bytes_as_they_are(rt: HostRuntime) -> Result<(), Fail> {
     for (text, wanted) in ODD_BYTES {
@@ -205,7 +303,13 @@ fn a_frame_has_511_words(rt: HostRuntime) -> Result<(), Fail> {
     longer.push_str("svec 2 0 0 0\nhalt\n")?;
     let (written, answer) = checked(rt.alloc(), text.as_bytes())?;
     assert_eq!(rt; written.as_str(), "ok 511 words\n");
-    assert_eq!(rt; answer, Ok(Verdict::Good(511)));
+    assert_eq!(rt;
+        answer,
+        Ok(Verdict::Good {
+            words: 511,
+            bound: 512
+        })
+    );
     let (written, answer) = checked(rt.alloc(), longer.as_bytes())?;
     assert_eq!(rt; written.as_str(), "fault 3 too long\n");
     assert_eq!(rt; answer, Ok(Verdict::Refused(FrameFault::TooLong)));

@@ -106,7 +106,12 @@ fn check_stops_at_the_first_failure(rt: HostRuntime) -> Result<(), Fail> {
             let broken = device(rt.alloc(), text.as_slice(), 1, calls_before, mishap);
             let mut reader = Watched::new(broken);
             let mut writer = Watched::new(Vec::new(rt.alloc()));
-            let answer = perform(rt.alloc(), Job::Check, &mut reader, &mut writer);
+            let answer = perform(
+                rt.alloc(),
+                Job::Check { bound: false },
+                &mut reader,
+                &mut writer,
+            );
             assert_eq!(rt;
                 answer,
                 Err(ToolFault::Reader),
@@ -120,7 +125,12 @@ fn check_stops_at_the_first_failure(rt: HostRuntime) -> Result<(), Fail> {
         for calls_before in 0..line.len() as u32 {
             let mut reader = Watched::new(text.as_slice());
             let mut writer = Watched::new(device(rt.alloc(), &[], 1, calls_before, mishap));
-            let answer = perform(rt.alloc(), Job::Check, &mut reader, &mut writer);
+            let answer = perform(
+                rt.alloc(),
+                Job::Check { bound: false },
+                &mut reader,
+                &mut writer,
+            );
             assert_eq!(rt;
                 answer,
                 Err(ToolFault::Writer),
@@ -204,7 +214,7 @@ fn play_stops_at_the_first_failing_write(rt: HostRuntime) -> Result<(), Fail> {
 fn a_failing_flush_is_the_writers_fault(rt: HostRuntime) -> Result<(), Fail> {
     for answer in [
         Ok(Done::Written),
-        Ok(Done::Judged(Verdict::Good(3))),
+        Ok(Done::Judged(Verdict::Good { words: 3, bound: 4 })),
         Ok(Done::Judged(Verdict::Refused(FrameFault::Empty))),
         Err(ToolFault::Text(TextFault::Cut(4))),
         Err(ToolFault::Reader),

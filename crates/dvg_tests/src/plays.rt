@@ -128,7 +128,7 @@ const LOGS: [(&str, &[&str]); 13] = [
 ];
 
 /// The lines of an offer's draft, with ROM lines before it where they are wanted, and the refusal's line.
-const REFUSED: [(&str, &str); 12] = [
+const REFUSED: [(&str, &str); 13] = [
     ("offer; end", "0 refused 1 empty"),
     ("offer; halt; end", "0 refused 2 no labs"),
     ("offer; labs 0 0 0; call 9; end", "0 refused 4 target 1"),
@@ -161,6 +161,7 @@ const REFUSED: [(&str, &str); 12] = [
         "offer; labs 0 0 0; jumprom 800; end",
         "0 refused 8 no caller word 800",
     ),
+    ("offer; labs 0 0 0; jump 0; end", "0 refused 9 loops"),
     // Drafts that are fine, before the boot.
     (
         "rom 800 E001; offer; labs 0 0 0; halt; end; offer; end",

@@ -26,7 +26,10 @@ const FAULTS: [(ToolFault, &str, u8); 12] = [
 #[test]
 fn faults_have_their_texts(rt: HostRuntime) -> Result<(), Fail> {
     assert_eq!(rt; status(&Ok(Done::Written)), 0);
-    assert_eq!(rt; status(&Ok(Done::Judged(Verdict::Good(3)))), 0);
+    assert_eq!(rt;
+        status(&Ok(Done::Judged(Verdict::Good { words: 3, bound: 4 }))),
+        0
+    );
     assert_eq!(rt;
         status(&Ok(Done::Judged(Verdict::Refused(FrameFault::Empty)))),
         1
@@ -39,16 +42,23 @@ fn faults_have_their_texts(rt: HostRuntime) -> Result<(), Fail> {
 }
 
 /// Words that ask for a job.
-const JOBS: [(&[&str], Job); 5] = [
+const JOBS: [(&[&str], Job); 6] = [
     (&["dvg", "list"], Job::List),
     (&["dvg", "rom"], Job::Rom),
-    (&["dvg", "check"], Job::Check),
+    (&["dvg", "check"], Job::Check { bound: false }),
+    (&["dvg", "check", "--bound"], Job::Check { bound: true }),
     (&["dvg", "play"], Job::Play { all: false }),
     (&["dvg", "play", "--all"], Job::Play { all: true }),
 ];
 
 /// Words that ask for nothing the program can do.
-const REFUSED: [&[&str]; 3] = [&["dvg"], &["dvg", "draw"], &["dvg", "list", "--all"]];
+const REFUSED: [&[&str]; 5] = [
+    &["dvg"],
+    &["dvg", "draw"],
+    &["dvg", "list", "--all"],
+    &["dvg", "list", "--bound"],
+    &["dvg", "check", "--all"],
+];
 
 #[test]
 fn words_ask_for_jobs(rt: HostRuntime) {

@@ -1,7 +1,8 @@
 -- Of a text one verdict is given at most.
-use Rattle.std.proofs.Common.{◌≡◌, ℕ, List, ap, subst, sym, ◌∙◌}
+use Rattle.std.proofs.Common.{◌≡◌, ℕ, List, ap, ap₂, subst, sym, ◌∙◌}
 use Rattle.dvg_frame.specs.declared.op.OpKind.{OpKind}
-use Rattle.dvg_frame.proofs.OneFault.{closed_stays, one_fault}
+use Rattle.dvg_frame.proofs.OneFault.{accepted_stays, one_fault}
+use Rattle.dvg_frame.proofs.Pictures.{one_picture}
 use Rattle.dvg_tool.specs.declared.verdict.Verdict.{Verdict}
 use Rattle.dvg_tool.specs.declared.verdict.Verdict.TheVariants.{Good, Refused}
 use Rattle.dvg_tool.specs.RomTexts.{IsRomOf}
@@ -12,9 +13,9 @@ use Rattle.dvg_tool.proofs.OneRom.{one_rom}
 
 -- of a draft over a ROM one verdict is right
 one_said : (F : List OpKind) (R : List ℕ) (one other : Verdict) → IsVerdict F R one → IsVerdict F R other → other ≡ one
-one_said F R (Good words) (Good count) a b = ap Good (b.1 ∙ sym a.1)
-one_said F R (Good words) (Refused fault) a b = absurd (closed_stays F R fault a.0 b)
-one_said F R (Refused fault) (Good words) a b = absurd (closed_stays F R fault b.0 a)
+one_said F R (Good words bound) (Good count other) a b = ap₂ Good (b.1 ∙ sym a.1) (one_picture F R a.2.0 b.2.0 bound other a.2.1 b.2.1).1
+one_said F R (Good words bound) (Refused fault) a b = absurd (accepted_stays F R fault a.0 b)
+one_said F R (Refused fault) (Good words bound) a b = absurd (accepted_stays F R fault b.0 a)
 one_said F R (Refused fault) (Refused found) a b = ap Refused (one_fault F R fault found a b)
 
 pub one_verdict : (text : List ℕ) (one other : Verdict) → Judges text one → Judges text other → other ≡ one

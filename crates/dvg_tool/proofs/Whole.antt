@@ -1,5 +1,5 @@
 -- From what was read to what the reader had.
-use Rattle.std.proofs.Common.{◌≡◌, ◌≢◌, ℕ, ◌+◌, ◌*◌, [], ◌∷◌, refl, sym, ◌%◌, ◌<◌, ◌≤◌, List, Option, None, Some, Result, Ok, Err, IfSome, length, take, length-take, take_all, ap, subst, ◌∙◌, arith, ◌⊎◌, inl, inr, ⊎_elim}
+use Rattle.std.proofs.Common.{◌≡◌, ◌≢◌, ℕ, ◌+◌, ◌*◌, [], ◌∷◌, refl, sym, ◌%◌, ◌<◌, ◌≤◌, List, Bool, Option, None, Some, Result, Ok, Err, IfSome, length, take, length-take, take_all, ap, subst, ◌∙◌, arith, ◌⊎◌, inl, inr, ⊎_elim}
 use Rattle.std.proofs.lemmas.Bool.{cases_lt}
 use Rattle.std.specs.Io.KnownBytes.{Appends}
 use Rattle.dvg_code.specs.Words.{words_of}
@@ -103,24 +103,26 @@ faulted fault input read e h = ⊎_elim
     (whole_or_long 1048576 read input e)
 
 -- so is where nothing is said
-stopped_by : (fault : ToolFault) (known old new : Option (List ℕ)) (read : List ℕ) → Read 1048576 known read → IsJudgingFault read fault → IfSome known (λ input. StopsCheck fault input old new)
-stopped_by fault None old new read e h = tt
-stopped_by (Text fault) (Some input) old new read e h = faulted fault input read e h
-stopped_by Memory (Some input) old new read e h = tt
-stopped_by Reader (Some input) old new read e h = absurd h
-stopped_by Writer (Some input) old new read e h = absurd h
+stopped_by : (tells_bound : Bool) (fault : ToolFault) (known old new : Option (List ℕ)) (read : List ℕ) → Read 1048576 known read → IsJudgingFault read fault
+    → IfSome known (λ input. StopsCheck tells_bound fault input old new)
+stopped_by tells_bound fault None old new read e h = tt
+stopped_by tells_bound (Text fault) (Some input) old new read e h = faulted fault input read e h
+stopped_by tells_bound Memory (Some input) old new read e h = tt
+stopped_by tells_bound Reader (Some input) old new read e h = absurd h
+stopped_by tells_bound Writer (Some input) old new read e h = absurd h
 
-pub stopped : (answer : Result Verdict ToolFault) (fault : ToolFault) (known old new : Option (List ℕ)) (read : List ℕ) → answer ≡ Err fault → Read 1048576 known read → IsJudgingFault read fault
-    → IfSome known (λ input. Checks answer input old new)
-stopped answer fault known old new read is e h = subst (λ answer. IfSome known (λ input. Checks answer input old new)) (sym is) (stopped_by fault known old new read e h)
+pub stopped : (tells_bound : Bool) (answer : Result Verdict ToolFault) (fault : ToolFault) (known old new : Option (List ℕ)) (read : List ℕ) → answer ≡ Err fault → Read 1048576 known read
+    → IsJudgingFault read fault → IfSome known (λ input. Checks tells_bound answer input old new)
+stopped tells_bound answer fault known old new read is e h =
+    subst (λ answer. IfSome known (λ input. Checks tells_bound answer input old new)) (sym is) (stopped_by tells_bound fault known old new read e h)
 
 -- and what went out
-pub said : (verdict : Verdict) (known old new : Option (List ℕ)) (read : List ℕ) → Read 1048576 known read → Judges read verdict → Appends old new (verdict_line verdict)
-    → IfSome known (λ input. Judges input verdict × Appends old new (verdict_line verdict))
-said verdict None old new read e j w = tt
-said verdict (Some input) old new read e j w = (judged verdict input read e j, w)
+pub said : (tells_bound : Bool) (verdict : Verdict) (known old new : Option (List ℕ)) (read : List ℕ) → Read 1048576 known read → Judges read verdict
+    → Appends old new (verdict_line tells_bound verdict) → IfSome known (λ input. Judges input verdict × Appends old new (verdict_line tells_bound verdict))
+said tells_bound verdict None old new read e j w = tt
+said tells_bound verdict (Some input) old new read e j w = (judged verdict input read e j, w)
 
-pub broken_off : (verdict : Verdict) (known old new : Option (List ℕ)) (read : List ℕ) → Read 1048576 known read → Judges read verdict → BeginsToWrite (verdict_line verdict) old new
-    → IfSome known (λ input. StopsJudging input old new)
-broken_off verdict None old new read e j w = tt
-broken_off verdict (Some input) old new read e j w = record { verdict = verdict; judges = judged verdict input read e j; begun = w }
+pub broken_off : (tells_bound : Bool) (verdict : Verdict) (known old new : Option (List ℕ)) (read : List ℕ) → Read 1048576 known read → Judges read verdict
+    → BeginsToWrite (verdict_line tells_bound verdict) old new → IfSome known (λ input. StopsJudging tells_bound input old new)
+broken_off tells_bound verdict None old new read e j w = tt
+broken_off tells_bound verdict (Some input) old new read e j w = record { verdict = verdict; judges = judged verdict input read e j; begun = w }

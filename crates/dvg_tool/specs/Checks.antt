@@ -1,5 +1,5 @@
--- What `check_text` answers and writes.
-use Rattle.std.specs.Prelude.{ℕ, List, Option, Result, MatchResult}
+-- What `check_text` and `check_bound` answer and write.
+use Rattle.std.specs.Prelude.{ℕ, List, Bool, Option, Result, MatchResult}
 use Rattle.std.specs.Io.KnownBytes.{Appends}
 use Rattle.dvg_frame.specs.declared.op.OpKind.{OpKind}
 use Rattle.dvg_tool.specs.declared.fault.ToolFault.{ToolFault}
@@ -24,20 +24,20 @@ IsJudgingFault text Memory = Unit {0}
 IsJudgingFault text _ = ⊥
 
 -- where the writer failed, a beginning of the verdict's line went out
-pub record StopsJudging (text : List ℕ) (old new : Option (List ℕ)) : Type 0 where
+pub record StopsJudging (tells_bound : Bool) (text : List ℕ) (old new : Option (List ℕ)) : Type 0 where
   pub verdict : Verdict
   pub judges : Judges text verdict
-  pub begun : BeginsToWrite (verdict_line verdict) old new
+  pub begun : BeginsToWrite (verdict_line tells_bound verdict) old new
 
 -- when each fault comes of an input, and what went out at `Writer` (that nothing went out at the others is a clause of its own)
-abbrev pub StopsCheck : ToolFault → (input : List ℕ) → Option (List ℕ) → Option (List ℕ) → Type 0
-StopsCheck (Text fault) input old new = HasFault input fault
-StopsCheck Writer input old new = StopsJudging input old new
-StopsCheck Reader input old new = Unit {0}
-StopsCheck Memory input old new = Unit {0}
+abbrev pub StopsCheck : (tells_bound : Bool) → ToolFault → (input : List ℕ) → Option (List ℕ) → Option (List ℕ) → Type 0
+StopsCheck tells_bound (Text fault) input old new = HasFault input fault
+StopsCheck tells_bound Writer input old new = StopsJudging tells_bound input old new
+StopsCheck tells_bound Reader input old new = Unit {0}
+StopsCheck tells_bound Memory input old new = Unit {0}
 
--- what `check_text` answers of an input, and what went out
-abbrev pub Checks : Result Verdict ToolFault → (input : List ℕ) → Option (List ℕ) → Option (List ℕ) → Type 0
-Checks answer input old new = MatchResult answer
-    (λ verdict. Judges input verdict × Appends old new (verdict_line verdict))
-    (λ fault. StopsCheck fault input old new)
+-- what is answered of an input, and what went out: `check_bound` tells the bound, and `check_text` leaves it out
+abbrev pub Checks : (tells_bound : Bool) → Result Verdict ToolFault → (input : List ℕ) → Option (List ℕ) → Option (List ℕ) → Type 0
+Checks tells_bound answer input old new = MatchResult answer
+    (λ verdict. Judges input verdict × Appends old new (verdict_line tells_bound verdict))
+    (λ fault. StopsCheck tells_bound fault input old new)

@@ -17,9 +17,9 @@ Performs list_job (Ok (Judged verdict)) input old new = ⊥
 Performs list_job answer input old new = Lists answer input old new
 Performs Rom (Ok (Judged verdict)) input old new = ⊥
 Performs Rom answer input old new = WritesRom answer input old new
-Performs Check (Ok Written) input old new = ⊥
-Performs Check (Ok (Judged verdict)) input old new = Checks (Ok verdict) input old new
-Performs Check (Err fault) input old new = Checks (Err fault) input old new
+Performs (Check bound) (Ok Written) input old new = ⊥
+Performs (Check bound) (Ok (Judged verdict)) input old new = Checks bound (Ok verdict) input old new
+Performs (Check bound) (Err fault) input old new = Checks bound (Err fault) input old new
 Performs (Play all) (Ok (Judged verdict)) input old new = ⊥
 Performs (Play all) answer input old new = Plays all answer input old new
 
@@ -32,5 +32,5 @@ StaysUnwritten _ fault = StopsBeforeWriting fault
 abbrev pub most_taken : Job → ℕ
 most_taken list_job = 8193
 most_taken Rom = 2049
-most_taken Check = 1048577
+most_taken (Check bound) = 1048577
 most_taken (Play all) = 1048577

@@ -23,7 +23,7 @@ FinishesAs answer result old new = ((result ≡ answer) × (new ≡ old)) ⊎ ((
 -- the exit status
 abbrev pub status_of : Result Done ToolFault → ℕ
 status_of (Ok Written) = 0
-status_of (Ok (Judged (Good words))) = 0
+status_of (Ok (Judged (Good words bound))) = 0
 status_of (Ok (Judged (Refused fault))) = 1
 status_of (Err (Text fault)) = 1
 status_of (Err Reader) = 2

@@ -29,7 +29,7 @@ mod transfer;
 mod verdict;
 mod watched;
 
-pub use checking::check_text;
+pub use checking::{check_bound, check_text};
 pub use draft_text::MOST_TEXT_BYTES;
 pub use dvg_words::{Job, job, words_status};
 pub use dvg_world::MOST_EVENTS;

@@ -238,6 +238,7 @@ impl Line {
             FrameFault::OutOfRom(place) => self.fault_at(b"6 out of rom", place),
             FrameFault::TooDeep(place) => self.fault_at(b"7 too deep", place),
             FrameFault::NoCaller(place) => self.fault_at(b"8 no caller", place),
+            FrameFault::Loops => self.part(b"9 loops"),
         }
     }
 
@@ -269,16 +270,21 @@ impl Line {
         self.text(b"\n");
     }
 
-    /// Becomes the line that `check` writes of a verdict.
-    pub fn become_verdict(&mut self, verdict: Verdict)
-        ensures { self.new ≡ verdict_line verdict }
+    /// Becomes the line that `check` writes of a verdict, which tells the bound of a good draft or leaves it
+    /// out.
+    pub fn become_verdict(&mut self, verdict: Verdict, tells_bound: bool)
+        ensures { self.new ≡ verdict_line tells_bound verdict }
     {
         self.bytes.clear();
         match verdict {
-            Verdict::Good(words) => {
+            Verdict::Good { words, bound } => {
                 self.text(b"ok");
                 self.number(words);
                 self.part(b"words");
+                if tells_bound {
+                    self.number(bound);
+                    self.part(b"fetches");
+                }
             }
             Verdict::Refused(fault) => {
                 self.text(b"fault");

@@ -180,6 +180,13 @@ mod tests {
                 b"7 refused 6 out of rom word 800\n"
             )
         );
+        assert!(rt;
+            shows(
+                0,
+                &Entry::Refused(FrameFault::Loops),
+                b"0 refused 9 loops\n"
+            )
+        );
     }
 
     #[test]

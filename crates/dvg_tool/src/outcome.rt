@@ -40,7 +40,7 @@ pub fn status(answer: &Result<Done, ToolFault>) -> u8
     ensures { result ≡ status_of answer.now }
 {
     match answer {
-        Ok(Done::Written | Done::Judged(Verdict::Good(_))) => 0,
+        Ok(Done::Written | Done::Judged(Verdict::Good { .. })) => 0,
         Ok(Done::Judged(Verdict::Refused(_))) | Err(ToolFault::Text(_)) => 1,
         Err(ToolFault::Reader | ToolFault::Writer | ToolFault::Memory) => 2,
     }

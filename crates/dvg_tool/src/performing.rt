@@ -3,7 +3,7 @@ ghost use Rattle.std.specs.Prelude.{◌≡◌, ◌↔◌, ◌≤◌, IfErr, IfSo
 ghost use Rattle.dvg_tool.specs.Jobs.{Performs, StaysUnwritten, most_taken};
 ghost use Rattle.dvg_tool.specs.Watching.{TakesAtMost, device_of, failures_of};
 
-use crate::checking::check_text;
+use crate::checking::{check_bound, check_text};
 use crate::fault::ToolFault;
 use crate::listing::list;
 use crate::outcome::Done;
@@ -14,7 +14,7 @@ use dvg_words::Job;
 use std::alloc::Allocator;
 use std::io::{Read, Write};
 
-/// Does a job by its engine: `list`, `rom_text`, `check_text`, whose verdict it tells, or `play`.
+/// Does a job by its engine: `list`, `rom_text`, `check_text` or `check_bound`, whose verdict it tells, or `play`.
 pub fn perform<A: Allocator + Copy, R: Read, W: Write>(
     alloc: A,
     job: Job,
@@ -38,7 +38,8 @@ pub fn perform<A: Allocator + Copy, R: Read, W: Write>(
     match job {
         Job::List => list(alloc, reader, writer).map(|()| Done::Written),
         Job::Rom => rom_text(alloc, reader, writer).map(|()| Done::Written),
-        Job::Check => check_text(alloc, reader, writer).map(Done::Judged),
+        Job::Check { bound: false } => check_text(alloc, reader, writer).map(Done::Judged),
+        Job::Check { bound: true } => check_bound(alloc, reader, writer).map(Done::Judged),
         Job::Play { all } => play(alloc, reader, writer, all).map(|()| Done::Written),
     }
 }

@@ -17,8 +17,8 @@ FailAs words kinds = (name : Text) → fault_of dvg_app (name ∷ words) ≡ kin
 
 -- the words of each job
 abbrev pub JobWords : Type 0
-JobWords = AskFor (codes "list" ∷ []) list_job × AskFor (codes "rom" ∷ []) Rom × AskFor (codes "check" ∷ []) Check
-    × AskFor (codes "play" ∷ []) (Play false) × AskFor (codes "play" ∷ codes "--all" ∷ []) (Play true)
+JobWords = AskFor (codes "list" ∷ []) list_job × AskFor (codes "rom" ∷ []) Rom × AskFor (codes "check" ∷ []) (Check false)
+    × AskFor (codes "check" ∷ codes "--bound" ∷ []) (Check true) × AskFor (codes "play" ∷ []) (Play false) × AskFor (codes "play" ∷ codes "--all" ∷ []) (Play true)
 
 -- words that ask for help; the words behind `help` may name no subcommand
 abbrev pub HelpWords : Type 0
@@ -31,5 +31,6 @@ HelpWords = FailAs (codes "--help" ∷ []) (DisplayHelp ∷ []) × FailAs (codes
 abbrev pub OtherWords : Type 0
 OtherWords = FailAs [] (MissingSubcommand ∷ []) × FailAs (codes "draw" ∷ []) (UnknownArgument ∷ InvalidSubcommand ∷ [])
     × FailAs (codes "list" ∷ codes "--all" ∷ []) (UnknownArgument ∷ [])
+    × FailAs (codes "check" ∷ codes "--all" ∷ []) (UnknownArgument ∷ [])
     × FailAs (codes "play" ∷ codes "--all" ∷ codes "--all" ∷ []) (ArgumentConflict ∷ [])
     × FailAs (codes "list" ∷ codes "list" ∷ []) (UnknownArgument ∷ [])

@@ -13,6 +13,14 @@ use Rattle.dvg_words.specs.declared.task.Job.TheVariants.{List as list_job, Rom,
 abbrev pub plain : Text → Shape
 plain name = (new_app name).top
 
+-- the option `--bound`, which is given or not and takes no value
+abbrev pub bound_option : Rule
+bound_option = record (new_rule (codes "bound")) { long = Some (codes "bound"); action = Some SetTrue }
+
+-- the subcommand `check`, with its option
+abbrev pub check : Shape
+check = (with_rule (new_app (codes "check")) bound_option).top
+
 -- the option `--all`, which is given or not and takes no value
 abbrev pub all_option : Rule
 all_option = record (new_rule (codes "all")) { long = Some (codes "all"); action = Some SetTrue }
@@ -25,7 +33,7 @@ play = (with_rule (new_app (codes "play")) all_option).top
 unfoldable pub dvg_app : App
 dvg_app = record {
   top = record (plain (codes "dvg")) { is_leaf = false; subcommand_required = true };
-  subs = plain (codes "list") ∷ plain (codes "rom") ∷ plain (codes "check") ∷ play ∷ [];
+  subs = plain (codes "list") ∷ plain (codes "rom") ∷ check ∷ play ∷ [];
 }
 
 -- the matching sets the option
@@ -36,7 +44,7 @@ sets id rows = option_map_or (λ t. bytes_eq t (codes "true")) (first_of id rows
 abbrev pub IsJob : Job → Option (Text × List Row) → Type 0
 IsJob list_job met = option_map (λ p. p.0) met ≡ Some (codes "list")
 IsJob Rom met = option_map (λ p. p.0) met ≡ Some (codes "rom")
-IsJob Check met = option_map (λ p. p.0) met ≡ Some (codes "check")
+IsJob (Check bound) met = option_map {U = Text × Bool} (λ p. (p.0, sets (codes "bound") p.1)) met ≡ Some (codes "check", bound)
 IsJob (Play all) met = option_map {U = Text × Bool} (λ p. (p.0, sets (codes "all") p.1)) met ≡ Some (codes "play", all)
 
 -- the name of a subcommand that is a job

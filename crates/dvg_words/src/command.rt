@@ -2,7 +2,7 @@
 ghost use Rattle.std.specs.Prelude.{◌≡◌, IfOk, false};
 ghost use Rattle.clap.specs.Words.{app_of, new_app};
 ghost use Rattle.clap.specs.declared.builder.command.Command.TheViews.{out-Command as fields_of};
-ghost use Rattle.dvg_words.specs.Words.{dvg_app, play};
+ghost use Rattle.dvg_words.specs.Words.{check, dvg_app, play};
 
 use crate::help;
 use clap::{Arg, ArgAction, Command};
@@ -14,6 +14,24 @@ fn helped<'a>(alloc: Global, name: &'a str, about: &'a str, details: &'a str) ->
     ensures local { (fields_of result).has_globals ≡ false }
 {
     Command::new(alloc, name).about(about).after_help(details)
+}
+
+// The subcommand `check` with its option.
+fn check_command<'a>(alloc: Global) -> Result<Command<'a>, AllocError>
+    ensures app { IfOk result (λ c. (app_of c).top ≡ check) }
+    ensures local { IfOk result (λ c. (fields_of c).has_globals ≡ false) }
+{
+    let bound = Arg::new(alloc, "bound")
+        .long("bound")
+        .help("Also tell how many words the whole run of a good draft fetches")
+        .action(ArgAction::SetTrue);
+    helped(
+        alloc,
+        "check",
+        "Say whether a draft may be drawn",
+        help::CHECK,
+    )
+    .arg(bound)
 }
 
 // The subcommand `play` with its option.
@@ -35,12 +53,7 @@ pub(crate) fn command<'a>(alloc: Global) -> Result<Command<'a>, AllocError>
 {
     let list = helped(alloc, "list", "List the instructions of words", help::LIST);
     let rom = helped(alloc, "rom", "Write a ROM as text", help::ROM);
-    let check = helped(
-        alloc,
-        "check",
-        "Say whether a draft may be drawn",
-        help::CHECK,
-    );
+    let check = check_command(alloc)?;
     let play = play_command(alloc)?;
     let about = "List, check and play display lists of the Digital Vector Generator (DVG)";
     let program = helped(alloc, "dvg", about, help::PROGRAM).subcommand_required(true);

@@ -73,8 +73,10 @@ halves them, and from 10 to 15 nothing moves (scales add up modulo 16).
 Exactly one space parts two parts of a line, and numbers have no leading zeros.
 An empty line and a line that begins with `#` are passed over.
 
-Standard output: `ok W words` for a draft that may be drawn, else one of these,
-where I is an operation and PLACE is `op I` or `word HHH`:
+Standard output: `ok W words` for a draft that may be drawn, and with `--bound`
+`ok W words N fetches`, where N is how many words the generator fetches in the
+whole run, word zero included. Else one of these, where I is an operation and
+PLACE is `op I` or `word HHH`:
 
   fault 1 empty              there is no operation
   fault 2 no labs            operation 0 is no labs
@@ -85,13 +87,17 @@ where I is an operation and PLACE is `op I` or `word HHH`:
   fault 6 out of rom PLACE   this leads out of the ROM's words
   fault 7 too deep PLACE     this calls inside of four calls
   fault 8 no caller PLACE    this returns outside of any call
+  fault 9 loops              a place leads back to itself, with as many calls
+                             open, so the picture may have no end
 
 Faults of the text: `too long`, `syntax at line N`, and `full at line N` for
 operation 512. Lines are numbered from 1.
 
 Example:
   $ printf 'labs 512 400 0\\nvctr 9 -100 100 7\\nhalt\\n' | dvg check
-  ok 5 words";
+  ok 5 words
+  $ printf 'labs 512 400 0\\nvctr 9 -100 100 7\\nhalt\\n' | dvg check --bound
+  ok 5 words 6 fetches";
 
 /// The input and output of `play`.
 pub(crate) const PLAY: &str =

@@ -7,8 +7,8 @@ pub enum Job {
     List,
     /// Write a ROM as text.
     Rom,
-    /// Check the draft of a text.
-    Check,
+    /// Check the draft of a text, and tell the bound of a good one or leave it out.
+    Check { bound: bool },
     /// Play a trace, with every entry or its pictures alone.
     Play { all: bool },
 }

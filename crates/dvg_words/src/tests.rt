@@ -2,22 +2,24 @@ use crate::{Job, job, words_status};
 use clap::error::ErrorKind;
 
 /// Words that ask for a job.
-const JOBS: [(&[&str], Job); 5] = [
+const JOBS: [(&[&str], Job); 6] = [
     (&["dvg", "list"], Job::List),
     (&["dvg", "rom"], Job::Rom),
-    (&["dvg", "check"], Job::Check),
+    (&["dvg", "check"], Job::Check { bound: false }),
+    (&["dvg", "check", "--bound"], Job::Check { bound: true }),
     (&["dvg", "play"], Job::Play { all: false }),
     (&["dvg", "play", "--all"], Job::Play { all: true }),
 ];
 
 /// Words that ask for nothing the program can do.
-const REFUSED: [&[&str]; 8] = [
+const REFUSED: [&[&str]; 9] = [
     &[],
     &["dvg"],
     &["dvg", "draw"],
     &["dvg", "List"],
     &["dvg", "list", "list"],
     &["dvg", "list", "--all"],
+    &["dvg", "play", "--bound"],
     &["dvg", "play", "--all", "--all"],
     &["dvg", "help", "draw"],
 ];

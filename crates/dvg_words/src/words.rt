@@ -19,7 +19,9 @@ fn named(name: &str, found: &ArgMatches) -> Option<Job>
     } else if name == "rom" {
         Some(Job::Rom)
     } else if name == "check" {
-        Some(Job::Check)
+        Some(Job::Check {
+            bound: is_set(found, "bound"),
+        })
     } else if name == "play" {
         Some(Job::Play {
             all: is_set(found, "all"),

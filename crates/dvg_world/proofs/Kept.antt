@@ -237,7 +237,7 @@ closed_step k = not_drawing None (λ words half e l. absurd (cc)) (λ ws e. absu
 step : (R image : List ℕ) (log : Log) (p : Place) (event : Happening) (entry : Shown) → IsLegal R image log → KeptBy image log p → IsInMemory R image log event entry → Fits R image log event entry → Goes image log event entry
 step R image log p (Offer F) (Refused fault) g k m f = (p, k, tt)
 step R image log p (Offer F) Busy g k m f = (p, k, tt)
-step R image log p (Offer F) Offered g k m f = let s = offer_step R image log p F k f.0 f.1 in (s.0, s.1, tt)
+step R image log p (Offer F) Offered g k m f = let s = offer_step R image log p F k f.0.closed f.1 in (s.0, s.1, tt)
 step R image log p Redraw NothingPublished g k m f = (p, k, tt)
 step R image log p Redraw Busy g k m f = (p, k, tt)
 step R image log p Redraw Asked g k m f = let s = ask_step image log p k f.0 f.1 in (s.0, s.1, tt)

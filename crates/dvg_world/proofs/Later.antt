@@ -202,7 +202,7 @@ module _ (R image : List ℕ) where
       let runs : Runs mem (length ((a, w) ∷ ws)) t.visits None = subst (λ x. Runs mem (length ((a, w) ∷ ws)) t.visits x) fin.0 t.runs in
       let pic : IsPicture t.draft R drew (suc (length ws)) = subst (λ x. IsPicture t.draft R x (suc (length ws))) fin.2 (finished_picture d t.begun_with runs fin.1) in (
         tt,
-        record { draft = t.draft; shown = t.shown; closed = t.checked.closed; fetches = ws; open_now = t.open_now; picture = pic },
+        record { draft = t.draft; shown = t.shown; accepts = t.checked.accepts; fetches = ws; open_now = t.open_now; picture = pic },
         (λ n e. run_bound log ws n s t.open_now e),
         (λ vs F u j q f x.
             let y = subst (λ H. IsPicture H R u j) (same_Some _ _ (sym f ∙ t.shown)) x in
@@ -264,7 +264,7 @@ module _ (R image : List ℕ) where
   step : (log : Log) (p : Place) (event : Happening) (entry : Shown) → IsLegal R image log → IsEvent event → KeptBy image log p → Shows R image log → IsInMemory R image log event entry → Fits R image log event entry → Shows R image ((event ⟼ entry) ∷ log) × IsRight log event entry
   step log p (Offer F) (Refused fault) g i k s m f = (same_life R image log (Offer F) (Refused fault) s (λ v vs o. o) refl (λ a. refl) (λ n g. tt) (λ v vs g m. tt) refl refl, (tt, tt, tt, tt))
   step log p (Offer F) Busy g i k s m f = (same_life R image log (Offer F) Busy s (λ v vs o. o) refl (λ a. refl) (λ n g. tt) (λ v vs g m. tt) refl refl, (tt, tt, tt, tt))
-  step log p (Offer F) Offered g i k s m f = (same_line R image log (Offer F) Offered s (λ v vs o. o) refl (λ a. refl) (λ n g. tt) (λ v vs g m. tt) (begun R image log F (record { draft = i; closed = f.0; image = image_of R image log g }) f.1), (tt, tt, tt, tt))
+  step log p (Offer F) Offered g i k s m f = (same_line R image log (Offer F) Offered s (λ v vs o. o) refl (λ a. refl) (λ n g. tt) (λ v vs g m. tt) (begun R image log F (record { draft = i; accepts = f.0; image = image_of R image log g }) f.1), (tt, tt, tt, tt))
   step log p Redraw NothingPublished g i k s m f = (same_life R image log Redraw NothingPublished s (λ v vs o. o) refl (λ a. refl) (λ n g. tt) (λ v vs g m. tt) refl refl, (tt, tt, tt, tt))
   step log p Redraw Busy g i k s m f = (same_life R image log Redraw Busy s (λ v vs o. o) refl (λ a. refl) (λ n g. tt) (λ v vs g m. tt) refl refl, (tt, tt, tt, tt))
   step log p Redraw Asked g i k s m f = (same_line R image log Redraw Asked s (λ v vs o. o) refl (λ a. refl) (λ n g. tt) (λ v vs g m. tt) (λ ws l. absurd (ask_lays log ws f.1 l)), (tt, tt, tt, tt))

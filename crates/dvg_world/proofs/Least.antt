@@ -17,7 +17,7 @@ use Rattle.dvg_frame.specs.declared.op.OpKind.{OpKind}
 use Rattle.dvg_frame.specs.Ops.{IsDraft}
 use Rattle.dvg_frame.specs.Bytes.{bytes}
 use Rattle.dvg_frame.specs.Layout.{laid}
-use Rattle.dvg_frame.specs.Steps.{Closed}
+use Rattle.dvg_frame.specs.Faults.{Accepts}
 use Rattle.dvg_frame.specs.Picture.{IsPicture}
 use Rattle.dvg_frame.proofs.Sizes.{closed_fits}
 use Rattle.dvg_world.specs.Law.{HasFrame, IsDrawn}
@@ -27,11 +27,11 @@ use Rattle.dvg_world.proofs.Local.{rom_some}
 -- a draft whose frame a driver may be handed
 pub record Checked (F : List OpKind) (R : List ℕ) : Type 0 where
   pub draft : IsDraft F
-  pub closed : Closed F R
+  pub accepts : Accepts F R
   pub image : IsImage R
 
 pub fits : (half : Half) (F : List OpKind) (R : List ℕ) → Checked F R → length (laid half F) ≤ 511
-fits half F R checked = closed_fits half F R checked.closed
+fits half F R checked = closed_fits half F R checked.accepts.closed
 
 -- the jump in word zero, the frame's words, the ROM's words, and holes everywhere else
 abbrev pub frame_memory : Half → List OpKind → List ℕ → ℕ → Option ℕ
@@ -74,10 +74,10 @@ least_has half F R l = record { zero = refl; laid = λ k lt. in_half k lt; shape
         rw (z, e1, e2) e
 
 pub least_draws : (half : Half) (F : List OpKind) (R : List ℕ) → Checked F R → IsDrawn F R (frame_memory half F R)
-least_draws half F R c = any_memory half F R (frame_memory half F R) c.draft c.image c.closed (least_has half F R (fits half F R c))
+least_draws half F R c = any_memory half F R (frame_memory half F R) c.draft c.image c.accepts.closed (least_has half F R (fits half F R c))
 
 pub least_once : (half : Half) (F : List OpKind) (R : List ℕ) → Checked F R → (n : ℕ) (vs : List Visit) (held : Option ℕ) → Runs (frame_memory half F R) (suc n) vs held → fate vs ≡ Goes → wanted vs held ≢ 0
-least_once half F R c = only_once half F R (frame_memory half F R) c.draft c.image c.closed (least_has half F R (fits half F R c))
+least_once half F R c = only_once half F R (frame_memory half F R) c.draft c.image c.accepts.closed (least_has half F R (fits half F R c))
 
 -- of a frame with a picture, a run that goes on is shorter
 pub goes_in_time : {F : List OpKind} {R : List ℕ} {mem : ℕ → Option ℕ} {m n : ℕ} {vs : List Visit} {held : Option ℕ} {s : List Stroke} → IsDrawn F R mem → Runs mem m vs held → fate vs ≡ Goes → IsPicture F R s n → m < n

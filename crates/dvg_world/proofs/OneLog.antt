@@ -6,7 +6,7 @@ use Rattle.dvg_gen.specs.declared.stroke.Stroke.{Stroke}
 use Rattle.dvg_gen.specs.declared.taken.GenFault.{GenFault}
 use Rattle.dvg_gen.specs.Told.{Told, Fed, Leaves, Reply, More, Drew, Fails, reply, wants}
 use Rattle.dvg_gen.proofs.Same.{leaves_same}
-use Rattle.dvg_frame.proofs.OneFault.{one_fault, closed_stays}
+use Rattle.dvg_frame.proofs.OneFault.{one_fault, accepted_stays}
 use Rattle.dvg_driver.specs.declared.action.Action.{Action}
 use Rattle.dvg_driver.specs.Script.{Did, IsLife}
 use Rattle.dvg_world.specs.Events.{Happening, Offer, Redraw, Tick, Strobe, Fetch, ResetGen, ResetCpu, ResetAll}
@@ -71,12 +71,12 @@ module _ (R image : List ℕ) (log : Log) (legal : IsLegal R image log) where
 
   one_entry : (event : Happening) (x y : Shown) → Fits R image log event x → Fits R image log event y → x ≡ y
   one_entry (Offer d) (Refused f) (Refused g) u v = ap Refused (one_fault d R g f v u)
-  one_entry (Offer d) (Refused f) Busy u v = absurd (closed_stays d R f v.0 u)
-  one_entry (Offer d) (Refused f) Offered u v = absurd (closed_stays d R f v.0 u)
-  one_entry (Offer d) Busy (Refused f) u v = absurd (closed_stays d R f u.0 v)
+  one_entry (Offer d) (Refused f) Busy u v = absurd (accepted_stays d R f v.0 u)
+  one_entry (Offer d) (Refused f) Offered u v = absurd (accepted_stays d R f v.0 u)
+  one_entry (Offer d) Busy (Refused f) u v = absurd (accepted_stays d R f u.0 v)
   one_entry (Offer d) Busy Busy u v = refl
   one_entry (Offer d) Busy Offered u v = absurd (u.1 v.1)
-  one_entry (Offer d) Offered (Refused f) u v = absurd (closed_stays d R f u.0 v)
+  one_entry (Offer d) Offered (Refused f) u v = absurd (accepted_stays d R f u.0 v)
   one_entry (Offer d) Offered Busy u v = absurd (v.1 u.1)
   one_entry (Offer d) Offered Offered u v = refl
   one_entry Redraw NothingPublished NothingPublished u v = refl

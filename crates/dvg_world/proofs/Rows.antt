@@ -1,5 +1,5 @@
 -- Worked examples of legal logs, over a RAM and a ROM of zeros.
-use Rattle.std.proofs.Common.{◌≡◌, ℕ, zero, suc, ◌+◌, ◌<◌, pos, negsuc, true, false, List, [], ◌∷◌, ◌++◌, length, Option, Some, None, refl, sym, ap, ◌∙◌, subst, lit<, lit≤, replicate, arith}
+use Rattle.std.proofs.Common.{◌≡◌, ℕ, zero, suc, ◌+◌, ◌<◌, ◌≤◌, pos, negsuc, true, false, List, [], ◌∷◌, ◌++◌, length, Option, Some, None, refl, sym, ap, ◌∙◌, subst, lit<, lit≤, replicate, arith}
 use Rattle.std.specs.Prelude.{slice_get, option_and_then}
 use Rattle.std.proofs.lemmas.Option.{same_Some}
 use Rattle.std.proofs.lemmas.List.Elements.{All-replicate, All-from_recursion}
@@ -23,6 +23,8 @@ use Rattle.dvg_frame.specs.declared.place.Place.{Place}
 use Rattle.dvg_frame.specs.declared.place.Place.TheVariants.{InFrame, InRom}
 use Rattle.dvg_frame.specs.Ops.{IsDraft, IsOp}
 use Rattle.dvg_frame.specs.Steps.{Stands, in_frame, op_act, GoesPast, Names, Bad, last, target, deep, bare, IsFine, Leads, on, jump, call, back, Reached, begin, step, Closed, labs as labs_first}
+use Rattle.dvg_frame.specs.Loops.{Walks, none, more, HasLoop}
+use Rattle.dvg_frame.specs.Faults.{Accepts}
 use Rattle.dvg_driver.specs.declared.action.Action.{Action}
 use Rattle.dvg_driver.specs.declared.action.Action.TheVariants.{Peek, Wrote, Read, Sent}
 use Rattle.dvg_driver.specs.Script.{Did, IsWhole}
@@ -57,6 +59,15 @@ data At : Place → ℕ → Type 0 where
   at1 : At (InFrame 1) 0
   at2 : At (InFrame 2) 0
 
+abbrev number : Place → ℕ
+number (InFrame i) = i
+number (InRom a) = a
+
+low : {p : Place} {d : ℕ} → At p d → number p ≤ 2
+low at0 = lit≤ tt
+low at1 = lit≤ tt
+low at2 = lit≤ tt
+
 module _ (R : List ℕ) where
   acts0 : {act : Act Place} {after : Place} → Stands F1 R (InFrame 0) act after → (act ≡ Moves (Labs 512 400 0)) × (after ≡ InFrame 1)
   acts0 (in_frame e d) = (d ∙ ap op_act (sym (same_Some _ _ e)), refl)
@@ -67,12 +78,13 @@ module _ (R : List ℕ) where
   acts2 : {act : Act Place} {after : Place} → Stands F1 R (InFrame 2) act after → act ≡ Halts
   acts2 (in_frame e d) = d ∙ ap op_act (sym (same_Some _ _ e))
 
-  lead : {p q : Place} {d e : ℕ} → At p d → Leads F1 R p d q e → At q e
-  lead at0 (on s) = let a = acts0 s in subst (λ x. At x 0) (sym a.1) at1
+  -- each step goes on to a later operation
+  lead : {p q : Place} {d e : ℕ} → At p d → Leads F1 R p d q e → At q e × (number p < number q)
+  lead at0 (on s) = let a = acts0 s in subst (λ x. At x 0 × (0 < number x)) (sym a.1) (at1, lit< tt)
   lead at0 (jump {q = q} s) = let a = (acts0 s).0 in absurd (cc)
   lead at0 (call {q = q} s) = let a = (acts0 s).0 in absurd (cc)
   lead at0 (back {q = q} s) = let a = (acts0 s).0 in absurd (cc)
-  lead at1 (on s) = let a = acts1 s in subst (λ x. At x 0) (sym a.1) at2
+  lead at1 (on s) = let a = acts1 s in subst (λ x. At x 0 × (1 < number x)) (sym a.1) (at2, lit< tt)
   lead at1 (jump {q = q} s) = let a = (acts1 s).0 in absurd (cc)
   lead at1 (call {q = q} s) = let a = (acts1 s).0 in absurd (cc)
   lead at1 (back {q = q} s) = let a = (acts1 s).0 in absurd (cc)
@@ -83,7 +95,7 @@ module _ (R : List ℕ) where
 
   reached : {p : Place} {d : ℕ} → Reached F1 R p d → At p d
   reached begin = at0
-  reached (step r f l) = lead (reached r) l
+  reached (step r f l) = (lead (reached r) l).0
 
   fine0 : (fault : FrameFault) → ¬ Bad F1 R (InFrame 0) 0 fault
   fine0 fault (last s g e) = omega arith
@@ -116,6 +128,20 @@ module _ (R : List ℕ) where
 
   closed : Closed F1 R
   closed = record { begins = labs_first; fits = lit≤ tt; targets = no_target; fine = λ p d r. fine (reached r) }
+
+  walks_up : {d n : ℕ} {p q : Place} → At p d → Walks F1 R d p n q → number p + n ≤ 2
+  walks_up at none = let few = low at in omega arith
+  walks_up at (more leads walk) =
+      let next = lead at leads in
+      let up = next.1 in
+      let rest = walks_up next.0 walk in
+      omega arith
+
+  no_loop : ¬ HasLoop F1 R
+  no_loop loop = let few = walks_up (reached loop.reached) loop.walk in omega arith
+
+  accepts : Accepts F1 R
+  accepts = record { closed = closed; ends = no_loop }
 
 abbrev LegalOverZeros : Log → Type 0
 LegalOverZeros = IsLegal zeros zeros
@@ -158,7 +184,7 @@ booted_legal : LegalOverZeros (did (Read true) ∷ did Peek ∷ [])
 booted_legal = ticked (did Peek ∷ []) (Read true) _ (ticked [] Peek _ (is_image, is_image) refl tt) refl refl
 
 offered_legal : LegalOverZeros offered
-offered_legal = ((closed zeros, rests_whole (life zeros (did (Read true) ∷ did Peek ∷ [])) true refl), is_draft, booted_legal)
+offered_legal = ((accepts zeros, rests_whole (life zeros (did (Read true) ∷ did Peek ∷ [])) true refl), is_draft, booted_legal)
 
 published_legal : LegalOverZeros published
 published_legal = (written F1_writes [] offered offered_legal refl).0
@@ -301,7 +327,7 @@ written_again = wrote F1_again ((Offer F1 ⟼ Offered) ∷ finished started)
 
 is_written_again : LegalOverZeros written_again × (place_of (life zeros written_again) ≡ Some (with_left ((0x001, 0xE0) ∷ [])))
 is_written_again =
-    written F1_again ((0x001, 0xE0) ∷ []) ((Offer F1 ⟼ Offered) ∷ finished started) ((closed zeros, rests_whole (life zeros (finished started)) false refl), is_draft, first_picture) refl
+    written F1_again ((0x001, 0xE0) ∷ []) ((Offer F1 ⟼ Offered) ∷ finished started) ((accepts zeros, rests_whole (life zeros (finished started)) false refl), is_draft, first_picture) refl
 
 -- a strobe that comes again before the flip begins a run, and the flip comes between the two bytes of word zero
 abbrev low_fetched : Log
@@ -350,4 +376,4 @@ not_idle whole = let rests = whole_rests [] whole in let e = rests.1 in cc
 
 -- before the driver has booted: no strobe was sent, no run is open, there is nothing to draw again, and it is busy
 pub refusals : LegalOverZeros ((Offer F1 ⟼ Busy) ∷ (Redraw ⟼ NothingPublished) ∷ (Fetch ⟼ Still) ∷ (Strobe ⟼ NoStrobe) ∷ [])
-refusals = ((closed zeros, not_idle), is_draft, (refl, tt, (refl, tt, (refl, tt, (is_image, is_image)))))
+refusals = ((accepts zeros, not_idle), is_draft, (refl, tt, (refl, tt, (refl, tt, (is_image, is_image)))))

@@ -17,8 +17,7 @@ use Rattle.dvg_gen.specs.Told.{Told, Start, Reset, Fed, Reply, More, Drew, Fails
 use Rattle.dvg_frame.specs.declared.op.OpKind.{OpKind}
 use Rattle.dvg_frame.specs.declared.place.FrameFault.{FrameFault}
 use Rattle.dvg_frame.specs.Ops.{IsDraft}
-use Rattle.dvg_frame.specs.Steps.{Closed}
-use Rattle.dvg_frame.specs.Faults.{Refuses}
+use Rattle.dvg_frame.specs.Faults.{Refuses, Accepts}
 use Rattle.dvg_driver.specs.declared.action.Action.{Action}
 use Rattle.dvg_driver.specs.declared.action.Action.TheVariants.{Peek, Wrote, Read, Sent, Idle}
 use Rattle.dvg_driver.specs.Script as script
@@ -70,24 +69,24 @@ module _ {rom bytes : List ℕ} {machine : Machine} {stage : Stage} {sent : Bool
       → AddsLine (world_of rom bytes machine stage sent) (Offer F) (Refused fault) (world_of rom bytes machine stage sent)
   offer_refused {F} {fault} draft refuses R image log w = record { legal = (subst (λ x. Refuses F x fault) w.stands.rom refuses, draft, w.legal); stands = w.stands }
 
-  pub offer_busy : {F : List OpKind} {stage' : Stage} → IsDraft F → Closed F rom → stage' ≡ stage → ((peeked : ℕ) (items : List Item) → driver.StandsAfter stage peeked items → ¬ IsWhole items)
+  pub offer_busy : {F : List OpKind} {stage' : Stage} → IsDraft F → Accepts F rom → stage' ≡ stage → ((peeked : ℕ) (items : List Item) → driver.StandsAfter stage peeked items → ¬ IsWhole items)
       → AddsLine (world_of rom bytes machine stage sent) (Offer F) Busy (world_of rom bytes machine stage' sent)
-  offer_busy {F} draft closed same busy R image log w = record {
-    legal = ((subst (λ x. Closed F x) w.stands.rom closed, busy w.stands.peeked (life image log) w.stands.stage), draft, w.legal);
+  offer_busy {F} draft accepts same busy R image log w = record {
+    legal = ((subst (λ x. Accepts F x) w.stands.rom accepts, busy w.stands.peeked (life image log) w.stands.stage), draft, w.legal);
     stands = same_stage w.stands same;
   }
 
-  pub offer_taken : {F : List OpKind} {frame : List OpKind} {stage' : Stage} → IsDraft F → Closed F rom → frame ≡ F → ((peeked : ℕ) (items : List Item) → driver.StandsAfter stage peeked items → IsWhole items)
+  pub offer_taken : {F : List OpKind} {frame : List OpKind} {stage' : Stage} → IsDraft F → Accepts F rom → frame ≡ F → ((peeked : ℕ) (items : List Item) → driver.StandsAfter stage peeked items → IsWhole items)
       → ((peeked : ℕ) (items : List Item) → driver.StandsAfter stage peeked items → driver.StandsAfter stage' peeked (script.Offered (other (half_of_high (byte1_of peeked items))) frame ∷ items))
       → AddsLine (world_of rom bytes machine stage sent) (Offer F) Offered (world_of rom bytes machine stage' sent)
-  offer_taken {F} {frame} {stage'} draft closed same whole taken R image log w =
+  offer_taken {F} {frame} {stage'} draft accepts same whole taken R image log w =
       let peeked = w.stands.peeked in
       let items = life image log in
       let after = taken peeked items w.stands.stage in
       let of_draft = subst (λ f. driver.StandsAfter stage' peeked (script.Offered (other (half_of_high (byte1_of peeked items))) f ∷ items)) same after in
       let to_free = subst (λ byte. driver.StandsAfter stage' peeked (script.Offered (other (half_of_high byte)) F ∷ items)) w.stands.byte1 of_draft in
       record {
-        legal = ((subst (λ x. Closed F x) w.stands.rom closed, whole peeked items w.stands.stage), draft, w.legal);
+        legal = ((subst (λ x. Accepts F x) w.stands.rom accepts, whole peeked items w.stands.stage), draft, w.legal);
         stands = with_stage w.stands peeked to_free w.stands.byte1;
       }
 

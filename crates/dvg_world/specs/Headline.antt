@@ -1,12 +1,12 @@
 -- What every legal log shows.
-use Rattle.std.specs.Prelude.{◌≡◌, ℕ, suc, ◌+◌, ◌*◌, ◌/◌, ◌≤◌, ◌<◌, List, length, Option, Some, None}
+use Rattle.std.specs.Prelude.{◌≡◌, ℕ, suc, ◌+◌, ◌*◌, ◌/◌, ◌^◌, ◌≤◌, ◌<◌, List, length, Option, Some, None}
 use Rattle.dvg_mem.specs.declared.half.Half.{Half}
 use Rattle.dvg_mem.specs.declared.areas.Area.TheVariants.{Frame}
 use Rattle.dvg_mem.specs.Areas.{IsIn}
 use Rattle.dvg_gen.specs.declared.stroke.Stroke.{Stroke}
 use Rattle.dvg_frame.specs.declared.op.OpKind.{OpKind}
-use Rattle.dvg_frame.specs.Steps.{Closed}
-use Rattle.dvg_frame.specs.Picture.{IsPicture}
+use Rattle.dvg_frame.specs.Faults.{Accepts}
+use Rattle.dvg_frame.specs.Picture.{IsPicture, IsBound}
 use Rattle.dvg_driver.specs.declared.action.Action.TheVariants.{Wrote}
 use Rattle.dvg_world.specs.Events.{Happening}
 use Rattle.dvg_world.specs.Entries.{Shown, Acted, Low, Fetched, Done, Broke}
@@ -31,7 +31,7 @@ IsShown log F = published (at_zero log) ≡ Some F
 pub record DrewPicture (R : List ℕ) (log : Log) (drew : List Stroke) : Type 0 where
   pub draft : List OpKind
   pub shown : IsShown log draft
-  pub closed : Closed draft R
+  pub accepts : Accepts draft R
   pub fetches : List (ℕ × ℕ)
   pub open_now : open_run log ≡ Some fetches
   pub picture : IsPicture draft R drew (suc (length fetches))
@@ -69,6 +69,19 @@ KeepsTime R log event (Broke address fault) = ByPicture R log (λ number drew n.
 KeepsTime R log event (Done address word strokes) = ByPicture R log (λ number drew n. (number ≡ 2 * n) × (strokes ≡ drew))
 KeepsTime R log event entry = Unit {0}
 
+-- what the open run shows has a bound, and the run's next fetch stays within it: two bytes a word
+abbrev pub IsBounded : List ℕ → Log → Type 0
+IsBounded R log = (words : List (ℕ × ℕ)) (F : List OpKind) → open_run log ≡ Some words → IsShown log F
+    → (n : ℕ) × IsBound F R n × (n < 2 ^ 63) × (suc (fetch_count words (low_byte log)) ≤ 2 * n)
+
+-- a run stays within the bound of what it shows, at each fetch
+abbrev pub WithinBound : List ℕ → Log → Happening → Shown → Type 0
+WithinBound R log event (Low address byte) = IsBounded R log
+WithinBound R log event (Fetched address word) = IsBounded R log
+WithinBound R log event (Broke address fault) = IsBounded R log
+WithinBound R log event (Done address word strokes) = IsBounded R log
+WithinBound R log event entry = Unit {0}
+
 -- no byte is written in the half being drawn
 abbrev pub NeverTorn : Type 0
 NeverTorn = (R image : List ℕ) (log : Log) → IsLegal R image log → Throughout SparesDrawn log
@@ -88,3 +101,7 @@ NeverOlder = (R image : List ℕ) (log : Log) → IsLegal R image log → Throug
 -- a run of a frame that has a picture is finished at the picture's last fetch
 abbrev pub AlwaysInTime : Type 0
 AlwaysInTime = (R image : List ℕ) (log : Log) → IsLegal R image log → Throughout (KeepsTime R) log
+
+-- a run of a published frame stays within the frame's bound
+abbrev pub AlwaysBounded : Type 0
+AlwaysBounded = (R image : List ℕ) (log : Log) → IsLegal R image log → Throughout (WithinBound R) log

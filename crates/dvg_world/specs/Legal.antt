@@ -3,8 +3,7 @@ use Rattle.std.specs.Prelude.{◌≡◌, ℕ, true, false, List, [], ◌∷◌, 
 use Rattle.dvg_mem.specs.Memory.{IsImage}
 use Rattle.dvg_gen.specs.Bytes.{Waits, Whole}
 use Rattle.dvg_gen.specs.Told.{Told, Fed, Newest, Leaves, Reply, More, Drew, Fails, reply, wants}
-use Rattle.dvg_frame.specs.Steps.{Closed}
-use Rattle.dvg_frame.specs.Faults.{Refuses}
+use Rattle.dvg_frame.specs.Faults.{Refuses, Accepts}
 use Rattle.dvg_driver.specs.declared.action.Action.{Action}
 use Rattle.dvg_driver.specs.Script.{Did, IsWhole, IsLife, has_flip}
 use Rattle.dvg_driver.specs.Stands.{Tells}
@@ -33,10 +32,10 @@ pub record IsFetch (before : List Told) (address : ℕ) (word : Option ℕ) (ans
 
 -- the event gets this entry over the log before it
 abbrev pub Fits : List ℕ → List ℕ → Log → Happening → Shown → Type 0
--- a draft that has a fault is refused for the fault that is picked, a good one while the driver isn't idle
+-- a draft that the check refuses is refused for the fault that is picked, one that it accepts while the driver isn't idle
 Fits R image log (Offer F) (Refused fault) = Refuses F R fault
-Fits R image log (Offer F) Busy = Closed F R × ¬ IsWhole (life image log)
-Fits R image log (Offer F) Offered = Closed F R × IsWhole (life image log)
+Fits R image log (Offer F) Busy = Accepts F R × ¬ IsWhole (life image log)
+Fits R image log (Offer F) Offered = Accepts F R × IsWhole (life image log)
 -- there is nothing to draw again before the life's first flip
 Fits R image log Redraw NothingPublished = has_flip (life image log) ≡ false
 Fits R image log Redraw Busy = (has_flip (life image log) ≡ true) × ¬ IsWhole (life image log)

@@ -1,6 +1,6 @@
 //! Laws of the definitions alone. Each is the contract of a function that does nothing.
 ghost use Rattle.dvg_world.specs.Fetches.{NextStays, WordsAreWhole, WordsArePaired};
-ghost use Rattle.dvg_world.specs.Headline.{AlwaysInTime, DrawsPublished, NeverFaults, NeverOlder, NeverTorn};
+ghost use Rattle.dvg_world.specs.Headline.{AlwaysBounded, AlwaysInTime, DrawsPublished, NeverFaults, NeverOlder, NeverTorn};
 ghost use Rattle.dvg_world.specs.Law.{AnyMemory, EndsInTime, OnlyFirst, Undisturbed};
 ghost use Rattle.dvg_world.specs.Legal.{SameLog};
 
@@ -37,7 +37,7 @@ pub fn never_torn()
 {}
 
 /// In every legal log the generator never faults: no run meets a hole, makes a fifth call or returns without
-/// one. Runs that go on for ever are not ruled out.
+/// one. How long a run can be is told by `always_bounded`.
 pub fn never_faults()
     ensures { NeverFaults }
 {}
@@ -56,10 +56,16 @@ pub fn never_older()
 {}
 
 /// In every legal log a run of a frame that has a picture of `n` words fetches at most `2n` bytes, and its
-/// fetch number `2n` is the one that finishes it, with the picture's strokes. That so many fetches come is
-/// not said, nor that a frame has a picture: it may loop for ever.
+/// fetch number `2n` is the one that finishes it, with the picture's strokes. Every frame that is accepted has
+/// exactly one picture. That so many fetches come is not said.
 pub fn always_in_time()
     ensures { AlwaysInTime }
+{}
+
+/// In every legal log a run that fetched word zero while a frame was newest published fetches at most two bytes
+/// for each word of the frame's bound: the number that `Frame::bound` tells. That the fetches come is not said.
+pub fn always_bounded()
+    ensures { AlwaysBounded }
 {}
 
 /// In every legal log each word that a run fetched, a byte at a time, is the word that memory has when its high

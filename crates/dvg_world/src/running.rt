@@ -2,7 +2,7 @@
 ghost use Rattle.std.specs.Prelude.{◌≡◌, ◌<◌, List, length, map, IfErr, IfOk, OnErr};
 ghost use Rattle.dvg_world.specs.Entries.{shown_of};
 ghost use Rattle.dvg_world.specs.Events.{Happening, happening_of};
-ghost use Rattle.dvg_world.specs.Headline.{DrewPublished, IsNoOlder, KeepsTime, NoFault, SparesDrawn};
+ghost use Rattle.dvg_world.specs.Headline.{DrewPublished, IsNoOlder, KeepsTime, NoFault, SparesDrawn, WithinBound};
 ghost use Rattle.dvg_world.specs.Legal.{IsLegal};
 ghost use Rattle.dvg_world.specs.Log.{Throughout};
 ghost use Rattle.dvg_world.specs.Runs.{IsStop, log_by};
@@ -25,8 +25,9 @@ use std::alloc::Allocator;
 /// is written in the half being drawn, that the generator never faults, and that every run that reaches HALT
 /// drew exactly the picture of the frame newest published when it fetched word zero, so no picture is older
 /// than the one before. The log has one entry for each event, and each entry is the one that its event gets
-/// over the log before it: the log is legal, so driver and generator really act, and a run of a frame that
-/// has a picture is finished at the picture's last fetch.
+/// over the log before it: the log is legal, so driver and generator really act. Every frame that is accepted
+/// has exactly one picture: a run of it is finished at the picture's last fetch, and fetches at most two bytes
+/// for each word of the frame's bound.
 ///
 /// This rests on three premises. The log ends early only for want of memory: before the first event, or at a
 /// fetch that completes a vector with an intensity of at least 1. `Stopped` then has the entries of the
@@ -58,6 +59,8 @@ pub fn run<S: Store>(
     ensures never_older { Throughout IsNoOlder (log_by (map happening_of events.now) result) }
     // A run of a frame that has a picture is finished at the picture's last fetch.
     ensures always_in_time { Throughout (KeepsTime rom) (log_by (map happening_of events.now) result) }
+    // Every frame that a run shows has a bound, and the run fetches at most two bytes for each word of it.
+    ensures always_bounded { Throughout (WithinBound rom) (log_by (map happening_of events.now) result) }
     // A run that reaches HALT, during which nothing was written and the RAM held a checked frame, drew the
     // picture of that frame's draft.
     ensures draws_undisturbed { Throughout (DrewHeld rom image.now) (log_by (map happening_of events.now) result) }

@@ -1,6 +1,7 @@
-//! Worked examples: frames that are laid into a store, with the jump to them in word zero, and drawn.
+//! Worked examples: frames that are laid into a store, with the jump to them in word zero, and drawn; and an offer.
+use crate::*;
 use dvg_code::{Code, Instr};
-use dvg_frame::{Draft, Frame, Op, OpKind, check};
+use dvg_frame::{Draft, Frame, FrameFault, Op, OpKind, check};
 use dvg_gen::{Generator, Stroke, Taken};
 use dvg_mem::{Flat, Half, Image, Rom, Store, fetch_byte};
 use std::alloc::Global;
@@ -38,13 +39,18 @@ fn rom(alloc: Global, words: &[u16]) -> Result<Rom, Fail> {
     Rom::new(alloc, bytes.as_slice()).map_err(|_| "no ROM".into())
 }
 
-// The frame of these operations.
-fn frame(kinds: &[OpKind], rom: &Rom) -> Result<Frame, Fail> {
+// The draft of these operations.
+fn draft(kinds: &[OpKind]) -> Result<Draft, Fail> {
     let mut draft = Draft::new();
     for kind in kinds {
         draft.push(Op::new(*kind).ok_or("no operation")?)?;
     }
-    check(&draft, rom).map_err(|_| "refused".into())
+    Ok(draft)
+}
+
+// The frame of these operations.
+fn frame(kinds: &[OpKind], rom: &Rom) -> Result<Frame, Fail> {
+    check(&draft(kinds)?, rom).map_err(|_| "refused".into())
 }
 
 // A store that holds the frame in a half, and the jump to it in word zero.
@@ -158,5 +164,20 @@ fn four_nested_calls(rt: HostRuntime) -> Result<(), Fail> {
         OpKind::Return,
     ];
     assert!(rt; is_drawn(alloc, &rom, &nested, 24, &[])?);
+    Ok(())
+}
+
+#[test]
+fn a_draft_that_loops_is_refused(rt: HostRuntime) -> Result<(), Fail> {
+    let alloc = rt.alloc();
+    let zeros = [0; 2048].to_vec(alloc)?;
+    let image = Image::new(alloc, zeros.as_slice()).map_err(|_| "no image")?;
+    let looping = draft(&[labs(0, 0)?, OpKind::Jump(0)])?;
+    let events = [Event::Offer(Box::new(alloc, looping)?)];
+    let Ok(entries) = run::<Flat>(alloc, rom(alloc, &[])?, &image, events.as_slice()) else {
+        return Err("stopped".into());
+    };
+    assert_eq!(rt; entries.len(), 1);
+    assert!(rt; matches!(entries[0], Entry::Refused(FrameFault::Loops)));
     Ok(())
 }

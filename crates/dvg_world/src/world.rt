@@ -4,7 +4,7 @@ ghost use Rattle.dvg_driver.specs.Stands.{IsInRam};
 ghost use Rattle.dvg_gen.specs.Bytes.{met};
 ghost use Rattle.dvg_world.specs.Entries.{shown_of};
 ghost use Rattle.dvg_world.specs.Events.{Offer, Redraw, Tick, Strobe, Fetch, ResetGen, ResetCpu, ResetAll, happening_of};
-ghost use Rattle.dvg_world.specs.Headline.{DrewPublished, IsNoOlder, KeepsTime, NoFault, SparesDrawn};
+ghost use Rattle.dvg_world.specs.Headline.{DrewPublished, IsNoOlder, KeepsTime, NoFault, SparesDrawn, WithinBound};
 ghost use Rattle.dvg_world.specs.Legal.{Fits, IsLegal};
 ghost use Rattle.dvg_world.specs.Log.{Log, ◌⟼◌};
 ghost use Rattle.dvg_world.specs.Standing.{WorldAfter};
@@ -101,6 +101,8 @@ impl<S: Store> World<S> {
             → IfOk result (λ entry. IsNoOlder log (happening_of event.now) (shown_of entry)) }
         ensures always_in_time { (R image : List ℕ) (log : Log) → WorldAfter R image log self.old
             → IfOk result (λ entry. KeepsTime R log (happening_of event.now) (shown_of entry)) }
+        ensures always_bounded { (R image : List ℕ) (log : Log) → WorldAfter R image log self.old
+            → IfOk result (λ entry. WithinBound R log (happening_of event.now) (shown_of entry)) }
         ensures draws_undisturbed { (R image : List ℕ) (log : Log) → WorldAfter R image log self.old
             → IfOk result (λ entry. DrewHeld R image log (happening_of event.now) (shown_of entry)) }
 

@@ -4,6 +4,6 @@ use Rattle.dvg_gen.proofs.beam.unit.Goals as goal
 
 pub returns-then-effective-le9-clause-small : goal.returns-then-effective-le9-clause-small
 returns-then-effective-le9-clause-small c =
-    let low : (c.from.result + c.from-2.result) % 16 ≤ 9 = c.if-effective-le9.true in
-    let power : 2 ^ ((c.from.result + c.from-2.result) % 16) ≤ 2 ^ 9 = pow_mono low in
+    let low : (c.args.global + c.args.local) % 16 ≤ 9 = c.if-effective-le9.true in
+    let power : 2 ^ ((c.args.global + c.args.local) % 16) ≤ 2 ^ 9 = pow_mono low in
     omega arith

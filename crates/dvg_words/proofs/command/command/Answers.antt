@@ -17,5 +17,5 @@ returns-clause-app c =
     ap app_of_fields c.subcommand_required-program.ensures ∙ ap requiring c.helped.ensures.app in
     let one = c.in_ok-with_list.ensures.shape c.helped-list.ensures.local ∙ ap₂ with_subcommand program_is (ap top_of c.helped-list.ensures.app) in
     let two = c.in_ok-with_rom.ensures.shape c.helped-rom.ensures.local ∙ ap₂ with_subcommand one (ap top_of c.helped-rom.ensures.app) in
-    let three = c.in_ok-with_check.ensures.shape c.helped-check.ensures.local ∙ ap₂ with_subcommand two (ap top_of c.helped-check.ensures.app) in
+    let three = c.in_ok-with_check.ensures.shape c.in_ok-check.ensures.local ∙ ap₂ with_subcommand two c.in_ok-check.ensures.app in
     c.in_ok-with_play.ensures.shape c.in_ok-play.ensures.local ∙ ap₂ with_subcommand three c.in_ok-play.ensures.app

@@ -11,4 +11,4 @@ invariant_of-result c = record {
 }
 
 pub returns-clause-in_ram : goal.returns-clause-in_ram
-returns-clause-in_ram c = in_ram c.args.half c.args.frame c.new.result.items c.base.result c.len_words-left.result c.new.ensures c.base.ensures (c.len_words-left.ensures.laid c.args.half) c.len_words-left.ensures.bound
+returns-clause-in_ram c = in_ram c.args.half c.args.frame.operations c.new.result.items c.base.result c.len_words-left.result c.new.ensures c.base.ensures (c.len_words-left.ensures.laid c.args.half) c.len_words-left.ensures.bound

@@ -8,12 +8,12 @@ use Rattle.dvg_frame.proofs.cursor.CursorIterator.next.Goals.{After-len, After-d
 pub spelling-self-inside-requires : goal.spelling-self-inside-requires
 spelling-self-inside-requires c =
     let S = c.self.inside in
-    one_more S.half S.frame S.words.items S.given S.op S.left c.self.invariant.left c.if-self-eq0.false (omega arith)
+    one_more S.half S.frame.operations S.words.items S.given S.op S.left c.self.invariant.left c.if-self-eq0.false (omega arith)
 
 pub overflow_add-self : goal.overflow_add-self
 overflow_add-self c =
     let S = c.self.inside in
-    let within = one_more S.half S.frame S.words.items S.given S.op S.left c.self.invariant.left c.if-self-eq0.false (omega arith) in
+    let within = one_more S.half S.frame.operations S.words.items S.given S.op S.left c.self.invariant.left c.if-self-eq0.false (omega arith) in
     let few = c.spelling-self-inside.ensures.draft.count in
     omega arith
 
@@ -24,12 +24,12 @@ ready c =
     elim c.if-from-len.branch [
       | then-from-len w ↦ (
           let all : S.given ≡ 2 * length S.words.items = (let is = w.if-from-len.true in omega arith) in
-          let within = one_more S.half S.frame S.words.items S.given S.op S.left c.self.invariant.left c.if-self-eq0.false all in
+          let within = one_more S.half S.frame.operations S.words.items S.given S.op S.left c.self.invariant.left c.if-self-eq0.false all in
           subst (λ N. GoesOn S N) (sym w.self-inside-is)
-          (record { ready = turns S.half S.frame S.words.items w.spelling-self-inside.result.items S.given S.op all within w.spelling-self-inside.ensures.words; address = refl; left = refl }))
+          (record { ready = turns S.half S.frame.operations S.words.items w.spelling-self-inside.result.items S.given S.op all within w.spelling-self-inside.ensures.words; address = refl; left = refl }))
       | else-from-len w ↦
           subst (λ N. GoesOn S N) (sym w.self-inside-is)
-          (record { ready = stays S.half S.frame S.words.items S.given S.op c.self.invariant.given (λ all. w.if-from-len.false (omega arith)); address = refl; left = refl })
+          (record { ready = stays S.half S.frame.operations S.words.items S.given S.op c.self.invariant.given (λ all. w.if-from-len.false (omega arith)); address = refl; left = refl })
     ]
 
 pub bounds-deref-from : goal.bounds-deref-from
@@ -52,7 +52,7 @@ gave c on =
     ap (λ ws. slice_get ws (N.given / 2)) (sym c.deref.ensures.0) ∙ ap (slice_get words) (sym c.from-2.ensures) ∙ slice_get-get_or words k 0 within in
     record {
       here = on.address;
-      bytes = gives _ N.half N.frame N.words.items N.given N.op (get_or words k 0) c.byte_of.result on.ready word_is c.byte_of.ensures;
+      bytes = gives _ N.half N.frame.operations N.words.items N.given N.op (get_or words k 0) c.byte_of.result on.ready word_is c.byte_of.ensures;
       given = let room = on.ready.room in omega arith;
       rises = let same = on.address in omega arith;
       left = let same = on.left in omega arith;
