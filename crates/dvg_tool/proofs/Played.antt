@@ -14,8 +14,8 @@ use Rattle.dvg_world.specs.Log.{Line, Log, ◌⟼◌}
 use Rattle.dvg_world.specs.Runs.{IsStop, log_of}
 use Rattle.dvg_world.proofs.Runs.{log_of-none}
 use Rattle.dvg_tool.specs.Plays.{IsPlayed, StopsNext, entry_of, event_of, log_text, zeros}
-use Rattle.dvg_tool.specs.Shows.{shown}
-use Rattle.dvg_tool.specs.TraceGives.{GivesTrace}
+use Rattle.dvg_text.specs.Shows.{shown}
+use Rattle.dvg_text.specs.TraceGives.{GivesTrace}
 
 -- the lines of events and entries, oldest first
 abbrev lines_of : {A : Type 0} → List Happening → List (Entry A) → List Line

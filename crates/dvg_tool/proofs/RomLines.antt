@@ -2,7 +2,7 @@
 use Rattle.std.proofs.Common.{◌≡◌, ℕ, ◌+◌, ◌*◌, ◌<◌, ◌≤◌, List, ◌∷◌, ◌++◌, Option, length, take, drop, refl, sym, ap, ◌∙◌, arith, length-drop}
 use Rattle.std.proofs.lemmas.List.{drop-drop, drop_all}
 use Rattle.std.specs.Io.KnownBytes.{Appends}
-use Rattle.dvg_tool.specs.Lines.{rom_line, rom_lines}
+use Rattle.dvg_text.specs.Lines.{rom_line, rom_lines}
 use Rattle.dvg_tool.specs.Watching.{BeginsToWrite}
 use Rattle.dvg_tool.proofs.Went.{Went, all_of_it, nothing, piece_begun, piece_more}
 

@@ -5,7 +5,7 @@ use Rattle.dvg_gen.specs.declared.stroke.Stroke.{Stroke}
 use Rattle.dvg_world.specs.declared.entry.Entry.{Entry}
 use Rattle.dvg_world.specs.declared.entry.Entry.TheVariants.{Done}
 use Rattle.dvg_world.specs.Entries.{shown_of}
-use Rattle.dvg_tool.specs.Shows.{picture_line, shown, shown_entry, stroke_line, strokes_of}
+use Rattle.dvg_text.specs.Shows.{picture_line, shown, shown_entry, stroke_line, strokes_of}
 
 -- the entry isn't one of a finished run
 abbrev pub IsNoPicture : {A : Type 0} → Entry A → Type 0

@@ -3,14 +3,16 @@ use Rattle.std.proofs.Common.{◌≡◌, ℕ, List, [], ◌⊎◌, inl, inr, ⊎
 use Rattle.std.specs.Io.KnownBytes.{Appends}
 use Rattle.dvg_world.specs.Events.{Happening}
 use Rattle.dvg_world.specs.Log.{Log}
-use Rattle.dvg_tool.specs.declared.fault.TextFault.{TextFault}
-use Rattle.dvg_tool.specs.declared.fault.TextFault.TheVariants.{TooLong, Syntax, Full, Many, Unended}
+use Rattle.dvg_text.specs.declared.fault.TextFault.{TextFault}
+use Rattle.dvg_text.specs.declared.fault.TextFault.TheVariants.{TooLong, Syntax, Full, Many, Unended}
 use Rattle.dvg_tool.specs.declared.fault.ToolFault.{ToolFault}
 use Rattle.dvg_tool.specs.declared.fault.ToolFault.TheVariants.{Text, Reader, Writer, Memory}
-use Rattle.dvg_tool.specs.Plays.{IsPlayed, Plays, StopsPlay, log_text}
+use Rattle.dvg_text.specs.declared.fault.TraceFault.{TraceFault}
+use Rattle.dvg_text.specs.declared.fault.TraceFault.TheVariants as of_trace
+use Rattle.dvg_tool.specs.Plays.{IsPlayed, Plays, StopsPlay, called, log_text}
 use Rattle.dvg_tool.specs.Roms.{StopsWriting, WritesText}
-use Rattle.dvg_tool.specs.TraceGives.{StopsReading}
-use Rattle.dvg_tool.specs.TraceTexts.{HasTraceFault, MeetsSyntax, MeetsFull, MeetsMany, EndsInside}
+use Rattle.dvg_text.specs.TraceGives.{StopsReading}
+use Rattle.dvg_text.specs.TraceTexts.{HasTraceFault, MeetsSyntax, MeetsFull, MeetsMany, EndsInside}
 use Rattle.dvg_tool.specs.Watching.{BeginsToWrite}
 use Rattle.dvg_tool.proofs.Known.{Appends-nil}
 use Rattle.dvg_tool.proofs.Played.{PlayedPart}
@@ -38,12 +40,10 @@ unread all (Text fault) (Some input) old is = ⊎_elim (λ e. cc) (λ e. cc) is
 unread all Writer (Some input) old is = ⊎_elim (λ e. cc) (λ e. cc) is
 
 -- what was read is at fault, or memory was refused
-pub misread : (all : Bool) (fault : ToolFault) (known old : Option (List ℕ)) (read : List ℕ) → Read 1048576 known read → StopsReading fault read → IfSome known (λ input. StopsPlay all fault input old old)
+pub misread : (all : Bool) (fault : TraceFault) (known old : Option (List ℕ)) (read : List ℕ) → Read 1048576 known read → StopsReading fault read → IfSome known (λ input. StopsPlay all (called fault) input old old)
 misread all fault None old read e h = tt
-misread all (Text fault) (Some input) old read e h = faulted fault input read e h
-misread all Memory (Some input) old read e h = inl (Appends-nil old)
-misread all Reader (Some input) old read e h = absurd h
-misread all Writer (Some input) old read e h = absurd h
+misread all (of_trace.Text fault) (Some input) old read e h = faulted fault input read e h
+misread all of_trace.Memory (Some input) old read e h = inl (Appends-nil old)
 
 -- so was a part
 played_so_far : {log : Log} {later : List Happening} (input read : List ℕ) → read ≡ take 1048577 input → PlayedPart read log later → PlayedPart input log later

@@ -3,16 +3,16 @@ use Rattle.std.proofs.Common.{◌≡◌, ◌≢◌, ℕ, ◌+◌, ◌*◌, [], �
 use Rattle.std.proofs.lemmas.Bool.{cases_lt}
 use Rattle.std.specs.Io.KnownBytes.{Appends}
 use Rattle.dvg_code.specs.Words.{words_of}
-use Rattle.dvg_tool.specs.declared.fault.TextFault.{TextFault}
-use Rattle.dvg_tool.specs.declared.verdict.Verdict.{Verdict}
-use Rattle.dvg_tool.specs.Checks.{Checks, IsJudgingFault, Judges, StopsCheck, StopsJudging}
-use Rattle.dvg_tool.specs.DraftTexts.{HasFault}
-use Rattle.dvg_tool.specs.Verdicts.{verdict_line}
+use Rattle.dvg_text.specs.declared.fault.TextFault.{TextFault}
+use Rattle.dvg_text.specs.declared.verdict.Verdict.{Verdict}
+use Rattle.dvg_tool.specs.Checks.{Checks, IsJudgingFault, StopsCheck, StopsJudging}
+use Rattle.dvg_text.specs.DraftTexts.{HasFault}
+use Rattle.dvg_text.specs.Verdicts.{Judges, verdict_line}
 use Rattle.dvg_tool.specs.Watching.{BeginsToWrite}
-use Rattle.dvg_tool.specs.Lines.{rom_text}
+use Rattle.dvg_text.specs.Lines.{rom_text}
 use Rattle.dvg_tool.specs.Roms.{WritesRom, WritesText}
 use Rattle.dvg_tool.specs.Lists.{IsListable, Lists, ListsWords}
-use Rattle.dvg_tool.specs.declared.fault.TextFault.TheVariants.{TooLong, Cut, Syntax, Full}
+use Rattle.dvg_text.specs.declared.fault.TextFault.TheVariants.{TooLong, Cut, Syntax, Full}
 use Rattle.dvg_tool.specs.declared.fault.ToolFault.{ToolFault}
 use Rattle.dvg_tool.specs.declared.fault.ToolFault.TheVariants.{Text, Reader, Writer, Memory}
 

@@ -1,11 +1,11 @@
 -- How an engine stops, and how the program ends.
 use Rattle.std.specs.Prelude.{◌≡◌, ℕ, ◌⊎◌, Result, Ok, Err}
-use Rattle.dvg_tool.specs.declared.fault.TextFault.TheVariants.{Cut}
+use Rattle.dvg_text.specs.declared.fault.TextFault.TheVariants.{Cut}
 use Rattle.dvg_tool.specs.declared.fault.ToolFault.{ToolFault}
 use Rattle.dvg_tool.specs.declared.fault.ToolFault.TheVariants.{Text, Reader, Writer, Memory}
 use Rattle.dvg_tool.specs.declared.outcome.Done.{Done}
 use Rattle.dvg_tool.specs.declared.outcome.Done.TheVariants.{Written, Judged}
-use Rattle.dvg_tool.specs.declared.verdict.Verdict.TheVariants.{Good, Refused}
+use Rattle.dvg_text.specs.declared.verdict.Verdict.TheVariants.{Good, Refused}
 use Rattle.dvg_tool.specs.Watching.{one_more}
 
 -- the faults that come before the first write

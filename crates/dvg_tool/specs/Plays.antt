@@ -6,13 +6,20 @@ use Rattle.dvg_world.specs.Events.{Happening}
 use Rattle.dvg_world.specs.Legal.{IsLegal}
 use Rattle.dvg_world.specs.Log.{Line, Log, ◌⟼◌}
 use Rattle.dvg_world.specs.Wanting.{TakesMemory}
+use Rattle.dvg_text.specs.declared.fault.TraceFault.{TraceFault}
+use Rattle.dvg_text.specs.declared.fault.TraceFault.TheVariants as of_trace
 use Rattle.dvg_tool.specs.declared.fault.ToolFault.{ToolFault}
 use Rattle.dvg_tool.specs.declared.fault.ToolFault.TheVariants.{Text, Reader, Writer, Memory}
 use Rattle.dvg_tool.specs.Outcomes.{StopsBeforeWriting}
-use Rattle.dvg_tool.specs.Shows.{shown}
-use Rattle.dvg_tool.specs.TraceGives.{GivesTrace}
-use Rattle.dvg_tool.specs.TraceTexts.{HasTraceFault}
+use Rattle.dvg_text.specs.Shows.{shown}
+use Rattle.dvg_text.specs.TraceGives.{GivesTrace}
+use Rattle.dvg_text.specs.TraceTexts.{HasTraceFault}
 use Rattle.dvg_tool.specs.Watching.{BeginsToWrite}
+
+-- what the reader of traces answers, as an engine calls it
+abbrev pub called : TraceFault → ToolFault
+called (of_trace.Text fault) = Text fault
+called of_trace.Memory = Memory
 
 -- the bytes of a memory of zeros
 abbrev pub zeros : List ℕ

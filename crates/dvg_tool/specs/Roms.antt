@@ -1,9 +1,9 @@
 -- What `rom_text` answers and writes.
 use Rattle.std.specs.Prelude.{◌≡◌, ◌≢◌, ℕ, List, length, Option, Result, MatchResult}
 use Rattle.std.specs.Io.KnownBytes.{Appends}
-use Rattle.dvg_tool.specs.Lines.{rom_text}
+use Rattle.dvg_text.specs.Lines.{rom_text}
 use Rattle.dvg_tool.specs.Watching.{BeginsToWrite}
-use Rattle.dvg_tool.specs.declared.fault.TextFault.TheVariants.{RomSize}
+use Rattle.dvg_text.specs.declared.fault.TextFault.TheVariants.{RomSize}
 use Rattle.dvg_tool.specs.declared.fault.ToolFault.{ToolFault}
 use Rattle.dvg_tool.specs.declared.fault.ToolFault.TheVariants.{Text, Reader, Writer, Memory}
 

@@ -1,38 +1,11 @@
 //! Why an engine stops.
 ghost use Rattle.std.specs.Prelude.{◌≡◌};
+ghost use Rattle.dvg_tool.specs.Plays.{called};
 ghost use Rattle.dvg_tool.specs.declared.fault.ToolFault.TheVariants.{Memory};
 
 use dvg_code::OutOfMemory;
+use dvg_text::{TextFault, TraceFault};
 use thiserror::Error;
-
-/// A fault of what was read. Its text is what `dvg` prints of it (this project's own choice).
-#[derive(Clone, Copy, Debug, PartialEq, Eq, Error)]
-pub enum TextFault {
-    /// The input has more bytes than are allowed.
-    #[error("too long")]
-    TooLong,
-    /// The input has an odd number of bytes.
-    #[error("odd length")]
-    Odd,
-    /// The word at this place, counted in words from 0, wants a second word, which is missing.
-    #[error("cut at {0:03X}")]
-    Cut(usize),
-    /// A ROM hasn't exactly 2,048 bytes.
-    #[error("rom size")]
-    RomSize,
-    /// The line of this number, counted from 1, spells nothing that may stand at its place.
-    #[error("syntax at line {0}")]
-    Syntax(usize),
-    /// The line of this number, counted from 1, spells operation number 511 of a draft, which can't hold it.
-    #[error("full at line {0}")]
-    Full(usize),
-    /// The line of this number, counted from 1, brings the number of a trace's events above 65,536.
-    #[error("too many events at line {0}")]
-    Many(usize),
-    /// The text ends inside an offer.
-    #[error("offer without end")]
-    Unended,
-}
 
 /// Why an engine stopped. Its text is what `dvg` prints of it (this project's own choice).
 #[derive(Clone, Copy, Debug, PartialEq, Eq, Error)]
@@ -56,5 +29,16 @@ impl From<OutOfMemory> for ToolFault {
 
     fn from(_refused: OutOfMemory) -> ToolFault {
         ToolFault::Memory
+    }
+}
+
+impl From<TraceFault> for ToolFault {
+    ghost from_gives = { λ fault stop. stop ≡ called fault };
+
+    fn from(fault: TraceFault) -> ToolFault {
+        match fault {
+            TraceFault::Text(fault) => ToolFault::Text(fault),
+            TraceFault::Memory => ToolFault::Memory,
+        }
     }
 }

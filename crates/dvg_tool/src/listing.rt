@@ -2,16 +2,16 @@
 ghost use Rattle.std.specs.Prelude.{◌≡◌, ◌↔◌, ◌≤◌, ◌%◌, length, IfErr, IfSome, IsErrOf, OnErr, OnOk};
 ghost use Rattle.std.specs.Io.KnownBytes.{Appends};
 ghost use Rattle.dvg_code.specs.Words.{words_of};
-ghost use Rattle.dvg_tool.specs.Lines.{line_at};
+ghost use Rattle.dvg_text.specs.Lines.{line_at};
 ghost use Rattle.dvg_tool.specs.Lists.{Lists, ListsWords};
 ghost use Rattle.dvg_tool.specs.Outcomes.{StopsBeforeWriting};
 ghost use Rattle.dvg_tool.specs.Watching.{BeginsToWrite, CountsErrors, TakesAtMost, device_of, failures_of};
 
-use crate::fault::{TextFault, ToolFault};
-use crate::line::Line;
+use crate::fault::ToolFault;
 use crate::transfer::{collect_words, read_up_to, write_whole};
 use crate::watched::{DeviceFailed, Watched};
 use dvg_code::{Code, Listed, Listing, encode};
+use dvg_text::{Line, TextFault};
 use std::alloc::Allocator;
 use std::io::{Read, Write};
 

@@ -5,8 +5,8 @@ ghost use Rattle.dvg_tool.specs.Outcomes.{FinishesAs, status_of};
 ghost use Rattle.dvg_tool.specs.Watching.{device_of, failures_of};
 
 use crate::fault::ToolFault;
-use crate::verdict::Verdict;
 use crate::watched::Watched;
+use dvg_text::Verdict;
 use std::io::Write;
 
 /// What an engine that is done has to tell.

@@ -4,16 +4,15 @@ ghost use Rattle.dvg_mem.specs.Memory.{IsImage};
 ghost use Rattle.dvg_world.specs.Legal.{IsLegal};
 ghost use Rattle.dvg_world.specs.Runs.{IsStop, log_by};
 ghost use Rattle.dvg_tool.specs.Plays.{Plays, StopsBeforeShowing, zeros};
-ghost use Rattle.dvg_tool.specs.TraceGives.{GivesTrace, StopsReading};
+ghost use Rattle.dvg_text.specs.TraceGives.{GivesTrace, StopsReading};
 ghost use Rattle.dvg_tool.specs.Watching.{TakesAtMost, device_of, failures_of};
 
-use crate::draft_text::MOST_TEXT_BYTES;
 use crate::fault::ToolFault;
 use crate::showing::write_entries;
-use crate::trace_text::{TraceText, read_trace};
 use crate::transfer::read_up_to;
 use crate::watched::Watched;
 use dvg_mem::{Flat, Image, MEMORY_BYTES, Rom};
+use dvg_text::{MOST_TEXT_BYTES, TraceText, read_trace};
 use dvg_world::{Entry, Stopped, run_trace};
 use std::alloc::Allocator;
 use std::io::{Read, Write};

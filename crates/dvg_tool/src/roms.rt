@@ -1,15 +1,15 @@
 //! The engine `rom_text`.
 ghost use Rattle.std.specs.Prelude.{◌≡◌, ◌↔◌, ◌≤◌, length, IfErr, IfSome, IsErrOf};
-ghost use Rattle.dvg_tool.specs.Lines.{rom_lines};
+ghost use Rattle.dvg_text.specs.Lines.{rom_lines};
 ghost use Rattle.dvg_tool.specs.Outcomes.{StopsBeforeWriting};
 ghost use Rattle.dvg_tool.specs.Roms.{WritesRom, WritesText};
 ghost use Rattle.dvg_tool.specs.Watching.{TakesAtMost, device_of, failures_of};
 
-use crate::fault::{TextFault, ToolFault};
-use crate::line::Line;
+use crate::fault::ToolFault;
 use crate::transfer::{collect_words, read_up_to, write_whole};
 use crate::watched::Watched;
 use dvg_mem::{FIRST_ROM_WORD, MEMORY_BYTES};
+use dvg_text::{Line, TextFault};
 use std::alloc::Allocator;
 use std::io::{Read, Write};
 

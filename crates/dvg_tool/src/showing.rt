@@ -3,14 +3,14 @@ ghost use Rattle.std.specs.Prelude.{◌≡◌, ◌↔◌, ◌≤◌, flat_map, m
 ghost use Rattle.std.specs.Io.KnownBytes.{Appends};
 ghost use Rattle.dvg_world.specs.Entries.{shown_of};
 ghost use Rattle.dvg_tool.specs.Roms.{WritesText};
-ghost use Rattle.dvg_tool.specs.Shows.{head_line, shown, shown_entry, stroke_line, strokes_of};
+ghost use Rattle.dvg_text.specs.Shows.{head_line, shown, shown_entry, stroke_line, strokes_of};
 ghost use Rattle.dvg_tool.specs.Watching.{BeginsToWrite, CountsErrors, device_of, failures_of};
 
 use crate::fault::ToolFault;
-use crate::line::Line;
 use crate::transfer::write_whole;
 use crate::watched::{DeviceFailed, Watched};
 use dvg_gen::Stroke;
+use dvg_text::Line;
 use dvg_world::Entry;
 use std::alloc::Allocator;
 use std::io::Write;

@@ -1,9 +1,10 @@
 use Rattle.std.proofs.Common.{rules, subst, ap, ◌∙◌, Err, map, arith}
 use Rattle.std.proofs.lemmas.Result.{err_from_is_err_and}
 use Rattle.dvg_world.specs.Entries.{shown_of}
+use Rattle.dvg_tool.specs.Plays.{called}
 use Rattle.dvg_tool.specs.Roms.{StopsWriting, WritesText}
-use Rattle.dvg_tool.specs.Shows.{shown}
-use Rattle.dvg_tool.specs.TraceGives.{GivesTrace, StopsReading}
+use Rattle.dvg_text.specs.Shows.{shown}
+use Rattle.dvg_text.specs.TraceGives.{GivesTrace, StopsReading}
 use Rattle.dvg_tool.specs.Watching.{device_of}
 use Rattle.dvg_tool.proofs.Played.{few, log_shown, played_part, played_whole}
 use Rattle.dvg_tool.proofs.TracesPlayed.{answered, broke_off, misread, told_part, told_whole, unread}
@@ -18,7 +19,7 @@ pub returns-in_err-told-clause-plays : goal.returns-in_err-told-clause-plays
 returns-in_err-told-clause-plays g c =
     let is = err_from_is_err_and c.from_residual-in_err-told.result c.from_residual-in_err-told.ensures.1 in
     let fault : StopsReading c.in_err-told.field-0.0 c.in_ok-text.text.items = subst (StopsReading c.in_err-told.field-0.0) c.as_slice.ensures.value c.in_err-told.ensures.fault in
-    answered _ _ c.in_err-told.field-0.0 _ _ _ (is.1 ∙ ap Err is.2) (misread _ c.in_err-told.field-0.0 _ _ c.in_ok-text.text.items c.in_ok-text.ensures.bytes fault)
+    answered _ _ (called c.in_err-told.field-0.0) _ _ _ (is.1 ∙ ap Err is.2) (misread _ c.in_err-told.field-0.0 _ _ c.in_ok-text.text.items c.in_ok-text.ensures.bytes fault)
 
 pub returns-in-Ok-clause-plays : goal.returns-in-Ok-clause-plays
 returns-in-Ok-clause-plays g c =

@@ -1,5 +1,5 @@
 use Rattle.std.proofs.Common.{rules}
-use Rattle.dvg_tool.specs.Lines.{rom_text}
+use Rattle.dvg_text.specs.Lines.{rom_text}
 use Rattle.dvg_tool.specs.Roms.{WritesText}
 use Rattle.dvg_tool.specs.Watching.{device_of}
 use Rattle.dvg_tool.proofs.Whole.{length-words_of, wrong_size, writes_rom}

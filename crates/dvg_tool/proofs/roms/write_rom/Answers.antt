@@ -1,5 +1,5 @@
 use Rattle.std.proofs.Common.{◌≡◌, ◌+◌, ◌-◌, ◌*◌, ◌∙◌, ap, take, drop, arith, rules}
-use Rattle.dvg_tool.specs.Lines.{rom_line}
+use Rattle.dvg_text.specs.Lines.{rom_line}
 use Rattle.dvg_tool.proofs.RomLines.{row_begun, row_written}
 use Rattle.dvg_tool.proofs.roms.write_rom.Goals as goal
 

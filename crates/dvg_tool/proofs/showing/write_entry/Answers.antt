@@ -1,7 +1,7 @@
 use Rattle.std.proofs.Common.{rules}
 use Rattle.std.specs.Io.KnownBytes.{Appends}
 use Rattle.dvg_world.specs.Entries.{shown_of}
-use Rattle.dvg_tool.specs.Shows.{head_line, strokes_of}
+use Rattle.dvg_text.specs.Shows.{head_line, strokes_of}
 use Rattle.dvg_tool.specs.Watching.{BeginsToWrite, device_of}
 use Rattle.dvg_tool.proofs.Went.{first_begun, or_second_begun}
 use Rattle.dvg_tool.proofs.showing.write_entry.Goals as goal

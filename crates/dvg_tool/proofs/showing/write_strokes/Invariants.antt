@@ -1,5 +1,5 @@
 use Rattle.std.proofs.Common.{◌≡◌, drop, flat_map}
-use Rattle.dvg_tool.specs.Shows.{stroke_line}
+use Rattle.dvg_text.specs.Shows.{stroke_line}
 use Rattle.dvg_tool.specs.Watching.{device_of, failures_of}
 use Rattle.dvg_tool.proofs.Went.{Went}
 use Rattle.dvg_tool.proofs.showing.write_strokes.Given as goal

@@ -1,0 +1,138 @@
+-- What a line more makes of a trace that is read.
+use Rattle.std.proofs.Common.{◌≡◌, ◌<◌, ◌≤◌, ◌+◌, ℕ, zero, suc, List, [], ◌∷◌, ◌++◌, length, replicate, refl, sym, ap, subst, ◌∙◌, arith, length-append, codes, All, Option, Some, None, Result, Ok, Err, OnOk, IfErr, Bool, true, false}
+use Rattle.std.specs.Option.{is_some}
+use Rattle.std.proofs.lemmas.List.Elements.{All-append, All-replicate}
+use Rattle.dvg_mem.specs.Memory.{IsImage}
+use Rattle.dvg_frame.specs.declared.op.OpKind.{OpKind}
+use Rattle.dvg_world.specs.Events.{Happening, Offer, Redraw, Tick, Strobe, Fetch, ResetGen, ResetCpu, ResetAll}
+use Rattle.dvg_text.specs.declared.trace_text.LineFault.{LineFault}
+use Rattle.dvg_text.specs.declared.trace_text.LineFault.TheVariants.{Syntax, Full, Many, Memory}
+use Rattle.dvg_text.specs.Texts.{parts}
+use Rattle.dvg_text.specs.OpLines.{IsOpLine}
+use Rattle.dvg_text.specs.RomTexts.{IsRomLine, RomLine, word_behind}
+use Rattle.dvg_text.specs.RomWords.{AreAfter, IsBehind}
+use Rattle.dvg_text.specs.TraceTexts.{EventParts, Fits, FitsDraft, redraw, tick, strobe, fetch, resetgen, resetcpu, resetall}
+use Rattle.dvg_text.specs.TraceReading.{Takes, does, ends, events, opens, rom}
+use Rattle.dvg_text.proofs.ReadTo.{after_more}
+use Rattle.dvg_text.specs.declared.trace_text.Reading.{Reading}
+use Rattle.dvg_text.specs.TraceGives.{IsHeld, StopsEvents, StopsLine, StopsOperation, TakesLine, events_of, opened_by, opened_of}
+
+all_one : {A : Type 0} (P : A → Type 0) (y : A) → P y → All P (y ∷ [])
+all_one P y h zero d l = h
+all_one P y h (suc k) d l = absurd (omega arith)
+
+-- whether an offer is open
+pub none_opened : (b : Bool) (F : List OpKind) → b ≡ false → opened_by b F ≡ None
+none_opened b F e = rw e refl
+
+pub some_opened : (b : Bool) (F : List OpKind) → b ≡ true → opened_by b F ≡ Some F
+some_opened b F e = rw e refl
+
+pub any_opened : (b : Bool) (F : List OpKind) → b ≡ is_some (opened_by b F)
+any_opened true F = refl
+any_opened false F = refl
+
+-- what is held, where it is taken
+pub held_on : {A E B : Type 0} (answer : Result A E) (reading : Reading B) → OnOk answer (Fits (events_of reading) (opened_of reading)) → IsImage reading.rom → OnOk answer (IsHeld reading)
+held_on (Ok x) reading fits image = record { fits = fits; image = image }
+held_on (Err x) reading fits image = tt
+
+-- the end of an offer
+
+pub end_taken : (old new : List Happening) (opened left : Option (List OpKind)) (F : List OpKind) (R : List ℕ) → opened ≡ Some F → left ≡ None → new ≡ old ++ Offer F ∷ []
+    → (roms : List RomLine) → AreAfter roms R → TakesLine roms old opened (codes "end") new left R
+end_taken old new opened left F R e f g roms words = record { given = roms; takes = rw (e, f, g) ends; words = words }
+
+pub end_fits : (old new : List Happening) (opened left : Option (List OpKind)) (F : List OpKind) → opened ≡ Some F → left ≡ None → new ≡ old ++ Offer F ∷ [] → length old < 65536 → Fits old opened → Fits new left
+end_fits old new opened left F e f g room fits =
+    let inside = rw e at fits in
+    let last : length F ≤ 511 = inside.last in
+    rw (f, g) (record { count = omega (arith, length-append old (Offer F ∷ [])); drafts = All-append FitsDraft old (Offer F ∷ []) fits.drafts (all_one FitsDraft (Offer F) last); last = tt })
+
+pub end_stops : (old : List Happening) (opened : Option (List OpKind)) (F : List OpKind) → opened ≡ Some F → length old ≡ 65536 → StopsLine Many old opened (codes "end")
+end_stops old opened F e full = rw e (old ++ Offer F ∷ [], omega (arith, length-append old (Offer F ∷ [])), λ roms. ends)
+
+-- where no offer is open
+
+pub offer_taken : (old : List Happening) (opened left : Option (List OpKind)) (l R : List ℕ) → opened ≡ None → l ≡ codes "offer" → left ≡ Some []
+    → (roms : List RomLine) → AreAfter roms R → TakesLine roms old opened l old left R
+offer_taken old opened left l R e is f roms words = record { given = roms; takes = rw (e, is, f) opens; words = words }
+
+pub offer_fits : (old : List Happening) (opened : Option (List OpKind)) → Fits old opened → Fits old (Some [])
+offer_fits old opened fits = record { count = fits.count; drafts = fits.drafts; last = omega arith }
+
+pub events_taken : {A E : Type 0} (answer : Result A E) (old more new : List Happening) (opened : Option (List OpKind)) (l R : List ℕ) → opened ≡ None → EventParts more (parts l) → OnOk answer (new ≡ old ++ more)
+    → OnOk answer ((roms : List RomLine) → AreAfter roms R → TakesLine roms old opened l new opened R)
+events_taken (Ok x) old more new opened l R e p g = λ roms words. record { given = roms; takes = rw (e, g) (events p); words = words }
+events_taken (Err x) old more new opened l R e p g = tt
+
+fine_events : {more : List Happening} {ps : List (List ℕ)} → EventParts more ps → All FitsDraft more
+fine_events redraw = all_one FitsDraft Redraw tt
+fine_events (tick {n = n} c) = All-replicate FitsDraft n Tick tt
+fine_events (strobe {n = n} c) = All-replicate FitsDraft n Strobe tt
+fine_events (fetch {n = n} c) = All-replicate FitsDraft n Fetch tt
+fine_events resetgen = all_one FitsDraft ResetGen tt
+fine_events resetcpu = all_one FitsDraft ResetCpu tt
+fine_events (resetall {byte = byte} h) = all_one FitsDraft (ResetAll (replicate 2048 byte)) tt
+
+pub events_fit : {A E : Type 0} (answer : Result A E) (old more new : List Happening) (opened : Option (List OpKind)) (ps : List (List ℕ)) → EventParts more ps → OnOk answer (new ≡ old ++ more) → OnOk answer (length new ≤ 65536)
+    → Fits old opened → OnOk answer (Fits new opened)
+events_fit (Ok x) old more new opened ps p g room fits = record { count = room; drafts = subst (All FitsDraft) (sym g) (All-append FitsDraft old more fits.drafts (fine_events p)); last = fits.last }
+events_fit (Err x) old more new opened ps p g room fits = tt
+
+many_events : (fault : LineFault) (old more : List Happening) (l : List ℕ) → EventParts more (parts l) → StopsEvents fault old more → StopsLine fault old None l
+many_events Many old more l p h = (old ++ more, omega (arith, length-append old more), λ roms. events p)
+many_events Memory old more l p h = tt
+many_events Syntax old more l p h = absurd h
+many_events Full old more l p h = absurd h
+
+pub events_stop : {A : Type 0} (answer : Result A LineFault) (old more : List Happening) (opened : Option (List OpKind)) (l : List ℕ) → opened ≡ None → EventParts more (parts l) → IfErr answer (λ fault. StopsEvents fault old more)
+    → IfErr answer (λ fault. StopsLine fault old opened l)
+events_stop (Ok x) old more opened l e p h = tt
+events_stop (Err fault) old more opened l e p h = rw e (many_events fault old more l p h)
+
+pub rom_taken : (old : List Happening) (opened : Option (List OpKind)) (l R S : List ℕ) (given : RomLine) → old ≡ [] → opened ≡ None → IsRomLine given l → IsBehind given R S
+    → (roms : List RomLine) → AreAfter roms R → TakesLine roms old opened l old opened S
+rom_taken old opened l R S given none e h behind roms words = record {
+  given = roms ++ given ∷ [];
+  takes = rw (none, e) (rom given h);
+  words = λ k low. behind k low ∙ ap (word_behind given (0x800 + k)) (words k low) ∙ sym (after_more roms given (0x800 + k) 0xD000);
+}
+
+nothing_outside : {roms given : List RomLine} {old new : List Happening} {opened left : Option (List OpKind)} {l : List ℕ} → opened ≡ None → (l ≡ codes "offer" → ⊥) → ((more : List Happening) → EventParts more (parts l) → ⊥)
+    → (old ≡ [] → (g : RomLine) → IsRomLine g l → ⊥) → Takes roms old opened l given new left → ⊥
+nothing_outside e no_offer no_events no_rom (rom g h) = no_rom refl g h
+nothing_outside e no_offer no_events no_rom (events {more = more} p) = no_events more p
+nothing_outside e no_offer no_events no_rom opens = no_offer refl
+nothing_outside e no_offer no_events no_rom (does op h) = absurd (cc)
+nothing_outside e no_offer no_events no_rom ends = absurd (cc)
+
+pub outside_stops : (old : List Happening) (opened : Option (List OpKind)) (l : List ℕ) → opened ≡ None → (l ≡ codes "offer" → ⊥) → ((more : List Happening) → EventParts more (parts l) → ⊥)
+    → (old ≡ [] → (g : RomLine) → IsRomLine g l → ⊥) → StopsLine Syntax old opened l
+outside_stops old opened l e no_offer no_events no_rom roms given new left t = nothing_outside e no_offer no_events no_rom t
+
+-- inside an offer
+
+pub op_taken : {A E : Type 0} (answer : Result A E) (old : List Happening) (F G : List OpKind) (opened left : Option (List OpKind)) (l R : List ℕ) → opened ≡ Some F → left ≡ Some G
+    → OnOk answer ((op : OpKind) × IsOpLine op l × (G ≡ F ++ op ∷ [])) → OnOk answer ((roms : List RomLine) → AreAfter roms R → TakesLine roms old opened l old left R)
+op_taken (Ok x) old F G opened left l R e f h = λ roms words. let is = h.2 in record { given = roms; takes = rw (e, f, is) (does h.0 h.1); words = words }
+op_taken (Err x) old F G opened left l R e f h = tt
+
+nothing_inside : {roms given : List RomLine} {old new : List Happening} {opened left : Option (List OpKind)} {l : List ℕ} (F : List OpKind) → opened ≡ Some F → (l ≡ codes "end" → ⊥) → ((op : OpKind) → IsOpLine op l → ⊥)
+    → Takes roms old opened l given new left → ⊥
+nothing_inside F e no_end no_op (rom g h) = absurd (cc)
+nothing_inside F e no_end no_op (events p) = absurd (cc)
+nothing_inside F e no_end no_op opens = absurd (cc)
+nothing_inside F e no_end no_op (does op h) = no_op op h
+nothing_inside F e no_end no_op ends = no_end refl
+
+no_op_more : (fault : LineFault) (old : List Happening) (F : List OpKind) (l : List ℕ) → (l ≡ codes "end" → ⊥) → StopsOperation fault F l → StopsLine fault old (Some F) l
+no_op_more Syntax old F l no_end h = λ roms given new left t. nothing_inside F refl no_end h t
+no_op_more Full old F l no_end h = let full = h.1 in (F ++ h.0 ∷ [], omega (arith, length-append F (h.0 ∷ [])), λ roms. does h.0 h.2)
+no_op_more Many old F l no_end h = absurd h
+no_op_more Memory old F l no_end h = absurd h
+
+pub op_stops : {A : Type 0} (answer : Result A LineFault) (old : List Happening) (F : List OpKind) (opened : Option (List OpKind)) (l : List ℕ) → opened ≡ Some F → (l ≡ codes "end" → ⊥) → IfErr answer (λ fault. StopsOperation fault F l)
+    → IfErr answer (λ fault. StopsLine fault old opened l)
+op_stops (Ok x) old F opened l e no_end h = tt
+op_stops (Err fault) old F opened l e no_end h = rw e (no_op_more fault old F l no_end h)

@@ -1,0 +1,20 @@
+use Rattle.std.proofs.Common.{◌≡◌, ◌∷◌, ◌++◌, [], None, length, refl, arith, rules}
+use Rattle.std.proofs.lemmas.Grind.{common_steps}
+use Rattle.dvg_world.specs.Events.{Offer}
+use Rattle.dvg_text.specs.TraceGives.{events_of, opened_of}
+use Rattle.dvg_text.proofs.TraceMoves.{end_stops, end_taken, some_opened}
+use Rattle.dvg_text.proofs.trace_text.Reading.end_offer.Goals as goal
+
+pub returns-then-len-eq-MOST_EVENTS-clause-fault : goal.returns-then-len-eq-MOST_EVENTS-clause-fault
+returns-then-len-eq-MOST_EVENTS-clause-fault g c =
+    let reading = c.args.self.now in
+    let inside = some_opened reading.is_open reading.draft (search rules) in
+    let full : length (events_of reading) ≡ 65536 = grind (arith, common_steps) in
+    end_stops (events_of reading) (opened_of reading) reading.draft inside full
+
+pub returns-clause-taken : goal.returns-clause-taken
+returns-clause-taken g c =
+    let reading = c.args.self.now in
+    let inside = some_opened reading.is_open reading.draft (search rules) in
+    let pushed : c.push_offer.new.self ≡ events_of reading ++ Offer reading.draft ∷ [] = search rules in
+    end_taken (events_of reading) c.push_offer.new.self (opened_of reading) None reading.draft reading.rom inside refl pushed

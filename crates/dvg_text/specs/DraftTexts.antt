@@ -1,0 +1,55 @@
+-- What the text of a draft denotes, and its first fault.
+use Rattle.std.specs.Prelude.{◌≡◌, ℕ, ◌<◌, ◌≤◌, List, [], ◌∷◌, ◌++◌, length}
+use Rattle.std.specs.List.{AllZip}
+use Rattle.dvg_frame.specs.declared.op.OpKind.{OpKind}
+use Rattle.dvg_text.specs.declared.fault.TextFault.{TextFault}
+use Rattle.dvg_text.specs.declared.fault.TextFault.TheVariants.{TooLong, Syntax, Full}
+use Rattle.dvg_text.specs.Texts.{lines, told}
+use Rattle.dvg_text.specs.FirstFaults.{IsShort, Reaches}
+use Rattle.dvg_text.specs.OpLines.{IsOpLine}
+use Rattle.dvg_text.specs.RomTexts.{IsRomLine, RomLine}
+
+-- lines that give words of the ROM, and then lines of operations
+pub record Spells (roms : List RomLine) (ops : List OpKind) (ls : List (List ℕ)) : Type 0 where
+  pub front : List (List ℕ)
+  pub rest : List (List ℕ)
+  pub cut : ls ≡ front ++ rest
+  pub rom : AllZip IsRomLine roms front
+  pub draft : AllZip IsOpLine ops rest
+
+-- the text denotes these ROM lines and this draft: what its lines spell that aren't passed over
+pub record Denotes (text : List ℕ) (roms : List RomLine) (ops : List OpKind) : Type 0 where
+  pub short : IsShort text
+  pub spelled : Spells roms ops (told (lines text))
+  pub count : length ops ≤ 511
+
+-- lines that spell ROM lines and no more operations than a draft holds
+pub record IsFine (ls : List (List ℕ)) : Type 0 where
+  pub roms : List RomLine
+  pub ops : List OpKind
+  pub spelled : Spells roms ops ls
+  pub count : length ops ≤ 511
+
+-- line n is the first with which the lines spell nothing
+pub record MeetsSyntax (text : List ℕ) (n : ℕ) : Type 0 where
+  pub before : List (List ℕ)
+  pub line : List ℕ
+  pub reaches : Reaches IsFine text n before line
+  pub wrong : (roms : List RomLine) (ops : List OpKind) → ¬ Spells roms ops (told before ++ line ∷ [])
+
+-- line n is that of operation number 511, which no draft can hold
+pub record MeetsFull (text : List ℕ) (n : ℕ) : Type 0 where
+  pub before : List (List ℕ)
+  pub line : List ℕ
+  pub reaches : Reaches IsFine text n before line
+  pub roms : List RomLine
+  pub ops : List OpKind
+  pub right : Spells roms ops (told before ++ line ∷ [])
+  pub over : 511 < length ops
+
+-- the fault of a draft's text
+abbrev pub HasFault : List ℕ → TextFault → Type 0
+HasFault text TooLong = 1048576 < length text
+HasFault text (Syntax n) = MeetsSyntax text n
+HasFault text (Full n) = MeetsFull text n
+HasFault text _ = ⊥

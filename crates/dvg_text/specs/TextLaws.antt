@@ -1,0 +1,33 @@
+-- Laws of the texts of drafts.
+use Rattle.std.specs.Prelude.{◌≡◌, ◌⊎◌, ℕ, List}
+use Rattle.dvg_frame.specs.declared.op.OpKind.{OpKind}
+use Rattle.dvg_text.specs.declared.fault.TextFault.{TextFault}
+use Rattle.dvg_text.specs.declared.verdict.Verdict.{Verdict}
+use Rattle.dvg_text.specs.DraftReading.{Gives}
+use Rattle.dvg_text.specs.DraftTexts.{Denotes, HasFault}
+use Rattle.dvg_text.specs.RomTexts.{IsRomOf, RomLine}
+use Rattle.dvg_text.specs.Verdicts.{Judges}
+
+-- a text denotes one draft and one list of ROM lines at most
+abbrev pub OneMeaning : Type 0
+OneMeaning = (text : List ℕ) (roms others : List RomLine) (F G : List OpKind) → Denotes text roms F → Denotes text others G → (others ≡ roms) × (G ≡ F)
+
+-- ROM lines give one ROM at most
+abbrev pub OneRom : Type 0
+OneRom = (roms : List RomLine) (R S : List ℕ) → IsRomOf roms R → IsRomOf roms S → S ≡ R
+
+-- a text has one fault at most
+abbrev pub OneTextFault : Type 0
+OneTextFault = (text : List ℕ) (one other : TextFault) → HasFault text one → HasFault text other → other ≡ one
+
+-- each text denotes a draft and a ROM, or has a fault
+abbrev pub IsRead : List ℕ → Type 0
+IsRead text = ((F : List OpKind) × (R : List ℕ) × Gives text F R) ⊎ ((fault : TextFault) × HasFault text fault)
+
+-- a text that denotes something has no fault
+abbrev pub NoFaultBeside : Type 0
+NoFaultBeside = (text : List ℕ) (roms : List RomLine) (F : List OpKind) → Denotes text roms F → (fault : TextFault) → ¬ HasFault text fault
+
+-- of a text one verdict is given at most
+abbrev pub OneVerdict : Type 0
+OneVerdict = (text : List ℕ) (one other : Verdict) → Judges text one → Judges text other → other ≡ one

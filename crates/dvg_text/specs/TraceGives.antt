@@ -1,0 +1,81 @@
+-- What the reader of traces answers.
+use Rattle.std.specs.Prelude.{ℕ, ◌+◌, ◌<◌, ◌≤◌, List, length, Bool, true, false, Option, Some, None}
+use Rattle.dvg_mem.specs.Memory.{IsImage}
+use Rattle.dvg_frame.specs.declared.op.OpKind.{OpKind}
+use Rattle.dvg_world.specs.Events.{Happening}
+use Rattle.dvg_text.specs.declared.fault.TextFault.TheVariants.{Syntax, Full, Many}
+use Rattle.dvg_text.specs.declared.fault.TraceFault.{TraceFault}
+use Rattle.dvg_text.specs.declared.fault.TraceFault.TheVariants.{Text, Memory}
+use Rattle.dvg_text.specs.declared.trace_text.LineFault.{LineFault}
+use Rattle.dvg_text.specs.declared.trace_text.LineFault.TheVariants as line_fault
+use Rattle.dvg_text.specs.declared.trace_text.Reading.{Reading}
+use Rattle.dvg_text.specs.OpLines.{IsOpLine}
+use Rattle.dvg_text.specs.RomTexts.{IsRomOf, RomLine}
+use Rattle.dvg_text.specs.RomWords.{AreAfter}
+use Rattle.dvg_text.specs.TraceReading.{Takes}
+use Rattle.dvg_text.specs.TraceTexts.{DenotesTrace, Fits, HasTraceFault}
+
+-- the text denotes these events and ROM lines that give these bytes
+pub record GivesTrace (text : List ℕ) (events : List Happening) (R : List ℕ) : Type 0 where
+  pub roms : List RomLine
+  pub denotes : DenotesTrace text roms events
+  pub rom : IsRomOf roms R
+
+-- why a trace isn't read: the fault of its text, or want of memory
+abbrev pub StopsReading : TraceFault → List ℕ → Type 0
+StopsReading (Text fault) text = HasTraceFault text fault
+StopsReading Memory text = Unit {0}
+
+-- what a fault of a line is called at the line of this number (this and what follows is for private contracts)
+abbrev pub fault_at : LineFault → ℕ → TraceFault
+fault_at line_fault.Syntax n = Text (Syntax n)
+fault_at line_fault.Full n = Text (Full n)
+fault_at line_fault.Many n = Text (Many n)
+fault_at line_fault.Memory n = Memory
+
+-- the events that were read
+abbrev pub events_of : {A : Type 0} → Reading A → List Happening
+events_of reading = reading.events
+
+-- the operations of the newest offer, where it isn't ended
+abbrev pub opened_by : Bool → List OpKind → Option (List OpKind)
+opened_by true F = Some F
+opened_by false F = None
+
+-- the operations of the offer that isn't ended
+abbrev pub opened_of : {A : Type 0} → Reading A → Option (List OpKind)
+opened_of reading = opened_by reading.is_open reading.draft
+
+-- what was read is within the limits, over a whole ROM
+pub record IsHeld {A : Type 0} (reading : Reading A) : Type 0 where
+  pub fits : Fits (events_of reading) (opened_of reading)
+  pub image : IsImage reading.rom
+
+-- a line more was read, behind ROM lines that gave the bytes before it
+pub record TakesLine (roms : List RomLine) (old : List Happening) (opened : Option (List OpKind)) (line : List ℕ) (new : List Happening) (left : Option (List OpKind)) (S : List ℕ) : Type 0 where
+  pub given : List RomLine
+  pub takes : Takes roms old opened line given new left
+  pub words : AreAfter given S
+
+-- the same, of the reader before the line and behind it
+abbrev pub ReadsLine : {A : Type 0} → Reading A → List ℕ → Reading A → Type 0
+ReadsLine old line new = (roms : List RomLine) → AreAfter roms old.rom → TakesLine roms (events_of old) (opened_of old) line (events_of new) (opened_of new) new.rom
+
+-- why a line more isn't read
+abbrev pub StopsLine : LineFault → List Happening → Option (List OpKind) → List ℕ → Type 0
+StopsLine line_fault.Syntax old opened line = (roms given : List RomLine) (new : List Happening) (left : Option (List OpKind)) → ¬ Takes roms old opened line given new left
+StopsLine line_fault.Full old opened line = (F : List OpKind) × (511 < length F) × ((roms : List RomLine) → Takes roms old opened line roms old (Some F))
+StopsLine line_fault.Many old opened line = (new : List Happening) × (65536 < length new) × ((roms : List RomLine) → Takes roms old opened line roms new None)
+StopsLine line_fault.Memory old opened line = Unit {0}
+
+-- why an operation more isn't read
+abbrev pub StopsOperation : LineFault → List OpKind → List ℕ → Type 0
+StopsOperation line_fault.Syntax F line = (op : OpKind) → ¬ IsOpLine op line
+StopsOperation line_fault.Full F line = (op : OpKind) × (511 ≤ length F) × IsOpLine op line
+StopsOperation _ F line = ⊥
+
+-- why these events more aren't held
+abbrev pub StopsEvents : LineFault → List Happening → List Happening → Type 0
+StopsEvents line_fault.Many old more = 65536 < length old + length more
+StopsEvents line_fault.Memory old more = Unit {0}
+StopsEvents _ old more = ⊥

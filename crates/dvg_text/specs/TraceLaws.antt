@@ -1,0 +1,18 @@
+-- Laws of the texts of traces.
+use Rattle.std.specs.Prelude.{◌≡◌, ℕ, List}
+use Rattle.dvg_world.specs.Events.{Happening}
+use Rattle.dvg_text.specs.declared.fault.TextFault.{TextFault}
+use Rattle.dvg_text.specs.RomTexts.{RomLine}
+use Rattle.dvg_text.specs.TraceTexts.{DenotesTrace, HasTraceFault}
+
+-- a text denotes one list of events and one list of ROM lines at most
+abbrev pub OneTraceMeaning : Type 0
+OneTraceMeaning = (text : List ℕ) (roms others : List RomLine) (one other : List Happening) → DenotesTrace text roms one → DenotesTrace text others other → (others ≡ roms) × (other ≡ one)
+
+-- a text of a trace has one fault at most
+abbrev pub OneTraceFault : Type 0
+OneTraceFault = (text : List ℕ) (one other : TextFault) → HasTraceFault text one → HasTraceFault text other → other ≡ one
+
+-- a text that denotes events has no fault
+abbrev pub NoFaultBesideTrace : Type 0
+NoFaultBesideTrace = (text : List ℕ) (roms : List RomLine) (events : List Happening) → DenotesTrace text roms events → (fault : TextFault) → ¬ HasTraceFault text fault

@@ -1,0 +1,124 @@
+//! Lines that spell events by themselves.
+ghost use Rattle.std.specs.Prelude.{◌≡◌, ◌↔◌, ℕ, ◌≤◌, List, [], ◌∷◌, decimal, length, IfSome, IsSomeAnd, IsTrue, Some};
+ghost use Rattle.dvg_world.specs.Events.{Happening};
+ghost use Rattle.dvg_text.specs.LineParts.{bytes_of};
+ghost use Rattle.dvg_text.specs.Texts.{IsHex, parts};
+ghost use Rattle.dvg_text.specs.EventLines.{IsCounted, happenings, name_of};
+ghost use Rattle.dvg_text.specs.declared.event_line.BareEvent.{BareEvent};
+ghost use Rattle.dvg_text.specs.TraceTexts.{EventParts};
+
+use crate::line_parts::parts_of;
+use crate::number::{hex, natural};
+
+/// The most events of one line.
+const MAX_TIMES: u16 = 9999;
+
+/// An event that its name tells whole.
+#[derive(Clone, Copy, Debug, PartialEq, Eq)]
+pub enum BareEvent {
+    /// `redraw`
+    Redraw,
+    /// `tick`
+    Tick,
+    /// `strobe`
+    Strobe,
+    /// `fetch`
+    Fetch,
+    /// `resetgen`
+    ResetGen,
+    /// `resetcpu`
+    ResetCpu,
+}
+
+/// The events of a line.
+#[derive(Clone, Copy, Debug, PartialEq, Eq)]
+pub enum EventLine {
+    /// One event, so many times in a row.
+    Times(BareEvent, u16),
+    /// One reset of the whole system, behind which each byte of the RAM is this one.
+    ResetAll(u8),
+}
+
+/// The events that a line spells by itself. None exactly where it spells none.
+pub fn read_event_line(line: &[u8]) -> Option<EventLine>
+    ensures found { IfSome result (λ told. EventParts (happenings told) (parts line.now)) }
+    ensures only { (events : List Happening) → EventParts events (parts line.now) → IsSomeAnd result (λ told. happenings told ≡ events) }
+{
+    let parts = parts_of(line)?;
+    match parts.as_slice() {
+        [name] => once(name),
+        [name, operand] => with_operand(name, operand),
+        _ => None,
+    }
+}
+
+// The event of a name alone.
+fn once(name: &[u8]) -> Option<EventLine>
+    ensures found { IfSome result (λ told. EventParts (happenings told) (name.now ∷ [])) }
+    ensures only { (events : List Happening) → EventParts events (name.now ∷ []) → IsSomeAnd result (λ told. happenings told ≡ events) }
+{
+    Some(EventLine::Times(event_named(name)?, 1))
+}
+
+// The events of a name and its operand.
+fn with_operand(name: &[u8], operand: &[u8]) -> Option<EventLine>
+    ensures found { IfSome result (λ told. EventParts (happenings told) (name.now ∷ operand.now ∷ [])) }
+    ensures only { (events : List Happening) → EventParts events (name.now ∷ operand.now ∷ []) → IsSomeAnd result (λ told. happenings told ≡ events) }
+{
+    if name == b"resetall".as_slice() {
+        return Some(EventLine::ResetAll(byte(operand)?));
+    }
+    let event = event_named(name)?;
+    if !is_counted(event) {
+        return None;
+    }
+    Some(EventLine::Times(event, times(operand)?))
+}
+
+// The event of this name.
+fn event_named(name: &[u8]) -> Option<BareEvent>
+    ensures found { IfSome result (λ event. name.now ≡ name_of event) }
+    ensures only { (event : BareEvent) → name.now ≡ name_of event → result ≡ Some event }
+{
+    match name {
+        b"redraw" => Some(BareEvent::Redraw),
+        b"tick" => Some(BareEvent::Tick),
+        b"strobe" => Some(BareEvent::Strobe),
+        b"fetch" => Some(BareEvent::Fetch),
+        b"resetgen" => Some(BareEvent::ResetGen),
+        b"resetcpu" => Some(BareEvent::ResetCpu),
+        _ => None,
+    }
+}
+
+// Whether a count may follow an event's name.
+fn is_counted(event: BareEvent) -> bool
+    ensures { IsTrue result ↔ IsCounted event }
+{
+    matches!(
+        event,
+        BareEvent::Tick | BareEvent::Strobe | BareEvent::Fetch
+    )
+}
+
+// How many times, 1 to 9,999.
+fn times(count: &[u8]) -> Option<u16>
+    ensures found { IfSome result (λ n. count.now ≡ decimal n) }
+    ensures least { IfSome result (λ n. 1 ≤ n) }
+    ensures most { IfSome result (λ n. n ≤ 9999) }
+    ensures only { (n : ℕ) → 1 ≤ n → n ≤ 9999 → count.now ≡ decimal n → result ≡ Some n }
+{
+    let count = natural(count)?;
+    if count == 0 || count > MAX_TIMES {
+        return None;
+    }
+    Some(count)
+}
+
+// A byte of two hexadecimal digits.
+fn byte(digits: &[u8]) -> Option<u8>
+    ensures found { IfSome result (λ n. IsHex 2 n digits.now) }
+    ensures only { (n : ℕ) → IsHex 2 n digits.now → result ≡ Some n }
+{
+    u8::try_from(hex(digits, 2)?).ok()
+}

@@ -1,0 +1,54 @@
+//! Laws of the texts of drafts and of traces. Each is the contract of a function that does nothing, but one, which
+//! reads the text.
+ghost use Rattle.dvg_text.specs.TraceLaws.{NoFaultBesideTrace, OneTraceFault, OneTraceMeaning};
+ghost use Rattle.dvg_text.specs.TextLaws.{IsRead, NoFaultBeside, OneMeaning, OneRom, OneTextFault, OneVerdict};
+
+use crate::draft_text::read_draft;
+
+/// A text denotes one draft, and one list of ROM lines, at most.
+pub fn one_meaning()
+    ensures { OneMeaning }
+{}
+
+/// ROM lines give one ROM at most.
+pub fn one_rom()
+    ensures { OneRom }
+{}
+
+/// A text has one fault at most.
+pub fn one_text_fault()
+    ensures { OneTextFault }
+{}
+
+/// Each text denotes a draft and a ROM, or has a fault. That one of them holds shows by what the reader
+/// of texts itself answers.
+pub fn each_is_read(text: &[u8])
+    ensures { IsRead text.now }
+{
+    let _answer = read_draft(text);
+}
+
+/// A text that denotes a draft has no fault.
+pub fn no_fault_beside()
+    ensures { NoFaultBeside }
+{}
+
+/// Of a text one verdict is given at most.
+pub fn one_verdict()
+    ensures { OneVerdict }
+{}
+
+/// The text of a trace denotes one list of events, and one list of ROM lines, at most.
+pub fn one_trace_meaning()
+    ensures { OneTraceMeaning }
+{}
+
+/// The text of a trace has one fault at most.
+pub fn one_trace_fault()
+    ensures { OneTraceFault }
+{}
+
+/// The text of a trace that denotes events has no fault.
+pub fn no_fault_beside_trace()
+    ensures { NoFaultBesideTrace }
+{}

@@ -1,0 +1,206 @@
+//! Lines of what a log shows.
+ghost use Rattle.std.specs.Prelude.{◌≡◌, ◌≤◌, ◌+◌, ◌++◌, ◌∷◌, [], ℕ, length, codes, decimal};
+ghost use Rattle.dvg_world.specs.Entries.{shown_of};
+ghost use Rattle.dvg_text.specs.Lines.{hex_3, hex_4, spaced};
+ghost use Rattle.dvg_text.specs.Shows.{action_parts, entry_line, entry_parts, fault_number, stroke_line};
+
+use crate::line::Line;
+use dvg_driver::Action;
+use dvg_gen::{GenFault, Stroke};
+use dvg_world::Entry;
+use std::alloc::Allocator;
+
+// The number of a generator's fault.
+fn number_of(fault: GenFault) -> u8
+    ensures { result ≡ fault_number fault }
+{
+    match fault {
+        GenFault::StackOver => 1,
+        GenFault::StackUnder => 2,
+        GenFault::Hole => 3,
+    }
+}
+
+impl Line {
+    // Appends what an action did.
+    fn action(&mut self, action: Action)
+        requires { length self.old + 13 ≤ 64 }
+        ensures text { self.new ≡ self.old ++ spaced (action_parts action) }
+        ensures grew { length self.new ≤ length self.old + 13 }
+    {
+        match action {
+            Action::Peek => self.part(b"peek"),
+            Action::Wrote(address, byte) => {
+                self.with_address(b"wrote", address);
+                self.hex_2(byte);
+            }
+            Action::Read(true) => self.part(b"read halted"),
+            Action::Read(false) => self.part(b"read running"),
+            Action::Sent => self.part(b"sent"),
+            Action::Idle => self.part(b"idle"),
+        }
+    }
+
+    // Appends what a fetch led to, its word address, and the word there.
+    fn fetched(&mut self, name: &[u8], address: u16, word: u16)
+        requires { length self.old + length name.now + 10 ≤ 64 }
+        ensures text { self.new ≡ self.old ++ spaced (name.now ∷ hex_3 address ∷ hex_4 word ∷ []) }
+        ensures grew { length self.new ≡ length self.old + length name.now + 10 }
+    {
+        self.with_address(name, address);
+        self.hex_4(word);
+    }
+
+    // Appends what an event led to.
+    fn entry<A: Allocator>(&mut self, entry: &Entry<A>)
+        requires { length self.old + 36 ≤ 64 }
+        ensures text { self.new ≡ self.old ++ spaced (entry_parts (shown_of entry.now)) }
+        ensures grew { length self.new ≤ length self.old + 36 }
+    {
+        match entry {
+            Entry::Offered => self.part(b"offered"),
+            Entry::Refused(fault) => {
+                self.part(b"refused");
+                self.fault(*fault);
+            }
+            Entry::Busy => self.part(b"busy"),
+            Entry::Asked => self.part(b"asked"),
+            Entry::NothingPublished => self.part(b"nothing published"),
+            Entry::Acted(action) => self.action(*action),
+            Entry::Started => self.part(b"started"),
+            Entry::NoStrobe => self.part(b"no strobe"),
+            Entry::Low(address, byte) => {
+                self.with_address(b"low", *address);
+                self.hex_2(*byte);
+            }
+            Entry::Fetched(address, word) => self.fetched(b"fetched", *address, *word),
+            Entry::Done(address, word, strokes) => {
+                self.fetched(b"done", *address, *word);
+                self.number(strokes.len());
+            }
+            Entry::Broke(address, fault) => {
+                self.with_address(b"broke", *address);
+                self.number(number_of(*fault));
+            }
+            Entry::Still => self.part(b"still"),
+            Entry::Cleared => self.part(b"cleared"),
+        }
+    }
+
+    /// Becomes the line that `play --all` writes of an event's entry.
+    pub fn become_entry<A: Allocator>(&mut self, number: usize, entry: &Entry<A>)
+        ensures { self.new ≡ entry_line number (shown_of entry.now) }
+    {
+        self.become_number(number);
+        self.entry(entry);
+        self.text(b"\n");
+    }
+
+    /// Becomes the line of a picture of so many strokes, by the number of the event that finished it.
+    pub fn become_picture(&mut self, number: usize, strokes: usize)
+        ensures { self.new ≡ codes "picture" ++ spaced (decimal number ∷ decimal strokes ∷ []) ++ 10 ∷ [] }
+    {
+        self.clear();
+        self.text(b"picture");
+        self.number(number);
+        self.number(strokes);
+        self.text(b"\n");
+    }
+
+    /// Becomes the line of a stroke.
+    pub fn become_stroke(&mut self, stroke: Stroke)
+        ensures { self.new ≡ stroke_line stroke }
+    {
+        self.become_number(stroke.x0);
+        self.number(stroke.y0);
+        self.number(stroke.x1);
+        self.number(stroke.y1);
+        self.number(stroke.z);
+        self.text(b"\n");
+    }
+}
+
+#[cfg(test)]
+mod tests {
+    use super::*;
+    use dvg_frame::{FrameFault, Place};
+    use std::alloc::Global;
+
+    // The line of an entry is this one.
+    fn shows(number: usize, entry: &Entry<Global>, text: &[u8]) -> bool {
+        let mut line = Line::new();
+        line.become_entry(number, entry);
+        line.as_bytes() == text
+    }
+
+    #[test]
+    fn each_entry_has_a_line(rt: HostRuntime) {
+        let strokes = Vec::new(rt.alloc());
+        assert!(rt; shows(0, &Entry::Acted(Action::Peek), b"0 peek\n"));
+        assert!(rt; shows(1, &Entry::Acted(Action::Read(true)), b"1 read halted\n"));
+        assert!(rt; shows(38, &Entry::Acted(Action::Read(false)), b"38 read running\n"));
+        assert!(rt; shows(2, &Entry::Offered, b"2 offered\n"));
+        assert!(rt;
+            shows(
+                4,
+                &Entry::Acted(Action::Wrote(0x403, 0xA1)),
+                b"4 wrote 403 A1\n"
+            )
+        );
+        assert!(rt; shows(16, &Entry::Acted(Action::Sent), b"16 sent\n"));
+        assert!(rt; shows(48, &Entry::Acted(Action::Idle), b"48 idle\n"));
+        assert!(rt; shows(17, &Entry::Started, b"17 started\n"));
+        assert!(rt; shows(0, &Entry::NoStrobe, b"0 no strobe\n"));
+        assert!(rt; shows(18, &Entry::Low(0x000, 0x01), b"18 low 000 01\n"));
+        assert!(rt; shows(19, &Entry::Fetched(0x000, 0xE201), b"19 fetched 000 E201\n"));
+        assert!(rt;
+            shows(
+                23,
+                &Entry::Done(0x205, 0xB000, strokes),
+                b"23 done 205 B000 0\n"
+            )
+        );
+        assert!(rt;
+            shows(
+                65535,
+                &Entry::Broke(0xFFF, GenFault::Hole),
+                b"65535 broke FFF 3\n"
+            )
+        );
+        assert!(rt; shows(1, &Entry::Still, b"1 still\n"));
+        assert!(rt; shows(38, &Entry::Cleared, b"38 cleared\n"));
+        assert!(rt; shows(3, &Entry::Busy, b"3 busy\n"));
+        assert!(rt; shows(3, &Entry::Asked, b"3 asked\n"));
+        assert!(rt; shows(2, &Entry::NothingPublished, b"2 nothing published\n"));
+        let fault = FrameFault::OutOfRom(Place::InRom(0x800));
+        assert!(rt;
+            shows(
+                7,
+                &Entry::Refused(fault),
+                b"7 refused 6 out of rom word 800\n"
+            )
+        );
+        assert!(rt;
+            shows(
+                0,
+                &Entry::Refused(FrameFault::Loops),
+                b"0 refused 9 loops\n"
+            )
+        );
+    }
+
+    #[test]
+    fn strokes_and_pictures_have_lines(rt: HostRuntime) {
+        let mut line = Line::new();
+        line.become_picture(23, 1);
+        assert!(rt; line.as_bytes() == b"picture 23 1\n".as_slice());
+        line.become_stroke(Stroke {
+            x0: 262_144,
+            y0: 204_800,
+            x1: 210_944,
+            y1: 256_000,
+            z: 7,
+        });
+        assert!(rt; line.as_bytes() == b"262144 204800 210944 256000 7\n".as_slice());
+    }
+}

@@ -1,0 +1,79 @@
+//! Numbers in a line of a text.
+ghost use Rattle.std.specs.Prelude.{◌≡◌, ◌<◌, ◌≤◌, ◌^◌, ℕ, ℤ, IfSome, Some, length, decimal, unsigned_abs};
+ghost use Rattle.std.specs.Fmt.{signed_decimal};
+ghost use Rattle.std.specs.Str.Parse.{AllDigits, digits_value};
+ghost use Rattle.dvg_text.specs.Texts.{IsHex};
+
+/// The most decimal digits of a number of 16 bits.
+const MAX_DIGITS: usize = 5;
+
+// The number that decimal digits spell. None where another byte is among them.
+fn natural_value(digits: &[u8]) -> Option<u32>
+    requires { length digits.now ≤ 5 }
+    ensures found { IfSome result (λ n. AllDigits 10 digits.now × (digits_value 10 digits.now ≡ n)) }
+    ensures only { AllDigits 10 digits.now → result ≡ Some (digits_value 10 digits.now) }
+{
+    let mut number = 0;
+    for digit in digits {
+        if !digit.is_ascii_digit() {
+            return None;
+        }
+        number = 10 * number + u32::from(*digit - b'0');
+    }
+    Some(number)
+}
+
+/// A decimal number of at most 16 bits, without a sign and without leading zeros.
+pub fn natural(part: &[u8]) -> Option<u16>
+    ensures found { IfSome result (λ n. part.now ≡ decimal n) }
+    ensures only { (n : ℕ) → n < 2 ^ 16 → part.now ≡ decimal n → result ≡ Some n }
+{
+    let first = *part.first()?;
+    if part.len() > MAX_DIGITS || (first == b'0' && part.len() > 1) {
+        return None;
+    }
+    u16::try_from(natural_value(part)?).ok()
+}
+
+/// A decimal number of at most 8 bits, without a sign and without leading zeros.
+pub fn small_natural(part: &[u8]) -> Option<u8>
+    ensures found { IfSome result (λ n. part.now ≡ decimal n) }
+    ensures only { (n : ℕ) → n < 2 ^ 8 → part.now ≡ decimal n → result ≡ Some n }
+{
+    u8::try_from(natural(part)?).ok()
+}
+
+/// A decimal number from -32,767 to 32,767, without leading zeros, with `-` before it exactly where it
+/// is negative.
+pub fn integer(part: &[u8]) -> Option<i16>
+    ensures found { IfSome result (λ n. part.now ≡ signed_decimal n) }
+    ensures only { (n : ℤ) → unsigned_abs n < 2 ^ 15 → part.now ≡ signed_decimal n → result ≡ Some n }
+{
+    let (first, digits) = part.split_first()?;
+    if *first != b'-' {
+        return i16::try_from(natural(part)?).ok();
+    }
+    let size = i16::try_from(natural(digits)?).ok()?;
+    if size > 0 { Some(-size) } else { None }
+}
+
+/// The same, from -128 to 127.
+pub fn small_integer(part: &[u8]) -> Option<i8>
+    ensures found { IfSome result (λ n. part.now ≡ signed_decimal n) }
+    ensures only { (n : ℤ) → unsigned_abs n < 2 ^ 7 → part.now ≡ signed_decimal n → result ≡ Some n }
+{
+    i8::try_from(integer(part)?).ok()
+}
+
+/// A number of exactly so many hexadecimal digits, at most four, of either case.
+pub fn hex(part: &[u8], count: usize) -> Option<u16>
+    requires some { 0 < count }
+    requires most { count ≤ 4 }
+    ensures found { IfSome result (λ n. IsHex count n part.now) }
+    ensures only { (n : ℕ) → IsHex count n part.now → result ≡ Some n }
+{
+    if part.len() != count || part[0] == b'+' {
+        return None;
+    }
+    u16::from_str_radix(str::from_utf8(part).ok()?, 16).ok()
+}

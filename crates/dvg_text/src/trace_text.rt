@@ -1,0 +1,262 @@
+//! Texts of traces.
+ghost use Rattle.std.specs.Prelude.{◌≡◌, ◌+◌, ◌^◌, ◌<◌, ◌≤◌, ◌∷◌, [], ◌++◌, ℕ, List, codes, length, replicate, IfErr, IfOk, IsFalse, IsTrue, OnOk};
+ghost use Rattle.dvg_frame.specs.declared.op.OpKind.{OpKind};
+ghost use Rattle.dvg_text.specs.EventLines.{event_of, happenings};
+ghost use Rattle.dvg_text.specs.OpLines.{IsOpLine};
+ghost use Rattle.dvg_text.specs.TraceGives.{GivesTrace, IsHeld, ReadsLine, StopsEvents, StopsLine, StopsOperation, StopsReading, events_of, fault_at, opened_of};
+ghost use Rattle.dvg_world.specs.Events.{happening_of};
+
+use crate::draft_text::MOST_TEXT_BYTES;
+use crate::event_line::{BareEvent, EventLine, read_event_line};
+use crate::fault::{TextFault, TraceFault};
+use crate::op_line::read_op;
+use crate::rom_line::{read_rom_line, ungiven_rom};
+use crate::text_lines::{TextLines, is_passed};
+use dvg_code::OutOfMemory;
+use dvg_frame::Draft;
+use dvg_mem::{Image, MEMORY_BYTES};
+use dvg_world::{Event, MOST_EVENTS, Trace};
+use std::alloc::{Allocator, Global};
+
+#[cfg(test)]
+mod tests;
+
+/// What the text of a trace denotes.
+#[derive(Drop)]
+pub struct TraceText<A: Allocator = Global> {
+    /// Its events, in order.
+    pub events: Trace<A>,
+    /// The bytes of the ROM: the words that its ROM lines give, and D000, an RTSL, for each other.
+    pub rom: [u8; MEMORY_BYTES],
+}
+
+/// Reads the text of a trace, in one pass over its lines (the format is this project's own choice).
+///
+/// - `TooLong`: the text has more than 1,048,576 bytes. This is decided before all others.
+/// - `Syntax`: this line is the first that spells nothing that may stand at its place.
+/// - `Full`: this line spells operation number 511 of its offer, the lines before it being without fault.
+/// - `Many`: this line brings the number of events above 65,536, the lines before it being without
+///   fault. An offer is an event with its `end`.
+/// - `Unended`: no line is at fault, and the text ends inside an offer.
+/// - `Memory`: a growth was refused.
+pub fn read_trace<A: Allocator + Copy>(alloc: A, text: &[u8]) -> Result<TraceText<A>, TraceFault>
+    ensures gives { IfOk result (λ told. GivesTrace text.now told.events told.rom) }
+    ensures fault { IfErr result (λ fault. StopsReading fault text.now) }
+{
+    if text.len() > MOST_TEXT_BYTES {
+        return Err(TraceFault::Text(TextFault::TooLong));
+    }
+    let mut reading = Reading {
+        alloc,
+        rom: ungiven_rom(),
+        events: Trace::new(alloc),
+        draft: Draft::new(),
+        is_open: false,
+    };
+    let mut number = 0;
+    for line in TextLines::new(text) {
+        number += 1;
+        if is_passed(line) {
+            continue;
+        }
+        match reading.take(line) {
+            Ok(()) => {}
+            Err(fault) => return Err(at_line(fault, number)),
+        }
+    }
+    if reading.is_open {
+        return Err(TraceFault::Text(TextFault::Unended));
+    }
+    Ok(TraceText {
+        events: reading.events,
+        rom: reading.rom,
+    })
+}
+
+// Why a line was not taken.
+#[derive(Clone, Copy, Debug, PartialEq, Eq)]
+enum LineFault {
+    // It spells nothing that may stand at its place.
+    Syntax,
+    // The draft of the offer has its 511 operations already.
+    Full,
+    // There would be more events than a trace has.
+    Many,
+    // A growth was refused.
+    Memory,
+}
+
+// The same, as the fault of the line of this number.
+fn at_line(fault: LineFault, number: usize) -> TraceFault
+    ensures { result ≡ fault_at fault number }
+{
+    match fault {
+        LineFault::Syntax => TraceFault::Text(TextFault::Syntax(number)),
+        LineFault::Full => TraceFault::Text(TextFault::Full(number)),
+        LineFault::Many => TraceFault::Text(TextFault::Many(number)),
+        LineFault::Memory => TraceFault::Memory,
+    }
+}
+
+// What was read of a trace's text. After a fault it is read no further.
+#[derive(Drop)]
+struct Reading<A: Allocator> {
+    alloc: A,
+    rom: [u8; MEMORY_BYTES],
+    events: Trace<A>,
+    // The draft of the newest offer.
+    draft: Draft,
+    // Whether that offer isn't ended.
+    is_open: bool,
+}
+
+impl<A: Allocator + Copy> Reading<A> {
+    // Reads one line more, which isn't passed over.
+    fn take(&mut self, line: &[u8]) -> Result<(), LineFault>
+        requires held { IsHeld self.old }
+        ensures taken { OnOk result (ReadsLine self.old line.now self.new) }
+        ensures held { OnOk result (IsHeld self.new) }
+        ensures fault { IfErr result (λ fault. StopsLine fault (events_of self.old) (opened_of self.old) line.now) }
+    {
+        if !self.is_open {
+            return self.take_outside(line);
+        }
+        if line == b"end".as_slice() {
+            return self.end_offer();
+        }
+        add_op(&mut self.draft, line)
+    }
+
+    // Reads one line more where no offer is open.
+    fn take_outside(&mut self, line: &[u8]) -> Result<(), LineFault>
+        requires outside { IsFalse self.old.is_open }
+        requires held { IsHeld self.old }
+        ensures taken { OnOk result (ReadsLine self.old line.now self.new) }
+        ensures held { OnOk result (IsHeld self.new) }
+        ensures fault { IfErr result (λ fault. StopsLine fault (events_of self.old) (opened_of self.old) line.now) }
+    {
+        if line == b"offer".as_slice() {
+            self.draft.clear();
+            self.is_open = true;
+            return Ok(());
+        }
+        if let Some(told) = read_event_line(line) {
+            return add_events(self.alloc, told, &mut self.events);
+        }
+        if !self.events.is_empty() {
+            return Err(LineFault::Syntax);
+        }
+        let Some(given) = read_rom_line(line) else {
+            return Err(LineFault::Syntax);
+        };
+        given.put(&mut self.rom);
+        Ok(())
+    }
+
+    // Ends the offer that is open.
+    fn end_offer(&mut self) -> Result<(), LineFault>
+        requires inside { IsTrue self.old.is_open }
+        requires held { IsHeld self.old }
+        ensures taken { OnOk result (ReadsLine self.old (codes "end") self.new) }
+        ensures held { OnOk result (IsHeld self.new) }
+        ensures fault { IfErr result (λ fault. StopsLine fault (events_of self.old) (opened_of self.old) (codes "end")) }
+    {
+        if self.events.len() == MOST_EVENTS {
+            return Err(LineFault::Many);
+        }
+        if self.events.push_offer(&self.draft).is_err() {
+            return Err(LineFault::Memory);
+        }
+        self.is_open = false;
+        Ok(())
+    }
+}
+
+// Adds the operation that a line spells.
+fn add_op(draft: &mut Draft, line: &[u8]) -> Result<(), LineFault>
+    ensures added { OnOk result ((op : OpKind) × IsOpLine op line.now × (draft.new ≡ draft.old ++ op ∷ [])) }
+    ensures room { OnOk result (length draft.old < 511) }
+    ensures fault { IfErr result (λ fault. StopsOperation fault draft.old line.now) }
+{
+    let Some(op) = read_op(line) else {
+        return Err(LineFault::Syntax);
+    };
+    match draft.push(op) {
+        Ok(_) => Ok(()),
+        Err(_) => Err(LineFault::Full),
+    }
+}
+
+// Adds the events of a line.
+fn add_events<A: Allocator>(
+    alloc: A,
+    told: EventLine,
+    events: &mut Trace<A>,
+) -> Result<(), LineFault>
+    ensures added { OnOk result (events.new ≡ events.old ++ happenings told) }
+    ensures room { OnOk result (length events.new ≤ 65536) }
+    ensures fault { IfErr result (λ fault. StopsEvents fault events.old (happenings told)) }
+{
+    if events.len() + count(told) > MOST_EVENTS {
+        return Err(LineFault::Many);
+    }
+    let added = match told {
+        EventLine::Times(event, count) => add_times(event, count, events),
+        EventLine::ResetAll(byte) => add_reset(alloc, byte, events),
+    };
+    if added.is_err() {
+        return Err(LineFault::Memory);
+    }
+    Ok(())
+}
+
+// How many events a line has.
+fn count(told: EventLine) -> usize
+    ensures value { result ≡ length (happenings told) }
+    ensures bound { result < 2 ^ 16 }
+{
+    match told {
+        EventLine::Times(_, count) => usize::from(count),
+        EventLine::ResetAll(_) => 1,
+    }
+}
+
+// Adds an event, so many times in a row.
+fn add_times<A: Allocator>(
+    event: BareEvent,
+    count: u16,
+    events: &mut Trace<A>,
+) -> Result<(), OutOfMemory>
+    requires { length events.old + count ≤ 65536 }
+    ensures { OnOk result (events.new ≡ events.old ++ replicate count (event_of event)) }
+{
+    for _time in 0..count {
+        events.push(one(event))?;
+    }
+    Ok(())
+}
+
+// The event itself.
+fn one<A: Allocator>(event: BareEvent) -> Event<A>
+    ensures { happening_of result ≡ event_of event }
+{
+    match event {
+        BareEvent::Redraw => Event::Redraw,
+        BareEvent::Tick => Event::Tick,
+        BareEvent::Strobe => Event::Strobe,
+        BareEvent::Fetch => Event::Fetch,
+        BareEvent::ResetGen => Event::ResetGen,
+        BareEvent::ResetCpu => Event::ResetCpu,
+    }
+}
+
+// Adds a reset of the whole system, behind which each byte is this one.
+fn add_reset<A: Allocator>(alloc: A, byte: u8, events: &mut Trace<A>) -> Result<(), OutOfMemory>
+    requires { length events.old < 65536 }
+    ensures { OnOk result (events.new ≡ events.old ++ happenings (EventLine.ResetAll byte)) }
+{
+    let Ok(image) = Image::new(alloc, &[byte; MEMORY_BYTES]) else {
+        return Err(OutOfMemory);
+    };
+    events.push(Event::ResetAll(image))
+}

@@ -1,5 +1,0 @@
-use Rattle.dvg_tool.proofs.OneMeaning.{one_meaning}
-use Rattle.dvg_tool.proofs.laws.one_meaning.Goals as goal
-
-pub returns : goal.returns
-returns c = one_meaning
