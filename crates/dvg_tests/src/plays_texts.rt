@@ -1,7 +1,8 @@
 //! The engine `play`: texts of traces that are at fault, and the longest ones that are read.
 use crate::devices::Endless;
 use crate::traces::{FIRST_PICTURE, first_picture_shown, played, text_of};
-use dvg_tool::{MOST_EVENTS, MOST_TEXT_BYTES, TextFault, ToolFault, Watched, play, read_trace};
+use dvg_text::{MOST_EVENTS, MOST_TEXT_BYTES, TextFault, read_trace};
+use dvg_tool::{ToolFault, Watched, play};
 use dvg_world::TraceEvent;
 use std::alloc::Global;
 use std::test::Fail;
