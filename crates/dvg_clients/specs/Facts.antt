@@ -1,0 +1,58 @@
+-- What the clients' facts speak of.
+use Rattle.std.specs.Prelude.{ℕ, List, [], ◌∷◌, ◌++◌, true, pos, negsuc, codes, decimal, replicate}
+use Rattle.dvg_code.specs.declared.instr.Instr.{Instr}
+use Rattle.dvg_code.specs.declared.instr.Instr.TheVariants.{Vctr, Labs}
+use Rattle.dvg_frame.specs.declared.op.OpKind.{OpKind}
+use Rattle.dvg_frame.specs.declared.op.OpKind.TheVariants.{Draw, Halt}
+use Rattle.dvg_driver.specs.declared.action.Action.TheVariants.{Peek, Read, Wrote, Sent}
+use Rattle.dvg_text.specs.Lines.{spaced}
+use Rattle.dvg_world.specs.Events.{Happening, Tick, Offer, Strobe, Fetch}
+use Rattle.dvg_world.specs.Entries.{Shown, Acted, Offered, Started, Low, Fetched, Done}
+
+-- VCTR 9 -100 100 7
+abbrev pub long_vector : Instr
+long_vector = Vctr 9 (negsuc 99) (pos 100) 7
+
+-- labs 512 400 0; halt
+abbrev pub blank_frame : List OpKind
+blank_frame = Draw (Labs 512 400 0) ∷ Halt ∷ []
+
+-- labs 512 400 0; vctr 9 -100 100 7; halt
+abbrev pub vector_frame : List OpKind
+vector_frame = Draw (Labs 512 400 0) ∷ Draw long_vector ∷ Halt ∷ []
+
+-- the bytes of a memory of zeros
+abbrev pub zeros : List ℕ
+zeros = replicate 2048 0
+
+abbrev pub one_tick : List Happening
+one_tick = Tick ∷ []
+
+abbrev pub two_ticks : List Happening
+two_ticks = Tick ∷ Tick ∷ []
+
+-- the entries of two ticks: the peek, and a read of the HALT flag, by which the generator is halted
+abbrev pub two_ticks_shown : List Shown
+two_ticks_shown = Acted Peek ∷ Acted (Read true) ∷ []
+
+-- the text of one tick, without a line end
+abbrev pub tick_text : List ℕ
+tick_text = codes "tick"
+
+-- the line `0 peek`
+abbrev pub peek_line : List ℕ
+peek_line = decimal 0 ++ spaced (codes "peek" ∷ []) ++ 10 ∷ []
+
+-- tick 2; offer the frame of one vector; tick 14; strobe; fetch 12
+abbrev pub first_picture_events : List Happening
+first_picture_events = Tick ∷ Tick ∷ Offer vector_frame ∷ replicate 14 Tick ++ Strobe ∷ replicate 12 Fetch
+
+-- their entries, of which the last one has the picture
+abbrev pub first_picture : List Shown
+first_picture = Acted Peek ∷ Acted (Read true) ∷ Offered
+    ∷ Acted (Wrote 0x402 0x90) ∷ Acted (Wrote 0x403 0xA1) ∷ Acted (Wrote 0x404 0x00) ∷ Acted (Wrote 0x405 0x02) ∷ Acted (Wrote 0x406 0x64)
+    ∷ Acted (Wrote 0x407 0x90) ∷ Acted (Wrote 0x408 0x64) ∷ Acted (Wrote 0x409 0x74) ∷ Acted (Wrote 0x40A 0x00) ∷ Acted (Wrote 0x40B 0xB0)
+    ∷ Acted (Wrote 0x000 0x01) ∷ Acted (Wrote 0x001 0xE2) ∷ Acted (Read true) ∷ Acted Sent ∷ Started
+    ∷ Low 0x000 0x01 ∷ Fetched 0x000 0xE201 ∷ Low 0x201 0x90 ∷ Fetched 0x201 0xA190 ∷ Low 0x202 0x00 ∷ Fetched 0x202 0x0200
+    ∷ Low 0x203 0x64 ∷ Fetched 0x203 0x9064 ∷ Low 0x204 0x64 ∷ Fetched 0x204 0x7464
+    ∷ Low 0x205 0x00 ∷ Done 0x205 0xB000 (record { x0 = 262144; y0 = 204800; x1 = 210944; y1 = 256000; z = 7 } ∷ []) ∷ []

@@ -1,0 +1,15 @@
+//! What follows from the contract of `job`.
+ghost use Rattle.std.specs.Prelude.{◌≡◌, IfOk, true};
+
+use clap::Error;
+use dvg_words::laws::job_words;
+use dvg_words::{Job, job};
+use std::alloc::Global;
+
+/// The words `dvg play --all` ask for `play` of each entry.
+pub fn asks_for_each_entry(alloc: Global) -> Result<Job, Error>
+    ensures { IfOk result (λ job. job ≡ Job.Play true) }
+{
+    job_words();
+    job(alloc, &["dvg", "play", "--all"])
+}

@@ -1,0 +1,33 @@
+//! What follows from the contracts of `Driver`.
+ghost use Rattle.std.specs.Prelude.{◌≡◌, Some, true};
+ghost use Rattle.dvg_clients.specs.Facts.{blank_frame};
+
+use dvg_driver::{Action, Driver};
+use dvg_frame::Checked;
+
+/// A driver begins with its peek, and then reads the HALT flag.
+pub fn first_ticks() -> (Action, Action)
+    ensures { result ≡ (Action.Peek, Action.Read true) }
+{
+    let mut driver = Driver::new();
+    let first = driver.tick(false, 0);
+    let second = driver.tick(true, 0);
+    (first, second)
+}
+
+/// The first frame that is offered after the boot is taken, and the next one is not; its first byte goes to 402.
+pub fn first_write(checked: &Checked) -> Option<Action>
+    requires { checked.now.operations ≡ blank_frame }
+    ensures { result ≡ Some (Action.Wrote 0x402 0x90) }
+{
+    let mut driver = Driver::new();
+    let _ = driver.tick(false, 0);
+    let _ = driver.tick(true, 0);
+    match driver.offer_checked(checked) {
+        Ok(()) => match driver.offer_checked(checked) {
+            Ok(()) => None,
+            Err(_) => Some(driver.tick(false, 0)),
+        },
+        Err(_) => None,
+    }
+}
