@@ -21,6 +21,16 @@ pub drawn_leads : (log : Log) (half : Half) → IsBeingDrawn log half → (fetch
 drawn_leads log half drawn =
     (drawn.later ++ (0, 0xE000 + drawn.target) ∷ [], drawn.fetches, leads (drawn.later ++ (0, 0xE000 + drawn.target) ∷ []) drawn.later drawn.target half refl drawn.in_half)
 
+-- a run that leads to a half is drawing it
+pub drawing : (log : Log) (half : Half) (fetches : List (ℕ × ℕ)) → open_run log ≡ Some fetches → LeadsTo fetches half → IsBeingDrawn log half
+drawing log half fetches is_open leads =
+    let first = first_of leads in
+    record { later = first.0; target = first.1; fetches = is_open ∙ ap Some first.2; in_half = first.3 }
+  where
+    first_of : {met : List (ℕ × ℕ)} {half : Half} → LeadsTo met half → (after : List (ℕ × ℕ)) × (target : ℕ) × (met ≡ after ++ (0, 0xE000 + target) ∷ []) × IsIn (Frame half) target
+    first_of (jump target e inside) = ([], target, ap (λ fetch. fetch ∷ []) e, inside)
+    first_of (later {fetch = fetch} leads) = let first = first_of leads in (fetch ∷ first.0, first.1, ap (λ fetches. fetch ∷ fetches) first.2, first.3)
+
 pub leads_none : (half : Half) → LeadsTo [] half → ⊥
 leads_none half l = elim l [ ]
 

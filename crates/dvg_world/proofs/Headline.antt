@@ -1,11 +1,15 @@
 -- What every legal log shows.
-use Rattle.std.proofs.Common.{[], ◌∷◌}
+use Rattle.std.proofs.Common.{◌≡◌, ℕ, true, List, [], ◌∷◌, Option, Some, None, refl}
 use Rattle.dvg_world.specs.Events.{Happening}
 use Rattle.dvg_world.specs.Entries.{Shown}
-use Rattle.dvg_world.specs.Log.{◌⟼◌, Log, Throughout}
-use Rattle.dvg_world.specs.Headline.{NoFault, DrewPublished, IsNoOlder, KeepsTime, NeverTorn, NeverFaults, DrawsPublished, NeverOlder, AlwaysInTime, AlwaysBounded}
+use Rattle.dvg_world.specs.Log.{◌⟼◌, Log, Throughout, ram, open_run, has_fetched}
+use Rattle.dvg_world.specs.Legal.{IsLegal}
+use Rattle.dvg_world.specs.Headline.{SparesDrawn, NoFault, DrewPublished, IsNoOlder, KeepsTime, WithinBound, DrewHeld, KeepsHeadline, AlwaysHeadline, NeverTorn, NeverFaults, DrawsPublished, NeverOlder, AlwaysInTime, AlwaysBounded, DrawsAHalf}
+use Rattle.dvg_world.proofs.Drawing.{drawing}
 use Rattle.dvg_world.proofs.Kept.{kept}
 use Rattle.dvg_world.proofs.Later.{IsRight, shows}
+use Rattle.dvg_world.proofs.Least.{lies_word}
+use Rattle.dvg_world.proofs.Untouched.{draws_held}
 use Rattle.dvg_world.proofs.Words.{words_are_whole}
 use Rattle.dvg_world.proofs.Within.{bounded}
 
@@ -30,3 +34,45 @@ always_in_time R image log l = through (IsRight R image) (KeepsTime R) (λ log e
 
 pub always_bounded : AlwaysBounded
 always_bounded R image log l = bounded R image log l (always_in_time R image log l)
+
+-- a run that has fetched a word, by that word
+fetched_one : (run : Option (List (ℕ × ℕ))) → has_fetched run ≡ true → (fetch : ℕ × ℕ) × (fetches : List (ℕ × ℕ)) × (run ≡ Some (fetch ∷ fetches))
+fetched_one None has = absurd (cc)
+fetched_one (Some []) has = absurd (cc)
+fetched_one (Some (fetch ∷ fetches)) has = (fetch, fetches, refl)
+
+pub draws_a_half : DrawsAHalf
+draws_a_half R image log l has =
+    let one = fetched_one (open_run log) has in
+    let run = (shows R image log l (words_are_whole R image log l)).0.running one.0 one.1 one.2 in
+    record {
+      half = run.half;
+      drawn = drawing log run.half (one.0 ∷ one.1) one.2 run.drawn;
+      draft = run.draft;
+      shown = run.shown;
+      accepts = run.checked.accepts;
+      holds = λ k inside. lies_word run.half run.draft (ram image log) run.holds k _ inside refl;
+    }
+
+-- the parts of each line make the line's headline
+together : (R image : List ℕ) (log : Log) → IsLegal R image log → Throughout SparesDrawn log → Throughout NoFault log → Throughout (DrewPublished R) log → Throughout IsNoOlder log → Throughout (KeepsTime R) log
+    → Throughout (WithinBound R) log → Throughout (DrewHeld R image) log → Throughout (KeepsHeadline R image) log
+together R image [] l torn faults drew older time bound held = tt
+together R image ((event ⟼ entry) ∷ log) l torn faults drew older time bound held = (
+  record {
+    never_torn = torn.0;
+    never_faults = faults.0;
+    draws_published = drew.0;
+    never_older = older.0;
+    always_in_time = time.0;
+    always_bounded = bound.0;
+    draws_undisturbed = held.0;
+    draws_a_half = draws_a_half R image log l.2;
+  },
+  together R image log l.2 torn.1 faults.1 drew.1 older.1 time.1 bound.1 held.1,
+)
+
+pub headline : AlwaysHeadline
+headline R image log l =
+    together R image log l (never_torn R image log l) (never_faults R image log l) (draws_published R image log l) (never_older R image log l) (always_in_time R image log l) (always_bounded R image log l)
+    (draws_held R image log l)

@@ -114,7 +114,7 @@ two_bytes : (some : List ℕ) (a low high : ℕ) → slice_index some (2 * a) �
 two_bytes some a low high e f = ap (λ n. n + 256 * slice_index some (2 * a + 1)) e ∙ ap (λ n. low + 256 * n) f
 
 -- a half holds a frame's words
-lies_word : (half : Half) (F : List OpKind) (ram : List ℕ) → Lies half F (slice_index ram) → (k a : ℕ) → k < length (laid half F) → a ≡ base half + k → word_in ram a ≡ slice_index (laid half F) k
+pub lies_word : (half : Half) (F : List OpKind) (ram : List ℕ) → Lies half F (slice_index ram) → (k a : ℕ) → k < length (laid half F) → a ≡ base half + k → word_in ram a ≡ slice_index (laid half F) k
 lies_word half F ram lies k a within at =
     let low : 2 * a ≡ 2 * base half + 2 * k = omega arith in
     let high : 2 * a + 1 ≡ 2 * base half + (2 * k + 1) = omega arith in

@@ -27,10 +27,11 @@ use Rattle.dvg_driver.specs.Stands.{Stage, Tells, byte1_of, peeked_after}
 use Rattle.dvg_world.specs.Events.{Happening, Offer, Redraw, Tick, Strobe, Fetch, ResetGen, ResetCpu, ResetAll}
 use Rattle.dvg_world.specs.declared.entry.Entry.{Entry}
 use Rattle.dvg_world.specs.Entries.{Shown, shown_of, Offered, Refused, Busy, Asked, NothingPublished, Acted, Started, NoStrobe, Still, Cleared}
-use Rattle.dvg_world.specs.Log.{◌⟼◌, Log, Throughout, ram, low_byte, meets, history, open_run, life, strobed}
-use Rattle.dvg_world.specs.Legal.{IsTrueRead, IsLegal}
-use Rattle.dvg_world.specs.Standing.{State, StandsAt, WorldAfter}
-use Rattle.dvg_world.specs.Stepping.{AddsLine, DrawsNow, ram_by, sent_by, entry_by}
+use Rattle.dvg_world.specs.Log.{◌⟼◌, Log, ram, low_byte, meets, history, open_run, life, strobed}
+use Rattle.dvg_world.specs.Legal.{IsTrueRead, Fits}
+use Rattle.dvg_world.specs.Standing.{State, StandsAt, WorldAfter, AddsLine, KeepsHeadlineAfter, DrawsNow}
+use Rattle.dvg_world.specs.Stepping.{ram_by, sent_by, entry_by}
+use Rattle.dvg_world.proofs.Headline.{headline}
 use Rattle.dvg_world.proofs.Linked.{opened}
 
 -- a world of these parts
@@ -308,9 +309,14 @@ pub on_err : {T E P : Type 0} (result : Result T E) → P → OnErr result P
 on_err (Ok value) p = tt
 on_err (Err error) p = p
 
--- what holds throughout every legal log holds of the line that an event adds
-pub of_line : {A E : Type 0} (P : List ℕ → List ℕ → Log → Happening → Shown → Type 0) → ((R image : List ℕ) (log : Log) → IsLegal R image log → Throughout (P R image) log)
-    → (event : Happening) (result : Result (Entry A) E) (old new : State) → IfOk result (λ entry. AddsLine old event (shown_of entry) new)
-    → (R image : List ℕ) (log : Log) → WorldAfter R image log old → IfOk result (λ entry. P R image log event (shown_of entry))
-of_line P law event (Ok entry) old new adds R image log after = (law R image ((event ⟼ shown_of entry) ∷ log) (adds R image log after).legal).0
-of_line P law event (Err error) old new adds R image log after = tt
+-- the line that an event adds is the one that the event gets
+pub fits_line : {old new : State} {event : Happening} {entry : Shown} → AddsLine old event entry new → (R image : List ℕ) (log : Log) → WorldAfter R image log old → Fits R image log event entry
+fits_line adds R image log after = (adds R image log after).legal.0
+
+-- and keeps the headline, as every legal log does
+pub keeps_headline : {old new : State} (event : Happening) (entry : Shown) → AddsLine old event entry new → KeepsHeadlineAfter old event entry
+keeps_headline event entry adds R image log after = (headline R image ((event ⟼ entry) ∷ log) (adds R image log after).legal).0
+
+pub answered_so : {A E : Type 0} (event : Happening) (result : Result (Entry A) E) (old new : State) → IfOk result (λ entry. AddsLine old event (shown_of entry) new) → IfOk result (λ entry. KeepsHeadlineAfter old event (shown_of entry))
+answered_so event (Ok entry) old new adds = keeps_headline {new = new} event (shown_of entry) adds
+answered_so event (Err error) old new adds = tt

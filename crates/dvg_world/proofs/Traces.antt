@@ -11,8 +11,8 @@ use Rattle.dvg_world.specs.declared.trace.Step.TheVariants as step
 use Rattle.dvg_world.specs.Entries.{shown_of}
 use Rattle.dvg_world.specs.Events.{Happening, Offer}
 use Rattle.dvg_world.specs.Log.{Log}
-use Rattle.dvg_world.specs.Standing.{State, WorldAfter}
-use Rattle.dvg_world.specs.Stepping.{AddsEvent, AddsLine, WantsMemory}
+use Rattle.dvg_world.specs.Standing.{State, WorldAfter, AddsLine}
+use Rattle.dvg_world.specs.Stepping.{AddsEvent, WantsMemory}
 use Rattle.dvg_world.specs.Traces.{IsWithin, event_of, events_of}
 use Rattle.dvg_world.specs.Wanting.{TakesMemory}
 

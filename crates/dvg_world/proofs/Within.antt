@@ -48,7 +48,7 @@ module _ (R image : List ℕ) where
   within : (log : Log) (event : Happening) (entry : Shown) → IsLegal R image log → KeepsTime R log event entry → WithinBound R log event entry
   within log event (Low a b) legal keeps = goes_on log legal keeps
   within log event (Fetched a w) legal keeps = goes_on log legal keeps
-  within log event (Broke a fault) legal keeps = goes_on log legal keeps
+  within log event (Broke a fault) legal keeps = absurd keeps
   within log event (Done a w drew) legal keeps = ends log drew legal keeps
   within log event _ legal keeps = tt
 

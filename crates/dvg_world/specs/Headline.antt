@@ -1,16 +1,19 @@
 -- What every legal log shows.
-use Rattle.std.specs.Prelude.{◌≡◌, ℕ, suc, ◌+◌, ◌*◌, ◌/◌, ◌^◌, ◌≤◌, ◌<◌, List, length, Option, Some, None}
+use Rattle.std.specs.Prelude.{◌≡◌, ℕ, suc, ◌+◌, ◌*◌, ◌/◌, ◌^◌, ◌≤◌, ◌<◌, true, List, [], ◌∷◌, length, Option, Some, None}
 use Rattle.dvg_mem.specs.declared.half.Half.{Half}
 use Rattle.dvg_mem.specs.declared.areas.Area.TheVariants.{Frame}
 use Rattle.dvg_mem.specs.Areas.{IsIn}
 use Rattle.dvg_gen.specs.declared.stroke.Stroke.{Stroke}
 use Rattle.dvg_frame.specs.declared.op.OpKind.{OpKind}
+use Rattle.dvg_frame.specs.Ops.{IsDraft}
+use Rattle.dvg_frame.specs.Steps.{Closed}
 use Rattle.dvg_frame.specs.Faults.{Accepts}
 use Rattle.dvg_frame.specs.Picture.{IsPicture, IsBound}
 use Rattle.dvg_driver.specs.declared.action.Action.TheVariants.{Wrote}
 use Rattle.dvg_world.specs.Events.{Happening}
-use Rattle.dvg_world.specs.Entries.{Shown, Acted, Low, Fetched, Done, Broke}
-use Rattle.dvg_world.specs.Log.{Log, Throughout, low_byte, open_run, IsBeingDrawn, published, publication, at_zero}
+use Rattle.dvg_world.specs.Entries.{Shown, Acted, Started, Low, Fetched, Done, Broke}
+use Rattle.dvg_world.specs.Law.{HoldsDraft, HoldsFrame}
+use Rattle.dvg_world.specs.Log.{◌⟼◌, Log, Throughout, ram, low_byte, open_run, IsBeingDrawn, published, publication, has_fetched, at_zero}
 use Rattle.dvg_world.specs.Legal.{IsLegal}
 
 -- a byte that is written isn't in a half being drawn
@@ -61,11 +64,11 @@ abbrev pub ByPicture : List ℕ → Log → (ℕ → List Stroke → ℕ → Typ
 ByPicture R log P = (words : List (ℕ × ℕ)) (F : List OpKind) (drew : List Stroke) (n : ℕ) → open_run log ≡ Some words → IsShown log F → IsPicture F R drew n
     → P (suc (fetch_count words (low_byte log))) drew n
 
--- where what a run shows has a picture of n words, its fetch number 2n is the one that finishes it, with the picture's strokes
+-- where what a run shows has a picture of n words, its fetch number 2n is the one that finishes it, with the picture's strokes, and no fetch breaks it
 abbrev pub KeepsTime : List ℕ → Log → Happening → Shown → Type 0
 KeepsTime R log event (Low address byte) = ByPicture R log (λ number drew n. number < 2 * n)
 KeepsTime R log event (Fetched address word) = ByPicture R log (λ number drew n. number < 2 * n)
-KeepsTime R log event (Broke address fault) = ByPicture R log (λ number drew n. number < 2 * n)
+KeepsTime R log event (Broke address fault) = ⊥
 KeepsTime R log event (Done address word strokes) = ByPicture R log (λ number drew n. (number ≡ 2 * n) × (strokes ≡ drew))
 KeepsTime R log event entry = Unit {0}
 
@@ -81,6 +84,55 @@ WithinBound R log event (Fetched address word) = IsBounded R log
 WithinBound R log event (Broke address fault) = IsBounded R log
 WithinBound R log event (Done address word strokes) = IsBounded R log
 WithinBound R log event entry = Unit {0}
+
+-- no byte was written since the newest run began
+abbrev pub IsUntouched : Log → Type 0
+IsUntouched [] = Unit {0}
+IsUntouched ((event ⟼ Started) ∷ log) = Unit {0}
+IsUntouched ((event ⟼ Acted (Wrote a byte)) ∷ log) = ⊥
+IsUntouched (line ∷ log) = IsUntouched log
+
+-- where the RAM holds a checked frame with the jump to it, and has done so since the run began, a run that reaches HALT drew the picture of the frame's draft, in as many words
+abbrev pub DrewHeld : List ℕ → List ℕ → Log → Happening → Shown → Type 0
+DrewHeld R image log event (Done address word drew) = (half : Half) (F : List OpKind) (fetches : List (ℕ × ℕ)) → IsDraft F → Closed F R → HoldsFrame (ram image log) half F → IsUntouched log
+    → open_run log ≡ Some fetches → IsPicture F R drew (suc (length fetches))
+DrewHeld R image log event entry = Unit {0}
+
+-- the open run is drawing a half, shows a draft that was accepted, and the half holds it
+pub record DrawsHalf (R image : List ℕ) (log : Log) : Type 0 where
+  pub half : Half
+  pub drawn : IsBeingDrawn log half
+  pub draft : List OpKind
+  pub shown : IsShown log draft
+  pub accepts : Accepts draft R
+  pub holds : HoldsDraft (ram image log) half draft
+
+-- an open run that has fetched word zero does so
+abbrev pub HasHalf : List ℕ → List ℕ → Log → Type 0
+HasHalf R image log = has_fetched (open_run log) ≡ true → DrawsHalf R image log
+
+-- the headline, of one line of a log: its event and its entry, over the log before it
+pub record KeepsHeadline (R image : List ℕ) (log : Log) (event : Happening) (entry : Shown) : Type 0 where
+  -- no byte is written in the half being drawn
+  pub never_torn : SparesDrawn log event entry
+  -- the generator doesn't fault
+  pub never_faults : NoFault log event entry
+  -- a run that reaches HALT drew exactly the picture of the frame that was newest published when it fetched word zero
+  pub draws_published : DrewPublished R log event entry
+  -- and shows no older publication than a run before it did
+  pub never_older : IsNoOlder log event entry
+  -- a run of a frame that has a picture is finished at the picture's last fetch
+  pub always_in_time : KeepsTime R log event entry
+  -- what a run shows has a bound, and the run fetches at most two bytes for each word of it
+  pub always_bounded : WithinBound R log event entry
+  -- a run that reaches HALT, during which nothing was written and the RAM held a checked frame, drew that frame's picture
+  pub draws_undisturbed : DrewHeld R image log event entry
+  -- a run that has fetched word zero is drawing a half, which holds the draft that the run shows
+  pub draws_a_half : HasHalf R image log
+
+-- each line keeps the headline
+abbrev pub AlwaysHeadline : Type 0
+AlwaysHeadline = (R image : List ℕ) (log : Log) → IsLegal R image log → Throughout (KeepsHeadline R image) log
 
 -- no byte is written in the half being drawn
 abbrev pub NeverTorn : Type 0
@@ -105,3 +157,11 @@ AlwaysInTime = (R image : List ℕ) (log : Log) → IsLegal R image log → Thro
 -- a run of a published frame stays within the frame's bound
 abbrev pub AlwaysBounded : Type 0
 AlwaysBounded = (R image : List ℕ) (log : Log) → IsLegal R image log → Throughout (WithinBound R) log
+
+-- a run over a frame that the RAM held, while nothing was written, drew the frame's picture
+abbrev pub DrawsHeld : Type 0
+DrawsHeld = (R image : List ℕ) (log : Log) → IsLegal R image log → Throughout (DrewHeld R image) log
+
+-- a run that has fetched word zero is drawing a half, which holds the draft that the run shows
+abbrev pub DrawsAHalf : Type 0
+DrawsAHalf = (R image : List ℕ) (log : Log) → IsLegal R image log → HasHalf R image log

@@ -20,10 +20,14 @@ pub record HasFrame (memory : ℕ → Option ℕ) (half : Half) (F : List OpKind
   pub laid : (k : ℕ) → k < length (laid half F) → memory (base half + k) ≡ Some (slice_index (laid half F) k)
   pub shapes : (a word : ℕ) → rom_word R a ≡ Some word → memory a ≡ Some word
 
+-- the RAM has the laid draft in this half
+abbrev pub HoldsDraft : (ram : List ℕ) → Half → List OpKind → Type 0
+HoldsDraft ram half F = (k : ℕ) → k < length (laid half F) → word_in ram (base half + k) ≡ slice_index (laid half F) k
+
 -- the RAM has the jump to this half in word zero, and the laid draft in the half
 pub record HoldsFrame (ram : List ℕ) (half : Half) (F : List OpKind) : Type 0 where
   pub zero : word_in ram 0 ≡ 0xE000 + base half
-  pub laid : (k : ℕ) → k < length (laid half F) → word_in ram (base half + k) ≡ slice_index (laid half F) k
+  pub laid : HoldsDraft ram half F
 
 -- a run from this beam ends in HALT after n words, with these strokes
 pub record Finishes (memory : ℕ → Option ℕ) (beam : Beam) (drew : List Stroke) (n : ℕ) : Type 0 where

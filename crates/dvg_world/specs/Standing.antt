@@ -1,13 +1,17 @@
 -- After which logs a world stands.
-use Rattle.std.specs.Prelude.{◌≡◌, ℕ, Bool, List, slice_index, Option}
+use Rattle.std.specs.Prelude.{◌≡◌, ℕ, Bool, List, ◌∷◌, slice_index, Option}
 use Rattle.dvg_gen.specs.Machine as generator
 use Rattle.dvg_gen.specs.Machine.{Machine}
 use Rattle.dvg_gen.specs.Told.{Told}
 use Rattle.dvg_driver.specs.Script.{Item}
 use Rattle.dvg_driver.specs.Stands as driver
 use Rattle.dvg_driver.specs.Stands.{Stage, byte1_of}
-use Rattle.dvg_world.specs.Log.{Log, ram, low_byte, history, life, strobed}
+use Rattle.dvg_world.specs.Events.{Happening}
+use Rattle.dvg_world.specs.Entries.{Shown}
+use Rattle.dvg_world.specs.Headline.{KeepsHeadline}
+use Rattle.dvg_world.specs.Log.{Log, ◌⟼◌, ram, low_byte, history, life, strobed}
 use Rattle.dvg_world.specs.Legal.{IsLegal}
+use Rattle.dvg_world.specs.Wanting.{DrawsNext}
 
 -- what contracts see of a world: the ROM, the RAM, the generator, the driver, and whether a strobe was sent
 pub record State : Type 0 where
@@ -31,3 +35,15 @@ pub record StandsAt (world : State) (R bytes : List ℕ) (told : List Told) (low
 pub record WorldAfter (R image : List ℕ) (log : Log) (world : State) : Type 0 where
   pub legal : IsLegal R image log
   pub stands : StandsAt world R (ram image log) (history R image log) (low_byte log) (life image log) (strobed log)
+
+-- after each log that the old world stands after, and this line, the new one stands: so the line is legal
+abbrev pub AddsLine : State → Happening → Shown → State → Type 0
+AddsLine old event entry new = (R image : List ℕ) (log : Log) → WorldAfter R image log old → WorldAfter R image ((event ⟼ entry) ∷ log) new
+
+-- over each log that the world stands after, this line keeps the headline
+abbrev pub KeepsHeadlineAfter : State → Happening → Shown → Type 0
+KeepsHeadlineAfter world event entry = (R image : List ℕ) (log : Log) → WorldAfter R image log world → KeepsHeadline R image log event entry
+
+-- after each log that the world stands after, the next fetch completes a vector that is seen
+abbrev pub DrawsNow : State → Type 0
+DrawsNow world = (R image : List ℕ) (log : Log) → WorldAfter R image log world → DrawsNext R image log

@@ -1,5 +1,5 @@
 -- One line more: the words of private contracts.
-use Rattle.std.specs.Prelude.{ℕ, Bool, true, List, ◌∷◌, Some, None, slice_get, slice_set, ◌≡◌}
+use Rattle.std.specs.Prelude.{ℕ, Bool, true, List, Some, None, slice_get, slice_set, ◌≡◌}
 use Rattle.dvg_gen.specs.Bytes.{Met, Waits, Whole}
 use Rattle.dvg_gen.specs.declared.taken.GenFault.TheVariants.{Hole}
 use Rattle.dvg_gen.specs.declared.taken.Taken.{Taken}
@@ -8,17 +8,9 @@ use Rattle.dvg_driver.specs.declared.action.Action.{Action}
 use Rattle.dvg_driver.specs.declared.action.Action.TheVariants.{Wrote, Sent}
 use Rattle.dvg_world.specs.Events.{Happening}
 use Rattle.dvg_world.specs.Entries.{Shown, Low, Fetched, Done, Broke}
-use Rattle.dvg_world.specs.Log.{Log, ◌⟼◌}
-use Rattle.dvg_world.specs.Standing.{State, WorldAfter}
-use Rattle.dvg_world.specs.Wanting.{DrawsNext, TakesMemory}
-
--- after each log that the old world stands after, and this line, the new one stands
-abbrev pub AddsLine : State → Happening → Shown → State → Type 0
-AddsLine old event entry new = (R image : List ℕ) (log : Log) → WorldAfter R image log old → WorldAfter R image ((event ⟼ entry) ∷ log) new
-
--- after each log that the world stands after, the next fetch completes a vector that is seen
-abbrev pub DrawsNow : State → Type 0
-DrawsNow world = (R image : List ℕ) (log : Log) → WorldAfter R image log world → DrawsNext R image log
+use Rattle.dvg_world.specs.Log.{Log}
+use Rattle.dvg_world.specs.Standing.{State, WorldAfter, AddsLine}
+use Rattle.dvg_world.specs.Wanting.{TakesMemory}
 
 -- the RAM after an action
 abbrev pub ram_by : Action → List ℕ → List ℕ

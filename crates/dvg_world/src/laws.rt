@@ -1,6 +1,6 @@
 //! Laws of the definitions alone. Each is the contract of a function that does nothing.
 ghost use Rattle.dvg_world.specs.Fetches.{NextStays, WordsAreWhole, WordsArePaired};
-ghost use Rattle.dvg_world.specs.Headline.{AlwaysBounded, AlwaysInTime, DrawsPublished, NeverFaults, NeverOlder, NeverTorn};
+ghost use Rattle.dvg_world.specs.Headline.{AlwaysBounded, AlwaysHeadline, AlwaysInTime, DrawsAHalf, DrawsHeld, DrawsPublished, NeverFaults, NeverOlder, NeverTorn};
 ghost use Rattle.dvg_world.specs.Law.{AnyMemory, EndsInTime, OnlyFirst, Undisturbed};
 ghost use Rattle.dvg_world.specs.Legal.{SameLog};
 
@@ -66,6 +66,23 @@ pub fn always_in_time()
 /// for each word of the frame's bound: the number that `Frame::bound` tells. That the fetches come is not said.
 pub fn always_bounded()
     ensures { AlwaysBounded }
+{}
+
+/// In every legal log a run that reaches HALT, during which nothing was written and the RAM held a checked frame with
+/// the jump to it, drew that frame's picture.
+pub fn draws_held()
+    ensures { DrawsHeld }
+{}
+
+/// After every legal log an open run that has fetched word zero is drawing a half, so `never_torn` speaks of each such
+/// run. It shows a draft that was accepted and published, and the half holds that draft's frame.
+pub fn draws_a_half()
+    ensures { DrawsAHalf }
+{}
+
+/// Each line of every legal log keeps the headline: all of these, in one record.
+pub fn headline()
+    ensures { AlwaysHeadline }
 {}
 
 /// In every legal log each word that a run fetched, a byte at a time, is the word that memory has when its high

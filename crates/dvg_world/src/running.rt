@@ -2,12 +2,11 @@
 ghost use Rattle.std.specs.Prelude.{◌≡◌, ◌<◌, List, length, map, IfErr, IfOk, OnErr};
 ghost use Rattle.dvg_world.specs.Entries.{shown_of};
 ghost use Rattle.dvg_world.specs.Events.{Happening, happening_of};
-ghost use Rattle.dvg_world.specs.Headline.{DrewPublished, IsNoOlder, KeepsTime, NoFault, SparesDrawn, WithinBound};
+ghost use Rattle.dvg_world.specs.Headline.{KeepsHeadline};
 ghost use Rattle.dvg_world.specs.Legal.{IsLegal};
 ghost use Rattle.dvg_world.specs.Log.{Throughout};
 ghost use Rattle.dvg_world.specs.Runs.{IsStop, log_by};
 ghost use Rattle.dvg_world.specs.Stepping.{AddsEvent, WantsMemory};
-ghost use Rattle.dvg_world.specs.Untouched.{DrewHeld};
 
 use crate::entry::Entry;
 use crate::event::Event;
@@ -21,13 +20,14 @@ use std::alloc::Allocator;
 
 /// Lets events happen to a new world, one after the other, and answers the entry of each, in their order.
 ///
-/// For every ROM, first image of the RAM and list of events, whatever they are, the log shows that no byte
-/// is written in the half being drawn, that the generator never faults, and that every run that reaches HALT
-/// drew exactly the picture of the frame newest published when it fetched word zero, so no picture is older
-/// than the one before. The log has one entry for each event, and each entry is the one that its event gets
-/// over the log before it: the log is legal, so driver and generator really act. Every frame that is accepted
-/// has exactly one picture: a run of it is finished at the picture's last fetch, and fetches at most two bytes
-/// for each word of the frame's bound.
+/// For every ROM, first image of the RAM and list of events, whatever they are, each line of the log keeps the
+/// headline (`KeepsHeadline`, of which each part has a name): no byte is written in the half being drawn, the
+/// generator never faults, and every run that reaches HALT drew exactly the picture of the frame newest published
+/// when it fetched word zero, so no picture is older than the one before. Every frame that is accepted has exactly
+/// one picture: a run of it is finished at the picture's last fetch, and fetches at most two bytes for each word of
+/// the frame's bound. A run that has fetched word zero is drawing a half, and the half holds the frame that the run
+/// shows. The log has one entry for each event, and each entry is the one that its event gets over the log before
+/// it: the log is legal, so driver and generator really act.
 ///
 /// This rests on three premises. The log ends early only for want of memory: before the first event, or at a
 /// fetch that completes a vector with an intensity of at least 1. `Stopped` then has the entries of the
@@ -48,22 +48,9 @@ pub fn run<S: Store>(
     // The log is legal: each entry is the one that its event gets over the log before it.
     ensures legal { IsLegal rom image.now (log_by (map happening_of events.now) result) }
 
-    // No byte is written in the half being drawn.
-    ensures never_torn { Throughout SparesDrawn (log_by (map happening_of events.now) result) }
-    // The generator never faults.
-    ensures never_faults { Throughout NoFault (log_by (map happening_of events.now) result) }
-    // Every run that reaches HALT drew exactly the picture of the frame newest published when it fetched
-    // word zero.
-    ensures draws_published { Throughout (DrewPublished rom) (log_by (map happening_of events.now) result) }
-    // No picture is older than the one before.
-    ensures never_older { Throughout IsNoOlder (log_by (map happening_of events.now) result) }
-    // A run of a frame that has a picture is finished at the picture's last fetch.
-    ensures always_in_time { Throughout (KeepsTime rom) (log_by (map happening_of events.now) result) }
-    // Every frame that a run shows has a bound, and the run fetches at most two bytes for each word of it.
-    ensures always_bounded { Throughout (WithinBound rom) (log_by (map happening_of events.now) result) }
-    // A run that reaches HALT, during which nothing was written and the RAM held a checked frame, drew the
-    // picture of that frame's draft.
-    ensures draws_undisturbed { Throughout (DrewHeld rom image.now) (log_by (map happening_of events.now) result) }
+    // Each line keeps the headline: never torn, never faulting, the published picture, no older one, in time, within
+    // the bound, undisturbed, and drawing a half that holds what is shown.
+    ensures headline { Throughout (KeepsHeadline rom image.now) (log_by (map happening_of events.now) result) }
 
     // Every event has an entry, or else those before the one at which the run stopped for want of memory.
     ensures whole { IfOk result (λ entries. length entries.items ≡ length events.now) }
@@ -73,8 +60,8 @@ pub fn run<S: Store>(
     run_each::<S, Listed<S::Alloc>>(alloc, rom, image, Listed { events })
 }
 
-/// Lets the events of a trace happen to a new world, as `run` does with a list of them: the log is the one legal
-/// log of these events, so all that `run` says of logs holds of it.
+/// Lets the events of a trace happen to a new world, as `run` does with a list of them: each line of the log keeps
+/// the headline, and the log is the one legal log of these events. Its clauses are those of `run`, word for word.
 pub fn run_trace<S: Store>(
     alloc: S::Alloc,
     rom: Rom<S::Alloc>,
@@ -82,6 +69,8 @@ pub fn run_trace<S: Store>(
     trace: &Trace<S::Alloc>,
 ) -> Result<Vec<Entry<S::Alloc>, S::Alloc>, Stopped<S::Alloc>>
     ensures legal { IsLegal rom image.now (log_by trace.now result) }
+    ensures headline { Throughout (KeepsHeadline rom image.now) (log_by trace.now result) }
+
     ensures whole { IfOk result (λ entries. length entries.items ≡ length trace.now) }
     ensures stopped { IfErr result (λ stopped. length stopped.entries.items ≡ stopped.event) }
     ensures early { IfErr result (IsStop rom image.now trace.now) }

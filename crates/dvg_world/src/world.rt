@@ -1,15 +1,13 @@
 //! The world: both ends of the vector RAM, one event at a time.
-ghost use Rattle.std.specs.Prelude.{◌≡◌, ℕ, List, [], ◌∷◌, IfOk, OnErr};
+ghost use Rattle.std.specs.Prelude.{◌≡◌, ℕ, List, [], IfOk, OnErr};
 ghost use Rattle.dvg_driver.specs.Stands.{IsInRam};
 ghost use Rattle.dvg_gen.specs.Bytes.{met};
 ghost use Rattle.dvg_world.specs.Entries.{shown_of};
 ghost use Rattle.dvg_world.specs.Events.{Offer, Redraw, Tick, Strobe, Fetch, ResetGen, ResetCpu, ResetAll, happening_of};
-ghost use Rattle.dvg_world.specs.Headline.{DrewPublished, IsNoOlder, KeepsTime, NoFault, SparesDrawn, WithinBound};
-ghost use Rattle.dvg_world.specs.Legal.{Fits, IsLegal};
-ghost use Rattle.dvg_world.specs.Log.{Log, ◌⟼◌};
-ghost use Rattle.dvg_world.specs.Standing.{WorldAfter};
-ghost use Rattle.dvg_world.specs.Stepping.{AddsLine, DrawsNow, entry_by, ram_by, sent_by};
-ghost use Rattle.dvg_world.specs.Untouched.{DrewHeld};
+ghost use Rattle.dvg_world.specs.Legal.{IsLegal};
+ghost use Rattle.dvg_world.specs.Log.{Log};
+ghost use Rattle.dvg_world.specs.Standing.{AddsLine, DrawsNow, KeepsHeadlineAfter, WorldAfter};
+ghost use Rattle.dvg_world.specs.Stepping.{entry_by, ram_by, sent_by};
 ghost use Rattle.dvg_world.specs.Wanting.{TakesMemory};
 
 use crate::entry::Entry;
@@ -86,26 +84,8 @@ impl<S: Store> World<S> {
     /// An error is want of memory, and then the world is as it was. It comes only for a fetch that completes
     /// a vector with an intensity of at least 1.
     pub fn apply(&mut self, event: &Event<S::Alloc>) -> Result<Entry<S::Alloc>, OutOfMemory>
-        ensures fits { (R image : List ℕ) (log : Log) → WorldAfter R image log self.old
-            → IfOk result (λ entry. Fits R image log (happening_of event.now) (shown_of entry)) }
-        ensures stands { (R image : List ℕ) (log : Log) → WorldAfter R image log self.old
-            → IfOk result (λ entry. WorldAfter R image ((happening_of event.now ⟼ shown_of entry) ∷ log) self.new) }
-
-        ensures never_torn { (R image : List ℕ) (log : Log) → WorldAfter R image log self.old
-            → IfOk result (λ entry. SparesDrawn log (happening_of event.now) (shown_of entry)) }
-        ensures never_faults { (R image : List ℕ) (log : Log) → WorldAfter R image log self.old
-            → IfOk result (λ entry. NoFault log (happening_of event.now) (shown_of entry)) }
-        ensures draws_published { (R image : List ℕ) (log : Log) → WorldAfter R image log self.old
-            → IfOk result (λ entry. DrewPublished R log (happening_of event.now) (shown_of entry)) }
-        ensures never_older { (R image : List ℕ) (log : Log) → WorldAfter R image log self.old
-            → IfOk result (λ entry. IsNoOlder log (happening_of event.now) (shown_of entry)) }
-        ensures always_in_time { (R image : List ℕ) (log : Log) → WorldAfter R image log self.old
-            → IfOk result (λ entry. KeepsTime R log (happening_of event.now) (shown_of entry)) }
-        ensures always_bounded { (R image : List ℕ) (log : Log) → WorldAfter R image log self.old
-            → IfOk result (λ entry. WithinBound R log (happening_of event.now) (shown_of entry)) }
-        ensures draws_undisturbed { (R image : List ℕ) (log : Log) → WorldAfter R image log self.old
-            → IfOk result (λ entry. DrewHeld R image log (happening_of event.now) (shown_of entry)) }
-
+        ensures stands { IfOk result (λ entry. AddsLine self.old (happening_of event.now) (shown_of entry) self.new) }
+        ensures headline { IfOk result (λ entry. KeepsHeadlineAfter self.old (happening_of event.now) (shown_of entry)) }
         ensures refused { OnErr result (self.new ≡ self.old) }
         ensures room { (R image : List ℕ) (log : Log) → WorldAfter R image log self.old
             → OnErr result (TakesMemory R image log (happening_of event.now)) }
