@@ -2,7 +2,7 @@
 use Rattle.std.proofs.Common.{◌≡◌, ℕ, ◌<◌, Bool, true, false, List, [], ◌∷◌, length, Option, Some, None, refl, sym, ap, ◌∙◌, subst, lit<, Vec}
 use Rattle.std.proofs.lemmas.Bool.{eqb-true, eqb-false}
 use Rattle.std.proofs.lemmas.List.{get_or-set_other, get_or-set_same}
-use Rattle.std.specs.Prelude.{◌↔◌, IsTrue, IsNone, OnErr, IfOk, Result, Ok, Err, is_some, is_none, slice_index, slice_set, nat_eq, if◌then◌else◌}
+use Rattle.std.specs.Prelude.{◌↔◌, IsTrue, IsNone, OnErr, Result, Ok, Err, is_some, is_none, slice_index, slice_set, nat_eq, if◌then◌else◌}
 use Rattle.dvg_mem.specs.Areas.{half_of_high, other}
 use Rattle.dvg_mem.specs.Memory.{fetched_byte, IsImage}
 use Rattle.dvg_gen.specs.Bytes.{Met, met, Waits, Whole, word_of}
@@ -25,8 +25,7 @@ use Rattle.dvg_driver.specs.Script.{Item, Did, IsWhole, IsLife, has_flip}
 use Rattle.dvg_driver.specs.Stands as driver
 use Rattle.dvg_driver.specs.Stands.{Stage, Tells, byte1_of, peeked_after}
 use Rattle.dvg_world.specs.Events.{Happening, Offer, Redraw, Tick, Strobe, Fetch, ResetGen, ResetCpu, ResetAll}
-use Rattle.dvg_world.specs.declared.entry.Entry.{Entry}
-use Rattle.dvg_world.specs.Entries.{Shown, shown_of, Offered, Refused, Busy, Asked, NothingPublished, Acted, Started, NoStrobe, Still, Cleared}
+use Rattle.dvg_world.specs.Entries.{Shown, Offered, Refused, Busy, Asked, NothingPublished, Acted, Started, NoStrobe, Still, Cleared}
 use Rattle.dvg_world.specs.Log.{◌⟼◌, Log, ram, low_byte, meets, history, open_run, life, strobed}
 use Rattle.dvg_world.specs.Legal.{IsTrueRead, Fits}
 use Rattle.dvg_world.specs.Standing.{State, StandsAt, WorldAfter, AddsLine, KeepsHeadlineAfter, DrawsNow}
@@ -316,7 +315,3 @@ fits_line adds R image log after = (adds R image log after).legal.0
 -- and keeps the headline, as every legal log does
 pub keeps_headline : {old new : State} (event : Happening) (entry : Shown) → AddsLine old event entry new → KeepsHeadlineAfter old event entry
 keeps_headline event entry adds R image log after = (headline R image ((event ⟼ entry) ∷ log) (adds R image log after).legal).0
-
-pub answered_so : {A E : Type 0} (event : Happening) (result : Result (Entry A) E) (old new : State) → IfOk result (λ entry. AddsLine old event (shown_of entry) new) → IfOk result (λ entry. KeepsHeadlineAfter old event (shown_of entry))
-answered_so event (Ok entry) old new adds = keeps_headline {new = new} event (shown_of entry) adds
-answered_so event (Err error) old new adds = tt

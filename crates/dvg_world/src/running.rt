@@ -117,7 +117,7 @@ impl<'a, S: Store> Events<S> for Listed<'a, S::Alloc> {
         number: usize,
         world: &mut World<S>,
     ) -> Result<Entry<S::Alloc>, OutOfMemory> {
-        world.happen(&self.events[number])
+        world.apply(&self.events[number])
     }
 }
 

@@ -77,25 +77,15 @@ impl<S: Store> World<S> {
         })
     }
 
-    /// Lets an event happen, and answers its entry. Of a world that stands after a legal log, the entry is
-    /// the one that the event gets over that log, and the world stands after the log with this line. So the
-    /// line shows what `run` says of whole logs.
+    /// Lets an event happen, by the call below that does it, and answers its entry. Of a world that stands after a
+    /// legal log, the entry is the one that the event gets over that log, and the world stands after the log with
+    /// this line (`stands`). So the line shows what `run` says of each line (`headline`).
     ///
     /// An error is want of memory, and then the world is as it was. It comes only for a fetch that completes
     /// a vector with an intensity of at least 1.
     pub fn apply(&mut self, event: &Event<S::Alloc>) -> Result<Entry<S::Alloc>, OutOfMemory>
         ensures stands { IfOk result (λ entry. AddsLine self.old (happening_of event.now) (shown_of entry) self.new) }
         ensures headline { IfOk result (λ entry. KeepsHeadlineAfter self.old (happening_of event.now) (shown_of entry)) }
-        ensures refused { OnErr result (self.new ≡ self.old) }
-        ensures room { (R image : List ℕ) (log : Log) → WorldAfter R image log self.old
-            → OnErr result (TakesMemory R image log (happening_of event.now)) }
-    {
-        self.happen(event)
-    }
-
-    // Lets an event happen. What its entry shows follows from the log being legal.
-    pub(crate) fn happen(&mut self, event: &Event<S::Alloc>) -> Result<Entry<S::Alloc>, OutOfMemory>
-        ensures stands { IfOk result (λ entry. AddsLine self.old (happening_of event.now) (shown_of entry) self.new) }
         ensures refused { OnErr result (self.new ≡ self.old) }
         ensures room { (R image : List ℕ) (log : Log) → WorldAfter R image log self.old
             → OnErr result (TakesMemory R image log (happening_of event.now)) }
@@ -112,9 +102,10 @@ impl<S: Store> World<S> {
         }
     }
 
-    // The driver is handed a draft.
-    pub(crate) fn offer(&mut self, draft: &Draft) -> Entry<S::Alloc>
-        ensures { AddsLine self.old (Offer draft.now) (shown_of result) self.new }
+    /// The driver is handed a draft to show, as by `Event::Offer`.
+    pub fn offer(&mut self, draft: &Draft) -> Entry<S::Alloc>
+        ensures stands { AddsLine self.old (Offer draft.now) (shown_of result) self.new }
+        ensures headline { KeepsHeadlineAfter self.old (Offer draft.now) (shown_of result) }
     {
         // A draft has at most 511 operations, as its type says.
         let _ = draft.len();
@@ -128,9 +119,10 @@ impl<S: Store> World<S> {
         }
     }
 
-    // The driver is asked for a redraw.
-    pub(crate) fn redraw(&mut self) -> Entry<S::Alloc>
-        ensures { AddsLine self.old Redraw (shown_of result) self.new }
+    /// The driver is asked to have the published frame drawn again, as by `Event::Redraw`.
+    pub fn redraw(&mut self) -> Entry<S::Alloc>
+        ensures stands { AddsLine self.old Redraw (shown_of result) self.new }
+        ensures headline { KeepsHeadlineAfter self.old Redraw (shown_of result) }
     {
         match self.driver.redraw() {
             Ok(()) => Entry::Asked,
@@ -139,9 +131,10 @@ impl<S: Store> World<S> {
         }
     }
 
-    // The driver does one action.
-    pub(crate) fn tick(&mut self) -> Entry<S::Alloc>
-        ensures { AddsLine self.old Tick (shown_of result) self.new }
+    /// The driver does one action, as by `Event::Tick`.
+    pub fn tick(&mut self) -> Entry<S::Alloc>
+        ensures stands { AddsLine self.old Tick (shown_of result) self.new }
+        ensures headline { KeepsHeadlineAfter self.old Tick (shown_of result) }
     {
         let byte1 = self.store.read(1);
         let action = self.driver.tick(self.generator.halted(), byte1);
@@ -161,9 +154,10 @@ impl<S: Store> World<S> {
         }
     }
 
-    // A strobe reaches the generator, if one was sent.
-    pub(crate) fn strobe(&mut self) -> Entry<S::Alloc>
-        ensures { AddsLine self.old Strobe (shown_of result) self.new }
+    /// A strobe reaches the generator, if the driver has sent one, as by `Event::Strobe`.
+    pub fn strobe(&mut self) -> Entry<S::Alloc>
+        ensures stands { AddsLine self.old Strobe (shown_of result) self.new }
+        ensures headline { KeepsHeadlineAfter self.old Strobe (shown_of result) }
     {
         if !self.strobe_sent {
             return Entry::NoStrobe;
@@ -172,9 +166,11 @@ impl<S: Store> World<S> {
         Entry::Started
     }
 
-    // The generator fetches one byte.
-    pub(crate) fn fetch(&mut self) -> Result<Entry<S::Alloc>, OutOfMemory>
+    /// The generator fetches one byte, as by `Event::Fetch`. This is the one event that takes memory, for the stroke of
+    /// a vector with an intensity of at least 1. An error is want of it, and then the world is as it was.
+    pub fn fetch(&mut self) -> Result<Entry<S::Alloc>, OutOfMemory>
         ensures stands { IfOk result (λ entry. AddsLine self.old Fetch (shown_of entry) self.new) }
+        ensures headline { IfOk result (λ entry. KeepsHeadlineAfter self.old Fetch (shown_of entry)) }
         ensures refused { OnErr result (self.new ≡ self.old) }
         ensures room { OnErr result (DrawsNow self.old) }
     {
@@ -187,25 +183,28 @@ impl<S: Store> World<S> {
         Ok(entry_of(address, low, byte, taken))
     }
 
-    // The generator is reset.
-    pub(crate) fn reset_generator(&mut self) -> Entry<S::Alloc>
-        ensures { AddsLine self.old ResetGen (shown_of result) self.new }
+    /// The generator is reset, as by `Event::ResetGen`.
+    pub fn reset_generator(&mut self) -> Entry<S::Alloc>
+        ensures stands { AddsLine self.old ResetGen (shown_of result) self.new }
+        ensures headline { KeepsHeadlineAfter self.old ResetGen (shown_of result) }
     {
         self.generator.reset();
         Entry::Cleared
     }
 
-    // The driver is reset.
-    pub(crate) fn reset_processor(&mut self) -> Entry<S::Alloc>
-        ensures { AddsLine self.old ResetCpu (shown_of result) self.new }
+    /// The driver is reset, as by `Event::ResetCpu`.
+    pub fn reset_processor(&mut self) -> Entry<S::Alloc>
+        ensures stands { AddsLine self.old ResetCpu (shown_of result) self.new }
+        ensures headline { KeepsHeadlineAfter self.old ResetCpu (shown_of result) }
     {
         self.driver.reset();
         Entry::Cleared
     }
 
-    // The whole system is reset, and the RAM holds this image.
-    pub(crate) fn reset_all(&mut self, image: &Image<S::Alloc>) -> Entry<S::Alloc>
-        ensures { AddsLine self.old (ResetAll image.now) (shown_of result) self.new }
+    /// The whole system is reset, and the RAM holds this image, as by `Event::ResetAll`.
+    pub fn reset_all(&mut self, image: &Image<S::Alloc>) -> Entry<S::Alloc>
+        ensures stands { AddsLine self.old (ResetAll image.now) (shown_of result) self.new }
+        ensures headline { KeepsHeadlineAfter self.old (ResetAll image.now) (shown_of result) }
     {
         self.store.load(image);
         self.generator.reset();

@@ -7,10 +7,10 @@ pub returns-clause-stands : goal.returns-clause-stands
 returns-clause-stands g c =
     let events = c.args.self.now.events.now in
     let event = get_or events c.args.number c.index-self-number.result in
-    adds c.args.world.now c.happen.new.self c.happen.result happening_of events c.args.number event c.index-self-number.result c.requires.inside refl c.happen.ensures.stands
+    adds c.args.world.now c.apply.new.self c.apply.result happening_of events c.args.number event c.index-self-number.result c.requires.inside refl c.apply.ensures.stands
 
 pub returns-clause-room : goal.returns-clause-room
 returns-clause-room g c =
     let events = c.args.self.now.events.now in
     let event = get_or events c.args.number c.index-self-number.result in
-    wants c.happen.result happening_of events c.args.number event c.index-self-number.result c.requires.inside refl c.happen.ensures.room
+    wants c.apply.result happening_of events c.args.number event c.index-self-number.result c.requires.inside refl c.apply.ensures.room

@@ -3,7 +3,7 @@ use Rattle.std.specs.Prelude.{is_some}
 use Rattle.dvg_world.specs.Events.{Fetch}
 use Rattle.dvg_world.specs.Entries.{Still, shown_of}
 use Rattle.dvg_world.specs.Standing.{DrawsNow}
-use Rattle.dvg_world.proofs.Standing.{adds_between, fetch_still, fetch_takes, draws_now, open_of, on_err}
+use Rattle.dvg_world.proofs.Standing.{adds_between, keeps_headline, fetch_still, fetch_takes, draws_now, open_of, on_err}
 use Rattle.dvg_world.proofs.world.World.fetch.Goals as goal
 
 pub returns-in_default-clause-stands : goal.returns-in_default-clause-stands
@@ -21,3 +21,9 @@ returns-clause-stands g c =
     adds_between Fetch (shown_of c.entry_of.result) c.self.view_is refl
     (fetch_takes c.in-Some.address c.low_byte-low.result c.fetch_byte-byte.result c.is_some.result c.in_ok-taken.taken (shown_of c.entry_of.result) (λ told low after. sym c.in-Some.is ∙ c.wants.ensures.address told low after) c.low_byte-low.ensures c.is_some.ensures c.fetch_byte-byte.ensures.byte
     c.in_ok-taken.ensures.answers c.entry_of.ensures)
+
+pub returns-in_default-clause-headline : goal.returns-in_default-clause-headline
+returns-in_default-clause-headline g c = keeps_headline Fetch Still (returns-in_default-clause-stands g c)
+
+pub returns-clause-headline : goal.returns-clause-headline
+returns-clause-headline g c = keeps_headline Fetch (shown_of c.entry_of.result) (returns-clause-stands g c)
