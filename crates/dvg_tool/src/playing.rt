@@ -53,8 +53,8 @@ fn run_text<A: Allocator + Copy>(
 /// the line of a finished run one for each of its strokes, in the order drawn (the texts are this project's
 /// own choice).
 ///
-/// The log is the one legal log of the events, so all that `dvg_world::run` says of logs holds of it. The whole
-/// text is read before the first event happens, and what writes is handed no allocator.
+/// The events happen by `dvg_world::run_trace`: the log is the one legal log of them, and each of its lines keeps the
+/// headline. The whole text is read before the first event happens, and what writes is handed no allocator.
 ///
 /// - `TooLong`: the text has more than 1,048,576 bytes, of which no more than 1,048,577 are taken. This
 ///   is decided before all others.

@@ -23,6 +23,10 @@ use std::marker::Model;
 /// Both ends of the vector RAM: the driver that writes frames into it, and the generator that draws out of
 /// it and out of the ROM.
 ///
+/// `apply` lets any event happen, and the calls beside it one each. Of a world that stands after a legal log each
+/// answers the entry that the event gets over that log; the world then stands after the log with this line (`stands`),
+/// and the line keeps the headline, as `run` says of each line (`headline`).
+///
 /// A strobe that the driver has sent is under way until the next reset of the whole system, and may arrive
 /// never, once or often (this project's own choice, as a strobe that the hardware passes over is one that
 /// never arrives).
@@ -77,9 +81,7 @@ impl<S: Store> World<S> {
         })
     }
 
-    /// Lets an event happen, by the call below that does it, and answers its entry. Of a world that stands after a
-    /// legal log, the entry is the one that the event gets over that log, and the world stands after the log with
-    /// this line (`stands`). So the line shows what `run` says of each line (`headline`).
+    /// Lets an event happen, by the call that does it, and answers its entry.
     ///
     /// An error is want of memory, and then the world is as it was. It comes only for a fetch that completes
     /// a vector with an intensity of at least 1.
