@@ -127,7 +127,7 @@ pub record KeepsHeadline (R image : List ℕ) (log : Log) (event : Happening) (e
   pub always_bounded : WithinBound R log event entry
   -- a run that reaches HALT, during which nothing was written and the RAM held a checked frame, drew that frame's picture
   pub draws_undisturbed : DrewHeld R image log event entry
-  -- a run that has fetched word zero is drawing a half, which holds the draft that the run shows
+  -- before the line, an open run that has fetched word zero is drawing a half, which holds the draft that the run shows
   pub draws_a_half : HasHalf R image log
 
 -- each line keeps the headline

@@ -80,7 +80,8 @@ pub fn draws_a_half()
     ensures { DrawsAHalf }
 {}
 
-/// Each line of every legal log keeps the headline: all of these, in one record.
+/// Each line of every legal log keeps the headline: what the laws from `never_torn` to `draws_a_half` say, in one
+/// record. It is the clause `headline` of `run`, of `run_trace` and of the calls of a `World`.
 pub fn headline()
     ensures { AlwaysHeadline }
 {}
