@@ -1,7 +1,8 @@
 //! The plain twin of `dvg`: the same program in plain Rust, with nothing proved, to compare speeds with.
 //!
-//! It has the same limits, texts and statuses. Only where standard input or standard output was closed by the
-//! caller do the two differ: Rust's runtime opens /dev/null in its place.
+//! It has the same limits, texts and statuses, as tests/program sees. Only where standard input or standard output was
+//! closed by the caller do the two differ, as Rust's runtime opens /dev/null in its place, and for words that ask for
+//! help or for nothing the program can do: those it answers with one line and the status 64.
 
 mod plain_driver;
 mod plain_frames;
@@ -18,6 +19,7 @@ use plain_shows::write_entries;
 use plain_texts::{MOST_TEXT_BYTES, TextFault, read_draft};
 use plain_traces::read_trace;
 use plain_world::run;
+use std::ffi::OsString;
 use std::fmt;
 use std::fs::File;
 use std::io::{self, BufWriter, Read, Write};
@@ -323,7 +325,14 @@ fn complain(line: fmt::Arguments) {
 }
 
 fn main() -> ExitCode {
-    let words: Vec<_> = std::env::args_os().skip(1).collect();
+    let words: Result<Vec<String>, _> = std::env::args_os()
+        .skip(1)
+        .map(OsString::into_string)
+        .collect();
+    let Ok(words) = words else {
+        complain(format_args!("dvg: the words are no text"));
+        return ExitCode::from(MISUSE);
+    };
     let done = if words == ["list"] {
         list().map(|()| ExitCode::SUCCESS)
     } else if words == ["rom"] {
