@@ -1,15 +1,13 @@
-//! Tests of what crosses crates: the worked examples of the engines over memory, worked runs, devices that
-//! fail, and memory that is refused. The crate exports nothing.
+//! Tests of what crosses crates and can't be shown by the texts of a case (tests/cases): devices that fail, memory
+//! that is refused or counted, and calls of the library. The crate exports nothing.
 #![tactic(auto)]
 
-#[cfg(test)]
-mod between_bytes;
 #[cfg(test)]
 mod checks;
 #[cfg(test)]
 mod devices;
 #[cfg(test)]
-mod doubling;
+mod limits;
 #[cfg(test)]
 mod lists;
 #[cfg(test)]
@@ -17,15 +15,11 @@ mod memory;
 #[cfg(test)]
 mod mishaps;
 #[cfg(test)]
-mod plays;
-#[cfg(test)]
 mod plays_mishaps;
 #[cfg(test)]
-mod plays_resets;
-#[cfg(test)]
-mod plays_texts;
-#[cfg(test)]
 mod refusals;
+#[cfg(test)]
+mod requests;
 #[cfg(test)]
 mod roms;
 #[cfg(test)]
@@ -36,7 +30,3 @@ mod scripts;
 mod texts;
 #[cfg(test)]
 mod traces;
-#[cfg(test)]
-mod transcripts;
-#[cfg(test)]
-mod whole_words;

@@ -1,6 +1,6 @@
-//! The engine `list`.
-use crate::devices::{Endless, Failure, Slow, Stubborn};
-use dvg_tool::{MOST_LIST_BYTES, TextFault, ToolFault, Watched, list};
+//! The engine `list`: devices that fail, and memory that is refused.
+use crate::devices::{Failure, Slow, Stubborn};
+use dvg_tool::{TextFault, ToolFault, Watched, list};
 use linked_list_allocator::LocalHeap;
 use std::test::Fail;
 
@@ -11,54 +11,6 @@ const INPUT: [u8; 10] = [0x64, 0x90, 0x64, 0x74, 0x00, 0x94, 0x00, 0x00, 0x90, 0
 const TEXT: &str = "000 VCTR 9 -100 100 7\n002 VCTR 9 0 0 0 *\n";
 
 const CUT: Result<(), ToolFault> = Err(ToolFault::Text(TextFault::Cut(4)));
-
-/// Inputs, what is written of each, and what is answered.
-const EXAMPLES: [(&[u8], &str, Result<(), ToolFault>); 9] = [
-    (&[0x64, 0x90, 0x64, 0x74], "000 VCTR 9 -100 100 7\n", Ok(())),
-    (&[0x37, 0xFE], "000 SVEC 3 -3 -2 3\n", Ok(())),
-    (&[], "", Ok(())),
-    (
-        &[0x64, 0x90, 0x64],
-        "",
-        Err(ToolFault::Text(TextFault::Odd)),
-    ),
-    (&[0x90, 0xA1], "", Err(ToolFault::Text(TextFault::Cut(0)))),
-    (
-        &[0x00, 0xB0, 0x90, 0xA1],
-        "000 HALT\n",
-        Err(ToolFault::Text(TextFault::Cut(1))),
-    ),
-    (
-        &[0x64, 0x90, 0x64, 0x74, 0x64, 0x90],
-        "000 VCTR 9 -100 100 7\n",
-        Err(ToolFault::Text(TextFault::Cut(2))),
-    ),
-    (
-        &[
-            0x00, 0x94, 0x00, 0x00, 0x00, 0x90, 0x00, 0x08, 0x00, 0x90, 0x00, 0x00,
-        ],
-        "000 VCTR 9 0 0 0 *\n002 VCTR 9 0 0 0 *\n004 VCTR 9 0 0 0\n",
-        Ok(()),
-    ),
-    (
-        &[
-            0x90, 0xA1, 0x00, 0xF2, 0x03, 0xC8, 0xFF, 0xBF, 0x00, 0xD0, 0xFF, 0xEF,
-        ],
-        "000 LABS 512 400 15\n002 JSRL 803\n003 HALT *\n004 RTSL\n005 JMPL FFF\n",
-        Ok(()),
-    ),
-];
-
-#[test]
-fn lists_the_worked_examples(rt: HostRuntime) -> Result<(), Fail> {
-    for (input, text, answer) in EXAMPLES {
-        let mut reader = Watched::new(input);
-        let mut writer = Watched::new(Vec::new(rt.alloc()));
-        assert_eq!(rt; list(rt.alloc(), &mut reader, &mut writer), answer);
-        assert_eq!(rt; writer.into_inner().as_slice(), text.as_bytes());
-    }
-    Ok(())
-}
 
 #[test]
 fn each_read_fails_in_turn(rt: HostRuntime) -> Result<(), Fail> {
@@ -131,32 +83,5 @@ fn each_growth_is_refused_in_turn(rt: HostRuntime) -> Result<(), Fail> {
         }
     }
     assert!(rt; 0 < refused && refused < 64, "refused {refused}");
-    Ok(())
-}
-
-#[test]
-fn takes_no_more_than_one_byte_too_many(rt: HostRuntime) -> Result<(), Fail> {
-    let mut reader = Watched::new(Endless { taken: 0 });
-    let mut writer = Watched::new(Vec::new(rt.alloc()));
-    let answer = list(rt.alloc(), &mut reader, &mut writer);
-    assert_eq!(rt; answer, Err(ToolFault::Text(TextFault::TooLong)));
-    assert_eq!(rt; reader.into_inner().taken, MOST_LIST_BYTES + 1);
-    assert!(rt; writer.into_inner().is_empty());
-    Ok(())
-}
-
-#[test]
-fn lists_the_longest_input(rt: HostRuntime) -> Result<(), Fail> {
-    let mut input = vec![in rt.alloc()]?;
-    for _ in 0..MOST_LIST_BYTES / 2 {
-        input.extend_from_slice(&[0x00, 0xB0])?;
-    }
-    let mut reader = Watched::new(input.as_slice());
-    let mut writer = Watched::new(Vec::new(rt.alloc()));
-    assert_eq!(rt; list(rt.alloc(), &mut reader, &mut writer), Ok(()));
-    let text = writer.into_inner();
-    assert_eq!(rt; text.iter().filter(|byte| **byte == b'\n').count(), 4096);
-    assert!(rt; text.as_slice().ends_with(b"\nFFE HALT\nFFF HALT\n"));
-    assert!(rt; text.as_slice().starts_with(b"000 HALT\n001 HALT\n"));
     Ok(())
 }

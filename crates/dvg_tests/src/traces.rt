@@ -1,5 +1,4 @@
 //! Traces in a compact notation, and what `play` writes of them.
-use crate::transcripts::{DRAWN, PUBLISHED};
 use dvg_tool::{ToolFault, Watched, play};
 use std::alloc::Global;
 use std::test::Fail;
@@ -7,15 +6,10 @@ use std::test::Fail;
 /// The first picture: F1 is offered, written, published and drawn.
 pub const FIRST_PICTURE: &str = "tick 2; offer F1; tick 14; strobe; fetch 12";
 
-/// What is written of it, without `--all`.
-const ITS_PICTURE: &str = "picture 29 1\n262144 204800 210944 256000 7\n";
-
 /// The lines that a part of the compact notation stands for: itself, or the lines of an offer.
 fn lines_of(part: &str) -> &str {
     match part {
         "offer F1" => "offer\nlabs 512 400 0\nvctr 9 -100 100 7\nhalt\nend",
-        "offer F2" => "offer\nlabs 0 0 0\nvctr 9 10 0 5\nhalt\nend",
-        "offer F3" => "offer\nlabs 0 0 0\nsvec 3 -3 -2 3\nhalt\nend",
         _ => part,
     }
 }
@@ -23,9 +17,6 @@ fn lines_of(part: &str) -> &str {
 /// The text of lines that are parted by `; `, where `offer F1` stands for the lines that offer that draft.
 pub fn text_of(alloc: Global, parts: &str) -> Result<String, Fail> {
     let mut text = String::new(alloc);
-    if parts.is_empty() {
-        return Ok(text);
-    }
     for part in parts.split("; ") {
         text.push_str(lines_of(part))?;
         text.push('\n')?;
@@ -42,15 +33,6 @@ pub fn joined(alloc: Global, texts: &[&str]) -> Result<String, Fail> {
     Ok(whole)
 }
 
-/// What is written of the first picture.
-pub fn first_picture_shown(alloc: Global, all: bool) -> Result<String, Fail> {
-    if all {
-        joined(alloc, &[PUBLISHED, DRAWN])
-    } else {
-        joined(alloc, &[ITS_PICTURE])
-    }
-}
-
 /// What is written of a text, and what is answered.
 pub fn played(
     alloc: Global,
@@ -63,9 +45,10 @@ pub fn played(
     Ok((String::from_utf8(writer.into_inner())?, answer))
 }
 
-/// What is written of the trace of these lines, which is done.
-pub fn shown(alloc: Global, parts: &str, all: bool) -> Result<String, Fail> {
-    let (written, answer) = played(alloc, text_of(alloc, parts)?.as_str(), all)?;
+/// What is written of the first picture where nothing fails.
+pub fn first_picture_shown(alloc: Global, all: bool) -> Result<String, Fail> {
+    let text = text_of(alloc, FIRST_PICTURE)?;
+    let (written, answer) = played(alloc, text.as_str(), all)?;
     if answer.is_err() {
         return Err("not played".into());
     }
