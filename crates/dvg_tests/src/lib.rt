@@ -3,13 +3,9 @@
 #![tactic(auto)]
 
 #[cfg(test)]
-mod checks;
-#[cfg(test)]
 mod devices;
 #[cfg(test)]
 mod limits;
-#[cfg(test)]
-mod lists;
 #[cfg(test)]
 mod memory;
 #[cfg(test)]
@@ -21,11 +17,11 @@ mod refusals;
 #[cfg(test)]
 mod requests;
 #[cfg(test)]
-mod roms;
-#[cfg(test)]
 mod runs;
 #[cfg(test)]
 mod scripts;
+#[cfg(test)]
+mod tasks;
 #[cfg(test)]
 mod texts;
 #[cfg(test)]

@@ -1,10 +1,12 @@
-//! Devices that fail once, at each call in turn: every failure is told at once, and nothing is tried
+//! Devices that fail at each call in turn, once or from then on: every failure is told at once, and nothing is tried
 //! again.
-use crate::devices::{FailsOnce, Failure, Mishap, Stubborn};
-use crate::traces::{FIRST_PICTURE, first_picture_shown, text_of};
+use crate::devices::{FailsOnce, Failure, Mishap, Slow, Stubborn};
+use crate::tasks::{Task, tasks, written};
 use dvg_frame::FrameFault;
-use dvg_tool::{Done, Job, TextFault, ToolFault, Verdict, Watched, finish, perform};
+use dvg_mem::MEMORY_BYTES;
+use dvg_tool::{Done, TextFault, ToolFault, Verdict, Watched, finish, perform};
 use std::alloc::Global;
+use std::process::Abort;
 use std::test::Fail;
 
 /// Two bytes of a HALT.
@@ -48,127 +50,35 @@ fn watched_passes_each_failure_on(rt: HostRuntime) -> Result<(), Fail> {
     Ok(())
 }
 
-/// A ROM of words B000, of which the front is also an input of `list`.
-fn halts(alloc: Global) -> Result<Vec<u8>, Fail> {
-    let mut bytes = Vec::new(alloc);
-    for _ in 0..1024 {
-        bytes.extend_from_slice(&HALT)?;
-    }
-    Ok(bytes)
-}
-
-#[test]
-fn engines_stop_at_the_first_failure(rt: HostRuntime) -> Result<(), Fail> {
-    let input = halts(rt.alloc())?;
-    for job in [Job::List, Job::Rom] {
-        for mishap in [Mishap::Error, Mishap::Interrupted] {
-            for calls_before in [0, 1, 2, 15, 16] {
-                let broken = device(rt.alloc(), input.as_slice(), 128, calls_before, mishap);
-                let mut reader = Watched::new(broken);
-                let mut writer = Watched::new(Vec::new(rt.alloc()));
-                let answer = perform(rt.alloc(), job, &mut reader, &mut writer);
-                assert_eq!(rt;
-                    answer,
-                    Err(ToolFault::Reader),
-                    "after {calls_before} reads"
-                );
-                assert_eq!(rt; reader.failures(), 1);
-                assert!(rt; writer.into_inner().is_empty());
-            }
-        }
-        for mishap in [Mishap::Error, Mishap::Interrupted, Mishap::TakesNothing] {
-            for calls_before in [0, 1, 2, 30, 127] {
-                let mut reader = Watched::new(input.as_slice());
-                let broken = device(rt.alloc(), &[], 64, calls_before, mishap);
-                let mut writer = Watched::new(broken);
-                let answer = perform(rt.alloc(), job, &mut reader, &mut writer);
-                assert_eq!(rt;
-                    answer,
-                    Err(ToolFault::Writer),
-                    "after {calls_before} writes"
-                );
-                assert_eq!(rt; writer.failures(), 1);
-                let taken = writer.into_inner().taken;
-                let lines = taken.iter().filter(|byte| **byte == b'\n').count();
-                assert_eq!(rt; lines, calls_before as usize);
-            }
-        }
-    }
-    Ok(())
-}
-
-#[test]
-fn check_stops_at_the_first_failure(rt: HostRuntime) -> Result<(), Fail> {
-    let text = b"rom 800 E001\nlabs 0 0 0\ncallrom 800\nhalt\n";
-    let line = b"fault 6 out of rom word 800\n";
-    for mishap in [Mishap::Error, Mishap::Interrupted] {
-        for calls_before in 0..=text.len() as u32 {
-            let broken = device(rt.alloc(), text.as_slice(), 1, calls_before, mishap);
-            let mut reader = Watched::new(broken);
-            let mut writer = Watched::new(Vec::new(rt.alloc()));
-            let answer = perform(
-                rt.alloc(),
-                Job::Check { bound: false },
-                &mut reader,
-                &mut writer,
-            );
-            assert_eq!(rt;
-                answer,
-                Err(ToolFault::Reader),
-                "after {calls_before} reads"
-            );
+/// The reads of a task fail in turn, of which the last one tells that the input ends.
+fn reads_fail(rt: &(impl Abort + AllocGlobal), task: Task) -> Result<(), Fail> {
+    let (job, step) = (task.job, task.step);
+    let wanted = written(rt.alloc(), task)?;
+    let calls = u32::try_from(task.input.len() / step + 1)?;
+    for calls_left in 0..=calls {
+        let rest = task.input;
+        let mut reader = Watched::new(Slow {
+            rest,
+            step,
+            calls_left,
+        });
+        let mut writer = Watched::new(Vec::new(rt.alloc()));
+        let answer = perform(rt.alloc(), job, &mut reader, &mut writer);
+        if calls_left < calls {
+            assert_eq!(rt; answer, Err(ToolFault::Reader), "after {calls_left} reads");
             assert_eq!(rt; reader.failures(), 1);
             assert!(rt; writer.into_inner().is_empty());
+        } else {
+            assert_eq!(rt; answer, task.answer);
+            assert_eq!(rt; reader.failures(), 0);
+            assert_eq!(rt; writer.into_inner(), wanted);
         }
     }
-    for mishap in [Mishap::Error, Mishap::Interrupted, Mishap::TakesNothing] {
-        for calls_before in 0..line.len() as u32 {
-            let mut reader = Watched::new(text.as_slice());
-            let mut writer = Watched::new(device(rt.alloc(), &[], 1, calls_before, mishap));
-            let answer = perform(
-                rt.alloc(),
-                Job::Check { bound: false },
-                &mut reader,
-                &mut writer,
-            );
-            assert_eq!(rt;
-                answer,
-                Err(ToolFault::Writer),
-                "after {calls_before} writes"
-            );
-            assert_eq!(rt; writer.failures(), 1);
-            let taken = writer.into_inner().taken;
-            assert_eq!(rt; taken.len(), calls_before as usize);
-            assert!(rt; line.starts_with(taken.as_slice()));
-        }
-    }
-    Ok(())
-}
-
-#[test]
-fn play_is_a_job(rt: HostRuntime) -> Result<(), Fail> {
-    let text = text_of(rt.alloc(), FIRST_PICTURE)?;
-    for all in [false, true] {
-        let mut reader = Watched::new(text.as_str().as_bytes());
-        let mut writer = Watched::new(Vec::new(rt.alloc()));
-        let answer = perform(rt.alloc(), Job::Play { all }, &mut reader, &mut writer);
-        assert_eq!(rt; answer, Ok(Done::Written));
-        let wanted = first_picture_shown(rt.alloc(), all)?;
-        assert_eq!(rt; writer.into_inner().as_slice(), wanted.as_str().as_bytes());
-    }
-    Ok(())
-}
-
-#[test]
-fn play_stops_at_the_first_failing_read(rt: HostRuntime) -> Result<(), Fail> {
-    let text = text_of(rt.alloc(), FIRST_PICTURE)?;
-    let text = text.as_str().as_bytes();
-    let last = u32::try_from(text.len())?;
     for mishap in [Mishap::Error, Mishap::Interrupted] {
-        for calls_before in 0..=last {
-            let mut reader = Watched::new(device(rt.alloc(), text, 1, calls_before, mishap));
+        for calls_before in 0..calls {
+            let broken = device(rt.alloc(), task.input, step, calls_before, mishap);
+            let mut reader = Watched::new(broken);
             let mut writer = Watched::new(Vec::new(rt.alloc()));
-            let job = Job::Play { all: true };
             let answer = perform(rt.alloc(), job, &mut reader, &mut writer);
             assert_eq!(rt;
                 answer,
@@ -183,29 +93,76 @@ fn play_stops_at_the_first_failing_read(rt: HostRuntime) -> Result<(), Fail> {
 }
 
 #[test]
-fn play_stops_at_the_first_failing_write(rt: HostRuntime) -> Result<(), Fail> {
-    let text = text_of(rt.alloc(), FIRST_PICTURE)?;
-    for all in [false, true] {
-        let wanted = first_picture_shown(rt.alloc(), all)?;
-        let wanted = wanted.as_str().as_bytes();
-        let calls = u32::try_from(wanted.len())?;
-        for mishap in [Mishap::Error, Mishap::Interrupted, Mishap::TakesNothing] {
-            for calls_before in 0..calls {
-                let mut reader = Watched::new(text.as_str().as_bytes());
-                let mut writer = Watched::new(device(rt.alloc(), &[], 1, calls_before, mishap));
-                let job = Job::Play { all };
-                let answer = perform(rt.alloc(), job, &mut reader, &mut writer);
-                assert_eq!(rt;
-                    answer,
-                    Err(ToolFault::Writer),
-                    "after {calls_before} writes"
-                );
-                assert_eq!(rt; writer.failures(), 1);
-                let taken = writer.into_inner().taken;
-                assert_eq!(rt; taken.len(), calls_before as usize);
-                assert!(rt; wanted.starts_with(taken.as_slice()));
+fn each_read_fails_in_turn(rt: HostRuntime) -> Result<(), Fail> {
+    let rom = vec![in rt.alloc(); 0xD0u8; MEMORY_BYTES]?;
+    for task in tasks(rom.as_slice()) {
+        reads_fail(&rt, task)?;
+    }
+    Ok(())
+}
+
+/// How many writes these bytes are, of so many bytes each or of a line.
+fn writes(bytes: &[u8], step: usize) -> usize {
+    if step == 1 {
+        bytes.len()
+    } else {
+        bytes.iter().filter(|byte| **byte == b'\n').count()
+    }
+}
+
+/// The writes of a task fail in turn: what goes out before is a beginning of what is written where none fails.
+fn writes_fail(rt: &(impl Abort + AllocGlobal), task: Task) -> Result<(), Fail> {
+    let (job, step) = (task.job, task.step);
+    let wanted = written(rt.alloc(), task)?;
+    let calls = u32::try_from(writes(wanted.as_slice(), step))?;
+    for failure in [Failure::Error, Failure::TakesNothing] {
+        for calls_left in 0..=calls {
+            let mut reader = Watched::new(task.input);
+            let mut writer = Watched::new(Stubborn {
+                taken: Vec::new(rt.alloc()),
+                step,
+                calls_left,
+                failure,
+            });
+            let answer = perform(rt.alloc(), job, &mut reader, &mut writer);
+            let failures = writer.failures();
+            let taken = writer.into_inner().taken;
+            assert!(rt; wanted.starts_with(taken.as_slice()));
+            assert_eq!(rt; writes(taken.as_slice(), step), calls_left as usize);
+            if calls_left < calls {
+                assert_eq!(rt; answer, Err(ToolFault::Writer), "after {calls_left} writes");
+                assert_eq!(rt; failures, 1);
+            } else {
+                assert_eq!(rt; answer, task.answer);
+                assert_eq!(rt; failures, 0);
+                assert_eq!(rt; taken.len(), wanted.len());
             }
         }
+    }
+    for mishap in [Mishap::Error, Mishap::Interrupted, Mishap::TakesNothing] {
+        for calls_before in 0..calls {
+            let mut reader = Watched::new(task.input);
+            let mut writer = Watched::new(device(rt.alloc(), &[], step, calls_before, mishap));
+            let answer = perform(rt.alloc(), job, &mut reader, &mut writer);
+            assert_eq!(rt;
+                answer,
+                Err(ToolFault::Writer),
+                "after {calls_before} writes"
+            );
+            assert_eq!(rt; writer.failures(), 1);
+            let taken = writer.into_inner().taken;
+            assert!(rt; wanted.starts_with(taken.as_slice()));
+            assert_eq!(rt; writes(taken.as_slice(), step), calls_before as usize);
+        }
+    }
+    Ok(())
+}
+
+#[test]
+fn each_write_fails_in_turn(rt: HostRuntime) -> Result<(), Fail> {
+    let rom = vec![in rt.alloc(); 0xD0u8; MEMORY_BYTES]?;
+    for task in tasks(rom.as_slice()) {
+        writes_fail(&rt, task)?;
     }
     Ok(())
 }

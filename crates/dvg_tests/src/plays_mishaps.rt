@@ -1,6 +1,6 @@
-//! The engine `play`: devices that give or take little or fail, and memory that is refused.
-use crate::devices::{Failure, Slow, Stubborn};
-use crate::traces::{FIRST_PICTURE, first_picture_shown, joined, played, text_of};
+//! The engine `play`: what it writes before a write that fails, or before memory is refused.
+use crate::devices::{Failure, Stubborn};
+use crate::traces::{FIRST_PICTURE, first_picture_shown, joined, played};
 use dvg_mem::MEMORY_BYTES;
 use dvg_tool::{ToolFault, Watched, play};
 use dvg_world::{Entry, Event};
@@ -22,9 +22,8 @@ fn stubborn(alloc: Global, step: usize, calls_left: u32, failure: Failure) -> St
 /// Each line is one write, as far as the writer takes it: the second one fails.
 #[test]
 fn a_failing_second_write_leaves_the_first_line(rt: HostRuntime) -> Result<(), Fail> {
-    let text = text_of(rt.alloc(), FIRST_PICTURE)?;
     for failure in [Failure::Error, Failure::TakesNothing] {
-        let mut reader = Watched::new(text.as_str().as_bytes());
+        let mut reader = Watched::new(FIRST_PICTURE.as_bytes());
         let mut writer = Watched::new(stubborn(rt.alloc(), 64, 1, failure));
         let answer = play(rt.alloc(), &mut reader, &mut writer, false);
         assert_eq!(rt; answer, Err(ToolFault::Writer));
@@ -33,63 +32,6 @@ fn a_failing_second_write_leaves_the_first_line(rt: HostRuntime) -> Result<(), F
             writer.into_inner().taken.as_slice(),
             b"picture 29 1\n".as_slice()
         );
-    }
-    Ok(())
-}
-
-/// Each call of a writer that takes one byte fails in turn.
-#[test]
-fn each_write_fails_in_turn(rt: HostRuntime) -> Result<(), Fail> {
-    let text = text_of(rt.alloc(), FIRST_PICTURE)?;
-    for all in [false, true] {
-        let wanted = first_picture_shown(rt.alloc(), all)?;
-        let calls = u32::try_from(wanted.len())?;
-        for failure in [Failure::Error, Failure::TakesNothing] {
-            for calls_left in 0..=calls {
-                let mut reader = Watched::new(text.as_str().as_bytes());
-                let mut writer = Watched::new(stubborn(rt.alloc(), 1, calls_left, failure));
-                let answer = play(rt.alloc(), &mut reader, &mut writer, all);
-                let failures = writer.failures();
-                let taken = writer.into_inner().taken;
-                assert!(rt; wanted.as_str().as_bytes().starts_with(taken.as_slice()));
-                assert_eq!(rt; taken.len(), calls_left as usize);
-                if calls_left < calls {
-                    assert_eq!(rt; answer, Err(ToolFault::Writer), "after {calls_left} writes");
-                    assert_eq!(rt; failures, 1);
-                } else {
-                    assert_eq!(rt; answer, Ok(()));
-                    assert_eq!(rt; failures, 0);
-                }
-            }
-        }
-    }
-    Ok(())
-}
-
-/// Each call of a reader that gives one byte fails in turn.
-#[test]
-fn each_read_fails_in_turn(rt: HostRuntime) -> Result<(), Fail> {
-    let text = text_of(rt.alloc(), FIRST_PICTURE)?;
-    let wanted = first_picture_shown(rt.alloc(), false)?;
-    let last = u32::try_from(text.len())?;
-    for calls_left in 0..=last.saturating_add(1) {
-        let mut reader = Watched::new(Slow {
-            rest: text.as_str().as_bytes(),
-            step: 1,
-            calls_left,
-        });
-        let mut writer = Watched::new(Vec::new(rt.alloc()));
-        let answer = play(rt.alloc(), &mut reader, &mut writer, false);
-        let written = writer.into_inner();
-        if calls_left <= last {
-            assert_eq!(rt; answer, Err(ToolFault::Reader), "after {calls_left} reads");
-            assert_eq!(rt; reader.failures(), 1);
-            assert!(rt; written.is_empty());
-        } else {
-            assert_eq!(rt; answer, Ok(()));
-            assert_eq!(rt; reader.failures(), 0);
-            assert_eq!(rt; written.as_slice(), wanted.as_str().as_bytes());
-        }
     }
     Ok(())
 }
@@ -123,12 +65,11 @@ fn shown_before(alloc: Global, text: &str, line: &str) -> Result<String, Fail> {
 /// Heaps of rising sizes, up to the first that has room for the whole picture.
 #[test]
 fn a_refusal_leaves_a_beginning_of_the_log(rt: HostRuntime) -> Result<(), Fail> {
-    let text = text_of(rt.alloc(), FIRST_PICTURE)?;
-    let before = shown_before(rt.alloc(), text.as_str(), "27 fetched")?;
+    let before = shown_before(rt.alloc(), FIRST_PICTURE, "27 fetched")?;
     let wanted = first_picture_shown(rt.alloc(), true)?;
     let mut refused = 0u32;
     for slots in 0..4096usize {
-        let (written, answer) = played_in(rt.alloc(), text.as_str(), slots * 16, true)?;
+        let (written, answer) = played_in(rt.alloc(), FIRST_PICTURE, slots * 16, true)?;
         if answer == Ok(()) {
             assert_eq!(rt; written.as_slice(), wanted.as_str().as_bytes());
             break;
@@ -151,18 +92,18 @@ fn wall_in<'a>(heap: &'a LocalHeap, front: usize) -> Result<Vec<u8, &'a LocalHea
 
 /// The first picture behind an offer of one operation, and with five ticks more before its own offer: 36 events, of
 /// which the last but two draws.
-const LATE_PICTURE: &str = "offer; halt; end; tick 7; offer F1; tick 14; strobe; fetch 12";
+const LATE_PICTURE: &str =
+    "offer\nhalt\nend\ntick 7\noffer\nlabs 512 400 0\nvctr 9 -100 100 7\nhalt\nend\ntick 14\nstrobe\nfetch 12\n";
 
 /// The text of the late picture, behind a comment that makes it as long as is wanted.
 fn text_of_length(alloc: Global, wanted: usize) -> Result<String, Fail> {
-    let picture = text_of(alloc, LATE_PICTURE)?;
     let mut text = joined(alloc, &["#"])?;
-    let dots = wanted.saturating_sub(picture.len().saturating_add("#\n".len()));
+    let dots = wanted.saturating_sub(LATE_PICTURE.len().saturating_add("#\n".len()));
     for _dot in 0..dots {
         text.push_str(".")?;
     }
     text.push_str("\n")?;
-    text.push_str(picture.as_str())?;
+    text.push_str(LATE_PICTURE)?;
     Ok(text)
 }
 
@@ -208,11 +149,10 @@ fn a_refusal_at_the_vector_leaves_the_entries_before(rt: HostRuntime) -> Result<
 /// Without `--all` nothing goes out before the picture is whole.
 #[test]
 fn a_refusal_leaves_no_picture(rt: HostRuntime) -> Result<(), Fail> {
-    let text = text_of(rt.alloc(), FIRST_PICTURE)?;
     let wanted = first_picture_shown(rt.alloc(), false)?;
     let mut whole = false;
     for slots in 0..4096usize {
-        let (written, answer) = played_in(rt.alloc(), text.as_str(), slots * 16, false)?;
+        let (written, answer) = played_in(rt.alloc(), FIRST_PICTURE, slots * 16, false)?;
         if answer == Ok(()) {
             assert_eq!(rt; written.as_slice(), wanted.as_str().as_bytes());
             whole = true;
@@ -228,7 +168,7 @@ fn a_refusal_leaves_no_picture(rt: HostRuntime) -> Result<(), Fail> {
 /// A trace with a picture of 58 strokes: the high bytes of its vectors are fetched by every other event from 137 to
 /// 251.
 fn long_picture(alloc: Global) -> Result<String, Fail> {
-    let mut text = text_of(alloc, "tick 2; offer; labs 0 0 0")?;
+    let mut text = joined(alloc, &["tick 2\noffer\nlabs 0 0 0\n"])?;
     for _ in 0..58 {
         text.push_str("svec 2 0 0 1\n")?;
     }

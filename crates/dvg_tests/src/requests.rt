@@ -1,12 +1,56 @@
-//! No engine takes memory once it has begun to write.
-use crate::traces::{FIRST_PICTURE, text_of};
+//! Memory that an engine is refused, and that none asks for once it has begun to write.
+use crate::tasks::{Task, tasks, written};
 use bumpalo::Bump;
 use dvg_mem::MEMORY_BYTES;
-use dvg_tool::{Done, Job, ToolFault, Watched, perform};
+use dvg_tool::{Job, ToolFault, Watched, perform};
+use linked_list_allocator::LocalHeap;
 use std::alloc::Global;
 use std::io;
 use std::io::Write;
 use std::test::Fail;
+
+/// The most times 16 bytes of a heap.
+const MOST_SLOTS: u32 = 512;
+
+/// In how many heaps of rising sizes this task is refused memory. Then nothing is written, and else all.
+fn refusals(alloc: Global, task: Task) -> Result<u32, Fail> {
+    let wanted = written(alloc, task)?;
+    let mut refused = 0u32;
+    for slots in 0..MOST_SLOTS {
+        let heap = LocalHeap::new(alloc, slots as usize * 16)?;
+        let mut reader = Watched::new(task.input);
+        let mut writer = Watched::new(Vec::new(alloc));
+        let answer = perform(&heap, task.job, &mut reader, &mut writer);
+        let text = writer.into_inner();
+        if answer == Err(ToolFault::Memory) {
+            refused = refused.saturating_add(1);
+            if !text.is_empty() {
+                return Err("written before a refusal".into());
+            }
+        } else if answer != task.answer || text != wanted {
+            return Err("another answer".into());
+        }
+    }
+    Ok(refused)
+}
+
+/// A heap refuses what does not fit it, so each size of heap refuses some growth, or none. All but `list` want room for a
+/// ROM, which is 128 times 16 bytes. What `play` does is told by tests of its own.
+#[test]
+fn each_growth_is_refused_in_turn(rt: HostRuntime) -> Result<(), Fail> {
+    let rom = vec![in rt.alloc(); 0xD0u8; MEMORY_BYTES]?;
+    for task in tasks(rom.as_slice()) {
+        let (least, most) = match task.job {
+            Job::List => (0, 64),
+            Job::Rom => (128, MOST_SLOTS),
+            Job::Check { .. } => (128, 192),
+            Job::Play { .. } => continue,
+        };
+        let refused = refusals(rt.alloc(), task)?;
+        assert!(rt; least < refused && refused < most, "refused {refused}");
+    }
+    Ok(())
+}
 
 /// A writer that fills up the arena at its first write, and remembers how many bytes the arena has then. From then on
 /// each request makes the arena greater, and it stays so when the memory is given back.
@@ -32,34 +76,25 @@ impl Write for Filling<'_> {
     }
 }
 
-/// Whether a job of this input that is done asked for no memory after its first write.
-fn asks_before_it_writes(alloc: Global, job: Job, input: &[u8]) -> Result<bool, Fail> {
+/// Whether a task that is done asked for no memory after its first write.
+fn asks_before_it_writes(alloc: Global, task: Task) -> bool {
     let arena = Bump::new(alloc);
-    let mut reader = Watched::new(input);
+    let mut reader = Watched::new(task.input);
     let mut writer = Watched::new(Filling {
         arena: &arena,
         filler: None,
         bytes: 0,
     });
-    let answer: Result<Done, ToolFault> = perform(&arena, job, &mut reader, &mut writer);
+    let answer = perform(&arena, task.job, &mut reader, &mut writer);
     let filling = writer.into_inner();
-    Ok(answer.is_ok() && filling.filler.is_some() && arena.allocated_bytes() == filling.bytes)
+    answer == task.answer && filling.filler.is_some() && arena.allocated_bytes() == filling.bytes
 }
 
 #[test]
 fn nothing_is_asked_for_after_the_first_write(rt: HostRuntime) -> Result<(), Fail> {
     let rom = vec![in rt.alloc(); 0xD0u8; MEMORY_BYTES]?;
-    let draft = b"labs 0 0 0\nhalt\n";
-    let trace = text_of(rt.alloc(), FIRST_PICTURE)?;
-    for (job, input) in [
-        (Job::List, rom.as_slice()),
-        (Job::Rom, rom.as_slice()),
-        (Job::Check { bound: false }, draft.as_slice()),
-        (Job::Check { bound: true }, draft.as_slice()),
-        (Job::Play { all: false }, trace.as_bytes()),
-        (Job::Play { all: true }, trace.as_bytes()),
-    ] {
-        assert!(rt; asks_before_it_writes(rt.alloc(), job, input)?);
+    for task in tasks(rom.as_slice()) {
+        assert!(rt; asks_before_it_writes(rt.alloc(), task));
     }
     Ok(())
 }

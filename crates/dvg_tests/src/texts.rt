@@ -1,5 +1,4 @@
 //! What a case can't show of texts: the fault of refused memory, and the reader of traces alone.
-use crate::traces::text_of;
 use dvg_tool::{ToolFault, read_trace, status};
 use dvg_world::TraceEvent;
 use std::test::Fail;
@@ -15,8 +14,9 @@ fn want_of_memory_has_its_text(rt: HostRuntime) -> Result<(), Fail> {
 /// The reader of traces alone: the events of a text, and the bytes of its ROM.
 #[test]
 fn a_trace_gives_events_and_a_rom(rt: HostRuntime) -> Result<(), Fail> {
-    let text = text_of(rt.alloc(), "rom 801 FE37; tick 2; offer F1; strobe")?;
-    let told = read_trace(rt.alloc(), text.as_str().as_bytes()).map_err(|_| "not a trace")?;
+    let text =
+        "rom 801 FE37\ntick 2\noffer\nlabs 512 400 0\nvctr 9 -100 100 7\nhalt\nend\nstrobe\n";
+    let told = read_trace(rt.alloc(), text.as_bytes()).map_err(|_| "not a trace")?;
     if told.events.len() != 4 {
         return Err("not four events".into());
     }

@@ -1,28 +1,11 @@
-//! Traces in a compact notation, and what `play` writes of them.
+//! The text of the first picture, and what `play` writes of texts.
 use dvg_tool::{ToolFault, Watched, play};
 use std::alloc::Global;
 use std::test::Fail;
 
-/// The first picture: F1 is offered, written, published and drawn.
-pub const FIRST_PICTURE: &str = "tick 2; offer F1; tick 14; strobe; fetch 12";
-
-/// The lines that a part of the compact notation stands for: itself, or the lines of an offer.
-fn lines_of(part: &str) -> &str {
-    match part {
-        "offer F1" => "offer\nlabs 512 400 0\nvctr 9 -100 100 7\nhalt\nend",
-        _ => part,
-    }
-}
-
-/// The text of lines that are parted by `; `, where `offer F1` stands for the lines that offer that draft.
-pub fn text_of(alloc: Global, parts: &str) -> Result<String, Fail> {
-    let mut text = String::new(alloc);
-    for part in parts.split("; ") {
-        text.push_str(lines_of(part))?;
-        text.push('\n')?;
-    }
-    Ok(text)
-}
+/// The first picture: a frame is offered, written, published and drawn.
+pub const FIRST_PICTURE: &str =
+    "tick 2\noffer\nlabs 512 400 0\nvctr 9 -100 100 7\nhalt\nend\ntick 14\nstrobe\nfetch 12\n";
 
 /// These texts, one after the other.
 pub fn joined(alloc: Global, texts: &[&str]) -> Result<String, Fail> {
@@ -45,10 +28,9 @@ pub fn played(
     Ok((String::from_utf8(writer.into_inner())?, answer))
 }
 
-/// What is written of the first picture where nothing fails.
+/// What is written of the first picture where nothing fails, which the cases of the program tell.
 pub fn first_picture_shown(alloc: Global, all: bool) -> Result<String, Fail> {
-    let text = text_of(alloc, FIRST_PICTURE)?;
-    let (written, answer) = played(alloc, text.as_str(), all)?;
+    let (written, answer) = played(alloc, FIRST_PICTURE, all)?;
     if answer.is_err() {
         return Err("not played".into());
     }

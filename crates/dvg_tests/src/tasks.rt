@@ -1,0 +1,78 @@
+//! A task for each job, and what comes of it where nothing fails.
+use crate::traces::FIRST_PICTURE;
+use dvg_frame::{FrameFault, Place};
+use dvg_tool::{Done, Job, TextFault, ToolFault, Verdict, Watched, perform};
+use std::alloc::Global;
+use std::test::Fail;
+
+/// What a job answers.
+pub type Answer = Result<Done, ToolFault>;
+
+/// A job with its input.
+#[derive(Clone, Copy)]
+pub struct Task<'a> {
+    pub job: Job,
+    pub input: &'a [u8],
+    /// How many bytes a device moves by a call: one, or a whole line of a ROM.
+    pub step: usize,
+    /// What is answered where nothing fails.
+    pub answer: Answer,
+}
+
+/// Two vectors, of which one is not canonical, and then words that are cut.
+const WORDS: [u8; 10] = [0x64, 0x90, 0x64, 0x74, 0x00, 0x94, 0x00, 0x00, 0x90, 0xA1];
+
+/// A draft behind a ROM line, which is refused.
+const REFUSED: &str = "rom 800 E001\nlabs 0 0 0\ncallrom 800\nhalt\n";
+
+/// What is answered of it.
+const OUT_OF_ROM: Verdict = Verdict::Refused(FrameFault::OutOfRom(Place::InRom(0x800)));
+
+/// A draft that is good, and what is answered of it.
+const GOOD: &str = "labs 0 0 0\nhalt\n";
+
+const SHORT: Verdict = Verdict::Good { words: 3, bound: 4 };
+
+/// The tasks, of which one reads this ROM.
+pub fn tasks(rom: &[u8]) -> [Task; 6] {
+    let task = |job, input, step, answer| Task {
+        job,
+        input,
+        step,
+        answer,
+    };
+    let picture = FIRST_PICTURE.as_bytes();
+    [
+        task(
+            Job::List,
+            WORDS.as_slice(),
+            1,
+            Err(ToolFault::Text(TextFault::Cut(4))),
+        ),
+        task(Job::Rom, rom, 64, Ok(Done::Written)),
+        task(
+            Job::Check { bound: false },
+            REFUSED.as_bytes(),
+            1,
+            Ok(Done::Judged(OUT_OF_ROM)),
+        ),
+        task(
+            Job::Check { bound: true },
+            GOOD.as_bytes(),
+            1,
+            Ok(Done::Judged(SHORT)),
+        ),
+        task(Job::Play { all: false }, picture, 1, Ok(Done::Written)),
+        task(Job::Play { all: true }, picture, 1, Ok(Done::Written)),
+    ]
+}
+
+/// What is written of a task where nothing fails, which the cases of the program tell.
+pub fn written(alloc: Global, task: Task) -> Result<Vec<u8>, Fail> {
+    let mut reader = Watched::new(task.input);
+    let mut writer = Watched::new(Vec::new(alloc));
+    if perform(alloc, task.job, &mut reader, &mut writer) != task.answer {
+        return Err("another answer".into());
+    }
+    Ok(writer.into_inner())
+}
