@@ -54,7 +54,8 @@ fn watched_passes_each_failure_on(rt: HostRuntime) -> Result<(), Fail> {
 fn reads_fail(rt: &(impl Abort + AllocGlobal), task: Task) -> Result<(), Fail> {
     let (job, step) = (task.job, task.step);
     let wanted = written(rt.alloc(), task)?;
-    let calls = u32::try_from(task.input.len() / step + 1)?;
+    let full = task.input.len().checked_div(step).ok_or("no step")?;
+    let calls = u32::try_from(full)?.saturating_add(1);
     for calls_left in 0..=calls {
         let rest = task.input;
         let mut reader = Watched::new(Slow {

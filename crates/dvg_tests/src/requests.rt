@@ -10,14 +10,14 @@ use std::io::Write;
 use std::test::Fail;
 
 /// The most times 16 bytes of a heap.
-const MOST_SLOTS: u32 = 512;
+const MOST_SLOTS: usize = 512;
 
 /// In how many heaps of rising sizes this task is refused memory. Then nothing is written, and else all.
-fn refusals(alloc: Global, task: Task) -> Result<u32, Fail> {
+fn refusals(alloc: Global, task: Task) -> Result<usize, Fail> {
     let wanted = written(alloc, task)?;
-    let mut refused = 0u32;
+    let mut refused = 0usize;
     for slots in 0..MOST_SLOTS {
-        let heap = LocalHeap::new(alloc, slots as usize * 16)?;
+        let heap = LocalHeap::new(alloc, slots * 16)?;
         let mut reader = Watched::new(task.input);
         let mut writer = Watched::new(Vec::new(alloc));
         let answer = perform(&heap, task.job, &mut reader, &mut writer);
