@@ -1,5 +1,6 @@
 //! What a case can't show of texts: the fault of refused memory, and the reader of traces alone.
-use dvg_tool::{ToolFault, read_trace, status};
+use dvg_text::read_trace;
+use dvg_tool::{ToolFault, status};
 use dvg_world::TraceEvent;
 use std::test::Fail;
 
