@@ -61,7 +61,7 @@ pub fn run<S: Store>(
 }
 
 /// Lets the events of a trace happen to a new world, as `run` does with a list of them: each line of the log keeps
-/// the headline, and the log is the one legal log of these events. Its clauses are those of `run`, word for word.
+/// the headline, and the log is the one legal log of these events. Its clauses are those of `run`.
 pub fn run_trace<S: Store>(
     alloc: S::Alloc,
     rom: Rom<S::Alloc>,
