@@ -1,17 +1,15 @@
 -- A draft without a fault and without a loop has a picture, and its fetches are bounded.
-use Rattle.std.proofs.Common.{◌≡◌, ℕ, zero, suc, ◌+◌, ◌-◌, ◌*◌, ◌/◌, ◌^◌, ◌<◌, ◌≤◌, inr, ⊎_elim, List, [], ◌++◌, length, Some, None, cond, refl, ap, ◌∙◌, subst, arith}
-use Rattle.std.specs.Prelude.{slice_index, nat_lt, ◌&&◌}
+use Rattle.std.proofs.Common.{◌≡◌, ℕ, zero, suc, ◌+◌, ◌-◌, ◌*◌, ◌/◌, ◌^◌, ◌<◌, ◌≤◌, inr, ⊎_elim, List, [], ◌++◌, length, refl, ap, subst, arith}
 use Rattle.std.proofs.Math.Nat.{suc-mul, mul-le-mul}
-use Rattle.std.proofs.lemmas.Bool.{cases_lt, le-leb, lt-ltb}
+use Rattle.std.proofs.lemmas.Bool.{cases_lt}
 use Rattle.std.proofs.lemmas.Option.{slice_get-get_or}
-use Rattle.std.proofs.lemmas.List.Elements.{All-get_or}
 use Rattle.dvg_code.specs.declared.instr.Instr.{Instr}
 use Rattle.dvg_code.specs.declared.instr.Instr.TheVariants.{Vctr, Labs, Halt, Jsrl, Rtsl, Jmpl, Svec}
 use Rattle.dvg_code.specs.Spelling.{word_count}
 use Rattle.dvg_code.specs.Words.{IsWord, word_in}
 use Rattle.dvg_code.specs.Acts.{Act, Moves, Jumps, Calls, Returns, Halts}
 use Rattle.dvg_code.proofs.Beginnings.{one_word, two_words}
-use Rattle.dvg_mem.specs.Memory.{IsImage, rom_word}
+use Rattle.dvg_mem.specs.Memory.{IsImage}
 use Rattle.dvg_gen.specs.declared.beam.Beam.{Beam}
 use Rattle.dvg_gen.specs.declared.stroke.Stroke.{Stroke}
 use Rattle.dvg_gen.specs.Drawing.{moved, drawn}
@@ -26,24 +24,10 @@ use Rattle.dvg_frame.specs.Pairs.{pair_of}
 use Rattle.dvg_frame.specs.Ways.{IsIn}
 use Rattle.dvg_frame.specs.Picture.{End, AtHalt, AtReturn, Draws, halts, returns, moves, jumps, call_halts, calls, IsPicture, IsBound}
 use Rattle.dvg_frame.specs.Loops.{Walks, none, more, places, HasLoop}
+use Rattle.dvg_frame.proofs.Words.{rom_there, word_fits}
 use Rattle.dvg_frame.proofs.Swept.{few_ops, pair_in, reached_pair}
 use Rattle.dvg_frame.proofs.OneFault.{closed_misses}
 use Rattle.dvg_frame.proofs.Pictures.{draws_once, one_picture}
-
--- a word of an image fits
-byte_fits : (R : List ℕ) (j : ℕ) → IsImage R → j < 2048 → slice_index R j < 256
-byte_fits R j image within = let count = image.count in All-get_or (λ byte. byte < 256) R j 0 (omega arith) image.bytes
-
-word_fits : (R : List ℕ) (k : ℕ) → IsImage R → k < 1024 → IsWord (word_in R k)
-word_fits R k image within =
-    let low = byte_fits R (2 * k) image (omega arith) in
-    let high = byte_fits R (2 * k + 1) image (omega arith) in
-    omega arith
-
-rom_there : (R : List ℕ) (a : ℕ) → 0x800 ≤ a → a < 0xC00 → rom_word R a ≡ Some (word_in R (a - 0x800))
-rom_there R a low high =
-    ap (λ b. cond (b && nat_lt a 0xC00) (Some (word_in R (a - 0x800))) None) (le-leb 0x800 a low)
-    ∙ ap (λ b. cond b (Some (word_in R (a - 0x800))) None) (lt-ltb a 0xC00 high)
 
 few_words : (instr : Instr) → word_count instr ≤ 2
 few_words (Vctr scale dx dy z) = omega arith

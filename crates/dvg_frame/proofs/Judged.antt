@@ -1,10 +1,9 @@
 -- What stands at a place is one thing, and what is wrong there shows by how it leads on.
-use Rattle.std.proofs.Common.{◌≡◌, ℕ, ◌+◌, ◌≤◌, inl, inr, ⊎_elim, List, [], ◌∷◌, ◌++◌, length, Option, Some, None, refl, sym, ap, ◌∙◌, subst, arith, Bool, true, false}
+use Rattle.std.proofs.Common.{◌≡◌, ℕ, ◌+◌, ◌≤◌, inl, inr, ⊎_elim, List, [], ◌∷◌, length, Option, Some, None, refl, sym, ap, ◌∙◌, subst, arith, Bool, true, false}
 use Rattle.std.specs.Prelude.{slice_get, nat_le, nat_lt, ◌&&◌, if◌then◌else◌}
 use Rattle.std.proofs.lemmas.Bool.Decides.{nat_tests}
 use Rattle.dvg_code.specs.declared.instr.Instr.{Instr}
 use Rattle.dvg_code.specs.Spelling.{Spells, IsFirst, word_count}
-use Rattle.dvg_code.specs.Cutting.{Fronts}
 use Rattle.dvg_code.specs.Acts.{Act, Moves, Jumps, Calls, Returns, Halts}
 use Rattle.dvg_code.proofs.Unique.{same_spelling, same_front, rest_begins_none}
 use Rattle.dvg_mem.specs.Memory.{rom_word}
@@ -19,29 +18,6 @@ use Rattle.dvg_frame.specs.declared.way.Way.{Way}
 use Rattle.dvg_frame.specs.Steps.{SpelledAt, one, two, op_act, rom_act, Stands, in_frame, in_rom, GoesPast, Names, IsOutside, Bad, last, target, second, past, deep, bare, IsFine}
 use Rattle.dvg_frame.specs.Faults.{number}
 use Rattle.dvg_frame.specs.Ways.{way, EndsWithin, StandsSo, GoesOn, Outside, LeadsOutside, IsCall, IsReturn, HasFault, IsLeast}
-
--- what the front of the words at an address spells is spelled there
-front_spelled : (mem : ℕ → Option ℕ) (a first : ℕ) (words : List ℕ) (instr : Instr) (front after : List ℕ) → Spells instr front → first ∷ words ≡ front ++ after → mem a ≡ Some first
-    → ((next : ℕ) (more : List ℕ) → words ≡ next ∷ more → mem (a + 1) ≡ Some next) → SpelledAt mem a instr
-front_spelled mem a first words instr [] after spells parts first_is next_is = elim spells [ ]
-front_spelled mem a first words instr (x ∷ []) after spells parts first_is next_is =
-    let same : first ≡ x = cc in
-    one (first_is ∙ ap Some same) spells
-front_spelled mem a first words instr (x ∷ y ∷ []) after spells parts first_is next_is =
-    let same : first ≡ x = cc in
-    let rest : words ≡ y ∷ after = cc in
-    two (first_is ∙ ap Some same) (next_is y after rest) spells
-front_spelled mem a first words instr (x ∷ y ∷ z ∷ zs) after spells parts first_is next_is = elim spells [ ]
-
-pub one_read : (mem : ℕ → Option ℕ) (a first : ℕ) (instr : Instr) (count : ℕ) → Fronts (first ∷ []) instr count → mem a ≡ Some first → SpelledAt mem a instr
-one_read mem a first instr count read first_is =
-    front_spelled mem a first [] instr read.front read.after read.spells read.parts first_is
-    (λ next more is. let none : [] ≡ next ∷ more = is in cc)
-
-pub two_read : (mem : ℕ → Option ℕ) (a first next : ℕ) (instr : Instr) (count : ℕ) → Fronts (first ∷ next ∷ []) instr count → mem a ≡ Some first → mem (a + 1) ≡ Some next → SpelledAt mem a instr
-two_read mem a first next instr count read first_is next_is =
-    front_spelled mem a first (next ∷ []) instr read.front read.after read.spells read.parts first_is
-    (λ x more is. let two_words : next ∷ [] ≡ x ∷ more = is in let same : next ≡ x = cc in next_is ∙ ap Some same)
 
 -- one instruction at most is spelled at an address
 spelled_once : (mem : ℕ → Option ℕ) (a : ℕ) (instr other : Instr) → SpelledAt mem a instr → SpelledAt mem a other → instr ≡ other
@@ -178,13 +154,6 @@ module _ (F : List OpKind) (R : List ℕ) where
   stands_there p i n op kind seen place n_is is kind_is seen_is =
       subst (λ x. StandsSo F R x seen) (sym place)
       (record { act = op_act kind; after = InFrame (i + 1); stands = in_frame (subst (λ k. slice_get F k ≡ Some op) n_is is) (ap op_act kind_is); is = seen_is })
-
-  pub spelled_there : (p : Place) (a count : ℕ) (instr : Instr) (seen : Way) → p ≡ InRom a → SpelledAt (rom_word R) a instr → count ≡ word_count instr → seen ≡ way (rom_act instr) (InRom (a + count))
-      → StandsSo F R p seen
-  spelled_there p a count instr seen place spelled count_is seen_is =
-      let after_is : InRom (a + count) ≡ InRom (a + word_count instr) = ap (λ n. InRom (a + n)) count_is in
-      subst (λ x. StandsSo F R x seen) (sym place)
-      (record { act = rom_act instr; after = InRom (a + word_count instr); stands = in_rom spelled refl; is = seen_is ∙ ap (way (rom_act instr)) after_is })
 
   pub least_there : (pair : Pair) (count : ℕ) (seen : Way) (fault : FrameFault) → count ≡ length F → StandsSo F R pair.place seen → IsLeast (HasFault count pair seen) fault
       → IsLeast (Bad F R pair.place pair.depth) fault

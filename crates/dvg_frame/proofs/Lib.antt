@@ -4,6 +4,7 @@ pub mod Cursors
 pub mod Firsts
 pub mod OneFault
 pub mod Judged
+pub mod Words
 pub mod Knowing
 pub mod Marks
 pub mod Swept

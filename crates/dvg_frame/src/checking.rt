@@ -163,11 +163,11 @@ fn judge<A: Allocator>(
         Ok(words) => words,
         Err(fault) => return Err(fault),
     };
+    // A ROM is an image of 2,048 bytes, as its type says.
+    let _ = rom.len_words();
     if let Some(found) = sweep(list, table, draft, rom) {
         return Err(found.fault);
     }
-    // A ROM is an image of 2,048 bytes, as its type says.
-    let _ = rom.len_words();
     match settle(list, draft, rom, table, chain) {
         Some(bound) => Ok(Sizes { words, bound }),
         None => Err(FrameFault::Loops),

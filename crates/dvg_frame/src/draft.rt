@@ -1,13 +1,14 @@
 //! Drafts.
 ghost use Rattle.std.specs.Prelude.{◌≡◌, ◌+◌, ◌<◌, ◌≤◌, ◌↔◌, List, [], ◌∷◌, ◌++◌, length, IfOk, IsOk, IsTrue, OnErr, OnOk, Some, slice_get};
+ghost use Rattle.dvg_code.specs.Spelling.{word_count as words_of_code};
 ghost use Rattle.dvg_frame.specs.Layout.{op_words, size};
 ghost use Rattle.dvg_frame.specs.Counting.{IsSized};
 ghost use Rattle.dvg_frame.specs.Ops.{IsDraft, IsOp};
 ghost use Rattle.dvg_frame.specs.declared.op.OpKind.{OpKind};
 
 use crate::op::{Op, OpKind};
-use crate::way::word_count;
 use arrayvec::ArrayVec;
+use dvg_code::{Code, Instr};
 use std::marker::Model;
 
 /// The most operations that a draft holds. One word each is as much as a half of the RAM has.
@@ -118,6 +119,17 @@ impl Draft {
         ensures { result ≡ size self.now }
     {
         self.words
+    }
+}
+
+// How many words an instruction has.
+fn word_count(code: Code) -> u16
+    ensures value { result ≡ words_of_code code }
+    ensures bound { result ≤ 2 }
+{
+    match code.instr() {
+        Instr::Vctr { .. } | Instr::Labs { .. } => 2,
+        Instr::Halt | Instr::Jsrl(_) | Instr::Rtsl | Instr::Jmpl(_) | Instr::Svec { .. } => 1,
     }
 }
 

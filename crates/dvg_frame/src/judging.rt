@@ -1,5 +1,6 @@
 //! What is wrong at a pair of place and depth.
 ghost use Rattle.std.specs.Prelude.{◌≡◌, ◌≢◌, ◌+◌, ℕ, MatchOption, MatchResult};
+ghost use Rattle.dvg_mem.specs.Memory.{IsImage};
 ghost use Rattle.dvg_frame.specs.Steps.{Bad, IsFine};
 ghost use Rattle.dvg_frame.specs.Ways.{HasFault, IsIn, IsLeast, StandsSo};
 ghost use Rattle.dvg_frame.specs.declared.place.FrameFault.{FrameFault};
@@ -50,7 +51,8 @@ fn fault_at(count: usize, pair: Pair, seen: Way) -> Option<FrameFault>
 
 // The way on from a pair without a fault, or the fault of least number there.
 pub(crate) fn look<A: Allocator>(draft: &Draft, rom: &Rom<A>, pair: Pair) -> Result<Way, FrameFault>
-    requires { IsIn draft.now pair.place }
+    requires image { IsImage rom.now }
+    requires inside { IsIn draft.now pair.place }
     ensures { MatchResult result
         (λ seen. IsFine draft.now rom.now pair.place pair.depth × StandsSo draft.now rom.now pair.place seen)
         (λ fault. IsLeast (Bad draft.now rom.now pair.place pair.depth) fault) }

@@ -1,5 +1,6 @@
 //! The sweep over all pairs that a draft's run can come to.
 ghost use Rattle.std.specs.Prelude.{◌≡◌, ◌≤◌, ◌⊎◌, ℕ, [], IfSome, MatchOption, Some};
+ghost use Rattle.dvg_mem.specs.Memory.{IsImage};
 ghost use Rattle.dvg_frame.specs.Faults.{Begins, Least};
 ghost use Rattle.dvg_frame.specs.Growth.{Grows};
 ghost use Rattle.dvg_frame.specs.Pairs.{IsPair, index};
@@ -80,6 +81,7 @@ pub(crate) fn sweep<A: Allocator>(
     draft: &Draft,
     rom: &Rom<A>,
 ) -> Option<Found>
+    requires image { IsImage rom.now }
     requires empty { list.old ≡ [] }
     requires begins { Begins draft.now }
     ensures { MatchOption result

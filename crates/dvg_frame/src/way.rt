@@ -1,15 +1,14 @@
 //! How what stands at a place leads on.
-ghost use Rattle.std.specs.Prelude.{◌≡◌, ◌<◌, ◌≤◌, ◌↔◌, IsTrue, MatchOption};
-ghost use Rattle.dvg_code.specs.Spelling.{word_count as words_of_code};
-ghost use Rattle.dvg_mem.specs.Memory.{rom_word};
-ghost use Rattle.dvg_frame.specs.Steps.{SpelledAt, op_act, rom_act};
+ghost use Rattle.std.specs.Prelude.{◌≡◌, ◌<◌, ◌≤◌, ◌↔◌, List, IsTrue, MatchOption};
+ghost use Rattle.dvg_mem.specs.Memory.{IsImage};
+ghost use Rattle.dvg_frame.specs.Steps.{op_act};
 ghost use Rattle.dvg_frame.specs.Ways.{EndsWithin, GoesOn, IsCall, IsIn, IsReturn, LeadsOutside, Outside, StandsSo, way};
+ghost use Rattle.dvg_frame.specs.declared.op.OpKind.{OpKind};
 
 use crate::draft::Draft;
 use crate::op::OpKind;
 use crate::pair::{ROM_END, ROM_FIRST};
 use crate::place::Place;
-use dvg_code::{Code, Instr, decode};
 use dvg_mem::Rom;
 use std::alloc::Allocator;
 
@@ -96,55 +95,37 @@ fn way_of_op(kind: OpKind, after: Place) -> Way
     }
 }
 
-// The way of an instruction of the ROM, with this place after it.
-fn way_of_code(code: Code, after: Place) -> Way
-    ensures { result ≡ way (rom_act code) after }
-{
-    match code.instr() {
-        Instr::Vctr { .. } | Instr::Labs { .. } | Instr::Svec { .. } => Way::Move(after),
-        Instr::Jsrl(a) => Way::Call(Place::InRom(a), after),
-        Instr::Jmpl(a) => Way::Jump(Place::InRom(a)),
-        Instr::Rtsl => Way::Return,
-        Instr::Halt => Way::Halt,
-    }
-}
-
-// How many words an instruction has.
-pub(crate) fn word_count(code: Code) -> u16
-    ensures value { result ≡ words_of_code code }
-    ensures bound { result ≤ 2 }
-{
-    match code.instr() {
-        Instr::Vctr { .. } | Instr::Labs { .. } => 2,
-        Instr::Halt | Instr::Jsrl(_) | Instr::Rtsl | Instr::Jmpl(_) | Instr::Svec { .. } => 1,
-    }
-}
-
-// The instruction that the ROM's words from an address on spell. None where the ROM ends within it.
-fn code_at<A: Allocator>(rom: &Rom<A>, a: u16) -> Option<Code>
+// The way on from a word of the ROM, by its opcode. None where the ROM ends within the instruction.
+fn rom_way<A: Allocator>(rom: &Rom<A>, a: u16) -> Option<Way>
+    requires image { IsImage rom.now }
     requires low { ROM_FIRST ≤ a }
     requires high { a < ROM_END }
-    ensures { MatchOption result (EndsWithin rom.now (Place.InRom a)) (λ code. SpelledAt (rom_word rom.now) a code) }
+    ensures { MatchOption result (EndsWithin rom.now (Place.InRom a)) (λ seen. (F : List OpKind) → StandsSo F rom.now (Place.InRom a) seen) }
 {
-    let first = rom.word(a);
-    if a + 1 == ROM_END {
-        let words = [first];
-        match decode(&words) {
-            Ok(read) => Some(read.0),
-            Err(_) => None,
-        }
-    } else {
-        let words = [first, rom.word(a + 1)];
-        match decode(&words) {
-            Ok(read) => Some(read.0),
-            Err(_) => None,
-        }
+    let word = rom.word(a);
+    if word < 0xB000 {
+        return if a + 1 == ROM_END {
+            None
+        } else {
+            Some(Way::Move(Place::InRom(a + 2)))
+        };
     }
+    let target = Place::InRom(word % 0x1000);
+    let after = Place::InRom(a + 1);
+    let way = match word >> 12 {
+        0xB => Way::Halt,
+        0xC => Way::Call(target, after),
+        0xD => Way::Return,
+        0xE => Way::Jump(target),
+        _ => Way::Move(after),
+    };
+    Some(way)
 }
 
 // The way on from a place. None where the ROM ends within the instruction there.
 pub(crate) fn way_at<A: Allocator>(draft: &Draft, rom: &Rom<A>, place: Place) -> Option<Way>
-    requires { IsIn draft.now place }
+    requires image { IsImage rom.now }
+    requires inside { IsIn draft.now place }
     ensures { MatchOption result (EndsWithin rom.now place) (λ seen. StandsSo draft.now rom.now place seen) }
 {
     match place {
@@ -153,12 +134,6 @@ pub(crate) fn way_at<A: Allocator>(draft: &Draft, rom: &Rom<A>, place: Place) ->
             let after = Place::InFrame(i + 1);
             Some(way_of_op(op.kind(), after))
         }
-        Place::InRom(a) => match code_at(rom, a) {
-            Some(code) => {
-                let after = Place::InRom(a + word_count(code));
-                Some(way_of_code(code, after))
-            }
-            None => None,
-        },
+        Place::InRom(a) => rom_way(rom, a),
     }
 }

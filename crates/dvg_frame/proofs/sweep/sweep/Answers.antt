@@ -9,8 +9,8 @@ loop-done-init g c = record {
   ways = λ j pair below. absurd (omega arith);
 }
 
-pub look-requires : goal.look-requires
-look-requires g c =
+pub look-requires-clause-inside : goal.look-requires-clause-inside
+look-requires-clause-inside g c =
     pair_in _ _ (few_ops _ c.requires.begins) c.requires.begins _ (is_reached _ _ (few_ops _ c.requires.begins) c.requires.begins _ _ _ c.loop-done.invariant.sweeps _ c.at-pair.ensures.value)
 
 pub spread-requires-clause-stays : goal.spread-requires-clause-stays
