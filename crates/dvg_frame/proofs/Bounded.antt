@@ -27,7 +27,7 @@ use Rattle.dvg_frame.specs.Loops.{Walks, none, more, places, HasLoop}
 use Rattle.dvg_frame.proofs.Words.{rom_there, word_fits}
 use Rattle.dvg_frame.proofs.Swept.{few_ops, pair_in, reached_pair}
 use Rattle.dvg_frame.proofs.OneFault.{closed_misses}
-use Rattle.dvg_frame.proofs.Pictures.{draws_once, one_picture}
+use Rattle.dvg_frame.proofs.Pictures.{one_picture}
 
 few_words : (instr : Instr) → word_count instr ≤ 2
 few_words (Vctr scale dx dy z) = omega arith
@@ -43,6 +43,33 @@ suc_times k cost = let is = suc-mul k cost in omega arith
 
 pub begins_of : (F : List OpKind) (R : List ℕ) → Closed F R → Begins F
 begins_of F R closed = record { begins = closed.begins; fits = closed.fits; targets = λ i miss. closed_misses F R closed miss }
+
+module _ (F : List OpKind) (R : List ℕ) where
+  -- from a place, whatever the beam, something is drawn to this end in so many fetches
+  abbrev pub Drawn : Place → End → ℕ → Type 0
+  Drawn p end n = (beam : Beam) → (strokes : List Stroke) × (last : Beam) × Draws F R p beam strokes last end n
+
+  -- what a place draws, by what its targets draw
+  pub drawn_moves : {p after : Place} {instr : Instr} (end : End) (n : ℕ) → Stands F R p (Moves instr) after → Drawn after end n → Drawn p end (word_count instr + n)
+  drawn_moves {instr = instr} end n stands rest beam = let it = rest (moved beam instr) in (drawn beam instr ++ it.0, it.1, moves stands it.2)
+
+  pub drawn_jumps : {p to after : Place} (end : End) (n : ℕ) → Stands F R p (Jumps to) after → Drawn to end n → Drawn p end (suc n)
+  drawn_jumps end n stands rest beam = let it = rest beam in (it.0, it.1, jumps stands it.2)
+
+  pub drawn_call_halts : {p to after : Place} (n : ℕ) → Stands F R p (Calls to) after → Drawn to AtHalt n → Drawn p AtHalt (suc n)
+  drawn_call_halts n stands inside beam = let it = inside beam in (it.0, it.1, call_halts stands it.2)
+
+  pub drawn_calls : {p to after : Place} (end : End) (n m : ℕ) → Stands F R p (Calls to) after → Drawn to AtReturn n → Drawn after end m → Drawn p end (suc (n + m))
+  drawn_calls end n m stands inside rest beam =
+      let first = inside beam in
+      let next = rest first.1 in
+      (first.0 ++ next.0, next.1, calls stands first.2 next.2)
+
+  pub drawn_returns : {p after : Place} → Stands F R p Returns after → Drawn p AtReturn 1
+  drawn_returns stands beam = ([], beam, returns stands)
+
+  pub drawn_halts : {p after : Place} → Stands F R p Halts after → Drawn p AtHalt 1
+  drawn_halts stands beam = ([], beam, halts stands)
 
 module _ (F : List OpKind) (R : List ℕ) (image : IsImage R) (closed : Closed F R) where
   -- something stands at each reached place
@@ -80,49 +107,23 @@ module _ (F : List OpKind) (R : List ℕ) (image : IsImage R) (closed : Closed F
   pub something : (p : Place) (d : ℕ) → Reached F R p d → Something p
   something p d reached = stands_in p d (pair_in F R (few_ops F begins) begins (pair_of p d) reached) (closed.fine p d reached)
 
-  -- from a place, whatever the beam, something is drawn to this end in so many fetches
-  abbrev pub Drawn : Place → End → ℕ → Type 0
-  Drawn p end n = (beam : Beam) → (strokes : List Stroke) × (last : Beam) × Draws F R p beam strokes last end n
-
   -- the same, to some end in at most so many
   pub record Within (p : Place) (most : ℕ) : Type 0 where
     pub end : End
     pub count : ℕ
-    pub drawn_so : Drawn p end count
+    pub drawn_so : Drawn F R p end count
     pub few : count ≤ most
-
-  -- what a place draws, by what its targets draw
-  pub drawn_moves : {p after : Place} {instr : Instr} (end : End) (n : ℕ) → Stands F R p (Moves instr) after → Drawn after end n → Drawn p end (word_count instr + n)
-  drawn_moves {instr = instr} end n stands rest beam = let it = rest (moved beam instr) in (drawn beam instr ++ it.0, it.1, moves stands it.2)
-
-  pub drawn_jumps : {p to after : Place} (end : End) (n : ℕ) → Stands F R p (Jumps to) after → Drawn to end n → Drawn p end (suc n)
-  drawn_jumps end n stands rest beam = let it = rest beam in (it.0, it.1, jumps stands it.2)
-
-  pub drawn_call_halts : {p to after : Place} (n : ℕ) → Stands F R p (Calls to) after → Drawn to AtHalt n → Drawn p AtHalt (suc n)
-  drawn_call_halts n stands inside beam = let it = inside beam in (it.0, it.1, call_halts stands it.2)
-
-  pub drawn_calls : {p to after : Place} (end : End) (n m : ℕ) → Stands F R p (Calls to) after → Drawn to AtReturn n → Drawn after end m → Drawn p end (suc (n + m))
-  drawn_calls end n m stands inside rest beam =
-      let first = inside beam in
-      let next = rest first.1 in
-      (first.0 ++ next.0, next.1, calls stands first.2 next.2)
-
-  pub drawn_returns : {p after : Place} → Stands F R p Returns after → Drawn p AtReturn 1
-  drawn_returns stands beam = ([], beam, returns stands)
-
-  pub drawn_halts : {p after : Place} → Stands F R p Halts after → Drawn p AtHalt 1
-  drawn_halts stands beam = ([], beam, halts stands)
 
   -- at one depth, where what is called draws in at most `inside` fetches: a place that begins no walk of k steps
   module _ (d cost inside : ℕ) (two : 2 ≤ cost) (call_cost : suc inside ≤ cost) (called : (q : Place) → Reached F R q (suc d) → Within q inside) where
-    chain_call : (k : ℕ) (p to after : Place) → Stands F R p (Calls to) after → (end : End) (n : ℕ) → Drawn to end n → n ≤ inside → Within after (k * cost) → Within p (suc k * cost)
+    chain_call : (k : ℕ) (p to after : Place) → Stands F R p (Calls to) after → (end : End) (n : ℕ) → Drawn F R to end n → n ≤ inside → Within after (k * cost) → Within p (suc k * cost)
     chain_call k p to after stands AtHalt n drawn_so below rest =
         let each = suc_times k cost in
-        record { end = AtHalt; count = suc n; drawn_so = drawn_call_halts n stands drawn_so; few = omega arith }
+        record { end = AtHalt; count = suc n; drawn_so = drawn_call_halts F R n stands drawn_so; few = omega arith }
     chain_call k p to after stands AtReturn n drawn_so below rest =
         let each = suc_times k cost in
         let few = rest.few in
-        record { end = rest.end; count = suc (n + rest.count); drawn_so = drawn_calls rest.end n rest.count stands drawn_so rest.drawn_so; few = omega arith }
+        record { end = rest.end; count = suc (n + rest.count); drawn_so = drawn_calls F R rest.end n rest.count stands drawn_so rest.drawn_so; few = omega arith }
 
     chain_at : (k : ℕ) (p : Place) → Reached F R p d → ((q : Place) → ¬ Walks F R d p k q) → (act : Act Place) (after : Place) → Stands F R p act after → Within p (k * cost)
     chain_at zero p reached ends act after stands = absurd (ends p none)
@@ -134,7 +135,7 @@ module _ (F : List OpKind) (R : List ℕ) (image : IsImage R) (closed : Closed F
         let words = few_words instr in
         let each = suc_times k cost in
         let few = rest.few in
-        record { end = rest.end; count = word_count instr + rest.count; drawn_so = drawn_moves rest.end rest.count stands rest.drawn_so; few = omega arith }
+        record { end = rest.end; count = word_count instr + rest.count; drawn_so = drawn_moves F R rest.end rest.count stands rest.drawn_so; few = omega arith }
     chain_at (suc k) p reached ends (Jumps to) after stands =
         let leads : Leads F R p d to d = jump stands in
         let next : Reached F R to d = step reached (closed.fine p d reached) leads in
@@ -142,7 +143,7 @@ module _ (F : List OpKind) (R : List ℕ) (image : IsImage R) (closed : Closed F
         let rest = chain_at k to next (λ q walk. ends q (more leads walk)) it.act it.after it.stands in
         let each = suc_times k cost in
         let few = rest.few in
-        record { end = rest.end; count = suc rest.count; drawn_so = drawn_jumps rest.end rest.count stands rest.drawn_so; few = omega arith }
+        record { end = rest.end; count = suc rest.count; drawn_so = drawn_jumps F R rest.end rest.count stands rest.drawn_so; few = omega arith }
     chain_at (suc k) p reached ends (Calls to) after stands =
         let leads : Leads F R p d after d = back stands in
         let next : Reached F R after d = step reached (closed.fine p d reached) leads in
@@ -152,10 +153,10 @@ module _ (F : List OpKind) (R : List ℕ) (image : IsImage R) (closed : Closed F
         chain_call k p to after stands first.end first.count first.drawn_so first.few rest
     chain_at (suc k) p reached ends Returns after stands =
         let each = suc_times k cost in
-        record { end = AtReturn; count = 1; drawn_so = drawn_returns stands; few = omega arith }
+        record { end = AtReturn; count = 1; drawn_so = drawn_returns F R stands; few = omega arith }
     chain_at (suc k) p reached ends Halts after stands =
         let each = suc_times k cost in
-        record { end = AtHalt; count = 1; drawn_so = drawn_halts stands; few = omega arith }
+        record { end = AtHalt; count = 1; drawn_so = drawn_halts F R stands; few = omega arith }
 
     pub chain : (k : ℕ) (p : Place) → Reached F R p d → ((q : Place) → ¬ Walks F R d p k q) → Within p (k * cost)
     chain k p reached ends = let it = something p d reached in chain_at k p reached ends it.act it.after it.stands
@@ -199,39 +200,6 @@ module _ (F : List OpKind) (R : List ℕ) (image : IsImage R) (closed : Closed F
   cost_most : (k h : ℕ) → k ≤ 2560 → cost k h ≤ cost 2560 h
   cost_most k zero few = omega arith
   cost_most k (suc h) few = let each = mul-le-mul few (cost_most k h few) in omega arith
-
-  cost_falls : (k h : ℕ) → cost k h ≤ cost k (suc h)
-  cost_falls k zero = omega arith
-  cost_falls k (suc h) = let each = mul-le-mul {n₁ = k} {n₂ = k} (omega arith) (cost_falls k h) in omega arith
-
-  cost_least : (k h m : ℕ) → cost k h ≤ cost k (h + m)
-  cost_least k h zero = let same : h ≡ h + 0 = omega arith in let there : cost k h ≡ cost k (h + 0) = ap (cost k) same in omega arith
-  cost_least k h (suc m) =
-      let rest = cost_least k h m in
-      let last = cost_falls k (h + m) in
-      let same : suc (h + m) ≡ h + suc m = omega arith in
-      let there : cost k (suc (h + m)) ≡ cost k (h + suc m) = ap (cost k) same in
-      omega arith
-
-  -- the fetches of a reached place have 63 bits
-  pub few_fetches : (h d : ℕ) → d + h ≡ 4 → ((e : ℕ) (p q : Place) → d < e → Reached F R p e → ¬ Walks F R e p (1 + places F R) q) → (p : Place) → Reached F R p d
-      → ((q : Place) → ¬ Walks F R d p (1 + places F R) q) → (end : End) (n : ℕ) → Drawn p end n → n < 2 ^ 62
-  few_fetches h d deep_is deeper p reached own end n drawn_so =
-      let k = 1 + places F R in
-      let it = bounded k h d deep_is deeper p reached own in
-      let beam : Beam = record { x = 0; y = 0; scale = 0 } in
-      let one = drawn_so beam in
-      let other = it.drawn_so beam in
-      let same = (draws_once F R one.2 other.2).count in
-      let low : k ≤ 2560 = let all = few_places in omega arith in
-      let deepest = cost_least k h d in
-      let all_deep : h + d ≡ 4 = omega arith in
-      let four : cost k (h + d) ≡ cost k 4 = ap (cost k) all_deep in
-      let most = mul-le-mul low (cost_most k 4 low) in
-      let here = mul-le-mul {n₁ = k} {n₂ = k} (omega arith) deepest in
-      let there : k * cost k (h + d) ≡ k * cost k 4 = ap (λ c. k * c) four in
-      let few = it.few in
-      omega arith
 
   -- the theorem: without a loop there is a picture
   pub some_picture : ¬ HasLoop F R → (strokes : List Stroke) × (n : ℕ) × IsPicture F R strokes n × (n < 2 ^ 63)

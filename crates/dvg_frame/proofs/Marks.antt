@@ -28,11 +28,11 @@ same_pair one other a b same =
     let depths : one.depth ≡ other.depth = omega arith in
     ap (λ p. pair_of p one.depth) places ∙ ap (pair_of other.place) depths
 
-at_most_one : (mark : Bool) → cond {A = ℕ} mark 1 0 ≤ 1
+pub at_most_one : (mark : Bool) → cond {A = ℕ} mark 1 0 ≤ 1
 at_most_one true = omega arith
 at_most_one false = omega arith
 
-unset_counts : (mark : Bool) → mark ≡ false → cond {A = ℕ} mark 1 0 ≡ 0
+pub unset_counts : (mark : Bool) → mark ≡ false → cond {A = ℕ} mark 1 0 ≡ 0
 unset_counts true unset = let never : true ≡ false = unset in cc
 unset_counts false unset = refl
 

@@ -1,9 +1,8 @@
 -- A sweep comes to each pair that is reached, and to no other.
-use Rattle.std.proofs.Common.{◌≡◌, ◌≢◌, ℕ, suc, ◌+◌, ◌<◌, ◌≤◌, ◌⊎◌, inl, inr, ⊎_elim, List, [], ◌∷◌, ◌++◌, length, get_or, Option, Some, None, refl, sym, ap, ◌∙◌, subst, arith, length-append, set}
+use Rattle.std.proofs.Common.{◌≡◌, ◌≢◌, ℕ, suc, ◌+◌, ◌<◌, ◌≤◌, ◌⊎◌, inl, inr, ⊎_elim, List, [], ◌∷◌, ◌++◌, length, get_or, Option, Some, None, refl, sym, ap, ◌∙◌, subst, arith, length-append}
 use Rattle.std.specs.Prelude.{slice_get, MatchOption, IfSome}
 use Rattle.std.specs.List.{Contains}
-use Rattle.std.proofs.lemmas.Bool.{cases_lt, cases_eq}
-use Rattle.std.proofs.lemmas.List.{append-nil}
+use Rattle.std.proofs.lemmas.Bool.{cases_lt}
 use Rattle.std.proofs.lemmas.List.Elements.{Contains-append_left}
 use Rattle.std.proofs.lemmas.Option.{slice_get_within, get_or_from_slice_get, slice_get-get_or}
 use Rattle.std.proofs.Math.ListN.{get_or-append}
@@ -15,7 +14,7 @@ use Rattle.dvg_frame.specs.declared.place.Place.{Place}
 use Rattle.dvg_frame.specs.declared.place.Place.TheVariants.{InFrame, InRom}
 use Rattle.dvg_frame.specs.declared.place.FrameFault.{FrameFault}
 use Rattle.dvg_frame.specs.declared.place.FrameFault.TheVariants.{RunsOff, OutOfRom, TooDeep}
-use Rattle.dvg_frame.specs.declared.pair.TheConstants.{DEEPEST, PLACES, ROM_FIRST, ROM_END}
+use Rattle.dvg_frame.specs.declared.pair.TheConstants.{DEEPEST, ROM_FIRST, ROM_END}
 use Rattle.dvg_frame.specs.declared.pair.Pair.{Pair}
 use Rattle.dvg_frame.specs.declared.way.Way.{Way}
 use Rattle.dvg_frame.specs.declared.way.Way.TheVariants.{Move, Jump, Call}
@@ -24,24 +23,16 @@ use Rattle.dvg_frame.specs.Steps.{rom_act, Stands, in_frame, in_rom, GoesPast, N
 use Rattle.dvg_frame.specs.Faults.{misses, Precedes, Least, Begins}
 use Rattle.dvg_frame.specs.Growth.{Grows}
 use Rattle.dvg_frame.specs.Layout.{size}
-use Rattle.dvg_frame.specs.Pairs.{IsPlace, IsPair, pair_of, first_pair, index, place_index}
+use Rattle.dvg_frame.specs.Pairs.{IsPlace, IsPair, pair_of, first_pair, index}
 use Rattle.dvg_frame.specs.Ways.{way, IsIn, StandsSo, IsLeast}
-use Rattle.dvg_frame.specs.Sweeps.{ReachedPair, BadPair, FinePair, Follows, StaysIn, IsFound, IsUpTo, IsDone, Sweeps, IsWhole}
-use Rattle.dvg_frame.specs.declared.table.Known.{Known}
-use Rattle.dvg_frame.specs.declared.table.Known.TheVariants.{Leads as Goes}
-use Rattle.dvg_frame.specs.Tables.{HasWay, HasWays}
+use Rattle.dvg_frame.specs.Sweeps.{ReachedPair, BadPair, FinePair, Follows, StaysIn, IsFound, IsUpTo, IsDone, Sweeps}
 use Rattle.dvg_frame.proofs.Judged.{same_standing}
-use Rattle.dvg_frame.proofs.Knowing.{put_here, put_other}
 use Rattle.dvg_frame.proofs.Sizes.{some_words}
-use Rattle.dvg_frame.proofs.Marks.{contains_nil, both_grow, same_place}
-
--- the table has how the place of each pair that was looked at, and has no fault, leads on
-abbrev pub Ways : List OpKind → List ℕ → List Pair → ℕ → List Known → Type 0
-Ways F R items done table = (j : ℕ) (pair : Pair) → j < done → slice_get items j ≡ Some pair → FinePair F R pair → HasWay F R table pair.place
+use Rattle.dvg_frame.proofs.Marks.{contains_nil, both_grow}
 
 -- what a way leads to joins a list
-pub spread_move : (old new : List Pair) (seen : Way) (after : Place) (d : ℕ) → seen ≡ Move after → Grows old new (λ next. next ≡ pair_of after d) → Grows old new (Follows seen d)
-spread_move old new seen after d is grows = subst (λ x. Grows old new (Follows x d)) (sym is) grows
+pub spread_move : (old new : List Pair) (seen : Way) (after : Place) (words d : ℕ) → seen ≡ Move after words → Grows old new (λ next. next ≡ pair_of after d) → Grows old new (Follows seen d)
+spread_move old new seen after words d is grows = subst (λ x. Grows old new (Follows x d)) (sym is) grows
 
 pub spread_jump : (old new : List Pair) (seen : Way) (to : Place) (d : ℕ) → seen ≡ Jump to → Grows old new (λ next. next ≡ pair_of to d) → Grows old new (Follows seen d)
 spread_jump old new seen to d is grows = subst (λ x. Grows old new (Follows x d)) (sym is) grows
@@ -61,7 +52,7 @@ precedes one other a b below = by_places one.place other.place one.depth other.d
     by_places (InRom x) (InFrame j) d e g h l m below = omega arith
     by_places (InRom x) (InRom y) d e g h l m below = ⊎_elim (λ less. inl less) (λ no_less. let same : x ≡ y = omega arith in inr (same, omega arith)) (cases_lt x y)
 
-in_place : (F : List OpKind) (p : Place) → IsIn F p → IsPlace p
+pub in_place : (F : List OpKind) (p : Place) → IsIn F p → IsPlace p
 in_place F (InFrame i) inside = inside.1
 in_place F (InRom a) inside = inside
 
@@ -114,14 +105,14 @@ some_op F labs = omega arith
 
 module _ (F : List OpKind) (R : List ℕ) (few : length F ≤ 511) (begins : Begins F) where
   -- a fine place leads to places of the draft and the ROM
-  after_in : {p q : Place} {act : Act Place} (d : ℕ) → Stands F R p act q → GoesPast act → IsFine F R p d → IsIn F q
+  pub after_in : {p q : Place} {act : Act Place} (d : ℕ) → Stands F R p act q → GoesPast act → IsFine F R p d → IsIn F q
   after_in d (in_frame {i = i} {op = op} is act_is) goes fine =
       let within = slice_get_within F i op is in
       let not_last : i + 1 ≢ length F = λ end. fine (RunsOff i) (last (in_frame is act_is) goes end) in
       (omega arith, omega arith)
   after_in d (in_rom {a = a} spelled act_is) goes fine = inside_rom F _ (λ outside. fine (OutOfRom (InRom a)) (past (in_rom spelled act_is) goes outside))
 
-  target_in : {p after : Place} {act : Act Place} (q : Place) (d : ℕ) → Stands F R p act after → Names act q → IsFine F R p d → IsIn F q
+  pub target_in : {p after : Place} {act : Act Place} (q : Place) (d : ℕ) → Stands F R p act after → Names act q → IsFine F R p d → IsIn F q
   target_in (InFrame j) d (in_frame {i = i} {op = op} is act_is) named fine =
       let below : j < length F = ⊎_elim (λ less. less) (λ far. absurd (begins.targets i (misses is (subst (λ x. Names x (InFrame j)) act_is named) far))) (cases_lt j (length F)) in
       (below, omega arith)
@@ -261,40 +252,6 @@ module _ (F : List OpKind) (R : List ℕ) (few : length F ≤ 511) (begins : Beg
         } in
         subst (λ xs. Sweeps F R xs best2 (done + 1)) (sym items_is) (subst (λ x. Sweeps F R items x (done + 1)) (sym best_is) swept)
 
-    -- what holds of the pairs before, and of this one
-    each_next : (P : Pair → Type 0) (items1 : List Pair) (more : List Pair) → items1 ≡ items ++ more → ((j : ℕ) (other : Pair) → j < done → slice_get items j ≡ Some other → P other) → P pair
-        → (j : ℕ) (other : Pair) → j < done + 1 → slice_get items1 j ≡ Some other → P other
-    each_next P items1 more kept before here j other below read =
-        let within = slice_get_within items done pair is in
-        let front : slice_get items j ≡ Some other = read_front items more j other (omega arith) (ap (λ xs. slice_get xs j) (sym kept) ∙ read) in
-        ⊎_elim (λ less. before j other less front)
-        (λ no_less.
-        let last_one : j ≡ done = omega arith in
-        let same : pair ≡ other = let two : Some pair ≡ Some other = sym is ∙ subst (λ k. slice_get items k ≡ Some other) last_one front in cc in
-        subst P same here)
-        (cases_lt j done)
-
-    pub ways_fine : (table table2 : List Known) (seen : Way) (items1 items2 : List Pair) → Ways F R items done table → StandsSo F R pair.place seen → Grows items items1 (Follows seen pair.depth) → items2 ≡ items1
-        → length table ≡ PLACES → table2 ≡ set table (place_index pair.place) (Goes seen) → Ways F R items2 (done + 1) table2
-    ways_fine table table2 seen items1 items2 ways so grows items_is size table_is =
-        let here = (reached_pair pair is_reached).place in
-        each_next (λ other. FinePair F R other → HasWay F R table2 other.place) items2 grows.more (items_is ∙ grows.kept)
-        (λ j other low read fine.
-        let there = (reached_pair other (sweeps.reached other (read_contains items j other read))).place in
-        ⊎_elim
-        (λ same_index.
-        let same : pair.place ≡ other.place = same_place pair.place other.place here there same_index in
-        subst (HasWay F R table2) same (seen, so, put_here table table2 pair.place (Goes seen) here size table_is))
-        (λ differ. let before = ways j other low read fine in (before.0, before.1, put_other table table2 pair.place other.place (Goes seen) here there (λ same. differ (ap place_index same)) table_is ∙ before.2))
-        (cases_eq (place_index pair.place) (place_index other.place)))
-        (λ fine. (seen, so, put_here table table2 pair.place (Goes seen) here size table_is))
-
-    pub ways_bad : (table table2 : List Known) (fault : FrameFault) (items2 : List Pair) → Ways F R items done table → IsLeast (BadPair F R pair) fault → items2 ≡ items → table2 ≡ table → Ways F R items2 (done + 1) table2
-    ways_bad table table2 fault items2 ways least items_is table_is =
-        each_next (λ other. FinePair F R other → HasWay F R table2 other.place) items2 [] (items_is ∙ sym (append-nil items))
-        (λ j other low read fine. subst (λ t. HasWay F R t other.place) (sym table_is) (ways j other low read fine))
-        (λ fine. absurd (fine fault least.holds))
-
   -- what was found so far is a pair
   pub found_pair : (best : Option Found) → IfSome best (IsFound F R) → IfSome best (λ old. IsPair old.pair)
   found_pair None found = tt
@@ -309,9 +266,6 @@ module _ (F : List OpKind) (R : List ℕ) (few : length F ≤ 511) (begins : Beg
     reached_held begin = sweeps.begins
     reached_held (step {p = p} {q = q} {d = d} {e = e} reached fine leads) =
         (done_at (pair_of p d) (reached_held reached)).fine fine (pair_of q e) leads
-
-    pub whole : IsWhole F R items
-    whole = record { all = λ pair reached. reached_held reached; only = λ pair held. sweeps.reached pair held }
 
     pub all_up_to : (pair : Pair) (fault : FrameFault) → ReachedPair F R pair → BadPair F R pair fault → IsUpTo best pair
     all_up_to pair fault reached bad = (done_at pair (reached_held reached)).bad fault bad
@@ -333,16 +287,3 @@ module _ (F : List OpKind) (R : List ℕ) (few : length F ≤ 511) (begins : Beg
       → MatchOption best ((p : Place) → (d : ℕ) → Reached F R p d → IsFine F R p d) (λ first. Least F R first.fault)
   finish None found up = λ p d reached fault bad. up (pair_of p d) fault reached bad
   finish (Some first) found up = finish_some first found up
-
-  -- so the table has how each reached place leads on
-  pub has_ways : (items : List Pair) (done : ℕ) (table : List Known) → length items ≤ done → IsWhole F R items → Ways F R items done table → ((p : Place) → (d : ℕ) → Reached F R p d → IsFine F R p d) → HasWays F R table
-  has_ways items done table all listed ways fine p d reached =
-      let held = contains_read items (pair_of p d) (listed.all (pair_of p d) reached) in
-      let within = held.1 in
-      ways held.0 (pair_of p d) (omega arith) held.2 (fine p d reached)
-
-  pub finish_whole : (best : Option Found) (items : List Pair) (table : List Known) → IsWhole F R items → (((p : Place) → (d : ℕ) → Reached F R p d → IsFine F R p d) → HasWays F R table)
-      → MatchOption best ((p : Place) → (d : ℕ) → Reached F R p d → IsFine F R p d) (λ first. Least F R first.fault)
-      → MatchOption best (((p : Place) → (d : ℕ) → Reached F R p d → IsFine F R p d) × IsWhole F R items × HasWays F R table) (λ first. Least F R first.fault)
-  finish_whole None items table listed ways found = (found, listed, ways found)
-  finish_whole (Some first) items table listed ways found = found

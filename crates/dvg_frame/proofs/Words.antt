@@ -31,11 +31,11 @@ rom_there R a low high =
     ∙ ap (λ b. cond b (Some (word_in R (a - 0x800))) None) (lt-ltb a 0xC00 high)
 
 -- an instruction of two words, or one of opcode F, leads to the place after it
-long_moves : {first second : ℕ} {instr : Instr} (after : Place) → Spells instr (first ∷ second ∷ []) → (way (rom_act instr) after ≡ Move after) × (word_count instr ≡ 2)
+long_moves : {first second : ℕ} {instr : Instr} (after : Place) → Spells instr (first ∷ second ∷ []) → (way (rom_act instr) after ≡ Move after 2) × (word_count instr ≡ 2)
 long_moves after (vctr range first second) = (refl, refl)
 long_moves after (labs range first second) = (refl, refl)
 
-short_moves : {word : ℕ} {instr : Instr} (after : Place) → 61440 ≤ word → Spells instr (word ∷ []) → (way (rom_act instr) after ≡ Move after) × (word_count instr ≡ 1)
+short_moves : {word : ℕ} {instr : Instr} (after : Place) → 61440 ≤ word → Spells instr (word ∷ []) → (way (rom_act instr) after ≡ Move after 1) × (word_count instr ≡ 1)
 short_moves after f (halt low high) = absurd (omega arith)
 short_moves after f (jsrl range sum) = absurd (omega arith)
 short_moves after f (rtsl low high) = absurd (omega arith)
@@ -59,16 +59,16 @@ module _ (F : List OpKind) (R : List ℕ) (a word : ℕ) (there : rom_word R a �
       let size : word % 4096 ≤ 4095 = omega arith in
       record { act = _; after = _; stands = in_rom (one there (jmpl size (omega arith))) refl; is = refl }
 
-  pub stands_short : 61440 ≤ word → IsWord word → StandsSo F R (InRom a) (Move (InRom (a + 1)))
+  pub stands_short : 61440 ≤ word → IsWord word → StandsSo F R (InRom a) (Move (InRom (a + 1)) 1)
   stands_short low fits =
       let spelled = one_word word (omega arith) fits in
       let instr = spelled.0 in
       let kind = short_moves (InRom (a + word_count instr)) low spelled.1 in
-      record { act = _; after = _; stands = in_rom (one there spelled.1) refl; is = ap (λ n. Move (InRom (a + n))) (sym kind.1) ∙ sym kind.0 }
+      record { act = _; after = _; stands = in_rom (one there spelled.1) refl; is = ap (λ n. Move (InRom (a + n)) 1) (sym kind.1) ∙ sym kind.0 }
 
-  pub stands_long : IsImage R → 2048 ≤ a → a + 1 < 3072 → IsFirst word → StandsSo F R (InRom a) (Move (InRom (a + 2)))
+  pub stands_long : IsImage R → 2048 ≤ a → a + 1 < 3072 → IsFirst word → StandsSo F R (InRom a) (Move (InRom (a + 2)) 2)
   stands_long image low high first =
       let next_there = rom_there R (a + 1) (omega arith) high in
       let spelled = two_words word (word_in R (a + 1 - 0x800)) first (word_fits R (a + 1 - 0x800) image (omega arith)) in
       let kind = long_moves (InRom (a + word_count spelled.0)) spelled.1 in
-      record { act = _; after = _; stands = in_rom (two there next_there spelled.1) refl; is = ap (λ n. Move (InRom (a + n))) (sym kind.1) ∙ sym kind.0 }
+      record { act = _; after = _; stands = in_rom (two there next_there spelled.1) refl; is = ap (λ n. Move (InRom (a + n)) 2) (sym kind.1) ∙ sym kind.0 }

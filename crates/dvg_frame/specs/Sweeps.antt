@@ -29,7 +29,7 @@ LeadsTo F R pair next = Leads F R pair.place pair.depth next.place next.depth
 
 -- the way leads from this depth to the pair
 abbrev pub Follows : Way → ℕ → Pair → Type 0
-Follows (Move after) d next = next ≡ pair_of after d
+Follows (Move after words) d next = next ≡ pair_of after d
 Follows (Jump to) d next = next ≡ pair_of to d
 Follows (Call to after) d next = (next ≡ pair_of to (d + 1)) ⊎ (next ≡ pair_of after d)
 Follows Return d next = ⊥
@@ -37,7 +37,7 @@ Follows Halt d next = ⊥
 
 -- each pair that the way leads to from this depth is one that a draft can have
 abbrev pub StaysIn : Way → ℕ → Type 0
-StaysIn (Move after) d = IsPlace after
+StaysIn (Move after words) d = IsPlace after
 StaysIn (Jump to) d = IsPlace to
 StaysIn (Call to after) d = IsPlace to × IsPlace after × (d < DEEPEST)
 StaysIn Return d = Unit {0}
@@ -65,8 +65,3 @@ pub record Sweeps (F : List OpKind) (R : List ℕ) (items : List Pair) (best : O
   pub reached : (pair : Pair) → Contains items pair → ReachedPair F R pair
   pub looked : (j : ℕ) (pair : Pair) → j < done → slice_get items j ≡ Some pair → IsDone F R items best pair
   pub found : IfSome best (IsFound F R)
-
--- the list has the reached pairs, and no other
-pub record IsWhole (F : List OpKind) (R : List ℕ) (items : List Pair) : Type 0 where
-  pub all : (pair : Pair) → ReachedPair F R pair → Contains items pair
-  pub only : (pair : Pair) → Contains items pair → ReachedPair F R pair

@@ -1,73 +1,98 @@
--- The table of what is known of each place. Only the check's own functions cite this.
-use Rattle.std.specs.Prelude.{◌≡◌, ℕ, ◌+◌, ◌<◌, ◌≤◌, ◌⊎◌, List, [], ◌∷◌, Option, Some, None, slice_index_or}
+-- What is known of each place, and the table of it. Only the check's own functions cite this.
+use Rattle.std.specs.Prelude.{◌≡◌, ℕ, ◌+◌, ◌<◌, ◌≤◌, ◌^◌, ◌⊎◌, List, [], ◌∷◌, ◌++◌, length, Bool, true, false, Option, Some, None, slice_index_or, Contains, All, count_by}
 use Rattle.dvg_code.specs.Acts.{Act, Moves, Jumps, Calls, Returns as GoesBack, Halts as Stops}
 use Rattle.dvg_gen.specs.declared.beam.Beam.{Beam}
 use Rattle.dvg_gen.specs.declared.stroke.Stroke.{Stroke}
 use Rattle.dvg_frame.specs.declared.op.OpKind.{OpKind}
 use Rattle.dvg_frame.specs.declared.place.Place.{Place}
 use Rattle.dvg_frame.specs.declared.pair.Pair.{Pair}
+use Rattle.dvg_frame.specs.declared.pair.TheConstants.{DEEPEST, PLACES}
 use Rattle.dvg_frame.specs.declared.table.Drawn.{Drawn}
-use Rattle.dvg_frame.specs.declared.table.Drawn.TheVariants.{Halts, Returns}
-use Rattle.dvg_frame.specs.declared.table.Known.{Known}
-use Rattle.dvg_frame.specs.declared.table.Known.TheVariants.{Leads, Draws}
+use Rattle.dvg_frame.specs.declared.table.Ending.{Ending}
+use Rattle.dvg_frame.specs.declared.table.Ending.TheVariants.{Halts, Returns}
 use Rattle.dvg_frame.specs.declared.way.Way.{Way}
 use Rattle.dvg_frame.specs.declared.way.Way.TheVariants.{Move, Jump, Call, Return, Halt}
 use Rattle.dvg_frame.specs.Pairs.{IsPlace, place_index}
-use Rattle.dvg_frame.specs.Steps.{Stands, Reached, Closed}
-use Rattle.dvg_mem.specs.Memory.{IsImage}
+use Rattle.dvg_frame.specs.Steps.{Stands, Reached, IsFine, Leads}
+use Rattle.dvg_frame.specs.Faults.{Begins}
 use Rattle.dvg_frame.specs.Picture.{End, AtHalt, AtReturn, Draws as DrawsSo}
-use Rattle.dvg_frame.specs.Loops.{Walks}
-use Rattle.dvg_frame.specs.Ways.{StandsSo}
+use Rattle.dvg_frame.specs.Loops.{Walks, HasLoop}
+use Rattle.dvg_frame.specs.Ways.{IsIn}
+
+-- no reached pair has a fault
+abbrev pub AllFine : List OpKind → List ℕ → Type 0
+AllFine F R = (p : Place) (d : ℕ) → Reached F R p d → IsFine F R p d
+
+-- there is a fault at a reached pair, or a loop
+abbrev pub IsRefused : List OpKind → List ℕ → Type 0
+IsRefused F R = AllFine F R → HasLoop F R
 
 -- what the table has at a place
-abbrev pub known_at : List Known → Place → Known
-known_at table p = slice_index_or table (place_index p) (Leads Halt)
+abbrev pub known_at : List (Option Drawn) → Place → Option Drawn
+known_at table p = slice_index_or table (place_index p) None
 
 -- the table has what is drawn from a place
-abbrev pub HasPlace : List Known → Place → Type 0
-HasPlace table p = (drawn : Drawn) × (known_at table p ≡ Draws drawn)
+abbrev pub HasPlace : List (Option Drawn) → Place → Type 0
+HasPlace table p = IsPlace p × ((drawn : Drawn) × (known_at table p ≡ Some drawn))
+
+-- the table has nothing
+abbrev pub HasNone : List (Option Drawn) → Type 0
+HasNone table = (p : Place) → IsPlace p → known_at table p ≡ None
 
 -- what was there still is
-abbrev pub Keeps : List Known → List Known → Type 0
-Keeps old new = (p : Place) → IsPlace p → HasPlace old p → HasPlace new p
+abbrev pub Keeps : List (Option Drawn) → List (Option Drawn) → Type 0
+Keeps old new = (p : Place) (drawn : Drawn) → IsPlace p → known_at old p ≡ Some drawn → known_at new p ≡ Some drawn
 
-abbrev pub ending : Drawn → End
-ending (Halts n) = AtHalt
-ending (Returns n) = AtReturn
+-- something is known
+abbrev pub is_known : Option Drawn → Bool
+is_known None = false
+is_known (Some drawn) = true
 
-abbrev pub fetches : Drawn → ℕ
-fetches (Halts n) = n
-fetches (Returns n) = n
+-- the list has the number of each place of which something is known
+pub record AreListed (table : List (Option Drawn)) (listed : List ℕ) : Type 0 where
+  pub size : length table ≡ PLACES
+  pub held : (k : ℕ) → is_known (slice_index_or table k None) ≡ true → Contains listed k
+  pub valid : All (λ k. k < PLACES) listed
+
+-- besides, it has no more numbers than there are such places
+pub record AreCounted (table : List (Option Drawn)) (listed : List ℕ) : Type 0 where
+  pub all : AreListed table listed
+  pub counted : length listed ≤ count_by is_known table
+
+-- how what is drawn ends
+abbrev pub end_of : Ending → End
+end_of Halts = AtHalt
+end_of Returns = AtReturn
+
+-- at this depth no call is one too deep, and no return is without a call
+pub record Fits (drawn : Drawn) (d : ℕ) : Type 0 where
+  pub deep : d + drawn.calls ≤ DEEPEST
+  pub back : drawn.returns ≡ true → 0 < d
 
 -- this is drawn from a place, whatever the beam, and steps at one depth from there come to an end
 pub record IsDrawn (F : List OpKind) (R : List ℕ) (p : Place) (drawn : Drawn) : Type 0 where
-  pub draws : (beam : Beam) → (strokes : List Stroke) × (last : Beam) × DrawsSo F R p beam strokes last (ending drawn) (fetches drawn)
+  pub count : ℕ
+  pub few : count < 2 ^ 64 → drawn.words ≡ count
+  pub draws : (beam : Beam) → (strokes : List Stroke) × (last : Beam) × DrawsSo F R p beam strokes last (end_of drawn.end) count
   pub ends : (k : ℕ) × ((d : ℕ) (q : Place) → ¬ Walks F R d p k q)
 
--- this is so of a place
-abbrev pub IsKnown : List OpKind → List ℕ → Place → Known → Type 0
-IsKnown F R p (Leads way) = StandsSo F R p way
-IsKnown F R p (Draws drawn) = IsDrawn F R p drawn
+-- a step leads to a place of the table that fits the depth there
+pub record GoesTo (table : List (Option Drawn)) (q : Place) (e : ℕ) : Type 0 where
+  pub inside : IsPlace q
+  pub drawn : Drawn
+  pub known : known_at table q ≡ Some drawn
+  pub fits : Fits drawn e
 
--- what the table has at a reached place is right
-abbrev pub IsTable : List OpKind → List ℕ → List Known → Type 0
-IsTable F R table = (p : Place) (d : ℕ) → Reached F R p d → IsKnown F R p (known_at table p)
+-- this is so of a place: at a depth that it fits it has no fault and leads to such places, and at a depth at which it is reached it fits where no reached pair has a fault
+pub record IsKnown (F : List OpKind) (R : List ℕ) (table : List (Option Drawn)) (p : Place) (drawn : Drawn) : Type 0 where
+  pub fine : (d : ℕ) → Fits drawn d → IsFine F R p d
+  pub leads : (d : ℕ) (q : Place) (e : ℕ) → Fits drawn d → Leads F R p d q e → GoesTo table q e
+  pub tight : AllFine F R → (d : ℕ) → Reached F R p d → Fits drawn d
+  pub draws : IsDrawn F R p drawn
 
--- the table has how a place leads on
-abbrev pub HasWay : List OpKind → List ℕ → List Known → Place → Type 0
-HasWay F R table p = (way : Way) × StandsSo F R p way × (known_at table p ≡ Leads way)
-
--- the table has how each reached place leads on
-abbrev pub HasWays : List OpKind → List ℕ → List Known → Type 0
-HasWays F R table = (p : Place) (d : ℕ) → Reached F R p d → HasWay F R table p
-
--- the table has each place that is reached deeper
-abbrev pub HasDeeper : List OpKind → List ℕ → ℕ → List Known → Type 0
-HasDeeper F R d table = (p : Place) (e : ℕ) → d < e → Reached F R p e → HasPlace table p
-
--- the table has each place that is reached at this depth or deeper
-abbrev pub HasFrom : List OpKind → List ℕ → ℕ → List Known → Type 0
-HasFrom F R d table = (p : Place) (e : ℕ) → d ≤ e → Reached F R p e → HasPlace table p
+-- what the table has is right
+abbrev pub IsTable : List OpKind → List ℕ → List (Option Drawn) → Type 0
+IsTable F R table = (p : Place) (drawn : Drawn) → IsPlace p → known_at table p ≡ Some drawn → IsKnown F R table p drawn
 
 -- where an act leads on at one depth
 abbrev pub Next : Act Place → Place → Place → Type 0
@@ -84,35 +109,58 @@ pub record Goes (F : List OpKind) (R : List ℕ) (p q : Place) : Type 0 where
   pub stands : Stands F R p act after
   pub next : Next act after q
 
--- a reached place, where the table has each place that it leads on to, and each one that is reached deeper
-pub record IsReady (F : List OpKind) (R : List ℕ) (table : List Known) (p : Place) (d : ℕ) : Type 0 where
-  pub image : IsImage R
-  pub closed : Closed F R
-  pub reached : Reached F R p d
+-- a place without a fault at this depth, which is reached there if no reached pair has a fault
+pub record IsGood (F : List OpKind) (R : List ℕ) (d : ℕ) (p : Place) : Type 0 where
+  pub inside : IsIn F p
+  pub fine : IsFine F R p d
+  pub reached : AllFine F R → Reached F R p d
+
+-- such a place, where the table has each place that it leads on to or calls
+pub record IsReady (F : List OpKind) (R : List ℕ) (table : List (Option Drawn)) (p : Place) (d : ℕ) : Type 0 where
+  pub begins : Begins F
+  pub good : IsGood F R d p
   pub entries : IsTable F R table
-  pub deeper : HasDeeper F R d table
   pub next : (q : Place) → Goes F R p q → HasPlace table q
+  pub inside : (to after : Place) → Stands F R p (Calls to) after → HasPlace table to
 
 -- where a way leads on at its own depth
 abbrev pub onward : Way → Option Place
-onward (Move after) = Some after
+onward (Move after words) = Some after
 onward (Jump to) = Some to
 onward (Call to after) = Some after
 onward Return = None
 onward Halt = None
 
 -- steps at one depth lead through the places of these pairs, one after the other, and then to a place
-abbrev pub Linked : List OpKind → List ℕ → Place → List Pair → Place → Type 0
-Linked F R start [] last = start ≡ last
-Linked F R start (pair ∷ pairs) last = (start ≡ pair.place) × ((next : Place) × Goes F R pair.place next × Linked F R next pairs last)
+abbrev pub Linked : List OpKind → List ℕ → ℕ → Place → List Pair → Place → Type 0
+Linked F R d start [] last = start ≡ last
+Linked F R d start (pair ∷ pairs) last = (start ≡ pair.place) × IsGood F R d pair.place × ((next : Place) × Goes F R pair.place next × Linked F R d next pairs last)
 
 -- the same, where the table has what is drawn from the last place, or the last of these pairs leads nowhere
-abbrev pub IsChain : List OpKind → List ℕ → List Known → Place → List Pair → Type 0
-IsChain F R table start [] = HasPlace table start
-IsChain F R table start (pair ∷ pairs) =
-    (start ≡ pair.place) × (((next : Place) × Goes F R pair.place next × IsChain F R table next pairs) ⊎ (((q : Place) → ¬ Goes F R pair.place q) × (pairs ≡ [])))
+abbrev pub IsChain : List OpKind → List ℕ → List (Option Drawn) → ℕ → Place → List Pair → Type 0
+IsChain F R table d start [] = HasPlace table start
+IsChain F R table d start (pair ∷ pairs) =
+    (start ≡ pair.place) × IsGood F R d pair.place
+    × (((next : Place) × Goes F R pair.place next × IsChain F R table d next pairs) ⊎ (((q : Place) → ¬ Goes F R pair.place q) × (pairs ≡ [])))
 
--- the same with so many words more
-abbrev pub plus : Drawn → ℕ → Drawn
-plus (Halts n) more = Halts (n + more)
-plus (Returns n) more = Returns (n + more)
+-- a list has such a chain behind what was there before
+pub record HasChain (F : List OpKind) (R : List ℕ) (table : List (Option Drawn)) (d : ℕ) (start : Place) (before all : List Pair) : Type 0 where
+  pub pairs : List Pair
+  pub is : all ≡ before ++ pairs
+  pub chain : IsChain F R table d start pairs
+
+-- the same is drawn, with so many words more
+pub record IsLonger (rest : Drawn) (more : ℕ) (new : Drawn) : Type 0 where
+  pub sum : rest.words + more < 2 ^ 64 → new.words ≡ rest.words + more
+  pub end : new.end ≡ rest.end
+  pub returns : new.returns ≡ rest.returns
+  pub calls : new.calls ≡ rest.calls
+
+-- this is drawn from a call, by what is drawn from its target and from the place after it
+pub record IsCalled (inside rest new : Drawn) : Type 0 where
+  pub halts : inside.end ≡ Halts → (new.end ≡ Halts) × (inside.words + 1 < 2 ^ 64 → new.words ≡ inside.words + 1)
+  pub goes_on : inside.end ≡ Returns → (new.end ≡ rest.end) × (inside.words + rest.words + 1 < 2 ^ 64 → new.words ≡ inside.words + rest.words + 1)
+  pub returns : new.returns ≡ rest.returns
+  pub behind : rest.calls ≤ new.calls
+  pub deeper : new.calls < 255 → inside.calls < new.calls
+  pub least : (most : ℕ) → rest.calls ≤ most → inside.calls < most → new.calls ≤ most

@@ -1,6 +1,6 @@
 -- What stands at a place, as the check sees it. Only the check's own functions cite this.
 use Rattle.std.specs.Prelude.{◌≡◌, ℕ, ◌+◌, ◌<◌, ◌≤◌, ◌⊎◌, List, length, Some}
-use Rattle.dvg_code.specs.Spelling.{IsFirst}
+use Rattle.dvg_code.specs.Spelling.{IsFirst, word_count}
 use Rattle.dvg_code.specs.Acts.{Act, Moves, Jumps, Calls, Returns, Halts}
 use Rattle.dvg_mem.specs.Memory.{rom_word}
 use Rattle.dvg_frame.specs.declared.draft.TheConstants.{MAX_OPS}
@@ -18,7 +18,7 @@ use Rattle.dvg_frame.specs.Faults.{number}
 
 -- the way of an act with this place after it
 abbrev pub way : Act Place → Place → Way
-way (Moves instr) after = Move after
+way (Moves instr) after = Move after (word_count instr)
 way (Jumps to) after = Jump to
 way (Calls to) after = Call to after
 way Returns after = Return
@@ -43,7 +43,7 @@ EndsWithin R (InRom a) = (word : ℕ) × (rom_word R a ≡ Some word) × IsFirst
 
 -- it leads to the place after it
 abbrev pub GoesOn : Way → Type 0
-GoesOn (Move after) = Unit {0}
+GoesOn (Move after words) = Unit {0}
 GoesOn (Jump to) = ⊥
 GoesOn (Call to after) = Unit {0}
 GoesOn Return = ⊥
@@ -56,7 +56,7 @@ Outside (InRom a) = IsOutside a
 
 -- it leads to such a place
 abbrev pub LeadsOutside : Way → Type 0
-LeadsOutside (Move after) = Outside after
+LeadsOutside (Move after words) = Outside after
 LeadsOutside (Jump to) = Outside to
 LeadsOutside (Call to after) = Outside to ⊎ Outside after
 LeadsOutside Return = ⊥
@@ -64,7 +64,7 @@ LeadsOutside Halt = ⊥
 
 -- it is a call
 abbrev pub IsCall : Way → Type 0
-IsCall (Move after) = ⊥
+IsCall (Move after words) = ⊥
 IsCall (Jump to) = ⊥
 IsCall (Call to after) = Unit {0}
 IsCall Return = ⊥
@@ -72,7 +72,7 @@ IsCall Halt = ⊥
 
 -- it is a return
 abbrev pub IsReturn : Way → Type 0
-IsReturn (Move after) = ⊥
+IsReturn (Move after words) = ⊥
 IsReturn (Jump to) = ⊥
 IsReturn (Call to after) = ⊥
 IsReturn Return = Unit {0}

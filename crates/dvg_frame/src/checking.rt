@@ -1,16 +1,17 @@
 //! The check of a draft.
 ghost use Rattle.std.specs.Prelude.{◌≡◌, [], ℕ, ◌<◌, ◌^◌, ◌↔◌, List, IsTrue, MatchOption, MatchResult};
-ghost use Rattle.dvg_frame.specs.Faults.{Accepts, IsChecked, Misses, Refuses};
+ghost use Rattle.dvg_mem.specs.Memory.{IsImage};
+ghost use Rattle.dvg_frame.specs.Faults.{Begins, IsChecked, Misses, Refuses};
 ghost use Rattle.dvg_frame.specs.Firsts.{IsLabs, NamesNone};
 ghost use Rattle.dvg_frame.specs.Frames.{IsFrame};
-ghost use Rattle.dvg_frame.specs.Picture.{IsBound};
+ghost use Rattle.dvg_frame.specs.Tables.{HasNone, IsRefused};
 
 use crate::checked::Checked;
 use crate::draft::Draft;
 use crate::frame::{Frame, MAX_WORDS};
 use crate::op::OpKind;
 use crate::place::FrameFault;
-use crate::settling::{Chain, settle};
+use crate::settling::{Chain, bound_of};
 use crate::sweep::sweep;
 use crate::table::Table;
 use crate::worklist::Worklist;
@@ -75,15 +76,6 @@ fn words_or_fault(draft: &Draft) -> Result<u16, FrameFault>
     }
 }
 
-// What the check keeps of a draft that it accepts.
-#[derive(Clone, Copy)]
-struct Sizes {
-    // How many words it has in a half.
-    words: u16,
-    // How many words its whole run fetches.
-    bound: u64,
-}
-
 /// The tables of the check, kept from one check to the next: a check takes time for the pairs that it
 /// reaches, and none for the size of the tables. They are about 100 KB.
 #[derive(Drop)]
@@ -93,13 +85,13 @@ pub struct Checker {
     chain: Chain,
 }
 
-/// Contracts see nothing of it: between checks no pair is reached, and what else the tables have does not count.
+/// Contracts see nothing of it: between checks nothing is known of a place, and no pair is reached.
 impl Model for Checker {
     ghost Value = { Unit {0} };
 
     ghost view = { λ checker. tt };
 
-    ghost invariant = { λ checker. checker.reached ≡ [] };
+    ghost invariant = { λ checker. (checker.reached ≡ []) × HasNone checker.table };
 }
 
 impl Checker {
@@ -130,47 +122,37 @@ impl Checker {
     ) -> Result<Checked<'a>, FrameFault>
         ensures { IsChecked draft.now rom.now result }
     {
-        let sizes = judge(
-            &mut self.reached,
-            &mut self.table,
-            &mut self.chain,
-            draft,
-            rom,
-        );
-        self.reached.clear();
-        match sizes {
-            Ok(sizes) => Ok(Checked::of(draft, sizes.words, sizes.bound)),
-            Err(fault) => Err(fault),
+        let words = match words_or_fault(draft) {
+            Ok(words) => words,
+            Err(fault) => return Err(fault),
+        };
+        // A ROM is an image of 2,048 bytes, as its type says.
+        let _ = rom.len_words();
+        let bound = bound_of(draft, rom, &mut self.table, &mut self.chain);
+        self.table.clear();
+        match bound {
+            Some(bound) => Ok(Checked::of(draft, words, bound)),
+            None => {
+                let fault = fault_of(draft, rom, &mut self.reached);
+                self.reached.clear();
+                Err(fault)
+            }
         }
     }
 }
 
-// The sizes of a draft without a fault, and else the fault that is picked. The list has no pair at first, and
-// the reached ones at the end.
-fn judge<A: Allocator>(
-    list: &mut Worklist,
-    table: &mut Table,
-    chain: &mut Chain,
-    draft: &Draft,
-    rom: &Rom<A>,
-) -> Result<Sizes, FrameFault>
-    requires { list.old ≡ [] }
-    ensures { MatchResult result
-        (λ sizes. IsFrame draft.now sizes.words × Accepts draft.now rom.now × IsBound draft.now rom.now sizes.bound × (sizes.bound < 2 ^ 63))
-        (λ fault. Refuses draft.now rom.now fault) }
+// The fault that is picked of a draft that has one behind the first four, or a loop. The list has no pair at first,
+// and the reached ones at the end.
+fn fault_of<A: Allocator>(draft: &Draft, rom: &Rom<A>, list: &mut Worklist) -> FrameFault
+    requires image { IsImage rom.now }
+    requires empty { list.old ≡ [] }
+    requires begins { Begins draft.now }
+    requires refused { IsRefused draft.now rom.now }
+    ensures { Refuses draft.now rom.now result }
 {
-    let words = match words_or_fault(draft) {
-        Ok(words) => words,
-        Err(fault) => return Err(fault),
-    };
-    // A ROM is an image of 2,048 bytes, as its type says.
-    let _ = rom.len_words();
-    if let Some(found) = sweep(list, table, draft, rom) {
-        return Err(found.fault);
-    }
-    match settle(list, draft, rom, table, chain) {
-        Some(bound) => Ok(Sizes { words, bound }),
-        None => Err(FrameFault::Loops),
+    match sweep(list, draft, rom) {
+        Some(found) => found.fault,
+        None => FrameFault::Loops,
     }
 }
 
@@ -179,14 +161,14 @@ fn judge<A: Allocator>(
 pub fn check<A: Allocator>(draft: &Draft, rom: &Rom<A>) -> Result<Frame, FrameFault>
     ensures { IsChecked draft.now rom.now result }
 {
-    match judge(
-        &mut Worklist::new(),
-        &mut Table::new(),
-        &mut Chain::new(),
-        draft,
-        rom,
-    ) {
-        Ok(sizes) => Ok(Frame::of(draft, sizes.words, sizes.bound)),
-        Err(fault) => Err(fault),
+    let words = match words_or_fault(draft) {
+        Ok(words) => words,
+        Err(fault) => return Err(fault),
+    };
+    // A ROM is an image of 2,048 bytes, as its type says.
+    let _ = rom.len_words();
+    match bound_of(draft, rom, &mut Table::new(), &mut Chain::new()) {
+        Some(bound) => Ok(Frame::of(draft, words, bound)),
+        None => Err(fault_of(draft, rom, &mut Worklist::new())),
     }
 }

@@ -1,109 +1,131 @@
-//! What is drawn from each reached place, and whether steps at one depth come to no end.
-ghost use Rattle.std.specs.Prelude.{◌≡◌, ◌+◌, ◌<◌, ◌≤◌, ◌^◌, ℕ, List, [], Option, MatchOption, MatchBool};
-ghost use Rattle.dvg_code.specs.Acts.{Moves};
-ghost use Rattle.dvg_code.specs.Spelling.{word_count};
-ghost use Rattle.dvg_code.specs.declared.instr.Instr.{Instr};
+//! What is drawn from each place, whether a run from it breaks, and whether steps at one depth come to no end.
+ghost use Rattle.std.specs.Prelude.{◌≡◌, ◌+◌, ◌*◌, ◌<◌, ◌≤◌, ◌^◌, ℕ, List, [], ◌++◌, Some, None, length, Option, MatchOption, MatchBool};
 ghost use Rattle.dvg_mem.specs.Memory.{IsImage};
-ghost use Rattle.dvg_frame.specs.Loops.{HasLoop};
+ghost use Rattle.dvg_frame.specs.Faults.{Accepts, Begins};
 ghost use Rattle.dvg_frame.specs.Pairs.{IsPlace};
 ghost use Rattle.dvg_frame.specs.Picture.{IsBound};
-ghost use Rattle.dvg_frame.specs.Steps.{Closed, Stands};
-ghost use Rattle.dvg_frame.specs.Sweeps.{IsWhole, ReachedPair};
-ghost use Rattle.dvg_frame.specs.Tables.{HasDeeper, HasFrom, HasPlace, HasWays, IsChain, IsDrawn, IsReady, IsTable, Keeps, fetches, known_at, onward, plus};
+ghost use Rattle.dvg_frame.specs.Steps.{IsFine};
+ghost use Rattle.dvg_frame.specs.Tables.{HasChain, HasNone, HasPlace, IsCalled, IsGood, IsKnown, IsLonger, IsReady, IsRefused, IsTable, Keeps, AllFine, known_at, onward};
+ghost use Rattle.dvg_frame.specs.Sweeps.{ReachedPair};
 ghost use Rattle.dvg_frame.specs.Ways.{IsIn, StandsSo};
+ghost use Rattle.dvg_frame.specs.declared.op.OpKind.{OpKind};
 ghost use Rattle.dvg_frame.specs.declared.pair.Pair.{Pair};
 ghost use Rattle.dvg_frame.specs.declared.place.Place.{Place};
-ghost use Rattle.dvg_frame.specs.declared.table.Known.{Known};
 
-use crate::draft::{Draft, words_of};
-use crate::pair::{PLACES, Pair};
+use crate::draft::Draft;
+use crate::judging::look;
+use crate::pair::{DEEPEST, PLACES, Pair};
 use crate::place::Place;
-use crate::table::{Drawn, Known, Table};
-use crate::way::Way;
-use crate::worklist::Worklist;
+use crate::table::{Drawn, Ending, Table};
+use crate::way::{Way, way_at};
 use arrayvec::ArrayVec;
 use dvg_mem::Rom;
 use std::alloc::Allocator;
 
-/// Pairs, of which each leads on to the next one at its depth: one more at most than there are places.
-pub(crate) type Chain = ArrayVec<Pair, LONGEST>;
+/// Pairs of which each leads on to the next one at its depth, for each depth so many at most.
+pub(crate) type Chain = ArrayVec<Pair, ROOM>;
+
+/// The most pairs of one depth: one more than there are places.
+pub(crate) const LONGEST: usize = PLACES + 1;
 
 /// The most pairs of a chain.
-pub(crate) const LONGEST: usize = PLACES + 1;
+pub(crate) const ROOM: usize = LONGEST * (DEEPEST as usize + 1);
 
 // Where a way leads on at its own depth.
 fn onward(way: Way) -> Option<Place>
     ensures { result ≡ onward way }
 {
     match way {
-        Way::Move(next) | Way::Jump(next) | Way::Call(_, next) => Some(next),
+        Way::Move(next, _) | Way::Jump(next) | Way::Call(_, next) => Some(next),
         Way::Return | Way::Halt => None,
     }
 }
 
 // The same with so many words more.
-fn plus(drawn: Drawn, more: u64) -> Drawn
-    requires { fetches drawn + more < 2 ^ 64 }
-    ensures { result ≡ plus drawn more }
+fn longer(rest: Drawn, more: u64) -> Drawn
+    ensures { IsLonger rest more result }
 {
-    match drawn {
-        Drawn::Halts(n) => Drawn::Halts(n + more),
-        Drawn::Returns(n) => Drawn::Returns(n + more),
+    Drawn {
+        words: rest.words.saturating_add(more),
+        end: rest.end,
+        returns: rest.returns,
+        calls: rest.calls,
     }
 }
 
-// How many words a vector or LABS has, by its place and the place after it.
-fn words_at(draft: &Draft, place: Place, after: Place) -> u16
-    requires inside { IsIn draft.now place }
-    requires stands { (R : List ℕ) × (instr : Instr) × Stands draft.now R place (Moves instr) after }
-    ensures value { (R : List ℕ) (instr : Instr) → Stands draft.now R place (Moves instr) after → result ≡ word_count instr }
-    ensures bound { result ≤ 2 }
+// What is drawn from a call, by what is drawn from its target and from the place after it.
+fn called(inside: Drawn, rest: Drawn) -> Drawn
+    ensures { IsCalled inside rest result }
 {
-    match place {
-        Place::InFrame(i) => words_of(draft.op(usize::from(i)).kind()),
-        Place::InRom(a) => match after {
-            Place::InRom(b) => b - a,
-            Place::InFrame(_) => unreachable!(),
+    let calls = rest.calls.max(inside.calls.saturating_add(1));
+    let words = inside.words.saturating_add(1);
+    match inside.end {
+        Ending::Halts => Drawn {
+            words,
+            end: Ending::Halts,
+            returns: rest.returns,
+            calls,
+        },
+        Ending::Returns => Drawn {
+            words: words.saturating_add(rest.words),
+            end: rest.end,
+            returns: rest.returns,
+            calls,
         },
     }
 }
 
-// What the table has as drawn from a place.
+// What the table has of a place.
 fn entry(table: &Table, place: Place) -> Drawn
-    requires place { IsPlace place }
-    requires has { HasPlace table.now place }
-    ensures { known_at table.now place ≡ Known.Draws result }
+    requires { HasPlace table.now place }
+    ensures { known_at table.now place ≡ Some result }
 {
-    match table.at(place) {
-        Known::Draws(drawn) => drawn,
-        Known::Leads(_) => unreachable!(),
-    }
+    let Some(drawn) = table.at(place) else {
+        unreachable!()
+    };
+    drawn
 }
 
 // What is drawn from a place that leads on so.
-fn draw(draft: &Draft, table: &Table, place: Place, way: Way) -> Drawn
-    requires inside { IsIn draft.now place }
-    requires ready { (R : List ℕ) × (d : ℕ) × StandsSo draft.now R place way × IsReady draft.now R table.now place d }
-    ensures { (R : List ℕ) (d : ℕ) → StandsSo draft.now R place way → IsReady draft.now R table.now place d → IsDrawn draft.now R place result }
+fn draw(table: &Table, way: Way) -> Drawn
+    requires { (F : List OpKind) × (R : List ℕ) × (p : Place) × (d : ℕ) × StandsSo F R p way × IsReady F R table.now p d }
+    ensures { (F : List OpKind) (R : List ℕ) (p : Place) (d : ℕ) → StandsSo F R p way → IsReady F R table.now p d → IsKnown F R table.now p result }
 {
     match way {
-        Way::Move(after) => {
-            let words = words_at(draft, place, after);
-            plus(entry(table, after), u64::from(words))
-        }
-        Way::Jump(to) => plus(entry(table, to), 1),
-        Way::Call(to, after) => match entry(table, to) {
-            Drawn::Halts(n) => Drawn::Halts(n + 1),
-            Drawn::Returns(n) => plus(entry(table, after), n + 1),
+        Way::Move(after, words) => longer(entry(table, after), words),
+        Way::Jump(to) => longer(entry(table, to), 1),
+        Way::Call(to, after) => called(entry(table, to), entry(table, after)),
+        Way::Return => Drawn {
+            words: 1,
+            end: Ending::Returns,
+            returns: true,
+            calls: 0,
         },
-        Way::Return => Drawn::Returns(1),
-        Way::Halt => Drawn::Halts(1),
+        Way::Halt => Drawn {
+            words: 1,
+            end: Ending::Halts,
+            returns: false,
+            calls: 0,
+        },
+    }
+}
+
+// Puts down what is drawn from a place that leads on so, where that isn't there.
+fn put_drawn(table: &mut Table, place: Place, way: Way)
+    requires { (F : List OpKind) × (R : List ℕ) × (d : ℕ) × StandsSo F R place way × IsReady F R table.old place d }
+    ensures entries { (F : List OpKind) (R : List ℕ) (d : ℕ) → StandsSo F R place way → IsReady F R table.old place d → IsTable F R table.new }
+    ensures kept { Keeps table.old table.new }
+    ensures has { HasPlace table.new place }
+{
+    if table.at(place).is_none() {
+        let drawn = draw(table, way);
+        table.put(place, drawn);
     }
 }
 
 // Follows the steps at one depth from a pair, up to a place of which the table has what is drawn from it, or
-// from which nothing leads on. The chain gets the pairs on the way; it has none at first. Whether the steps
-// come to an end.
+// from which nothing leads on. The chain gets the pairs on the way. False where a pair has a fault, or the steps
+// come to no end.
 fn follow<A: Allocator>(
     draft: &Draft,
     rom: &Rom<A>,
@@ -112,22 +134,27 @@ fn follow<A: Allocator>(
     start: Pair,
 ) -> bool
     requires image { IsImage rom.now }
-    requires closed { Closed draft.now rom.now }
-    requires reached { ReachedPair draft.now rom.now start }
-    requires entries { IsTable draft.now rom.now table.now }
-    requires empty { chain.old.items ≡ [] }
-    ensures { MatchBool result (IsChain draft.now rom.now table.now start.place chain.new.items) (HasLoop draft.now rom.now) }
+    requires begins { Begins draft.now }
+    requires inside { IsIn draft.now start.place }
+    requires depth { start.depth ≤ DEEPEST }
+    requires reached { AllFine draft.now rom.now → ReachedPair draft.now rom.now start }
+    requires room { length chain.old.items ≤ start.depth * LONGEST }
+    ensures room { length chain.new.items ≤ length chain.old.items + LONGEST }
+    ensures followed { MatchBool result (HasChain draft.now rom.now table.now start.depth start.place chain.old.items chain.new.items) (IsRefused draft.now rom.now) }
 {
     let mut place = start.place;
     for step in 0..draft.len() + usize::from(rom.len_words()) + 1 {
-        let way = match table.at(place) {
-            Known::Leads(way) => way,
-            Known::Draws(_) => return true,
-        };
-        chain.push(Pair {
+        if table.at(place).is_some() {
+            return true;
+        }
+        let pair = Pair {
             place,
             depth: start.depth,
-        });
+        };
+        let Ok(way) = look(draft, rom, pair) else {
+            return false;
+        };
+        chain.push(pair);
         match onward(way) {
             Some(next) => place = next,
             None => return true,
@@ -136,25 +163,22 @@ fn follow<A: Allocator>(
     false
 }
 
-// Puts down what is drawn from a place, where that isn't there.
-fn put_drawn(draft: &Draft, table: &mut Table, place: Place)
-    requires { (R : List ℕ) × (d : ℕ) × IsReady draft.now R table.old place d }
-    ensures entries { (R : List ℕ) (d : ℕ) → IsReady draft.now R table.old place d → IsTable draft.now R table.new }
-    ensures kept { Keeps table.old table.new }
-    ensures has { HasPlace table.new place }
+// How a place without a fault leads on.
+fn way_on<A: Allocator>(draft: &Draft, rom: &Rom<A>, place: Place) -> Way
+    requires image { IsImage rom.now }
+    requires inside { IsIn draft.now place }
+    requires fine { (d : ℕ) × IsFine draft.now rom.now place d }
+    ensures { StandsSo draft.now rom.now place result }
 {
-    if let Known::Leads(way) = table.at(place) {
-        let drawn = draw(draft, table, place, way);
-        table.put(place, Known::Draws(drawn));
-    }
+    let Some(way) = way_at(draft, rom, place) else {
+        unreachable!()
+    };
+    way
 }
 
-// Finds what is drawn from a pair's place, and from each place on the way from it at its depth. Whether the
-// steps at its depth come to an end. The chain has no pair at first, and then none at the end.
-//
-// The loop over the pairs is faster where this is no part of it.
-#[inline(never)]
-fn settle_chain<A: Allocator>(
+// Finds what is drawn from a pair's place, and from each place on the way from it. False where a pair has a fault,
+// or steps at one depth come to no end. What the chain has of other depths stays there.
+fn settle<A: Allocator>(
     draft: &Draft,
     rom: &Rom<A>,
     table: &mut Table,
@@ -162,107 +186,63 @@ fn settle_chain<A: Allocator>(
     start: Pair,
 ) -> bool
     requires image { IsImage rom.now }
-    requires closed { Closed draft.now rom.now }
-    requires reached { ReachedPair draft.now rom.now start }
+    requires begins { Begins draft.now }
+    requires inside { IsIn draft.now start.place }
+    requires depth { start.depth ≤ DEEPEST }
+    requires reached { AllFine draft.now rom.now → ReachedPair draft.now rom.now start }
+    requires room { length chain.old.items ≤ start.depth * LONGEST }
     requires entries { IsTable draft.now rom.now table.old }
-    requires deeper { HasDeeper draft.now rom.now start.depth table.old }
-    requires empty { chain.old.items ≡ [] }
     ensures entries { IsTable draft.now rom.now table.new }
     ensures kept { Keeps table.old table.new }
-    ensures settled { MatchBool result (HasPlace table.new start.place × (chain.new.items ≡ [])) (HasLoop draft.now rom.now) }
+    ensures settled { MatchBool result (HasPlace table.new start.place × (chain.new.items ≡ chain.old.items)) (IsRefused draft.now rom.now) }
 {
+    let base = chain.len();
     if !follow(draft, rom, table, chain, start) {
         return false;
     }
-    while let Some(pair) = chain.pop() {
-        put_drawn(draft, table, pair.place);
-    }
-    true
-}
-
-// The same, where the table may have it.
-fn settle_pair<A: Allocator>(
-    draft: &Draft,
-    rom: &Rom<A>,
-    table: &mut Table,
-    chain: &mut Chain,
-    start: Pair,
-) -> bool
-    requires image { IsImage rom.now }
-    requires closed { Closed draft.now rom.now }
-    requires reached { ReachedPair draft.now rom.now start }
-    requires entries { IsTable draft.now rom.now table.old }
-    requires deeper { HasDeeper draft.now rom.now start.depth table.old }
-    requires empty { chain.old.items ≡ [] }
-    ensures entries { IsTable draft.now rom.now table.new }
-    ensures kept { Keeps table.old table.new }
-    ensures settled { MatchBool result (HasPlace table.new start.place × (chain.new.items ≡ [])) (HasLoop draft.now rom.now) }
-{
-    match table.at(start.place) {
-        Known::Draws(_) => true,
-        Known::Leads(_) => settle_chain(draft, rom, table, chain, start),
-    }
-}
-
-// Finds what is drawn from each place that is reached at this depth. Whether the steps at this depth come to an
-// end. The chain has no pair at first, and then none at the end.
-fn settle_depth<A: Allocator>(
-    list: &Worklist,
-    draft: &Draft,
-    rom: &Rom<A>,
-    table: &mut Table,
-    chain: &mut Chain,
-    depth: u8,
-) -> bool
-    requires image { IsImage rom.now }
-    requires closed { Closed draft.now rom.now }
-    requires whole { IsWhole draft.now rom.now list.now }
-    requires entries { IsTable draft.now rom.now table.old }
-    requires deeper { HasDeeper draft.now rom.now depth table.old }
-    requires empty { chain.old.items ≡ [] }
-    ensures entries { IsTable draft.now rom.now table.new }
-    ensures settled { MatchBool result (HasFrom draft.now rom.now depth table.new × (chain.new.items ≡ [])) (HasLoop draft.now rom.now) }
-{
-    let mut i = list.len();
-    while i > 0 {
-        i -= 1;
-        // The pair is asked for once more, as most pairs are of another depth.
-        if list.at(i).depth == depth && !settle_pair(draft, rom, table, chain, list.at(i)) {
-            return false;
+    while chain.len() > base {
+        let Some(pair) = chain.pop() else {
+            unreachable!()
+        };
+        let place = pair.place;
+        let way = way_on(draft, rom, place);
+        if let Way::Call(to, _) = way {
+            let inside = Pair {
+                place: to,
+                depth: start.depth + 1,
+            };
+            if !settle(draft, rom, table, chain, inside) {
+                return false;
+            }
         }
+        put_drawn(table, place, way);
     }
     true
 }
 
-/// How many words the whole run of a draft fetches, that of word zero included. None where steps at one depth
-/// come to no end. The list has the reached pairs, and the table how each of their places leads on.
+/// How many words the whole run of a draft fetches, that of word zero included. None where a reached pair has a
+/// fault, or steps at one depth come to no end. The table has nothing at first.
 ///
-/// The depths go from the deepest up, so what a call needs of its target is there. The newest pairs come first:
-/// mostly the table has what they lead on to. Each place is settled once, so the time is linear in the pairs of
-/// the list.
-pub(crate) fn settle<A: Allocator>(
-    list: &Worklist,
+/// Each place is gone over once, however many depths it is reached at: what is drawn from it is the same at each,
+/// and the table has at which depths no run from it breaks. So the time is linear in the places that are reached.
+pub(crate) fn bound_of<A: Allocator>(
     draft: &Draft,
     rom: &Rom<A>,
     table: &mut Table,
     chain: &mut Chain,
 ) -> Option<u64>
     requires image { IsImage rom.now }
-    requires closed { Closed draft.now rom.now }
-    requires whole { IsWhole draft.now rom.now list.now }
-    requires ways { HasWays draft.now rom.now table.old }
-    ensures { MatchOption result (HasLoop draft.now rom.now) (λ n. (¬ HasLoop draft.now rom.now) × IsBound draft.now rom.now n) }
+    requires begins { Begins draft.now }
+    requires none { HasNone table.old }
+    ensures { MatchOption result (IsRefused draft.now rom.now) (λ n. Accepts draft.now rom.now × IsBound draft.now rom.now n × (n < 2 ^ 63)) }
 {
     chain.clear();
-    let mut depth = list.deepest() + 1;
-    while depth > 0 {
-        depth -= 1;
-        if !settle_depth(list, draft, rom, table, chain, depth) {
-            return None;
-        }
+    if !settle(draft, rom, table, chain, Pair::default()) {
+        return None;
     }
-    match entry(table, Place::InFrame(0)) {
-        Drawn::Halts(n) => Some(n + 1),
-        Drawn::Returns(_) => unreachable!(),
+    let first = entry(table, Place::InFrame(0));
+    if first.returns || first.calls > DEEPEST {
+        return None;
     }
+    Some(first.words + 1)
 }

@@ -4,16 +4,13 @@ ghost use Rattle.dvg_mem.specs.Memory.{IsImage};
 ghost use Rattle.dvg_frame.specs.Faults.{Begins, Least};
 ghost use Rattle.dvg_frame.specs.Growth.{Grows};
 ghost use Rattle.dvg_frame.specs.Pairs.{IsPair, index};
-ghost use Rattle.dvg_frame.specs.Steps.{IsFine, Reached};
-ghost use Rattle.dvg_frame.specs.Sweeps.{Follows, IsWhole, StaysIn};
-ghost use Rattle.dvg_frame.specs.Tables.{HasWays};
-ghost use Rattle.dvg_frame.specs.declared.place.Place.{Place};
+ghost use Rattle.dvg_frame.specs.Sweeps.{Follows, StaysIn};
+ghost use Rattle.dvg_frame.specs.Tables.{AllFine};
 
 use crate::draft::Draft;
 use crate::judging::look;
 use crate::pair::{DEEPEST, Pair, index_of};
 use crate::place::FrameFault;
-use crate::table::{Known, Table};
 use crate::way::Way;
 use crate::worklist::Worklist;
 use dvg_mem::Rom;
@@ -33,7 +30,7 @@ fn spread(list: &mut Worklist, way: Way, depth: u8)
     ensures { Grows list.old list.new (Follows way depth) }
 {
     match way {
-        Way::Move(next) | Way::Jump(next) => list.add(Pair { place: next, depth }),
+        Way::Move(next, _) | Way::Jump(next) => list.add(Pair { place: next, depth }),
         Way::Call(target, after) => {
             let inside = Pair {
                 place: target,
@@ -71,21 +68,16 @@ fn first_of(best: Option<Found>, found: Found) -> Found
 }
 
 /// The first reached pair that has a fault, with that of least number there. The list has no pair at first,
-/// and the reached ones at the end; where none has a fault, the table has how each of their places leads on.
+/// and the reached ones at the end.
 ///
 /// Each pair is looked at once, when its turn comes in a list without doubles, so the time is linear in
 /// the number of reached pairs.
-pub(crate) fn sweep<A: Allocator>(
-    list: &mut Worklist,
-    table: &mut Table,
-    draft: &Draft,
-    rom: &Rom<A>,
-) -> Option<Found>
+pub(crate) fn sweep<A: Allocator>(list: &mut Worklist, draft: &Draft, rom: &Rom<A>) -> Option<Found>
     requires image { IsImage rom.now }
     requires empty { list.old ≡ [] }
     requires begins { Begins draft.now }
     ensures { MatchOption result
-        (((p : Place) → (d : ℕ) → Reached draft.now rom.now p d → IsFine draft.now rom.now p d) × IsWhole draft.now rom.now list.new × HasWays draft.now rom.now table.new)
+        (AllFine draft.now rom.now)
         (λ found. Least draft.now rom.now found.fault) }
 {
     list.add(Pair::default());
@@ -94,10 +86,7 @@ pub(crate) fn sweep<A: Allocator>(
     while done < list.len() {
         let pair = list.at(done);
         match look(draft, rom, pair) {
-            Ok(way) => {
-                table.put(pair.place, Known::Leads(way));
-                spread(list, way, pair.depth);
-            }
+            Ok(way) => spread(list, way, pair.depth),
             Err(fault) => best = Some(first_of(best, Found { pair, fault })),
         }
         done += 1;

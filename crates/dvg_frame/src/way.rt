@@ -5,7 +5,7 @@ ghost use Rattle.dvg_frame.specs.Steps.{op_act};
 ghost use Rattle.dvg_frame.specs.Ways.{EndsWithin, GoesOn, IsCall, IsIn, IsReturn, LeadsOutside, Outside, StandsSo, way};
 ghost use Rattle.dvg_frame.specs.declared.op.OpKind.{OpKind};
 
-use crate::draft::Draft;
+use crate::draft::{Draft, words_of};
 use crate::op::OpKind;
 use crate::pair::{ROM_END, ROM_FIRST};
 use crate::place::Place;
@@ -15,8 +15,8 @@ use std::alloc::Allocator;
 /// How what stands at a place leads on.
 #[derive(Clone, Copy)]
 pub(crate) enum Way {
-    /// To the place after it.
-    Move(Place),
+    /// Over so many words to the place after it.
+    Move(Place, u64),
     /// To a target.
     Jump(Place),
     /// To the subroutine at a target, and from there to the place after it.
@@ -33,7 +33,7 @@ impl Way {
         ensures { IsTrue result ↔ GoesOn self }
     {
         match self {
-            Way::Move(_) | Way::Call(_, _) => true,
+            Way::Move(_, _) | Way::Call(_, _) => true,
             Way::Jump(_) | Way::Return | Way::Halt => false,
         }
     }
@@ -43,7 +43,7 @@ impl Way {
         ensures { IsTrue result ↔ LeadsOutside self }
     {
         match self {
-            Way::Move(next) | Way::Jump(next) => is_outside(next),
+            Way::Move(next, _) | Way::Jump(next) => is_outside(next),
             Way::Call(target, after) => is_outside(target) || is_outside(after),
             Way::Return | Way::Halt => false,
         }
@@ -55,7 +55,7 @@ impl Way {
     {
         match self {
             Way::Call(_, _) => true,
-            Way::Move(_) | Way::Jump(_) | Way::Return | Way::Halt => false,
+            Way::Move(_, _) | Way::Jump(_) | Way::Return | Way::Halt => false,
         }
     }
 
@@ -65,7 +65,7 @@ impl Way {
     {
         match self {
             Way::Return => true,
-            Way::Move(_) | Way::Jump(_) | Way::Call(_, _) | Way::Halt => false,
+            Way::Move(_, _) | Way::Jump(_) | Way::Call(_, _) | Way::Halt => false,
         }
     }
 }
@@ -85,7 +85,7 @@ fn way_of_op(kind: OpKind, after: Place) -> Way
     ensures { result ≡ way (op_act kind) after }
 {
     match kind {
-        OpKind::Draw(_) => Way::Move(after),
+        OpKind::Draw(_) => Way::Move(after, u64::from(words_of(kind))),
         OpKind::CallRom(a) => Way::Call(Place::InRom(a), after),
         OpKind::JumpRom(a) => Way::Jump(Place::InRom(a)),
         OpKind::Call(j) => Way::Call(Place::InFrame(j), after),
@@ -107,7 +107,7 @@ fn rom_way<A: Allocator>(rom: &Rom<A>, a: u16) -> Option<Way>
         return if a + 1 == ROM_END {
             None
         } else {
-            Some(Way::Move(Place::InRom(a + 2)))
+            Some(Way::Move(Place::InRom(a + 2), 2))
         };
     }
     let target = Place::InRom(word % 0x1000);
@@ -117,7 +117,7 @@ fn rom_way<A: Allocator>(rom: &Rom<A>, a: u16) -> Option<Way>
         0xC => Way::Call(target, after),
         0xD => Way::Return,
         0xE => Way::Jump(target),
-        _ => Way::Move(after),
+        _ => Way::Move(after, 1),
     };
     Some(way)
 }

@@ -1,10 +1,10 @@
 //! A work list of pairs.
-ghost use Rattle.std.specs.Prelude.{◌≡◌, ◌<◌, ◌≤◌, Contains, List, [], Some, length, slice_get};
+ghost use Rattle.std.specs.Prelude.{◌≡◌, ◌<◌, ◌≤◌, List, [], Some, length, slice_get};
 ghost use Rattle.dvg_frame.specs.Growth.{AreMarked, Grows};
 ghost use Rattle.dvg_frame.specs.Pairs.{IsPair};
 ghost use Rattle.dvg_frame.specs.declared.pair.Pair.{Pair};
 
-use crate::pair::{DEEPEST, PAIRS, Pair, index_of};
+use crate::pair::{PAIRS, Pair, index_of};
 use arrayvec::ArrayVec;
 use std::marker::Model;
 
@@ -50,19 +50,6 @@ impl Worklist {
         ensures valid { IsPair result }
     {
         self.pairs[i]
-    }
-
-    // The greatest depth of a pair, 0 where there is none.
-    pub(crate) fn deepest(&self) -> u8
-        ensures all { (pair : Pair) → Contains self.now pair → pair.depth ≤ result }
-        ensures low { result ≤ DEEPEST }
-    {
-        let _ = &self.marks;
-        let mut deepest = 0;
-        for i in 0..self.len() {
-            deepest = deepest.max(self.at(i).depth);
-        }
-        deepest
     }
 
     // Takes all pairs out. Only their own marks are taken back, so the time is linear in their number.
