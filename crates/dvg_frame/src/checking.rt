@@ -77,7 +77,7 @@ fn words_or_fault(draft: &Draft) -> Result<u16, FrameFault>
 }
 
 /// The tables of the check, kept from one check to the next: a check takes time for the pairs that it
-/// reaches, and none for the size of the tables. They are about 100 KB.
+/// reaches, and none for the size of the tables. They are about 140 KB.
 #[derive(Drop)]
 pub struct Checker {
     reached: Worklist,
