@@ -6,12 +6,13 @@ ghost use Rattle.dvg_frame.specs.Firsts.{IsLabs, NamesNone};
 ghost use Rattle.dvg_frame.specs.Frames.{IsFrame};
 ghost use Rattle.dvg_frame.specs.Tables.{HasNone, IsRefused};
 
+use crate::chain::Chain;
 use crate::checked::Checked;
 use crate::draft::Draft;
 use crate::frame::{Frame, MAX_WORDS};
 use crate::op::OpKind;
 use crate::place::FrameFault;
-use crate::settling::{Chain, bound_of};
+use crate::settling::bound_of;
 use crate::sweep::sweep;
 use crate::table::Table;
 use crate::worklist::Worklist;

@@ -10,6 +10,7 @@
 //! of Margolin's *The Secret Life of Vector Generators*. No call of this crate takes memory.
 #![tactic(auto)]
 
+mod chain;
 mod checked;
 mod checking;
 mod counted;

@@ -8,28 +8,20 @@ ghost use Rattle.dvg_frame.specs.Steps.{IsFine};
 ghost use Rattle.dvg_frame.specs.Tables.{HasChain, HasNone, HasPlace, IsCalled, IsGood, IsKnown, IsLonger, IsReady, IsRefused, IsTable, Keeps, AllFine, known_at, onward};
 ghost use Rattle.dvg_frame.specs.Sweeps.{ReachedPair};
 ghost use Rattle.dvg_frame.specs.Ways.{IsIn, StandsSo};
+ghost use Rattle.dvg_frame.specs.declared.chain.TheConstants.{LONGEST};
 ghost use Rattle.dvg_frame.specs.declared.op.OpKind.{OpKind};
 ghost use Rattle.dvg_frame.specs.declared.pair.Pair.{Pair};
 ghost use Rattle.dvg_frame.specs.declared.place.Place.{Place};
 
+use crate::chain::Chain;
 use crate::draft::Draft;
 use crate::judging::look;
-use crate::pair::{DEEPEST, PLACES, Pair};
+use crate::pair::{DEEPEST, Pair};
 use crate::place::Place;
 use crate::table::{Drawn, Ending, Table};
 use crate::way::{Way, way_at};
-use arrayvec::ArrayVec;
 use dvg_mem::Rom;
 use std::alloc::Allocator;
-
-/// Pairs of which each leads on to the next one at its depth, for each depth so many at most.
-pub(crate) type Chain = ArrayVec<Pair, ROOM>;
-
-/// The most pairs of one depth: one more than there are places.
-pub(crate) const LONGEST: usize = PLACES + 1;
-
-/// The most pairs of a chain.
-pub(crate) const ROOM: usize = LONGEST * (DEEPEST as usize + 1);
 
 // Where a way leads on at its own depth.
 fn onward(way: Way) -> Option<Place>
@@ -138,9 +130,9 @@ fn follow<A: Allocator>(
     requires inside { IsIn draft.now start.place }
     requires depth { start.depth ≤ DEEPEST }
     requires reached { AllFine draft.now rom.now → ReachedPair draft.now rom.now start }
-    requires room { length chain.old.items ≤ start.depth * LONGEST }
-    ensures room { length chain.new.items ≤ length chain.old.items + LONGEST }
-    ensures followed { MatchBool result (HasChain draft.now rom.now table.now start.depth start.place chain.old.items chain.new.items) (IsRefused draft.now rom.now) }
+    requires room { length chain.old ≤ start.depth * LONGEST }
+    ensures room { length chain.new ≤ length chain.old + LONGEST }
+    ensures followed { MatchBool result (HasChain draft.now rom.now table.now start.depth start.place chain.old chain.new) (IsRefused draft.now rom.now) }
 {
     let mut place = start.place;
     for step in 0..draft.len() + usize::from(rom.len_words()) + 1 {
@@ -190,21 +182,18 @@ fn settle<A: Allocator>(
     requires inside { IsIn draft.now start.place }
     requires depth { start.depth ≤ DEEPEST }
     requires reached { AllFine draft.now rom.now → ReachedPair draft.now rom.now start }
-    requires room { length chain.old.items ≤ start.depth * LONGEST }
+    requires room { length chain.old ≤ start.depth * LONGEST }
     requires entries { IsTable draft.now rom.now table.old }
     ensures entries { IsTable draft.now rom.now table.new }
     ensures kept { Keeps table.old table.new }
-    ensures settled { MatchBool result (HasPlace table.new start.place × (chain.new.items ≡ chain.old.items)) (IsRefused draft.now rom.now) }
+    ensures settled { MatchBool result (HasPlace table.new start.place × (chain.new ≡ chain.old)) (IsRefused draft.now rom.now) }
 {
     let base = chain.len();
     if !follow(draft, rom, table, chain, start) {
         return false;
     }
     while chain.len() > base {
-        let Some(pair) = chain.pop() else {
-            unreachable!()
-        };
-        let place = pair.place;
+        let place = chain.pop().place;
         let way = way_on(draft, rom, place);
         if let Way::Call(to, _) = way {
             let inside = Pair {

@@ -8,7 +8,7 @@ use Rattle.dvg_frame.proofs.settling.follow.Given as goal
 abbrev pub invariant-loop-step : goal.invariant-loop-step
 invariant-loop-step g l = record {
   pairs : List Pair;
-  is : l.chain.items ≡ l.fn.chain.items ++ pairs;
+  is : l.chain ≡ l.fn.chain ++ pairs;
   linked : Linked l.draft l.rom l.fn.start.depth l.fn.start.place pairs l.place;
   count : length pairs ≡ l.step;
   inside : IsIn l.draft l.place;
