@@ -1,5 +1,5 @@
 //! The check of a draft.
-ghost use Rattle.std.specs.Prelude.{◌≡◌, [], ℕ, ◌<◌, ◌^◌, ◌↔◌, List, IsTrue, MatchOption, MatchResult};
+ghost use Rattle.std.specs.Prelude.{◌≡◌, [], ℕ, ◌<◌, ◌↔◌, List, IsTrue, MatchOption, MatchResult};
 ghost use Rattle.dvg_mem.specs.Memory.{IsImage};
 ghost use Rattle.dvg_frame.specs.Faults.{Begins, IsChecked, Misses, Refuses};
 ghost use Rattle.dvg_frame.specs.Firsts.{IsLabs, NamesNone};

@@ -1,5 +1,5 @@
 //! The sweep over all pairs that a draft's run can come to.
-ghost use Rattle.std.specs.Prelude.{◌≡◌, ◌≤◌, ◌⊎◌, ℕ, [], IfSome, MatchOption, Some};
+ghost use Rattle.std.specs.Prelude.{◌≡◌, ◌≤◌, ◌⊎◌, [], IfSome, MatchOption, Some};
 ghost use Rattle.dvg_mem.specs.Memory.{IsImage};
 ghost use Rattle.dvg_frame.specs.Faults.{Begins, Least};
 ghost use Rattle.dvg_frame.specs.Growth.{Grows};

@@ -1,5 +1,5 @@
 //! What is known of each place: what is drawn from it, and at which depths no run from it breaks.
-ghost use Rattle.std.specs.Prelude.{◌≡◌, ◌<◌, ◌≤◌, List, [], Option, Some, None, length, set};
+ghost use Rattle.std.specs.Prelude.{◌≡◌, ◌<◌, List, [], Option, Some, None, length, set};
 ghost use Rattle.dvg_frame.specs.Pairs.{IsPlace, place_index};
 ghost use Rattle.dvg_frame.specs.Tables.{AreCounted, HasNone, known_at};
 ghost use Rattle.dvg_frame.specs.declared.pair.TheConstants.{PLACES};
