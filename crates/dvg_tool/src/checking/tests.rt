@@ -1,9 +1,9 @@
 //! What the engines say of drafts, with the bound and without it.
 use crate::checking::{check_bound, check_text};
 use crate::fault::ToolFault;
-use crate::verdict::Verdict;
 use crate::watched::Watched;
 use dvg_frame::FrameFault;
+use dvg_text::Verdict;
 use std::alloc::Global;
 use std::test::Fail;
 
