@@ -1,15 +1,15 @@
 -- The events of lists and of traces, by their numbers.
 use Rattle.std.proofs.Common.{◌≡◌, ℕ, zero, suc, ◌+◌, ◌-◌, ◌<◌, ◌≤◌, List, [], ◌∷◌, ◌++◌, map, length, take, drop, get_or, slice_get, slice_range, All, Some, Result, Ok, Err, IfOk, OnErr, refl, sym, ap, ◌∙◌, subst, arith, not-suc-le-zero, le_of_suc-le-suc}
 use Rattle.std.proofs.lemmas.Option.{get_or_from_slice_get, same_Some, slice_get_within}
-use Rattle.std.proofs.lemmas.List.{append_assoc, map-append, take_more, take-append-le, drop-append-le, length-drop}
+use Rattle.std.proofs.lemmas.List.{append_assoc, append-nil, get_or_append_left, map-append, take_more, take-append-le, drop-append-le, length-drop}
 use Rattle.std.proofs.lemmas.List.Elements.{All-head, All-tail}
-use Rattle.std.proofs.Math.Seq.{drop-append_seam, take-length}
+use Rattle.std.proofs.Math.Seq.{drop-append_seam, get_or-append_seam, take-length}
 use Rattle.dvg_frame.specs.declared.op.OpKind.{OpKind}
 use Rattle.dvg_world.specs.declared.entry.Entry.{Entry}
 use Rattle.dvg_world.specs.declared.trace.Step.{Step}
 use Rattle.dvg_world.specs.declared.trace.Step.TheVariants as step
 use Rattle.dvg_world.specs.Entries.{shown_of}
-use Rattle.dvg_world.specs.Events.{Happening, Offer}
+use Rattle.dvg_world.specs.Events.{Happening, Offer, ResetAll}
 use Rattle.dvg_world.specs.Log.{Log}
 use Rattle.dvg_world.specs.Standing.{State, WorldAfter, AddsLine}
 use Rattle.dvg_world.specs.Stepping.{AddsEvent, WantsMemory}
@@ -40,20 +40,22 @@ same_range ops more first count low =
     ap (take (first + count - first)) (drop-append-le first ops more (omega arith))
     ∙ take-append-le (first + count - first) (drop first ops) more (omega (arith, length-drop first ops))
 
-same_step : {A : Type 0} (ops more : List OpKind) (s : Step A) → IsWithin ops s → event_of (ops ++ more) s ≡ event_of ops s
-same_step ops more (step.Offer first count) within = ap Offer (same_range ops more first count within.0)
-same_step ops more step.Redraw within = refl
-same_step ops more step.Tick within = refl
-same_step ops more step.Strobe within = refl
-same_step ops more step.Fetch within = refl
-same_step ops more step.ResetGen within = refl
-same_step ops more step.ResetCpu within = refl
-same_step ops more (step.ResetAll image) within = refl
+-- nor do more images change a reset
+same_step : (ops more all : List OpKind) (images others kept : List (List ℕ)) (s : Step) → all ≡ ops ++ more → kept ≡ images ++ others → IsWithin ops images s → event_of all kept s ≡ event_of ops images s
+same_step ops more all images others kept (step.Offer first count) e f within = rw e (ap Offer (same_range ops more first count within.0))
+same_step ops more all images others kept step.Redraw e f within = refl
+same_step ops more all images others kept step.Tick e f within = refl
+same_step ops more all images others kept step.Strobe e f within = refl
+same_step ops more all images others kept step.Fetch e f within = refl
+same_step ops more all images others kept step.ResetGen e f within = refl
+same_step ops more all images others kept step.ResetCpu e f within = refl
+same_step ops more all images others kept (step.ResetAll number) e f within = rw f (ap ResetAll (get_or_append_left images others [] number within))
 
-same_events : {A : Type 0} (steps : List (Step A)) (ops more : List OpKind) → All (IsWithin ops) steps → events_of steps (ops ++ more) ≡ events_of steps ops
-same_events [] ops more within = refl
-same_events (s ∷ steps) ops more within =
-    ap (λ event. event ∷ events_of steps (ops ++ more)) (same_step ops more s (All-head (IsWithin ops) s steps within)) ∙ ap (λ events. event_of ops s ∷ events) (same_events steps ops more (All-tail (IsWithin ops) s steps within))
+same_events : (steps : List Step) (ops more all : List OpKind) (images others kept : List (List ℕ)) → all ≡ ops ++ more → kept ≡ images ++ others → All (IsWithin ops images) steps → events_of steps all kept ≡ events_of steps ops images
+same_events [] ops more all images others kept e f within = refl
+same_events (s ∷ steps) ops more all images others kept e f within =
+    ap (λ event. event ∷ events_of steps all kept) (same_step ops more all images others kept s e f (All-head (IsWithin ops images) s steps within))
+    ∙ ap (λ events. event_of ops images s ∷ events) (same_events steps ops more all images others kept e f (All-tail (IsWithin ops images) s steps within))
 
 -- the last offer has the last operations
 last_range : (ops F : List OpKind) (first count : ℕ) → first ≡ length ops → count ≡ length F → slice_range (ops ++ F) first (first + count) ≡ F
@@ -61,11 +63,28 @@ last_range ops F first count begins counts =
     ap (λ n. take n (drop first (ops ++ F))) (let len : first + count - first ≡ length F = omega arith in len)
     ∙ (ap (λ k. take (length F) (drop k (ops ++ F))) begins ∙ (ap (take (length F)) (drop-append_seam ops F) ∙ take-length F))
 
-pub one_offer_more : {A : Type 0} (steps : List (Step A)) (ops F : List OpKind) (first count : ℕ) → All (IsWithin ops) steps → first ≡ length ops → count ≡ length F
-    → events_of (steps ++ step.Offer first count ∷ []) (ops ++ F) ≡ events_of steps ops ++ Offer F ∷ []
-one_offer_more {A = A} steps ops F first count within begins counts =
-    map-append (event_of (ops ++ F)) steps (step.Offer first count ∷ [])
-    ∙ (ap (λ events. events ++ event_of {A = A} (ops ++ F) (step.Offer first count) ∷ []) (same_events steps ops F within) ∙ ap (λ G. events_of steps ops ++ Offer G ∷ []) (last_range ops F first count begins counts))
+pub one_offer_more : (steps : List Step) (ops F : List OpKind) (images : List (List ℕ)) (first count : ℕ) → All (IsWithin ops images) steps → first ≡ length ops → count ≡ length F
+    → events_of (steps ++ step.Offer first count ∷ []) (ops ++ F) images ≡ events_of steps ops images ++ Offer F ∷ []
+one_offer_more steps ops F images first count within begins counts =
+    map-append (event_of (ops ++ F) images) steps (step.Offer first count ∷ [])
+    ∙ (ap (λ events. events ++ event_of (ops ++ F) images (step.Offer first count) ∷ []) (same_events steps ops F (ops ++ F) images [] images refl (sym (append-nil images)) within)
+    ∙ ap (λ G. events_of steps ops images ++ Offer G ∷ []) (last_range ops F first count begins counts))
+
+-- the last reset has the last image
+pub one_reset_more : (steps : List Step) (ops : List OpKind) (images : List (List ℕ)) (image : List ℕ) (number : ℕ) → All (IsWithin ops images) steps → number ≡ length images
+    → events_of (steps ++ step.ResetAll number ∷ []) ops (images ++ image ∷ []) ≡ events_of steps ops images ++ ResetAll image ∷ []
+one_reset_more steps ops images image number within counts =
+    map-append (event_of ops (images ++ image ∷ [])) steps (step.ResetAll number ∷ [])
+    ∙ (ap (λ events. events ++ event_of ops (images ++ image ∷ []) (step.ResetAll number) ∷ []) (same_events steps ops [] ops images (image ∷ []) (images ++ image ∷ []) (sym (append-nil ops)) refl within)
+    ∙ ap (λ bytes. events_of steps ops images ++ ResetAll bytes ∷ []) (ap (λ n. get_or (images ++ image ∷ []) n []) counts ∙ get_or-append_seam images image [] []))
+
+-- a step that is there, once more at the end, brings the event that its number has
+pub one_step_again : (f : Step → Happening) (steps more : List Step) (old : List Happening) (n : ℕ) (s d : Step) (event : Happening) → map f steps ≡ old → n < length old → s ≡ get_or steps n d → more ≡ steps ++ s ∷ [] → slice_get old n ≡ Some event
+    → map f more ≡ old ++ event ∷ []
+one_step_again f steps more old n s d event view low item added at =
+    let inside = subst (λ old. n < length old) (sym view) low in
+    let there = subst (λ old. slice_get old n ≡ Some event) (sym view) at in
+    ap (map f) added ∙ (map-append f steps (s ∷ []) ∙ (ap (λ event. map f steps ++ event ∷ []) (same_event f steps n s d event inside item there) ∙ ap (λ events. events ++ event ∷ []) view))
 
 -- one operation more was added
 pub one_op_more : (front F items : List OpKind) (i : ℕ) (op : OpKind) (more : List OpKind) → items ≡ front ++ take i F → slice_get F i ≡ Some op → more ≡ items ++ op ∷ [] → more ≡ front ++ take (i + 1) F

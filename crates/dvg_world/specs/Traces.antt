@@ -1,5 +1,5 @@
 -- The events of traces.
-use Rattle.std.specs.Prelude.{◌+◌, ◌*◌, ◌≤◌, List, All, length, map, slice_range}
+use Rattle.std.specs.Prelude.{◌+◌, ◌*◌, ◌<◌, ◌≤◌, ℕ, List, [], All, get_or, length, map, slice_range}
 use Rattle.dvg_frame.specs.declared.op.OpKind.{OpKind}
 use Rattle.dvg_world.specs.declared.trace.Step.{Step}
 use Rattle.dvg_world.specs.declared.trace.Step.TheVariants as step
@@ -7,31 +7,33 @@ use Rattle.dvg_world.specs.declared.trace.TraceEvent.{TraceEvent}
 use Rattle.dvg_world.specs.declared.trace.TraceEvent.TheVariants as seen
 use Rattle.dvg_world.specs.Events.{Happening, Offer, Redraw, Tick, Strobe, Fetch, ResetGen, ResetCpu, ResetAll}
 
--- the event of a step, by the operations of all offers
-abbrev pub event_of : {A : Type 0} → List OpKind → Step A → Happening
-event_of ops (step.Offer first count) = Offer (slice_range ops first (first + count))
-event_of ops step.Redraw = Redraw
-event_of ops step.Tick = Tick
-event_of ops step.Strobe = Strobe
-event_of ops step.Fetch = Fetch
-event_of ops step.ResetGen = ResetGen
-event_of ops step.ResetCpu = ResetCpu
-event_of ops (step.ResetAll image) = ResetAll image
+-- the event of a step, by the operations of all offers and the images of all resets
+abbrev pub event_of : List OpKind → List (List ℕ) → Step → Happening
+event_of ops images (step.Offer first count) = Offer (slice_range ops first (first + count))
+event_of ops images step.Redraw = Redraw
+event_of ops images step.Tick = Tick
+event_of ops images step.Strobe = Strobe
+event_of ops images step.Fetch = Fetch
+event_of ops images step.ResetGen = ResetGen
+event_of ops images step.ResetCpu = ResetCpu
+event_of ops images (step.ResetAll number) = ResetAll (get_or images number [])
 
 -- the events of steps
-abbrev pub events_of : {A : Type 0} → List (Step A) → List OpKind → List Happening
-events_of steps ops = map (event_of ops) steps
+abbrev pub events_of : List Step → List OpKind → List (List ℕ) → List Happening
+events_of steps ops images = map (event_of ops images) steps
 
--- an offer's operations are among all of them, and a draft can hold them
-abbrev pub IsWithin : {A : Type 0} → List OpKind → Step A → Type 0
-IsWithin ops (step.Offer first count) = (first + count ≤ length ops) × (count ≤ 511)
-IsWithin ops step = Unit {0}
+-- an offer's operations are among all of them, and a draft can hold them; a reset's image is among all of them
+abbrev pub IsWithin : List OpKind → List (List ℕ) → Step → Type 0
+IsWithin ops images (step.Offer first count) = (first + count ≤ length ops) × (count ≤ 511)
+IsWithin ops images (step.ResetAll number) = number < length images
+IsWithin ops images step = Unit {0}
 
--- steps, and the operations of their offers
-pub record IsTrace {A : Type 0} (steps : List (Step A)) (ops : List OpKind) : Type 0 where
+-- steps, the operations of their offers, and the images of their resets
+pub record IsTrace (steps : List Step) (ops : List OpKind) (images : List (List ℕ)) : Type 0 where
   pub count : length steps ≤ 65536
   pub few : length ops ≤ 511 * length steps
-  pub within : All (IsWithin ops) steps
+  pub reset : length images ≤ length steps
+  pub within : All (IsWithin ops images) steps
 
 -- an event of a trace, as it lies there
 abbrev pub seen_as : {A : Type 0} → TraceEvent A → Happening

@@ -181,3 +181,41 @@ fn a_draft_that_loops_is_refused(rt: HostRuntime) -> Result<(), Fail> {
     assert!(rt; matches!(entries[0], Entry::Refused(FrameFault::Loops)));
     Ok(())
 }
+
+// The first byte of the image of a trace's event, where it resets the whole system.
+fn first_byte(trace: &Trace, number: usize) -> Option<u8> {
+    match trace.event(number) {
+        TraceEvent::ResetAll(image) => Some(image.bytes()[0]),
+        _ => None,
+    }
+}
+
+// The image of which each byte is this one.
+fn image(alloc: Global, byte: u8) -> Result<Image, Fail> {
+    Image::new(alloc, &[byte; 2048]).map_err(|_| "no image".into())
+}
+
+#[test]
+fn events_are_pushed_again(rt: HostRuntime) -> Result<(), Fail> {
+    let mut trace = Trace::new(rt.alloc());
+    trace.push(Event::ResetAll(image(rt.alloc(), 0x0F)?))?;
+    trace.push_offer(&draft(&[OpKind::Halt, OpKind::Halt])?)?;
+    trace.push(Event::ResetAll(image(rt.alloc(), 0xF0)?))?;
+    trace.push_offer(&draft(&[OpKind::Halt])?)?;
+    trace.push(Event::Fetch)?;
+    for number in 0..5 {
+        trace.push_again(number)?;
+    }
+    trace.push_again(7)?;
+    assert_eq!(rt; trace.len(), 11);
+    for number in [0, 5] {
+        assert_eq!(rt; first_byte(&trace, number), Some(0x0F));
+    }
+    for number in [2, 7, 10] {
+        assert_eq!(rt; first_byte(&trace, number), Some(0xF0));
+    }
+    assert!(rt; matches!(trace.event(6), TraceEvent::Offer(ops) if ops.len() == 2));
+    assert!(rt; matches!(trace.event(8), TraceEvent::Offer(ops) if ops.len() == 1));
+    assert!(rt; matches!(trace.event(9), TraceEvent::Fetch));
+    Ok(())
+}

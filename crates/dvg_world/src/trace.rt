@@ -1,7 +1,7 @@
 //! Lists of events that take little room.
 ghost use Rattle.std.specs.Prelude.{◌≡◌, ◌+◌, ◌<◌, ◌≤◌, ◌↔◌, ◌++◌, ◌∷◌, [], List, Some, length, slice_get, vec_capacity, vec_len, IfOk, IsTrue, OnErr, OnOk};
 ghost use Rattle.dvg_world.specs.Entries.{shown_of};
-ghost use Rattle.dvg_world.specs.Events.{Happening, Offer, happening_of};
+ghost use Rattle.dvg_world.specs.Events.{Happening, Offer, ResetAll, happening_of};
 ghost use Rattle.dvg_world.specs.Stepping.{AddsEvent, WantsMemory};
 ghost use Rattle.dvg_world.specs.Traces.{FitsInDraft, IsTrace, events_of, seen_as};
 
@@ -18,26 +18,29 @@ use std::marker::Model;
 pub const MOST_EVENTS: usize = 65_536;
 
 /// Events in order, at most 65,536 of them, in little room: the operations of all its offers lie in one list, so
-/// an offer takes what its own operations want, where a `Draft` has room for 511.
+/// an offer takes what its own operations want, where a `Draft` has room for 511. The images of its resets lie in
+/// another, and an event that is pushed again has the operations or the image of the one before.
 #[derive(Drop)]
 pub struct Trace<A: Allocator = Global> {
-    steps: Vec<Step<A>, A>,
+    steps: Vec<Step, A>,
     /// The operations of all offers.
     ops: Vec<Op, A>,
+    /// The images of the resets of the whole system.
+    images: Vec<Image<A>, A>,
 }
 
 /// Contracts see the list of the events.
 impl<A: Allocator> Model for Trace<A> {
     ghost Value = { List Happening };
 
-    ghost view = { λ trace. events_of trace.steps.items trace.ops.items };
+    ghost view = { λ trace. events_of trace.steps.items trace.ops.items trace.images.items };
 
-    ghost invariant = { λ trace. IsTrace trace.steps.items trace.ops.items };
+    ghost invariant = { λ trace. IsTrace trace.steps.items trace.ops.items trace.images.items };
 }
 
 /// An event of a trace.
-#[derive(Drop)]
-pub(crate) enum Step<A: Allocator> {
+#[derive(Clone, Copy)]
+pub(crate) enum Step {
     /// An offer: the number of its first operation among those of all offers, and how many it has.
     Offer(u32, u16),
     Redraw,
@@ -46,7 +49,8 @@ pub(crate) enum Step<A: Allocator> {
     Fetch,
     ResetGen,
     ResetCpu,
-    ResetAll(Image<A>),
+    /// A reset of the whole system: the number of its image among all.
+    ResetAll(u32),
 }
 
 /// An event of a trace, as it lies there.
@@ -78,6 +82,7 @@ impl<A: Allocator + Copy> Trace<A> {
         Trace {
             steps: Vec::new(alloc),
             ops: Vec::new(alloc),
+            images: Vec::new(alloc),
         }
     }
 }
@@ -115,7 +120,7 @@ impl<A: Allocator> Trace<A> {
             Step::Fetch => TraceEvent::Fetch,
             Step::ResetGen => TraceEvent::ResetGen,
             Step::ResetCpu => TraceEvent::ResetCpu,
-            Step::ResetAll(image) => TraceEvent::ResetAll(image),
+            Step::ResetAll(image) => TraceEvent::ResetAll(&self.images[*image as usize]),
         }
     }
 
@@ -133,7 +138,7 @@ impl<A: Allocator> Trace<A> {
             Event::Fetch => Step::Fetch,
             Event::ResetGen => Step::ResetGen,
             Event::ResetCpu => Step::ResetCpu,
-            Event::ResetAll(image) => Step::ResetAll(image),
+            Event::ResetAll(image) => return self.push_reset(image),
         };
         self.steps.push(step)?;
         Ok(())
@@ -152,6 +157,34 @@ impl<A: Allocator> Trace<A> {
         self.steps.reserve(1)?;
         append(&mut self.ops, draft);
         self.steps.push_reserved(Step::Offer(first, count as u16));
+        Ok(())
+    }
+
+    /// Adds the event of this number, counted from 0, once more at the end of fewer than 65,536 events. Its draft or
+    /// image isn't copied. An error is want of memory, and then nothing has changed.
+    pub fn push_again(&mut self, number: usize) -> Result<(), OutOfMemory>
+        requires inside { number < length self.old }
+        requires room { length self.old < 65536 }
+        ensures pushed { (event : Happening) → slice_get self.old number ≡ Some event
+            → OnOk result (self.new ≡ self.old ++ event ∷ []) }
+        ensures refused { OnErr result (self.new ≡ self.old) }
+    {
+        let step = self.steps[number];
+        self.steps.push(step)?;
+        Ok(())
+    }
+
+    // Adds a reset of the whole system, and keeps its image.
+    fn push_reset(&mut self, image: Image<A>) -> Result<(), OutOfMemory>
+        requires { length self.old < 65536 }
+        ensures pushed { OnOk result (self.new ≡ self.old ++ ResetAll image ∷ []) }
+        ensures refused { OnErr result (self.new ≡ self.old) }
+    {
+        let number = self.images.len() as u32;
+        self.images.reserve(1)?;
+        self.steps.reserve(1)?;
+        self.images.push_reserved(image);
+        self.steps.push_reserved(Step::ResetAll(number));
         Ok(())
     }
 }
