@@ -1,6 +1,10 @@
 -- What a line more makes of a trace that is read.
-use Rattle.std.proofs.Common.{◌≡◌, ◌<◌, ◌≤◌, ◌+◌, ℕ, zero, suc, List, [], ◌∷◌, ◌++◌, length, replicate, refl, sym, ap, subst, ◌∙◌, arith, length-append, codes, All, Option, Some, None, Result, Ok, Err, OnOk, IfErr, Bool, true, false}
+use Rattle.std.proofs.Common.{◌≡◌, ◌≢◌, ⊎_elim, get_or, set, slice_get, ◌<◌, ◌≤◌, ◌+◌, ℕ, zero, suc, List, [], ◌∷◌, ◌++◌, length, replicate, refl, sym, ap, subst, ◌∙◌, arith, length-append, codes, All, Option, Some, None, Result, Ok, Err, OnOk, IfErr, Bool, true, false}
 use Rattle.std.specs.Option.{is_some}
+use Rattle.std.proofs.lemmas.Bool.Decides.{eqb_tells}
+use Rattle.std.proofs.lemmas.Grind.{get_or-set_at}
+use Rattle.std.proofs.lemmas.List.{get_or-set_other}
+use Rattle.std.proofs.lemmas.Option.{none-some, same_Some}
 use Rattle.std.proofs.lemmas.List.Elements.{All-append, All-replicate}
 use Rattle.dvg_mem.specs.Memory.{IsImage}
 use Rattle.dvg_frame.specs.declared.op.OpKind.{OpKind}
@@ -15,7 +19,7 @@ use Rattle.dvg_text.specs.TraceTexts.{EventParts, Fits, FitsDraft, redraw, tick,
 use Rattle.dvg_text.specs.TraceReading.{Takes, does, ends, events, opens, rom}
 use Rattle.dvg_text.proofs.ReadTo.{after_more}
 use Rattle.dvg_text.specs.declared.trace_text.Reading.{Reading}
-use Rattle.dvg_text.specs.TraceGives.{IsHeld, StopsEvents, StopsLine, StopsOperation, TakesLine, events_of, opened_by, opened_of}
+use Rattle.dvg_text.specs.TraceGives.{AreResets, IsHeld, StopsEvents, StopsLine, StopsOperation, TakesLine, events_of, opened_by, opened_of}
 
 all_one : {A : Type 0} (P : A → Type 0) (y : A) → P y → All P (y ∷ [])
 all_one P y h zero d l = h
@@ -33,9 +37,50 @@ any_opened true F = refl
 any_opened false F = refl
 
 -- what is held, where it is taken
-pub held_on : {A E B : Type 0} (answer : Result A E) (reading : Reading B) → OnOk answer (Fits (events_of reading) (opened_of reading)) → IsImage reading.rom → OnOk answer (IsHeld reading)
-held_on (Ok x) reading fits image = record { fits = fits; image = image }
-held_on (Err x) reading fits image = tt
+pub held_on : {A E B : Type 0} (answer : Result A E) (reading : Reading B) → OnOk answer (Fits (events_of reading) (opened_of reading)) → IsImage reading.rom → OnOk answer (AreResets reading.resets (events_of reading)) → OnOk answer (IsHeld reading)
+held_on (Ok x) reading fits image known = record { fits = fits; image = image; known = known }
+held_on (Err x) reading fits image known = tt
+
+-- the numbers of resets
+
+none_there : (size byte : ℕ) → get_or (replicate {A = Option ℕ} size None) byte None ≡ None
+none_there zero byte = refl
+none_there (suc size) zero = refl
+none_there (suc size) (suc byte) = none_there size byte
+
+get_front : {X : Type 0} (xs ys : List X) (n : ℕ) (x : X) → slice_get xs n ≡ Some x → slice_get (xs ++ ys) n ≡ Some x
+get_front [] ys n x at = absurd (cc)
+get_front (y ∷ xs) ys zero x at = at
+get_front (y ∷ xs) ys (suc n) x at = get_front xs ys n x at
+
+get_last : {X : Type 0} (xs : List X) (x : X) → slice_get (xs ++ x ∷ []) (length xs) ≡ Some x
+get_last [] x = refl
+get_last (y ∷ xs) x = get_last xs x
+
+-- no number says nothing
+pub no_resets : (numbers : List (Option ℕ)) (told : List Happening) → numbers ≡ replicate 256 None → AreResets numbers told
+no_resets numbers told e = record { found = λ byte n at. absurd (none-some n (sym (ap (λ numbers. get_or numbers byte None) e ∙ none_there 256 byte) ∙ at)) }
+
+-- more events change none before them
+pub resets_stay : (numbers : List (Option ℕ)) (old more new : List Happening) → new ≡ old ++ more → AreResets numbers old → AreResets numbers new
+resets_stay numbers old more new e known = record { found = λ byte n at. rw e (get_front old more n (ResetAll (replicate 2048 byte)) (known.found byte n at)) }
+
+pub resets_stay_on : {A E : Type 0} (answer : Result A E) (numbers : List (Option ℕ)) (old more new : List Happening) → OnOk answer (new ≡ old ++ more) → AreResets numbers old → OnOk answer (AreResets numbers new)
+resets_stay_on (Ok x) numbers old more new e known = resets_stay numbers old more new e known
+resets_stay_on (Err x) numbers old more new e known = tt
+
+-- a byte's first reset, at the end
+pub reset_more : (numbers : List (Option ℕ)) (old new : List Happening) (byte n : ℕ) → byte < length numbers → n ≡ length old → new ≡ old ++ ResetAll (replicate 2048 byte) ∷ [] → AreResets numbers old → AreResets (set numbers byte (Some n)) new
+reset_more numbers old new byte n low counts e known = record { found = λ other m at. ⊎_elim (λ h. this other m h.1 at) (λ h. another other m h.1 at) (eqb_tells other byte) }
+  where
+    this : (other m : ℕ) → other ≡ byte → get_or (set numbers byte (Some n)) other None ≡ Some m → slice_get new m ≡ Some (ResetAll (replicate 2048 other))
+    this other m same at =
+        let number : m ≡ length old = sym (same_Some n m (sym (get_or-set_at numbers byte other (Some n) None same low) ∙ at)) ∙ counts in
+        ap (slice_get new) number ∙ (ap (λ all. slice_get all (length old)) e ∙ (get_last old (ResetAll (replicate 2048 byte)) ∙ ap (λ b. Some (ResetAll (replicate 2048 b))) (sym same)))
+
+    another : (other m : ℕ) → other ≢ byte → get_or (set numbers byte (Some n)) other None ≡ Some m → slice_get new m ≡ Some (ResetAll (replicate 2048 other))
+    another other m apart at =
+        rw e (get_front old (ResetAll (replicate 2048 byte) ∷ []) m (ResetAll (replicate 2048 other)) (known.found other m (sym (get_or-set_other numbers byte other (Some n) None apart) ∙ at)))
 
 -- the end of an offer
 

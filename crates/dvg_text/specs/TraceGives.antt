@@ -1,8 +1,8 @@
 -- What the reader of traces answers.
-use Rattle.std.specs.Prelude.{ℕ, ◌+◌, ◌<◌, ◌≤◌, List, length, Bool, true, false, Option, Some, None}
+use Rattle.std.specs.Prelude.{ℕ, ◌+◌, ◌<◌, ◌≤◌, List, length, get_or, slice_get, replicate, ◌≡◌, Bool, true, false, Option, Some, None}
 use Rattle.dvg_mem.specs.Memory.{IsImage}
 use Rattle.dvg_frame.specs.declared.op.OpKind.{OpKind}
-use Rattle.dvg_world.specs.Events.{Happening}
+use Rattle.dvg_world.specs.Events.{Happening, ResetAll}
 use Rattle.dvg_text.specs.declared.fault.TextFault.TheVariants.{Syntax, Full, Many}
 use Rattle.dvg_text.specs.declared.fault.TraceFault.{TraceFault}
 use Rattle.dvg_text.specs.declared.fault.TraceFault.TheVariants.{Text, Memory}
@@ -46,10 +46,15 @@ opened_by false F = None
 abbrev pub opened_of : {A : Type 0} → Reading A → Option (List OpKind)
 opened_of reading = opened_by reading.is_open reading.draft
 
--- what was read is within the limits, over a whole ROM
+-- where a byte has a number, the event of this number is a reset of the whole system with this byte
+pub record AreResets (numbers : List (Option ℕ)) (events : List Happening) : Type 0 where
+  pub found : (byte n : ℕ) → get_or numbers byte None ≡ Some n → slice_get events n ≡ Some (ResetAll (replicate 2048 byte))
+
+-- what was read is within the limits, over a whole ROM, and the resets of its bytes are known
 pub record IsHeld {A : Type 0} (reading : Reading A) : Type 0 where
   pub fits : Fits (events_of reading) (opened_of reading)
   pub image : IsImage reading.rom
+  pub known : AreResets reading.resets (events_of reading)
 
 -- a line more was read, behind ROM lines that gave the bytes before it
 pub record TakesLine (roms : List RomLine) (old : List Happening) (opened : Option (List OpKind)) (line : List ℕ) (new : List Happening) (left : Option (List OpKind)) (S : List ℕ) : Type 0 where

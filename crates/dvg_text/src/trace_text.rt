@@ -3,7 +3,7 @@ ghost use Rattle.std.specs.Prelude.{◌≡◌, ◌+◌, ◌^◌, ◌<◌, ◌≤
 ghost use Rattle.dvg_frame.specs.declared.op.OpKind.{OpKind};
 ghost use Rattle.dvg_text.specs.EventLines.{event_of, happenings};
 ghost use Rattle.dvg_text.specs.OpLines.{IsOpLine};
-ghost use Rattle.dvg_text.specs.TraceGives.{GivesTrace, IsHeld, ReadsLine, StopsEvents, StopsLine, StopsOperation, StopsReading, events_of, fault_at, opened_of};
+ghost use Rattle.dvg_text.specs.TraceGives.{AreResets, GivesTrace, IsHeld, ReadsLine, StopsEvents, StopsLine, StopsOperation, StopsReading, events_of, fault_at, opened_of};
 ghost use Rattle.dvg_world.specs.Events.{happening_of};
 
 use crate::draft_text::MOST_TEXT_BYTES;
@@ -52,6 +52,7 @@ pub fn read_trace<A: Allocator + Copy>(alloc: A, text: &[u8]) -> Result<TraceTex
         events: Trace::new(alloc),
         draft: Draft::new(),
         is_open: false,
+        resets: [None; 256],
     };
     let mut number = 0;
     for line in TextLines::new(text) {
@@ -108,6 +109,8 @@ struct Reading<A: Allocator> {
     draft: Draft,
     // Whether that offer isn't ended.
     is_open: bool,
+    // For each byte the number of the first event that resets the system with it.
+    resets: [Option<u32>; 256],
 }
 
 impl<A: Allocator + Copy> Reading<A> {
@@ -141,7 +144,7 @@ impl<A: Allocator + Copy> Reading<A> {
             return Ok(());
         }
         if let Some(told) = read_event_line(line) {
-            return add_events(self.alloc, told, &mut self.events);
+            return add_events(self.alloc, told, &mut self.resets, &mut self.events);
         }
         if !self.events.is_empty() {
             return Err(LineFault::Syntax);
@@ -191,10 +194,13 @@ fn add_op(draft: &mut Draft, line: &[u8]) -> Result<(), LineFault>
 fn add_events<A: Allocator>(
     alloc: A,
     told: EventLine,
+    resets: &mut [Option<u32>; 256],
     events: &mut Trace<A>,
 ) -> Result<(), LineFault>
+    requires { AreResets resets.old events.old }
     ensures added { OnOk result (events.new ≡ events.old ++ happenings told) }
     ensures room { OnOk result (length events.new ≤ 65536) }
+    ensures resets { OnOk result (AreResets resets.new events.new) }
     ensures fault { IfErr result (λ fault. StopsEvents fault events.old (happenings told)) }
 {
     if events.len() + count(told) > MOST_EVENTS {
@@ -202,7 +208,7 @@ fn add_events<A: Allocator>(
     }
     let added = match told {
         EventLine::Times(event, count) => add_times(event, count, events),
-        EventLine::ResetAll(byte) => add_reset(alloc, byte, events),
+        EventLine::ResetAll(byte) => add_reset(alloc, byte, resets, events),
     };
     if added.is_err() {
         return Err(LineFault::Memory);
@@ -250,13 +256,26 @@ fn one<A: Allocator>(event: BareEvent) -> Event<A>
     }
 }
 
-// Adds a reset of the whole system, behind which each byte is this one.
-fn add_reset<A: Allocator>(alloc: A, byte: u8, events: &mut Trace<A>) -> Result<(), OutOfMemory>
-    requires { length events.old < 65536 }
-    ensures { OnOk result (events.new ≡ events.old ++ happenings (EventLine.ResetAll byte)) }
+// Adds a reset of the whole system, behind which each byte is this one. Its image is made where it is the first.
+fn add_reset<A: Allocator>(
+    alloc: A,
+    byte: u8,
+    resets: &mut [Option<u32>; 256],
+    events: &mut Trace<A>,
+) -> Result<(), OutOfMemory>
+    requires room { length events.old < 65536 }
+    requires resets { AreResets resets.old events.old }
+    ensures added { OnOk result (events.new ≡ events.old ++ happenings (EventLine.ResetAll byte)) }
+    ensures resets { OnOk result (AreResets resets.new events.new) }
 {
+    if let Some(first) = resets[usize::from(byte)] {
+        return events.push_again(first as usize);
+    }
     let Ok(image) = Image::new(alloc, &[byte; MEMORY_BYTES]) else {
         return Err(OutOfMemory);
     };
-    events.push(Event::ResetAll(image))
+    let number = events.len() as u32;
+    events.push(Event::ResetAll(image))?;
+    resets[usize::from(byte)] = Some(number);
+    Ok(())
 }

@@ -139,6 +139,26 @@ fn text_gives_its_events_in_order(rt: HostRuntime) -> Result<(), Fail> {
 }
 
 #[test]
+fn each_reset_has_its_own_byte(rt: HostRuntime) -> Result<(), Fail> {
+    let text =
+        b"tick 2\nresetall 00\nresetall 01\nresetall FF\nresetall 00\noffer\nend\nresetall ff\nresetall 01\nresetall FE\n";
+    let wanted = [
+        Seen::Bare(BareEvent::Tick),
+        Seen::Bare(BareEvent::Tick),
+        Seen::ResetAll(0x00, 0x00),
+        Seen::ResetAll(0x01, 0x01),
+        Seen::ResetAll(0xFF, 0xFF),
+        Seen::ResetAll(0x00, 0x00),
+        Seen::Offer(0),
+        Seen::ResetAll(0xFF, 0xFF),
+        Seen::ResetAll(0x01, 0x01),
+        Seen::ResetAll(0xFE, 0xFE),
+    ];
+    assert_eq!(rt; events(rt.alloc(), text)?.as_slice(), wanted.as_slice());
+    Ok(())
+}
+
+#[test]
 fn rom_lines_stand_first(rt: HostRuntime) -> Result<(), Fail> {
     let text = b"rom 800 B000\nrom bff 1234\nrom 800 c0De\nresetcpu\n";
     let told = read_trace(rt.alloc(), text).map_err(|_| "not a trace")?;

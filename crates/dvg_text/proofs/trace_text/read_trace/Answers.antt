@@ -6,7 +6,7 @@ use Rattle.dvg_text.specs.TraceTexts.{FitsDraft}
 use Rattle.dvg_text.specs.TraceGives.{events_of, opened_of}
 use Rattle.dvg_text.proofs.GivenWords.{image_of}
 use Rattle.dvg_text.proofs.ReadTrace.{begins, bounded, closed_all, ends_open, passes, stops, takes}
-use Rattle.dvg_text.proofs.TraceMoves.{any_opened}
+use Rattle.dvg_text.proofs.TraceMoves.{any_opened, no_resets}
 use Rattle.dvg_text.proofs.trace_text.read_trace.Goals as goal
 
 pub loop-line-init : goal.loop-line-init
@@ -19,7 +19,7 @@ loop-line-init g c =
       next = tt;
       ends = tt;
       short = search rules;
-      held = record { fits = record { count = omega (arith, ap length none); drafts = rw none (All-nil FitsDraft); last = tt }; image = image };
+      held = record { fits = record { count = omega (arith, ap length none); drafts = rw none (All-nil FitsDraft); last = tt }; image = image; known = no_resets _ c.new.result refl };
       read = begins c.args.text.now (lines_left start) c.new.result None c.ungiven_rom.result all none refl c.ungiven_rom.ensures;
     }
 

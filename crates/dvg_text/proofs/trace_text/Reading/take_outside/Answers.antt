@@ -17,7 +17,7 @@ returns-then-eq-clause-taken g c =
 pub returns-then-eq-clause-held : goal.returns-then-eq-clause-held
 returns-then-eq-clause-held g c =
     let reading = c.args.self.now in
-    record { fits = subst (λ F. Fits (events_of reading) (Some F)) (sym c.clear.ensures) (offer_fits (events_of reading) (opened_of reading) c.requires.held.fits); image = c.requires.held.image }
+    record { fits = subst (λ F. Fits (events_of reading) (Some F)) (sym c.clear.ensures) (offer_fits (events_of reading) (opened_of reading) c.requires.held.fits); image = c.requires.held.image; known = c.requires.held.known }
 
 pub returns-in-Some-clause-taken : goal.returns-in-Some-clause-taken
 returns-in-Some-clause-taken g c =
@@ -25,10 +25,11 @@ returns-in-Some-clause-taken g c =
 
 pub returns-in-Some-clause-held : goal.returns-in-Some-clause-held
 returns-in-Some-clause-held g c =
-    let new : Reading g.row.A.Denot = record { alloc = c.args.self.now.alloc; rom = c.args.self.now.rom; events = c.add_events.new.events; draft = c.args.self.now.draft; is_open = c.args.self.now.is_open } in
+    let new : Reading g.row.A.Denot = record { alloc = c.args.self.now.alloc; rom = c.args.self.now.rom; events = c.add_events.new.events; draft = c.args.self.now.draft; is_open = c.args.self.now.is_open; resets = c.add_events.new.resets } in
     held_on c.add_events.result new
     (events_fit c.add_events.result (events_of c.args.self.now) (happenings c.in-Some.told) (events_of new) (opened_of c.args.self.now) (parts c.args.line.now) c.in-Some.ensures.found c.add_events.ensures.added c.add_events.ensures.room c.requires.held.fits)
     c.requires.held.image
+    c.add_events.ensures.resets
 
 pub returns-in-Some-clause-fault : goal.returns-in-Some-clause-fault
 returns-in-Some-clause-fault g c = events_stop c.add_events.result (events_of c.args.self.now) (happenings c.in-Some.told) (opened_of c.args.self.now) c.args.line.now (none_opened c.args.self.now.is_open c.args.self.now.draft c.requires.outside) c.in-Some.ensures.found c.add_events.ensures.fault
