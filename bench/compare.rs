@@ -52,6 +52,7 @@ const PLAY_ROWS: &[Row] = &[
     ),
     row("play, 65,536 ticks", &["play"], ticks),
     row("play --all, 65,536 ticks", &["play", "--all"], ticks),
+    row("play, 65,536 resets", &["play"], resets),
     row("play, 62 pictures of 254 strokes", &["play"], pictures),
     row(
         "play --all, 62 pictures of 254 strokes",
@@ -280,6 +281,14 @@ fn ticks() -> Vec<u8> {
     let mut text = "tick 9999\n".repeat(6);
     text += "tick 5542\n";
     text.into_bytes()
+}
+
+/// The text of 65,536 resets of the whole system, over all bytes in turn.
+fn resets() -> Vec<u8> {
+    let all: String = (0..=255u8)
+        .map(|byte| format!("resetall {byte:02X}\n"))
+        .collect();
+    all.repeat(256).into_bytes()
 }
 
 /// The text of a frame of 254 vectors that are seen, which is drawn 62 times: 64,579 events.

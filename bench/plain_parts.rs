@@ -209,7 +209,10 @@ fn offer_small(vectors: u64, ops: &mut Vec<Op>) -> Event {
 /// for both.
 fn mixed_events() -> Trace {
     let mut random = Random(1979);
-    let mut trace = Trace::default();
+    let mut trace = Trace {
+        images: vec![Box::new([0xFF; 2048])],
+        ..Trace::default()
+    };
     while trace.events.len() < EVENTS {
         trace.events.push(match random.below(64) {
             0 => offer_small(1 + random.below(3), &mut trace.ops),
@@ -218,7 +221,7 @@ fn mixed_events() -> Trace {
             42..=44 => Event::Strobe,
             45..=61 => Event::Fetch,
             62 => Event::ResetGen,
-            _ if random.below(16) == 0 => Event::ResetAll(Box::new([0xFF; 2048])),
+            _ if random.below(16) == 0 => Event::ResetAll(0),
             _ => Event::ResetCpu,
         });
         if matches!(trace.events.last(), Some(Event::Fetch)) && trace.events.len() < EVENTS {

@@ -46,6 +46,8 @@ pub fn read_trace(text: &[u8]) -> Result<(Trace, Rom), TextFault> {
     }
     let mut rom = [0xD000; 1024];
     let mut trace = Trace::default();
+    // For each byte the number of its image.
+    let mut resets = [None; 256];
     // Where the operations of the open offer begin.
     let mut opened = None;
     // The part behind the last LF is no line where it is empty, and such a line is passed over.
@@ -66,7 +68,7 @@ pub fn read_trace(text: &[u8]) -> Result<(Trace, Rom), TextFault> {
         } else if line == b"offer" {
             opened = Some(trace.ops.len());
         } else if let Some(told) = read_event(line) {
-            add_events(told, &mut trace.events).ok_or(TextFault::Many(number))?;
+            add_events(told, &mut resets, &mut trace).ok_or(TextFault::Many(number))?;
         } else if !trace.events.is_empty() || read_rom_line(line, &mut rom).is_none() {
             return Err(TextFault::Syntax(number));
         }
@@ -88,17 +90,23 @@ fn add_op(ops: &mut Vec<Op>, first: usize, line: &[u8], number: usize) -> Result
 }
 
 /// Adds the events of a line. None where there would be too many.
-fn add_events(told: EventLine, events: &mut Vec<Event>) -> Option<()> {
+fn add_events(told: EventLine, resets: &mut [Option<u32>; 256], trace: &mut Trace) -> Option<()> {
     let count = match told {
         EventLine::Times(_, count) => count,
         EventLine::ResetAll(_) => 1,
     };
-    if events.len() + count > MOST_EVENTS {
+    if trace.events.len() + count > MOST_EVENTS {
         return None;
     }
     match told {
-        EventLine::Times(event, count) => events.extend((0..count).map(|_| event())),
-        EventLine::ResetAll(byte) => events.push(Event::ResetAll(Box::new([byte; 2048]))),
+        EventLine::Times(event, count) => trace.events.extend((0..count).map(|_| event())),
+        EventLine::ResetAll(byte) => {
+            let number = *resets[usize::from(byte)].get_or_insert_with(|| {
+                trace.images.push(Box::new([byte; 2048]));
+                trace.images.len() as u32 - 1
+            });
+            trace.events.push(Event::ResetAll(number));
+        }
     }
     Some(())
 }

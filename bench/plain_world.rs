@@ -14,14 +14,16 @@ pub enum Event {
     Fetch,
     ResetGen,
     ResetCpu,
-    ResetAll(Box<[u8; 2048]>),
+    /// A reset of the whole system with the image of this number.
+    ResetAll(u32),
 }
 
-/// Events in order, and the operations of all offers.
+/// Events in order, the operations of all offers, and the images of the resets, each once.
 #[derive(Default)]
 pub struct Trace {
     pub events: Vec<Event>,
     pub ops: Vec<Op>,
+    pub images: Vec<Box<[u8; 2048]>>,
 }
 
 /// What an event led to.
@@ -116,7 +118,7 @@ impl World<'_> {
     }
 
     /// `rest` has the operations of this offer, if it is one, and of all later ones.
-    pub fn apply(&mut self, event: &Event, rest: &mut &[Op]) -> Entry {
+    fn apply(&mut self, event: &Event, rest: &mut &[Op], images: &[Box<[u8; 2048]>]) -> Entry {
         match event {
             Event::Offer(count) => {
                 let (ops, later) = rest.split_at(*count);
@@ -143,11 +145,11 @@ impl World<'_> {
                 self.driver = Driver::new();
                 Entry::Cleared
             }
-            Event::ResetAll(image) => {
+            Event::ResetAll(number) => {
                 self.generator.reset();
                 self.driver = Driver::new();
                 self.strobed = false;
-                self.ram = **image;
+                self.ram = *images[*number as usize];
                 Entry::Cleared
             }
         }
@@ -160,7 +162,7 @@ pub fn run(rom: &Rom, image: [u8; 2048], trace: &Trace) -> Vec<Entry> {
     let mut rest = trace.ops.as_slice();
     let mut entries = Vec::with_capacity(trace.events.len());
     for event in &trace.events {
-        entries.push(world.apply(event, &mut rest));
+        entries.push(world.apply(event, &mut rest, &trace.images));
     }
     entries
 }

@@ -75,6 +75,17 @@ pub fn trace_keeps_its_events(alloc: Global) -> Option<bool>
     Some(matches!(trace.event(1), TraceEvent::Strobe))
 }
 
+/// An event that is pushed again stands at the end.
+pub fn trace_keeps_what_is_pushed_again(alloc: Global) -> Option<bool>
+    ensures { IfSome result (λ is_strobe. is_strobe ≡ true) }
+{
+    let mut trace = Trace::new(alloc);
+    trace.push(Event::Strobe).ok()?;
+    trace.push(Event::Tick).ok()?;
+    trace.push_again(0).ok()?;
+    Some(matches!(trace.event(2), TraceEvent::Strobe))
+}
+
 /// The first picture: over a ROM and a RAM of zeros a frame of one vector is offered, written, published and drawn, and each of
 /// the events has exactly this entry. None where memory was refused.
 pub fn runs_the_first_picture(
