@@ -1,9 +1,10 @@
 //! The engine `play`: what it writes before a write that fails, or before memory is refused.
 use crate::devices::{Failure, Stubborn};
 use crate::traces::{FIRST_PICTURE, first_picture_shown, joined, played};
+use dvg_frame::Op;
 use dvg_mem::MEMORY_BYTES;
 use dvg_tool::{ToolFault, Watched, play};
-use dvg_world::{Entry, Event};
+use dvg_world::Entry;
 use linked_list_allocator::LocalHeap;
 use std::alloc::{AllocError, Global};
 use std::mem::size_of;
@@ -90,35 +91,59 @@ fn wall_in<'a>(heap: &'a LocalHeap, front: usize) -> Result<Vec<u8, &'a LocalHea
     Ok(wall)
 }
 
-/// The first picture behind an offer of one operation, and with five ticks more before its own offer: 36 events, of
-/// which the last but two draws.
-const LATE_PICTURE: &str =
-    "offer\nhalt\nend\ntick 7\noffer\nlabs 512 400 0\nvctr 9 -100 100 7\nhalt\nend\ntick 14\nstrobe\nfetch 12\n";
+/// The first picture behind an offer of one operation, with five ticks more before its own offer, and before an offer
+/// of so many operations: 38 events, of which the last but four draws.
+fn late_picture(alloc: Global, last: usize) -> Result<String, Fail> {
+    let mut text = joined(
+        alloc,
+        &[
+            "offer\nhalt\nend\ntick 7\noffer\nlabs 512 400 0\nvctr 9 -100 100 7\nhalt\nend\ntick 14\nstrobe\nfetch 13\noffer\n",
+        ],
+    )?;
+    for _ in 0..last {
+        text.push_str("halt\n")?;
+    }
+    text.push_str("end\n")?;
+    Ok(text)
+}
 
 /// The text of the late picture, behind a comment that makes it as long as is wanted.
-fn text_of_length(alloc: Global, wanted: usize) -> Result<String, Fail> {
+fn text_of_length(alloc: Global, wanted: usize, last: usize) -> Result<String, Fail> {
+    let picture = late_picture(alloc, last)?;
     let mut text = joined(alloc, &["#"])?;
-    let dots = wanted.saturating_sub(LATE_PICTURE.len().saturating_add("#\n".len()));
+    let dots = wanted.saturating_sub(picture.len().saturating_add("#\n".len()));
     for _dot in 0..dots {
         text.push_str(".")?;
     }
     text.push_str("\n")?;
-    text.push_str(LATE_PICTURE)?;
+    text.push_str(picture.as_str())?;
     Ok(text)
 }
 
-/// In front of the wall there is room for the text, for the operations of both offers and for a list of events that
-/// grows from 4 to 8, 16, 32 and 64, each of which takes as much as an `Event`. The text gives its room back to the
-/// ROM, which is as long. The 60 events that the list gives back are just enough for the log of 36 events, so the
+/// An enum of the size of a trace's step.
+#[allow(dead_code)]
+enum Shape {
+    Offer(u32, u16),
+    Tick,
+    ResetAll(u32),
+}
+
+/// In front of the wall there is room for the text, for the four operations of the first two offers, for a list of
+/// steps that grows from 4 to 8, 16, 32 and 64, and for the log of 38 events. The text gives its room back to the ROM,
+/// which is as long. The 60 steps that the list gives back are just enough for the list of all operations, so the
 /// stroke has to find room behind the wall.
 #[test]
 fn a_refusal_at_the_vector_leaves_the_entries_before(rt: HostRuntime) -> Result<(), Fail> {
-    let event = size_of::<Event<&LocalHeap>>();
-    let entry = size_of::<Entry<&LocalHeap>>();
-    assert_eq!(rt; event * 60, entry * 36);
-    let text = text_of_length(rt.alloc(), MEMORY_BYTES)?;
+    let (step, op, entry) = (
+        size_of::<Shape>(),
+        size_of::<Op>(),
+        size_of::<Entry<&LocalHeap>>(),
+    );
+    assert!(rt; op > 0 && step * 60 % op == 0);
+    let operations = step * 60 / op;
+    let text = text_of_length(rt.alloc(), MEMORY_BYTES, operations.saturating_sub(4))?;
     assert_eq!(rt; text.len(), MEMORY_BYTES);
-    let front = MEMORY_BYTES + 48 + event * 124;
+    let front = MEMORY_BYTES + 48 + step * 124 + entry * 38;
     let before = shown_before(rt.alloc(), text.as_str(), "33 fetched")?;
     let (mut refused, mut whole) = (0u32, false);
     for slots in 0..2048usize {
@@ -142,7 +167,7 @@ fn a_refusal_at_the_vector_leaves_the_entries_before(rt: HostRuntime) -> Result<
         }
     }
     assert!(rt; whole);
-    assert!(rt; refused > 0);
+    assert!(rt; refused > 0, "step {step}, operation {op}, entry {entry}");
     Ok(())
 }
 
