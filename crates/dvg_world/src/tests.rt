@@ -184,10 +184,51 @@ fn a_draft_that_loops_is_refused(rt: HostRuntime) -> Result<(), Fail> {
 
 // The first byte of the image of a trace's event, where it resets the whole system.
 fn first_byte(trace: &Trace, number: usize) -> Option<u8> {
+    if number >= trace.len() {
+        return None;
+    }
     match trace.event(number) {
         TraceEvent::ResetAll(image) => Some(image.bytes()[0]),
         _ => None,
     }
+}
+
+// How many operations the draft of a trace's event has, where it is an offer.
+fn op_count(trace: &Trace, number: usize) -> Option<usize> {
+    if number >= trace.len() {
+        return None;
+    }
+    match trace.event(number) {
+        TraceEvent::Offer(ops) => Some(ops.len()),
+        _ => None,
+    }
+}
+
+// Pushes the event of this number once more.
+fn push_again(trace: &mut Trace, number: usize) -> Result<(), Fail> {
+    if number >= trace.len() || trace.len() >= MOST_EVENTS {
+        return Err("no such event, or no room".into());
+    }
+    trace.push_again(number)?;
+    Ok(())
+}
+
+// Pushes an event.
+fn push(trace: &mut Trace, event: Event) -> Result<(), Fail> {
+    if trace.len() >= MOST_EVENTS {
+        return Err("no room".into());
+    }
+    trace.push(event)?;
+    Ok(())
+}
+
+// Pushes an offer of a draft.
+fn push_offer(trace: &mut Trace, draft: &Draft) -> Result<(), Fail> {
+    if trace.len() >= MOST_EVENTS {
+        return Err("no room".into());
+    }
+    trace.push_offer(draft)?;
+    Ok(())
 }
 
 // The image of which each byte is this one.
@@ -198,24 +239,18 @@ fn image(alloc: Global, byte: u8) -> Result<Image, Fail> {
 #[test]
 fn events_are_pushed_again(rt: HostRuntime) -> Result<(), Fail> {
     let mut trace = Trace::new(rt.alloc());
-    trace.push(Event::ResetAll(image(rt.alloc(), 0x0F)?))?;
-    trace.push_offer(&draft(&[OpKind::Halt, OpKind::Halt])?)?;
-    trace.push(Event::ResetAll(image(rt.alloc(), 0xF0)?))?;
-    trace.push_offer(&draft(&[OpKind::Halt])?)?;
-    trace.push(Event::Fetch)?;
-    for number in 0..5 {
-        trace.push_again(number)?;
-    }
-    trace.push_again(7)?;
-    assert_eq!(rt; trace.len(), 11);
-    for number in [0, 5] {
-        assert_eq!(rt; first_byte(&trace, number), Some(0x0F));
-    }
-    for number in [2, 7, 10] {
-        assert_eq!(rt; first_byte(&trace, number), Some(0xF0));
-    }
-    assert!(rt; matches!(trace.event(6), TraceEvent::Offer(ops) if ops.len() == 2));
-    assert!(rt; matches!(trace.event(8), TraceEvent::Offer(ops) if ops.len() == 1));
-    assert!(rt; matches!(trace.event(9), TraceEvent::Fetch));
+    push(&mut trace, Event::ResetAll(image(rt.alloc(), 0x0F)?))?;
+    push_offer(&mut trace, &draft(&[OpKind::Halt, OpKind::Halt])?)?;
+    push(&mut trace, Event::ResetAll(image(rt.alloc(), 0xF0)?))?;
+    push_again(&mut trace, 0)?;
+    push_again(&mut trace, 1)?;
+    push_again(&mut trace, 2)?;
+    push_again(&mut trace, 5)?;
+    assert_eq!(rt; trace.len(), 7);
+    assert_eq!(rt; first_byte(&trace, 3), Some(0x0F));
+    assert_eq!(rt; op_count(&trace, 4), Some(2));
+    assert_eq!(rt; first_byte(&trace, 5), Some(0xF0));
+    assert_eq!(rt; first_byte(&trace, 6), Some(0xF0));
+    assert_eq!(rt; first_byte(&trace, 0), Some(0x0F));
     Ok(())
 }
