@@ -89,12 +89,11 @@ pub fits_by : (F : List OpKind) (words : ℕ) → words ≡ size F → words ≤
 fits_by F words words_is fits = omega arith
 
 pub frame_by : (F : List OpKind) (op kind : OpKind) (words : ℕ) → IsDraft F → slice_get F 0 ≡ Some op → kind ≡ op → IsLabs kind → words ≡ size F → words ≤ 511
-    → ((i : ℕ) → ¬ Misses F i) → IsFrame F words
+    → ((i : ℕ) → ¬ Misses F i) → IsFrame F
 frame_by F op kind words draft is kind_is labs_is words_is fits none =
     record {
       draft = draft;
       begins = record { begins = begins_with F op kind is kind_is labs_is; fits = fits_by F words words_is fits; targets = none };
-      count = words_is;
     }
 
 -- the faults 1 to 4 hold at no pair

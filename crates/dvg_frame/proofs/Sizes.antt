@@ -1,7 +1,7 @@
 -- How many words operations have, and which word of a layout is theirs.
 use Rattle.std.proofs.Common.{◌≡◌, ℕ, zero, suc, ◌+◌, ◌-◌, ◌<◌, ◌≤◌, List, [], ◌∷◌, ◌++◌, length, get_or, take, Some, refl, sym, ap, ◌∙◌, subst, arith, length-append}
 use Rattle.std.specs.Prelude.{slice_get}
-use Rattle.std.proofs.lemmas.List.{get_or-append-add, length-take}
+use Rattle.std.proofs.lemmas.List.{get_or-append-add}
 use Rattle.std.proofs.lemmas.Option.{slice_get_within, get_or_from_slice_get, slice_get-get_or}
 use Rattle.std.proofs.Math.ListN.{get_or-append}
 use Rattle.std.proofs.Math.Seq.{take-length}
@@ -14,7 +14,6 @@ use Rattle.dvg_mem.specs.Areas.{base}
 use Rattle.dvg_frame.specs.declared.op.OpKind.{OpKind}
 use Rattle.dvg_frame.specs.declared.op.OpKind.TheVariants.{Draw, CallRom, JumpRom, Call, Jump, Return, Halt as Stop}
 use Rattle.dvg_frame.specs.Layout.{op_words, size, op_code, laid, laid_ops, IsSpelling}
-use Rattle.dvg_frame.specs.Ops.{IsDraft}
 use Rattle.dvg_frame.specs.Steps.{Closed}
 
 -- each operation has a word
@@ -49,16 +48,6 @@ pub size_item : (F : List OpKind) (k : ℕ) (item kind : OpKind) (words more : �
     → words + more ≡ size (take (k + 1) F)
 size_item F k item kind words more so_far within is kind_is more_is =
     size-take_more F k item kind words more so_far (slice_get-get_or F k item within ∙ ap Some (sym is)) kind_is more_is
-
-pub below_511 : (F items : List OpKind) (i k : ℕ) → IsDraft F → items ≡ F → k ≤ length (take i items) → k ≤ 511
-below_511 F items i k draft is low =
-    let few : length items ≤ 511 = let same = ap length is in let count = draft.count in omega arith in
-    let front = length-take i items in
-    omega arith
-
-pub size_items : (F items : List OpKind) (i k words : ℕ) → items ≡ F → length (take i items) ≤ k → k ≤ length (take i items) → words ≡ size (take k (take i items)) → words ≡ size (take i F)
-size_items F items i k words is all low words_is =
-    words_is ∙ size-take_all (take i items) k (omega arith) ∙ ap (λ ops. size (take i ops)) is
 
 -- some operations have no more words than all
 pub size-take_le : (F : List OpKind) (n : ℕ) → size (take n F) ≤ size F

@@ -1,5 +1,5 @@
 -- What is known of each place, and the table of it. Only the check's own functions cite this.
-use Rattle.std.specs.Prelude.{◌≡◌, ℕ, ◌+◌, ◌<◌, ◌≤◌, ◌^◌, ◌⊎◌, List, [], ◌∷◌, ◌++◌, length, Bool, true, false, Option, Some, None, slice_index_or, Contains, All, count_by}
+use Rattle.std.specs.Prelude.{◌≡◌, ℕ, ◌+◌, ◌<◌, ◌≤◌, ◌^◌, ◌⊎◌, List, [], ◌∷◌, ◌++◌, length, true, Option, Some, None, slice_index_or, ◌==◌, if◌then◌else◌, All}
 use Rattle.dvg_code.specs.Acts.{Act, Moves, Jumps, Calls, Returns as GoesBack, Halts as Stops}
 use Rattle.dvg_gen.specs.declared.beam.Beam.{Beam}
 use Rattle.dvg_gen.specs.declared.stroke.Stroke.{Stroke}
@@ -8,6 +8,7 @@ use Rattle.dvg_frame.specs.declared.place.Place.{Place}
 use Rattle.dvg_frame.specs.declared.pair.Pair.{Pair}
 use Rattle.dvg_frame.specs.declared.pair.TheConstants.{DEEPEST, PLACES}
 use Rattle.dvg_frame.specs.declared.table.Drawn.{Drawn}
+use Rattle.dvg_frame.specs.declared.table.Note.{Note}
 use Rattle.dvg_frame.specs.declared.table.Ending.{Ending}
 use Rattle.dvg_frame.specs.declared.table.Ending.TheVariants.{Halts, Returns}
 use Rattle.dvg_frame.specs.declared.way.Way.{Way}
@@ -43,21 +44,14 @@ HasNone table = (p : Place) → IsPlace p → known_at table p ≡ None
 abbrev pub Keeps : List (Option Drawn) → List (Option Drawn) → Type 0
 Keeps old new = (p : Place) (drawn : Drawn) → IsPlace p → known_at old p ≡ Some drawn → known_at new p ≡ Some drawn
 
--- something is known
-abbrev pub is_known : Option Drawn → Bool
-is_known None = false
-is_known (Some drawn) = true
+-- what a note tells in this round
+abbrev pub noted : ℕ → Note → Option Drawn
+noted round note = if note.round == round then Some (record { words = note.words; end = note.end; returns = note.returns; calls = note.calls }) else None
 
--- the list has the number of each place of which something is known
-pub record AreListed (table : List (Option Drawn)) (listed : List ℕ) : Type 0 where
-  pub size : length table ≡ PLACES
-  pub held : (k : ℕ) → is_known (slice_index_or table k None) ≡ true → Contains listed k
-  pub valid : All (λ k. k < PLACES) listed
-
--- besides, it has no more numbers than there are such places
-pub record AreCounted (table : List (Option Drawn)) (listed : List ℕ) : Type 0 where
-  pub all : AreListed table listed
-  pub counted : length listed ≤ count_by is_known table
+-- a note for each place, of this round or of one before it
+pub record AreNotes (round : ℕ) (notes : List Note) : Type 0 where
+  pub size : length notes ≡ PLACES
+  pub past : All (λ note. note.round ≤ round) notes
 
 -- how what is drawn ends
 abbrev pub end_of : Ending → End

@@ -1,7 +1,7 @@
 //! Checked drafts, where they lie.
 ghost use Rattle.std.specs.Prelude.{◌≡◌, ◌<◌, ◌≤◌, ◌^◌};
 ghost use Rattle.dvg_frame.specs.Faults.{FrameState};
-ghost use Rattle.dvg_frame.specs.Frames.{IsFrame};
+ghost use Rattle.dvg_frame.specs.Frames.{IsMeasured};
 ghost use Rattle.dvg_frame.specs.Layout.{size};
 
 use crate::draft::Draft;
@@ -22,14 +22,13 @@ impl<'a> Model for Checked<'a> {
 
     ghost view = { λ checked. record { operations = checked.draft.now; bound = checked.bound } };
 
-    ghost invariant = { λ checked. IsFrame checked.draft.now checked.words × (checked.bound < 2 ^ 63) };
+    ghost invariant = { λ checked. IsMeasured checked.draft.now checked.words checked.bound };
 }
 
 impl<'a> Checked<'a> {
     // A draft without the faults 1 to 4, with its number of words and its bound.
     pub(crate) fn of(draft: &'a Draft, words: u16, bound: u64) -> Checked<'a>
-        requires frame { IsFrame draft.now words }
-        requires small { bound < 2 ^ 63 }
+        requires { IsMeasured draft.now words bound }
         ensures { result ≡ record { operations = draft.now; bound = bound } }
     {
         Checked {
@@ -59,13 +58,13 @@ impl<'a> Checked<'a> {
     pub fn to_frame(&self) -> Frame
         ensures { result ≡ self.now }
     {
-        Frame::of(self.draft, self.words, self.bound)
+        Frame::of(self.draft, self.bound)
     }
 
     // Makes a frame that is there the one of this draft, in the memory that it has.
     pub(crate) fn copy_to(&self, frame: &mut Frame)
         ensures { frame.new ≡ self.now }
     {
-        frame.copy_from(self.draft, self.words, self.bound);
+        frame.copy_from(self.draft, self.bound);
     }
 }

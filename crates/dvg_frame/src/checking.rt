@@ -1,14 +1,16 @@
 //! The check of a draft.
-ghost use Rattle.std.specs.Prelude.{◌≡◌, [], ℕ, ◌<◌, ◌↔◌, List, IsTrue, MatchOption, MatchResult};
+ghost use Rattle.std.specs.Prelude.{◌≡◌, ◌^◌, [], ℕ, ◌<◌, ◌↔◌, List, IsTrue, MatchOption, MatchResult};
 ghost use Rattle.dvg_mem.specs.Memory.{IsImage};
-ghost use Rattle.dvg_frame.specs.Faults.{Begins, IsChecked, Misses, Refuses};
+ghost use Rattle.dvg_frame.specs.Faults.{Accepts, Begins, IsChecked, Misses, Refuses};
 ghost use Rattle.dvg_frame.specs.Firsts.{IsLabs, NamesNone};
 ghost use Rattle.dvg_frame.specs.Frames.{IsFrame};
+ghost use Rattle.dvg_frame.specs.Layout.{size};
+ghost use Rattle.dvg_frame.specs.Picture.{IsBound};
 ghost use Rattle.dvg_frame.specs.Tables.{HasNone, IsRefused};
 
 use crate::chain::Chain;
 use crate::checked::Checked;
-use crate::draft::Draft;
+use crate::draft::{Draft, words_of};
 use crate::frame::{Frame, MAX_WORDS};
 use crate::op::OpKind;
 use crate::place::FrameFault;
@@ -56,9 +58,20 @@ fn first_miss(draft: &Draft) -> Option<u16>
     None
 }
 
+// How many words the operations of a draft have.
+fn words_of_all(draft: &Draft) -> u16
+    ensures { result ≡ size draft.now }
+{
+    let mut words = 0;
+    for op in draft.ops() {
+        words += words_of(op.kind());
+    }
+    words
+}
+
 // How many words a draft without the faults 1 to 4 has, or the first of them that holds.
 fn words_or_fault(draft: &Draft) -> Result<u16, FrameFault>
-    ensures { MatchResult result (IsFrame draft.now) (λ fault. (R : List ℕ) → Refuses draft.now R fault) }
+    ensures { MatchResult result (λ words. IsFrame draft.now × (words ≡ size draft.now)) (λ fault. (R : List ℕ) → Refuses draft.now R fault) }
 {
     let count = draft.len();
     if count == 0 {
@@ -67,7 +80,7 @@ fn words_or_fault(draft: &Draft) -> Result<u16, FrameFault>
     if !is_labs(draft.op(0).kind()) {
         return Err(FrameFault::NoLabs);
     }
-    let words = draft.words();
+    let words = words_of_all(draft);
     if words > MAX_WORDS {
         return Err(FrameFault::TooLong);
     }
@@ -78,7 +91,7 @@ fn words_or_fault(draft: &Draft) -> Result<u16, FrameFault>
 }
 
 /// The tables of the check, kept from one check to the next: a check takes time for the pairs that it
-/// reaches, and none for the size of the tables. They are about 140 KB.
+/// reaches, and none for the size of the tables. They are about 130 KB.
 #[derive(Drop)]
 pub struct Checker {
     reached: Worklist,
@@ -162,14 +175,34 @@ fn fault_of<A: Allocator>(draft: &Draft, rom: &Rom<A>, list: &mut Worklist) -> F
 pub fn check<A: Allocator>(draft: &Draft, rom: &Rom<A>) -> Result<Frame, FrameFault>
     ensures { IsChecked draft.now rom.now result }
 {
-    let words = match words_or_fault(draft) {
-        Ok(words) => words,
-        Err(fault) => return Err(fault),
-    };
+    if let Err(fault) = words_or_fault(draft) {
+        return Err(fault);
+    }
     // A ROM is an image of 2,048 bytes, as its type says.
     let _ = rom.len_words();
-    match bound_of(draft, rom, &mut Table::new(), &mut Chain::new()) {
-        Some(bound) => Ok(Frame::of(draft, words, bound)),
-        None => Err(fault_of(draft, rom, &mut Worklist::new())),
+    match bound_anew(draft, rom) {
+        Some(bound) => Ok(Frame::of(draft, bound)),
+        None => Err(fault_anew(draft, rom)),
     }
+}
+
+// As `bound_of`, with new tables. They lie in a call of their own: where none is wanted, no room is made for them.
+#[inline(never)]
+fn bound_anew<A: Allocator>(draft: &Draft, rom: &Rom<A>) -> Option<u64>
+    requires image { IsImage rom.now }
+    requires begins { Begins draft.now }
+    ensures { MatchOption result (IsRefused draft.now rom.now) (λ n. Accepts draft.now rom.now × IsBound draft.now rom.now n × (n < 2 ^ 63)) }
+{
+    bound_of(draft, rom, &mut Table::new(), &mut Chain::new())
+}
+
+// As `fault_of`, with a new list, which lies in a call of its own.
+#[inline(never)]
+fn fault_anew<A: Allocator>(draft: &Draft, rom: &Rom<A>) -> FrameFault
+    requires image { IsImage rom.now }
+    requires begins { Begins draft.now }
+    requires refused { IsRefused draft.now rom.now }
+    ensures { Refuses draft.now rom.now result }
+{
+    fault_of(draft, rom, &mut Worklist::new())
 }

@@ -10,13 +10,16 @@ use crate::op::Op;
 use arrayvec::ArrayVec;
 use std::marker::Model;
 
-/// A draft, with a table of how many words stand before each operation, so that the place of an operation is
-/// found in constant time.
+/// One entry for each operation, and one for their end.
+const COUNTS: usize = MAX_OPS + 1;
+
+/// A draft, with a table of how many words stand before each operation, and of how many there are in all, so that
+/// the place of an operation is found in constant time.
 #[derive(Drop)]
 pub(crate) struct Counted {
     draft: Draft,
-    /// How many words the operations before each one have.
-    words_before: ArrayVec<u16, MAX_OPS>,
+    /// How many words the operations before each one have, and then how many all have.
+    words_before: ArrayVec<u16, COUNTS>,
 }
 
 /// Contracts see the list of the operations.
@@ -71,17 +74,25 @@ impl Counted {
     {
         self.words_before[i]
     }
+
+    // How many words all operations have.
+    pub(crate) fn words(&self) -> u16
+        ensures { result ≡ size self.now }
+    {
+        self.words_before[self.draft.len()]
+    }
 }
 
-// How many words stand before each operation.
-fn words_before_each(draft: &Draft) -> ArrayVec<u16, MAX_OPS>
+// How many words stand before each operation, and how many there are in all.
+fn words_before_each(draft: &Draft) -> ArrayVec<u16, COUNTS>
     ensures { IsCounted draft.now result.items }
 {
     let mut words_before = ArrayVec::new();
     let mut words = 0;
-    for i in 0..draft.len() {
+    words_before.push(words);
+    for op in draft.ops() {
+        words += words_of(op.kind());
         words_before.push(words);
-        words += words_of(draft.op(i).kind());
     }
     words_before
 }

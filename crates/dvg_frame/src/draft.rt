@@ -1,8 +1,7 @@
 //! Drafts.
-ghost use Rattle.std.specs.Prelude.{◌≡◌, ◌+◌, ◌<◌, ◌≤◌, ◌↔◌, List, [], ◌∷◌, ◌++◌, length, IfOk, IsOk, IsTrue, OnErr, OnOk, Some, slice_get};
+ghost use Rattle.std.specs.Prelude.{All, ◌≡◌, ◌+◌, ◌<◌, ◌≤◌, ◌↔◌, List, [], ◌∷◌, ◌++◌, length, IfOk, IsOk, IsTrue, OnErr, OnOk, Some, slice_get};
 ghost use Rattle.dvg_code.specs.Spelling.{word_count as words_of_code};
-ghost use Rattle.dvg_frame.specs.Layout.{op_words, size};
-ghost use Rattle.dvg_frame.specs.Counting.{IsSized};
+ghost use Rattle.dvg_frame.specs.Layout.{op_words};
 ghost use Rattle.dvg_frame.specs.Ops.{IsDraft, IsOp};
 ghost use Rattle.dvg_frame.specs.declared.op.OpKind.{OpKind};
 
@@ -21,8 +20,6 @@ pub struct DraftFull;
 /// A list of at most 511 operations, numbered from 0.
 #[derive(Drop)]
 pub struct Draft {
-    /// How many words all operations have.
-    words: u16,
     ops: ArrayVec<Op, MAX_OPS>,
 }
 
@@ -32,7 +29,7 @@ impl Model for Draft {
 
     ghost view = { λ draft. draft.ops.items };
 
-    ghost invariant = { λ draft. IsSized draft.ops.items draft.words };
+    ghost invariant = { λ draft. IsDraft draft.ops.items };
 }
 
 impl Draft {
@@ -41,7 +38,6 @@ impl Draft {
         ensures { result ≡ [] }
     {
         Draft {
-            words: 0,
             ops: ArrayVec::new(),
         }
     }
@@ -74,8 +70,22 @@ impl Draft {
         }
         let number = self.ops.len() as u16;
         self.ops.push(op);
-        self.words += words_of(op.kind());
         Ok(number)
+    }
+
+    /// Adds operations at the end. They are refused exactly where there would be more than 511 then, and nothing
+    /// has changed.
+    pub fn try_extend_from_slice(&mut self, ops: &[Op]) -> Result<(), DraftFull>
+        ensures room { IsOk result ↔ (length self.old + length ops.now ≤ 511) }
+        ensures pushed { OnOk result (self.new ≡ self.old ++ ops.now) }
+        ensures refused { OnErr result (self.new ≡ self.old) }
+    {
+        if self.ops.remaining_capacity() < ops.len() {
+            return Err(DraftFull);
+        }
+        are_ops(ops);
+        self.ops.try_extend_from_slice(ops).unwrap();
+        Ok(())
     }
 
     /// Takes all operations away.
@@ -83,7 +93,6 @@ impl Draft {
         ensures { self.new ≡ [] }
     {
         self.ops.clear();
-        self.words = 0;
     }
 
     /// The operation of this number.
@@ -92,6 +101,14 @@ impl Draft {
         ensures { slice_get self.now i ≡ Some result }
     {
         self.ops[i]
+    }
+
+    /// All operations, in order.
+    pub fn ops(&self) -> &[Op]
+        ensures value { result.now ≡ self.now }
+        ensures draft { IsDraft self.now }
+    {
+        self.ops.as_slice()
     }
 
     // The same operations again.
@@ -108,17 +125,16 @@ impl Draft {
         ensures { self.new ≡ other.now }
     {
         self.clear();
-        self.ops
-            .try_extend_from_slice(other.ops.as_slice())
-            .unwrap();
-        self.words = other.words;
+        self.try_extend_from_slice(other.ops()).unwrap();
     }
+}
 
-    // How many words all operations have.
-    pub(crate) fn words(&self) -> u16
-        ensures { result ≡ size self.now }
-    {
-        self.words
+// A draft may hold each of them, as their type says. Nothing is done.
+fn are_ops(ops: &[Op])
+    ensures { All IsOp ops.now }
+{
+    for op in ops {
+        let _ = op.kind();
     }
 }
 

@@ -22,12 +22,11 @@ use std::marker::Model;
 /// The most words that a frame has: those of a half of the RAM.
 pub(crate) const MAX_WORDS: u16 = 511;
 
-/// A draft that was checked. It keeps the draft, its number of words, its bound and the places of its
-/// operations, and no laid words.
+/// A draft that was checked. It keeps the draft, the places of its operations and its bound, and no laid
+/// words.
 #[derive(Drop)]
 pub struct Frame {
     draft: Counted,
-    words: u16,
     bound: u64,
 }
 
@@ -37,33 +36,29 @@ impl Model for Frame {
 
     ghost view = { λ frame. record { operations = frame.draft; bound = frame.bound } };
 
-    ghost invariant = { λ frame. IsFrame frame.draft frame.words × (frame.bound < 2 ^ 63) };
+    ghost invariant = { λ frame. IsFrame frame.draft × (frame.bound < 2 ^ 63) };
 }
 
 impl Frame {
-    // The frame of a draft without the faults 1 to 4, with its number of words and its bound. The draft is
-    // copied.
-    pub(crate) fn of(draft: &Draft, words: u16, bound: u64) -> Frame
-        requires frame { IsFrame draft.now words }
+    // The frame of a draft without the faults 1 to 4, with its bound. The draft is copied.
+    pub(crate) fn of(draft: &Draft, bound: u64) -> Frame
+        requires frame { IsFrame draft.now }
         requires small { bound < 2 ^ 63 }
         ensures { result ≡ record { operations = draft.now; bound = bound } }
     {
         Frame {
             draft: Counted::of(draft),
-            words,
             bound,
         }
     }
 
-    // Becomes the frame of a draft without the faults 1 to 4, with its number of words and its bound, in the
-    // memory that it has.
-    pub(crate) fn copy_from(&mut self, draft: &Draft, words: u16, bound: u64)
-        requires frame { IsFrame draft.now words }
+    // Becomes the frame of a draft without the faults 1 to 4, with its bound, in the memory that it has.
+    pub(crate) fn copy_from(&mut self, draft: &Draft, bound: u64)
+        requires frame { IsFrame draft.now }
         requires small { bound < 2 ^ 63 }
         ensures { self.new ≡ record { operations = draft.now; bound = bound } }
     {
         self.draft.copy_from(draft);
-        self.words = words;
         self.bound = bound;
     }
 
@@ -74,7 +69,7 @@ impl Frame {
         ensures bound { result ≤ 511 }
         ensures draft { IsDraft self.now.operations }
     {
-        self.words
+        self.draft.words()
     }
 
     /// How many words the whole run of the frame fetches, from word zero to its HALT: that of any run of it

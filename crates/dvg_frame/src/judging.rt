@@ -29,6 +29,7 @@ fn last_op(count: usize, place: Place) -> Option<u16>
 }
 
 // The fault at a pair among so many operations, where this is the way on: that of least number.
+#[inline(always)]
 fn fault_at(count: usize, pair: Pair, seen: Way) -> Option<FrameFault>
     ensures { MatchOption result ((fault : FrameFault) → ¬ HasFault count pair seen fault) (λ fault. IsLeast (HasFault count pair seen) fault) }
 {
@@ -50,6 +51,7 @@ fn fault_at(count: usize, pair: Pair, seen: Way) -> Option<FrameFault>
 }
 
 // The way on from a pair without a fault, or the fault of least number there.
+#[inline(always)]
 pub(crate) fn look<A: Allocator>(draft: &Draft, rom: &Rom<A>, pair: Pair) -> Result<Way, FrameFault>
     requires image { IsImage rom.now }
     requires inside { IsIn draft.now pair.place }

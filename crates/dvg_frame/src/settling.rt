@@ -78,6 +78,7 @@ fn entry(table: &Table, place: Place) -> Drawn
 }
 
 // What is drawn from a place that leads on so.
+#[inline(always)]
 fn draw(table: &Table, way: Way) -> Drawn
     requires { (F : List OpKind) × (R : List ℕ) × (p : Place) × (d : ℕ) × StandsSo F R p way × IsReady F R table.now p d }
     ensures { (F : List OpKind) (R : List ℕ) (p : Place) (d : ℕ) → StandsSo F R p way → IsReady F R table.now p d → IsKnown F R table.now p result }
@@ -102,6 +103,7 @@ fn draw(table: &Table, way: Way) -> Drawn
 }
 
 // Puts down what is drawn from a place that leads on so, where that isn't there.
+#[inline(always)]
 fn put_drawn(table: &mut Table, place: Place, way: Way)
     requires { (F : List OpKind) × (R : List ℕ) × (d : ℕ) × StandsSo F R place way × IsReady F R table.old place d }
     ensures entries { (F : List OpKind) (R : List ℕ) (d : ℕ) → StandsSo F R place way → IsReady F R table.old place d → IsTable F R table.new }
@@ -117,6 +119,7 @@ fn put_drawn(table: &mut Table, place: Place, way: Way)
 // Follows the steps at one depth from a pair, up to a place of which the table has what is drawn from it, or
 // from which nothing leads on. The chain gets the pairs on the way. False where a pair has a fault, or the steps
 // come to no end.
+#[inline(always)]
 fn follow<A: Allocator>(
     draft: &Draft,
     rom: &Rom<A>,
@@ -155,6 +158,7 @@ fn follow<A: Allocator>(
 }
 
 // How a place without a fault leads on.
+#[inline(always)]
 fn way_on<A: Allocator>(draft: &Draft, rom: &Rom<A>, place: Place) -> Way
     requires image { IsImage rom.now }
     requires inside { IsIn draft.now place }

@@ -1,7 +1,7 @@
 //! What is known of each place: what is drawn from it, and at which depths no run from it breaks.
-ghost use Rattle.std.specs.Prelude.{◌≡◌, ◌<◌, List, [], Option, Some, None, length, set};
+ghost use Rattle.std.specs.Prelude.{◌≡◌, ◌<◌, List, Option, Some, length, map, set};
 ghost use Rattle.dvg_frame.specs.Pairs.{IsPlace, place_index};
-ghost use Rattle.dvg_frame.specs.Tables.{AreCounted, HasNone, known_at};
+ghost use Rattle.dvg_frame.specs.Tables.{AreNotes, HasNone, known_at, noted};
 ghost use Rattle.dvg_frame.specs.declared.pair.TheConstants.{PLACES};
 ghost use Rattle.dvg_frame.specs.declared.place.Place.{Place};
 ghost use Rattle.dvg_frame.specs.declared.table.Drawn.{Drawn};
@@ -9,7 +9,6 @@ ghost use Rattle.dvg_frame.specs.declared.table.Drawn.{Drawn};
 use crate::draft::MAX_OPS;
 use crate::pair::{PLACES, ROM_FIRST};
 use crate::place::Place;
-use arrayvec::ArrayVec;
 use std::marker::Model;
 
 /// How what is drawn from a place ends.
@@ -32,21 +31,39 @@ pub(crate) struct Drawn {
     pub(crate) calls: u8,
 }
 
-/// For each place what is known of it.
-#[derive(Drop)]
-pub(crate) struct Table {
-    known: [Option<Drawn>; PLACES],
-    // The numbers of the places of which something is known.
-    listed: ArrayVec<u16, PLACES>,
+/// What was put down of a place, and in which round. Before the first round each place has a note of round 0.
+#[derive(Clone, Copy)]
+pub(crate) struct Note {
+    words: u64,
+    round: u32,
+    end: Ending,
+    returns: bool,
+    calls: u8,
 }
 
-/// Contracts see the list of the table.
+/// The note of a place of which nothing was put down.
+const BLANK: Note = Note {
+    words: 0,
+    round: 0,
+    end: Ending::Halts,
+    returns: false,
+    calls: 0,
+};
+
+/// For each place what is known of it: its note, where that is of the newest round. So to forget all is to begin a round.
+#[derive(Drop)]
+pub(crate) struct Table {
+    notes: [Note; PLACES],
+    round: u32,
+}
+
+/// Contracts see what is known of each place, in a list.
 impl Model for Table {
     ghost Value = { List (Option Drawn) };
 
-    ghost view = { λ table. table.known };
+    ghost view = { λ table. map (noted table.round) table.notes };
 
-    ghost invariant = { λ table. AreCounted table.known table.listed.items };
+    ghost invariant = { λ table. AreNotes table.round table.notes };
 }
 
 impl Table {
@@ -55,8 +72,8 @@ impl Table {
         ensures { HasNone result }
     {
         Table {
-            known: nothing(),
-            listed: ArrayVec::new(),
+            notes: blanks(),
+            round: 1,
         }
     }
 
@@ -65,37 +82,51 @@ impl Table {
         requires { IsPlace place }
         ensures { known_at self.now place ≡ result }
     {
-        let _ = &self.listed;
-        self.known[number_of(place)]
+        let note = self.notes[number_of(place)];
+        if note.round == self.round {
+            Some(Drawn {
+                words: note.words,
+                end: note.end,
+                returns: note.returns,
+                calls: note.calls,
+            })
+        } else {
+            None
+        }
     }
 
-    // Puts down what is drawn from a place of which nothing is known.
+    // Puts down what is drawn from a place.
     pub(crate) fn put(&mut self, place: Place, drawn: Drawn)
         requires place { IsPlace place }
-        requires none { known_at self.old place ≡ None }
         ensures table { self.new ≡ set self.old (place_index place) (Some drawn) }
         ensures size { length self.old ≡ PLACES }
     {
-        let number = number_of(place);
-        self.known[number] = Some(drawn);
-        self.listed.push(number as u16);
+        self.notes[number_of(place)] = Note {
+            words: drawn.words,
+            round: self.round,
+            end: drawn.end,
+            returns: drawn.returns,
+            calls: drawn.calls,
+        };
     }
 
-    // Forgets what is known. Only places of which something is known are gone over.
+    // Forgets what is known. No note is gone over but where the rounds are at their greatest number.
     pub(crate) fn clear(&mut self)
         ensures { HasNone self.new }
     {
-        while let Some(number) = self.listed.pop() {
-            self.known[usize::from(number)] = None;
+        if self.round == u32::MAX {
+            *self = Table::new();
+            return;
         }
+        self.round += 1;
     }
 }
 
-// Nothing of each place.
-fn nothing() -> [Option<Drawn>; PLACES]
-    ensures { AreCounted result [] }
+// The note of each place before the first round.
+fn blanks() -> [Note; PLACES]
+    ensures { AreNotes 0 result }
 {
-    [None; PLACES]
+    [BLANK; PLACES]
 }
 
 // The number of a place, counted in the order of the places.

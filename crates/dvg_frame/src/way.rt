@@ -81,6 +81,7 @@ fn is_outside(place: Place) -> bool
 }
 
 // The way of an operation, with this place after it.
+#[inline(always)]
 fn way_of_op(kind: OpKind, after: Place) -> Way
     ensures { result ≡ way (op_act kind) after }
 {
@@ -123,6 +124,7 @@ fn rom_way<A: Allocator>(rom: &Rom<A>, a: u16) -> Option<Way>
 }
 
 // The way on from a place. None where the ROM ends within the instruction there.
+#[inline(always)]
 pub(crate) fn way_at<A: Allocator>(draft: &Draft, rom: &Rom<A>, place: Place) -> Option<Way>
     requires image { IsImage rom.now }
     requires inside { IsIn draft.now place }

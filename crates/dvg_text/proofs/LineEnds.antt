@@ -2,14 +2,28 @@
 use Rattle.std.proofs.Common.{◌≡◌, ◌<◌, ◌+◌, ◌-◌, ℕ, List, [], ◌∷◌, ◌++◌, length, get_or, take, drop, ap, ◌∙◌, arith, true, false, eqb, All, MatchOption, Option, Some, None, add-one}
 use Rattle.std.specs.List.{AllWithin, HoldsAt, onto_first}
 use Rattle.std.proofs.Math.Seq.{split_at}
-use Rattle.std.proofs.lemmas.List.{length-take, get_or-take, take_rest}
+use Rattle.std.proofs.lemmas.List.{length-take, get_or-take, get_or_default, take_rest}
 use Rattle.std.proofs.lemmas.List.Elements.{All-head, All-tail}
+use Rattle.std.proofs.lemmas.Bool.{false_from_ne_true}
+use Rattle.memchr.specs.Find.{IsFirstByte, is_byte}
 use Rattle.dvg_text.specs.Texts.{lines}
 
 -- the place of the first LF, if there is one
 abbrev pub IsFirstEnd : List ℕ → Option ℕ → Type 0
 IsFirstEnd bytes place = MatchOption place (AllWithin (λ byte. eqb byte 10 ≡ false) bytes 0 (length bytes))
     (λ i. (i < length bytes) × HoldsAt (λ byte. eqb byte 10 ≡ true) bytes i × AllWithin (λ byte. eqb byte 10 ≡ false) bytes 0 i)
+
+-- as a search for the byte finds it
+pub first_end : (bytes : List ℕ) (place : Option ℕ) → IsFirstByte (is_byte 10) bytes place → IsFirstEnd bytes place
+first_end bytes None nowhere = λ k d low high.
+    false_from_ne_true (eqb (get_or bytes k d) 10) (λ is. nowhere k low high (ap (λ byte. eqb byte 10) (get_or_default bytes k 0 d high) ∙ is))
+first_end bytes (Some i) (none, there) = (
+  none.high,
+  λ d. ap (λ byte. eqb byte 10) (get_or_default bytes i d 0 none.high) ∙ there,
+  λ k d low high.
+  let within : k < length bytes = let inside = none.high in omega arith in
+  false_from_ne_true (eqb (get_or bytes k d) 10) (λ is. none.before k low high (ap (λ byte. eqb byte 10) (get_or_default bytes k 0 d within) ∙ is)),
+)
 
 line_at : (line : List ℕ) (end : ℕ) (rest : List ℕ) → All (λ byte. eqb byte 10 ≡ false) line → eqb end 10 ≡ true → lines (line ++ end ∷ rest) ≡ line ∷ lines rest
 line_at [] end rest h e = rw e

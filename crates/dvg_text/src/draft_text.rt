@@ -10,9 +10,6 @@ use crate::text_lines::{TextLines, is_passed};
 use dvg_frame::Draft;
 use dvg_mem::MEMORY_BYTES;
 
-#[cfg(test)]
-mod tests;
-
 /// The most bytes of a text (this project's own choice).
 pub const MOST_TEXT_BYTES: usize = 1_048_576;
 

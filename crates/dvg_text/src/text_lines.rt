@@ -2,6 +2,8 @@
 ghost use Rattle.std.specs.Prelude.{◌≡◌};
 ghost use Rattle.dvg_text.specs.Texts.{is_passed};
 
+use memchr::memchr;
+
 /// An iterator over the lines of a borrowed text, without their ends. Each line ends with LF, which the
 /// last one may lack.
 #[derive(Drop)]
@@ -38,7 +40,7 @@ impl<'a> Iterator for TextLines<'a> {
         if rest.is_empty() {
             return None;
         }
-        match rest.iter().position(|byte| *byte == b'\n') {
+        match memchr(b'\n', rest) {
             Some(end) => {
                 self.rest = &rest[end + 1..];
                 Some(&rest[..end])

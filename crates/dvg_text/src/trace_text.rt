@@ -18,9 +18,6 @@ use dvg_mem::{Image, MEMORY_BYTES};
 use dvg_world::{Event, MOST_EVENTS, Trace};
 use std::alloc::{Allocator, Global};
 
-#[cfg(test)]
-mod tests;
-
 /// What the text of a trace denotes.
 #[derive(Drop)]
 pub struct TraceText<A: Allocator = Global> {

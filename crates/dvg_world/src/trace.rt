@@ -152,11 +152,10 @@ impl<A: Allocator> Trace<A> {
         ensures refused { OnErr result (self.new ≡ self.old) }
     {
         let first = self.ops.len() as u32;
-        let count = draft.len();
-        self.ops.reserve(count)?;
         self.steps.reserve(1)?;
-        append(&mut self.ops, draft);
-        self.steps.push_reserved(Step::Offer(first, count as u16));
+        self.ops.extend_from_slice(draft.ops())?;
+        self.steps
+            .push_reserved(Step::Offer(first, draft.len() as u16));
         Ok(())
     }
 
@@ -189,27 +188,13 @@ impl<A: Allocator> Trace<A> {
     }
 }
 
-// Adds a draft's operations, for which there is room.
-fn append<A: Allocator>(ops: &mut Vec<Op, A>, draft: &Draft)
-    requires { vec_len ops.old + length draft.now ≤ vec_capacity ops.old }
-    ensures { ops.new.items ≡ ops.old.items ++ draft.now }
-{
-    for i in 0..draft.len() {
-        ops.push_reserved(draft.op(i));
-    }
-}
-
 // Takes these operations in place of a draft's own.
 fn fill(draft: &mut Draft, ops: &[Op])
     requires { length ops.now ≤ 511 }
     ensures { draft.new ≡ ops.now }
 {
     draft.clear();
-    for op in ops {
-        let Ok(_) = draft.push(*op) else {
-            unreachable!()
-        };
-    }
+    draft.try_extend_from_slice(ops).unwrap();
 }
 
 // Lets the event of this number of a trace happen to a world. The draft of an offer is made in `draft`.

@@ -1,30 +1,30 @@
-use Rattle.std.proofs.Common.{◌≡◌, length, arith}
-use Rattle.dvg_frame.proofs.Counts.{counted_all, counts-length_take, counts-take_more, size_bound}
-use Rattle.dvg_frame.proofs.Sizes.{size-take_le, size-take_more}
+use Rattle.std.proofs.Common.{◌∙◌, ap, arith, length, get_or}
+use Rattle.dvg_frame.proofs.Counts.{counted_all, counts_item, counts-length_take, size_bound}
+use Rattle.dvg_frame.proofs.Sizes.{size_item, size-take_le}
 use Rattle.dvg_frame.proofs.counted.words_before_each.Goals as goal
 
-pub push-requires : goal.push-requires
-push-requires c =
-    let count = counts-length_take c.args.draft.now c.loop-i.i c.loop-i.words_before.items c.loop-i.invariant.0 in
-    let few = c.len-i-end.ensures.draft.count in
-    let all = c.len-i-end.ensures.value in
-    omega arith
+pub push-requires-in-loop-op : goal.push-requires-in-loop-op
+push-requires-in-loop-op c =
+    let count = counts-length_take c.args.draft.now c.loop-op.op-index c.loop-op.words_before.items c.loop-op.invariant.0 in
+    let few = c.ops-op-items.ensures.draft.count in
+    let same = ap length c.ops-op-items.ensures.value in
+    omega (arith, c.loop-op-test.true)
 
 pub overflow_add-words : goal.overflow_add-words
 overflow_add-words c =
-    let few = c.len-i-end.ensures.draft.count in
+    let few = c.ops-op-items.ensures.draft.count in
     let bound = size_bound c.args.draft.now in
-    let words = c.loop-i.invariant.1 in
-    omega (arith, size-take_le c.args.draft.now c.loop-i.i, c.words_of-words.ensures.bound)
+    let words = c.loop-op.invariant.1 in
+    omega (arith, size-take_le c.args.draft.now c.loop-op.op-index, c.words_of-words.ensures.bound)
 
-pub loop-i-preserved : goal.loop-i-preserved
-loop-i-preserved c = (
-  counts-take_more _ _ _ _ _ _ c.op.ensures c.loop-i.invariant.0 c.loop-i.invariant.1 c.push.ensures.items,
-  size-take_more _ _ _ _ _ _ c.loop-i.invariant.1 c.op.ensures c.kind.ensures.value c.words_of-words.ensures.value,
-  omega arith,
-)
+pub loop-op-preserved : goal.loop-op-preserved
+loop-op-preserved c =
+    let same = ap length c.ops-op-items.ensures.value in
+    let item = c.op-item.is ∙ ap (λ ops. get_or ops c.loop-op.op-index c.op-item.result) c.ops-op-items.ensures.value in
+    let words = size_item c.args.draft.now _ _ _ _ _ c.loop-op.invariant.1 (omega (arith, c.loop-op-test.true)) item c.kind.ensures.value c.words_of-words.ensures.value in
+    (counts_item c.args.draft.now _ _ _ _ _ (omega (arith, c.loop-op-test.true)) item c.loop-op.invariant.0 words c.push-in-loop-op.ensures.items, words)
 
 pub returns : goal.returns
 returns c =
-    let all : c.loop-i.i ≡ length c.args.draft.now = omega arith in
-    counted_all c.args.draft.now c.loop-i.i c.loop-i.words_before.items c.len-i-end.ensures.draft all c.loop-i.invariant.0
+    let same = ap length c.ops-op-items.ensures.value in
+    counted_all c.args.draft.now c.loop-op.op-index c.loop-op.words_before.items c.ops-op-items.ensures.draft (omega (arith, c.loop-op-test.false, c.loop-op.auto.op-index-end)) c.loop-op.invariant.0

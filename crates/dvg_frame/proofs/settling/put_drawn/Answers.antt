@@ -1,6 +1,6 @@
 use Rattle.std.proofs.Common.{◌∙◌}
 use Rattle.dvg_frame.proofs.Tabled.{here_place, put_entries}
-use Rattle.dvg_frame.proofs.Listed.{none_there}
+use Rattle.dvg_frame.proofs.Notes.{none_there}
 use Rattle.dvg_frame.proofs.settling.put_drawn.Goals as goal
 
 pub returns-then-is_none-clause-entries : goal.returns-then-is_none-clause-entries

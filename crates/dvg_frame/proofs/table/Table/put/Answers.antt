@@ -1,9 +1,10 @@
-use Rattle.std.proofs.Common.{lit<}
-use Rattle.dvg_frame.proofs.Listed.{has_room, put_listed, at_number}
+use Rattle.std.proofs.Common.{◌∙◌, ap, refl}
+use Rattle.std.specs.Prelude.{set, Some}
+use Rattle.dvg_frame.specs.Pairs.{place_index}
+use Rattle.dvg_frame.proofs.Notes.{put_noted}
 use Rattle.dvg_frame.proofs.table.Table.put.Goals as goal
 
-pub push-requires : goal.push-requires
-push-requires c = (lit< tt, has_room _ _ c.self.invariant _ c.number_of-number.ensures.bound (at_number _ _ c.args.place _ c.self.view_is c.number_of-number.ensures.value c.requires.none))
-
-pub invariant_of-self : goal.invariant_of-self
-invariant_of-self c = put_listed _ _ c.self.invariant _ c.number_of-number.ensures.bound (at_number _ _ c.args.place _ c.self.view_is c.number_of-number.ensures.value c.requires.none) _ _ c.push.ensures.items
+pub returns-clause-table : goal.returns-clause-table
+returns-clause-table c =
+    put_noted c.self.inside.round c.number_of.result c.self.inside.notes c.args.place (record { words = c.args.drawn.words; round = c.self.inside.round; end = c.args.drawn.end; returns = c.args.drawn.returns; calls = c.args.drawn.calls }) c.number_of.ensures.value refl
+    ∙ ap (λ table. set table (place_index c.args.place) (Some c.args.drawn)) c.self.view_is
