@@ -1,7 +1,7 @@
 -- How an instruction leads on.
 use Rattle.std.specs.Prelude.{ℕ}
 use Rattle.dvg_code.specs.declared.instr.Instr.{Instr}
-use Rattle.dvg_code.specs.declared.instr.Instr.TheVariants.{Vctr, Labs, Halt, Jsrl, Rtsl, Jmpl, Svec}
+use Rattle.dvg_code.specs.declared.instr.Instr.TheVariants.{Halt, Jsrl, Rtsl, Jmpl}
 
 -- how an instruction leads on, where P is what names a target
 pub data Act (P : Type 0) : Type 0 where
@@ -13,13 +13,11 @@ pub data Act (P : Type 0) : Type 0 where
 
 -- the act of an instruction whose address names a target so
 abbrev pub act_by : {P : Type 0} → (ℕ → P) → Instr → Act P
-act_by target (Vctr scale dx dy z) = Moves (Vctr scale dx dy z)
-act_by target (Labs x y scale) = Moves (Labs x y scale)
 act_by target Halt = Halts
 act_by target (Jsrl address) = Calls (target address)
 act_by target Rtsl = Returns
 act_by target (Jmpl address) = Jumps (target address)
-act_by target (Svec scale dx dy z) = Moves (Svec scale dx dy z)
+act_by target code = Moves code
 
 -- the act of an instruction among word addresses
 abbrev pub act_of : Instr → Act ℕ

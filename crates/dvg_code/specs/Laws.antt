@@ -18,17 +18,10 @@ CanonicalSpells = (instr : Instr) → InRange instr → Spells instr (canon inst
 abbrev pub SpellingLength : Type 0
 SpellingLength = (instr : Instr) (words : List ℕ) → Spells instr words → length words ≡ word_count instr
 
--- a word of 16 bits and of opcode B to F spells an instruction alone
-abbrev pub OneWordSpells : Type 0
-OneWordSpells = (word : ℕ) → 0xB000 ≤ word → IsWord word → (instr : Instr) × Spells instr (word ∷ [])
-
--- a word of opcode 0 to A spells an instruction with any second word of 16 bits
-abbrev pub TwoWordsSpell : Type 0
-TwoWordsSpell = (first second : ℕ) → IsFirst first → IsWord second → (instr : Instr) × Spells instr (first ∷ second ∷ [])
-
--- each word begins an instruction
+-- each word of 16 bits begins an instruction: one of opcode B to F alone, and one of opcode 0 to A with any second word
 abbrev pub EachWordBegins : Type 0
-EachWordBegins = OneWordSpells × TwoWordsSpell
+EachWordBegins = ((word : ℕ) → 0xB000 ≤ word → IsWord word → (instr : Instr) × Spells instr (word ∷ []))
+    × ((first second : ℕ) → IsFirst first → IsWord second → (instr : Instr) × Spells instr (first ∷ second ∷ []))
 
 -- two spellings at the front of the same words are one, with the same words after it
 abbrev pub OneFront : Type 0
@@ -39,17 +32,10 @@ OneFront = (a b : Instr) (front front' after after' : List ℕ) → Spells a fro
 abbrev pub RestBeginsNone : Type 0
 RestBeginsNone = (rest : List ℕ) → IsRest rest → (instr : Instr) (count : ℕ) → Fronts rest instr count → ⊥
 
--- each list of words of 16 bits has a cutting
-abbrev pub SomeCutting : Type 0
-SomeCutting = (words : List ℕ) → AreWords words → Cutting words
-
--- two cuttings of the same words are one, also of numbers past 16 bits
-abbrev pub SameCutting : Type 0
-SameCutting = (words : List ℕ) (one other : Cutting words) → (other.items ≡ one.items) × (other.end ≡ one.end) × (other.rest ≡ one.rest)
-
--- each list of words of 16 bits has one cutting
+-- each list of words of 16 bits has a cutting, and two cuttings of the same words are one, also of numbers past 16 bits
 abbrev pub OneCutting : Type 0
-OneCutting = SomeCutting × SameCutting
+OneCutting = ((words : List ℕ) → AreWords words → Cutting words)
+    × ((words : List ℕ) (one other : Cutting words) → (other.items ≡ one.items) × (other.end ≡ one.end) × (other.rest ≡ one.rest))
 
 -- the words of bytes have 16 bits, and word k of them is made of bytes 2k and 2k + 1
 abbrev pub BytesMakeWords : Type 0

@@ -51,11 +51,7 @@ IsFirst word = word < 0xB000
 abbrev pub word_count : Instr → ℕ
 word_count (Vctr scale dx dy z) = 2
 word_count (Labs x y scale) = 2
-word_count Halt = 1
-word_count (Jsrl address) = 1
-word_count Rtsl = 1
-word_count (Jmpl address) = 1
-word_count (Svec scale dx dy z) = 1
+word_count _ = 1
 
 -- the sign bit that is written: 1 below zero, and else 0
 abbrev pub sign_bit : ℤ → ℕ

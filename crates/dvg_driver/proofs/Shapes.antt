@@ -3,9 +3,13 @@ use Rattle.std.proofs.Common.{◌≡◌, ℕ, suc, Bool, true, false, List, [], 
 use mathlib.Core.List.{reverse-cons, append-nil}
 use Rattle.std.specs.Prelude.{if◌then◌else◌}
 use Rattle.dvg_driver.specs.declared.action.Action.TheVariants.{Peek, Wrote, Read, Sent, Idle}
-use Rattle.dvg_driver.specs.Script.{Item, Offered, Asked, Did, Part, Rest, Frame, Redraw, frame_writes, wrote, waited, boot, script, whole_life, IsWhole, IsLife}
+use Rattle.dvg_driver.specs.Script.{Item, Offered, Asked, Did, Part, Rest, Frame, Redraw, frame_writes, wrote, waited, script, whole_life, IsWhole, IsLife}
 use Rattle.dvg_driver.specs.Place.{Place, Start, Booting, Resting, Writing, Waiting, Sending, next, place_of, with_left, after_write}
 use Rattle.dvg_driver.proofs.Places.{place_before, some_same}
+
+-- the peek at byte 001, and the first wait
+abbrev boot : ℕ → List Item
+boot reads = Did Peek ∷ waited reads
 
 -- no frame part stands before what follows these parts
 abbrev first_after : Bool → List Part → Bool

@@ -28,10 +28,6 @@ wrote writes = map (λ write. Did (Wrote write.0 write.1)) writes
 abbrev pub waited : ℕ → List Item
 waited reads = replicate reads (Did (Read false)) ++ Did (Read true) ∷ []
 
--- the peek at byte 001, and the first wait
-abbrev pub boot : ℕ → List Item
-boot reads = Did Peek ∷ waited reads
-
 -- the writes of word zero: 01 to byte 000 if this is a life's first frame part, and the flip, which is the half's high byte to byte 001
 abbrev pub word_zero : Half → Bool → List (ℕ × ℕ)
 word_zero half true = (0, 0x01) ∷ (1, high half) ∷ []
@@ -48,9 +44,9 @@ script first (Rest ∷ parts) = Did Idle ∷ script first parts
 script first (Frame half F reads ∷ parts) = Offered half F ∷ (wrote (frame_writes half F first) ++ (waited reads ++ Did Sent ∷ script false parts))
 script first (Redraw reads ∷ parts) = Asked ∷ (waited reads ++ Did Sent ∷ script first parts)
 
--- a whole life, its oldest item first: the boot, and then parts
+-- a whole life, its oldest item first: the boot, which peeks at byte 001 and waits, and then parts
 abbrev pub whole_life : ℕ → List Part → List Item
-whole_life reads parts = boot reads ++ script true parts
+whole_life reads parts = Did Peek ∷ waited reads ++ script true parts
 
 -- Lives are lists with the newest item first.
 

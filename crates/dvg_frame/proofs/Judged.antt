@@ -4,7 +4,7 @@ use Rattle.std.specs.Prelude.{slice_get, nat_le, nat_lt, ◌&&◌, if◌then◌e
 use Rattle.std.proofs.lemmas.Bool.Decides.{nat_tests}
 use Rattle.dvg_code.specs.declared.instr.Instr.{Instr}
 use Rattle.dvg_code.specs.Spelling.{Spells, IsFirst, word_count}
-use Rattle.dvg_code.specs.Acts.{Act, Moves, Jumps, Calls, Returns, Halts}
+use Rattle.dvg_code.specs.Acts.{Act, Moves, Jumps, Calls, Returns, Halts, act_by}
 use Rattle.dvg_code.proofs.Unique.{same_spelling, same_front, rest_begins_none}
 use Rattle.dvg_mem.specs.Memory.{rom_word}
 use Rattle.dvg_frame.specs.declared.op.OpKind.{OpKind}
@@ -15,7 +15,7 @@ use Rattle.dvg_frame.specs.declared.place.FrameFault.TheVariants.{RunsOff, OutOf
 use Rattle.dvg_frame.specs.declared.pair.TheConstants.{DEEPEST}
 use Rattle.dvg_frame.specs.declared.pair.Pair.{Pair}
 use Rattle.dvg_frame.specs.declared.way.Way.{Way}
-use Rattle.dvg_frame.specs.Steps.{SpelledAt, one, two, op_act, rom_act, Stands, in_frame, in_rom, GoesPast, Names, IsOutside, Bad, last, target, second, past, deep, bare, IsFine}
+use Rattle.dvg_frame.specs.Steps.{SpelledAt, one, two, op_act, Stands, in_frame, in_rom, GoesPast, Names, IsOutside, Bad, last, target, second, past, deep, bare, IsFine}
 use Rattle.dvg_frame.specs.Faults.{number}
 use Rattle.dvg_frame.specs.Ways.{way, EndsWithin, StandsSo, GoesOn, Outside, LeadsOutside, IsCall, IsReturn, HasFault, IsLeast}
 
@@ -41,7 +41,7 @@ same_standing (in_frame {i = i} {op = op} is act_is) (in_frame {op = op'} is' ac
     let same : op ≡ op' = cc in (act_is ∙ ap op_act same ∙ sym act_is', refl)
 same_standing {F} {R} (in_rom {a = a} {instr = instr} spelled act_is) (in_rom {instr = instr'} spelled' act_is') =
     let same = spelled_once (rom_word R) a instr instr' spelled spelled' in
-    (act_is ∙ ap rom_act same ∙ sym act_is', ap (λ x. InRom (a + word_count x)) same)
+    (act_is ∙ ap (act_by InRom) same ∙ sym act_is', ap (λ x. InRom (a + word_count x)) same)
 
 -- no ROM word has an address outside the ROM
 tested : (test : Bool) (v w : ℕ) → (if test then Some v else None) ≡ Some w → test ≡ true

@@ -8,7 +8,7 @@ use Rattle.std.proofs.lemmas.Option.{slice_get_within, get_or_from_slice_get, sl
 use Rattle.std.proofs.Math.ListN.{get_or-append}
 use Rattle.dvg_code.specs.declared.instr.Instr.{Instr}
 use Rattle.dvg_code.specs.declared.instr.Instr.TheVariants.{Vctr, Labs, Halt, Jsrl, Rtsl, Jmpl, Svec}
-use Rattle.dvg_code.specs.Acts.{Act, Moves, Jumps, Calls, Returns, Halts}
+use Rattle.dvg_code.specs.Acts.{Act, Moves, Jumps, Calls, Returns, Halts, act_by}
 use Rattle.dvg_frame.specs.declared.op.OpKind.{OpKind}
 use Rattle.dvg_frame.specs.declared.place.Place.{Place}
 use Rattle.dvg_frame.specs.declared.place.Place.TheVariants.{InFrame, InRom}
@@ -19,7 +19,7 @@ use Rattle.dvg_frame.specs.declared.pair.Pair.{Pair}
 use Rattle.dvg_frame.specs.declared.way.Way.{Way}
 use Rattle.dvg_frame.specs.declared.way.Way.TheVariants.{Move, Jump, Call}
 use Rattle.dvg_frame.specs.declared.sweep.Found.{Found}
-use Rattle.dvg_frame.specs.Steps.{rom_act, Stands, in_frame, in_rom, GoesPast, Names, IsOutside, last, target, past, deep, IsFine, Leads, on, jump, call, back, Reached, begin, step, BeginsWithLabs, labs}
+use Rattle.dvg_frame.specs.Steps.{Stands, in_frame, in_rom, GoesPast, Names, IsOutside, last, target, past, deep, IsFine, Leads, on, jump, call, back, Reached, begin, step, BeginsWithLabs, labs}
 use Rattle.dvg_frame.specs.Faults.{misses, Precedes, Least, Begins}
 use Rattle.dvg_frame.specs.Growth.{Grows}
 use Rattle.dvg_frame.specs.Layout.{size}
@@ -57,7 +57,7 @@ in_place F (InFrame i) inside = inside.1
 in_place F (InRom a) inside = inside
 
 -- no instruction of the ROM names an operation
-rom_names : (instr : Instr) (j : ℕ) → Names (rom_act instr) (InFrame j) → ⊥
+rom_names : (instr : Instr) (j : ℕ) → Names (act_by InRom instr) (InFrame j) → ⊥
 rom_names (Vctr scale dx dy z) j named = named
 rom_names (Labs x y scale) j named = named
 rom_names Halt j named = named

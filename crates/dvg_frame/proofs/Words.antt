@@ -9,10 +9,11 @@ use Rattle.dvg_code.specs.Words.{IsWord, word_in}
 use Rattle.dvg_code.proofs.Beginnings.{one_word, two_words}
 use Rattle.dvg_mem.specs.Memory.{IsImage, rom_word}
 use Rattle.dvg_frame.specs.declared.op.OpKind.{OpKind}
+use Rattle.dvg_code.specs.Acts.{act_by}
 use Rattle.dvg_frame.specs.declared.place.Place.{Place}
 use Rattle.dvg_frame.specs.declared.place.Place.TheVariants.{InRom}
 use Rattle.dvg_frame.specs.declared.way.Way.TheVariants.{Move, Jump, Call, Return, Halt}
-use Rattle.dvg_frame.specs.Steps.{one, two, in_rom, rom_act}
+use Rattle.dvg_frame.specs.Steps.{one, two, in_rom}
 use Rattle.dvg_frame.specs.Ways.{way, StandsSo}
 
 -- a word of an image fits
@@ -31,11 +32,11 @@ rom_there R a low high =
     ∙ ap (λ b. cond b (Some (word_in R (a - 0x800))) None) (lt-ltb a 0xC00 high)
 
 -- an instruction of two words, or one of opcode F, leads to the place after it
-long_moves : {first second : ℕ} {instr : Instr} (after : Place) → Spells instr (first ∷ second ∷ []) → (way (rom_act instr) after ≡ Move after 2) × (word_count instr ≡ 2)
+long_moves : {first second : ℕ} {instr : Instr} (after : Place) → Spells instr (first ∷ second ∷ []) → (way (act_by InRom instr) after ≡ Move after 2) × (word_count instr ≡ 2)
 long_moves after (vctr range first second) = (refl, refl)
 long_moves after (labs range first second) = (refl, refl)
 
-short_moves : {word : ℕ} {instr : Instr} (after : Place) → 61440 ≤ word → Spells instr (word ∷ []) → (way (rom_act instr) after ≡ Move after 1) × (word_count instr ≡ 1)
+short_moves : {word : ℕ} {instr : Instr} (after : Place) → 61440 ≤ word → Spells instr (word ∷ []) → (way (act_by InRom instr) after ≡ Move after 1) × (word_count instr ≡ 1)
 short_moves after f (halt low high) = absurd (omega arith)
 short_moves after f (jsrl range sum) = absurd (omega arith)
 short_moves after f (rtsl low high) = absurd (omega arith)

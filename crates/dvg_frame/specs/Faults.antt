@@ -54,11 +54,8 @@ Refuses F R Empty = F ≡ []
 Refuses F R NoLabs = (0 < length F) × ¬ BeginsWithLabs F
 Refuses F R TooLong = BeginsWithLabs F × (511 < size F)
 Refuses F R (Target i) = BeginsWithLabs F × (size F ≤ 511) × Misses F i × ((k : ℕ) → k < i → ¬ Misses F k)
-Refuses F R (RunsOff i) = Begins F × Least F R (RunsOff i)
-Refuses F R (OutOfRom p) = Begins F × Least F R (OutOfRom p)
-Refuses F R (TooDeep p) = Begins F × Least F R (TooDeep p)
-Refuses F R (NoCaller p) = Begins F × Least F R (NoCaller p)
 Refuses F R Loops = Closed F R × HasLoop F R
+Refuses F R fault = Begins F × Least F R fault
 
 -- the draft has none of the faults 1 to 8, and no loop
 pub record Accepts (F : List OpKind) (R : List ℕ) : Type 0 where

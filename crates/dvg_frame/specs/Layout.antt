@@ -11,12 +11,7 @@ use Rattle.dvg_frame.specs.declared.op.OpKind.TheVariants.{Draw, CallRom, JumpRo
 -- how many words an operation has
 abbrev pub op_words : OpKind → ℕ
 op_words (Draw instr) = word_count instr
-op_words (CallRom a) = 1
-op_words (JumpRom a) = 1
-op_words (Call j) = 1
-op_words (Jump j) = 1
-op_words Return = 1
-op_words Stop = 1
+op_words _ = 1
 
 -- how many words a list of operations has
 abbrev pub size : List OpKind → ℕ

@@ -28,30 +28,22 @@ op_act (Jump j) = Jumps (InFrame j)
 op_act Return = Returns
 op_act Stop = Halts
 
--- how an instruction of the ROM leads on
-abbrev pub rom_act : Instr → Act Place
-rom_act = act_by InRom
-
 -- what stands at a place, and the place after it
 pub data Stands (F : List OpKind) (R : List ℕ) : Place → Act Place → Place → Type 0 where
   in_frame : {i : ℕ} {op : OpKind} {act : Act Place} → slice_get F i ≡ Some op → act ≡ op_act op → Stands F R (InFrame i) act (InFrame (i + 1))
-  in_rom : {a : ℕ} {instr : Instr} {act : Act Place} → SpelledAt (rom_word R) a instr → act ≡ rom_act instr → Stands F R (InRom a) act (InRom (a + word_count instr))
+  in_rom : {a : ℕ} {instr : Instr} {act : Act Place} → SpelledAt (rom_word R) a instr → act ≡ act_by InRom instr → Stands F R (InRom a) act (InRom (a + word_count instr))
 
 -- a vector, a LABS or a call goes on at the place after it
 abbrev pub GoesPast : Act Place → Type 0
 GoesPast (Moves instr) = Unit {0}
-GoesPast (Jumps to) = ⊥
 GoesPast (Calls to) = Unit {0}
-GoesPast Returns = ⊥
-GoesPast Halts = ⊥
+GoesPast _ = ⊥
 
 -- a jump or a call names this place
 abbrev pub Names : Act Place → Place → Type 0
-Names (Moves instr) p = ⊥
 Names (Jumps to) p = to ≡ p
 Names (Calls to) p = to ≡ p
-Names Returns p = ⊥
-Names Halts p = ⊥
+Names _ p = ⊥
 
 -- this is no address of a ROM word
 abbrev pub IsOutside : ℕ → Type 0

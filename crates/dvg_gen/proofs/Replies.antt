@@ -1,9 +1,9 @@
 -- What an answer tells of the run after it, for crates that follow a generator's answers.
-use Rattle.std.proofs.Common.{◌≡◌, ℕ, Bool, true, false, List, ◌∷◌, Option, Some, None, refl, sym, ap}
+use Rattle.std.proofs.Common.{◌≡◌, ℕ, Bool, true, false, List, ◌∷◌, Option, Some, None, refl, sym, ap, if◌then◌else◌}
 use Rattle.dvg_gen.specs.declared.stroke.Stroke.{Stroke}
 use Rattle.dvg_gen.specs.declared.taken.GenFault.{GenFault}
 use Rattle.dvg_gen.specs.Run.{Visit, next, wanted, Fate, Goes, Finished, Breaks, fate, strokes, Adds, first, one, two}
-use Rattle.dvg_gen.specs.Told.{Told, Fed, Newest, goes_on, Leaves, meets_hole, takes, More, Drew, Fails, reply, reply_by, wants, wants_if}
+use Rattle.dvg_gen.specs.Told.{Told, Fed, Newest, goes_on, Leaves, meets_hole, takes, More, Drew, Fails, reply, reply_by, wants}
 
 -- only a run that goes wants more
 goes_of : (f : Fate) (s : List Stroke) → reply_by None f s ≡ More → f ≡ Goes
@@ -49,6 +49,6 @@ some_is e = cc
 pub wants_open : (run : Newest) (a : ℕ) → wants run ≡ Some a → (run.is_open ≡ true) × (a ≡ wanted run.visits run.held)
 wants_open run a e = by run.is_open refl e
   where
-    by : (b : Bool) → run.is_open ≡ b → wants_if b run ≡ Some a → (run.is_open ≡ true) × (a ≡ wanted run.visits run.held)
+    by : (b : Bool) → run.is_open ≡ b → (if b then Some (wanted run.visits run.held) else None) ≡ Some a → (run.is_open ≡ true) × (a ≡ wanted run.visits run.held)
     by true o d = (o, sym (some_is d))
     by false o d = absurd (cc)

@@ -3,7 +3,7 @@ use Rattle.std.specs.Prelude.{ℕ, ◌≤◌, [], ◌∷◌, Option, Some, None}
 use Rattle.dvg_code.specs.declared.instr.Instr.{Instr}
 use Rattle.dvg_code.specs.declared.instr.Instr.TheVariants.{Vctr, Labs, Halt, Jsrl, Rtsl, Jmpl, Svec}
 use Rattle.dvg_code.specs.Spelling.{Spells}
-use Rattle.dvg_gen.specs.Bytes.{Met, Waits, Whole}
+use Rattle.dvg_gen.specs.Bytes.{Met, Whole}
 
 -- a word completes an instruction: it spells it, behind the first word that is held
 abbrev pub Completes : Option ℕ → ℕ → Instr → Type 0
@@ -13,12 +13,8 @@ Completes (Some first) word code = Spells code (first ∷ word ∷ [])
 -- a vector that is seen: its intensity is at least 1
 abbrev pub IsSeen : Instr → Type 0
 IsSeen (Vctr scale dx dy z) = 1 ≤ z
-IsSeen (Labs x y scale) = ⊥
-IsSeen Halt = ⊥
-IsSeen (Jsrl address) = ⊥
-IsSeen Rtsl = ⊥
-IsSeen (Jmpl address) = ⊥
 IsSeen (Svec scale dx dy z) = 1 ≤ z
+IsSeen _ = ⊥
 
 -- a LABS
 abbrev pub IsLabs : Instr → Type 0
@@ -32,6 +28,5 @@ IsLabs (Svec scale dx dy z) = ⊥
 
 -- a fetch draws nothing: what it met completes no vector that is seen
 abbrev pub DrawsNothing : Option ℕ → Met → Type 0
-DrawsNothing held (Waits byte) = Unit {0}
-DrawsNothing held (Whole None) = Unit {0}
 DrawsNothing held (Whole (Some word)) = (code : Instr) → Completes held word code → IsSeen code → ⊥
+DrawsNothing held _ = Unit {0}

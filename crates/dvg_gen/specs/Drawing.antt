@@ -1,7 +1,7 @@
 -- What an instruction does to the beam, and what it draws.
 use Rattle.std.specs.Prelude.{ℕ, zero, suc, ◌+◌, ◌-◌, ◌*◌, ◌%◌, ◌^◌, ℤ, pos, negsuc, List, [], ◌∷◌, if◌then◌else◌, nat_le}
 use Rattle.dvg_code.specs.declared.instr.Instr.{Instr}
-use Rattle.dvg_code.specs.declared.instr.Instr.TheVariants.{Vctr, Labs, Halt, Jsrl, Rtsl, Jmpl, Svec}
+use Rattle.dvg_code.specs.declared.instr.Instr.TheVariants.{Vctr, Labs, Svec}
 use Rattle.dvg_gen.specs.declared.beam.Beam.{Beam}
 use Rattle.dvg_gen.specs.declared.stroke.Stroke.{Stroke}
 
@@ -26,11 +26,8 @@ placed x y scale = record { x = 512 * x; y = 512 * y; scale = scale }
 abbrev pub moved : Beam → Instr → Beam
 moved beam (Vctr scale dx dy z) = slid beam dx dy (unit ((beam.scale + scale) % 16))
 moved beam (Labs x y scale) = placed x y scale
-moved beam Halt = beam
-moved beam (Jsrl address) = beam
-moved beam Rtsl = beam
-moved beam (Jmpl address) = beam
 moved beam (Svec scale dx dy z) = slid beam dx dy (256 * unit ((beam.scale + scale) % 16))
+moved beam _ = beam
 
 -- the stroke from one position of the beam to another, of intensity 1 at least
 abbrev pub line : Beam → Beam → ℕ → List Stroke
@@ -40,9 +37,5 @@ line from to (suc z) = record { x0 = from.x; y0 = from.y; x1 = to.x; y1 = to.y; 
 -- what an instruction draws: a vector its stroke, also of length zero, and the others nothing
 abbrev pub drawn : Beam → Instr → List Stroke
 drawn beam (Vctr scale dx dy z) = line beam (moved beam (Vctr scale dx dy z)) z
-drawn beam (Labs x y scale) = []
-drawn beam Halt = []
-drawn beam (Jsrl address) = []
-drawn beam Rtsl = []
-drawn beam (Jmpl address) = []
 drawn beam (Svec scale dx dy z) = line beam (moved beam (Svec scale dx dy z)) z
+drawn beam _ = []

@@ -25,10 +25,6 @@ SeenDraws = (beam : Beam) (code : Instr) → IsSeen code → (stroke : Stroke) �
 abbrev pub UnseenDrawsNothing : Type 0
 UnseenDrawsNothing = (beam : Beam) (code : Instr) → (IsSeen code → ⊥) → drawn beam code ≡ []
 
--- a history leaves one run at most
-abbrev pub SameRun : Type 0
-SameRun = (history : List Told) (one other : Newest) → Leaves history one → Leaves history other → one ≡ other
-
 -- what a generator can be told at a run: a start and a reset always, and a fetch while the run is open
 abbrev pub CanBeTold : Newest → Told → Type 0
 CanBeTold run Start = Unit {0}
@@ -36,44 +32,26 @@ CanBeTold run Reset = Unit {0}
 CanBeTold run (Fed None) = run.is_open ≡ true
 CanBeTold run (Fed (Some word)) = (run.is_open ≡ true) × IsWord word
 
--- a history that leaves a run still leaves one with whatever can be told then
-abbrev pub SomeRun : Type 0
-SomeRun = (history : List Told) (run : Newest) (told : Told) → Leaves history run → CanBeTold run told
-    → (later : Newest) × Leaves (told ∷ history) later
-
--- a history leaves exactly one run
+-- a history leaves one run at most, and one that leaves a run still leaves one with whatever can be told then
 abbrev pub OneRun : Type 0
-OneRun = SameRun × SomeRun
+OneRun = ((history : List Told) (one other : Newest) → Leaves history one → Leaves history other → one ≡ other)
+    × ((history : List Told) (run : Newest) (told : Told) → Leaves history run → CanBeTold run told → (later : Newest) × Leaves (told ∷ history) later)
 
 -- a memory that does not change has one run of so many words at most
 abbrev pub OneRunOfMemory : Type 0
 OneRunOfMemory = (memory : ℕ → Option ℕ) (count : ℕ) (visits visits' : List Visit) (held held' : Option ℕ)
     → Runs memory count visits held → Runs memory count visits' held' → (visits ≡ visits') × (held ≡ held')
 
--- a history that leaves a run has a list of all instructions that it completed
-abbrev pub SomeCompleted : Type 0
-SomeCompleted = (history : List Told) (run : Newest) → Leaves history run → (all : List Visit) × Completed history all
-
--- the beam at the newest run is that of all of them, from 0, 0 with scale 0
-abbrev pub BeamOfCompleted : Type 0
-BeamOfCompleted = (history : List Told) (run : Newest) (all : List Visit) → Leaves history run → Completed history all
-    → beam_after run.first run.visits ≡ beam_after nothing.first all
-
--- the beam is that of all whole instructions so far, whatever run they stand in
+-- a history that leaves a run has a list of all instructions that it completed, and the beam is that of all of them, from 0, 0 with scale 0
 abbrev pub BeamOfAll : Type 0
-BeamOfAll = SomeCompleted × BeamOfCompleted
+BeamOfAll = ((history : List Told) (run : Newest) → Leaves history run → (all : List Visit) × Completed history all)
+    × ((history : List Told) (run : Newest) (all : List Visit) → Leaves history run → Completed history all
+    → beam_after run.first run.visits ≡ beam_after nothing.first all)
 
--- where there are more calls than returns, a return answers a call
-abbrev pub SomeCall : Type 0
-SomeCall = (older : List Visit) → returns older < calls older → (call : Visit) × IsAnswered older call
-
--- a return answers one call at most
-abbrev pub SameCall : Type 0
-SameCall = (older : List Visit) (call other : Visit) → IsAnswered older call → IsAnswered older other → call ≡ other
-
--- a return answers exactly one call
+-- where there are more calls than returns, a return answers a call, and it answers one at most
 abbrev pub OneCall : Type 0
-OneCall = SomeCall × SameCall
+OneCall = ((older : List Visit) → returns older < calls older → (call : Visit) × IsAnswered older call)
+    × ((older : List Visit) (call other : Visit) → IsAnswered older call → IsAnswered older other → call ≡ other)
 
 -- what a return answers is a call
 abbrev pub AnswersACall : Type 0

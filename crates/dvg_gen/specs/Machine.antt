@@ -49,16 +49,10 @@ pub record StandsAfter (machine : Machine) (history : List Told) (waiting : Opti
 
 -- the answer to a word or a hole is that of the definition
 abbrev pub IsReply : {A : Type 0} → Taken A → Reply → Type 0
-IsReply Low answer = ⊥
 IsReply Word More = Unit {0}
-IsReply Word (Drew strokes) = ⊥
-IsReply Word (Fails fault) = ⊥
-IsReply (Done list) More = ⊥
 IsReply (Done list) (Drew strokes) = list.items ≡ strokes
-IsReply (Done list) (Fails fault) = ⊥
-IsReply (Broke fault) More = ⊥
-IsReply (Broke fault) (Drew strokes) = ⊥
 IsReply (Broke fault) (Fails other) = fault ≡ other
+IsReply _ _ = ⊥
 
 -- a machine stands after a history and one fetch more, which met this, with the answer that the definition gives to it: a low byte waits, and a word or a hole is told
 abbrev pub Answers : {A : Type 0} → List Told → Met → Machine → Taken A → Type 0
@@ -69,5 +63,4 @@ Answers history (Whole word) machine taken = (after : StandsAfter machine (Fed w
 abbrev pub IsOnward : {A : Type 0} → Taken A → Type 0
 IsOnward Low = Unit {0}
 IsOnward Word = Unit {0}
-IsOnward (Done list) = ⊥
-IsOnward (Broke fault) = ⊥
+IsOnward _ = ⊥

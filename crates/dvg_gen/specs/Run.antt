@@ -20,12 +20,10 @@ on place count = (place + count) % 4096
 
 -- reading back past one instruction, where so many returns still want a call: a call that none wants is the one
 abbrev pub back_over : Act ℕ → ℕ → ℕ → (ℕ → ℕ) → ℕ
-back_over (Moves code) wanting place older = older wanting
-back_over (Jumps to) wanting place older = older wanting
 back_over (Calls to) zero place older = on place 1
 back_over (Calls to) (suc wanting) place older = older wanting
 back_over Returns wanting place older = older (suc wanting)
-back_over Halts wanting place older = older wanting
+back_over _ wanting place older = older wanting
 
 -- one past the latest call that is still open, where so many returns behind it still want a call of their own
 abbrev pub past_call : ℕ → List Visit → ℕ
@@ -52,19 +50,13 @@ wanted visits (Some first) = on (next visits) 1
 
 -- an instruction counts as one call or none
 abbrev pub call_count : Act ℕ → ℕ
-call_count (Moves code) = 0
-call_count (Jumps to) = 0
 call_count (Calls to) = 1
-call_count Returns = 0
-call_count Halts = 0
+call_count _ = 0
 
 -- an instruction counts as one return or none
 abbrev pub return_count : Act ℕ → ℕ
-return_count (Moves code) = 0
-return_count (Jumps to) = 0
-return_count (Calls to) = 0
 return_count Returns = 1
-return_count Halts = 0
+return_count _ = 0
 
 -- how many calls these instructions have
 abbrev pub calls : List Visit → ℕ
@@ -84,11 +76,10 @@ pub data Fate : Type 0 where
 
 -- a call breaks the run where four calls are open before it, and a return where none is; HALT ends it
 abbrev pub fate_by : Act ℕ → List Visit → Fate
-fate_by (Moves code) older = Goes
-fate_by (Jumps to) older = Goes
 fate_by (Calls to) older = if calls older == returns older + 4 then Breaks StackOver else Goes
 fate_by Returns older = if calls older == returns older then Breaks StackUnder else Goes
 fate_by Halts older = Finished
+fate_by _ older = Goes
 
 -- what becomes of a run with these instructions
 abbrev pub fate : List Visit → Fate

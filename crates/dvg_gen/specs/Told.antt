@@ -1,5 +1,5 @@
 -- What a generator was told since it was made, newest first, and the run that this leaves.
-use Rattle.std.specs.Prelude.{◌≡◌, ℕ, List, [], ◌∷◌, Option, Some, None, Bool, true, false}
+use Rattle.std.specs.Prelude.{◌≡◌, ℕ, List, [], ◌∷◌, Option, Some, None, Bool, true, false, if◌then◌else◌}
 use Rattle.dvg_gen.specs.declared.beam.Beam.{Beam}
 use Rattle.dvg_gen.specs.declared.stroke.Stroke.{Stroke}
 use Rattle.dvg_gen.specs.declared.taken.GenFault.{GenFault}
@@ -34,8 +34,7 @@ stopped run = record { first = run.first; visits = run.visits; held = run.held; 
 -- whether a run is open after its newest instruction
 abbrev pub goes_on : Fate → Bool
 goes_on Goes = true
-goes_on Finished = false
-goes_on (Breaks fault) = false
+goes_on _ = false
 
 -- the run with one more word
 abbrev pub grown : Newest → List Visit → Option ℕ → Newest
@@ -58,21 +57,15 @@ pub data Reply : Type 0 where
 
 -- the answer by the first word that the run holds after the fetch, the run's fate and its strokes
 abbrev pub reply_by : Option ℕ → Fate → List Stroke → Reply
-reply_by (Some word) fate drew = More
-reply_by None Goes drew = More
 reply_by None Finished drew = Drew drew
 reply_by None (Breaks fault) drew = Fails fault
+reply_by held fate drew = More
 
 -- the answer to the newest fetch of a history that leaves this run
 abbrev pub reply : Option ℕ → Newest → Reply
 reply None run = Fails Hole
 reply (Some word) run = reply_by run.held (fate run.visits) (strokes run.first run.visits)
 
--- the address of the next word, where the run is open
-abbrev pub wants_if : Bool → Newest → Option ℕ
-wants_if true run = Some (wanted run.visits run.held)
-wants_if false run = None
-
--- the address that a generator wants after a history that leaves this run
+-- the address of the next word after a history that leaves this run, where it is open
 abbrev pub wants : Newest → Option ℕ
-wants run = wants_if run.is_open run
+wants run = if run.is_open then Some (wanted run.visits run.held) else None

@@ -1,5 +1,5 @@
 -- What `check` answers of a draft, and how it is written.
-use Rattle.std.specs.Prelude.{◌≡◌, ℕ, List, [], ◌∷◌, ◌++◌, codes, decimal, Bool, true, false}
+use Rattle.std.specs.Prelude.{◌≡◌, ℕ, List, [], ◌∷◌, ◌++◌, codes, decimal, Bool, cond}
 use Rattle.dvg_frame.specs.declared.op.OpKind.{OpKind}
 use Rattle.dvg_frame.specs.declared.place.Place.{Place}
 use Rattle.dvg_frame.specs.declared.place.Place.TheVariants.{InFrame, InRom}
@@ -35,14 +35,9 @@ fault_parts (TooDeep place) = codes "7 too deep" ∷ place_parts place
 fault_parts (NoCaller place) = codes "8 no caller" ∷ place_parts place
 fault_parts Loops = codes "9 loops" ∷ []
 
--- the parts of a bound's text, where it is told
-abbrev pub bound_parts : Bool → ℕ → List (List ℕ)
-bound_parts true bound = decimal bound ∷ codes "fetches" ∷ []
-bound_parts false bound = []
-
 -- the line of a verdict, which tells the bound of a good draft or leaves it out; 10 is LF
 abbrev pub verdict_line : Bool → Verdict → List ℕ
-verdict_line tells_bound (Good words bound) = codes "ok" ++ spaced (decimal words ∷ codes "words" ∷ bound_parts tells_bound bound) ++ 10 ∷ []
+verdict_line tells_bound (Good words bound) = codes "ok" ++ spaced (decimal words ∷ codes "words" ∷ cond tells_bound (decimal bound ∷ codes "fetches" ∷ []) []) ++ 10 ∷ []
 verdict_line tells_bound (Refused fault) = codes "fault" ++ spaced (fault_parts fault) ++ 10 ∷ []
 
 -- the text denotes a draft and a ROM, over which the check says this of the draft

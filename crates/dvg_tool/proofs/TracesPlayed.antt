@@ -9,7 +9,7 @@ use Rattle.dvg_tool.specs.declared.fault.ToolFault.{ToolFault}
 use Rattle.dvg_tool.specs.declared.fault.ToolFault.TheVariants.{Text, Reader, Writer, Memory}
 use Rattle.dvg_text.specs.declared.fault.TraceFault.{TraceFault}
 use Rattle.dvg_text.specs.declared.fault.TraceFault.TheVariants as of_trace
-use Rattle.dvg_tool.specs.Plays.{IsPlayed, Plays, StopsPlay, called, log_text}
+use Rattle.dvg_tool.specs.Plays.{IsPlayed, Plays, called, log_text}
 use Rattle.dvg_tool.specs.Roms.{StopsWriting, WritesText}
 use Rattle.dvg_text.specs.TraceGives.{StopsReading}
 use Rattle.dvg_text.specs.TraceTexts.{HasTraceFault, MeetsSyntax, MeetsFull, MeetsMany, EndsInside}
@@ -17,6 +17,10 @@ use Rattle.dvg_tool.specs.Watching.{BeginsToWrite}
 use Rattle.dvg_tool.proofs.Known.{Appends-nil}
 use Rattle.dvg_tool.proofs.Played.{PlayedPart}
 use Rattle.dvg_tool.proofs.Whole.{Read, whole}
+
+-- what is answered at a fault, whatever else could have been
+abbrev pub Stops : Bool → ToolFault → (input : List ℕ) → Option (List ℕ) → Option (List ℕ) → Type 0
+Stops all fault input old new = Plays {T = Unit {0}} all (Err fault) input old new
 
 -- the fault of what was read is that of the input
 faulted : (fault : TextFault) (input read : List ℕ) → read ≡ take 1048577 input → HasTraceFault read fault → HasTraceFault input fault
@@ -32,7 +36,7 @@ played : {log : Log} {later : List Happening} (input read : List ℕ) → read �
 played {log = log} {later = later} input read e p = subst (λ text. IsPlayed text log later) (whole 1048576 read input e p.gives.denotes.short) p
 
 -- nothing was read
-pub unread : (all : Bool) (fault : ToolFault) (known old : Option (List ℕ)) → (fault ≡ Reader) ⊎ (fault ≡ Memory) → IfSome known (λ input. StopsPlay all fault input old old)
+pub unread : (all : Bool) (fault : ToolFault) (known old : Option (List ℕ)) → (fault ≡ Reader) ⊎ (fault ≡ Memory) → IfSome known (λ input. Stops all fault input old old)
 unread all fault None old is = tt
 unread all Reader (Some input) old is = tt
 unread all Memory (Some input) old is = inl (Appends-nil old)
@@ -40,7 +44,7 @@ unread all (Text fault) (Some input) old is = ⊎_elim (λ e. cc) (λ e. cc) is
 unread all Writer (Some input) old is = ⊎_elim (λ e. cc) (λ e. cc) is
 
 -- what was read is at fault, or memory was refused
-pub misread : (all : Bool) (fault : TraceFault) (known old : Option (List ℕ)) (read : List ℕ) → Read 1048576 known read → StopsReading fault read → IfSome known (λ input. StopsPlay all (called fault) input old old)
+pub misread : (all : Bool) (fault : TraceFault) (known old : Option (List ℕ)) (read : List ℕ) → Read 1048576 known read → StopsReading fault read → IfSome known (λ input. Stops all (called fault) input old old)
 misread all fault None old read e h = tt
 misread all (of_trace.Text fault) (Some input) old read e h = faulted fault input read e h
 misread all of_trace.Memory (Some input) old read e h = inl (Appends-nil old)
@@ -60,7 +64,7 @@ told_whole all (Err _) (Some input) old new read text e p is wrote = absurd wrot
 
 -- some events were played, and what is shown of them was written
 pub told_part : {log : Log} {later : List Happening} (all : Bool) (known old new : Option (List ℕ)) (read text : List ℕ) → Read 1048576 known read → PlayedPart read log later → text ≡ log_text all log → Appends old new text
-    → IfSome known (λ input. StopsPlay all Memory input old new)
+    → IfSome known (λ input. Stops all Memory input old new)
 told_part all None old new read text e p is wrote = tt
 told_part {log = log} {later = later} all (Some input) old new read text e p is wrote =
     let here = played_so_far input read e p in
@@ -71,7 +75,7 @@ told_part {log = log} {later = later} all (Some input) old new read text e p is 
 
 -- or the writer failed
 pub broke_off : {log : Log} {later : List Happening} (all : Bool) (fault : ToolFault) (known old new : Option (List ℕ)) (read text : List ℕ) → Read 1048576 known read → PlayedPart read log later → text ≡ log_text all log
-    → StopsWriting fault text old new → IfSome known (λ input. StopsPlay all fault input old new)
+    → StopsWriting fault text old new → IfSome known (λ input. Stops all fault input old new)
 broke_off all fault None old new read text e p is wrote = tt
 broke_off {log = log} {later = later} all Writer (Some input) old new read text e p is wrote =
     let here = played_so_far input read e p in
@@ -81,6 +85,6 @@ broke_off all Reader (Some input) old new read text e p is wrote = absurd wrote
 broke_off all Memory (Some input) old new read text e p is wrote = absurd wrote
 
 -- what holds of the fault holds of the answer
-pub answered : {T : Type 0} (all : Bool) (answer : Result T ToolFault) (fault : ToolFault) (known old new : Option (List ℕ)) → answer ≡ Err fault → IfSome known (λ input. StopsPlay all fault input old new)
+pub answered : {T : Type 0} (all : Bool) (answer : Result T ToolFault) (fault : ToolFault) (known old new : Option (List ℕ)) → answer ≡ Err fault → IfSome known (λ input. Stops all fault input old new)
     → IfSome known (λ input. Plays all answer input old new)
 answered all answer fault known old new is stops = subst (λ answer. IfSome known (λ input. Plays all answer input old new)) (sym is) stops

@@ -5,7 +5,7 @@ use Rattle.std.specs.Io.KnownBytes.{Appends}
 use Rattle.dvg_code.specs.Words.{words_of}
 use Rattle.dvg_text.specs.declared.fault.TextFault.{TextFault}
 use Rattle.dvg_text.specs.declared.verdict.Verdict.{Verdict}
-use Rattle.dvg_tool.specs.Checks.{Checks, IsJudgingFault, StopsCheck, StopsJudging}
+use Rattle.dvg_tool.specs.Checks.{Checks, IsJudgingFault}
 use Rattle.dvg_text.specs.DraftTexts.{HasFault}
 use Rattle.dvg_text.specs.Verdicts.{Judges, verdict_line}
 use Rattle.dvg_tool.specs.Watching.{BeginsToWrite}
@@ -104,7 +104,7 @@ faulted fault input read e h = ⊎_elim
 
 -- so is where nothing is said
 stopped_by : (tells_bound : Bool) (fault : ToolFault) (known old new : Option (List ℕ)) (read : List ℕ) → Read 1048576 known read → IsJudgingFault read fault
-    → IfSome known (λ input. StopsCheck tells_bound fault input old new)
+    → IfSome known (λ input. Checks tells_bound (Err fault) input old new)
 stopped_by tells_bound fault None old new read e h = tt
 stopped_by tells_bound (Text fault) (Some input) old new read e h = faulted fault input read e h
 stopped_by tells_bound Memory (Some input) old new read e h = tt
@@ -123,6 +123,6 @@ said tells_bound verdict None old new read e j w = tt
 said tells_bound verdict (Some input) old new read e j w = (judged verdict input read e j, w)
 
 pub broken_off : (tells_bound : Bool) (verdict : Verdict) (known old new : Option (List ℕ)) (read : List ℕ) → Read 1048576 known read → Judges read verdict
-    → BeginsToWrite (verdict_line tells_bound verdict) old new → IfSome known (λ input. StopsJudging tells_bound input old new)
+    → BeginsToWrite (verdict_line tells_bound verdict) old new → IfSome known (λ input. Checks tells_bound (Err Writer) input old new)
 broken_off tells_bound verdict None old new read e j w = tt
-broken_off tells_bound verdict (Some input) old new read e j w = record { verdict = verdict; judges = judged verdict input read e j; begun = w }
+broken_off tells_bound verdict (Some input) old new read e j w = (verdict, judged verdict input read e j, w)

@@ -13,14 +13,12 @@ use Rattle.dvg_words.specs.declared.task.Job.TheVariants.{List as list_job, Rom,
 
 -- what is answered of an input, and what went out: `check` tells its verdict, and no other job tells one
 abbrev pub Performs : Job → Result Done ToolFault → (input : List ℕ) → Option (List ℕ) → Option (List ℕ) → Type 0
-Performs list_job (Ok (Judged verdict)) input old new = ⊥
-Performs list_job answer input old new = Lists answer input old new
-Performs Rom (Ok (Judged verdict)) input old new = ⊥
-Performs Rom answer input old new = WritesRom answer input old new
 Performs (Check bound) (Ok Written) input old new = ⊥
 Performs (Check bound) (Ok (Judged verdict)) input old new = Checks bound (Ok verdict) input old new
 Performs (Check bound) (Err fault) input old new = Checks bound (Err fault) input old new
-Performs (Play all) (Ok (Judged verdict)) input old new = ⊥
+Performs _ (Ok (Judged verdict)) input old new = ⊥
+Performs list_job answer input old new = Lists answer input old new
+Performs Rom answer input old new = WritesRom answer input old new
 Performs (Play all) answer input old new = Plays all answer input old new
 
 -- the faults before which a job writes nothing
@@ -32,5 +30,4 @@ StaysUnwritten _ fault = StopsBeforeWriting fault
 abbrev pub most_taken : Job → ℕ
 most_taken list_job = 8193
 most_taken Rom = 2049
-most_taken (Check bound) = 1048577
-most_taken (Play all) = 1048577
+most_taken _ = 1048577

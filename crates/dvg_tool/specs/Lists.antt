@@ -1,5 +1,5 @@
 -- What `list` answers and writes.
-use Rattle.std.specs.Prelude.{◌≡◌, ◌≢◌, ◌%◌, ◌<◌, ◌≤◌, ℕ, List, [], length, Option, Result, MatchResult}
+use Rattle.std.specs.Prelude.{◌≡◌, ◌≢◌, ◌%◌, ◌<◌, ◌≤◌, ℕ, List, [], length, Option, Result, Ok, Err, MatchResult}
 use Rattle.std.specs.Io.KnownBytes.{Appends}
 use Rattle.dvg_code.specs.Words.{words_of}
 use Rattle.dvg_code.specs.Cutting.{Cutting}
@@ -7,16 +7,15 @@ use Rattle.dvg_text.specs.Lines.{list_text}
 use Rattle.dvg_tool.specs.Watching.{BeginsToWrite}
 use Rattle.dvg_text.specs.declared.fault.TextFault.TheVariants.{TooLong, Odd, Cut}
 use Rattle.dvg_tool.specs.declared.fault.ToolFault.{ToolFault}
-use Rattle.dvg_tool.specs.declared.fault.ToolFault.TheVariants.{Text, Reader, Writer, Memory}
+use Rattle.dvg_tool.specs.declared.fault.ToolFault.TheVariants.{Text, Writer}
 
--- where the words' cutting leaves a rest, the place of the rest is answered, and the text of the instructions before it went out; where the writer failed, a beginning of the text
+-- where the words' cutting leaves a rest, the place of the rest is answered, and the text of the instructions before it went out; where the writer failed, a beginning of the text (for a private contract)
 abbrev pub StopsListing : ToolFault → (words : List ℕ) → Option (List ℕ) → Option (List ℕ) → Type 0
-StopsListing (Text (Cut place)) words old new =
-    (cutting : Cutting words) → (cutting.rest ≢ []) × (place ≡ cutting.end) × Appends old new (list_text cutting.items)
+StopsListing (Text (Cut place)) words old new = (cutting : Cutting words) → (cutting.rest ≢ []) × (place ≡ cutting.end) × Appends old new (list_text cutting.items)
 StopsListing Writer words old new = (cutting : Cutting words) → BeginsToWrite (list_text cutting.items) old new
 StopsListing _ words old new = ⊥
 
--- where the words' cutting leaves no rest, the text of its instructions went out; else by the fault
+-- where the words' cutting leaves no rest, the text of its instructions went out; else by the fault (for a private contract)
 abbrev pub ListsWords : {T : Type 0} → Result T ToolFault → (words : List ℕ) → Option (List ℕ) → Option (List ℕ) → Type 0
 ListsWords answer words old new = MatchResult answer
     (λ _. (cutting : Cutting words) → (cutting.rest ≡ []) × Appends old new (list_text cutting.items))
@@ -26,18 +25,13 @@ ListsWords answer words old new = MatchResult answer
 abbrev pub IsListable : List ℕ → Type 0
 IsListable input = (length input ≤ 8192) × (length input % 2 ≡ 0)
 
--- when each fault comes of an input, and what went out at `Cut` and `Writer` (that nothing went out at the others is a clause of its own)
-abbrev pub StopsList : ToolFault → (input : List ℕ) → Option (List ℕ) → Option (List ℕ) → Type 0
-StopsList (Text TooLong) input old new = 8192 < length input
-StopsList (Text Odd) input old new = (length input ≤ 8192) × (length input % 2 ≡ 1)
-StopsList (Text (Cut place)) input old new = IsListable input × StopsListing (Text (Cut place)) (words_of input) old new
-StopsList (Text _) input old new = ⊥
-StopsList Writer input old new = IsListable input × StopsListing Writer (words_of input) old new
-StopsList Reader input old new = Unit {0}
-StopsList Memory input old new = Unit {0}
-
--- what `list` answers of an input, and what went out
+-- what `list` answers of an input, and what went out: the text of the instructions, at `Cut` of those before the rest, at `Writer` a beginning of it (that nothing went out at the other faults is a clause of its own)
 abbrev pub Lists : {T : Type 0} → Result T ToolFault → (input : List ℕ) → Option (List ℕ) → Option (List ℕ) → Type 0
-Lists answer input old new = MatchResult answer
-    (λ _. IsListable input × ((cutting : Cutting (words_of input)) → (cutting.rest ≡ []) × Appends old new (list_text cutting.items)))
-    (λ fault. StopsList fault input old new)
+Lists (Ok done) input old new = IsListable input × ((cutting : Cutting (words_of input)) → (cutting.rest ≡ []) × Appends old new (list_text cutting.items))
+Lists (Err (Text TooLong)) input old new = 8192 < length input
+Lists (Err (Text Odd)) input old new = (length input ≤ 8192) × (length input % 2 ≡ 1)
+Lists (Err (Text (Cut place))) input old new =
+    IsListable input × ((cutting : Cutting (words_of input)) → (cutting.rest ≢ []) × (place ≡ cutting.end) × Appends old new (list_text cutting.items))
+Lists (Err (Text _)) input old new = ⊥
+Lists (Err Writer) input old new = IsListable input × ((cutting : Cutting (words_of input)) → BeginsToWrite (list_text cutting.items) old new)
+Lists _ input old new = Unit {0}

@@ -2,7 +2,7 @@
 use Rattle.std.specs.Prelude.{◌≡◌, ℕ, ◌⊎◌, Result, Ok, Err}
 use Rattle.dvg_text.specs.declared.fault.TextFault.TheVariants.{Cut}
 use Rattle.dvg_tool.specs.declared.fault.ToolFault.{ToolFault}
-use Rattle.dvg_tool.specs.declared.fault.ToolFault.TheVariants.{Text, Reader, Writer, Memory}
+use Rattle.dvg_tool.specs.declared.fault.ToolFault.TheVariants.{Text, Writer}
 use Rattle.dvg_tool.specs.declared.outcome.Done.{Done}
 use Rattle.dvg_tool.specs.declared.outcome.Done.TheVariants.{Written, Judged}
 use Rattle.dvg_text.specs.declared.verdict.Verdict.TheVariants.{Good, Refused}
@@ -11,10 +11,8 @@ use Rattle.dvg_tool.specs.Watching.{one_more}
 -- the faults that come before the first write
 abbrev pub StopsBeforeWriting : ToolFault → Type 0
 StopsBeforeWriting (Text (Cut place)) = ⊥
-StopsBeforeWriting (Text _) = Unit {0}
-StopsBeforeWriting Reader = Unit {0}
 StopsBeforeWriting Writer = ⊥
-StopsBeforeWriting Memory = Unit {0}
+StopsBeforeWriting _ = Unit {0}
 
 -- the answer stays and no failure was counted, or one was counted and the answer is `Writer`
 abbrev pub FinishesAs : {T : Type 0} → Result T ToolFault → Result T ToolFault → ℕ → ℕ → Type 0
@@ -26,6 +24,4 @@ status_of (Ok Written) = 0
 status_of (Ok (Judged (Good words bound))) = 0
 status_of (Ok (Judged (Refused fault))) = 1
 status_of (Err (Text fault)) = 1
-status_of (Err Reader) = 2
-status_of (Err Writer) = 2
-status_of (Err Memory) = 2
+status_of (Err _) = 2

@@ -1,5 +1,5 @@
 -- What `play` answers and writes.
-use Rattle.std.specs.Prelude.{◌≡◌, ℕ, ◌⊎◌, List, [], ◌∷◌, ◌++◌, map, replicate, reverse, Bool, Option, Result, MatchResult}
+use Rattle.std.specs.Prelude.{◌≡◌, ℕ, ◌⊎◌, List, [], ◌∷◌, ◌++◌, map, replicate, reverse, Bool, Option, Result, Ok, Err}
 use Rattle.std.specs.Io.KnownBytes.{Appends}
 use Rattle.dvg_world.specs.Entries.{Shown}
 use Rattle.dvg_world.specs.Events.{Happening}
@@ -67,15 +67,10 @@ abbrev pub StopsBeforeShowing : ToolFault → Type 0
 StopsBeforeShowing Memory = ⊥
 StopsBeforeShowing fault = StopsBeforeWriting fault
 
--- when each fault comes of an input, and what went out (that nothing went out at the first two is a clause of its own)
-abbrev pub StopsPlay : Bool → ToolFault → (input : List ℕ) → Option (List ℕ) → Option (List ℕ) → Type 0
-StopsPlay all (Text fault) input old new = HasTraceFault input fault
-StopsPlay all Reader input old new = Unit {0}
-StopsPlay all Memory input old new = Appends old new [] ⊎ ShowsUntil all input StopsNext (Appends old new)
-StopsPlay all Writer input old new = ShowsUntil all input IsEnd (λ text. BeginsToWrite text old new)
-
--- what `play` answers of an input, and what went out
+-- what `play` answers of an input, and what went out: what is shown of the log, or at `Memory` and `Writer` of its front (that nothing went out at the first two faults is a clause of its own)
 abbrev pub Plays : {T : Type 0} → Bool → Result T ToolFault → (input : List ℕ) → Option (List ℕ) → Option (List ℕ) → Type 0
-Plays all answer input old new = MatchResult answer
-    (λ _. (log : Log) × IsPlayed input log [] × Appends old new (log_text all log))
-    (λ fault. StopsPlay all fault input old new)
+Plays all (Ok done) input old new = (log : Log) × IsPlayed input log [] × Appends old new (log_text all log)
+Plays all (Err (Text fault)) input old new = HasTraceFault input fault
+Plays all (Err Reader) input old new = Unit {0}
+Plays all (Err Memory) input old new = Appends old new [] ⊎ ShowsUntil all input StopsNext (Appends old new)
+Plays all (Err Writer) input old new = ShowsUntil all input IsEnd (λ text. BeginsToWrite text old new)

@@ -13,27 +13,19 @@ use Rattle.dvg_words.specs.declared.task.Job.TheVariants.{List as list_job, Rom,
 abbrev pub plain : Text → Shape
 plain name = (new_app name).top
 
--- the option `--bound`, which is given or not and takes no value
-abbrev pub bound_option : Rule
-bound_option = record (new_rule (codes "bound")) { long = Some (codes "bound"); action = Some SetTrue }
+-- an option of this long name, which is given or not and takes no value
+abbrev pub flag : Text → Rule
+flag name = record (new_rule name) { long = Some name; action = Some SetTrue }
 
--- the subcommand `check`, with its option
-abbrev pub check : Shape
-check = (with_rule (new_app (codes "check")) bound_option).top
-
--- the option `--all`, which is given or not and takes no value
-abbrev pub all_option : Rule
-all_option = record (new_rule (codes "all")) { long = Some (codes "all"); action = Some SetTrue }
-
--- the subcommand `play`, with its option
-abbrev pub play : Shape
-play = (with_rule (new_app (codes "play")) all_option).top
+-- a subcommand with such an option
+abbrev pub with_flag : (name option : Text) → Shape
+with_flag name option = (with_rule (new_app name) (flag option)).top
 
 -- the program's command, which requires one of four subcommands; clap adds `help` and the option `--help`
 unfoldable pub dvg_app : App
 dvg_app = record {
   top = record (plain (codes "dvg")) { is_leaf = false; subcommand_required = true };
-  subs = plain (codes "list") ∷ plain (codes "rom") ∷ check ∷ play ∷ [];
+  subs = plain (codes "list") ∷ plain (codes "rom") ∷ with_flag (codes "check") (codes "bound") ∷ with_flag (codes "play") (codes "all") ∷ [];
 }
 
 -- the matching sets the option

@@ -1,8 +1,8 @@
 //! The program's command, as `clap` reads it.
-ghost use Rattle.std.specs.Prelude.{◌≡◌, IfOk, false};
+ghost use Rattle.std.specs.Prelude.{◌≡◌, IfOk, codes, false};
 ghost use Rattle.clap.specs.Words.{app_of, new_app};
 ghost use Rattle.clap.specs.declared.builder.command.Command.TheViews.{out-Command as fields_of};
-ghost use Rattle.dvg_words.specs.Words.{check, dvg_app, play};
+ghost use Rattle.dvg_words.specs.Words.{dvg_app, with_flag};
 
 use crate::help;
 use clap::{Arg, ArgAction, Command};
@@ -18,7 +18,7 @@ fn helped<'a>(alloc: Global, name: &'a str, about: &'a str, details: &'a str) ->
 
 // The subcommand `check` with its option.
 fn check_command<'a>(alloc: Global) -> Result<Command<'a>, AllocError>
-    ensures app { IfOk result (λ c. (app_of c).top ≡ check) }
+    ensures app { IfOk result (λ c. (app_of c).top ≡ with_flag (codes "check") (codes "bound")) }
     ensures local { IfOk result (λ c. (fields_of c).has_globals ≡ false) }
 {
     let bound = Arg::new(alloc, "bound")
@@ -36,7 +36,7 @@ fn check_command<'a>(alloc: Global) -> Result<Command<'a>, AllocError>
 
 // The subcommand `play` with its option.
 fn play_command<'a>(alloc: Global) -> Result<Command<'a>, AllocError>
-    ensures app { IfOk result (λ c. (app_of c).top ≡ play) }
+    ensures app { IfOk result (λ c. (app_of c).top ≡ with_flag (codes "play") (codes "all")) }
     ensures local { IfOk result (λ c. (fields_of c).has_globals ≡ false) }
 {
     let all = Arg::new(alloc, "all")

@@ -1,10 +1,18 @@
 -- What a fetch meets, by the byte that it reads.
-use Rattle.std.proofs.Common.{◌≡◌, ℕ, ◌+◌, ◌*◌, ◌/◌, ◌%◌, List, Option, Some, None, true, false, Bool, refl, sym, ap, ◌∙◌, arith}
+use Rattle.std.proofs.Common.{◌≡◌, ℕ, ◌+◌, ◌*◌, ◌/◌, ◌%◌, List, slice_index, Option, Some, None, true, false, Bool, refl, sym, ap, ◌∙◌, arith}
 use Rattle.std.specs.Prelude.{option_map, is_some}
 use Rattle.std.proofs.lemmas.Option.{same_Some}
 use Rattle.dvg_mem.specs.Memory.{fetched, byte_of, fetched_byte}
 use Rattle.dvg_gen.specs.Bytes.{Met, Waits, Whole, met, word_of}
-use Rattle.dvg_world.specs.Log.{read}
+use Rattle.dvg_world.specs.Log.{Log, ram}
+
+-- the byte at an address
+abbrev pub byte : List ℕ → Log → ℕ → ℕ
+byte image log a = slice_index (ram image log) a
+
+-- what a fetch meets in these memories, behind a low byte that waits or none
+abbrev pub read : (ram rom : List ℕ) → Option ℕ → ℕ → Met
+read ram rom low address = met low (fetched_byte ram rom address (is_some low))
 
 pub same_Whole : {one other : Option ℕ} → Whole one ≡ Whole other → one ≡ other
 same_Whole e = ap word_of e

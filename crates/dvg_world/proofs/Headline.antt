@@ -3,8 +3,8 @@ use Rattle.std.proofs.Common.{◌≡◌, ℕ, true, List, [], ◌∷◌, Option,
 use Rattle.dvg_world.specs.Events.{Happening}
 use Rattle.dvg_world.specs.Entries.{Shown}
 use Rattle.dvg_world.specs.Log.{◌⟼◌, Log, Throughout, ram, open_run, has_fetched}
-use Rattle.dvg_world.specs.Legal.{IsLegal}
-use Rattle.dvg_world.specs.Headline.{SparesDrawn, NoFault, DrewPublished, IsNoOlder, KeepsTime, WithinBound, DrewHeld, KeepsHeadline, AlwaysHeadline, NeverTorn, NeverFaults, DrawsPublished, NeverOlder, AlwaysInTime, AlwaysBounded, DrawsAHalf}
+use Rattle.dvg_world.specs.Legal.{Always, IsLegal}
+use Rattle.dvg_world.specs.Headline.{SparesDrawn, NoFault, DrewPublished, IsNoOlder, KeepsTime, WithinBound, DrewHeld, KeepsHeadline, DrawsAHalf}
 use Rattle.dvg_world.proofs.Drawing.{drawing}
 use Rattle.dvg_world.proofs.Kept.{kept}
 use Rattle.dvg_world.proofs.Later.{IsRight, shows}
@@ -17,22 +17,22 @@ through : (P Q : Log → Happening → Shown → Type 0) → ((log : Log) (event
 through P Q f [] t = tt
 through P Q f ((event ⟼ entry) ∷ log) t = (f log event entry t.0, through P Q f log t.1)
 
-pub never_torn : NeverTorn
+pub never_torn : Always (λ R image. SparesDrawn)
 never_torn R image log l = (kept R image log l (words_are_whole R image log l)).2
 
-pub never_faults : NeverFaults
+pub never_faults : Always (λ R image. NoFault)
 never_faults R image log l = through (IsRight R image) NoFault (λ log event entry t. t.0) log (shows R image log l (words_are_whole R image log l)).1
 
-pub draws_published : DrawsPublished
+pub draws_published : Always (λ R image. DrewPublished R)
 draws_published R image log l = through (IsRight R image) (DrewPublished R) (λ log event entry t. t.1) log (shows R image log l (words_are_whole R image log l)).1
 
-pub never_older : NeverOlder
+pub never_older : Always (λ R image. IsNoOlder)
 never_older R image log l = through (IsRight R image) IsNoOlder (λ log event entry t. t.2) log (shows R image log l (words_are_whole R image log l)).1
 
-pub always_in_time : AlwaysInTime
+pub always_in_time : Always (λ R image. KeepsTime R)
 always_in_time R image log l = through (IsRight R image) (KeepsTime R) (λ log event entry t. t.3) log (shows R image log l (words_are_whole R image log l)).1
 
-pub always_bounded : AlwaysBounded
+pub always_bounded : Always (λ R image. WithinBound R)
 always_bounded R image log l = bounded R image log l (always_in_time R image log l)
 
 -- a run that has fetched a word, by that word
@@ -72,7 +72,7 @@ together R image ((event ⟼ entry) ∷ log) l torn faults drew older time bound
   together R image log l.2 torn.1 faults.1 drew.1 older.1 time.1 bound.1 held.1,
 )
 
-pub headline : AlwaysHeadline
+pub headline : Always KeepsHeadline
 headline R image log l =
     together R image log l (never_torn R image log l) (never_faults R image log l) (draws_published R image log l) (never_older R image log l) (always_in_time R image log l) (always_bounded R image log l)
     (draws_held R image log l)

@@ -16,11 +16,13 @@ use Rattle.dvg_driver.specs.declared.action.Action.{Action}
 use Rattle.dvg_driver.specs.declared.action.Action.TheVariants.{Peek, Wrote, Read, Sent, Idle}
 use Rattle.dvg_driver.specs.Script
 use Rattle.dvg_driver.specs.Script.{Item, Did, IsWhole, IsLife, has_flip, frame_writes}
+use Rattle.dvg_driver.specs.Stands.{Tells}
 use Rattle.dvg_driver.specs.Place.{Place, Start, Booting, Resting, Writing, Waiting, Sending, next, place_of}
 use Rattle.dvg_world.specs.Events.{Happening, Offer, Redraw, Tick, Strobe, Fetch, ResetGen, ResetCpu, ResetAll}
 use Rattle.dvg_world.specs.Entries.{Shown, Offered, Refused, Busy, Asked, NothingPublished, Acted, Started, NoStrobe, Low, Fetched, Done, Broke, Still, Cleared}
-use Rattle.dvg_world.specs.Log.{◌⟼◌, Log, Throughout, ram, byte, history, open_run, free_half, life, strobed, before_flip}
-use Rattle.dvg_world.specs.Legal.{IsTrueRead, IsFetch, Fits, IsLegal}
+use Rattle.dvg_world.specs.Log.{◌⟼◌, Log, Throughout, ram, history, open_run, free_half, life, strobed, before_flip}
+use Rattle.dvg_world.proofs.Bytes.{byte}
+use Rattle.dvg_world.specs.Legal.{IsFetch, Fits, IsLegal}
 use Rattle.dvg_world.specs.Headline.{SparesDrawn}
 use Rattle.dvg_world.specs.Fetches.{IsInMemory}
 use Rattle.dvg_driver.proofs.Places.{whole_rests, life_place, place_before}
@@ -165,7 +167,7 @@ write_step image log ws a b q size k d (to_one ea eb e z) =
       λ half drawn inside. let low = past_zero half (1 / 2) inside in omega arith,
     )
 
-tick_step : (image : List ℕ) (log : Log) (p : Place) (action : Action) (q : Place) → length (ram image log) ≡ 0x800 → KeptBy image log p → next p (Did action) ≡ Some q → place_of (Did action ∷ life image log) ≡ Some q → IsTrueRead log action → Goes image log Tick (Acted action)
+tick_step : (image : List ℕ) (log : Log) (p : Place) (action : Action) (q : Place) → length (ram image log) ≡ 0x800 → KeptBy image log p → next p (Did action) ≡ Some q → place_of (Did action ∷ life image log) ≡ Some q → Tells action (is_none (open_run log)) → Goes image log Tick (Acted action)
 tick_step image log Start Peek q size k e d r = (Booting, moved k (Did Peek ∷ life image log) Booting (d ∙ sym e) tt, tt)
 tick_step image log Booting (Read true) q size k e d r = (Resting true, moved k (Did (Read true) ∷ life image log) (Resting true) (d ∙ sym e) (none_draws (byte image log 1) (open_run log) r, λ f. absurd (cc)), tt)
 tick_step image log Booting (Read false) q size k e d r = (Booting, moved k (Did (Read false) ∷ life image log) Booting (d ∙ sym e) tt, tt)

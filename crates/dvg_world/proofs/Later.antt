@@ -21,7 +21,7 @@ use Rattle.dvg_driver.specs.Script.{Did, IsWhole}
 use Rattle.dvg_driver.specs.Place.{Place, Writing, next, place_of}
 use Rattle.dvg_world.specs.Events.{Happening, Offer, Redraw, Tick, Strobe, Fetch, ResetGen, ResetCpu, ResetAll, IsEvent}
 use Rattle.dvg_world.specs.Entries.{Shown, Offered, Refused, Busy, Asked, NothingPublished, Acted, Started, NoStrobe, Low, Fetched, Done, Broke, Still, Cleared}
-use Rattle.dvg_world.specs.Log.{◌⟼◌, Log, Throughout, ram, byte, low_byte, meets, history, open_run, free_half, life, published, publication, at_zero}
+use Rattle.dvg_world.specs.Log.{◌⟼◌, Log, Throughout, ram, low_byte, meets, history, open_run, free_half, life, published, publication, at_zero}
 use Rattle.dvg_world.specs.Legal.{IsWanted, IsFetch, Fits, IsLegal}
 use Rattle.dvg_world.specs.Headline.{IsShown, IsNoLater, NoFault, DrewPublished, IsNoOlder, KeepsTime, fetch_count}
 use Rattle.dvg_world.specs.Fetches.{IsInMemory}
@@ -31,7 +31,7 @@ use Rattle.dvg_world.proofs.Drawing.{LeadsTo, later, jump_there}
 use Rattle.dvg_world.proofs.Kept.{sized, KeptBy, kept, same_place, zero_jumps}
 use Rattle.dvg_world.proofs.Least.{Checked, fits, frame_memory, least_draws, least_once, goes_in_time, finished_in_time, finished_picture, Lies, agrees}
 use Rattle.dvg_world.proofs.Linked.{Cut, none, word, cut_same, wanting, fetching, added}
-use Rattle.dvg_world.proofs.Bytes.{same_Whole, low_met, word_met}
+use Rattle.dvg_world.proofs.Bytes.{same_Whole, low_met, word_met, byte}
 use Rattle.dvg_world.proofs.Shows.{current, Running, Shows, at_zero_fetched, at_zero_open, begun, idle_lays, write_shows, same_line, same_life}
 use Rattle.dvg_world.proofs.Todo.{is_write}
 

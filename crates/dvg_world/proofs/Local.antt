@@ -16,7 +16,7 @@ use Rattle.dvg_mem.specs.declared.half.Half.TheVariants.{H0, H1}
 use Rattle.dvg_mem.specs.Areas.{base}
 use Rattle.dvg_code.specs.Words.{word_in}
 use Rattle.dvg_mem.specs.Memory.{rom_word}
-use Rattle.dvg_code.specs.Acts.{Act, Moves, Jumps, Calls, act_of}
+use Rattle.dvg_code.specs.Acts.{Act, Moves, Jumps, Calls, act_by, act_of}
 use Rattle.dvg_gen.specs.Run.{on}
 use Rattle.dvg_frame.specs.declared.op.OpKind.{OpKind}
 use Rattle.dvg_frame.specs.declared.op.OpKind.TheVariants.{Draw, CallRom, JumpRom, Call, Jump, Return, Halt as Stop}
@@ -25,7 +25,7 @@ use Rattle.dvg_frame.specs.declared.place.Place.TheVariants.{InFrame, InRom}
 use Rattle.dvg_frame.specs.Ops.{IsOp, IsDrawing, IsDraft}
 use Rattle.dvg_frame.specs.Layout.{op_words, size, at, op_code, laid}
 use Rattle.dvg_frame.specs.declared.place.FrameFault.TheVariants.{RunsOff, OutOfRom}
-use Rattle.dvg_frame.specs.Steps.{SpelledAt, one, two, op_act, rom_act, Stands, in_frame, in_rom, GoesPast, Names, IsOutside, IsFine, last, target, second, past, Leads, Reached, begin, step, Closed, BeginsWithLabs, labs}
+use Rattle.dvg_frame.specs.Steps.{SpelledAt, one, two, op_act, Stands, in_frame, in_rom, GoesPast, Names, IsOutside, IsFine, last, target, second, past, Leads, Reached, begin, step, Closed, BeginsWithLabs, labs}
 use Rattle.dvg_frame.specs.Steps.{on as leads_on, jump as leads_jump, call as leads_call, back as leads_back}
 use Rattle.dvg_frame.proofs.Sizes.{canon_length}
 use Rattle.dvg_mem.specs.Memory.{IsImage}
@@ -143,7 +143,7 @@ op_acts h F (Jump j) o = refl
 op_acts h F Return o = refl
 op_acts h F Stop o = refl
 
-rom_acts : (h : Half) (F : List OpKind) (c : Instr) → act_of c ≡ at_addresses (addr h F) (rom_act c)
+rom_acts : (h : Half) (F : List OpKind) (c : Instr) → act_of c ≡ at_addresses (addr h F) (act_by InRom c)
 rom_acts h F (Vctr scale dx dy z) = refl
 rom_acts h F (Labs x y scale) = refl
 rom_acts h F Halt = refl
@@ -227,7 +227,7 @@ module _ (h : Half) (F : List OpKind) (rom : List ℕ) (mem : ℕ → Option ℕ
         goes = λ g. ap (λ x. at h F x) i1 ∙ next;
       }
 
-  rom_found : (a : ℕ) (c : Instr) → SpelledAt (rom_word rom) a c → Found mem (addr h F) (InRom a) (rom_act c) (InRom (a + word_count c))
+  rom_found : (a : ℕ) (c : Instr) → SpelledAt (rom_word rom) a c → Found mem (addr h F) (InRom a) (act_by InRom c) (InRom (a + word_count c))
   rom_found a c s =
       let b = rom_inside rom a c s in
       let n = few_words c in
@@ -255,7 +255,7 @@ module _ (h : Half) (F : List OpKind) (rom : List ℕ) (mem : ℕ → Option ℕ
   after_inside p after d act f (in_rom {a = a} {instr = c} s ea) g =
       not_outside (a + word_count c) (λ o. f (OutOfRom (InRom a)) (past (in_rom s ea) g o))
 
-  rom_names : (c : Instr) (j : ℕ) → Names (rom_act c) (InFrame j) → ⊥
+  rom_names : (c : Instr) (j : ℕ) → Names (act_by InRom c) (InFrame j) → ⊥
   rom_names (Vctr scale dx dy z) j n = n
   rom_names (Labs x y scale) j n = n
   rom_names Halt j n = n
@@ -299,10 +299,10 @@ module _ (h : Half) (F : List OpKind) (rom : List ℕ) (mem : ℕ → Option ℕ
       let e2 = rom_there rom (a + 1) b.0 b.1 in
       let n2 = word_size (a + 1 - 2048) (omega arith) in
       let c = two_words (word_in rom (a - 2048)) (word_in rom (a + 1 - 2048)) lt n2 in
-      (rom_act c.0, InRom (a + word_count c.0), in_rom (two e e2 c.1) refl))
+      (act_by InRom c.0, InRom (a + word_count c.0), in_rom (two e e2 c.1) refl))
       (λ ge.
       let c = one_word (word_in rom (a - 2048)) ge n in
-      (rom_act c.0, InRom (a + word_count c.0), in_rom (one e c.1) refl))
+      (act_by InRom c.0, InRom (a + word_count c.0), in_rom (one e c.1) refl))
       (cases_lt (word_in rom (a - 2048)) 45056)
 
   stands_in : (p : Place) (d : ℕ) → Inside p → IsFine F rom p d → (act : Act Place) × (after : Place) × Stands F rom p act after

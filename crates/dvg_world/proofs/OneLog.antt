@@ -13,7 +13,8 @@ use Rattle.dvg_world.specs.Events.{Happening, Offer, Redraw, Tick, Strobe, Fetch
 use Rattle.dvg_world.specs.Entries.{Shown, Offered, Refused, Busy, Asked, NothingPublished, Acted, Started, NoStrobe, Low, Fetched, Done, Broke, Still, Cleared}
 use Rattle.dvg_gen.specs.Bytes.{Waits, Whole, word_of}
 use Rattle.dvg_world.specs.Log.{◌⟼◌, Log, meets, history, open_run, life}
-use Rattle.dvg_world.specs.Legal.{IsTrueRead, IsWanted, IsFetch, Fits, IsLegal, SameLog}
+use Rattle.dvg_driver.specs.Stands.{Tells}
+use Rattle.dvg_world.specs.Legal.{IsWanted, IsFetch, Fits, IsLegal, SameLog}
 use Rattle.dvg_driver.proofs.Places.{life_place, place_before}
 use Rattle.dvg_driver.proofs.Shapes.{place_life}
 use Rattle.dvg_driver.proofs.OneAction.{one_action}
@@ -21,7 +22,7 @@ use Rattle.dvg_world.proofs.Bytes.{same_Whole, same_Waits, not_whole}
 use Rattle.dvg_world.proofs.Linked.{same_wanted, is_wanted, wanting, fetching}
 
 -- a tick has one action
-one_tick : (image : List ℕ) (log : Log) (a b : Action) → IsLife (Did a ∷ life image log) → IsLife (Did b ∷ life image log) → IsTrueRead log a → IsTrueRead log b → a ≡ b
+one_tick : (image : List ℕ) (log : Log) (a b : Action) → IsLife (Did a ∷ life image log) → IsLife (Did b ∷ life image log) → Tells a (is_none (open_run log)) → Tells b (is_none (open_run log)) → a ≡ b
 one_tick image log a b x y t u =
     let after = life_place (Did a ∷ life image log) x in
     let before = place_before (Did a) (life image log) after.0 after.1 in

@@ -1,6 +1,6 @@
 -- Worked examples of legal logs, over a RAM and a ROM of zeros.
 use Rattle.std.proofs.Common.{◌≡◌, ℕ, zero, suc, ◌+◌, ◌<◌, ◌≤◌, pos, negsuc, true, false, List, [], ◌∷◌, ◌++◌, length, Option, Some, None, refl, sym, ap, ◌∙◌, subst, lit<, lit≤, replicate, arith}
-use Rattle.std.specs.Prelude.{slice_get, option_and_then}
+use Rattle.std.specs.Prelude.{slice_get, option_and_then, is_none}
 use Rattle.std.proofs.lemmas.Option.{same_Some}
 use Rattle.std.proofs.lemmas.List.Elements.{All-replicate, All-from_recursion}
 use Rattle.std.proofs.lemmas.List.{length-replicate}
@@ -30,10 +30,12 @@ use Rattle.dvg_driver.specs.declared.action.Action.TheVariants.{Peek, Wrote, Rea
 use Rattle.dvg_driver.specs.Script.{Did, IsWhole}
 use Rattle.dvg_driver.specs.Place as place
 use Rattle.dvg_driver.specs.Place.{next, place_of, with_left, after_write}
+use Rattle.dvg_driver.specs.Stands.{Tells}
 use Rattle.dvg_world.specs.Events.{Offer, Redraw, Tick, Strobe, Fetch}
 use Rattle.dvg_world.specs.Entries.{Offered, Busy, NothingPublished, Acted, Started, NoStrobe, Low, Fetched, Done, Still}
-use Rattle.dvg_world.specs.Log.{Line, ◌⟼◌, Log, ram, low_byte, read, history, life, IsBeingDrawn}
-use Rattle.dvg_world.specs.Legal.{IsTrueRead, IsLegal}
+use Rattle.dvg_world.specs.Log.{Line, ◌⟼◌, Log, ram, low_byte, history, open_run, life, IsBeingDrawn}
+use Rattle.dvg_world.proofs.Bytes.{read}
+use Rattle.dvg_world.specs.Legal.{IsLegal}
 use Rattle.dvg_driver.proofs.Shapes.{place_life, rests_whole}
 use Rattle.dvg_driver.proofs.Places.{whole_rests, write_fits}
 
@@ -150,7 +152,7 @@ LegalOverZeros = IsLegal zeros zeros
 abbrev did : Action → Line
 did action = Tick ⟼ Acted action
 
-ticked : (log : Log) (action : Action) (to : place.Place) → LegalOverZeros log → place_of (Did action ∷ life zeros log) ≡ Some to → IsTrueRead log action → LegalOverZeros (did action ∷ log)
+ticked : (log : Log) (action : Action) (to : place.Place) → LegalOverZeros log → place_of (Did action ∷ life zeros log) ≡ Some to → Tells action (is_none (open_run log)) → LegalOverZeros (did action ∷ log)
 ticked log action to legal at reads = ((place_life (Did action ∷ life zeros log) to at, reads), tt, legal)
 
 -- writes of a frame part

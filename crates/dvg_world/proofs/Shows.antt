@@ -18,7 +18,8 @@ use Rattle.dvg_driver.specs.Script.{Did, IsWhole, frame_writes}
 use Rattle.dvg_driver.specs.Place.{Place, Start, Booting, Resting, Writing, Waiting, Sending, next, place_of, after_write, with_left}
 use Rattle.dvg_world.specs.Events.{Happening, Offer, Tick, ResetAll}
 use Rattle.dvg_world.specs.Entries.{Shown, Offered, Acted, Done}
-use Rattle.dvg_world.specs.Log.{Line, ◌⟼◌, Log, Throughout, ram, byte, open_run, free_half, life, before_flip, offered, published, publication, has_fetched, at_zero}
+use Rattle.dvg_world.specs.Log.{Line, ◌⟼◌, Log, Throughout, ram, open_run, free_half, life, before_flip, offered, published, publication, has_fetched, at_zero}
+use Rattle.dvg_world.proofs.Bytes.{byte}
 use Rattle.dvg_world.specs.Headline.{IsShown, IsNoLater}
 use Rattle.dvg_driver.proofs.Places.{whole_rests, place_before}
 use Rattle.dvg_world.proofs.Drawing.{LeadsTo, not_both, past_zero, in_half, half_high}

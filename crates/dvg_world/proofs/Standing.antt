@@ -27,7 +27,7 @@ use Rattle.dvg_driver.specs.Stands.{Stage, Tells, byte1_of, peeked_after}
 use Rattle.dvg_world.specs.Events.{Happening, Offer, Redraw, Tick, Strobe, Fetch, ResetGen, ResetCpu, ResetAll}
 use Rattle.dvg_world.specs.Entries.{Shown, Offered, Refused, Busy, Asked, NothingPublished, Acted, Started, NoStrobe, Still, Cleared}
 use Rattle.dvg_world.specs.Log.{◌⟼◌, Log, ram, low_byte, meets, history, open_run, life, strobed}
-use Rattle.dvg_world.specs.Legal.{IsTrueRead, Fits}
+use Rattle.dvg_world.specs.Legal.{Fits}
 use Rattle.dvg_world.specs.Standing.{State, StandsAt, WorldAfter, AddsLine, KeepsHeadlineAfter, DrawsNow}
 use Rattle.dvg_world.specs.Stepping.{ram_by, sent_by, entry_by}
 use Rattle.dvg_world.proofs.Headline.{headline}
@@ -113,7 +113,7 @@ flag_is true (Some met) is_open flag same = let shut = flag.0 refl in absurd (cc
 flag_is false None is_open flag same = flag.1 same
 flag_is false (Some met) is_open flag same = refl
 
-true_read : (log : Log) (halted : Bool) (action : Action) → Tells action halted → halted ≡ is_none (open_run log) → IsTrueRead log action
+true_read : (log : Log) (halted : Bool) (action : Action) → Tells action halted → halted ≡ is_none (open_run log) → Tells action (is_none (open_run log))
 true_read log halted (Read shown) tells flag = tells ∙ flag
 true_read log halted Peek tells flag = tt
 true_read log halted (Wrote a byte) tells flag = tt

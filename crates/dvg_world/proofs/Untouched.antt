@@ -13,10 +13,10 @@ use Rattle.dvg_driver.specs.declared.action.Action.TheVariants.{Wrote}
 use Rattle.dvg_world.specs.Events.{Happening, Fetch, ResetGen, ResetAll}
 use Rattle.dvg_world.specs.Entries.{Shown, Acted, Started, Fetched, Done, Broke}
 use Rattle.dvg_world.specs.Log.{◌⟼◌, Log, ram, history, open_run}
-use Rattle.dvg_world.specs.Legal.{Fits, IsLegal}
+use Rattle.dvg_world.specs.Legal.{Always, Fits, IsLegal}
 use Rattle.dvg_world.specs.Fetches.{IsInMemory}
 use Rattle.dvg_world.proofs.Words.{words_are_whole}
-use Rattle.dvg_world.specs.Headline.{IsUntouched, DrewHeld, DrawsHeld}
+use Rattle.dvg_world.specs.Headline.{IsUntouched, DrewHeld}
 use Rattle.dvg_world.proofs.Law.{undisturbed}
 use Rattle.dvg_world.proofs.Least.{finished_picture}
 use Rattle.dvg_world.proofs.Linked.{added, fetching}
@@ -68,6 +68,6 @@ held_line R image log Fetch (Done a word drew) legal is_there fits = λ half F m
 held_line R image log event (Done a word drew) legal there fits = absurd fits
 held_line R image log event entry legal there fits = tt
 
-pub draws_held : DrawsHeld
+pub draws_held : Always DrewHeld
 draws_held R image [] legal = tt
 draws_held R image ((event ⟼ entry) ∷ log) legal = (held_line R image log event entry legal.2 (words_are_whole R image ((event ⟼ entry) ∷ log) legal).0 legal.0, draws_held R image log legal.2)

@@ -9,10 +9,10 @@ use Rattle.dvg_driver.specs.declared.action.Action.{Action}
 use Rattle.dvg_driver.specs.declared.action.Action.TheVariants.{Peek, Wrote, Read, Sent, Idle}
 use Rattle.dvg_world.specs.Events.{Happening, Tick, Fetch, ResetGen, ResetAll}
 use Rattle.dvg_world.specs.Entries.{Shown, Acted, Started, Low, Fetched, Done, Broke}
-use Rattle.dvg_world.specs.Log.{◌⟼◌, Log, Throughout, ram, byte, waiting, low_byte, meets, history, open_run, published}
-use Rattle.dvg_world.specs.Legal.{IsWanted, Fits, IsLegal}
-use Rattle.dvg_world.specs.Fetches.{IsInMemory, IsPaired, KeepsNext, WordsAreWhole, WordsArePaired, NextStays}
-use Rattle.dvg_world.proofs.Bytes.{low_met, word_met, whole_met, low_part, hole_met}
+use Rattle.dvg_world.specs.Log.{◌⟼◌, Log, Throughout, ram, waiting, low_byte, meets, history, open_run, published}
+use Rattle.dvg_world.specs.Legal.{Always, IsWanted, Fits, IsLegal}
+use Rattle.dvg_world.specs.Fetches.{IsInMemory, IsPaired, KeepsNext}
+use Rattle.dvg_world.proofs.Bytes.{low_met, word_met, whole_met, low_part, hole_met, byte}
 use Rattle.dvg_world.proofs.Drawing.{leads_same}
 use Rattle.dvg_world.proofs.Kept.{kept, first_at}
 use Rattle.dvg_world.proofs.Later.{shows, memory_is}
@@ -135,7 +135,7 @@ module _ (R image : List ℕ) where
   line_in_memory log event (Broke a fault) l m f = absurd f
   line_in_memory log event entry l m f = tt
 
-pub words_are_whole : WordsAreWhole
+pub words_are_whole : Always IsInMemory
 words_are_whole R image [] l = tt
 words_are_whole R image ((event ⟼ entry) ∷ log) l =
     let before = words_are_whole R image log l.2 in
@@ -154,7 +154,7 @@ line_paired R image log event (Fetched a w) l f = absurd f
 line_paired R image log event (Done a w drew) l f = absurd f
 line_paired R image log event entry l f = tt
 
-pub words_are_paired : WordsArePaired
+pub words_are_paired : Always (λ R image. IsPaired)
 words_are_paired R image [] l = tt
 words_are_paired R image ((event ⟼ entry) ∷ log) l = (line_paired R image log event entry l.2 l.0, words_are_paired R image log l.2)
 
@@ -163,6 +163,6 @@ line_keeps R image log Tick (Acted action) l = action_keeps R image log action l
 line_keeps R image log event (Acted action) l = absurd l.0
 line_keeps R image log event entry l = tt
 
-pub next_stays : NextStays
+pub next_stays : Always KeepsNext
 next_stays R image [] l = tt
 next_stays R image ((event ⟼ entry) ∷ log) l = (line_keeps R image log event entry l, next_stays R image log l.2)

@@ -26,10 +26,5 @@ happening_of (code.ResetAll image) = ResetAll image
 -- what an event brings is a draft, or an image
 abbrev pub IsEvent : Happening → Type 0
 IsEvent (Offer F) = IsDraft F
-IsEvent Redraw = Unit {0}
-IsEvent Tick = Unit {0}
-IsEvent Strobe = Unit {0}
-IsEvent Fetch = Unit {0}
-IsEvent ResetGen = Unit {0}
-IsEvent ResetCpu = Unit {0}
 IsEvent (ResetAll bytes) = IsImage bytes
+IsEvent _ = Unit {0}

@@ -4,8 +4,8 @@ use Rattle.dvg_mem.specs.Memory.{fetched, fetched_byte}
 use Rattle.dvg_gen.specs.Bytes.{Whole}
 use Rattle.dvg_world.specs.Events.{Happening}
 use Rattle.dvg_world.specs.Entries.{Shown, Acted, Low, Fetched, Done, Broke}
-use Rattle.dvg_world.specs.Log.{◌⟼◌, Log, Throughout, ram, waiting, meets, history}
-use Rattle.dvg_world.specs.Legal.{IsWanted, IsLegal}
+use Rattle.dvg_world.specs.Log.{◌⟼◌, Log, ram, waiting, meets, history}
+use Rattle.dvg_world.specs.Legal.{IsWanted}
 
 -- a word is the one that memory has when its high byte is fetched
 abbrev pub IsInMemory : List ℕ → List ℕ → Log → Happening → Shown → Type 0
@@ -27,15 +27,3 @@ KeepsNext R image log event (Acted action) = (address : ℕ) → IsWanted (histo
     → (fetched_byte (ram image ((event ⟼ Acted action) ∷ log)) R address false ≡ fetched_byte (ram image log) R address false)
     × (address ≢ 0 → fetched_byte (ram image ((event ⟼ Acted action) ∷ log)) R address true ≡ fetched_byte (ram image log) R address true)
 KeepsNext R image log event entry = Unit {0}
-
--- each word is whole
-abbrev pub WordsAreWhole : Type 0
-WordsAreWhole = (R image : List ℕ) (log : Log) → IsLegal R image log → Throughout (IsInMemory R image) log
-
--- each word comes in its two bytes, one right after the other
-abbrev pub WordsArePaired : Type 0
-WordsArePaired = (R image : List ℕ) (log : Log) → IsLegal R image log → Throughout IsPaired log
-
--- no action changes what is fetched next, but for the flip
-abbrev pub NextStays : Type 0
-NextStays = (R image : List ℕ) (log : Log) → IsLegal R image log → Throughout (KeepsNext R image) log

@@ -10,7 +10,7 @@ use Rattle.dvg_frame.specs.Steps.{Closed}
 use Rattle.dvg_frame.specs.Faults.{Accepts}
 use Rattle.dvg_frame.specs.Picture.{IsPicture, IsBound}
 use Rattle.dvg_driver.specs.declared.action.Action.TheVariants.{Wrote}
-use Rattle.dvg_world.specs.Events.{Happening}
+use Rattle.dvg_world.specs.Events.{Happening, Fetch}
 use Rattle.dvg_world.specs.Entries.{Shown, Acted, Started, Low, Fetched, Done, Broke}
 use Rattle.dvg_world.specs.Law.{HoldsDraft, HoldsFrame}
 use Rattle.dvg_world.specs.Log.{◌⟼◌, Log, Throughout, ram, low_byte, open_run, IsBeingDrawn, published, publication, has_fetched, at_zero}
@@ -72,17 +72,10 @@ KeepsTime R log event (Broke address fault) = ⊥
 KeepsTime R log event (Done address word strokes) = ByPicture R log (λ number drew n. (number ≡ 2 * n) × (strokes ≡ drew))
 KeepsTime R log event entry = Unit {0}
 
--- what the open run shows has a bound, and the run's next fetch stays within it: two bytes a word
-abbrev pub IsBounded : List ℕ → Log → Type 0
-IsBounded R log = (words : List (ℕ × ℕ)) (F : List OpKind) → open_run log ≡ Some words → IsShown log F
-    → (n : ℕ) × IsBound F R n × (n < 2 ^ 63) × (suc (fetch_count words (low_byte log)) ≤ 2 * n)
-
--- a run stays within the bound of what it shows, at each fetch
+-- what the open run shows has a bound, and each fetch of the run stays within it: two bytes a word
 abbrev pub WithinBound : List ℕ → Log → Happening → Shown → Type 0
-WithinBound R log event (Low address byte) = IsBounded R log
-WithinBound R log event (Fetched address word) = IsBounded R log
-WithinBound R log event (Broke address fault) = IsBounded R log
-WithinBound R log event (Done address word strokes) = IsBounded R log
+WithinBound R log Fetch entry = (words : List (ℕ × ℕ)) (F : List OpKind) → open_run log ≡ Some words → IsShown log F
+    → (n : ℕ) × IsBound F R n × (n < 2 ^ 63) × (suc (fetch_count words (low_byte log)) ≤ 2 * n)
 WithinBound R log event entry = Unit {0}
 
 -- no byte was written since the newest run began
@@ -129,38 +122,6 @@ pub record KeepsHeadline (R image : List ℕ) (log : Log) (event : Happening) (e
   pub draws_undisturbed : DrewHeld R image log event entry
   -- before the line, an open run that has fetched word zero is drawing a half, which holds the draft that the run shows
   pub draws_a_half : HasHalf R image log
-
--- each line keeps the headline
-abbrev pub AlwaysHeadline : Type 0
-AlwaysHeadline = (R image : List ℕ) (log : Log) → IsLegal R image log → Throughout (KeepsHeadline R image) log
-
--- no byte is written in the half being drawn
-abbrev pub NeverTorn : Type 0
-NeverTorn = (R image : List ℕ) (log : Log) → IsLegal R image log → Throughout SparesDrawn log
-
--- the generator never faults
-abbrev pub NeverFaults : Type 0
-NeverFaults = (R image : List ℕ) (log : Log) → IsLegal R image log → Throughout NoFault log
-
--- each run that reaches HALT drew exactly the picture of the frame newest published when it fetched word zero
-abbrev pub DrawsPublished : Type 0
-DrawsPublished = (R image : List ℕ) (log : Log) → IsLegal R image log → Throughout (DrewPublished R) log
-
--- no picture is older than the one before
-abbrev pub NeverOlder : Type 0
-NeverOlder = (R image : List ℕ) (log : Log) → IsLegal R image log → Throughout IsNoOlder log
-
--- a run of a frame that has a picture is finished at the picture's last fetch
-abbrev pub AlwaysInTime : Type 0
-AlwaysInTime = (R image : List ℕ) (log : Log) → IsLegal R image log → Throughout (KeepsTime R) log
-
--- a run of a published frame stays within the frame's bound
-abbrev pub AlwaysBounded : Type 0
-AlwaysBounded = (R image : List ℕ) (log : Log) → IsLegal R image log → Throughout (WithinBound R) log
-
--- a run over a frame that the RAM held, while nothing was written, drew the frame's picture
-abbrev pub DrawsHeld : Type 0
-DrawsHeld = (R image : List ℕ) (log : Log) → IsLegal R image log → Throughout (DrewHeld R image) log
 
 -- a run that has fetched word zero is drawing a half, which holds the draft that the run shows
 abbrev pub DrawsAHalf : Type 0

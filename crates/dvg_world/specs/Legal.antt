@@ -4,16 +4,11 @@ use Rattle.dvg_mem.specs.Memory.{IsImage}
 use Rattle.dvg_gen.specs.Bytes.{Waits, Whole}
 use Rattle.dvg_gen.specs.Told.{Told, Fed, Newest, Leaves, Reply, More, Drew, Fails, reply, wants}
 use Rattle.dvg_frame.specs.Faults.{Refuses, Accepts}
-use Rattle.dvg_driver.specs.declared.action.Action.{Action}
 use Rattle.dvg_driver.specs.Script.{Did, IsWhole, IsLife, has_flip}
 use Rattle.dvg_driver.specs.Stands.{Tells}
 use Rattle.dvg_world.specs.Events.{Happening, Offer, Redraw, Tick, Strobe, Fetch, ResetGen, ResetCpu, ResetAll, IsEvent}
 use Rattle.dvg_world.specs.Entries.{Shown, Offered, Refused, Busy, Asked, NothingPublished, Acted, Started, NoStrobe, Low, Fetched, Done, Broke, Still, Cleared}
-use Rattle.dvg_world.specs.Log.{◌⟼◌, Log, events_of, meets, history, open_run, life, strobed}
-
--- a read of the HALT flag shows whether no run is open
-abbrev pub IsTrueRead : Log → Action → Type 0
-IsTrueRead log action = Tells action (is_none (open_run log))
+use Rattle.dvg_world.specs.Log.{◌⟼◌, Log, events_of, Throughout, meets, history, open_run, life, strobed}
 
 -- after this history the next word is that at this address
 pub record IsWanted (before : List Told) (address : ℕ) : Type 0 where
@@ -40,8 +35,8 @@ Fits R image log (Offer F) Offered = Accepts F R × IsWhole (life image log)
 Fits R image log Redraw NothingPublished = has_flip (life image log) ≡ false
 Fits R image log Redraw Busy = (has_flip (life image log) ≡ true) × ¬ IsWhole (life image log)
 Fits R image log Redraw Asked = (has_flip (life image log) ≡ true) × IsWhole (life image log)
--- the action is the next one of the script
-Fits R image log Tick (Acted action) = IsLife (Did action ∷ life image log) × IsTrueRead log action
+-- the action is the next one of the script, and a read of the HALT flag shows whether no run is open
+Fits R image log Tick (Acted action) = IsLife (Did action ∷ life image log) × Tells action (is_none (open_run log))
 Fits R image log Strobe Started = strobed log ≡ true
 Fits R image log Strobe NoStrobe = strobed log ≡ false
 -- a fetch is of the address that is wanted: a low byte waits; a whole word goes on with the run, finishes it or breaks it, as a hole does
@@ -59,6 +54,10 @@ Fits R image log event entry = ⊥
 abbrev pub IsLegal : List ℕ → List ℕ → Log → Type 0
 IsLegal R image [] = IsImage R × IsImage image
 IsLegal R image ((event ⟼ entry) ∷ log) = Fits R image log event entry × IsEvent event × IsLegal R image log
+
+-- over each ROM and from each first image, this holds of each line of each legal log
+abbrev pub Always : (List ℕ → List ℕ → Log → Happening → Shown → Type 0) → Type 0
+Always P = (R image : List ℕ) (log : Log) → IsLegal R image log → Throughout (P R image) log
 
 -- a list of events has one legal log at most
 abbrev pub SameLog : Type 0

@@ -39,10 +39,6 @@ ram image ((ResetAll bytes ⟼ entry) ∷ log) = bytes
 ram image ((event ⟼ Acted (Wrote a byte)) ∷ log) = slice_set (ram image log) a byte
 ram image (line ∷ log) = ram image log
 
--- the byte at an address
-abbrev pub byte : List ℕ → Log → ℕ → ℕ
-byte image log a = slice_index (ram image log) a
-
 -- the low byte whose high byte the open run fetches next, with its address
 abbrev pub waiting : Log → Option (ℕ × ℕ)
 waiting [] = None
@@ -59,13 +55,9 @@ waiting (line ∷ log) = waiting log
 abbrev pub low_byte : Log → Option ℕ
 low_byte log = option_map (λ low. low.1) (waiting log)
 
--- what a fetch meets in these memories, behind a low byte that waits or none: it reads the high byte at an address, or else the low one
-abbrev pub read : (ram rom : List ℕ) → Option ℕ → ℕ → Met
-read ram rom low address = met low (fetched_byte ram rom address (is_some low))
-
--- what a fetch at this address meets now
+-- what a fetch at this address meets now: it reads the word's high byte behind a low byte that waits, and else its low one
 abbrev pub meets : List ℕ → List ℕ → Log → ℕ → Met
-meets R image log address = read (ram image log) R (low_byte log) address
+meets R image log address = met (low_byte log) (fetched_byte (ram image log) R address (is_some (low_byte log)))
 
 -- the words that the generator was told, newest first
 abbrev pub history : List ℕ → List ℕ → Log → List Told
@@ -98,7 +90,7 @@ pub record IsBeingDrawn (log : Log) (half : Half) : Type 0 where
 
 -- the half that is free: the other one than byte 001 names
 abbrev pub free_half : List ℕ → Log → Half
-free_half image log = other (half_of_high (byte image log 1))
+free_half image log = other (half_of_high (slice_index (ram image log) 1))
 
 -- the driver's life since its last reset, newest item first; a frame goes to the half that is free when it is accepted
 abbrev pub life : List ℕ → Log → List Item
