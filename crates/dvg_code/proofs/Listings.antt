@@ -7,9 +7,13 @@ use Rattle.dvg_code.specs.declared.listing.Listed.TheVariants.{At, Cut}
 use Rattle.dvg_code.specs.declared.listing.Listing.{Listing}
 use Rattle.dvg_code.specs.Spelling.{Spells}
 use Rattle.dvg_code.specs.Cutting.{IsCut, IsRest, Placed, Cuts, ends, goes}
-use Rattle.dvg_code.specs.Listing.{NextListed, listed, listed_rest, place_of, words_left}
+use Rattle.dvg_code.specs.Listing.{NextListed, listed_rest, place_of, words_left}
 use Rattle.dvg_code.proofs.Unique.{same_front, rest_begins_none, cut_is_rest}
 use Rattle.dvg_code.proofs.Cuttings.{same_cuts}
+
+-- the item of an instruction
+abbrev listed : Placed → Listed
+listed item = At item.place item.instr
 
 -- what a cutting gives that no item was taken of
 abbrev given : List Placed → ℕ → List ℕ → List Listed

@@ -4,7 +4,7 @@ use Rattle.dvg_code.specs.declared.listing.Listed.{Listed}
 use Rattle.dvg_code.specs.declared.listing.Listed.TheVariants.{At, Cut}
 use Rattle.dvg_code.specs.declared.listing.Listing.{Listing}
 use Rattle.dvg_code.specs.Spelling.{Spells}
-use Rattle.dvg_code.specs.Cutting.{Cutting, IsCut, Placed}
+use Rattle.dvg_code.specs.Cutting.{Cutting, IsCut}
 
 -- the words that are left
 abbrev pub words_left : Listing → List ℕ
@@ -21,18 +21,14 @@ NextListed old (Some (At place instr)) new = (place ≡ place_of old)
     × ((front : List ℕ) × Spells instr front × (words_left old ≡ front ++ words_left new) × (place_of new ≡ place_of old + length front))
 NextListed old (Some (Cut place)) new = (place ≡ place_of old) × IsCut (words_left old) × (words_left new ≡ [])
 
--- the item of an instruction
-abbrev pub listed : Placed → Listed
-listed item = At item.place item.instr
-
 -- the cut that comes last where a rest is left
 abbrev pub listed_rest : ℕ → List ℕ → List Listed
 listed_rest end [] = []
 listed_rest end (word ∷ rest) = Cut end ∷ []
 
--- the items of a cutting, the last one for its rest
+-- the items of a cutting: each instruction at its place, and a last one for the rest
 abbrev pub listing_of : {words : List ℕ} → Cutting words → List Listed
-listing_of cutting = map listed cutting.items ++ listed_rest cutting.end cutting.rest
+listing_of cutting = map (λ item. At item.place item.instr) cutting.items ++ listed_rest cutting.end cutting.rest
 
 -- these are the first items of the cutting of the words, and all of them where the listing went to its end
 abbrev pub IsListing : List ℕ → List Listed → Bool → Type 0

@@ -31,7 +31,8 @@ op_act Stop = Halts
 -- what stands at a place, and the place after it
 pub data Stands (F : List OpKind) (R : List ℕ) : Place → Act Place → Place → Type 0 where
   in_frame : {i : ℕ} {op : OpKind} {act : Act Place} → slice_get F i ≡ Some op → act ≡ op_act op → Stands F R (InFrame i) act (InFrame (i + 1))
-  in_rom : {a : ℕ} {instr : Instr} {act : Act Place} → SpelledAt (rom_word R) a instr → act ≡ act_by InRom instr → Stands F R (InRom a) act (InRom (a + word_count instr))
+  in_rom : {a : ℕ} {instr : Instr} {act : Act Place} → SpelledAt (rom_word R) a instr → act ≡ act_by InRom instr
+      → Stands F R (InRom a) act (InRom (a + word_count instr))
 
 -- a vector, a LABS or a call goes on at the place after it
 abbrev pub GoesPast : Act Place → Type 0

@@ -1,5 +1,5 @@
 -- The words of the shared memory.
-use Rattle.std.specs.Prelude.{◌≡◌, ℕ, ◌-◌, ◌/◌, ◌%◌, ◌<◌, ◌&&◌, nat_le, nat_lt, if◌then◌else◌, Bool, true, false, List, All, length, Option, Some, None, option_map}
+use Rattle.std.specs.Prelude.{◌≡◌, ℕ, ◌-◌, ◌/◌, ◌%◌, ◌<◌, ◌&&◌, nat_le, nat_lt, if◌then◌else◌, Bool, List, All, length, Option, Some, None, option_map}
 use Rattle.dvg_code.specs.Words.{word_in}
 
 -- the content of a memory of 2,048 bytes
@@ -15,11 +15,6 @@ rom_word rom a = if nat_le 0x800 a && nat_lt a 0xC00 then Some (word_in rom (a -
 abbrev pub fetched : (ram rom : List ℕ) → ℕ → Option ℕ
 fetched ram rom w = if nat_lt w 0x400 then Some (word_in ram w) else rom_word rom w
 
--- a word's high byte, or its low byte
-abbrev pub byte_of : Bool → ℕ → ℕ
-byte_of true word = word / 256
-byte_of false word = word % 256
-
 -- the byte that the generator finds at an address, the high or the low one of its word; none in a hole
 abbrev pub fetched_byte : (ram rom : List ℕ) → ℕ → Bool → Option ℕ
-fetched_byte ram rom w high = option_map (byte_of high) (fetched ram rom w)
+fetched_byte ram rom w high = option_map (λ word. if high then word / 256 else word % 256) (fetched ram rom w)

@@ -37,7 +37,8 @@ fault_parts Loops = codes "9 loops" ∷ []
 
 -- the line of a verdict, which tells the bound of a good draft or leaves it out; 10 is LF
 abbrev pub verdict_line : Bool → Verdict → List ℕ
-verdict_line tells_bound (Good words bound) = codes "ok" ++ spaced (decimal words ∷ codes "words" ∷ cond tells_bound (decimal bound ∷ codes "fetches" ∷ []) []) ++ 10 ∷ []
+verdict_line tells_bound (Good words bound) =
+    codes "ok" ++ spaced (decimal words ∷ codes "words" ∷ cond tells_bound (decimal bound ∷ codes "fetches" ∷ []) []) ++ 10 ∷ []
 verdict_line tells_bound (Refused fault) = codes "fault" ++ spaced (fault_parts fault) ++ 10 ∷ []
 
 -- the text denotes a draft and a ROM, over which the check says this of the draft

@@ -14,7 +14,7 @@ IsJudgingFault text (Text fault) = HasFault text fault
 IsJudgingFault text Memory = Unit {0}
 IsJudgingFault text _ = ⊥
 
--- what is answered of an input, and what went out: the verdict's line, which tells the bound (`check_bound`) or leaves it out (`check_text`), or at `Writer` a beginning of it (that nothing went out at the other faults is a clause of its own)
+-- what is answered of an input, and what went out: the verdict's line, with its bound or without, or at `Writer` a beginning of it (that nothing went out at the others is a clause of its own)
 abbrev pub Checks : (tells_bound : Bool) → Result Verdict ToolFault → (input : List ℕ) → Option (List ℕ) → Option (List ℕ) → Type 0
 Checks tells_bound (Ok verdict) input old new = Judges input verdict × Appends old new (verdict_line tells_bound verdict)
 Checks tells_bound (Err (Text fault)) input old new = HasFault input fault

@@ -9,9 +9,10 @@ use Rattle.dvg_text.specs.declared.fault.TextFault.TheVariants.{TooLong, Odd, Cu
 use Rattle.dvg_tool.specs.declared.fault.ToolFault.{ToolFault}
 use Rattle.dvg_tool.specs.declared.fault.ToolFault.TheVariants.{Text, Writer}
 
--- where the words' cutting leaves a rest, the place of the rest is answered, and the text of the instructions before it went out; where the writer failed, a beginning of the text (for a private contract)
+-- where the words' cutting leaves a rest, its place is answered and the text before it went out; at `Writer` a beginning of the text (for a private contract)
 abbrev pub StopsListing : ToolFault → (words : List ℕ) → Option (List ℕ) → Option (List ℕ) → Type 0
-StopsListing (Text (Cut place)) words old new = (cutting : Cutting words) → (cutting.rest ≢ []) × (place ≡ cutting.end) × Appends old new (list_text cutting.items)
+StopsListing (Text (Cut place)) words old new =
+    (cutting : Cutting words) → (cutting.rest ≢ []) × (place ≡ cutting.end) × Appends old new (list_text cutting.items)
 StopsListing Writer words old new = (cutting : Cutting words) → BeginsToWrite (list_text cutting.items) old new
 StopsListing _ words old new = ⊥
 
@@ -25,9 +26,10 @@ ListsWords answer words old new = MatchResult answer
 abbrev pub IsListable : List ℕ → Type 0
 IsListable input = (length input ≤ 8192) × (length input % 2 ≡ 0)
 
--- what `list` answers of an input, and what went out: the text of the instructions, at `Cut` of those before the rest, at `Writer` a beginning of it (that nothing went out at the other faults is a clause of its own)
+-- what `list` answers of an input, and what went out: the text of the instructions, at `Cut` of those before the rest, at `Writer` a beginning of it (that nothing went out at the others is a clause of its own)
 abbrev pub Lists : {T : Type 0} → Result T ToolFault → (input : List ℕ) → Option (List ℕ) → Option (List ℕ) → Type 0
-Lists (Ok done) input old new = IsListable input × ((cutting : Cutting (words_of input)) → (cutting.rest ≡ []) × Appends old new (list_text cutting.items))
+Lists (Ok done) input old new =
+    IsListable input × ((cutting : Cutting (words_of input)) → (cutting.rest ≡ []) × Appends old new (list_text cutting.items))
 Lists (Err (Text TooLong)) input old new = 8192 < length input
 Lists (Err (Text Odd)) input old new = (length input ≤ 8192) × (length input % 2 ≡ 1)
 Lists (Err (Text (Cut place))) input old new =

@@ -1,14 +1,18 @@
 -- What a fetch meets, by the byte that it reads.
 use Rattle.std.proofs.Common.{◌≡◌, ℕ, ◌+◌, ◌*◌, ◌/◌, ◌%◌, List, slice_index, Option, Some, None, true, false, Bool, refl, sym, ap, ◌∙◌, arith}
-use Rattle.std.specs.Prelude.{option_map, is_some}
+use Rattle.std.specs.Prelude.{option_map, is_some, if◌then◌else◌}
 use Rattle.std.proofs.lemmas.Option.{same_Some}
-use Rattle.dvg_mem.specs.Memory.{fetched, byte_of, fetched_byte}
+use Rattle.dvg_mem.specs.Memory.{fetched, fetched_byte}
 use Rattle.dvg_gen.specs.Bytes.{Met, Waits, Whole, met, word_of}
 use Rattle.dvg_world.specs.Log.{Log, ram}
 
 -- the byte at an address
 abbrev pub byte : List ℕ → Log → ℕ → ℕ
 byte image log a = slice_index (ram image log) a
+
+-- a word's high byte, or its low byte
+abbrev pub byte_of : Bool → ℕ → ℕ
+byte_of high word = if high then word / 256 else word % 256
 
 -- what a fetch meets in these memories, behind a low byte that waits or none
 abbrev pub read : (ram rom : List ℕ) → Option ℕ → ℕ → Met

@@ -2,7 +2,7 @@
 use Rattle.std.proofs.Common.{◌≡◌, ◌≢◌, ℕ, ◌+◌, ◌*◌, ◌%◌, true, false, List, [], ◌∷◌, refl, sym, ◌∙◌, ap, subst, Option, Some, None, arith}
 use Rattle.std.specs.Prelude.{option_map}
 use Rattle.std.proofs.lemmas.Option.{same_Some}
-use Rattle.dvg_mem.specs.Memory.{fetched, byte_of, fetched_byte}
+use Rattle.dvg_mem.specs.Memory.{fetched, fetched_byte}
 use Rattle.dvg_gen.specs.Bytes.{Whole}
 use Rattle.dvg_gen.specs.Run.{fate, wanted}
 use Rattle.dvg_driver.specs.declared.action.Action.{Action}
@@ -12,7 +12,7 @@ use Rattle.dvg_world.specs.Entries.{Shown, Acted, Started, Low, Fetched, Done, B
 use Rattle.dvg_world.specs.Log.{◌⟼◌, Log, Throughout, ram, waiting, low_byte, meets, history, open_run, published}
 use Rattle.dvg_world.specs.Legal.{Always, IsWanted, Fits, IsLegal}
 use Rattle.dvg_world.specs.Fetches.{IsInMemory, IsPaired, KeepsNext}
-use Rattle.dvg_world.proofs.Bytes.{low_met, word_met, whole_met, low_part, hole_met, byte}
+use Rattle.dvg_world.proofs.Bytes.{low_met, word_met, whole_met, low_part, hole_met, byte, byte_of}
 use Rattle.dvg_world.proofs.Drawing.{leads_same}
 use Rattle.dvg_world.proofs.Kept.{kept, first_at}
 use Rattle.dvg_world.proofs.Later.{shows, memory_is}

@@ -100,10 +100,6 @@ pub record DrawsHalf (R image : List ℕ) (log : Log) : Type 0 where
   pub accepts : Accepts draft R
   pub holds : HoldsDraft (ram image log) half draft
 
--- an open run that has fetched word zero does so
-abbrev pub HasHalf : List ℕ → List ℕ → Log → Type 0
-HasHalf R image log = has_fetched (open_run log) ≡ true → DrawsHalf R image log
-
 -- the headline, of one line of a log: its event and its entry, over the log before it
 pub record KeepsHeadline (R image : List ℕ) (log : Log) (event : Happening) (entry : Shown) : Type 0 where
   -- no byte is written in the half being drawn
@@ -121,8 +117,8 @@ pub record KeepsHeadline (R image : List ℕ) (log : Log) (event : Happening) (e
   -- a run that reaches HALT, during which nothing was written and the RAM held a checked frame, drew that frame's picture
   pub draws_undisturbed : DrewHeld R image log event entry
   -- before the line, an open run that has fetched word zero is drawing a half, which holds the draft that the run shows
-  pub draws_a_half : HasHalf R image log
+  pub draws_a_half : has_fetched (open_run log) ≡ true → DrawsHalf R image log
 
 -- a run that has fetched word zero is drawing a half, which holds the draft that the run shows
 abbrev pub DrawsAHalf : Type 0
-DrawsAHalf = (R image : List ℕ) (log : Log) → IsLegal R image log → HasHalf R image log
+DrawsAHalf = (R image : List ℕ) (log : Log) → IsLegal R image log → has_fetched (open_run log) ≡ true → DrawsHalf R image log
