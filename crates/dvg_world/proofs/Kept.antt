@@ -213,7 +213,7 @@ fetch_step R image log p a w g k m f =
         here = here_map (byte image log 0) (byte image log 1) (open_run log) (open_run ((Fetch ⟼ Fetched a w) ∷ log)) (before_flip log) p
             (λ g. subst (DrawsCurrent (byte image log 1)) (sym now)
             (first_draws (byte image log 1) (a, w) ws
-            (λ e. first_word js (t.at ∙ first_at f.run.visits f.run.held (subst (λ x. Cut x f.run.visits f.run.held) e t.cut)))
+            (λ e. first_word js (t.at ∙ first_at f.asked.run.visits f.asked.run.held (subst (λ x. Cut x f.asked.run.visits f.asked.run.held) e t.cut)))
             (subst (DrawsCurrent (byte image log 1)) o g))) k.here;
       },
       tt,

@@ -130,11 +130,11 @@ module _ (R image : List ℕ) where
   stepped : (log : Log) (p : Place) (a w : ℕ) (answer : Reply) → IsLegal R image log → KeptBy image log p → Shows R image log → fetched (ram image log) R a ≡ Some w → IsFetch (history R image log) a (Some w) answer → Step log a w answer
   stepped log p a w answer g k s m f =
       let t = fetching R image log a (Some w) answer g f in
-      let r = ready log p t.fetches f.run.visits f.run.held k s t.open_now t.cut t.goes in
+      let r = ready log p t.fetches f.asked.run.visits f.asked.run.held k s t.open_now t.cut t.goes in
       let W : ℕ → Type 0 = λ x. fetched (ram image log) R x ≡ Some w in
-      let here : fetched (ram image log) R (wanted f.run.visits f.run.held) ≡ Some w = subst W t.at m in
+      let here : fetched (ram image log) R (wanted f.asked.run.visits f.asked.run.held) ≡ Some w = subst W t.at m in
       let d = added f in
-      let rep : reply_by d.1 (fate d.0) (strokes f.run.first d.0) ≡ answer = ap (λ q. reply (Some w) q) (sym d.3) ∙ f.replies in
+      let rep : reply_by d.1 (fate d.0) (strokes f.asked.run.first d.0) ≡ answer = ap (λ q. reply (Some w) q) (sym d.3) ∙ f.replies in
       record {
         fetches = t.fetches;
         open_now = t.open_now;
@@ -144,13 +144,13 @@ module _ (R image : List ℕ) where
         checked = r.checked;
         holds = r.holds;
         drawn = subst (λ x. LeadsTo ((x, w) ∷ t.fetches) r.half) (sym t.at) (r.drawn w here);
-        begun_with = f.run.first;
+        begun_with = f.asked.run.first;
         visits = d.0;
         held = d.1;
         cut = word t.cut d.2;
         runs = fetches r.runs t.goes (r.memory ∙ here) d.2;
         replies = rep;
-        goes = λ e. more_goes d.2 t.goes (strokes f.run.first d.0) (rep ∙ e);
+        goes = λ e. more_goes d.2 t.goes (strokes f.asked.run.first d.0) (rep ∙ e);
       }
 
   fetch_shows : (log : Log) (a w : ℕ) → Shows R image log → Step log a w More → Shows R image ((Fetch ⟼ Fetched a w) ∷ log)
@@ -245,9 +245,9 @@ module _ (R image : List ℕ) where
   broke_right : (log : Log) (p : Place) (a : ℕ) (fault : GenFault) → IsLegal R image log → KeptBy image log p → Shows R image log → IsFetch (history R image log) a (fetched (ram image log) R a) (Fails fault) → ⊥
   broke_right log p a fault g k s f =
       let t = fetching R image log a (fetched (ram image log) R a) (Fails fault) g f in
-      let r = ready log p t.fetches f.run.visits f.run.held k s t.open_now t.cut t.goes in
+      let r = ready log p t.fetches f.asked.run.visits f.asked.run.held k s t.open_now t.cut t.goes in
       let d = least_draws r.half r.draft R r.checked in
-      let m = some_word d r.runs t.goes (frame_memory r.half r.draft R (wanted f.run.visits f.run.held)) refl in
+      let m = some_word d r.runs t.goes (frame_memory r.half r.draft R (wanted f.asked.run.visits f.asked.run.held)) refl in
       let here : fetched (ram image log) R a ≡ Some m.0 = ap (fetched (ram image log) R) t.at ∙ (sym r.memory ∙ m.1) in
       let u = stepped log p a m.0 (Fails fault) g k s here (subst (λ x. IsFetch (history R image log) a x (Fails fault)) here f) in
       let e = least_draws u.half u.draft R u.checked in

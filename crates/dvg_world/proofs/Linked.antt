@@ -99,15 +99,12 @@ pub same_wanted : {told : List Told} {a b : ℕ} → IsWanted told a → IsWante
 same_wanted f g = same_Some _ _ (sym f.wanted ∙ (ap wants (leaves_same f.leaves g.leaves) ∙ g.wanted))
 
 -- a fetch is of the address that is wanted
-abbrev pub is_wanted : {told : List Told} {a : ℕ} {found : Option ℕ} {answer : Reply} → IsFetch told a found answer → IsWanted told a
-is_wanted f = record { run = f.run; leaves = f.leaves; wanted = f.wanted }
-
-pub fetching : (R image : List ℕ) (log : Log) (a : ℕ) (found : Option ℕ) (answer : Reply) → IsLegal R image log → (f : IsFetch (history R image log) a found answer) → Fetching R image log f.run a
-fetching R image log a found answer g f = wanting R image log a g (is_wanted f)
+pub fetching : (R image : List ℕ) (log : Log) (a : ℕ) (found : Option ℕ) (answer : Reply) → IsLegal R image log → (f : IsFetch (history R image log) a found answer) → Fetching R image log f.asked.run a
+fetching R image log a found answer g f = wanting R image log a g f.asked
 
 -- how a fetched word is added
-pub added : {told : List Told} {a w : ℕ} {answer : Reply} → (f : IsFetch told a (Some w) answer) → (vs : List Visit) × (held : Option ℕ) × Adds f.run.visits f.run.held w vs held × (f.later ≡ grown f.run vs held)
-added {w = w} f = by f.leaves f.later f.leaves_later
+pub added : {told : List Told} {a w : ℕ} {answer : Reply} → (f : IsFetch told a (Some w) answer) → (vs : List Visit) × (held : Option ℕ) × Adds f.asked.run.visits f.asked.run.held w vs held × (f.later ≡ grown f.asked.run vs held)
+added {w = w} f = by f.asked.leaves f.later f.leaves_later
   where
     by : {g : List Told} {r : Newest} → Leaves g r → (q : Newest) → Leaves (Fed (Some w) ∷ g) q → (vs : List Visit) × (held : Option ℕ) × Adds r.visits r.held w vs held × (q ≡ grown r vs held)
     by l q (takes {run = s} {visits = vs} {held = held} m o x) =

@@ -19,7 +19,7 @@ use Rattle.dvg_driver.proofs.Places.{life_place, place_before}
 use Rattle.dvg_driver.proofs.Shapes.{place_life}
 use Rattle.dvg_driver.proofs.OneAction.{one_action}
 use Rattle.dvg_world.proofs.Bytes.{same_Whole, same_Waits, not_whole}
-use Rattle.dvg_world.proofs.Linked.{same_wanted, is_wanted, wanting, fetching}
+use Rattle.dvg_world.proofs.Linked.{same_wanted, wanting, fetching}
 
 -- a tick has one action
 one_tick : (image : List ℕ) (log : Log) (a b : Action) → IsLife (Did a ∷ life image log) → IsLife (Did b ∷ life image log) → Tells a (is_none (open_run log)) → Tells b (is_none (open_run log)) → a ≡ b
@@ -32,8 +32,8 @@ one_tick image log a b x y t u =
 -- a fetch has one address and one answer
 one_fetch : (mem : ℕ → Option ℕ) (h : List Told) (a b : ℕ) (p q : Reply) → IsFetch h a (mem a) p → IsFetch h b (mem b) q → (a ≡ b) × (p ≡ q)
 one_fetch mem h a b p q f g =
-    let e = leaves_same f.leaves g.leaves in
-    let at : a ≡ b = same_Some _ _ (sym f.wanted ∙ (ap wants e ∙ g.wanted)) in
+    let e = leaves_same f.asked.leaves g.asked.leaves in
+    let at : a ≡ b = same_Some _ _ (sym f.asked.wanted ∙ (ap wants e ∙ g.asked.wanted)) in
     let l : Leaves (Fed (mem b) ∷ h) f.later = subst (λ x. Leaves (Fed (mem x) ∷ h) f.later) at f.leaves_later in
     let d = leaves_same l g.leaves_later in
     (at, sym f.replies ∙ (ap (λ x. reply (mem x) f.later) at ∙ (ap (reply (mem b)) d ∙ g.replies)))
@@ -103,12 +103,12 @@ module _ (R image : List ℕ) (log : Log) (legal : IsLegal R image log) where
   one_entry Fetch (Low a x) (Low b y) u v =
       let e = same_wanted u.1 v.1 in
       ap (λ k. Low k x) e ∙ ap (λ k. Low b k) (same_Waits (sym u.0 ∙ (ap (meets R image log) e ∙ v.0)))
-  one_entry Fetch (Low a x) (Fetched b w) u v = absurd (not_low a b x (Some w) u.1 (is_wanted v.1) u.0 v.0)
-  one_entry Fetch (Low a x) (Done b w s) u v = absurd (not_low a b x (Some w) u.1 (is_wanted v.1) u.0 v.0)
-  one_entry Fetch (Low a x) (Broke b f) u v = absurd (not_low a b x v.0 u.1 (is_wanted v.2) u.0 v.1)
-  one_entry Fetch (Fetched a w) (Low b y) u v = absurd (not_low b a y (Some w) v.1 (is_wanted u.1) v.0 u.0)
-  one_entry Fetch (Done a w s) (Low b y) u v = absurd (not_low b a y (Some w) v.1 (is_wanted u.1) v.0 u.0)
-  one_entry Fetch (Broke a f) (Low b y) u v = absurd (not_low b a y u.0 v.1 (is_wanted u.2) v.0 u.1)
+  one_entry Fetch (Low a x) (Fetched b w) u v = absurd (not_low a b x (Some w) u.1 v.1.asked u.0 v.0)
+  one_entry Fetch (Low a x) (Done b w s) u v = absurd (not_low a b x (Some w) u.1 v.1.asked u.0 v.0)
+  one_entry Fetch (Low a x) (Broke b f) u v = absurd (not_low a b x v.0 u.1 v.2.asked u.0 v.1)
+  one_entry Fetch (Fetched a w) (Low b y) u v = absurd (not_low b a y (Some w) v.1 u.1.asked v.0 u.0)
+  one_entry Fetch (Done a w s) (Low b y) u v = absurd (not_low b a y (Some w) v.1 u.1.asked v.0 u.0)
+  one_entry Fetch (Broke a f) (Low b y) u v = absurd (not_low b a y u.0 v.1 u.2.asked v.0 u.1)
   one_entry Fetch (Fetched a w) Still u v = absurd (not_still a More v (at_memory a (Some w) More u.0 u.1))
   one_entry Fetch (Fetched a w) (Fetched b z) u v =
       let e = both_fetch a b More More (at_memory a (Some w) More u.0 u.1) (at_memory b (Some z) More v.0 v.1) in

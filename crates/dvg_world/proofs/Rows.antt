@@ -278,37 +278,37 @@ module _ (log : Log) (before : Newest) (legal : LegalOverZeros log) (memory : ra
   low1 = ((ap (λ low. read (ram zeros log) zeros low 0x000) none ∙ met_at None 0x000 (Waits 0x01) refl, record { run = begun before; leaves = leaves0; wanted = refl }), tt, legal)
 
   legal1 : LegalOverZeros (first_word log)
-  legal1 = ((met_at (Some 0x01) 0x000 (Whole (Some 0xE201)) refl, record { run = begun before; leaves = leaves0; wanted = refl; later = run visits1 None; leaves_later = leaves1; replies = refl }), tt, low1)
+  legal1 = ((met_at (Some 0x01) 0x000 (Whole (Some 0xE201)) refl, record { asked = record { run = begun before; leaves = leaves0; wanted = refl }; later = run visits1 None; leaves_later = leaves1; replies = refl }), tt, low1)
 
   low2 : LegalOverZeros ((Fetch ⟼ Low 0x201 0x90) ∷ first_word log)
   low2 = ((met_at None 0x201 (Waits 0x90) refl, record { run = run visits1 None; leaves = leaves1; wanted = refl }), tt, legal1)
 
   legal2 : LegalOverZeros (two_words log)
-  legal2 = ((met_at (Some 0x90) 0x201 (Whole (Some 0xA190)) refl, record { run = run visits1 None; leaves = leaves1; wanted = refl; later = run visits1 (Some 0xA190); leaves_later = leaves2; replies = refl }), tt, low2)
+  legal2 = ((met_at (Some 0x90) 0x201 (Whole (Some 0xA190)) refl, record { asked = record { run = run visits1 None; leaves = leaves1; wanted = refl }; later = run visits1 (Some 0xA190); leaves_later = leaves2; replies = refl }), tt, low2)
 
   low3 : LegalOverZeros ((Fetch ⟼ Low 0x202 0x00) ∷ two_words log)
   low3 = ((met_at None 0x202 (Waits 0x00) refl, record { run = run visits1 (Some 0xA190); leaves = leaves2; wanted = refl }), tt, legal2)
 
   legal3 : LegalOverZeros (three_words log)
-  legal3 = ((met_at (Some 0x00) 0x202 (Whole (Some 0x0200)) refl, record { run = run visits1 (Some 0xA190); leaves = leaves2; wanted = refl; later = run visits2 None; leaves_later = leaves3; replies = refl }), tt, low3)
+  legal3 = ((met_at (Some 0x00) 0x202 (Whole (Some 0x0200)) refl, record { asked = record { run = run visits1 (Some 0xA190); leaves = leaves2; wanted = refl }; later = run visits2 None; leaves_later = leaves3; replies = refl }), tt, low3)
 
   low4 : LegalOverZeros ((Fetch ⟼ Low 0x203 0x64) ∷ three_words log)
   low4 = ((met_at None 0x203 (Waits 0x64) refl, record { run = run visits2 None; leaves = leaves3; wanted = refl }), tt, legal3)
 
   legal4 : LegalOverZeros (four_words log)
-  legal4 = ((met_at (Some 0x64) 0x203 (Whole (Some 0x9064)) refl, record { run = run visits2 None; leaves = leaves3; wanted = refl; later = run visits2 (Some 0x9064); leaves_later = leaves4; replies = refl }), tt, low4)
+  legal4 = ((met_at (Some 0x64) 0x203 (Whole (Some 0x9064)) refl, record { asked = record { run = run visits2 None; leaves = leaves3; wanted = refl }; later = run visits2 (Some 0x9064); leaves_later = leaves4; replies = refl }), tt, low4)
 
   low5 : LegalOverZeros ((Fetch ⟼ Low 0x204 0x64) ∷ four_words log)
   low5 = ((met_at None 0x204 (Waits 0x64) refl, record { run = run visits2 (Some 0x9064); leaves = leaves4; wanted = refl }), tt, legal4)
 
   legal5 : LegalOverZeros (five_words log)
-  legal5 = ((met_at (Some 0x64) 0x204 (Whole (Some 0x7464)) refl, record { run = run visits2 (Some 0x9064); leaves = leaves4; wanted = refl; later = run visits3 None; leaves_later = leaves5; replies = refl }), tt, low5)
+  legal5 = ((met_at (Some 0x64) 0x204 (Whole (Some 0x7464)) refl, record { asked = record { run = run visits2 (Some 0x9064); leaves = leaves4; wanted = refl }; later = run visits3 None; leaves_later = leaves5; replies = refl }), tt, low5)
 
   low6 : LegalOverZeros ((Fetch ⟼ Low 0x205 0x00) ∷ five_words log)
   low6 = ((met_at None 0x205 (Waits 0x00) refl, record { run = run visits3 None; leaves = leaves5; wanted = refl }), tt, legal5)
 
   legal6 : LegalOverZeros (finished log)
-  legal6 = ((met_at (Some 0x00) 0x205 (Whole (Some 0xB000)) refl, record { run = run visits3 None; leaves = leaves5; wanted = refl; later = run visits4 None; leaves_later = leaves6; replies = refl }), tt, low6)
+  legal6 = ((met_at (Some 0x00) 0x205 (Whole (Some 0xB000)) refl, record { asked = record { run = run visits3 None; leaves = leaves5; wanted = refl }; later = run visits4 None; leaves_later = leaves6; replies = refl }), tt, low6)
 
 -- the first picture: F1 is offered, published and drawn at event 29
 pub first_picture : LegalOverZeros (finished started)
@@ -368,7 +368,7 @@ pub flip_between_the_bytes : LegalOverZeros again
 flip_between_the_bytes =
     let spells : Spells (Jmpl 0x001) (0xE001 ∷ []) = jmpl (lit≤ tt) refl in
     let jumps : List Visit = record { place = 0; code = Jmpl 0x001 } ∷ [] in
-    ((refl, record { run = begun before_again; leaves = leaves_again; wanted = refl; later = grown (begun before_again) jumps None; leaves_later = takes leaves_again refl (one spells); replies = refl }), tt, between_legal)
+    ((refl, record { asked = record { run = begun before_again; leaves = leaves_again; wanted = refl }; later = grown (begun before_again) jumps None; leaves_later = takes leaves_again refl (one spells); replies = refl }), tt, between_legal)
 
 pub half_0_is_drawn : IsBeingDrawn again H0
 half_0_is_drawn = record { later = []; target = 0x001; fetches = refl; in_half = (lit≤ tt, lit≤ tt) }

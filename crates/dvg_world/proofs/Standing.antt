@@ -242,26 +242,26 @@ module _ {rom bytes : List ℕ} {machine : Machine} {stage : Stage} {sent : Bool
   line_of_fetch {machine' = machine'} R image log address (Whole None) answer w wanted met x =
       let m = w.stands.machine in
       record {
-        legal = ((None, met, record { run = m.run; leaves = m.leaves; wanted = wanted; later = x.0.run; leaves_later = x.0.leaves; replies = refl }), tt, w.legal);
+        legal = ((None, met, record { asked = record { run = m.run; leaves = m.leaves; wanted = wanted }; later = x.0.run; leaves_later = x.0.leaves; replies = refl }), tt, w.legal);
         stands = with_machine w.stands (subst (λ o. generator.StandsAfter machine' (Fed o ∷ history R image log) None) (sym (ap word_of met)) x.0);
       }
   line_of_fetch R image log address (Whole (Some word)) taken.Low w wanted met x = absurd x.1
   line_of_fetch {A} R image log address (Whole (Some word)) taken.Word w wanted met x =
       let m = w.stands.machine in
       record {
-        legal = ((met, record { run = m.run; leaves = m.leaves; wanted = wanted; later = x.0.run; leaves_later = x.0.leaves; replies = more_is A (reply (Some word) x.0.run) x.1 }), tt, w.legal);
+        legal = ((met, record { asked = record { run = m.run; leaves = m.leaves; wanted = wanted }; later = x.0.run; leaves_later = x.0.leaves; replies = more_is A (reply (Some word) x.0.run) x.1 }), tt, w.legal);
         stands = with_machine w.stands x.0;
       }
   line_of_fetch {A} R image log address (Whole (Some word)) (taken.Done strokes) w wanted met x =
       let m = w.stands.machine in
       record {
-        legal = ((met, record { run = m.run; leaves = m.leaves; wanted = wanted; later = x.0.run; leaves_later = x.0.leaves; replies = drew_is A strokes (reply (Some word) x.0.run) x.1 }), tt, w.legal);
+        legal = ((met, record { asked = record { run = m.run; leaves = m.leaves; wanted = wanted }; later = x.0.run; leaves_later = x.0.leaves; replies = drew_is A strokes (reply (Some word) x.0.run) x.1 }), tt, w.legal);
         stands = with_machine w.stands x.0;
       }
   line_of_fetch {A} {machine'} R image log address (Whole (Some word)) (taken.Broke fault) w wanted met x =
       let m = w.stands.machine in
       record {
-        legal = ((Some word, met, record { run = m.run; leaves = m.leaves; wanted = wanted; later = x.0.run; leaves_later = x.0.leaves; replies = fails_is A fault (reply (Some word) x.0.run) x.1 }), tt, w.legal);
+        legal = ((Some word, met, record { asked = record { run = m.run; leaves = m.leaves; wanted = wanted }; later = x.0.run; leaves_later = x.0.leaves; replies = fails_is A fault (reply (Some word) x.0.run) x.1 }), tt, w.legal);
         stands = with_machine w.stands (subst (λ o. generator.StandsAfter machine' (Fed o ∷ history R image log) None) (sym (ap word_of met)) x.0);
       }
 

@@ -43,7 +43,7 @@ runs_over R image ((Fetch ⟼ Fetched a word) ∷ log) legal same (takes {run = 
     let older = before_fetch (a, word) (open_run log) met is_open in
     let fetch = legal.0.1 in
     let fetching_run = fetching R image log a (Some word) More legal.2 fetch in
-    let at : a ≡ wanted run.visits run.held = subst (λ r. a ≡ wanted r.visits r.held) (leaves_same fetch.leaves leaves) fetching_run.at in
+    let at : a ≡ wanted run.visits run.held = subst (λ r. a ≡ wanted r.visits r.held) (leaves_same fetch.asked.leaves leaves) fetching_run.at in
     let there : fetched (ram image log) R (wanted run.visits run.held) ≡ Some word = subst (λ b. fetched (ram image log) R b ≡ Some word) at (words_are_whole R image ((Fetch ⟼ Fetched a word) ∷ log) legal).0 in
     subst (λ some. Runs (fetched (ram image log) R) (length some) visits held) older.2
     (fetches (runs_over R image log legal.2 same leaves older.0 older.1) (open_goes leaves is_running) there adds)
@@ -58,13 +58,13 @@ held_line R image log Fetch (Done a word drew) legal is_there fits = λ half F m
     let memory = fetched (ram image log) R in
     let fetch = fits.1 in
     let fetching_run = fetching R image log a (Some word) (Drew drew) legal fetch in
-    let there : fetched (ram image log) R (wanted fetch.run.visits fetch.run.held) ≡ Some word = subst (λ b. fetched (ram image log) R b ≡ Some word) fetching_run.at is_there in
+    let there : fetched (ram image log) R (wanted fetch.asked.run.visits fetch.asked.run.held) ≡ Some word = subst (λ b. fetched (ram image log) R b ≡ Some word) fetching_run.at is_there in
     let more = added fetch in
-    let runs = fetches (runs_over R image log legal same fetch.leaves met is_open) fetching_run.goes there more.2 in
-    let end = drew_finished more.1 (fate more.0) (strokes fetch.run.first more.0) drew (ap (λ run. reply (Some word) run) (sym more.3) ∙ fetch.replies) in
+    let runs = fetches (runs_over R image log legal same fetch.asked.leaves met is_open) fetching_run.goes there more.2 in
+    let end = drew_finished more.1 (fate more.0) (strokes fetch.asked.run.first more.0) drew (ap (λ run. reply (Some word) run) (sym more.3) ∙ fetch.replies) in
     let whole = subst (λ held. Runs memory (suc (length met)) more.0 held) end.0 runs in
     let drawn = undisturbed half F (ram image log) R draft (image_of R image log legal) closed holds in
-    subst (λ strokes. IsPicture F R strokes (suc (length met))) end.2 (finished_picture drawn fetch.run.first whole end.1)
+    subst (λ strokes. IsPicture F R strokes (suc (length met))) end.2 (finished_picture drawn fetch.asked.run.first whole end.1)
 held_line R image log event (Done a word drew) legal there fits = absurd fits
 held_line R image log event entry legal there fits = tt
 

@@ -17,7 +17,7 @@ use Rattle.dvg_world.proofs.Drawing.{leads_same}
 use Rattle.dvg_world.proofs.Kept.{kept, first_at}
 use Rattle.dvg_world.proofs.Later.{shows, memory_is}
 use Rattle.dvg_world.proofs.Least.{frame_memory}
-use Rattle.dvg_world.proofs.Linked.{Cut, cut_same, same_wanted, wanting, is_wanted}
+use Rattle.dvg_world.proofs.Linked.{Cut, cut_same, same_wanted, wanting}
 use Rattle.dvg_world.proofs.Shows.{at_zero_fetched}
 
 -- the low byte of word zero, where byte 000 is 01
@@ -123,9 +123,9 @@ module _ (R image : List ℕ) where
       )
 
   line_in_memory : (log : Log) (event : Happening) (entry : Shown) → IsLegal R image log → Throughout (IsInMemory R image) log → Fits R image log event entry → IsInMemory R image log event entry
-  line_in_memory log Fetch (Fetched a w) l m f = (met_now log l m a w f.0 (is_wanted f.1)).0
-  line_in_memory log Fetch (Done a w drew) l m f = (met_now log l m a w f.0 (is_wanted f.1)).0
-  line_in_memory log Fetch (Broke a fault) l m f = by f.0 f.1 (is_wanted f.2)
+  line_in_memory log Fetch (Fetched a w) l m f = (met_now log l m a w f.0 f.1.asked).0
+  line_in_memory log Fetch (Done a w drew) l m f = (met_now log l m a w f.0 f.1.asked).0
+  line_in_memory log Fetch (Broke a fault) l m f = by f.0 f.1 f.2.asked
     where
       by : (word : Option ℕ) → meets R image log a ≡ Whole word → IsWanted (history R image log) a → meets R image log a ≡ Whole (fetched (ram image log) R a)
       by None met f = met ∙ ap Whole (sym (hole_met (ram image log) R (low_byte log) a met))
@@ -147,8 +147,8 @@ waits_none (Some low) e = absurd (cc)
 
 line_paired : (R image : List ℕ) (log : Log) (event : Happening) (entry : Shown) → IsLegal R image log → Fits R image log event entry → IsPaired log event entry
 line_paired R image log Fetch (Low a b) l f = waits_none (waiting log) (low_met (ram image log) R (low_byte log) a b f.0).0
-line_paired R image log Fetch (Fetched a w) l f = (met_now R image log l (words_are_whole R image log l) a w f.0 (is_wanted f.1)).1
-line_paired R image log Fetch (Done a w drew) l f = (met_now R image log l (words_are_whole R image log l) a w f.0 (is_wanted f.1)).1
+line_paired R image log Fetch (Fetched a w) l f = (met_now R image log l (words_are_whole R image log l) a w f.0 f.1.asked).1
+line_paired R image log Fetch (Done a w drew) l f = (met_now R image log l (words_are_whole R image log l) a w f.0 f.1.asked).1
 line_paired R image log event (Low a b) l f = absurd f
 line_paired R image log event (Fetched a w) l f = absurd f
 line_paired R image log event (Done a w drew) l f = absurd f

@@ -18,9 +18,7 @@ pub record IsWanted (before : List Told) (address : ℕ) : Type 0 where
 
 -- after this history the next word is that at this address, and it is answered so where it is this word, or a hole
 pub record IsFetch (before : List Told) (address : ℕ) (word : Option ℕ) (answer : Reply) : Type 0 where
-  pub run : Newest
-  pub leaves : Leaves before run
-  pub wanted : wants run ≡ Some address
+  pub asked : IsWanted before address
   pub later : Newest
   pub leaves_later : Leaves (Fed word ∷ before) later
   pub replies : reply word later ≡ answer
