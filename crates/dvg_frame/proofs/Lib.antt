@@ -14,5 +14,5 @@ pub mod Pictures
 pub mod Bounded
 pub mod Turns
 pub mod Tabled
-pub mod Listed
+pub mod Notes
 pub mod Settled
