@@ -2,11 +2,9 @@
 use Rattle.std.proofs.Common.{◌≡◌, ◌<◌, ◌≤◌, ℕ, List, [], ◌∷◌, Some, ◌⊎◌, inl, inr, length, replicate, get_or, refl, sym, ap, subst, ◌∙◌, arith, codes, decimal}
 use Rattle.std.proofs.lemmas.Fmt.{decimal_injective}
 use Rattle.std.proofs.lemmas.List.{length-replicate}
-use Rattle.dvg_world.specs.Events.{Happening, Redraw, Tick, Strobe, Fetch, ResetGen, ResetCpu, ResetAll}
+use Rattle.dvg_world.specs.Events.{Happening, Offer, Redraw, Tick, Strobe, Fetch, ResetGen, ResetCpu, ResetAll}
 use Rattle.std.proofs.lemmas.Int.Digits.{digits_value-lt}
-use Rattle.dvg_text.specs.declared.event_line.BareEvent.{BareEvent}
-use Rattle.dvg_text.specs.declared.event_line.BareEvent.TheVariants as bare
-use Rattle.dvg_text.specs.EventLines.{IsCounted, event_of, name_of}
+use Rattle.dvg_text.specs.EventLines.{IsCounted, IsNamed}
 use Rattle.dvg_text.specs.Texts.{IsHex}
 use Rattle.dvg_text.specs.TraceTexts.{Counts, EventParts, once, times, redraw, tick, strobe, fetch, resetgen, resetcpu, resetall}
 
@@ -128,13 +126,15 @@ byte_fits {n} {digits} h = let small = digits_value-lt 16 digits h.digits in let
 
 -- the rows of a name alone
 
-pub alone_made : (event : BareEvent) (name : List ℕ) → name ≡ name_of event → EventParts (event_of event ∷ []) (name ∷ [])
-alone_made bare.Redraw name e = rw e redraw
-alone_made bare.Tick name e = rw e (tick once)
-alone_made bare.Strobe name e = rw e (strobe once)
-alone_made bare.Fetch name e = rw e (fetch once)
-alone_made bare.ResetGen name e = rw e resetgen
-alone_made bare.ResetCpu name e = rw e resetcpu
+pub alone_made : (event : Happening) (name : List ℕ) → IsNamed event name → EventParts (event ∷ []) (name ∷ [])
+alone_made Redraw name e = rw e redraw
+alone_made Tick name e = rw e (tick once)
+alone_made Strobe name e = rw e (strobe once)
+alone_made Fetch name e = rw e (fetch once)
+alone_made ResetGen name e = rw e resetgen
+alone_made ResetCpu name e = rw e resetcpu
+alone_made (Offer F) name e = absurd e
+alone_made (ResetAll bytes) name e = absurd e
 
 alone_count_of : (name first : List ℕ) (n : ℕ) → Counted name n (first ∷ []) → (first ≡ name) × (1 ≡ n)
 alone_count_of name first n (inl (e, is)) = (cc, sym is)
@@ -145,41 +145,43 @@ alone_count {name} {first} {n} c = alone_count_of name first n (counted c)
 
 -- an event by its name
 pub record Alone (events : List Happening) (name : List ℕ) : Type 0 where
-  pub event : BareEvent
-  pub named : name ≡ name_of event
-  pub all : event_of event ∷ [] ≡ events
+  pub event : Happening
+  pub named : IsNamed event name
+  pub all : event ∷ [] ≡ events
 
 pub alone_row : {events : List Happening} {name : List ℕ} → EventParts events (name ∷ []) → Alone events name
-alone_row redraw = record { event = bare.Redraw; named = refl; all = refl }
-alone_row (tick c) = let is = alone_count c in record { event = bare.Tick; named = is.0; all = ap (λ n. replicate n Tick) is.1 }
-alone_row (strobe c) = let is = alone_count c in record { event = bare.Strobe; named = is.0; all = ap (λ n. replicate n Strobe) is.1 }
-alone_row (fetch c) = let is = alone_count c in record { event = bare.Fetch; named = is.0; all = ap (λ n. replicate n Fetch) is.1 }
-alone_row resetgen = record { event = bare.ResetGen; named = refl; all = refl }
-alone_row resetcpu = record { event = bare.ResetCpu; named = refl; all = refl }
+alone_row redraw = record { event = Redraw; named = refl; all = refl }
+alone_row (tick c) = let is = alone_count c in record { event = Tick; named = is.0; all = ap (λ n. replicate n Tick) is.1 }
+alone_row (strobe c) = let is = alone_count c in record { event = Strobe; named = is.0; all = ap (λ n. replicate n Strobe) is.1 }
+alone_row (fetch c) = let is = alone_count c in record { event = Fetch; named = is.0; all = ap (λ n. replicate n Fetch) is.1 }
+alone_row resetgen = record { event = ResetGen; named = refl; all = refl }
+alone_row resetcpu = record { event = ResetCpu; named = refl; all = refl }
 
 -- the rows of a name and an operand
 
-pub times_made : (event : BareEvent) (n : ℕ) (name operand : List ℕ) → name ≡ name_of event → IsCounted event → operand ≡ decimal n → 1 ≤ n → n ≤ 9999 → EventParts (replicate n (event_of event)) (name ∷ operand ∷ [])
-times_made bare.Tick n name operand e h is some most = rw (e, is) (tick (times some most))
-times_made bare.Strobe n name operand e h is some most = rw (e, is) (strobe (times some most))
-times_made bare.Fetch n name operand e h is some most = rw (e, is) (fetch (times some most))
-times_made bare.Redraw n name operand e h is some most = absurd h
-times_made bare.ResetGen n name operand e h is some most = absurd h
-times_made bare.ResetCpu n name operand e h is some most = absurd h
+pub times_made : (event : Happening) (n : ℕ) (name operand : List ℕ) → IsNamed event name → IsCounted event → operand ≡ decimal n → 1 ≤ n → n ≤ 9999 → EventParts (replicate n event) (name ∷ operand ∷ [])
+times_made Tick n name operand e h is some most = rw (e, is) (tick (times some most))
+times_made Strobe n name operand e h is some most = rw (e, is) (strobe (times some most))
+times_made Fetch n name operand e h is some most = rw (e, is) (fetch (times some most))
+times_made Redraw n name operand e h is some most = absurd h
+times_made ResetGen n name operand e h is some most = absurd h
+times_made ResetCpu n name operand e h is some most = absurd h
+times_made (Offer F) n name operand e h is some most = absurd h
+times_made (ResetAll bytes) n name operand e h is some most = absurd h
 
 pub resetall_made : (byte : ℕ) (name operand : List ℕ) → name ≡ codes "resetall" → IsHex 2 byte operand → EventParts (ResetAll (replicate 2048 byte) ∷ []) (name ∷ operand ∷ [])
 resetall_made byte name operand e h = rw e (resetall h)
 
 -- a name with a count
 pub record Repeated (events : List Happening) (name operand : List ℕ) : Type 0 where
-  pub event : BareEvent
+  pub event : Happening
   pub counts : IsCounted event
-  pub named : name ≡ name_of event
+  pub named : IsNamed event name
   pub n : ℕ
   pub some : 1 ≤ n
   pub most : n ≤ 9999
   pub spelled : operand ≡ decimal n
-  pub all : replicate n (event_of event) ≡ events
+  pub all : replicate n event ≡ events
 
 -- the name of a reset of the whole system, with the byte
 pub record Filled (events : List Happening) (name operand : List ℕ) : Type 0 where
@@ -196,9 +198,9 @@ count_row : {name first operand : List ℕ} {n : ℕ} → Counts name n (first �
 count_row {name} {first} {operand} {n} c = count_row_of name first operand n (counted c)
 
 pub operand_row : {events : List Happening} {name operand : List ℕ} → EventParts events (name ∷ operand ∷ []) → Repeated events name operand ⊎ Filled events name operand
-operand_row (tick {n = n} c) = let r = count_row c in inl (record { event = bare.Tick; counts = tt; named = r.0; n = n; some = r.2; most = r.3; spelled = r.1; all = refl })
-operand_row (strobe {n = n} c) = let r = count_row c in inl (record { event = bare.Strobe; counts = tt; named = r.0; n = n; some = r.2; most = r.3; spelled = r.1; all = refl })
-operand_row (fetch {n = n} c) = let r = count_row c in inl (record { event = bare.Fetch; counts = tt; named = r.0; n = n; some = r.2; most = r.3; spelled = r.1; all = refl })
+operand_row (tick {n = n} c) = let r = count_row c in inl (record { event = Tick; counts = tt; named = r.0; n = n; some = r.2; most = r.3; spelled = r.1; all = refl })
+operand_row (strobe {n = n} c) = let r = count_row c in inl (record { event = Strobe; counts = tt; named = r.0; n = n; some = r.2; most = r.3; spelled = r.1; all = refl })
+operand_row (fetch {n = n} c) = let r = count_row c in inl (record { event = Fetch; counts = tt; named = r.0; n = n; some = r.2; most = r.3; spelled = r.1; all = refl })
 operand_row (resetall {byte = byte} h) = inr (record { named = refl; byte = byte; spelled = h; all = refl })
 
 -- a `resetall` has one byte
@@ -213,6 +215,10 @@ few_of : {name : List ℕ} {n : ℕ} {ps : List (List ℕ)} → Counted name n p
 few_of (inl (e, is)) = omega (arith, ap length e)
 few_of (inr (e, some, most)) = omega (arith, ap length e)
 
+some_of : {name : List ℕ} {n : ℕ} {ps : List (List ℕ)} → Counted name n ps → 1 ≤ length ps
+some_of (inl (e, is)) = omega (arith, ap length e)
+some_of (inr (e, some, most)) = omega (arith, ap length e)
+
 -- there are two parts at most
 pub few_parts : {events : List Happening} {ps : List (List ℕ)} → EventParts events ps → length ps ≤ 2
 few_parts redraw = omega arith
@@ -222,3 +228,13 @@ few_parts (fetch c) = few_of (counted c)
 few_parts resetgen = omega arith
 few_parts resetcpu = omega arith
 few_parts (resetall h) = omega arith
+
+-- and one at least
+pub some_parts : {events : List Happening} {ps : List (List ℕ)} → EventParts events ps → 1 ≤ length ps
+some_parts redraw = omega arith
+some_parts (tick c) = some_of (counted c)
+some_parts (strobe c) = some_of (counted c)
+some_parts (fetch c) = some_of (counted c)
+some_parts resetgen = omega arith
+some_parts resetcpu = omega arith
+some_parts (resetall h) = omega arith

@@ -1,5 +1,5 @@
 -- What a line more makes of a trace that is read.
-use Rattle.std.proofs.Common.{◌≡◌, ◌≢◌, ⊎_elim, get_or, set, slice_get, ◌<◌, ◌≤◌, ◌+◌, ℕ, zero, suc, List, [], ◌∷◌, ◌++◌, length, replicate, refl, sym, ap, subst, ◌∙◌, arith, length-append, codes, All, Option, Some, None, Result, Ok, Err, OnOk, IfErr, Bool, true, false}
+use Rattle.std.proofs.Common.{add-one, append_assoc, ◌≡◌, ◌≢◌, ⊎_elim, get_or, set, slice_get, ◌<◌, ◌≤◌, ◌+◌, ℕ, zero, suc, List, [], ◌∷◌, ◌++◌, length, replicate, refl, sym, ap, subst, ◌∙◌, arith, length-append, codes, All, Option, Some, None, Result, Ok, Err, OnOk, IfErr, Bool, true, false}
 use Rattle.std.specs.Option.{is_some}
 use Rattle.std.proofs.lemmas.Bool.Decides.{eqb_tells}
 use Rattle.std.proofs.lemmas.Grind.{get_or-set_at}
@@ -56,6 +56,23 @@ get_front (y ∷ xs) ys (suc n) x at = get_front xs ys n x at
 get_last : {X : Type 0} (xs : List X) (x : X) → slice_get (xs ++ x ∷ []) (length xs) ≡ Some x
 get_last [] x = refl
 get_last (y ∷ xs) x = get_last xs x
+
+-- an event that was added so many times stands where it was first added
+get_run : (old : List Happening) (event : Happening) (times : ℕ) → slice_get (old ++ replicate (suc times) event) (length old) ≡ Some event
+get_run [] event times = refl
+get_run (other ∷ old) event times = get_run old event times
+
+pub first_stays : (old now : List Happening) (event : Happening) (times : ℕ) → 1 ≤ times → now ≡ old ++ replicate times event → slice_get now (length old) ≡ Some event
+first_stays old now event zero some is = absurd (omega arith)
+first_stays old now event (suc times) some is = rw is (get_run old event times)
+
+run_more : (event : Happening) (times : ℕ) → replicate times event ++ event ∷ [] ≡ replicate (suc times) event
+run_more event zero = refl
+run_more event (suc times) = ap (λ l. event ∷ l) (run_more event times)
+
+-- and it is added once more
+pub once_more : (old before now : List Happening) (event : Happening) (times : ℕ) → before ≡ old ++ replicate times event → now ≡ before ++ event ∷ [] → now ≡ old ++ replicate (times + 1) event
+once_more old before now event times run is = rw (is, run, add-one times) (append_assoc old (replicate times event) (event ∷ []) ∙ ap (λ l. old ++ l) (run_more event times))
 
 -- no number says nothing
 pub no_resets : (numbers : List (Option ℕ)) (told : List Happening) → numbers ≡ replicate 256 None → AreResets numbers told

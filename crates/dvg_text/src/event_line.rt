@@ -1,46 +1,30 @@
 //! Lines that spell events by themselves.
 ghost use Rattle.std.specs.Prelude.{◌≡◌, ◌↔◌, ℕ, ◌≤◌, List, [], ◌∷◌, decimal, length, IfSome, IsSomeAnd, IsTrue, Some};
-ghost use Rattle.dvg_world.specs.Events.{Happening};
+ghost use Rattle.dvg_world.specs.Events.{Happening, happening_of};
 ghost use Rattle.dvg_text.specs.LineParts.{bytes_of};
 ghost use Rattle.dvg_text.specs.Texts.{IsHex, parts};
-ghost use Rattle.dvg_text.specs.EventLines.{IsCounted, happenings, name_of};
-ghost use Rattle.dvg_text.specs.declared.event_line.BareEvent.{BareEvent};
+ghost use Rattle.dvg_text.specs.EventLines.{IsCounted, IsNamed, happenings};
 ghost use Rattle.dvg_text.specs.TraceTexts.{EventParts};
 
 use crate::line_parts::parts_of;
 use crate::number::{hex, natural};
+use dvg_world::Event;
+use std::alloc::Allocator;
 
 /// The most events of one line.
 const MAX_TIMES: u16 = 9999;
 
-/// An event that its name tells whole.
-#[derive(Clone, Copy, Debug, PartialEq, Eq)]
-pub enum BareEvent {
-    /// `redraw`
-    Redraw,
-    /// `tick`
-    Tick,
-    /// `strobe`
-    Strobe,
-    /// `fetch`
-    Fetch,
-    /// `resetgen`
-    ResetGen,
-    /// `resetcpu`
-    ResetCpu,
-}
-
 /// The events of a line.
-#[derive(Clone, Copy, Debug, PartialEq, Eq)]
-pub enum EventLine {
-    /// One event, so many times in a row.
-    Times(BareEvent, u16),
+#[derive(Drop)]
+pub enum EventLine<A: Allocator> {
+    /// An event that its name tells whole, so many times in a row.
+    Times(Event<A>, u16),
     /// One reset of the whole system, behind which each byte of the RAM is this one.
     ResetAll(u8),
 }
 
 /// The events that a line spells by itself. None exactly where it spells none.
-pub fn read_event_line(line: &[u8]) -> Option<EventLine>
+pub fn read_event_line<A: Allocator>(line: &[u8]) -> Option<EventLine<A>>
     ensures found { IfSome result (λ told. EventParts (happenings told) (parts line.now)) }
     ensures only { (events : List Happening) → EventParts events (parts line.now) → IsSomeAnd result (λ told. happenings told ≡ events) }
 {
@@ -53,7 +37,7 @@ pub fn read_event_line(line: &[u8]) -> Option<EventLine>
 }
 
 // The event of a name alone.
-fn once(name: &[u8]) -> Option<EventLine>
+fn once<A: Allocator>(name: &[u8]) -> Option<EventLine<A>>
     ensures found { IfSome result (λ told. EventParts (happenings told) (name.now ∷ [])) }
     ensures only { (events : List Happening) → EventParts events (name.now ∷ []) → IsSomeAnd result (λ told. happenings told ≡ events) }
 {
@@ -61,7 +45,7 @@ fn once(name: &[u8]) -> Option<EventLine>
 }
 
 // The events of a name and its operand.
-fn with_operand(name: &[u8], operand: &[u8]) -> Option<EventLine>
+fn with_operand<A: Allocator>(name: &[u8], operand: &[u8]) -> Option<EventLine<A>>
     ensures found { IfSome result (λ told. EventParts (happenings told) (name.now ∷ operand.now ∷ [])) }
     ensures only { (events : List Happening) → EventParts events (name.now ∷ operand.now ∷ []) → IsSomeAnd result (λ told. happenings told ≡ events) }
 {
@@ -69,36 +53,33 @@ fn with_operand(name: &[u8], operand: &[u8]) -> Option<EventLine>
         return Some(EventLine::ResetAll(byte(operand)?));
     }
     let event = event_named(name)?;
-    if !is_counted(event) {
+    if !is_counted(&event) {
         return None;
     }
     Some(EventLine::Times(event, times(operand)?))
 }
 
-// The event of this name.
-fn event_named(name: &[u8]) -> Option<BareEvent>
-    ensures found { IfSome result (λ event. name.now ≡ name_of event) }
-    ensures only { (event : BareEvent) → name.now ≡ name_of event → result ≡ Some event }
+// The event that this name tells whole.
+fn event_named<A: Allocator>(name: &[u8]) -> Option<Event<A>>
+    ensures found { IfSome result (λ event. IsNamed (happening_of event) name.now) }
+    ensures only { (event : Happening) → IsNamed event name.now → IsSomeAnd result (λ found. happening_of found ≡ event) }
 {
     match name {
-        b"redraw" => Some(BareEvent::Redraw),
-        b"tick" => Some(BareEvent::Tick),
-        b"strobe" => Some(BareEvent::Strobe),
-        b"fetch" => Some(BareEvent::Fetch),
-        b"resetgen" => Some(BareEvent::ResetGen),
-        b"resetcpu" => Some(BareEvent::ResetCpu),
+        b"redraw" => Some(Event::Redraw),
+        b"tick" => Some(Event::Tick),
+        b"strobe" => Some(Event::Strobe),
+        b"fetch" => Some(Event::Fetch),
+        b"resetgen" => Some(Event::ResetGen),
+        b"resetcpu" => Some(Event::ResetCpu),
         _ => None,
     }
 }
 
 // Whether a count may follow an event's name.
-fn is_counted(event: BareEvent) -> bool
-    ensures { IsTrue result ↔ IsCounted event }
+fn is_counted<A: Allocator>(event: &Event<A>) -> bool
+    ensures { IsTrue result ↔ IsCounted (happening_of event.now) }
 {
-    matches!(
-        event,
-        BareEvent::Tick | BareEvent::Strobe | BareEvent::Fetch
-    )
+    matches!(event, Event::Tick | Event::Strobe | Event::Fetch)
 }
 
 // How many times, 1 to 9,999.

@@ -1,13 +1,13 @@
 //! Texts of traces.
 ghost use Rattle.std.specs.Prelude.{◌≡◌, ◌+◌, ◌^◌, ◌<◌, ◌≤◌, ◌∷◌, [], ◌++◌, ℕ, List, codes, length, replicate, IfErr, IfOk, IsFalse, IsTrue, OnOk};
 ghost use Rattle.dvg_frame.specs.declared.op.OpKind.{OpKind};
-ghost use Rattle.dvg_text.specs.EventLines.{event_of, happenings};
+ghost use Rattle.dvg_text.specs.EventLines.{happenings};
 ghost use Rattle.dvg_text.specs.OpLines.{IsOpLine};
 ghost use Rattle.dvg_text.specs.TraceGives.{AreResets, GivesTrace, IsHeld, ReadsLine, StopsEvents, StopsLine, StopsOperation, StopsReading, events_of, fault_at, opened_of};
-ghost use Rattle.dvg_world.specs.Events.{happening_of};
+ghost use Rattle.dvg_world.specs.Events.{ResetAll, happening_of};
 
 use crate::draft_text::MOST_TEXT_BYTES;
-use crate::event_line::{BareEvent, EventLine, read_event_line};
+use crate::event_line::{EventLine, read_event_line};
 use crate::fault::{TextFault, TraceFault};
 use crate::op_line::read_op;
 use crate::rom_line::{read_rom_line, ungiven_rom};
@@ -190,17 +190,18 @@ fn add_op(draft: &mut Draft, line: &[u8]) -> Result<(), LineFault>
 // Adds the events of a line.
 fn add_events<A: Allocator>(
     alloc: A,
-    told: EventLine,
+    told: EventLine<A>,
     resets: &mut [Option<u32>; 256],
     events: &mut Trace<A>,
 ) -> Result<(), LineFault>
-    requires { AreResets resets.old events.old }
+    requires some { 1 ≤ length (happenings told) }
+    requires resets { AreResets resets.old events.old }
     ensures added { OnOk result (events.new ≡ events.old ++ happenings told) }
     ensures room { OnOk result (length events.new ≤ 65536) }
     ensures resets { OnOk result (AreResets resets.new events.new) }
     ensures fault { IfErr result (λ fault. StopsEvents fault events.old (happenings told)) }
 {
-    if events.len() + count(told) > MOST_EVENTS {
+    if events.len() + count(&told) > MOST_EVENTS {
         return Err(LineFault::Many);
     }
     let added = match told {
@@ -214,43 +215,32 @@ fn add_events<A: Allocator>(
 }
 
 // How many events a line has.
-fn count(told: EventLine) -> usize
-    ensures value { result ≡ length (happenings told) }
+fn count<A: Allocator>(told: &EventLine<A>) -> usize
+    ensures value { result ≡ length (happenings told.now) }
     ensures bound { result < 2 ^ 16 }
 {
     match told {
-        EventLine::Times(_, count) => usize::from(count),
+        EventLine::Times(_, count) => usize::from(*count),
         EventLine::ResetAll(_) => 1,
     }
 }
 
-// Adds an event, so many times in a row.
+// Adds an event, so many times in a row: itself, and then the same again.
 fn add_times<A: Allocator>(
-    event: BareEvent,
+    event: Event<A>,
     count: u16,
     events: &mut Trace<A>,
 ) -> Result<(), OutOfMemory>
-    requires { length events.old + count ≤ 65536 }
-    ensures { OnOk result (events.new ≡ events.old ++ replicate count (event_of event)) }
+    requires some { 1 ≤ count }
+    requires room { length events.old + count ≤ 65536 }
+    ensures { OnOk result (events.new ≡ events.old ++ replicate count (happening_of event)) }
 {
-    for _time in 0..count {
-        events.push(one(event))?;
+    let first = events.len();
+    events.push(event)?;
+    for _time in 1..count {
+        events.push_again(first)?;
     }
     Ok(())
-}
-
-// The event itself.
-fn one<A: Allocator>(event: BareEvent) -> Event<A>
-    ensures { happening_of result ≡ event_of event }
-{
-    match event {
-        BareEvent::Redraw => Event::Redraw,
-        BareEvent::Tick => Event::Tick,
-        BareEvent::Strobe => Event::Strobe,
-        BareEvent::Fetch => Event::Fetch,
-        BareEvent::ResetGen => Event::ResetGen,
-        BareEvent::ResetCpu => Event::ResetCpu,
-    }
 }
 
 // Adds a reset of the whole system, behind which each byte is this one. Its image is made where it is the first.
@@ -262,7 +252,7 @@ fn add_reset<A: Allocator>(
 ) -> Result<(), OutOfMemory>
     requires room { length events.old < 65536 }
     requires resets { AreResets resets.old events.old }
-    ensures added { OnOk result (events.new ≡ events.old ++ happenings (EventLine.ResetAll byte)) }
+    ensures added { OnOk result (events.new ≡ events.old ++ ResetAll (replicate 2048 byte) ∷ []) }
     ensures resets { OnOk result (AreResets resets.new events.new) }
 {
     if let Some(first) = resets[usize::from(byte)] {

@@ -6,6 +6,7 @@ use Rattle.dvg_text.specs.Texts.{parts}
 use Rattle.dvg_text.specs.TraceTexts.{EventParts, Fits}
 use Rattle.dvg_text.specs.TraceGives.{events_of, opened_of}
 use Rattle.dvg_text.proofs.TraceMoves.{events_fit, events_stop, events_taken, held_on, none_opened, offer_fits, offer_taken, outside_stops, rom_taken}
+use Rattle.dvg_text.proofs.EventRows.{some_events}
 use Rattle.dvg_text.proofs.trace_text.Reading.take_outside.Goals as goal
 
 pub returns-then-eq-clause-taken : goal.returns-then-eq-clause-taken
@@ -51,3 +52,6 @@ pub returns-clause-taken : goal.returns-clause-taken
 returns-clause-taken g c =
     let none : events_of c.args.self.now ≡ [] = c.is_empty.ensures.0 (search rules) in
     rom_taken (events_of c.args.self.now) (opened_of c.args.self.now) c.args.line.now c.args.self.now.rom c.put.new.rom c.in-Some-read_rom_line.given none (none_opened c.args.self.now.is_open c.args.self.now.draft c.requires.outside) c.in-Some-read_rom_line.ensures.found c.put.ensures.behind
+
+pub add_events-requires-clause-some : goal.add_events-requires-clause-some
+add_events-requires-clause-some g c = some_events c.in-Some.ensures.found
