@@ -8,13 +8,16 @@ ghost use Rattle.dvg_code.specs.declared.instr.Instr.{Instr};
 
 use crate::code::Code;
 use crate::instr::Instr;
+use thiserror::Error;
 
 /// Why words begin with no instruction.
-#[derive(Clone, Copy, Debug, PartialEq, Eq)]
+#[derive(Clone, Copy, Debug, PartialEq, Eq, Error)]
 pub enum CodeFault {
     /// There is no word.
+    #[error("there is no word")]
     Empty,
     /// There is exactly one word, of opcode 0 to A: its second word is missing.
+    #[error("the second word is missing")]
     Cut,
 }
 

@@ -155,3 +155,12 @@ fn text_of_out_of_memory(rt: HostRuntime) -> Result<(), Fail> {
     assert_eq!(rt; text.as_str(), "out of memory");
     Ok(())
 }
+
+#[test]
+fn faults_have_texts(rt: HostRuntime) -> Result<(), Fail> {
+    let text = format!(in rt.alloc(); "{}", CodeFault::Empty)?;
+    assert_eq!(rt; text.as_str(), "there is no word");
+    let text = format!(in rt.alloc(); "{}", CodeFault::Cut)?;
+    assert_eq!(rt; text.as_str(), "the second word is missing");
+    Ok(())
+}

@@ -1,31 +1,26 @@
 //! What a memory holds.
 ghost use Rattle.std.specs.Prelude.{◌≡◌, ◌≢◌, ◌↔◌, length, IfOk, IsErrOf, Err};
 ghost use Rattle.dvg_mem.specs.Memory.{IsImage};
-ghost use Rattle.dvg_mem.specs.declared.image.MemFault.TheVariants.{OutOfMemory as no_memory};
 
 use crate::MEMORY_BYTES;
-use std::alloc::{Allocator, Global};
+use std::alloc::{AllocError, Allocator, Global};
 use std::marker::Model;
+use thiserror::Error;
 
 /// Why a memory was not made.
-#[derive(Clone, Copy, Debug, PartialEq, Eq)]
+#[derive(Clone, Copy, Debug, PartialEq, Eq, Error)]
 pub enum MemFault {
     /// There are not 2,048 bytes.
+    #[error("there are not 2,048 bytes")]
     Size,
     /// A growth was refused for want of memory.
+    #[error("out of memory")]
     OutOfMemory,
-}
-
-impl From<dvg_code::OutOfMemory> for MemFault {
-    ghost from_gives = { λ _ fault. fault ≡ no_memory };
-
-    fn from(_refused: dvg_code::OutOfMemory) -> MemFault {
-        MemFault::OutOfMemory
-    }
 }
 
 /// The 2,048 bytes that a vector RAM holds.
 #[derive(Drop)]
+#[derive_where(Debug)]
 pub struct Image<A: Allocator = Global> {
     bytes: Box<[u8; MEMORY_BYTES], A>,
 }
@@ -40,6 +35,40 @@ impl<A: Allocator> Model for Image<A> {
     ghost view = { λ image. image.bytes.value };
 
     ghost invariant = { λ image. IsImage image.bytes.value };
+}
+
+/// A copy of the bytes, for which memory may be refused.
+impl<A: Allocator + Clone> Clone for Image<A> {
+    ghost is_clone = { λ image copy. copy ≡ image };
+
+    fn clone(&self) -> Result<Image<A>, AllocError> {
+        let alloc = Box::allocator(&self.bytes).clone()?;
+        match Image::new(alloc, self.bytes()) {
+            Ok(copy) => Ok(copy),
+            Err(_) => Err(AllocError),
+        }
+    }
+}
+
+/// Images are equal where their bytes are.
+impl<A: Allocator> PartialEq for Image<A> {
+    ghost use Rattle.std.specs.Prelude.{nat_eq};
+    ghost use Rattle.std.specs.Cmp.{partial_equiv_from_equiv};
+    ghost use Rattle.std.specs.Cmp.Lexicographic.{nat_list_eq_equiv, pointwise};
+
+    ghost eq = { pointwise nat_eq };
+
+    ghost laws = { partial_equiv_from_equiv nat_list_eq_equiv };
+
+    fn eq(&self, other: &Image<A>) -> bool {
+        self.bytes() == other.bytes()
+    }
+}
+
+impl<A: Allocator> Eq for Image<A> {
+    ghost use Rattle.std.specs.Cmp.Lexicographic.{nat_list_eq_equiv};
+
+    ghost laws = { nat_list_eq_equiv };
 }
 
 impl<A: Allocator> Image<A> {

@@ -27,6 +27,8 @@ pub mod laws;
 mod lookup;
 mod rom;
 mod store;
+#[cfg(test)]
+mod tests;
 
 pub use areas::Area;
 pub use fetching::{fetch, fetch_byte};
