@@ -9,12 +9,14 @@ use crate::op::{Op, OpKind};
 use arrayvec::ArrayVec;
 use dvg_code::{Code, Instr};
 use std::marker::Model;
+use thiserror::Error;
 
 /// The most operations that a draft holds. One word each is as much as a half of the RAM has.
 pub(crate) const MAX_OPS: usize = 511;
 
 /// The draft has its 511 operations already.
-#[derive(Clone, Copy, Debug, PartialEq, Eq)]
+#[derive(Clone, Copy, Debug, PartialEq, Eq, Error)]
+#[error("the draft has its 511 operations already")]
 pub struct DraftFull;
 
 /// A list of at most 511 operations, numbered from 0.

@@ -602,3 +602,17 @@ fn a_cursor_that_begins_anew_gives_the_new_frame(rt: HostRuntime) -> Result<(), 
     assert_eq!(rt; cursor.next(), None);
     Ok(())
 }
+
+#[test]
+fn faults_have_texts(rt: HostRuntime) -> Result<(), Fail> {
+    let text = format!(in rt.alloc(); "{}", FrameFault::TooDeep(Place::InFrame(3)))?;
+    assert_eq!(rt;
+        text.as_str(),
+        "operation 3 calls while four calls are open"
+    );
+    let text = format!(in rt.alloc(); "{}", FrameFault::NoCaller(Place::InRom(0x80A)))?;
+    assert_eq!(rt; text.as_str(), "rom word 80A returns while no call is open");
+    let text = format!(in rt.alloc(); "{}", DraftFull)?;
+    assert_eq!(rt; text.as_str(), "the draft has its 511 operations already");
+    Ok(())
+}

@@ -1,15 +1,19 @@
 //! The generator's answers.
 use crate::stroke::Stroke;
 use std::alloc::Allocator;
+use thiserror::Error;
 
 /// Why a run broke. That each of these stops the run is this project's own choice.
-#[derive(Clone, Copy, Debug, PartialEq, Eq)]
+#[derive(Clone, Copy, Debug, PartialEq, Eq, Error)]
 pub enum GenFault {
     /// A call with four return addresses saved.
+    #[error("a call with four return addresses saved")]
     StackOver,
     /// A return with no return address saved.
+    #[error("a return with no return address saved")]
     StackUnder,
     /// A fetch where no memory answers.
+    #[error("a fetch where no memory answers")]
     Hole,
 }
 

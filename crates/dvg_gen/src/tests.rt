@@ -4,6 +4,7 @@ ghost use Rattle.std.specs.Prelude.{◌≡◌, true};
 use crate::*;
 use dvg_code::{Code, Instr, OutOfMemory};
 use std::alloc::Allocator;
+use std::test::Fail;
 
 // The beam and the stroke after a beam and an instruction.
 fn stepped(mut beam: Beam, instr: Instr) -> Option<(Beam, Option<Stroke>)> {
@@ -252,5 +253,12 @@ fn runs(rt: HostRuntime) -> Result<(), OutOfMemory> {
     generator.start();
     let last = fed(&mut generator, &[0xB000])?;
     assert_eq!(rt; strokes(&last), Some([].as_slice()));
+    Ok(())
+}
+
+#[test]
+fn faults_have_texts(rt: HostRuntime) -> Result<(), Fail> {
+    let text = format!(in rt.alloc(); "{}", GenFault::StackOver)?;
+    assert_eq!(rt; text.as_str(), "a call with four return addresses saved");
     Ok(())
 }
