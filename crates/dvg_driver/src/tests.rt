@@ -279,3 +279,10 @@ fn a_checked_draft_is_taken_where_the_driver_is_idle(rt: HostRuntime) -> Result<
     assert!(rt; driver.is_idle());
     Ok(())
 }
+
+#[test]
+fn faults_have_texts(rt: HostRuntime) -> Result<(), Fail> {
+    let text = format!(in rt.alloc(); "{}", DriverFault::Busy)?;
+    assert_eq!(rt; text.as_str(), "the driver isn't idle");
+    Ok(())
+}

@@ -5,7 +5,9 @@ use dvg_gen::{GenFault, Stroke};
 use std::alloc::{Allocator, Global};
 
 /// What an event led to. Each event has exactly one entry.
-#[derive(Debug, Drop)]
+#[derive(Drop)]
+#[derive_where(Debug, PartialEq, Eq)]
+#[derive_where(Clone; A)]
 pub enum Entry<A: Allocator = Global> {
     /// The draft was checked, and the driver took its frame.
     Offered,

@@ -254,3 +254,20 @@ fn events_are_pushed_again(rt: HostRuntime) -> Result<(), Fail> {
     assert_eq!(rt; first_byte(&trace, 0), Some(0x0F));
     Ok(())
 }
+
+#[test]
+fn entries_are_compared_and_cloned(rt: HostRuntime) -> Result<(), Fail> {
+    let stroke = Stroke {
+        x0: 0,
+        y0: 0,
+        x1: 512,
+        y1: 0,
+        z: 7,
+    };
+    let done: Entry = Entry::Done(0x404, 0xB000, [stroke].to_vec(rt.alloc())?);
+    let copy = done.clone()?;
+    assert!(rt; copy == done);
+    assert!(rt; done != Entry::Done(0x404, 0xB000, Vec::new(rt.alloc())));
+    assert!(rt; done != Entry::Still);
+    Ok(())
+}
