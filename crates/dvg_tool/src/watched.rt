@@ -5,9 +5,11 @@ ghost use Rattle.std.specs.Io.KnownBytes.{Keeps, ReadConsumes, WriteAppends};
 ghost use Rattle.dvg_tool.specs.Watching.{CountsErrors, device_of, failures_of, one_more};
 
 use std::io::{Read, Write};
+use thiserror::Error;
 
 /// A reader or writer failed, which was counted.
-#[derive(Clone, Copy, Debug, PartialEq, Eq)]
+#[derive(Clone, Copy, Debug, PartialEq, Eq, Error)]
+#[error("a reader or writer failed")]
 pub struct DeviceFailed;
 
 /// A reader or writer behind calls that count its failures. A failure is an error that it answers,
