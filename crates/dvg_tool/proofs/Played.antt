@@ -12,6 +12,7 @@ use Rattle.dvg_world.specs.Entries.{shown_of}
 use Rattle.dvg_world.specs.Legal.{IsLegal}
 use Rattle.dvg_world.specs.Log.{Line, Log, ◌⟼◌}
 use Rattle.dvg_world.specs.Runs.{IsStop, log_of}
+use Rattle.dvg_world.proofs.Headline.{headline}
 use Rattle.dvg_world.proofs.Runs.{log_of-none}
 use Rattle.dvg_tool.specs.Plays.{IsPlayed, StopsNext, entry_of, event_of, log_text, zeros}
 use Rattle.dvg_text.specs.Shows.{shown}
@@ -56,6 +57,7 @@ played_whole text R events entries gives legal all = record {
   R = R;
   gives = gives;
   legal = legal;
+  headline = headline R zeros (log_of events entries) legal;
   in_order = in_order events entries (omega arith)
       ∙ ap (λ l. map event_of (reverse (log_of events entries)) ++ l) (drop_all (length entries) events (omega arith));
 }
@@ -93,6 +95,7 @@ played_part text R events stopped gives legal count stop = record {
     R = R;
     gives = gives;
     legal = legal;
+    headline = headline R zeros (log_of events stopped.entries.items) legal;
     in_order = in_order events stopped.entries.items (let h = within R events stopped stop in omega arith);
   };
   stops = stopped_early R events stopped count stop;

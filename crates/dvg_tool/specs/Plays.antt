@@ -3,8 +3,9 @@ use Rattle.std.specs.Prelude.{◌≡◌, ℕ, ◌⊎◌, List, [], ◌∷◌, �
 use Rattle.std.specs.Io.KnownBytes.{Appends}
 use Rattle.dvg_world.specs.Entries.{Shown}
 use Rattle.dvg_world.specs.Events.{Happening}
+use Rattle.dvg_world.specs.Headline.{KeepsHeadline}
 use Rattle.dvg_world.specs.Legal.{IsLegal}
-use Rattle.dvg_world.specs.Log.{Line, Log, ◌⟼◌}
+use Rattle.dvg_world.specs.Log.{Line, Log, Throughout, ◌⟼◌}
 use Rattle.dvg_world.specs.Wanting.{TakesMemory}
 use Rattle.dvg_text.specs.declared.fault.TraceFault.{TraceFault}
 use Rattle.dvg_text.specs.declared.fault.TraceFault.TheVariants as of_trace
@@ -46,12 +47,13 @@ StopsNext R log (event ∷ later) = TakesMemory R zeros log event
 abbrev pub IsEnd : (R : List ℕ) → Log → (later : List Happening) → Type 0
 IsEnd R log later = (later ≡ []) ⊎ ((log ≡ []) ⊎ StopsNext R log later)
 
--- the text denotes the events of this legal log, and then these, over the ROM that it denotes and from a memory of zeros
+-- the text denotes the events of this legal log, and then these, over the ROM that it denotes and from a memory of zeros; and each line of the log keeps the headline
 pub record IsPlayed (text : List ℕ) (log : Log) (later : List Happening) : Type 0 where
   pub events : List Happening
   pub R : List ℕ
   pub gives : GivesTrace text events R
   pub legal : IsLegal R zeros log
+  pub headline : Throughout (KeepsHeadline R zeros) log
   pub in_order : events ≡ map event_of (reverse log) ++ later
 
 -- this holds of what is shown of a log that was played, which ends so

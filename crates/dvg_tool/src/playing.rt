@@ -54,7 +54,7 @@ fn run_text<A: Allocator + Copy>(
 /// own choice).
 ///
 /// The events happen by `dvg_world::run_trace`: the log is the one legal log of them, and each of its lines keeps the
-/// headline. The whole text is read before the first event happens, and what writes is handed no allocator.
+/// headline, which `plays` says, too. The whole text is read before the first event happens, and what writes is handed no allocator.
 ///
 /// - `TooLong`: the text has more than 1,048,576 bytes, of which no more than 1,048,577 are taken. This
 ///   is decided before all others.
