@@ -1,17 +1,17 @@
 //! Runs one part of the pack many times, so that its speed can be measured: see bench/.
 #![tactic(auto)]
 
-mod checking;
+mod checks;
 mod drafts;
-mod generating;
-mod running;
-mod ticking;
+mod generator;
+mod runs;
+mod ticks;
 
-use checking::{Passed, check_often, check_short};
-use generating::draw;
-use running::run_often;
+use checks::{Passed, check_often, check_short};
+use generator::draw;
+use runs::run_often;
 use std::{env, io};
-use ticking::tick_often;
+use ticks::tick_often;
 
 /// Runs the generator.
 fn run_generator(rt: &HostRuntime) -> io::Result<()> {

@@ -12,17 +12,17 @@
 
 mod chain;
 mod checked;
-mod checking;
+mod checks;
 mod counted;
 mod cursor;
 mod draft;
 mod frame;
-mod judging;
+mod faults;
 pub mod laws;
 mod op;
 mod pair;
 mod place;
-mod settling;
+mod bounds;
 mod sweep;
 mod table;
 #[cfg(test)]
@@ -31,7 +31,7 @@ mod way;
 mod worklist;
 
 pub use checked::Checked;
-pub use checking::{Checker, check};
+pub use checks::{Checker, check};
 pub use cursor::Cursor;
 pub use draft::{Draft, DraftFull};
 pub use frame::Frame;

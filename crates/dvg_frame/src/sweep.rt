@@ -8,7 +8,7 @@ ghost use Rattle.dvg_frame.specs.Sweeps.{Follows, StaysIn};
 ghost use Rattle.dvg_frame.specs.Tables.{AllFine};
 
 use crate::draft::Draft;
-use crate::judging::look;
+use crate::faults::look;
 use crate::pair::{DEEPEST, Pair, index_of};
 use crate::place::FrameFault;
 use crate::way::Way;

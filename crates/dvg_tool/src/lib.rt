@@ -6,24 +6,24 @@
 //! first failure of its reader or writer.
 #![tactic(auto)]
 
-mod checking;
+mod checks;
 mod fault;
-mod listing;
+mod lists;
 mod outcome;
-mod performing;
-mod playing;
+mod jobs;
+mod plays;
 mod roms;
-mod showing;
+mod shows;
 mod transfer;
 mod watched;
 
-pub use checking::{check_bound, check_text};
+pub use checks::{check_bound, check_text};
 pub use dvg_text::{MOST_TEXT_BYTES, TextFault, Verdict};
 pub use dvg_words::{Job, job, words_status};
 pub use fault::ToolFault;
-pub use listing::{MOST_LIST_BYTES, list};
+pub use lists::{MOST_LIST_BYTES, list};
 pub use outcome::{Done, finish, status};
-pub use performing::perform;
-pub use playing::play;
+pub use jobs::perform;
+pub use plays::play;
 pub use roms::rom_text;
 pub use watched::{DeviceFailed, Watched};

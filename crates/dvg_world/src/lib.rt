@@ -9,7 +9,7 @@
 mod entry;
 mod event;
 pub mod laws;
-mod running;
+mod runs;
 mod stopped;
 #[cfg(test)]
 mod tests;
@@ -18,7 +18,7 @@ mod world;
 
 pub use entry::Entry;
 pub use event::Event;
-pub use running::{run, run_trace};
+pub use runs::{run, run_trace};
 pub use stopped::Stopped;
 pub use trace::{MOST_EVENTS, Trace, TraceEvent};
 pub use world::World;

@@ -1,0 +1,12 @@
+use Rattle.std.proofs.Common.{◌≡◌, drop, map}
+use Rattle.dvg_world.specs.Entries.{shown_of}
+use Rattle.dvg_text.specs.Shows.{shown}
+use Rattle.dvg_tool.specs.Watching.{device_of, failures_of}
+use Rattle.dvg_tool.proofs.Went.{Went}
+use Rattle.dvg_tool.proofs.shows.write_entries.Given as goal
+
+abbrev pub invariant-loop-number : goal.invariant-loop-number
+invariant-loop-number g l = record {
+  counted : failures_of l.writer ≡ failures_of l.initial.writer;
+  went : Went (shown l.all 0 (map shown_of l.entries)) (shown l.all l.number (map shown_of (drop l.number l.entries))) (g.W.Write.contents (device_of l.initial.writer)) (g.W.Write.contents (device_of l.writer));
+}

@@ -1,0 +1,25 @@
+use Rattle.std.proofs.Common.{rules, flat_map, drop, get_or, ◌+◌}
+use Rattle.dvg_text.specs.Shows.{stroke_line}
+use Rattle.dvg_tool.specs.Watching.{BeginsToWrite, device_of}
+use Rattle.dvg_tool.proofs.Shown.{next_stroke, no_stroke}
+use Rattle.dvg_tool.proofs.Went.{piece_begun, piece_more}
+use Rattle.dvg_tool.proofs.shows.write_strokes.Goals as goal
+
+pub returns-in_err-write_whole-clause-err : goal.returns-in_err-write_whole-clause-err
+returns-in_err-write_whole-clause-err g c =
+    let i = c.loop-stroke.stroke-index in
+    let line = stroke_line (get_or c.args.strokes.now i no_stroke) in
+    let next = next_stroke c.args.strokes.now i c.loop-stroke-test.true in
+    let begun : BeginsToWrite line (g.W.Write.contents (device_of c.loop-stroke.writer)) (g.W.Write.contents (device_of c.write_whole.new.writer)) = search rules in
+    let all = piece_begun line (flat_map stroke_line (drop (i + 1) c.args.strokes.now)) c.loop-stroke.invariant.went next begun in
+    search rules
+
+pub loop-stroke-preserved : goal.loop-stroke-preserved
+loop-stroke-preserved g c =
+    let i = c.loop-stroke.stroke-index in
+    let line = stroke_line (get_or c.args.strokes.now i no_stroke) in
+    let next = next_stroke c.args.strokes.now i c.loop-stroke-test.true in
+    record {
+      counted = search rules;
+      went = piece_more line (flat_map stroke_line (drop (i + 1) c.args.strokes.now)) c.loop-stroke.invariant.went next (search rules);
+    }

@@ -1,0 +1,45 @@
+//! Which engine does which job.
+ghost use Rattle.std.specs.Prelude.{◌≡◌, ◌↔◌, ◌≤◌, IfErr, IfSome, IsErrOf};
+ghost use Rattle.dvg_tool.specs.Jobs.{Performs, StaysUnwritten, most_taken};
+ghost use Rattle.dvg_tool.specs.Watching.{TakesAtMost, device_of, failures_of};
+
+use crate::checks::{check_bound, check_text};
+use crate::fault::ToolFault;
+use crate::lists::list;
+use crate::outcome::Done;
+use crate::plays::play;
+use crate::roms::rom_text;
+use crate::watched::Watched;
+use dvg_words::Job;
+use std::alloc::Allocator;
+use std::io::{Read, Write};
+
+/// Does a job by its engine: `list`, `rom_text`, `check_text` or `check_bound`, whose verdict it tells, or `play`.
+pub fn perform<A: Allocator + Copy, R: Read, W: Write>(
+    alloc: A,
+    job: Job,
+    reader: &mut Watched<R>,
+    writer: &mut Watched<W>,
+) -> Result<Done, ToolFault>
+    requires fresh_reader { failures_of reader.old ≡ 0 }
+    requires fresh_writer { failures_of writer.old ≡ 0 }
+
+    // Of a reader that tells its bytes.
+    ensures performs { IfSome (R.remaining (device_of reader.old)) (λ input.
+        Performs job result input (W.contents (device_of writer.old)) (W.contents (device_of writer.new))) }
+    ensures took { TakesAtMost (most_taken job) (R.remaining (device_of reader.old)) (R.remaining (device_of reader.new)) }
+
+    // Whatever the reader and the writer are.
+    ensures unwritten { IfErr result (λ fault. StaysUnwritten job fault → writer.new ≡ writer.old) }
+    ensures reader { IsErrOf result ToolFault.Reader ↔ (failures_of reader.new ≡ 1) }
+    ensures writer { IsErrOf result ToolFault.Writer ↔ (failures_of writer.new ≡ 1) }
+    ensures stops { (failures_of reader.new ≤ 1) × (failures_of writer.new ≤ 1) }
+{
+    match job {
+        Job::List => list(alloc, reader, writer).map(|()| Done::Written),
+        Job::Rom => rom_text(alloc, reader, writer).map(|()| Done::Written),
+        Job::Check { bound: false } => check_text(alloc, reader, writer).map(Done::Judged),
+        Job::Check { bound: true } => check_bound(alloc, reader, writer).map(Done::Judged),
+        Job::Play { all } => play(alloc, reader, writer, all).map(|()| Done::Written),
+    }
+}

@@ -1,0 +1,99 @@
+//! The engine `play`.
+ghost use Rattle.std.specs.Prelude.{◌≡◌, ◌↔◌, ◌≤◌, [], length, IfErr, IfOk, IfSome, IsErrOf};
+ghost use Rattle.dvg_mem.specs.Memory.{IsImage};
+ghost use Rattle.dvg_world.specs.Legal.{IsLegal};
+ghost use Rattle.dvg_world.specs.Runs.{IsStop, log_by};
+ghost use Rattle.dvg_tool.specs.Plays.{Plays, StopsBeforeShowing, zeros};
+ghost use Rattle.dvg_text.specs.TraceGives.{GivesTrace, StopsReading};
+ghost use Rattle.dvg_tool.specs.Watching.{TakesAtMost, device_of, failures_of};
+
+use crate::fault::ToolFault;
+use crate::shows::write_entries;
+use crate::transfer::read_up_to;
+use crate::watched::Watched;
+use dvg_mem::{Flat, Image, MEMORY_BYTES, Rom};
+use dvg_text::{MOST_TEXT_BYTES, TraceText, read_trace};
+use dvg_world::{Entry, Stopped, run_trace};
+use std::alloc::Allocator;
+use std::io::{Read, Write};
+
+// A run that stopped before its first event.
+fn unstarted<A: Allocator>(alloc: A) -> Stopped<A>
+    ensures event { result.event ≡ 0 }
+    ensures entries { result.entries.items ≡ [] }
+{
+    Stopped {
+        entries: Vec::new(alloc),
+        event: 0,
+    }
+}
+
+// Lets the events of a trace happen over its ROM, from a RAM of zeros.
+fn run_text<A: Allocator + Copy>(
+    alloc: A,
+    told: &TraceText<A>,
+) -> Result<Vec<Entry<A>, A>, Stopped<A>>
+    requires { IsImage told.now.rom }
+    ensures legal { IsLegal told.now.rom zeros (log_by told.now.events result) }
+    ensures whole { IfOk result (λ entries. length entries.items ≡ length told.now.events) }
+    ensures stopped { IfErr result (λ stopped. length stopped.entries.items ≡ stopped.event) }
+    ensures early { IfErr result (IsStop told.now.rom zeros told.now.events) }
+{
+    let Ok(rom) = Rom::new(alloc, &told.rom) else {
+        return Err(unstarted(alloc));
+    };
+    let Ok(image) = Image::new(alloc, &[0; MEMORY_BYTES]) else {
+        return Err(unstarted(alloc));
+    };
+    run_trace::<Flat<A>>(alloc, rom, &image, &told.events)
+}
+
+/// Reads a trace as text, with the lines of a ROM before it, lets its events happen from a RAM of zeros, and
+/// writes what the log shows: with `all` a line for each entry, and else for each finished run; and behind
+/// the line of a finished run one for each of its strokes, in the order drawn (the texts are this project's
+/// own choice).
+///
+/// The events happen by `dvg_world::run_trace`: the log is the one legal log of them, and each of its lines keeps the
+/// headline, which `plays` says, too. The whole text is read before the first event happens, and what writes is handed no allocator.
+///
+/// - `TooLong`: the text has more than 1,048,576 bytes, of which no more than 1,048,577 are taken. This
+///   is decided before all others.
+/// - `Syntax`, `Full`, `Many`, `Unended`: this is the first fault of the text, as `read_trace` tells it.
+/// - `Reader`, `Writer`: that device failed. After `Writer` a beginning of the text went out.
+/// - `Memory`: a growth was refused. At an event, which is a fetch that completes a vector with an intensity
+///   of at least 1, the text of the events before it went out first. The contract can't tell where memory was
+///   refused, so by it nothing at all may have gone out; tests show that text.
+///
+/// Where it stops before it writes, which is at any fault but `Writer` and `Memory`, the writer is as it was.
+pub fn play<A: Allocator + Copy, R: Read, W: Write>(
+    alloc: A,
+    reader: &mut Watched<R>,
+    writer: &mut Watched<W>,
+    all: bool,
+) -> Result<(), ToolFault>
+    requires fresh_reader { failures_of reader.old ≡ 0 }
+    requires fresh_writer { failures_of writer.old ≡ 0 }
+
+    // Of a reader that tells its bytes: what went out, when each fault of the text comes, what was taken.
+    ensures plays { IfSome (R.remaining (device_of reader.old)) (λ input.
+        Plays all result input (W.contents (device_of writer.old)) (W.contents (device_of writer.new))) }
+    ensures took { TakesAtMost 1048577 (R.remaining (device_of reader.old)) (R.remaining (device_of reader.new)) }
+
+    // Whatever the reader and the writer are.
+    ensures unwritten { IfErr result (λ fault. StopsBeforeShowing fault → writer.new ≡ writer.old) }
+    ensures reader { IsErrOf result ToolFault.Reader ↔ (failures_of reader.new ≡ 1) }
+    ensures writer { IsErrOf result ToolFault.Writer ↔ (failures_of writer.new ≡ 1) }
+    ensures stops { (failures_of reader.new ≤ 1) × (failures_of writer.new ≤ 1) }
+{
+    let told = {
+        let text = read_up_to(alloc, reader, MOST_TEXT_BYTES)?;
+        read_trace(alloc, text.as_slice())?
+    };
+    match run_text(alloc, &told) {
+        Ok(entries) => write_entries(entries.as_slice(), all, writer),
+        Err(stopped) => {
+            write_entries(stopped.entries.as_slice(), all, writer)?;
+            Err(ToolFault::Memory)
+        }
+    }
+}
