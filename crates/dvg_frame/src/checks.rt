@@ -8,13 +8,13 @@ ghost use Rattle.dvg_frame.specs.Layout.{size};
 ghost use Rattle.dvg_frame.specs.Picture.{IsBound};
 ghost use Rattle.dvg_frame.specs.Tables.{HasNone, IsRefused};
 
+use crate::bounds::bound_of;
 use crate::chain::Chain;
 use crate::checked::Checked;
 use crate::draft::{Draft, words_of};
 use crate::frame::{Frame, MAX_WORDS};
 use crate::op::OpKind;
 use crate::place::FrameFault;
-use crate::bounds::bound_of;
 use crate::sweep::sweep;
 use crate::table::Table;
 use crate::worklist::Worklist;

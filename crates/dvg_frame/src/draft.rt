@@ -20,7 +20,7 @@ pub(crate) const MAX_OPS: usize = 511;
 pub struct DraftFull;
 
 /// A list of at most 511 operations, numbered from 0.
-#[derive(Drop)]
+#[derive(Clone, Debug, PartialEq, Eq, Drop)]
 pub struct Draft {
     ops: ArrayVec<Op, MAX_OPS>,
 }
@@ -32,6 +32,8 @@ impl Model for Draft {
     ghost view = { λ draft. draft.ops.items };
 
     ghost invariant = { λ draft. IsDraft draft.ops.items };
+
+    ghost inverse = { λ ops. record { ops = record { items = ops } } };
 }
 
 impl Draft {

@@ -10,19 +10,19 @@
 //! of Margolin's *The Secret Life of Vector Generators*. No call of this crate takes memory.
 #![tactic(auto)]
 
+mod bounds;
 mod chain;
 mod checked;
 mod checks;
 mod counted;
 mod cursor;
 mod draft;
-mod frame;
 mod faults;
+mod frame;
 pub mod laws;
 mod op;
 mod pair;
 mod place;
-mod bounds;
 mod sweep;
 mod table;
 #[cfg(test)]

@@ -21,8 +21,8 @@ first_end bytes (Some i) (none, there) = (
   none.high,
   λ d. ap (λ byte. eqb byte 10) (get_or_default bytes i d 0 none.high) ∙ there,
   λ k d low high.
-  let within : k < length bytes = let inside = none.high in omega arith in
-  false_from_ne_true (eqb (get_or bytes k d) 10) (λ is. none.before k low high (ap (λ byte. eqb byte 10) (get_or_default bytes k 0 d within) ∙ is)),
+      let within : k < length bytes = let inside = none.high in omega arith in
+      false_from_ne_true (eqb (get_or bytes k d) 10) (λ is. none.before k low high (ap (λ byte. eqb byte 10) (get_or_default bytes k 0 d within) ∙ is)),
 )
 
 line_at : (line : List ℕ) (end : ℕ) (rest : List ℕ) → All (λ byte. eqb byte 10 ≡ false) line → eqb end 10 ≡ true → lines (line ++ end ∷ rest) ≡ line ∷ lines rest

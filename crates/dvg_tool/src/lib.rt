@@ -8,9 +8,9 @@
 
 mod checks;
 mod fault;
+mod jobs;
 mod lists;
 mod outcome;
-mod jobs;
 mod plays;
 mod roms;
 mod shows;
@@ -21,9 +21,9 @@ pub use checks::{check_bound, check_text};
 pub use dvg_text::{MOST_TEXT_BYTES, TextFault, Verdict};
 pub use dvg_words::{Job, job, words_status};
 pub use fault::ToolFault;
+pub use jobs::perform;
 pub use lists::{MOST_LIST_BYTES, list};
 pub use outcome::{Done, finish, status};
-pub use jobs::perform;
 pub use plays::play;
 pub use roms::rom_text;
 pub use watched::{DeviceFailed, Watched};

@@ -6,6 +6,8 @@ use std::alloc::{Allocator, Global};
 /// One thing that happens. Events come in any order and number: a strobe that is sent and never given as
 /// an event is a lost one, and one that is given again is a repeated one.
 #[derive(Drop)]
+#[derive_where(Debug, PartialEq, Eq)]
+#[derive_where(Clone; A)]
 pub enum Event<A: Allocator = Global> {
     /// The driver is handed a draft to show.
     Offer(Box<Draft, A>),

@@ -271,3 +271,19 @@ fn entries_are_compared_and_cloned(rt: HostRuntime) -> Result<(), Fail> {
     assert!(rt; done != Entry::Still);
     Ok(())
 }
+
+#[test]
+fn events_are_compared_and_cloned(rt: HostRuntime) -> Result<(), Fail> {
+    let halt = Op::new(OpKind::Halt).ok_or("a halt")?;
+    let mut two = Draft::new();
+    two.push(halt).map_err(|_| "no room")?;
+    let one = two.clone()?;
+    two.push(halt).map_err(|_| "no room")?;
+    assert!(rt; one != two);
+    let offer = Event::Offer(Box::new(rt.alloc(), one)?);
+    let copy = offer.clone()?;
+    assert!(rt; copy == offer);
+    assert!(rt; offer != Event::Offer(Box::new(rt.alloc(), two)?));
+    assert!(rt; offer != Event::Tick);
+    Ok(())
+}

@@ -1,7 +1,7 @@
 use Rattle.std.proofs.Common.{rules, ◌<◌, length, refl, ◌∙◌, subst}
 use Rattle.dvg_world.specs.Entries.{shown_of}
 use Rattle.dvg_world.specs.Stepping.{AddsEvent, WantsMemory}
-use Rattle.dvg_world.proofs.Runs.{begins_so_far, legal_none, one_more, stops_at}
+use Rattle.dvg_world.proofs.WholeRuns.{begins_so_far, legal_none, one_more, stops_at}
 use Rattle.dvg_world.proofs.runs.run_each.Goals as goal
 
 pub returns-in_default-clause-legal : goal.returns-in_default-clause-legal

@@ -1,4 +1,4 @@
-use Rattle.dvg_world.proofs.Runs.{IsSoFar}
+use Rattle.dvg_world.proofs.WholeRuns.{IsSoFar}
 use Rattle.std.proofs.Common.{◌≡◌}
 use Rattle.dvg_world.proofs.runs.run_each.Given as goal
 
