@@ -11,7 +11,8 @@ use Rattle.dvg_world.specs.Log.{Line, Log, ◌⟼◌, events_of}
 use Rattle.dvg_world.specs.Runs.{log_of}
 use Rattle.dvg_world.proofs.OneLog.{same_log}
 use Rattle.dvg_world.proofs.Rows.{first_picture as legal_first_picture}
-use Rattle.dvg_clients.specs.Facts.{zeros, first_picture_events, first_picture}
+use Rattle.dvg_clients.specs.Facts.{first_picture_events, first_picture}
+use Rattle.dvg_tool.specs.Plays.{zeros}
 
 abbrev entry_of : Line → Shown
 entry_of (event ⟼ entry) = entry

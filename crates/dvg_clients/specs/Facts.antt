@@ -21,10 +21,6 @@ blank_frame = Draw (Labs 512 400 0) ∷ Halt ∷ []
 abbrev pub vector_frame : List OpKind
 vector_frame = Draw (Labs 512 400 0) ∷ Draw long_vector ∷ Halt ∷ []
 
--- the bytes of a memory of zeros
-abbrev pub zeros : List ℕ
-zeros = replicate 2048 0
-
 abbrev pub one_tick : List Happening
 one_tick = Tick ∷ []
 

@@ -1,6 +1,7 @@
 //! What follows from the contracts of worlds, traces and whole runs.
 ghost use Rattle.std.specs.Prelude.{◌≡◌, IfSome, map, true};
-ghost use Rattle.dvg_clients.specs.Facts.{first_picture, first_picture_events, two_ticks, two_ticks_shown, zeros};
+ghost use Rattle.dvg_clients.specs.Facts.{first_picture, first_picture_events, two_ticks, two_ticks_shown};
+ghost use Rattle.dvg_tool.specs.Plays.{zeros};
 ghost use Rattle.dvg_world.specs.Entries.{Acted, shown_of};
 ghost use Rattle.dvg_world.specs.Events.{happening_of};
 

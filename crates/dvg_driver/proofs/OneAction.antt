@@ -7,7 +7,7 @@ use Rattle.dvg_mem.specs.Areas.{base}
 use Rattle.dvg_frame.specs.Bytes.{addressed, bytes}
 use Rattle.dvg_frame.specs.Layout.{laid}
 use Rattle.dvg_driver.specs.Script.{Item, Offered, Did, frame_writes}
-use Rattle.dvg_driver.specs.Place.{Place, Start, Booting, Resting, Writing, Waiting, Sending, next, place_of, with_left, after_write}
+use Rattle.dvg_driver.specs.Place.{Place, Start, Booting, Resting, Writing, Waiting, Sending, next_place, place_of_life, with_left, after_write}
 use Rattle.dvg_driver.specs.Stands.{Tells}
 use Rattle.dvg_driver.specs.Laws.{OneAction}
 use Rattle.dvg_driver.proofs.Places.{life_place, place_before, some_same, with_left-append, write_fits}
@@ -34,7 +34,7 @@ same_write writes a byte b other to there is also =
     ap (λ write. Wrote write.0 write.1) same
 
 -- at a place at most one action fits
-at_most_one : (place to there : Place) (one other : Action) (halted : Bool) → next place (Did one) ≡ Some to → next place (Did other) ≡ Some there → Tells one halted → Tells other halted → other ≡ one
+at_most_one : (place to there : Place) (one other : Action) (halted : Bool) → next_place place (Did one) ≡ Some to → next_place place (Did other) ≡ Some there → Tells one halted → Tells other halted → other ≡ one
 at_most_one Start to there Peek Peek halted is also told tells = refl
 at_most_one Booting to there (Read a) (Read b) halted is also told tells = ap Read (tells ∙ sym told)
 at_most_one (Resting first) to there Idle Idle halted is also told tells = refl
@@ -48,7 +48,7 @@ not_emptied : (writes : List (ℕ × ℕ)) → with_left writes ≡ Writing [] �
 not_emptied [] is = absurd (cc)
 not_emptied (write ∷ writes) is = absurd (cc)
 
-never_empties : (before : Place) (item : Item) → next before item ≡ Some (Writing []) → ⊥
+never_empties : (before : Place) (item : Item) → next_place before item ≡ Some (Writing []) → ⊥
 never_empties Start (Did Peek) is = absurd (cc)
 never_empties Booting (Did (Read true)) is = absurd (cc)
 never_empties Booting (Did (Read false)) is = absurd (cc)
@@ -60,12 +60,12 @@ never_empties (Waiting first) (Did (Read false)) is = absurd (cc)
 never_empties (Sending first) (Did Sent) is = absurd (cc)
 never_empties _ _ is = absurd (cc)
 
-never_emptied : (life : List Item) → place_of life ≡ Some (Writing []) → ⊥
+never_emptied : (life : List Item) → place_of_life life ≡ Some (Writing []) → ⊥
 never_emptied [] is = absurd (cc)
 never_emptied (item ∷ life) is = let before = place_before item life (Writing []) is in never_empties before.0 item before.2
 
 -- at a place some action fits
-some_action : (place : Place) (halted : Bool) → (place ≡ Writing [] → ⊥) → (action : Action) × (to : Place) × (next place (Did action) ≡ Some to) × Tells action halted
+some_action : (place : Place) (halted : Bool) → (place ≡ Writing [] → ⊥) → (action : Action) × (to : Place) × (next_place place (Did action) ≡ Some to) × Tells action halted
 some_action Start halted some = (Peek, Booting, refl, tt)
 some_action Booting halted some = (Read halted, (if halted then Resting true else Booting), refl, refl)
 some_action (Resting first) halted some = (Idle, Resting first, refl, tt)
@@ -79,11 +79,11 @@ one_action life halted begun =
     let here = life_place life begun in
     let does = some_action here.0 halted (λ emptied. never_emptied life (here.1 ∙ ap Some emptied)) in (
       does.0,
-      place_life (Did does.0 ∷ life) does.1 (ap (option_and_then (λ place. next place (Did does.0))) here.1 ∙ does.2),
+      place_life (Did does.0 ∷ life) does.1 (ap (option_and_then (λ place. next_place place (Did does.0))) here.1 ∙ does.2),
       does.3,
       λ other also tells.
           let there = life_place (Did other ∷ life) also in
           let before = place_before (Did other) life there.0 there.1 in
           let same : before.0 ≡ here.0 = some_same (sym before.1 ∙ here.1) in
-          at_most_one here.0 does.1 there.0 does.0 other halted does.2 (subst (λ place. next place (Did other) ≡ Some there.0) same before.2) does.3 tells,
+          at_most_one here.0 does.1 there.0 does.0 other halted does.2 (subst (λ place. next_place place (Did other) ≡ Some there.0) same before.2) does.3 tells,
     )

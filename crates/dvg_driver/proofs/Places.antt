@@ -8,7 +8,7 @@ use Rattle.dvg_frame.specs.Bytes.{addressed, bytes}
 use Rattle.dvg_frame.specs.Layout.{laid}
 use Rattle.dvg_driver.specs.declared.action.Action.TheVariants.{Sent}
 use Rattle.dvg_driver.specs.Script.{Item, Did, Part, Rest, Frame, Redraw, frame_writes, wrote, waited, script, whole_life, IsWhole, IsLife, word_zero}
-use Rattle.dvg_driver.specs.Place.{Place, Start, Booting, Resting, Writing, Waiting, Sending, next, place_of, with_left, after_write}
+use Rattle.dvg_driver.specs.Place.{Place, Start, Booting, Resting, Writing, Waiting, Sending, next_place, place_of_life, with_left, after_write}
 
 pub some_same : {A : Type 0} {x y : A} → Some x ≡ Some y → x ≡ y
 some_same is = cc
@@ -30,26 +30,26 @@ and_then_Some None = refl
 and_then_Some (Some a) = refl
 
 -- the place before the newest item
-pub place_before : (item : Item) (life : List Item) (place : Place) → place_of (item ∷ life) ≡ Some place → (before : Place) × (place_of life ≡ Some before) × (next before item ≡ Some place)
-place_before item life place is = and_then_parts (λ before. next before item) (place_of life) place is
+pub place_before : (item : Item) (life : List Item) (place : Place) → place_of_life (item ∷ life) ≡ Some place → (before : Place) × (place_of_life life ≡ Some before) × (next_place before item ≡ Some place)
+place_before item life place is = and_then_parts (λ before. next_place before item) (place_of_life life) place is
 
 -- the place that items lead to, the oldest first
 abbrev pub place_after : List Item → Place → Option Place
 place_after [] place = Some place
-place_after (item ∷ items) place = option_and_then (place_after items) (next place item)
+place_after (item ∷ items) place = option_and_then (place_after items) (next_place place item)
 
 place_after-append : (items more : List Item) (place : Place) → place_after (items ++ more) place ≡ option_and_then (place_after more) (place_after items place)
 place_after-append [] more place = refl
 place_after-append (item ∷ items) more place =
-    and_then_same (place_after (items ++ more)) (λ there. option_and_then (place_after more) (place_after items there)) (place_after-append items more) (next place item)
-    ∙ sym (and_then_twice (place_after items) (place_after more) (next place item))
+    and_then_same (place_after (items ++ more)) (λ there. option_and_then (place_after more) (place_after items there)) (place_after-append items more) (next_place place item)
+    ∙ sym (and_then_twice (place_after items) (place_after more) (next_place place item))
 
-place_after-reverse : (life : List Item) → place_after (reverse life) Start ≡ place_of life
+place_after-reverse : (life : List Item) → place_after (reverse life) Start ≡ place_of_life life
 place_after-reverse [] = refl
 place_after-reverse (item ∷ life) =
     ap (λ items. place_after items Start) (reverse-cons item life) ∙ place_after-append (reverse life) (item ∷ []) Start
     ∙ ap (option_and_then (place_after (item ∷ []))) (place_after-reverse life)
-    ∙ and_then_same (place_after (item ∷ [])) (λ place. next place item) (λ place. and_then_Some (next place item)) (place_of life)
+    ∙ and_then_same (place_after (item ∷ [])) (λ place. next_place place item) (λ place. and_then_Some (next_place place item)) (place_of_life life)
 
 -- what follows items that lead to a place
 after_both : (items more : List Item) (from to : Place) → place_after items from ≡ Some to → place_after (items ++ more) from ≡ place_after more to
@@ -97,7 +97,7 @@ after_whole reads parts =
     (rest.0, after_both (waited reads) (script true parts) Booting (Resting true) (after_boot reads) ∙ rest.1)
 
 -- a life of whole parts rests
-pub whole_rests : (life : List Item) → IsWhole life → (first : Bool) × (place_of life ≡ Some (Resting first))
+pub whole_rests : (life : List Item) → IsWhole life → (first : Bool) × (place_of_life life ≡ Some (Resting first))
 whole_rests life whole =
     let end = after_whole whole.0 whole.1 in
     (end.0, sym (place_after-reverse life) ∙ ap (λ items. place_after items Start) whole.2 ∙ end.1)
@@ -107,8 +107,8 @@ has_place None more to is = absurd (cc)
 has_place (Some place) more to is = (place, refl)
 
 -- a life that the script allows has a place
-pub life_place : (life : List Item) → IsLife life → (place : Place) × (place_of life ≡ Some place)
+pub life_place : (life : List Item) → IsLife life → (place : Place) × (place_of_life life ≡ Some place)
 life_place life begun =
     let end = after_whole begun.0 begun.1 in
-    has_place (place_of life) begun.2 (Resting end.0)
+    has_place (place_of_life life) begun.2 (Resting end.0)
     (sym (ap (option_and_then (place_after begun.2)) (place_after-reverse life)) ∙ sym (place_after-append (reverse life) begun.2 Start) ∙ ap (λ items. place_after items Start) begun.3 ∙ end.1)

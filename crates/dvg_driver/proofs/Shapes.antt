@@ -4,7 +4,7 @@ use mathlib.Core.List.{reverse-cons, append-nil}
 use Rattle.std.specs.Prelude.{if◌then◌else◌}
 use Rattle.dvg_driver.specs.declared.action.Action.TheVariants.{Peek, Wrote, Read, Sent, Idle}
 use Rattle.dvg_driver.specs.Script.{Item, Offered, Asked, Did, Part, Rest, Frame, Redraw, frame_writes, wrote, waited, script, whole_life, IsWhole, IsLife}
-use Rattle.dvg_driver.specs.Place.{Place, Start, Booting, Resting, Writing, Waiting, Sending, next, place_of, with_left, after_write}
+use Rattle.dvg_driver.specs.Place.{Place, Start, Booting, Resting, Writing, Waiting, Sending, next_place, place_of_life, with_left, after_write}
 use Rattle.dvg_driver.proofs.Places.{place_before, some_same}
 
 -- the peek at byte 001, and the first wait
@@ -99,7 +99,7 @@ write_ends (write ∷ writes) a byte to is = by_tests (nat_eq write.0 a) (nat_eq
     by_tests true false same_a same_byte fits = absurd (cc)
     by_tests false t same_a same_byte fits = absurd (cc)
 
-step : (from to : Place) (items : List Item) (item : Item) → next from item ≡ Some to → Completes from items → Completes to (items ++ item ∷ [])
+step : (from to : Place) (items : List Item) (item : Item) → next_place from item ≡ Some to → Completes from items → Completes to (items ++ item ∷ [])
 step Start to items (Did Peek) is completes = rw (← some_same is) (goes_on Start Booting items (Did Peek) refl (λ reads. (reads, refl)) completes)
 step Booting to items (Did (Read true)) is completes = rw (← some_same is) (goes_on Booting (Resting true) items (Did (Read true)) refl (λ reads. (0, refl)) completes)
 step Booting to items (Did (Read false)) is completes = rw (← some_same is) (goes_on Booting Booting items (Did (Read false)) refl (λ reads. (suc reads, refl)) completes)
@@ -112,16 +112,16 @@ step (Waiting first) to items (Did (Read false)) is completes = rw (← some_sam
 step (Sending first) to items (Did Sent) is completes = rw (← some_same is) (goes_on (Sending first) (Resting first) items (Did Sent) refl (λ reads. (0, refl)) completes)
 step _ to items _ is completes = absurd (cc)
 
-completed : (life : List Item) (place : Place) → place_of life ≡ Some place → Completes place (reverse life)
+completed : (life : List Item) (place : Place) → place_of_life life ≡ Some place → Completes place (reverse life)
 completed [] place is = rw (← some_same is) (λ reads. (reads, [], sym (append-nil (boot reads)), refl))
 completed (item ∷ life) place is =
     let before = place_before item life place is in
     rw (reverse-cons item life) (step before.0 place (reverse life) item before.2 (completed life before.0 before.1))
 
 -- a life that has a place is one that the script allows
-pub place_life : (life : List Item) (place : Place) → place_of life ≡ Some place → IsLife life
+pub place_life : (life : List Item) (place : Place) → place_of_life life ≡ Some place → IsLife life
 place_life life place is = let whole = completed life place is 0 in (whole.0, whole.1, ending place 0, whole.2)
 
 -- a life that rests is of whole parts
-pub rests_whole : (life : List Item) (first : Bool) → place_of life ≡ Some (Resting first) → IsWhole life
+pub rests_whole : (life : List Item) (first : Bool) → place_of_life life ≡ Some (Resting first) → IsWhole life
 rests_whole life first is = let whole = completed life (Resting first) is 0 in (whole.0, whole.1, sym (append-nil (reverse life)) ∙ whole.2)

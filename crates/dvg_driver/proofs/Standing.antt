@@ -11,9 +11,9 @@ use Rattle.dvg_driver.specs.declared.driver.Phase.TheVariants as phase
 use Rattle.dvg_driver.specs.declared.driver.Driver.TheInside.{Inside}
 use Rattle.dvg_driver.specs.declared.action.Action.TheVariants.{Wrote}
 use Rattle.dvg_driver.specs.Script.{Item, Did, IsWhole, IsLife, word_zero}
-use Rattle.dvg_driver.specs.Place.{Resting, Writing, next, place_of, with_left}
+use Rattle.dvg_driver.specs.Place.{Resting, Writing, next_place, place_of_life, with_left}
 use Rattle.dvg_driver.specs.Stands.{Stage, StandsAfter}
-use Rattle.dvg_driver.specs.Phases.{Keeps, items_of, place_in, stage_of}
+use Rattle.dvg_driver.specs.Phases.{KeepsPhase, items_of, place_in, stage_of}
 use Rattle.dvg_driver.proofs.Places.{whole_rests, with_left-append}
 use Rattle.dvg_driver.proofs.Shapes.{place_life}
 
@@ -21,7 +21,7 @@ pub stands_life : (stage : Stage) (peeked : ℕ) (life : List Item) → StandsAf
 stands_life stage peeked life stands = place_life life stage.place stands.place
 
 -- a driver that does not rest stands after no life of whole parts
-pub not_whole : (at : Phase) (cursor : Option (List (ℕ × ℕ))) (half : Half) (flipped : Bool) (life : List Item) → (at ≡ phase.Resting → ⊥) → place_of life ≡ Some (place_in at cursor half flipped) → IsWhole life → ⊥
+pub not_whole : (at : Phase) (cursor : Option (List (ℕ × ℕ))) (half : Half) (flipped : Bool) (life : List Item) → (at ≡ phase.Resting → ⊥) → place_of_life life ≡ Some (place_in at cursor half flipped) → IsWhole life → ⊥
 not_whole at cursor half flipped life moves stands whole = let rests = whole_rests life whole in differs at moves (sym stands ∙ rests.1)
   where
     differs : {first : Bool} (v : Phase) → (v ≡ phase.Resting → ⊥) → Some (place_in v cursor half flipped) ≡ Some (Resting first) → ⊥
@@ -34,7 +34,7 @@ not_whole at cursor half flipped life moves stands whole = let rests = whole_res
     differs phase.Sending n is = absurd (cc)
 
 -- the next place after the first of the writes that are to come
-next_write : (a byte : ℕ) (writes : List (ℕ × ℕ)) → next (Writing ((a, byte) ∷ writes)) (Did (Wrote a byte)) ≡ Some (with_left writes)
+next_write : (a byte : ℕ) (writes : List (ℕ × ℕ)) → next_place (Writing ((a, byte) ∷ writes)) (Did (Wrote a byte)) ≡ Some (with_left writes)
 next_write a byte writes = rw (eq-eqb a a refl, eq-eqb byte byte refl)
 
 not_one : (a : ℕ) → 2 ≤ a → nat_eq a 1 ≡ false
@@ -48,7 +48,7 @@ writes_on half flipped a byte items more peeked life items_is high stands =
     let zero = word_zero (other half) (not flipped) in
     let differs : nat_eq a 1 ≡ false = not_one a high in
     record {
-      place = ap (option_and_then (λ place. next place (Did (Wrote a byte)))) (stands.place ∙ ap (λ list. Some (Writing (list ++ zero))) items_is)
+      place = ap (option_and_then (λ place. next_place place (Did (Wrote a byte)))) (stands.place ∙ ap (λ list. Some (Writing (list ++ zero))) items_is)
           ∙ next_write a byte (more ++ zero) ∙ ap Some (with_left-append more (other half) (not flipped));
       half = rw differs stands.half;
       flipped = rw differs stands.flipped;
@@ -71,8 +71,8 @@ in_phase inside v peeked life phase_is stands =
     subst P (sym phase_is) stands
 
 -- a driver that writes has no byte of a frame left
-pub none_left : (inside : Inside) → inside.phase ≡ phase.Writing → items_of inside.cursor ≡ [] → Keeps inside.phase inside.cursor inside.flipped
-none_left inside phase_is none = subst (λ v. Keeps v inside.cursor inside.flipped) (sym phase_is) (subst (λ list. All IsBehindWordZero list) (sym none) (All-nil IsBehindWordZero))
+pub none_left : (inside : Inside) → inside.phase ≡ phase.Writing → items_of inside.cursor ≡ [] → KeepsPhase inside.phase inside.cursor inside.flipped
+none_left inside phase_is none = subst (λ v. KeepsPhase v inside.cursor inside.flipped) (sym phase_is) (subst (λ list. All IsBehindWordZero list) (sym none) (All-nil IsBehindWordZero))
 
 pub flips_next : (inside : Inside) → inside.phase ≡ phase.Writing → items_of inside.cursor ≡ [] → inside.flipped ≡ true → (stage_of inside).place ≡ Writing (word_zero (other inside.half) false)
 flips_next inside phase_is none flipped =
@@ -80,9 +80,9 @@ flips_next inside phase_is none flipped =
     ∙ ap (λ flag. Writing (word_zero (other inside.half) (not flag))) flipped
 
 -- the first byte of a frame goes behind word zero, and so do the others
-pub behind_word_zero : (at : Phase) (cursor : Option (List (ℕ × ℕ))) (flipped : Bool) (more : List (ℕ × ℕ)) (item : ℕ × ℕ) → Keeps at cursor flipped → at ≡ phase.Writing → items_of cursor ≡ item ∷ more
+pub behind_word_zero : (at : Phase) (cursor : Option (List (ℕ × ℕ))) (flipped : Bool) (more : List (ℕ × ℕ)) (item : ℕ × ℕ) → KeepsPhase at cursor flipped → at ≡ phase.Writing → items_of cursor ≡ item ∷ more
     → IsBehindWordZero item × All IsBehindWordZero more
 behind_word_zero at cursor flipped more item keeps at_is items_is =
-    let old : All IsBehindWordZero (items_of cursor) = subst (λ v. Keeps v cursor flipped) at_is keeps in
+    let old : All IsBehindWordZero (items_of cursor) = subst (λ v. KeepsPhase v cursor flipped) at_is keeps in
     let all : All IsBehindWordZero (item ∷ more) = subst (λ list. All IsBehindWordZero list) items_is old in
     (All-head IsBehindWordZero item more all, All-tail IsBehindWordZero item more all)

@@ -30,12 +30,12 @@ abbrev pub stage_of : Inside → Stage
 stage_of driver = record { place = place_in driver.phase driver.cursor driver.half driver.flipped; half = driver.half; flipped = driver.flipped }
 
 -- what a phase keeps: before its first frame part a driver has not flipped, and the bytes of a frame go to no place of word zero
-abbrev pub Keeps : Phase → Option (List (ℕ × ℕ)) → Bool → Type 0
-Keeps phase.Start cursor flipped = flipped ≡ false
-Keeps phase.Booting cursor flipped = flipped ≡ false
-Keeps phase.Writing cursor flipped = All IsBehindWordZero (items_of cursor)
-Keeps _ cursor flipped = Unit {0}
+abbrev pub KeepsPhase : Phase → Option (List (ℕ × ℕ)) → Bool → Type 0
+KeepsPhase phase.Start cursor flipped = flipped ≡ false
+KeepsPhase phase.Booting cursor flipped = flipped ≡ false
+KeepsPhase phase.Writing cursor flipped = All IsBehindWordZero (items_of cursor)
+KeepsPhase _ cursor flipped = Unit {0}
 
 -- what a driver keeps
 abbrev pub IsSound : Inside → Type 0
-IsSound driver = Keeps driver.phase driver.cursor driver.flipped
+IsSound driver = KeepsPhase driver.phase driver.cursor driver.flipped

@@ -24,18 +24,18 @@ after_write [] a byte = None
 after_write (write ∷ writes) a byte = if nat_eq write.0 a && nat_eq write.1 byte then Some (with_left writes) else None
 
 -- the place after an item, if the item may come there
-abbrev pub next : Place → Item → Option Place
-next Start (Did Peek) = Some Booting
-next Booting (Did (Read halted)) = Some (if halted then Resting true else Booting)
-next (Resting first) (Offered half F) = Some (Writing (frame_writes half F first))
-next (Resting first) Asked = Some (Waiting first)
-next (Resting first) (Did Idle) = Some (Resting first)
-next (Writing writes) (Did (Wrote a byte)) = after_write writes a byte
-next (Waiting first) (Did (Read halted)) = Some (if halted then Sending first else Waiting first)
-next (Sending first) (Did Sent) = Some (Resting first)
-next _ _ = None
+abbrev pub next_place : Place → Item → Option Place
+next_place Start (Did Peek) = Some Booting
+next_place Booting (Did (Read halted)) = Some (if halted then Resting true else Booting)
+next_place (Resting first) (Offered half F) = Some (Writing (frame_writes half F first))
+next_place (Resting first) Asked = Some (Waiting first)
+next_place (Resting first) (Did Idle) = Some (Resting first)
+next_place (Writing writes) (Did (Wrote a byte)) = after_write writes a byte
+next_place (Waiting first) (Did (Read halted)) = Some (if halted then Sending first else Waiting first)
+next_place (Sending first) (Did Sent) = Some (Resting first)
+next_place _ _ = None
 
 -- the place of a life, if it has one
-abbrev pub place_of : List Item → Option Place
-place_of [] = Some Start
-place_of (item ∷ life) = option_and_then (λ place. next place item) (place_of life)
+abbrev pub place_of_life : List Item → Option Place
+place_of_life [] = Some Start
+place_of_life (item ∷ life) = option_and_then (λ place. next_place place item) (place_of_life life)

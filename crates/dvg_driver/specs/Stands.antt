@@ -5,7 +5,7 @@ use Rattle.dvg_mem.specs.Areas.{half_of_high}
 use Rattle.dvg_driver.specs.declared.action.Action.{Action}
 use Rattle.dvg_driver.specs.declared.action.Action.TheVariants.{Peek, Wrote, Read}
 use Rattle.dvg_driver.specs.Script.{Item, Did, has_flip}
-use Rattle.dvg_driver.specs.Place.{Place, Start, place_of}
+use Rattle.dvg_driver.specs.Place.{Place, Start, place_of_life}
 
 -- what contracts see of a driver: its place in the script, the current half, and whether it has flipped since its reset
 pub record Stage : Type 0 where
@@ -27,7 +27,7 @@ KnowsHalf place half byte1 = half ≡ half_of_high byte1
 
 -- the driver stands after the life, at whose peek this byte was handed in
 pub record StandsAfter (stage : Stage) (peeked : ℕ) (life : List Item) : Type 0 where
-  pub place : place_of life ≡ Some stage.place
+  pub place : place_of_life life ≡ Some stage.place
   pub half : KnowsHalf stage.place stage.half (byte1_of peeked life)
   pub flipped : has_flip life ≡ stage.flipped
 

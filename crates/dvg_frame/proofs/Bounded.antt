@@ -21,7 +21,7 @@ use Rattle.dvg_frame.specs.declared.place.FrameFault.TheVariants.{OutOfRom, NoCa
 use Rattle.dvg_frame.specs.Steps.{one, two, Stands, in_frame, in_rom, second, bare, IsFine, Leads, on, jump, call, back, Reached, begin, step, Closed}
 use Rattle.dvg_frame.specs.Faults.{Begins}
 use Rattle.dvg_frame.specs.Pairs.{pair_of}
-use Rattle.dvg_frame.specs.Ways.{IsIn}
+use Rattle.dvg_frame.specs.Ways.{IsPlaceOf}
 use Rattle.dvg_frame.specs.Picture.{End, AtHalt, AtReturn, Draws, halts, returns, moves, jumps, call_halts, calls, IsPicture, IsBound}
 use Rattle.dvg_frame.specs.Loops.{Walks, none, more, places, HasLoop}
 use Rattle.dvg_frame.proofs.Words.{rom_there, word_fits}
@@ -78,7 +78,7 @@ module _ (F : List OpKind) (R : List ℕ) (image : IsImage R) (closed : Closed F
     pub after : Place
     pub stands : Stands F R p act after
 
-  in_rom_stands : (a d : ℕ) → IsIn F (InRom a) → IsFine F R (InRom a) d → Something (InRom a)
+  in_rom_stands : (a d : ℕ) → IsPlaceOf F (InRom a) → IsFine F R (InRom a) d → Something (InRom a)
   in_rom_stands a d inside fine =
       let low = inside.0 in
       let high = inside.1 in
@@ -96,7 +96,7 @@ module _ (F : List OpKind) (R : List ℕ) (image : IsImage R) (closed : Closed F
       record { act = _; after = _; stands = in_rom (one there spelled.1) refl })
       (cases_lt first 0xB000)
 
-  stands_in : (p : Place) (d : ℕ) → IsIn F p → IsFine F R p d → Something p
+  stands_in : (p : Place) (d : ℕ) → IsPlaceOf F p → IsFine F R p d → Something p
   stands_in (InFrame i) d inside fine =
       record { act = _; after = _; stands = in_frame (slice_get-get_or F i Return inside.0) refl }
   stands_in (InRom a) d inside fine = in_rom_stands a d inside fine

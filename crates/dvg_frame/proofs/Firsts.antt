@@ -14,7 +14,7 @@ use Rattle.dvg_frame.specs.declared.place.FrameFault.TheVariants.{Empty, NoLabs,
 use Rattle.dvg_frame.specs.Layout.{size}
 use Rattle.dvg_frame.specs.Steps.{op_act, Names, Bad, last, target, second, past, deep, bare, IsFine, Reached, BeginsWithLabs, labs, Closed}
 use Rattle.dvg_frame.specs.Faults.{Misses, misses, number, Begins, Least, Refuses}
-use Rattle.dvg_frame.specs.Firsts.{IsLabsCode, IsLabs, NamesNone}
+use Rattle.dvg_frame.specs.Firsts.{IsLabsCode, DrawsLabs, NamesNone}
 use Rattle.dvg_frame.specs.Frames.{IsFrame}
 use Rattle.dvg_frame.specs.Ops.{IsDraft}
 
@@ -23,24 +23,24 @@ labs_by_code : (instr : Instr) (ops : List OpKind) → IsLabsCode instr → Begi
 labs_by_code (Labs x y scale) ops is = labs
 labs_by_code _ ops is = absurd is
 
-labs_by_op : (op : OpKind) (ops : List OpKind) → IsLabs op → BeginsWithLabs (op ∷ ops)
+labs_by_op : (op : OpKind) (ops : List OpKind) → DrawsLabs op → BeginsWithLabs (op ∷ ops)
 labs_by_op (Draw instr) ops is = labs_by_code instr ops is
 labs_by_op _ ops is = absurd is
 
-op_by_labs : {op : OpKind} {ops : List OpKind} → BeginsWithLabs (op ∷ ops) → IsLabs op
+op_by_labs : {op : OpKind} {ops : List OpKind} → BeginsWithLabs (op ∷ ops) → DrawsLabs op
 op_by_labs labs = tt
 
-pub begins_with : (F : List OpKind) (op kind : OpKind) → slice_get F 0 ≡ Some op → kind ≡ op → IsLabs kind → BeginsWithLabs F
+pub begins_with : (F : List OpKind) (op kind : OpKind) → slice_get F 0 ≡ Some op → kind ≡ op → DrawsLabs kind → BeginsWithLabs F
 begins_with [] op kind is kind_is labs_is = let within = slice_get_within [] 0 op is in absurd (omega arith)
 begins_with (x ∷ xs) op kind is kind_is labs_is =
     let same : kind ≡ x = cc in
-    labs_by_op x xs (subst IsLabs same labs_is)
+    labs_by_op x xs (subst DrawsLabs same labs_is)
 
-pub begins_not : (F : List OpKind) (op kind : OpKind) → slice_get F 0 ≡ Some op → kind ≡ op → ¬ IsLabs kind → ¬ BeginsWithLabs F
+pub begins_not : (F : List OpKind) (op kind : OpKind) → slice_get F 0 ≡ Some op → kind ≡ op → ¬ DrawsLabs kind → ¬ BeginsWithLabs F
 begins_not [] op kind is kind_is not_labs = let within = slice_get_within [] 0 op is in absurd (omega arith)
 begins_not (x ∷ xs) op kind is kind_is not_labs =
     let same : x ≡ kind = cc in
-    λ begins. not_labs (subst IsLabs same (op_by_labs begins))
+    λ begins. not_labs (subst DrawsLabs same (op_by_labs begins))
 
 -- an operation names none of the draft exactly where it misses
 none_named : (count : ℕ) (op : OpKind) → NamesNone count op → (j : ℕ) × Names (op_act op) (InFrame j) × (count ≤ j)
@@ -88,7 +88,7 @@ too_long F words words_is long = omega arith
 pub fits_by : (F : List OpKind) (words : ℕ) → words ≡ size F → words ≤ 511 → size F ≤ 511
 fits_by F words words_is fits = omega arith
 
-pub frame_by : (F : List OpKind) (op kind : OpKind) (words : ℕ) → IsDraft F → slice_get F 0 ≡ Some op → kind ≡ op → IsLabs kind → words ≡ size F → words ≤ 511
+pub frame_by : (F : List OpKind) (op kind : OpKind) (words : ℕ) → IsDraft F → slice_get F 0 ≡ Some op → kind ≡ op → DrawsLabs kind → words ≡ size F → words ≤ 511
     → ((i : ℕ) → ¬ Misses F i) → IsFrame F
 frame_by F op kind words draft is kind_is labs_is words_is fits none =
     record {

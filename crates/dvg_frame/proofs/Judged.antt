@@ -17,7 +17,7 @@ use Rattle.dvg_frame.specs.declared.pair.Pair.{Pair}
 use Rattle.dvg_frame.specs.declared.way.Way.{Way}
 use Rattle.dvg_frame.specs.Steps.{SpelledAt, one, two, op_act, Stands, in_frame, in_rom, GoesPast, Names, IsOutside, Bad, last, target, second, past, deep, bare, IsFine}
 use Rattle.dvg_frame.specs.Faults.{number}
-use Rattle.dvg_frame.specs.Ways.{way, EndsWithin, StandsSo, GoesOn, Outside, LeadsOutside, IsCall, IsReturn, HasFault, IsLeast}
+use Rattle.dvg_frame.specs.Ways.{way, EndsWithin, StandsSo, GoesOn, Outside, LeadsOutside, IsCall, IsReturn, HasFaultAt, IsLeast}
 
 -- one instruction at most is spelled at an address
 spelled_once : (mem : ℕ → Option ℕ) (a : ℕ) (instr other : Instr) → SpelledAt mem a instr → SpelledAt mem a other → instr ≡ other
@@ -120,7 +120,7 @@ module _ (F : List OpKind) (R : List ℕ) where
   bad_bare (Calls q) after d stands is depth = absurd is
   bad_bare Halts after d stands is depth = absurd is
 
-  bad_by : (p : Place) (d : ℕ) (act : Act Place) (after : Place) (fault : FrameFault) → Stands F R p act after → HasFault (length F) (record { place = p; depth = d }) (way act after) fault → Bad F R p d fault
+  bad_by : (p : Place) (d : ℕ) (act : Act Place) (after : Place) (fault : FrameFault) → Stands F R p act after → HasFaultAt (length F) (record { place = p; depth = d }) (way act after) fault → Bad F R p d fault
   bad_by p d act after (RunsOff i) stands has =
       subst (λ x. Bad F R x d (RunsOff i)) (sym has.0) (last (subst (λ x. Stands F R x act after) has.0 stands) (goes_past act after has.2) has.1)
   bad_by p d act after (OutOfRom q) stands has = subst (λ x. Bad F R p d (OutOfRom x)) has.0 (bad_outside act after d stands has.1)
@@ -132,7 +132,7 @@ module _ (F : List OpKind) (R : List ℕ) where
   cut_stands : {a word : ℕ} {act : Act Place} {after : Place} → Stands F R (InRom a) act after → rom_word R a ≡ Some word → IsFirst word → IsOutside (a + 1) → ⊥
   cut_stands {a} {word} (in_rom {instr = instr} spelled act_is) is first outside = cut_none R a word instr spelled is first outside
 
-  by_bad : {p : Place} {d : ℕ} {fault : FrameFault} (act : Act Place) (after : Place) → Stands F R p act after → Bad F R p d fault → HasFault (length F) (record { place = p; depth = d }) (way act after) fault
+  by_bad : {p : Place} {d : ℕ} {fault : FrameFault} (act : Act Place) (after : Place) → Stands F R p act after → Bad F R p d fault → HasFaultAt (length F) (record { place = p; depth = d }) (way act after) fault
   by_bad act after stands (last {act = b} {after = q} stood goes end) =
       let same = same_standing stood stands in
       (refl, end, subst (λ x. GoesOn (way act x)) same.1 (subst (λ x. GoesOn (way x q)) same.0 (past_goes b q goes)))
@@ -155,20 +155,20 @@ module _ (F : List OpKind) (R : List ℕ) where
       subst (λ x. StandsSo F R x seen) (sym place)
       (record { act = op_act kind; after = InFrame (i + 1); stands = in_frame (subst (λ k. slice_get F k ≡ Some op) n_is is) (ap op_act kind_is); is = seen_is })
 
-  pub least_there : (pair : Pair) (count : ℕ) (seen : Way) (fault : FrameFault) → count ≡ length F → StandsSo F R pair.place seen → IsLeast (HasFault count pair seen) fault
+  pub least_there : (pair : Pair) (count : ℕ) (seen : Way) (fault : FrameFault) → count ≡ length F → StandsSo F R pair.place seen → IsLeast (HasFaultAt count pair seen) fault
       → IsLeast (Bad F R pair.place pair.depth) fault
   least_there pair count seen fault count_is so found =
-      let here : IsLeast (HasFault (length F) pair (way so.act so.after)) fault =
-      subst (λ x. IsLeast (HasFault (length F) pair x) fault) so.is (subst (λ n. IsLeast (HasFault n pair seen) fault) count_is found) in
+      let here : IsLeast (HasFaultAt (length F) pair (way so.act so.after)) fault =
+      subst (λ x. IsLeast (HasFaultAt (length F) pair x) fault) so.is (subst (λ n. IsLeast (HasFaultAt n pair seen) fault) count_is found) in
       record {
         holds = bad_by pair.place pair.depth so.act so.after fault so.stands here.holds;
         least = λ other bad. here.least other (by_bad so.act so.after so.stands bad);
       }
 
-  pub fine_there : (pair : Pair) (count : ℕ) (seen : Way) → count ≡ length F → StandsSo F R pair.place seen → ((fault : FrameFault) → ¬ HasFault count pair seen fault) → IsFine F R pair.place pair.depth
+  pub fine_there : (pair : Pair) (count : ℕ) (seen : Way) → count ≡ length F → StandsSo F R pair.place seen → ((fault : FrameFault) → ¬ HasFaultAt count pair seen fault) → IsFine F R pair.place pair.depth
   fine_there pair count seen count_is so none fault bad =
-      let here : HasFault (length F) pair (way so.act so.after) fault = by_bad so.act so.after so.stands bad in
-      none fault (subst (λ n. HasFault n pair seen fault) (sym count_is) (subst (λ x. HasFault (length F) pair x fault) (sym so.is) here))
+      let here : HasFaultAt (length F) pair (way so.act so.after) fault = by_bad so.act so.after so.stands bad in
+      none fault (subst (λ n. HasFaultAt n pair seen fault) (sym count_is) (subst (λ x. HasFaultAt (length F) pair x fault) (sym so.is) here))
 
   -- where the ROM ends within an instruction, its second word lies outside
   cut_least : {p : Place} {d : ℕ} {fault : FrameFault} → EndsWithin R p → Bad F R p d fault → 6 ≤ number fault

@@ -12,7 +12,7 @@ use Rattle.dvg_frame.specs.Loops.{HasLoop}
 use Rattle.dvg_frame.specs.Pairs.{IsPlace}
 use Rattle.dvg_frame.specs.Picture.{AtHalt, Draws, IsBound}
 use Rattle.dvg_frame.specs.Steps.{Reached, begin, step, Closed}
-use Rattle.dvg_frame.specs.Tables.{IsRefused, known_at, HasNone, Fits, GoesTo, IsKnown, IsTable, end_of}
+use Rattle.dvg_frame.specs.Tables.{IsRefused, known_at, HasNone, FitsAt, GoesTo, IsKnown, IsTable, end_of}
 use Rattle.dvg_frame.proofs.Firsts.{closed_by}
 use Rattle.dvg_frame.proofs.Bounded.{at_depth_0, bound_low}
 use Rattle.dvg_frame.proofs.Turns.{walks_few}
@@ -32,7 +32,7 @@ module _ (F : List OpKind) (R : List ℕ) (begins : Begins F) (table : List (Opt
   pub deep_refused : DEEPEST < first.calls → IsRefused F R
   deep_refused deep all = let low = (known.tight all 0 begin).deep in absurd (omega arith)
 
-  module _ (image : IsImage R) (fits : Fits first 0) where
+  module _ (image : IsImage R) (fits : FitsAt first 0) where
     -- each reached pair has a place of the table that fits its depth
     all_fit : {p : Place} {d : ℕ} → Reached F R p d → GoesTo table p d
     all_fit begin = record { inside = inside; drawn = first; known = is; fits = fits }
@@ -72,5 +72,5 @@ module _ (F : List OpKind) (R : List ℕ) (begins : Begins F) (table : List (Opt
     pub small : first.words + 1 < 2 ^ 63
     small = let few = low in let equal = same in omega arith
 
-pub fits_by : (first : Drawn) → (first.returns ≡ true → ⊥) → first.calls ≤ DEEPEST → Fits first 0
+pub fits_by : (first : Drawn) → (first.returns ≡ true → ⊥) → first.calls ≤ DEEPEST → FitsAt first 0
 fits_by first never low = record { deep = omega arith; back = λ returns. absurd (never returns) }

@@ -24,7 +24,7 @@ use Rattle.dvg_frame.specs.Faults.{misses, Precedes, Least, Begins}
 use Rattle.dvg_frame.specs.Growth.{Grows}
 use Rattle.dvg_frame.specs.Layout.{size}
 use Rattle.dvg_frame.specs.Pairs.{IsPlace, IsPair, pair_of, first_pair, index}
-use Rattle.dvg_frame.specs.Ways.{way, IsIn, StandsSo, IsLeast}
+use Rattle.dvg_frame.specs.Ways.{way, IsPlaceOf, StandsSo, IsLeast}
 use Rattle.dvg_frame.specs.Sweeps.{ReachedPair, BadPair, FinePair, Follows, StaysIn, IsFound, IsUpTo, IsDone, Sweeps}
 use Rattle.dvg_frame.proofs.Judged.{same_standing}
 use Rattle.dvg_frame.proofs.Sizes.{some_words}
@@ -52,7 +52,7 @@ precedes one other a b below = by_places one.place other.place one.depth other.d
     by_places (InRom x) (InFrame j) d e g h l m below = omega arith
     by_places (InRom x) (InRom y) d e g h l m below = ⊎_elim (λ less. inl less) (λ no_less. let same : x ≡ y = omega arith in inr (same, omega arith)) (cases_lt x y)
 
-pub in_place : (F : List OpKind) (p : Place) → IsIn F p → IsPlace p
+pub in_place : (F : List OpKind) (p : Place) → IsPlaceOf F p → IsPlace p
 in_place F (InFrame i) inside = inside.1
 in_place F (InRom a) inside = inside
 
@@ -66,7 +66,7 @@ rom_names Rtsl j named = named
 rom_names (Jmpl a) j named = let is : InRom a ≡ InFrame j = named in cc
 rom_names (Svec scale dx dy z) j named = named
 
-inside_rom : (F : List OpKind) (a : ℕ) → ¬ IsOutside a → IsIn F (InRom a)
+inside_rom : (F : List OpKind) (a : ℕ) → ¬ IsOutside a → IsPlaceOf F (InRom a)
 inside_rom F a not_outside =
     let low : ROM_FIRST ≤ a = ⊎_elim (λ below. absurd (not_outside (inl below))) (λ no_less. no_less) (cases_lt a ROM_FIRST) in
     let high : a < ROM_END = ⊎_elim (λ below. below) (λ far. absurd (not_outside (inr far))) (cases_lt a ROM_END) in
@@ -105,21 +105,21 @@ some_op F labs = omega arith
 
 module _ (F : List OpKind) (R : List ℕ) (few : length F ≤ 511) (begins : Begins F) where
   -- a fine place leads to places of the draft and the ROM
-  pub after_in : {p q : Place} {act : Act Place} (d : ℕ) → Stands F R p act q → GoesPast act → IsFine F R p d → IsIn F q
+  pub after_in : {p q : Place} {act : Act Place} (d : ℕ) → Stands F R p act q → GoesPast act → IsFine F R p d → IsPlaceOf F q
   after_in d (in_frame {i = i} {op = op} is act_is) goes fine =
       let within = slice_get_within F i op is in
       let not_last : i + 1 ≢ length F = λ end. fine (RunsOff i) (last (in_frame is act_is) goes end) in
       (omega arith, omega arith)
   after_in d (in_rom {a = a} spelled act_is) goes fine = inside_rom F _ (λ outside. fine (OutOfRom (InRom a)) (past (in_rom spelled act_is) goes outside))
 
-  pub target_in : {p after : Place} {act : Act Place} (q : Place) (d : ℕ) → Stands F R p act after → Names act q → IsFine F R p d → IsIn F q
+  pub target_in : {p after : Place} {act : Act Place} (q : Place) (d : ℕ) → Stands F R p act after → Names act q → IsFine F R p d → IsPlaceOf F q
   target_in (InFrame j) d (in_frame {i = i} {op = op} is act_is) named fine =
       let below : j < length F = ⊎_elim (λ less. less) (λ far. absurd (begins.targets i (misses is (subst (λ x. Names x (InFrame j)) act_is named) far))) (cases_lt j (length F)) in
       (below, omega arith)
   target_in (InFrame j) d (in_rom {instr = instr} spelled act_is) named fine = absurd (rom_names instr j (subst (λ x. Names x (InFrame j)) act_is named))
   target_in {p} (InRom a) d stands named fine = inside_rom F a (λ outside. fine (OutOfRom p) (target stands named outside))
 
-  reached_in : {p : Place} {d : ℕ} → Reached F R p d → IsIn F p × (d ≤ DEEPEST)
+  reached_in : {p : Place} {d : ℕ} → Reached F R p d → IsPlaceOf F p × (d ≤ DEEPEST)
   reached_in begin = let some = some_op F begins.begins in ((some, omega arith), omega arith)
   reached_in (step {d = d} reached fine (on stands)) = let before = reached_in reached in (after_in d stands tt fine, before.1)
   reached_in (step {d = d} reached fine (jump {q = q} stands)) = let before = reached_in reached in (target_in q d stands refl fine, before.1)
@@ -130,7 +130,7 @@ module _ (F : List OpKind) (R : List ℕ) (few : length F ≤ 511) (begins : Beg
       (target_in q d stands refl fine, omega arith)
   reached_in (step {d = d} reached fine (back stands)) = let before = reached_in reached in (after_in d stands tt fine, before.1)
 
-  pub pair_in : (pair : Pair) → ReachedPair F R pair → IsIn F pair.place
+  pub pair_in : (pair : Pair) → ReachedPair F R pair → IsPlaceOf F pair.place
   pair_in pair reached = (reached_in reached).0
 
   pub reached_pair : (pair : Pair) → ReachedPair F R pair → IsPair pair

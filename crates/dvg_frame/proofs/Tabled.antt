@@ -21,8 +21,8 @@ use Rattle.dvg_frame.specs.Faults.{Begins}
 use Rattle.dvg_frame.specs.Steps.{Stands, last, target, second, past, deep, bare, IsFine, Leads, on, jump, call, back, Reached, step}
 use Rattle.dvg_frame.specs.Picture.{End, AtHalt, AtReturn}
 use Rattle.dvg_frame.specs.Loops.{Walks, none, more, places, HasLoop}
-use Rattle.dvg_frame.specs.Ways.{way, StandsSo, IsIn, EndsWithin}
-use Rattle.dvg_frame.specs.Tables.{AllFine, known_at, HasPlace, Keeps, end_of, Fits, IsDrawn, IsKnown, IsTable, Next, Goes, IsGood, IsReady, Linked, IsChain, HasChain, onward, IsLonger, IsCalled}
+use Rattle.dvg_frame.specs.Ways.{way, StandsSo, IsPlaceOf, EndsWithin}
+use Rattle.dvg_frame.specs.Tables.{AllFine, known_at, HasPlace, KeepsKnown, end_of, FitsAt, IsDrawnFrom, IsKnown, IsTable, Next, StepsOn, IsGood, IsReady, Linked, IsChain, HasChain, onward, IsLonger, IsCalled}
 use Rattle.dvg_frame.proofs.Judged.{same_standing}
 use Rattle.dvg_frame.proofs.Marks.{same_place}
 use Rattle.dvg_frame.proofs.Knowing.{put_here, put_other}
@@ -56,7 +56,7 @@ module _ (F : List OpKind) (R : List ℕ) where
   first_step : {d k : ℕ} {p q : Place} → Walks F R d p (suc k) q → (next : Place) × Leads F R p d next d × Walks F R d next k q
   first_step (more {q = next} leads walk) = (next, leads, walk)
 
-  ends_more : (p q : Place) → Goes F R p q → Ends q → Ends p
+  ends_more : (p q : Place) → StepsOn F R p q → Ends q → Ends p
   ends_more p q goes ends = (
     suc ends.0,
     λ d r walk.
@@ -65,22 +65,22 @@ module _ (F : List OpKind) (R : List ℕ) where
         ends.1 d r (subst (λ x. Walks F R d x ends.0 r) same it.2),
   )
 
-  ends_here : (p : Place) → ((q : Place) → ¬ Goes F R p q) → Ends p
+  ends_here : (p : Place) → ((q : Place) → ¬ StepsOn F R p q) → Ends p
   ends_here p nowhere = (1, λ d r walk. let it = first_step walk in nowhere it.0 (goes_from F R it.1))
 
-  pub goes_move : {p after : Place} {instr : Instr} → Stands F R p (Moves instr) after → Goes F R p after
+  pub goes_move : {p after : Place} {instr : Instr} → Stands F R p (Moves instr) after → StepsOn F R p after
   goes_move {after = after} stands = record { act = _; after = after; stands = stands; next = refl }
 
-  pub goes_jump : {p to after : Place} → Stands F R p (Jumps to) after → Goes F R p to
+  pub goes_jump : {p to after : Place} → Stands F R p (Jumps to) after → StepsOn F R p to
   goes_jump {after = after} stands = record { act = _; after = after; stands = stands; next = refl }
 
-  pub goes_call : {p to after : Place} → Stands F R p (Calls to) after → Goes F R p after
+  pub goes_call : {p to after : Place} → Stands F R p (Calls to) after → StepsOn F R p after
   goes_call {after = after} stands = record { act = _; after = after; stands = stands; next = refl }
 
-  stops_back : {p after q : Place} → Stands F R p GoesBack after → Goes F R p q → ⊥
+  stops_back : {p after q : Place} → Stands F R p GoesBack after → StepsOn F R p q → ⊥
   stops_back {q = q} stands goes = let same = same_standing goes.stands stands in subst (λ x. Next x goes.after q) same.0 goes.next
 
-  stops_halt : {p after q : Place} → Stands F R p Stops after → Goes F R p q → ⊥
+  stops_halt : {p after q : Place} → Stands F R p Stops after → StepsOn F R p q → ⊥
   stops_halt {q = q} stands goes = let same = same_standing goes.stands stands in subst (λ x. Next x goes.after q) same.0 goes.next
 
   -- a place that is fine at one depth, at another one
@@ -93,7 +93,7 @@ module _ (F : List OpKind) (R : List ℕ) where
   fine_at d e stands fine not_deep not_bare fault (bare stood depth) = not_bare (same_standing stands stood).0 depth
 
   -- a step of what calls nothing stays at its depth
-  stays : {p q r : Place} {act : Act Place} {after : Place} {d e : ℕ} → Stands F R p act after → ((to : Place) → act ≡ Calls to → ⊥) → Goes F R p q → Leads F R p d r e → (e ≡ d) × (q ≡ r)
+  stays : {p q r : Place} {act : Act Place} {after : Place} {d e : ℕ} → Stands F R p act after → ((to : Place) → act ≡ Calls to → ⊥) → StepsOn F R p q → Leads F R p d r e → (e ≡ d) × (q ≡ r)
   stays {p = p} {q = q} {r = r} {d = d} stands no_call goes (on stood) = (refl, goes_once F R p q r goes (goes_from F R {d = d} (on stood)))
   stays {p = p} {q = q} {r = r} {d = d} stands no_call goes (jump stood) = (refl, goes_once F R p q r goes (goes_from F R {d = d} (jump stood)))
   stays stands no_call goes (call {q = to} stood) = absurd (no_call to (same_standing stands stood).0)
@@ -120,22 +120,22 @@ module _ (F : List OpKind) (R : List ℕ) where
   from_halt stands (back stood) = let same = (same_standing stands stood).0 in cc
 
 -- what fits, by what it leads on to
-longer_fits : (rest : Drawn) (extra : ℕ) (new : Drawn) (d : ℕ) → IsLonger rest extra new → Fits new d → Fits rest d
+longer_fits : (rest : Drawn) (extra : ℕ) (new : Drawn) (d : ℕ) → IsLonger rest extra new → FitsAt new d → FitsAt rest d
 longer_fits rest extra new d longer fits = let calls = longer.calls in let low = fits.deep in record { deep = omega arith; back = λ is. fits.back (longer.returns ∙ is) }
 
-fits_longer : (rest : Drawn) (extra : ℕ) (new : Drawn) (d : ℕ) → IsLonger rest extra new → Fits rest d → Fits new d
+fits_longer : (rest : Drawn) (extra : ℕ) (new : Drawn) (d : ℕ) → IsLonger rest extra new → FitsAt rest d → FitsAt new d
 fits_longer rest extra new d longer fits = let calls = longer.calls in let low = fits.deep in record { deep = omega arith; back = λ is. fits.back (sym longer.returns ∙ is) }
 
-rest_fits : (inside rest new : Drawn) (d : ℕ) → IsCalled inside rest new → Fits new d → Fits rest d
+rest_fits : (inside rest new : Drawn) (d : ℕ) → IsCalled inside rest new → FitsAt new d → FitsAt rest d
 rest_fits inside rest new d called fits = let calls = called.behind in let low = fits.deep in record { deep = omega arith; back = λ is. fits.back (called.returns ∙ is) }
 
-inside_fits : (inside rest new : Drawn) (d : ℕ) → IsCalled inside rest new → Fits new d → Fits inside (suc d)
+inside_fits : (inside rest new : Drawn) (d : ℕ) → IsCalled inside rest new → FitsAt new d → FitsAt inside (suc d)
 inside_fits inside rest new d called fits =
     let low = fits.deep in
     let calls = called.deeper (omega arith) in
     record { deep = omega arith; back = λ is. omega arith }
 
-fits_called : (inside rest new : Drawn) (d : ℕ) → IsCalled inside rest new → Fits inside (suc d) → Fits rest d → Fits new d
+fits_called : (inside rest new : Drawn) (d : ℕ) → IsCalled inside rest new → FitsAt inside (suc d) → FitsAt rest d → FitsAt new d
 fits_called inside rest new d called deeper fits =
     let high = deeper.deep in
     let low = fits.deep in
@@ -143,11 +143,11 @@ fits_called inside rest new d called deeper fits =
     record { deep = omega arith; back = λ is. fits.back (sym called.returns ∙ is) }
 
 module _ (F : List OpKind) (R : List ℕ) (table : List (Option Drawn)) (p : Place) (d : ℕ) (ready : IsReady F R table p d) where
-  goes_place : (q : Place) → Goes F R p q → IsPlace q
+  goes_place : (q : Place) → StepsOn F R p q → IsPlace q
   goes_place q goes = (ready.next q goes).0
 
   -- from an act that leads to one place alone
-  module _ (act : Act Place) (after q : Place) (rest new : Drawn) (longer_by : ℕ) (stands : Stands F R p act after) (no_call : (to : Place) → act ≡ Calls to → ⊥) (no_back : act ≡ GoesBack → ⊥) (goes : Goes F R p q)
+  module _ (act : Act Place) (after q : Place) (rest new : Drawn) (longer_by : ℕ) (stands : Stands F R p act after) (no_call : (to : Place) → act ≡ Calls to → ⊥) (no_back : act ≡ GoesBack → ⊥) (goes : StepsOn F R p q)
       (is : known_at table q ≡ Some rest) (longer : IsLonger rest longer_by new)
       (counted : (end : End) (n : ℕ) → DrawnSo F R q end n → DrawnSo F R p end (n + longer_by)) where
     below : IsKnown F R table q rest
@@ -162,7 +162,7 @@ module _ (F : List OpKind) (R : List ℕ) (table : List (Option Drawn)) (p : Pla
             inside = subst IsPlace same.1 (goes_place q goes);
             drawn = rest;
             known = subst (λ x. known_at table x ≡ Some rest) same.1 is;
-            fits = subst (Fits rest) (sym same.0) (longer_fits rest longer_by new e longer fits);
+            fits = subst (FitsAt rest) (sym same.0) (longer_fits rest longer_by new e longer fits);
           };
       tight = λ all e reached. fits_longer rest longer_by new e longer (below.tight all e (step reached (all p e reached) (leads_from F R p q e goes)));
       draws = record {
@@ -181,7 +181,7 @@ module _ (F : List OpKind) (R : List ℕ) (table : List (Option Drawn)) (p : Pla
     behind : IsKnown F R table after rest
     behind = ready.entries after rest (goes_place after (goes_call F R stands)) rest_is
 
-    call_draws : (end : Ending) → inside.end ≡ end → IsDrawn F R p new
+    call_draws : (end : Ending) → inside.end ≡ end → IsDrawnFrom F R p new
     call_draws Halts ends =
         let by = called.halts ends in
         let drew : DrawnSo F R to AtHalt deeper.draws.count = subst (λ e. DrawnSo F R to (end_of e) deeper.draws.count) ends deeper.draws.draws in
@@ -210,13 +210,13 @@ module _ (F : List OpKind) (R : List ℕ) (table : List (Option Drawn)) (p : Pla
             inside = subst IsPlace same.1 (ready.inside to after stands).0;
             drawn = inside;
             known = subst (λ x. known_at table x ≡ Some inside) same.1 inside_is;
-            fits = subst (Fits inside) (sym same.0) (inside_fits inside rest new e called fits);
+            fits = subst (FitsAt inside) (sym same.0) (inside_fits inside rest new e called fits);
           })
           (λ same. record {
             inside = subst IsPlace same.1 (goes_place after (goes_call F R stands));
             drawn = rest;
             known = subst (λ x. known_at table x ≡ Some rest) same.1 rest_is;
-            fits = subst (Fits rest) (sym same.0) (rest_fits inside rest new e called fits);
+            fits = subst (FitsAt rest) (sym same.0) (rest_fits inside rest new e called fits);
           })
           (from_call F R stands leads);
       tight = λ all e reached.
@@ -312,7 +312,7 @@ module _ (F : List OpKind) (R : List ℕ) (table : List (Option Drawn)) (p : Pla
   here_place = in_place F p ready.good.inside
 
 -- what is known stays so where the table keeps what it has
-pub known_keeps : (F : List OpKind) (R : List ℕ) (old new : List (Option Drawn)) (p : Place) (drawn : Drawn) → Keeps old new → IsKnown F R old p drawn → IsKnown F R new p drawn
+pub known_keeps : (F : List OpKind) (R : List ℕ) (old new : List (Option Drawn)) (p : Place) (drawn : Drawn) → KeepsKnown old new → IsKnown F R old p drawn → IsKnown F R new p drawn
 known_keeps F R old new p drawn keeps known = record {
   fine = known.fine;
   leads = λ d q e fits leads. let to = known.leads d q e fits leads in record { inside = to.inside; drawn = to.drawn; known = keeps q to.drawn to.inside to.known; fits = to.fits };
@@ -320,13 +320,13 @@ known_keeps F R old new p drawn keeps known = record {
   draws = known.draws;
 }
 
-pub has_keeps : (old new : List (Option Drawn)) (p : Place) → Keeps old new → HasPlace old p → HasPlace new p
+pub has_keeps : (old new : List (Option Drawn)) (p : Place) → KeepsKnown old new → HasPlace old p → HasPlace new p
 has_keeps old new p keeps has = (has.0, (has.1.0, keeps p has.1.0 has.0 has.1.1))
 
-pub keeps_same : (table : List (Option Drawn)) → Keeps table table
+pub keeps_same : (table : List (Option Drawn)) → KeepsKnown table table
 keeps_same table p drawn inside is = is
 
-pub keeps_both : (a b c : List (Option Drawn)) → Keeps a b → Keeps b c → Keeps a c
+pub keeps_both : (a b c : List (Option Drawn)) → KeepsKnown a b → KeepsKnown b c → KeepsKnown a c
 keeps_both a b c one two p drawn inside is = two p drawn inside (one p drawn inside is)
 
 -- one place more
@@ -337,7 +337,7 @@ module _ (table new : List (Option Drawn)) (p : Place) (drawn : Drawn) (inside :
   pub put_has : HasPlace new p
   put_has = (inside, (drawn, here_is))
 
-  pub put_keeps : Keeps table new
+  pub put_keeps : KeepsKnown table new
   put_keeps q other there had =
       ⊎_elim
       (λ same_index.
@@ -359,20 +359,20 @@ module _ (table new : List (Option Drawn)) (p : Place) (drawn : Drawn) (inside :
       (cases_eq (place_index p) (place_index q))
 
 -- where a way leads on
-pub onward_goes : (F : List OpKind) (R : List ℕ) (p next : Place) (seen : Way) → StandsSo F R p seen → onward seen ≡ Some next → Goes F R p next
+pub onward_goes : (F : List OpKind) (R : List ℕ) (p next : Place) (seen : Way) → StandsSo F R p seen → onward seen ≡ Some next → StepsOn F R p next
 onward_goes F R p next seen so is = by_way seen (stands_as F R p seen so) is
   where
-    by_way : (seen : Way) → StandsAs F R p seen → onward seen ≡ Some next → Goes F R p next
-    by_way (Move after words) it is = let same : after ≡ next = cc in subst (Goes F R p) same (goes_move F R it.1)
-    by_way (Jump to) it is = let same : to ≡ next = cc in subst (Goes F R p) same (goes_jump F R it.1)
-    by_way (Call to after) it is = let same : after ≡ next = cc in subst (Goes F R p) same (goes_call F R it)
+    by_way : (seen : Way) → StandsAs F R p seen → onward seen ≡ Some next → StepsOn F R p next
+    by_way (Move after words) it is = let same : after ≡ next = cc in subst (StepsOn F R p) same (goes_move F R it.1)
+    by_way (Jump to) it is = let same : to ≡ next = cc in subst (StepsOn F R p) same (goes_jump F R it.1)
+    by_way (Call to after) it is = let same : after ≡ next = cc in subst (StepsOn F R p) same (goes_call F R it)
     by_way Return it is = absurd cc
     by_way Halt it is = absurd cc
 
-pub onward_nowhere : (F : List OpKind) (R : List ℕ) (p : Place) (seen : Way) → StandsSo F R p seen → onward seen ≡ None → ((q : Place) → ¬ Goes F R p q)
+pub onward_nowhere : (F : List OpKind) (R : List ℕ) (p : Place) (seen : Way) → StandsSo F R p seen → onward seen ≡ None → ((q : Place) → ¬ StepsOn F R p q)
 onward_nowhere F R p seen so is = by_way seen (stands_as F R p seen so) is
   where
-    by_way : (seen : Way) → StandsAs F R p seen → onward seen ≡ None → ((q : Place) → ¬ Goes F R p q)
+    by_way : (seen : Way) → StandsAs F R p seen → onward seen ≡ None → ((q : Place) → ¬ StepsOn F R p q)
     by_way (Move after words) it is = absurd cc
     by_way (Jump to) it is = absurd cc
     by_way (Call to after) it is = absurd cc
@@ -388,29 +388,29 @@ module _ (F : List OpKind) (R : List ℕ) (d : ℕ) where
   not_within (InFrame i) fine never = never
   not_within (InRom a) fine it = fine (OutOfRom (InRom a)) (second it.1 it.2 (inr (omega (arith, it.3))))
 
-  pub good_by : (p : Place) → IsIn F p → IsFine F R p d → (AllFine F R → Reached F R p d) → IsGood F R d p
+  pub good_by : (p : Place) → IsPlaceOf F p → IsFine F R p d → (AllFine F R → Reached F R p d) → IsGood F R d p
   good_by p inside fine reached = record { inside = inside; fine = fine; reached = reached }
 
-pub has_some : (F : List OpKind) (table : List (Option Drawn)) (p : Place) → IsIn F p → (known : Option Drawn) (some : Bool) → known_at table p ≡ known → some ≡ is_some known → some ≡ true → HasPlace table p
+pub has_some : (F : List OpKind) (table : List (Option Drawn)) (p : Place) → IsPlaceOf F p → (known : Option Drawn) (some : Bool) → known_at table p ≡ known → some ≡ is_some known → some ≡ true → HasPlace table p
 has_some F table p inside None some is some_is holds = let never : false ≡ true = sym some_is ∙ holds in absurd cc
 has_some F table p inside (Some drawn) some is some_is holds = (in_place F p inside, (drawn, is))
 
 module _ (F : List OpKind) (R : List ℕ) (begins : Begins F) (d : ℕ) where
   -- where a place without a fault leads on to, there is a place
-  pub goes_in : (p q : Place) → IsFine F R p d → Goes F R p q → IsIn F q
+  pub goes_in : (p q : Place) → IsFine F R p d → StepsOn F R p q → IsPlaceOf F q
   goes_in p q fine goes = by_goes goes.act goes.after goes.stands goes.next
     where
-      by_goes : (act : Act Place) (after : Place) → Stands F R p act after → Next act after q → IsIn F q
-      by_goes (Moves instr) after stands is = subst (IsIn F) is (after_in F R (few_ops F begins) begins d stands tt fine)
-      by_goes (Jumps to) after stands is = subst (IsIn F) is (target_in F R (few_ops F begins) begins to d stands refl fine)
-      by_goes (Calls to) after stands is = subst (IsIn F) is (after_in F R (few_ops F begins) begins d stands tt fine)
+      by_goes : (act : Act Place) (after : Place) → Stands F R p act after → Next act after q → IsPlaceOf F q
+      by_goes (Moves instr) after stands is = subst (IsPlaceOf F) is (after_in F R (few_ops F begins) begins d stands tt fine)
+      by_goes (Jumps to) after stands is = subst (IsPlaceOf F) is (target_in F R (few_ops F begins) begins to d stands refl fine)
+      by_goes (Calls to) after stands is = subst (IsPlaceOf F) is (after_in F R (few_ops F begins) begins d stands tt fine)
       by_goes GoesBack after stands is = absurd is
       by_goes Stops after stands is = absurd is
 
-  pub goes_good : (p q : Place) → IsGood F R d p → Goes F R p q → AllFine F R → Reached F R q d
+  pub goes_good : (p q : Place) → IsGood F R d p → StepsOn F R p q → AllFine F R → Reached F R q d
   goes_good p q good goes all = step (good.reached all) good.fine (leads_from F R p q d goes)
 
-  pub call_in : (p to after : Place) → IsGood F R d p → Stands F R p (Calls to) after → IsIn F to
+  pub call_in : (p to after : Place) → IsGood F R d p → Stands F R p (Calls to) after → IsPlaceOf F to
   call_in p to after good stands = target_in F R (few_ops F begins) begins to d stands refl good.fine
 
   pub call_low : (p to after : Place) → IsGood F R d p → Stands F R p (Calls to) after → d ≡ 4 → ⊥
@@ -428,9 +428,9 @@ module _ (F : List OpKind) (R : List ℕ) (begins : Begins F) (d : ℕ) where
       let walk = linked_walk rest.0 end pairs rest.2 in
       subst (λ x. Walks F R d x (suc (length pairs)) end) (sym linked.0) (more (leads_from F R pair.place rest.0 d rest.1) walk)
 
-  pub linked_push : (start end next : Place) (pairs : List Pair) (pair : Pair) → pair.place ≡ end → Linked F R d start pairs end → IsGood F R d end → Goes F R end next → Linked F R d start (pairs ++ pair ∷ []) next
+  pub linked_push : (start end next : Place) (pairs : List Pair) (pair : Pair) → pair.place ≡ end → Linked F R d start pairs end → IsGood F R d end → StepsOn F R end next → Linked F R d start (pairs ++ pair ∷ []) next
   linked_push start end next [] pair same linked good goes =
-      (linked ∙ sym same, subst (IsGood F R d) (sym same) good, (next, subst (λ x. Goes F R x next) (sym same) goes, refl))
+      (linked ∙ sym same, subst (IsGood F R d) (sym same) good, (next, subst (λ x. StepsOn F R x next) (sym same) goes, refl))
   linked_push start end next (first ∷ pairs) pair same linked good goes =
       let rest = linked.2 in (linked.0, linked.1, (rest.0, rest.1, linked_push rest.0 end next pairs pair same rest.2 good goes))
 
@@ -443,17 +443,17 @@ module _ (F : List OpKind) (R : List ℕ) (begins : Begins F) (d : ℕ) where
   chain_to table start end [] linked has = subst (HasPlace table) (sym linked) has
   chain_to table start end (pair ∷ pairs) linked has = let rest = linked.2 in (linked.0, linked.1, inl (rest.0, rest.1, chain_to table rest.0 end pairs rest.2 has))
 
-  pub chain_ends : (table : List (Option Drawn)) (start end : Place) (pairs : List Pair) (pair : Pair) → pair.place ≡ end → Linked F R d start pairs end → IsGood F R d end → ((q : Place) → ¬ Goes F R end q)
+  pub chain_ends : (table : List (Option Drawn)) (start end : Place) (pairs : List Pair) (pair : Pair) → pair.place ≡ end → Linked F R d start pairs end → IsGood F R d end → ((q : Place) → ¬ StepsOn F R end q)
       → IsChain F R table d start (pairs ++ pair ∷ [])
   chain_ends table start end [] pair same linked good nowhere =
-      (linked ∙ sym same, subst (IsGood F R d) (sym same) good, inr (subst (λ x. (q : Place) → ¬ Goes F R x q) (sym same) nowhere, refl))
+      (linked ∙ sym same, subst (IsGood F R d) (sym same) good, inr (subst (λ x. (q : Place) → ¬ StepsOn F R x q) (sym same) nowhere, refl))
   chain_ends table start end (first ∷ pairs) pair same linked good nowhere =
       let rest = linked.2 in (linked.0, linked.1, inl (rest.0, rest.1, chain_ends table rest.0 end pairs pair same rest.2 good nowhere))
 
   -- the last place of a chain: the table has what it leads on to
   pub record IsLast (table : List (Option Drawn)) (p : Place) : Type 0 where
     pub good : IsGood F R d p
-    pub next : (q : Place) → Goes F R p q → HasPlace table q
+    pub next : (q : Place) → StepsOn F R p q → HasPlace table q
 
   not_none : (pairs : List Pair) (pair : Pair) → pairs ++ pair ∷ [] ≡ [] → ⊥
   not_none pairs pair is = let never = ap length is in let sum = length-append pairs (pair ∷ []) in omega arith
@@ -473,13 +473,13 @@ module _ (F : List OpKind) (R : List ℕ) (begins : Begins F) (d : ℕ) where
       (chain.0, chain.1, ⊎_elim (λ on. inl (on.0, on.1, chain_front table new on.0 pairs pair on.2 has)) (λ nowhere. absurd (not_none pairs pair nowhere.1)) chain.2)
 
   -- a chain behind what was there before
-  pub has_linked_more : (start end next : Place) (before old new pairs : List Pair) (pair : Pair) → pair.place ≡ end → old ≡ before ++ pairs → Linked F R d start pairs end → IsGood F R d end → new ≡ old ++ pair ∷ [] → Goes F R end next
+  pub has_linked_more : (start end next : Place) (before old new pairs : List Pair) (pair : Pair) → pair.place ≡ end → old ≡ before ++ pairs → Linked F R d start pairs end → IsGood F R d end → new ≡ old ++ pair ∷ [] → StepsOn F R end next
       → (new ≡ before ++ (pairs ++ pair ∷ [])) × Linked F R d start (pairs ++ pair ∷ []) next
   has_linked_more start end next before old new pairs pair same old_is linked good new_is goes =
       (new_is ∙ ap (λ xs. xs ++ pair ∷ []) old_is ∙ append_assoc before pairs (pair ∷ []), linked_push start end next pairs pair same linked good goes)
 
   pub has_chain_ends : (table : List (Option Drawn)) (start end : Place) (before old new pairs : List Pair) (pair : Pair) → pair.place ≡ end → old ≡ before ++ pairs → Linked F R d start pairs end → IsGood F R d end → new ≡ old ++ pair ∷ []
-      → ((q : Place) → ¬ Goes F R end q) → HasChain F R table d start before new
+      → ((q : Place) → ¬ StepsOn F R end q) → HasChain F R table d start before new
   has_chain_ends table start end before old new pairs pair same old_is linked good new_is nowhere = record {
     pairs = pairs ++ pair ∷ [];
     is = new_is ∙ ap (λ xs. xs ++ pair ∷ []) old_is ∙ append_assoc before pairs (pair ∷ []);
@@ -539,7 +539,7 @@ module _ (F : List OpKind) (R : List ℕ) (begins : Begins F) (d : ℕ) where
 
   -- the place that was taken out is ready
   module _ (table : List (Option Drawn)) (p : Place) (last : IsLast F R begins d table p) (seen : Way) (so : StandsSo F R p seen) where
-    pub ready_call : (to after : Place) (mid new : List (Option Drawn)) (way : Way) → seen ≡ Call to after → Keeps table mid → IsTable F R mid → HasPlace mid to → new ≡ mid → way ≡ seen → StandsSo F R p way × IsReady F R new p d
+    pub ready_call : (to after : Place) (mid new : List (Option Drawn)) (way : Way) → seen ≡ Call to after → KeepsKnown table mid → IsTable F R mid → HasPlace mid to → new ≡ mid → way ≡ seen → StandsSo F R p way × IsReady F R new p d
     ready_call to after mid new way is keeps entries has new_is way_is = (
       subst (StandsSo F R p) (sym way_is) so,
       subst (λ t. IsReady F R t p d) (sym new_is) (record {
@@ -571,7 +571,7 @@ module _ (F : List OpKind) (R : List ℕ) (begins : Begins F) (d : ℕ) where
       stands : Stands F R p (Calls to) after
       stands = call_stands F R p to after seen so is
 
-      pub to_in : IsIn F to
+      pub to_in : IsPlaceOf F to
       to_in = call_in F R begins d p to after last.good stands
 
       pub to_low : d ≡ 4 → ⊥

@@ -12,7 +12,7 @@ use Rattle.dvg_frame.specs.declared.place.Place.{Place}
 use Rattle.dvg_frame.specs.declared.place.Place.TheVariants.{InFrame, InRom}
 use Rattle.dvg_frame.specs.Steps.{Reached, step, Closed}
 use Rattle.dvg_frame.specs.Pairs.{pair_of}
-use Rattle.dvg_frame.specs.Ways.{IsIn}
+use Rattle.dvg_frame.specs.Ways.{IsPlaceOf}
 use Rattle.dvg_frame.specs.Loops.{Walks, none, more, places, HasLoop, ComesBack}
 use Rattle.dvg_frame.proofs.Swept.{few_ops, pair_in}
 use Rattle.dvg_frame.proofs.Walks.{walked, turns, turns_from}
@@ -31,7 +31,7 @@ unfolding IsDistinct
 one_distinct x = (tt, tt)
 
 module _ (F : List OpKind) (R : List ℕ) (image : IsImage R) (closed : Closed F R) where
-  place_in : (p : Place) (d : ℕ) → Reached F R p d → IsIn F p
+  place_in : (p : Place) (d : ℕ) → Reached F R p d → IsPlaceOf F p
   place_in p d reached = let begins = begins_of F R closed in pair_in F R (few_ops F begins) begins (pair_of p d) reached
 
   -- the places are numbered, each once
@@ -39,11 +39,11 @@ module _ (F : List OpKind) (R : List ℕ) (image : IsImage R) (closed : Closed F
   numbered (InFrame i) = i
   numbered (InRom a) = length F + (a - 0x800)
 
-  numbered_low : (p : Place) → IsIn F p → numbered p < places F R
+  numbered_low : (p : Place) → IsPlaceOf F p → numbered p < places F R
   numbered_low (InFrame i) inside = let below = inside.0 in omega arith
   numbered_low (InRom a) inside = let words : length R / 2 ≡ 1024 = ap (λ n. n / 2) image.count in omega arith
 
-  numbered_once : (p q : Place) → IsIn F p → IsIn F q → numbered p ≡ numbered q → p ≡ q
+  numbered_once : (p q : Place) → IsPlaceOf F p → IsPlaceOf F q → numbered p ≡ numbered q → p ≡ q
   numbered_once (InFrame i) (InFrame j) a b same = ap InFrame same
   numbered_once (InFrame i) (InRom y) a b same = let below = a.0 in absurd (omega arith)
   numbered_once (InRom x) (InFrame j) a b same = let below = b.0 in absurd (omega arith)

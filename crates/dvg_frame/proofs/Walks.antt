@@ -5,17 +5,17 @@ use Rattle.dvg_frame.specs.declared.op.OpKind.{OpKind}
 use Rattle.dvg_frame.specs.declared.place.Place.{Place}
 use Rattle.dvg_frame.specs.Steps.{Stands, Leads, on, jump, call, back, Reached, step, Closed}
 use Rattle.dvg_frame.specs.Loops.{Walks, none, more}
-use Rattle.dvg_frame.specs.Tables.{Next, Goes}
+use Rattle.dvg_frame.specs.Tables.{Next, StepsOn}
 use Rattle.dvg_frame.proofs.Judged.{same_standing}
 
 module _ (F : List OpKind) (R : List ℕ) where
-  goes_by : {p q : Place} {d e : ℕ} → Leads F R p d q e → e ≡ d → Goes F R p q
+  goes_by : {p q : Place} {d e : ℕ} → Leads F R p d q e → e ≡ d → StepsOn F R p q
   goes_by (on {q = q} {instr = instr} stands) is = record { act = Moves instr; after = q; stands = stands; next = refl }
   goes_by (jump {q = q} {after = after} stands) is = record { act = Jumps q; after = after; stands = stands; next = refl }
   goes_by (call stands) is = absurd (omega arith)
   goes_by (back {q = q} {after = after} stands) is = record { act = Calls q; after = after; stands = stands; next = refl }
 
-  pub goes_from : {p q : Place} {d : ℕ} → Leads F R p d q d → Goes F R p q
+  pub goes_from : {p q : Place} {d : ℕ} → Leads F R p d q d → StepsOn F R p q
   goes_from leads = goes_by leads refl
 
   leads_by : (p q : Place) (d : ℕ) (act : Act Place) (after : Place) → Stands F R p act after → Next act after q → Leads F R p d q d
@@ -25,7 +25,7 @@ module _ (F : List OpKind) (R : List ℕ) where
   leads_by p q d Returns after stands is = absurd is
   leads_by p q d Halts after stands is = absurd is
 
-  pub leads_from : (p q : Place) (d : ℕ) → Goes F R p q → Leads F R p d q d
+  pub leads_from : (p q : Place) (d : ℕ) → StepsOn F R p q → Leads F R p d q d
   leads_from p q d goes = leads_by p q d goes.act goes.after goes.stands goes.next
 
   next_once : (act : Act Place) (after q r : Place) → Next act after q → Next act after r → q ≡ r
@@ -35,7 +35,7 @@ module _ (F : List OpKind) (R : List ℕ) where
   next_once Returns after q r a b = absurd a
   next_once Halts after q r a b = absurd a
 
-  pub goes_once : (p q r : Place) → Goes F R p q → Goes F R p r → q ≡ r
+  pub goes_once : (p q r : Place) → StepsOn F R p q → StepsOn F R p r → q ≡ r
   goes_once p q r a b =
       let same = same_standing b.stands a.stands in
       let there : Next a.act a.after r = subst (λ x. Next a.act x r) same.1 (subst (λ x. Next x b.after r) same.0 b.next) in

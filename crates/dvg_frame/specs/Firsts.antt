@@ -16,14 +16,14 @@ IsLabsCode (Jmpl address) = ⊥
 IsLabsCode (Svec scale dx dy z) = ⊥
 
 -- the operation is a LABS
-abbrev pub IsLabs : OpKind → Type 0
-IsLabs (Draw instr) = IsLabsCode instr
-IsLabs (CallRom a) = ⊥
-IsLabs (JumpRom a) = ⊥
-IsLabs (Call j) = ⊥
-IsLabs (Jump j) = ⊥
-IsLabs Return = ⊥
-IsLabs Stop = ⊥
+abbrev pub DrawsLabs : OpKind → Type 0
+DrawsLabs (Draw instr) = IsLabsCode instr
+DrawsLabs (CallRom a) = ⊥
+DrawsLabs (JumpRom a) = ⊥
+DrawsLabs (Call j) = ⊥
+DrawsLabs (Jump j) = ⊥
+DrawsLabs Return = ⊥
+DrawsLabs Stop = ⊥
 
 -- the operation names one that is none of so many
 abbrev pub NamesNone : ℕ → OpKind → Type 0

@@ -18,7 +18,7 @@ use Rattle.dvg_frame.specs.Steps.{Stands, Reached, IsFine, Leads}
 use Rattle.dvg_frame.specs.Faults.{Begins}
 use Rattle.dvg_frame.specs.Picture.{End, AtHalt, AtReturn, Draws as DrawsSo}
 use Rattle.dvg_frame.specs.Loops.{Walks, HasLoop}
-use Rattle.dvg_frame.specs.Ways.{IsIn}
+use Rattle.dvg_frame.specs.Ways.{IsPlaceOf}
 
 -- no reached pair has a fault
 abbrev pub AllFine : List OpKind → List ℕ → Type 0
@@ -41,8 +41,8 @@ abbrev pub HasNone : List (Option Drawn) → Type 0
 HasNone table = (p : Place) → IsPlace p → known_at table p ≡ None
 
 -- what was there still is
-abbrev pub Keeps : List (Option Drawn) → List (Option Drawn) → Type 0
-Keeps old new = (p : Place) (drawn : Drawn) → IsPlace p → known_at old p ≡ Some drawn → known_at new p ≡ Some drawn
+abbrev pub KeepsKnown : List (Option Drawn) → List (Option Drawn) → Type 0
+KeepsKnown old new = (p : Place) (drawn : Drawn) → IsPlace p → known_at old p ≡ Some drawn → known_at new p ≡ Some drawn
 
 -- what a note tells in this round
 abbrev pub noted : ℕ → Note → Option Drawn
@@ -59,12 +59,12 @@ end_of Halts = AtHalt
 end_of Returns = AtReturn
 
 -- at this depth no call is one too deep, and no return is without a call
-pub record Fits (drawn : Drawn) (d : ℕ) : Type 0 where
+pub record FitsAt (drawn : Drawn) (d : ℕ) : Type 0 where
   pub deep : d + drawn.calls ≤ DEEPEST
   pub back : drawn.returns ≡ true → 0 < d
 
 -- this is drawn from a place, whatever the beam, and steps at one depth from there come to an end
-pub record IsDrawn (F : List OpKind) (R : List ℕ) (p : Place) (drawn : Drawn) : Type 0 where
+pub record IsDrawnFrom (F : List OpKind) (R : List ℕ) (p : Place) (drawn : Drawn) : Type 0 where
   pub count : ℕ
   pub few : count < 2 ^ 64 → drawn.words ≡ count
   pub draws : (beam : Beam) → (strokes : List Stroke) × (last : Beam) × DrawsSo F R p beam strokes last (end_of drawn.end) count
@@ -75,14 +75,14 @@ pub record GoesTo (table : List (Option Drawn)) (q : Place) (e : ℕ) : Type 0 w
   pub inside : IsPlace q
   pub drawn : Drawn
   pub known : known_at table q ≡ Some drawn
-  pub fits : Fits drawn e
+  pub fits : FitsAt drawn e
 
 -- this is so of a place: at a depth that it fits it has no fault and leads to such places, and at a depth at which it is reached it fits where no reached pair has a fault
 pub record IsKnown (F : List OpKind) (R : List ℕ) (table : List (Option Drawn)) (p : Place) (drawn : Drawn) : Type 0 where
-  pub fine : (d : ℕ) → Fits drawn d → IsFine F R p d
-  pub leads : (d : ℕ) (q : Place) (e : ℕ) → Fits drawn d → Leads F R p d q e → GoesTo table q e
-  pub tight : AllFine F R → (d : ℕ) → Reached F R p d → Fits drawn d
-  pub draws : IsDrawn F R p drawn
+  pub fine : (d : ℕ) → FitsAt drawn d → IsFine F R p d
+  pub leads : (d : ℕ) (q : Place) (e : ℕ) → FitsAt drawn d → Leads F R p d q e → GoesTo table q e
+  pub tight : AllFine F R → (d : ℕ) → Reached F R p d → FitsAt drawn d
+  pub draws : IsDrawnFrom F R p drawn
 
 -- what the table has is right
 abbrev pub IsTable : List OpKind → List ℕ → List (Option Drawn) → Type 0
@@ -97,7 +97,7 @@ Next GoesBack after q = ⊥
 Next Stops after q = ⊥
 
 -- one step at one depth
-pub record Goes (F : List OpKind) (R : List ℕ) (p q : Place) : Type 0 where
+pub record StepsOn (F : List OpKind) (R : List ℕ) (p q : Place) : Type 0 where
   pub act : Act Place
   pub after : Place
   pub stands : Stands F R p act after
@@ -105,7 +105,7 @@ pub record Goes (F : List OpKind) (R : List ℕ) (p q : Place) : Type 0 where
 
 -- a place without a fault at this depth, which is reached there if no reached pair has a fault
 pub record IsGood (F : List OpKind) (R : List ℕ) (d : ℕ) (p : Place) : Type 0 where
-  pub inside : IsIn F p
+  pub inside : IsPlaceOf F p
   pub fine : IsFine F R p d
   pub reached : AllFine F R → Reached F R p d
 
@@ -114,7 +114,7 @@ pub record IsReady (F : List OpKind) (R : List ℕ) (table : List (Option Drawn)
   pub begins : Begins F
   pub good : IsGood F R d p
   pub entries : IsTable F R table
-  pub next : (q : Place) → Goes F R p q → HasPlace table q
+  pub next : (q : Place) → StepsOn F R p q → HasPlace table q
   pub inside : (to after : Place) → Stands F R p (Calls to) after → HasPlace table to
 
 -- where a way leads on at its own depth
@@ -128,14 +128,14 @@ onward Halt = None
 -- steps at one depth lead through the places of these pairs, one after the other, and then to a place
 abbrev pub Linked : List OpKind → List ℕ → ℕ → Place → List Pair → Place → Type 0
 Linked F R d start [] last = start ≡ last
-Linked F R d start (pair ∷ pairs) last = (start ≡ pair.place) × IsGood F R d pair.place × ((next : Place) × Goes F R pair.place next × Linked F R d next pairs last)
+Linked F R d start (pair ∷ pairs) last = (start ≡ pair.place) × IsGood F R d pair.place × ((next : Place) × StepsOn F R pair.place next × Linked F R d next pairs last)
 
 -- the same, where the table has what is drawn from the last place, or the last of these pairs leads nowhere
 abbrev pub IsChain : List OpKind → List ℕ → List (Option Drawn) → ℕ → Place → List Pair → Type 0
 IsChain F R table d start [] = HasPlace table start
 IsChain F R table d start (pair ∷ pairs) =
     (start ≡ pair.place) × IsGood F R d pair.place
-    × (((next : Place) × Goes F R pair.place next × IsChain F R table d next pairs) ⊎ (((q : Place) → ¬ Goes F R pair.place q) × (pairs ≡ [])))
+    × (((next : Place) × StepsOn F R pair.place next × IsChain F R table d next pairs) ⊎ (((q : Place) → ¬ StepsOn F R pair.place q) × (pairs ≡ [])))
 
 -- a list has such a chain behind what was there before
 pub record HasChain (F : List OpKind) (R : List ℕ) (table : List (Option Drawn)) (d : ℕ) (start : Place) (before all : List Pair) : Type 0 where

@@ -32,9 +32,9 @@ pub record StandsSo (F : List OpKind) (R : List ℕ) (p : Place) (seen : Way) : 
   pub is : seen ≡ way act after
 
 -- this is an operation of the draft or a word of the ROM
-abbrev pub IsIn : List OpKind → Place → Type 0
-IsIn F (InFrame i) = (i < length F) × (i < MAX_OPS)
-IsIn F (InRom a) = (ROM_FIRST ≤ a) × (a < ROM_END)
+abbrev pub IsPlaceOf : List OpKind → Place → Type 0
+IsPlaceOf F (InFrame i) = (i < length F) × (i < MAX_OPS)
+IsPlaceOf F (InRom a) = (ROM_FIRST ≤ a) × (a < ROM_END)
 
 -- the ROM ends within the instruction at this place
 abbrev pub EndsWithin : List ℕ → Place → Type 0
@@ -79,16 +79,16 @@ IsReturn Return = Unit {0}
 IsReturn Halt = ⊥
 
 -- the fault holds at a pair among so many operations, where this is the way on
-abbrev pub HasFault : ℕ → Pair → Way → FrameFault → Type 0
-HasFault count pair seen Empty = ⊥
-HasFault count pair seen NoLabs = ⊥
-HasFault count pair seen TooLong = ⊥
-HasFault count pair seen (Target i) = ⊥
-HasFault count pair seen (RunsOff i) = (pair.place ≡ InFrame i) × (i + 1 ≡ count) × GoesOn seen
-HasFault count pair seen (OutOfRom p) = (pair.place ≡ p) × LeadsOutside seen
-HasFault count pair seen (TooDeep p) = (pair.place ≡ p) × IsCall seen × (pair.depth ≡ DEEPEST)
-HasFault count pair seen (NoCaller p) = (pair.place ≡ p) × IsReturn seen × (pair.depth ≡ 0)
-HasFault count pair seen Loops = ⊥
+abbrev pub HasFaultAt : ℕ → Pair → Way → FrameFault → Type 0
+HasFaultAt count pair seen Empty = ⊥
+HasFaultAt count pair seen NoLabs = ⊥
+HasFaultAt count pair seen TooLong = ⊥
+HasFaultAt count pair seen (Target i) = ⊥
+HasFaultAt count pair seen (RunsOff i) = (pair.place ≡ InFrame i) × (i + 1 ≡ count) × GoesOn seen
+HasFaultAt count pair seen (OutOfRom p) = (pair.place ≡ p) × LeadsOutside seen
+HasFaultAt count pair seen (TooDeep p) = (pair.place ≡ p) × IsCall seen × (pair.depth ≡ DEEPEST)
+HasFaultAt count pair seen (NoCaller p) = (pair.place ≡ p) × IsReturn seen × (pair.depth ≡ 0)
+HasFaultAt count pair seen Loops = ⊥
 
 -- this fault holds, and none of a lesser number does
 pub record IsLeast (Holds : FrameFault → Type 0) (fault : FrameFault) : Type 0 where

@@ -4,9 +4,9 @@ ghost use Rattle.dvg_mem.specs.Memory.{IsImage};
 ghost use Rattle.dvg_frame.specs.Faults.{Accepts, Begins};
 ghost use Rattle.dvg_frame.specs.Picture.{IsBound};
 ghost use Rattle.dvg_frame.specs.Steps.{IsFine};
-ghost use Rattle.dvg_frame.specs.Tables.{HasChain, HasNone, HasPlace, IsCalled, IsKnown, IsLonger, IsReady, IsRefused, IsTable, Keeps, AllFine, known_at, onward};
+ghost use Rattle.dvg_frame.specs.Tables.{HasChain, HasNone, HasPlace, IsCalled, IsKnown, IsLonger, IsReady, IsRefused, IsTable, KeepsKnown, AllFine, known_at, onward};
 ghost use Rattle.dvg_frame.specs.Sweeps.{ReachedPair};
-ghost use Rattle.dvg_frame.specs.Ways.{IsIn, StandsSo};
+ghost use Rattle.dvg_frame.specs.Ways.{IsPlaceOf, StandsSo};
 ghost use Rattle.dvg_frame.specs.declared.chain.TheConstants.{LONGEST};
 ghost use Rattle.dvg_frame.specs.declared.op.OpKind.{OpKind};
 ghost use Rattle.dvg_frame.specs.declared.pair.Pair.{Pair};
@@ -107,7 +107,7 @@ fn draw(table: &Table, way: Way) -> Drawn
 fn put_drawn(table: &mut Table, place: Place, way: Way)
     requires { (F : List OpKind) × (R : List ℕ) × (d : ℕ) × StandsSo F R place way × IsReady F R table.old place d }
     ensures entries { (F : List OpKind) (R : List ℕ) (d : ℕ) → StandsSo F R place way → IsReady F R table.old place d → IsTable F R table.new }
-    ensures kept { Keeps table.old table.new }
+    ensures kept { KeepsKnown table.old table.new }
     ensures has { HasPlace table.new place }
 {
     if table.at(place).is_none() {
@@ -129,7 +129,7 @@ fn follow<A: Allocator>(
 ) -> bool
     requires image { IsImage rom.now }
     requires begins { Begins draft.now }
-    requires inside { IsIn draft.now start.place }
+    requires inside { IsPlaceOf draft.now start.place }
     requires depth { start.depth ≤ DEEPEST }
     requires reached { AllFine draft.now rom.now → ReachedPair draft.now rom.now start }
     requires room { length chain.old ≤ start.depth * LONGEST }
@@ -161,7 +161,7 @@ fn follow<A: Allocator>(
 #[inline(always)]
 fn way_on<A: Allocator>(draft: &Draft, rom: &Rom<A>, place: Place) -> Way
     requires image { IsImage rom.now }
-    requires inside { IsIn draft.now place }
+    requires inside { IsPlaceOf draft.now place }
     requires fine { (d : ℕ) × IsFine draft.now rom.now place d }
     ensures { StandsSo draft.now rom.now place result }
 {
@@ -182,13 +182,13 @@ fn settle<A: Allocator>(
 ) -> bool
     requires image { IsImage rom.now }
     requires begins { Begins draft.now }
-    requires inside { IsIn draft.now start.place }
+    requires inside { IsPlaceOf draft.now start.place }
     requires depth { start.depth ≤ DEEPEST }
     requires reached { AllFine draft.now rom.now → ReachedPair draft.now rom.now start }
     requires room { length chain.old ≤ start.depth * LONGEST }
     requires entries { IsTable draft.now rom.now table.old }
     ensures entries { IsTable draft.now rom.now table.new }
-    ensures kept { Keeps table.old table.new }
+    ensures kept { KeepsKnown table.old table.new }
     ensures settled { MatchBool result (HasPlace table.new start.place × (chain.new ≡ chain.old)) (IsRefused draft.now rom.now) }
 {
     let base = chain.len();

@@ -2,7 +2,7 @@
 ghost use Rattle.std.specs.Prelude.{◌≡◌, ◌^◌, [], ℕ, ◌<◌, ◌↔◌, List, IsTrue, MatchOption, MatchResult};
 ghost use Rattle.dvg_mem.specs.Memory.{IsImage};
 ghost use Rattle.dvg_frame.specs.Faults.{Accepts, Begins, IsChecked, Misses, Refuses};
-ghost use Rattle.dvg_frame.specs.Firsts.{IsLabs, NamesNone};
+ghost use Rattle.dvg_frame.specs.Firsts.{DrawsLabs, NamesNone};
 ghost use Rattle.dvg_frame.specs.Frames.{IsFrame};
 ghost use Rattle.dvg_frame.specs.Layout.{size};
 ghost use Rattle.dvg_frame.specs.Picture.{IsBound};
@@ -25,7 +25,7 @@ use std::marker::Model;
 
 // Whether it is a LABS.
 fn is_labs(kind: OpKind) -> bool
-    ensures { IsTrue result ↔ IsLabs kind }
+    ensures { IsTrue result ↔ DrawsLabs kind }
 {
     match kind {
         OpKind::Draw(code) => matches!(code.instr(), Instr::Labs { .. }),

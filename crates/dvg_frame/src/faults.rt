@@ -2,7 +2,7 @@
 ghost use Rattle.std.specs.Prelude.{◌≡◌, ◌≢◌, ◌+◌, ℕ, MatchOption, MatchResult};
 ghost use Rattle.dvg_mem.specs.Memory.{IsImage};
 ghost use Rattle.dvg_frame.specs.Steps.{Bad, IsFine};
-ghost use Rattle.dvg_frame.specs.Ways.{HasFault, IsIn, IsLeast, StandsSo};
+ghost use Rattle.dvg_frame.specs.Ways.{HasFaultAt, IsPlaceOf, IsLeast, StandsSo};
 ghost use Rattle.dvg_frame.specs.declared.place.FrameFault.{FrameFault};
 
 use crate::draft::Draft;
@@ -31,7 +31,7 @@ fn last_op(count: usize, place: Place) -> Option<u16>
 // The fault at a pair among so many operations, where this is the way on: that of least number.
 #[inline(always)]
 fn fault_at(count: usize, pair: Pair, seen: Way) -> Option<FrameFault>
-    ensures { MatchOption result ((fault : FrameFault) → ¬ HasFault count pair seen fault) (λ fault. IsLeast (HasFault count pair seen) fault) }
+    ensures { MatchOption result ((fault : FrameFault) → ¬ HasFaultAt count pair seen fault) (λ fault. IsLeast (HasFaultAt count pair seen) fault) }
 {
     if seen.goes_on() {
         if let Some(i) = last_op(count, pair.place) {
@@ -54,7 +54,7 @@ fn fault_at(count: usize, pair: Pair, seen: Way) -> Option<FrameFault>
 #[inline(always)]
 pub(crate) fn look<A: Allocator>(draft: &Draft, rom: &Rom<A>, pair: Pair) -> Result<Way, FrameFault>
     requires image { IsImage rom.now }
-    requires inside { IsIn draft.now pair.place }
+    requires inside { IsPlaceOf draft.now pair.place }
     ensures { MatchResult result
         (λ seen. IsFine draft.now rom.now pair.place pair.depth × StandsSo draft.now rom.now pair.place seen)
         (λ fault. IsLeast (Bad draft.now rom.now pair.place pair.depth) fault) }

@@ -2,7 +2,7 @@
 ghost use Rattle.std.specs.Prelude.{◌≡◌, ◌<◌, ◌≤◌, ◌↔◌, List, IsTrue, MatchOption};
 ghost use Rattle.dvg_mem.specs.Memory.{IsImage};
 ghost use Rattle.dvg_frame.specs.Steps.{op_act};
-ghost use Rattle.dvg_frame.specs.Ways.{EndsWithin, GoesOn, IsCall, IsIn, IsReturn, LeadsOutside, Outside, StandsSo, way};
+ghost use Rattle.dvg_frame.specs.Ways.{EndsWithin, GoesOn, IsCall, IsPlaceOf, IsReturn, LeadsOutside, Outside, StandsSo, way};
 ghost use Rattle.dvg_frame.specs.declared.op.OpKind.{OpKind};
 
 use crate::draft::{Draft, words_of};
@@ -127,7 +127,7 @@ fn rom_way<A: Allocator>(rom: &Rom<A>, a: u16) -> Option<Way>
 #[inline(always)]
 pub(crate) fn way_at<A: Allocator>(draft: &Draft, rom: &Rom<A>, place: Place) -> Option<Way>
     requires image { IsImage rom.now }
-    requires inside { IsIn draft.now place }
+    requires inside { IsPlaceOf draft.now place }
     ensures { MatchOption result (EndsWithin rom.now place) (λ seen. StandsSo draft.now rom.now place seen) }
 {
     match place {

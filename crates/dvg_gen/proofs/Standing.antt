@@ -12,7 +12,7 @@ use Rattle.dvg_gen.specs.declared.taken.Taken.TheVariants.{Low, Word, Done, Brok
 use Rattle.dvg_gen.specs.Completing.{Completes}
 use Rattle.dvg_gen.specs.Drawing.{moved, drawn}
 use Rattle.dvg_gen.specs.Bytes.{Met, met, Waits, Whole}
-use Rattle.dvg_gen.specs.Machine.{Machine, IsReply, IsIn, StandsAfter, Answers}
+use Rattle.dvg_gen.specs.Machine.{Machine, IsReply, IsInRun, HasTaken, Answers}
 use Rattle.dvg_gen.specs.Obeyed.{stack_by, to_of, past, CanGo, gone, IsShut, Obeyed}
 use Rattle.dvg_code.specs.Acts.{act_of}
 use Rattle.dvg_gen.specs.Run.{Visit, on, next, wanted, calls, returns, Fate, Goes, Finished, Breaks, fate_by, fate, beam_after, strokes, Adds, first, one, two}
@@ -62,7 +62,7 @@ open_sound (meets_hole leaves was) opened = let false_is_true : false ≡ true =
 open_sound (takes {visits = visits} leaves was adds) opened = sound_adds adds (open_sound leaves was) (goes_true (fate visits) opened)
 
 -- the stack of a machine in an opened run is the run's
-pub stack_is : {history : List Told} {run : Newest} {machine : Machine} → Leaves history run → run.is_open ≡ true → IsIn machine run → machine.stack ≡ stack run.visits
+pub stack_is : {history : List Told} {run : Newest} {machine : Machine} → Leaves history run → run.is_open ≡ true → IsInRun machine run → machine.stack ≡ stack run.visits
 stack_is {run = run} {machine = machine} leaves opened inside =
     let sound = open_sound leaves opened in
     let counted : calls run.visits ≡ returns run.visits + length (stack run.visits) = sound.counted in
@@ -77,13 +77,13 @@ none_waits : {P : Type 0} → IsSome {T = ℕ} None → P
 none_waits some = absurd (cc)
 
 -- nothing was told
-pub stands_new : (machine : Machine) → machine.is_open ≡ false → machine.low ≡ None → machine.beam ≡ record { x = 0; y = 0; scale = 0 } → StandsAfter machine [] None
+pub stands_new : (machine : Machine) → machine.is_open ≡ false → machine.low ≡ None → machine.beam ≡ record { x = 0; y = 0; scale = 0 } → HasTaken machine [] None
 stands_new machine shut low beam =
     record { run = nothing; leaves = new; stands = record { is_open = shut; beam = beam; running = λ opened. never opened }; low = low; waits = none_waits }
 
 -- a start was told
-pub stands_start : (old machine : Machine) (history : List Told) (low : Option ℕ) → StandsAfter old history low →
-    machine.at ≡ 0 → machine.held ≡ None → machine.low ≡ None → machine.stack ≡ [] → machine.beam ≡ old.beam → machine.strokes ≡ [] → machine.is_open ≡ true → StandsAfter machine (Start ∷ history) None
+pub stands_start : (old machine : Machine) (history : List Told) (low : Option ℕ) → HasTaken old history low →
+    machine.at ≡ 0 → machine.held ≡ None → machine.low ≡ None → machine.stack ≡ [] → machine.beam ≡ old.beam → machine.strokes ≡ [] → machine.is_open ≡ true → HasTaken machine (Start ∷ history) None
 stands_start old machine history low after at held dropped empty beam none opened =
     record {
       run = begun after.run;
@@ -98,7 +98,7 @@ stands_start old machine history low after at held dropped empty beam none opene
     }
 
 -- a reset was told
-pub stands_reset : (old machine : Machine) (history : List Told) (low : Option ℕ) → StandsAfter old history low → machine.low ≡ None → machine.beam ≡ old.beam → machine.is_open ≡ false → StandsAfter machine (Reset ∷ history) None
+pub stands_reset : (old machine : Machine) (history : List Told) (low : Option ℕ) → HasTaken old history low → machine.low ≡ None → machine.beam ≡ old.beam → machine.is_open ≡ false → HasTaken machine (Reset ∷ history) None
 stands_reset old machine history low after dropped beam shut =
     record { run = stopped after.run; leaves = resets after.leaves; stands = record { is_open = shut; beam = beam ∙ after.stands.beam; running = λ opened. never opened }; low = dropped; waits = none_waits }
 
@@ -122,11 +122,11 @@ last_word visits (Some held) word code stack (vctr r p q) = (two_on (next visits
 last_word visits (Some held) word code stack (labs r p q) = (two_on (next visits), refl)
 
 -- a fetch, of a machine that stands in an opened run
-module _ (history : List Told) (low : Option ℕ) (old : Machine) (after : StandsAfter old history low) (opened : old.is_open ≡ true) where
+module _ (history : List Told) (low : Option ℕ) (old : Machine) (after : HasTaken old history low) (opened : old.is_open ≡ true) where
   is_open : after.run.is_open ≡ true
   is_open = sym after.stands.is_open ∙ opened
 
-  inside : IsIn old after.run
+  inside : IsInRun old after.run
   inside = after.stands.running is_open
 
   -- of a low byte
@@ -281,11 +281,11 @@ module _ (history : List Told) (low : Option ℕ) (old : Machine) (after : Stand
 
 -- what a fetch that met this leaves and is answered, after whatever history
 abbrev pub Claim : {A : Type 0} → Met → Machine → Machine → Taken A → Type 0
-Claim found old machine taken = (history : List Told) (low : Option ℕ) → StandsAfter old history low → Answers history found machine taken
+Claim found old machine taken = (history : List Told) (low : Option ℕ) → HasTaken old history low → Answers history found machine taken
 
 -- what a fetch of this byte leaves and is answered, after whatever history and low byte
 abbrev pub Claims : {A : Type 0} → Option ℕ → Machine → Machine → Taken A → Type 0
-Claims byte old machine taken = (history : List Told) (low : Option ℕ) → StandsAfter old history low → Answers history (met low byte) machine taken
+Claims byte old machine taken = (history : List Told) (low : Option ℕ) → HasTaken old history low → Answers history (met low byte) machine taken
 
 -- it is what it meets with the low byte that the machine has
 pub claim_met : {A E : Type 0} (result : Result (Taken A) E) (byte : Option ℕ) (found : Met) (old machine : Machine) → met old.low byte ≡ found → IfOk result (λ taken. Claim found old machine taken) → IfOk result (λ taken. Claims byte old machine taken)

@@ -26,7 +26,7 @@ pub record IsKept (at : ℕ) (held : Option ℕ) (stack : List ℕ) : Type 0 whe
   pub stack_is_addresses : All (λ address. address < 4096) stack
 
 -- a machine is in an open run: it is at the run's next word, and its stack has the address past each call that is still open
-pub record IsIn (machine : Machine) (run : Newest) : Type 0 where
+pub record IsInRun (machine : Machine) (run : Newest) : Type 0 where
   pub at : machine.at ≡ wanted run.visits run.held
   pub held : machine.held ≡ run.held
   pub strokes : machine.strokes ≡ strokes run.first run.visits
@@ -34,16 +34,16 @@ pub record IsIn (machine : Machine) (run : Newest) : Type 0 where
   pub brackets : (k : ℕ) → k < length machine.stack → slice_index machine.stack k ≡ past_call k run.visits
 
 -- a machine stands at a run: its beam is the one that all instructions so far left, and where the run is open it is in it
-pub record StandsAt (machine : Machine) (run : Newest) : Type 0 where
+pub record IsAtRun (machine : Machine) (run : Newest) : Type 0 where
   pub is_open : machine.is_open ≡ run.is_open
   pub beam : machine.beam ≡ beam_after run.first run.visits
-  pub running : run.is_open ≡ true → IsIn machine run
+  pub running : run.is_open ≡ true → IsInRun machine run
 
 -- a machine stands after a history of words and a low byte that waits behind them: it stands at the run that the words leave, and has that low byte, for which the run is open
-pub record StandsAfter (machine : Machine) (history : List Told) (waiting : Option ℕ) : Type 0 where
+pub record HasTaken (machine : Machine) (history : List Told) (waiting : Option ℕ) : Type 0 where
   pub run : Newest
   pub leaves : Leaves history run
-  pub stands : StandsAt machine run
+  pub stands : IsAtRun machine run
   pub low : machine.low ≡ waiting
   pub waits : IsSome waiting → run.is_open ≡ true
 
@@ -56,8 +56,8 @@ IsReply _ _ = ⊥
 
 -- a machine stands after a history and one fetch more, which met this, with the answer that the definition gives to it: a low byte waits, and a word or a hole is told
 abbrev pub Answers : {A : Type 0} → List Told → Met → Machine → Taken A → Type 0
-Answers history (Waits byte) machine taken = StandsAfter machine history (Some byte) × (taken ≡ Low)
-Answers history (Whole word) machine taken = (after : StandsAfter machine (Fed word ∷ history) None) × IsReply taken (reply word after.run)
+Answers history (Waits byte) machine taken = HasTaken machine history (Some byte) × (taken ≡ Low)
+Answers history (Whole word) machine taken = (after : HasTaken machine (Fed word ∷ history) None) × IsReply taken (reply word after.run)
 
 -- the run goes on with this answer
 abbrev pub IsOnward : {A : Type 0} → Taken A → Type 0

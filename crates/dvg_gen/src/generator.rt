@@ -7,7 +7,7 @@ ghost use Rattle.dvg_code.specs.declared.instr.Instr.{Instr};
 ghost use Rattle.dvg_gen.specs.Bytes.{Whole, met};
 ghost use Rattle.dvg_gen.specs.Completing.{Completes, DrawsNothing, IsLabs, IsSeen};
 ghost use Rattle.dvg_gen.specs.Drawing.{drawn};
-ghost use Rattle.dvg_gen.specs.Machine.{Answers, IsOnward, StandsAfter};
+ghost use Rattle.dvg_gen.specs.Machine.{Answers, IsOnward, HasTaken};
 ghost use Rattle.dvg_gen.specs.Obeyed.{Obeyed};
 ghost use Rattle.dvg_gen.specs.Run as spec;
 ghost use Rattle.dvg_gen.specs.Told.{Told, Start, Reset, wants};
@@ -67,7 +67,7 @@ impl<A: Allocator> Model for Generator<A> {
 impl<A: Allocator + Copy> Generator<A> {
     /// A generator that was told nothing. Its strokes will be in memory of this allocator.
     pub fn new(alloc: A) -> Generator<A>
-        ensures stands { StandsAfter result [] None }
+        ensures stands { HasTaken result [] None }
         ensures halted { result.is_open ≡ false }
     {
         Generator {
@@ -86,8 +86,8 @@ impl<A: Allocator + Copy> Generator<A> {
     /// Begins a run at word zero, with no return address and no stroke. A run that was open is abandoned
     /// with its strokes and its low byte (this project's own choice).
     pub fn start(&mut self)
-        ensures stands { (history : List Told) (low : Option ℕ) → StandsAfter self.old history low
-            → StandsAfter self.new (Start ∷ history) None }
+        ensures stands { (history : List Told) (low : Option ℕ) → HasTaken self.old history low
+            → HasTaken self.new (Start ∷ history) None }
         ensures machine { self.new ≡ record self.old { at = 0; held = None; low = None; stack = []; strokes = []; is_open = true } }
     {
         self.reset();
@@ -99,8 +99,8 @@ impl<A: Allocator + Copy> Generator<A> {
 
     /// Halts. A run that was open is abandoned with its strokes and its low byte; the beam stays.
     pub fn reset(&mut self)
-        ensures stands { (history : List Told) (low : Option ℕ) → StandsAfter self.old history low
-            → StandsAfter self.new (Reset ∷ history) None }
+        ensures stands { (history : List Told) (low : Option ℕ) → HasTaken self.old history low
+            → HasTaken self.new (Reset ∷ history) None }
         ensures machine { self.new ≡ record self.old { low = None; strokes = []; is_open = false } }
     {
         self.strokes.clear();
@@ -111,7 +111,7 @@ impl<A: Allocator + Copy> Generator<A> {
     /// Whether no run is open.
     pub fn halted(&self) -> bool
         ensures value { IsTrue result ↔ (self.now.is_open ≡ false) }
-        ensures run { (history : List Told) (low : Option ℕ) (after : StandsAfter self.now history low)
+        ensures run { (history : List Told) (low : Option ℕ) (after : HasTaken self.now history low)
             → IsTrue result ↔ (after.run.is_open ≡ false) }
     {
         !self.is_open
@@ -120,7 +120,7 @@ impl<A: Allocator + Copy> Generator<A> {
     /// The address of the next word, or None where the generator is halted.
     pub fn wants(&self) -> Option<u16>
         ensures halted { IsNone result ↔ (self.now.is_open ≡ false) }
-        ensures address { (history : List Told) (low : Option ℕ) (after : StandsAfter self.now history low)
+        ensures address { (history : List Told) (low : Option ℕ) (after : HasTaken self.now history low)
             → result ≡ wants after.run }
         ensures in_range { IfSome result (λ address. address < 4096) }
     {
@@ -129,9 +129,9 @@ impl<A: Allocator + Copy> Generator<A> {
 
     /// Whether the next byte is the high one of its word: the last fetch of the open run was of the low byte.
     pub fn wants_high(&self) -> bool
-        ensures run { (history : List Told) (low : Option ℕ) → StandsAfter self.now history low
+        ensures run { (history : List Told) (low : Option ℕ) → HasTaken self.now history low
             → IsTrue result ↔ IsSome low }
-        ensures open { (history : List Told) (low : Option ℕ) (after : StandsAfter self.now history low)
+        ensures open { (history : List Told) (low : Option ℕ) (after : HasTaken self.now history low)
             → IsTrue result → after.run.is_open ≡ true }
     {
         self.low_byte().is_some()
@@ -153,7 +153,7 @@ impl<A: Allocator + Copy> Generator<A> {
     #[inline(always)]
     pub fn take_byte(&mut self, byte: Option<u8>) -> Result<Taken<A>, OutOfMemory>
         requires { self.old.is_open ≡ true }
-        ensures answers { IfOk result (λ taken. (history : List Told) (low : Option ℕ) → StandsAfter self.old history low
+        ensures answers { IfOk result (λ taken. (history : List Told) (low : Option ℕ) → HasTaken self.old history low
             → Answers history (met low byte) self.new taken) }
         ensures goes_on { IfOk result (λ taken. (self.new.is_open ≡ true) ↔ IsOnward taken) }
         ensures room { DrawsNothing self.old.held (met self.old.low byte) → IsOk result }
@@ -174,7 +174,7 @@ impl<A: Allocator + Copy> Generator<A> {
     #[inline(always)]
     fn take(&mut self, word: u16) -> Result<Taken<A>, OutOfMemory>
         requires { self.old.is_open ≡ true }
-        ensures answers { IfOk result (λ taken. (history : List Told) (low : Option ℕ) → StandsAfter self.old history low
+        ensures answers { IfOk result (λ taken. (history : List Told) (low : Option ℕ) → HasTaken self.old history low
             → Answers history (Whole (Some word)) self.new taken) }
         ensures goes_on { IfOk result (λ taken. (self.new.is_open ≡ true) ↔ IsOnward taken) }
         ensures room { DrawsNothing self.old.held (Whole (Some word)) → IsOk result }

@@ -4,7 +4,7 @@ use Rattle.std.proofs.lemmas.Fmt.{decimal_injective}
 use Rattle.std.proofs.lemmas.List.{length-replicate}
 use Rattle.dvg_world.specs.Events.{Happening, Offer, Redraw, Tick, Strobe, Fetch, ResetGen, ResetCpu, ResetAll}
 use Rattle.std.proofs.lemmas.Int.Digits.{digits_value-lt}
-use Rattle.dvg_text.specs.EventLines.{IsCounted, IsNamed}
+use Rattle.dvg_text.specs.EventLines.{TakesCount, IsNamed}
 use Rattle.dvg_text.specs.Texts.{IsHex}
 use Rattle.dvg_text.specs.TraceTexts.{Counts, EventParts, once, times, redraw, tick, strobe, fetch, resetgen, resetcpu, resetall}
 
@@ -159,7 +159,7 @@ alone_row resetcpu = record { event = ResetCpu; named = refl; all = refl }
 
 -- the rows of a name and an operand
 
-pub times_made : (event : Happening) (n : ℕ) (name operand : List ℕ) → IsNamed event name → IsCounted event → operand ≡ decimal n → 1 ≤ n → n ≤ 9999 → EventParts (replicate n event) (name ∷ operand ∷ [])
+pub times_made : (event : Happening) (n : ℕ) (name operand : List ℕ) → IsNamed event name → TakesCount event → operand ≡ decimal n → 1 ≤ n → n ≤ 9999 → EventParts (replicate n event) (name ∷ operand ∷ [])
 times_made Tick n name operand e h is some most = rw (e, is) (tick (times some most))
 times_made Strobe n name operand e h is some most = rw (e, is) (strobe (times some most))
 times_made Fetch n name operand e h is some most = rw (e, is) (fetch (times some most))
@@ -175,7 +175,7 @@ resetall_made byte name operand e h = rw e (resetall h)
 -- a name with a count
 pub record Repeated (events : List Happening) (name operand : List ℕ) : Type 0 where
   pub event : Happening
-  pub counts : IsCounted event
+  pub counts : TakesCount event
   pub named : IsNamed event name
   pub n : ℕ
   pub some : 1 ≤ n

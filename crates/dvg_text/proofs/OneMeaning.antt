@@ -5,7 +5,7 @@ use Rattle.dvg_frame.specs.declared.op.OpKind.{OpKind}
 use Rattle.dvg_text.specs.Texts.{IsHex}
 use Rattle.dvg_text.specs.OpLines.{IsOpLine}
 use Rattle.dvg_text.specs.RomTexts.{IsRomLine, RomLine}
-use Rattle.dvg_text.specs.DraftTexts.{Denotes, IsFine, Spells}
+use Rattle.dvg_text.specs.DraftTexts.{Denotes, IsFineDraft, SpellsDraft}
 use Rattle.dvg_text.specs.RomWords.{SpellsWords}
 use Rattle.dvg_text.proofs.GivenWords.{same_words}
 use Rattle.dvg_text.proofs.OneOperation.{one_operation}
@@ -52,7 +52,7 @@ same_cut (l ∷ front) (m ∷ fore) rest back (g ∷ roms) (o ∷ others) F G e 
     let more = same_cut front fore rest back roms others F G others_too p.1 r.1 q s in
     (ap (λ g. g ∷ others) one ∙ ap (λ l. g ∷ l) more.0, more.1)
 
-pub one_spelled : {roms others : List RomLine} {F G : List OpKind} {ls : List (List ℕ)} → Spells roms F ls → Spells others G ls → (others ≡ roms) × (G ≡ F)
+pub one_spelled : {roms others : List RomLine} {F G : List OpKind} {ls : List (List ℕ)} → SpellsDraft roms F ls → SpellsDraft others G ls → (others ≡ roms) × (G ≡ F)
 one_spelled {roms} {others} {F} {G} a b = same_cut a.front b.front a.rest b.rest roms others F G (sym a.cut ∙ b.cut) a.rom b.rom a.draft b.draft
 
 -- a text denotes one draft and one list of ROM lines at most
@@ -63,7 +63,7 @@ one_meaning text roms others F G a b = one_spelled a.spelled b.spelled
 record Fits (most : ℕ) (ls : List (List ℕ)) : Type 0 where
   roms : List RomLine
   ops : List OpKind
-  spelled : Spells roms ops ls
+  spelled : SpellsDraft roms ops ls
   count : length ops ≤ most
 
 -- a front of lines of operations
@@ -73,7 +73,7 @@ front_ops (l ∷ ls) more [] h = absurd h
 front_ops (l ∷ ls) more (op ∷ F) h = let (G, all, count) = front_ops ls more F h.1 in (op ∷ G, (h.0, all), omega arith)
 
 -- a ROM line before others
-rom_line_before : {roms : List RomLine} {F : List OpKind} {ls : List (List ℕ)} (given : RomLine) (line : List ℕ) → IsRomLine given line → Spells roms F ls → Spells (given ∷ roms) F (line ∷ ls)
+rom_line_before : {roms : List RomLine} {F : List OpKind} {ls : List (List ℕ)} (given : RomLine) (line : List ℕ) → IsRomLine given line → SpellsDraft roms F ls → SpellsDraft (given ∷ roms) F (line ∷ ls)
 rom_line_before given line h s = record { front = line ∷ s.front; rest = s.rest; cut = ap (λ ls. line ∷ ls) s.cut; rom = (h, s.rom); draft = s.draft }
 
 fits_front_of : (front rest ls more : List (List ℕ)) (roms : List RomLine) (F : List OpKind) → front ++ rest ≡ ls ++ more → AllZip IsRomLine roms front → AllZip IsOpLine F rest → Fits (length F) ls
@@ -89,7 +89,7 @@ fits_front_of (m ∷ front) rest (l ∷ ls) more (g ∷ roms) F e p q =
     record { roms = g ∷ fits.roms; ops = fits.ops; spelled = rom_line_before g l (subst (IsRomLine g) first p.0) fits.spelled; count = fits.count }
 
 -- a front of lines without fault is without fault
-pub fine_front : (ls more : List (List ℕ)) → IsFine (ls ++ more) → IsFine ls
+pub fine_front : (ls more : List (List ℕ)) → IsFineDraft (ls ++ more) → IsFineDraft ls
 fine_front ls more h =
     let s = h.spelled in
     let fits = fits_front_of s.front s.rest ls more h.roms h.ops (sym s.cut) s.rom s.draft in

@@ -6,7 +6,7 @@ use Rattle.dvg_text.specs.declared.fault.TextFault.{TextFault}
 use Rattle.dvg_text.specs.declared.fault.TextFault.TheVariants.{TooLong, Syntax, Full, Many, Unended}
 use Rattle.dvg_text.specs.Texts.{lines, told}
 use Rattle.dvg_text.specs.RomTexts.{RomLine}
-use Rattle.dvg_text.specs.TraceTexts.{DenotesTrace, EndsInside, HasTraceFault, IsFine, MeetsFull, MeetsMany, MeetsSyntax, SpellsTrace}
+use Rattle.dvg_text.specs.TraceTexts.{DenotesTrace, EndsInside, HasTraceFault, IsFineTrace, TraceMeetsFull, MeetsMany, TraceMeetsSyntax, SpellsTrace}
 use Rattle.dvg_text.proofs.FirstStop.{StopsAt, never_stops, one_stop, too_short}
 use Rattle.dvg_text.proofs.TraceSteps.{fine_front, one_spelled_trace}
 
@@ -14,48 +14,48 @@ use Rattle.dvg_text.proofs.TraceSteps.{fine_front, one_spelled_trace}
 pub one_trace_meaning : (text : List ℕ) (roms others : List RomLine) (one other : List Happening) → DenotesTrace text roms one → DenotesTrace text others other → (others ≡ roms) × (other ≡ one)
 one_trace_meaning text roms others one other a b = let same = one_spelled_trace a.spelled b.spelled in (same.0, same.1)
 
-abbrev syntax_stops : {text : List ℕ} {n : ℕ} → MeetsSyntax text n → StopsAt IsFine text n
+abbrev syntax_stops : {text : List ℕ} {n : ℕ} → TraceMeetsSyntax text n → StopsAt IsFineTrace text n
 syntax_stops m = record { before = m.before; line = m.line; reaches = m.reaches; wrong = λ fine. m.wrong fine.roms fine.events fine.opened fine.spelled }
 
-draft_too_long : {roms : List RomLine} {events : List Happening} {F : List OpKind} {ls : List (List ℕ)} → SpellsTrace roms events (Some F) ls → 511 < length F → ¬ IsFine ls
+draft_too_long : {roms : List RomLine} {events : List Happening} {F : List OpKind} {ls : List (List ℕ)} → SpellsTrace roms events (Some F) ls → 511 < length F → ¬ IsFineTrace ls
 draft_too_long {F = F} right over fine =
     let is = (one_spelled_trace right fine.spelled).2 in
     let few : length F ≤ 511 = subst (λ opened. IfSome opened (λ F. length F ≤ 511)) is fine.fits.last in
     omega arith
 
-abbrev full_stops : {text : List ℕ} {n : ℕ} → MeetsFull text n → StopsAt IsFine text n
+abbrev full_stops : {text : List ℕ} {n : ℕ} → TraceMeetsFull text n → StopsAt IsFineTrace text n
 full_stops m = record { before = m.before; line = m.line; reaches = m.reaches; wrong = draft_too_long m.right m.over }
 
-too_many : {roms : List RomLine} {events : List Happening} {ls : List (List ℕ)} → SpellsTrace roms events None ls → 65536 < length events → ¬ IsFine ls
+too_many : {roms : List RomLine} {events : List Happening} {ls : List (List ℕ)} → SpellsTrace roms events None ls → 65536 < length events → ¬ IsFineTrace ls
 too_many right over fine = let same = (one_spelled_trace right fine.spelled).1 in let count = ap length same in let few = fine.fits.count in omega arith
 
-abbrev many_stops : {text : List ℕ} {n : ℕ} → MeetsMany text n → StopsAt IsFine text n
+abbrev many_stops : {text : List ℕ} {n : ℕ} → MeetsMany text n → StopsAt IsFineTrace text n
 many_stops m = record { before = m.before; line = m.line; reaches = m.reaches; wrong = too_many m.right m.over }
 
-same_stop : {text : List ℕ} {m n : ℕ} (a : StopsAt IsFine text m) (b : StopsAt IsFine text n) → (a.before ≡ b.before) × (a.line ≡ b.line) × (n ≡ m)
-same_stop a b = one_stop IsFine fine_front a b
+same_stop : {text : List ℕ} {m n : ℕ} (a : StopsAt IsFineTrace text m) (b : StopsAt IsFineTrace text n) → (a.before ≡ b.before) × (a.line ≡ b.line) × (n ≡ m)
+same_stop a b = one_stop IsFineTrace fine_front a b
 
 -- what is spelled up to one line that stops the text is spelled up to another
-moved : {text : List ℕ} {m n : ℕ} {roms : List RomLine} {events : List Happening} {opened : Option (List OpKind)} (a : StopsAt IsFine text m) (b : StopsAt IsFine text n)
+moved : {text : List ℕ} {m n : ℕ} {roms : List RomLine} {events : List Happening} {opened : Option (List OpKind)} (a : StopsAt IsFineTrace text m) (b : StopsAt IsFineTrace text n)
     → SpellsTrace roms events opened (told b.before ++ b.line ∷ []) → SpellsTrace roms events opened (told a.before ++ a.line ∷ [])
 moved {roms = roms} {events = events} {opened = opened} a b right =
     let same = same_stop a b in
     subst (λ line. SpellsTrace roms events opened (told a.before ++ line ∷ [])) (sym same.1) (subst (λ before. SpellsTrace roms events opened (told before ++ b.line ∷ [])) (sym same.0) right)
 
-not_full : {text : List ℕ} {m n : ℕ} → MeetsSyntax text m → MeetsFull text n → ⊥
+not_full : {text : List ℕ} {m n : ℕ} → TraceMeetsSyntax text m → TraceMeetsFull text n → ⊥
 not_full s f = s.wrong f.roms f.events (Some f.F) (moved (syntax_stops s) (full_stops f) f.right)
 
-not_many : {text : List ℕ} {m n : ℕ} → MeetsSyntax text m → MeetsMany text n → ⊥
+not_many : {text : List ℕ} {m n : ℕ} → TraceMeetsSyntax text m → MeetsMany text n → ⊥
 not_many s f = s.wrong f.roms f.events None (moved (syntax_stops s) (many_stops f) f.right)
 
-full_or_many : {text : List ℕ} {m n : ℕ} → MeetsFull text m → MeetsMany text n → ⊥
+full_or_many : {text : List ℕ} {m n : ℕ} → TraceMeetsFull text m → MeetsMany text n → ⊥
 full_or_many a b = let same = (one_spelled_trace a.right (moved (full_stops a) (many_stops b) b.right)).2 in absurd cc
 
 -- no line stops a text whose lines are without fault
-never_at_fault : {text : List ℕ} {n : ℕ} → IsFine (told (lines text)) → StopsAt IsFine text n → ⊥
-never_at_fault fine s = never_stops IsFine fine_front fine s
+never_at_fault : {text : List ℕ} {n : ℕ} → IsFineTrace (told (lines text)) → StopsAt IsFineTrace text n → ⊥
+never_at_fault fine s = never_stops IsFineTrace fine_front fine s
 
-ends_fine : {text : List ℕ} → EndsInside text → IsFine (told (lines text))
+ends_fine : {text : List ℕ} → EndsInside text → IsFineTrace (told (lines text))
 ends_fine e = record { roms = e.roms; events = e.events; opened = Some e.F; spelled = e.spelled; fits = e.fits }
 
 -- a text of a trace has one fault at most
@@ -92,7 +92,7 @@ one_trace_fault text (Many m) _ a b = absurd b
 one_trace_fault text Unended _ a b = absurd b
 one_trace_fault text _ _ a b = absurd a
 
-denotes_fine : {text : List ℕ} {roms : List RomLine} {events : List Happening} → DenotesTrace text roms events → IsFine (told (lines text))
+denotes_fine : {text : List ℕ} {roms : List RomLine} {events : List Happening} → DenotesTrace text roms events → IsFineTrace (told (lines text))
 denotes_fine {roms = roms} {events = events} d = record { roms = roms; events = events; opened = None; spelled = d.spelled; fits = d.fits }
 
 -- a text that denotes events has no fault

@@ -12,7 +12,7 @@ use Rattle.dvg_text.specs.OpLines.{IsOpLine, OpParts}
 use Rattle.dvg_text.specs.RomTexts.{IsRomLine, RomLine, word_after, word_behind}
 use Rattle.dvg_text.specs.RomWords.{AreAfter, IsBehind}
 use Rattle.dvg_text.specs.FirstFaults.{IsShort, Reaches}
-use Rattle.dvg_text.specs.DraftTexts.{IsFine, MeetsFull, MeetsSyntax, Spells}
+use Rattle.dvg_text.specs.DraftTexts.{IsFineDraft, DraftMeetsFull, DraftMeetsSyntax, SpellsDraft}
 use Rattle.dvg_text.proofs.Zips.{zip_in, zip_push}
 
 -- ---- lines that spell ROM lines and operations
@@ -22,7 +22,7 @@ no_items R [] h = refl
 no_items R (y ∷ ys) h = absurd h
 
 -- a ROM line more, where no operation was spelled
-pub rom_spelled : (roms : List RomLine) (given : RomLine) (ls : List (List ℕ)) (line : List ℕ) → Spells roms [] ls → IsRomLine given line → Spells (roms ++ given ∷ []) [] (ls ++ line ∷ [])
+pub rom_spelled : (roms : List RomLine) (given : RomLine) (ls : List (List ℕ)) (line : List ℕ) → SpellsDraft roms [] ls → IsRomLine given line → SpellsDraft (roms ++ given ∷ []) [] (ls ++ line ∷ [])
 rom_spelled roms given ls line s h =
     let none = no_items IsOpLine s.rest s.draft in
     let all : ls ≡ s.front = s.cut ∙ ap (λ l. s.front ++ l) none ∙ append-nil s.front in
@@ -35,7 +35,7 @@ rom_spelled roms given ls line s h =
     }
 
 -- a line of an operation more
-pub op_spelled : (roms : List RomLine) (ops : List OpKind) (op : OpKind) (ls : List (List ℕ)) (line : List ℕ) → Spells roms ops ls → IsOpLine op line → Spells roms (ops ++ op ∷ []) (ls ++ line ∷ [])
+pub op_spelled : (roms : List RomLine) (ops : List OpKind) (op : OpKind) (ls : List (List ℕ)) (line : List ℕ) → SpellsDraft roms ops ls → IsOpLine op line → SpellsDraft roms (ops ++ op ∷ []) (ls ++ line ∷ [])
 op_spelled roms ops op ls line s h = record {
   front = s.front;
   rest = s.rest ++ line ∷ [];
@@ -65,7 +65,7 @@ op_in front [] ls op ops e h = absurd h
 op_in front (x ∷ xs) ls op ops e h = (x, op, subst (λ l. Contains l x) (sym e) (Contains-append_right front (x ∷ xs) x (0, omega arith, refl)), h.0)
 
 -- a line that is no line of a ROM where one may stand, and spells no operation, doesn't go on from these
-by_rest : (roms : List RomLine) (ops : List OpKind) (ls : List (List ℕ)) (line : List ℕ) → Spells roms ops ls → (ops ≡ [] → (given : RomLine) → IsRomLine given line → ⊥) → ((op : OpKind) → IsOpLine op line → ⊥)
+by_rest : (roms : List RomLine) (ops : List OpKind) (ls : List (List ℕ)) (line : List ℕ) → SpellsDraft roms ops ls → (ops ≡ [] → (given : RomLine) → IsRomLine given line → ⊥) → ((op : OpKind) → IsOpLine op line → ⊥)
     → (roms2 : List RomLine) (ops2 : List OpKind) (front rest : List (List ℕ)) → ls ++ line ∷ [] ≡ front ++ rest → AllZip IsRomLine roms2 front → AllZip IsOpLine ops2 rest → ⊥
 by_rest roms ops ls line s no_rom no_op roms2 ops2 front (x ∷ xs) e r d = let found = zip_in IsOpLine ops2 (x ∷ xs) line d (last_in front x xs ls line e) in no_op found.0 found.1
 by_rest roms [] ls line s no_rom no_op roms2 ops2 front [] e r d =
@@ -74,8 +74,8 @@ by_rest roms (op ∷ ops) ls line s no_rom no_op roms2 ops2 front [] e r d =
     let o = op_in s.front s.rest ls op ops s.cut s.draft in
     let found = zip_in IsRomLine roms2 front o.0 r (subst (λ l. Contains l o.0) (e ∙ append-nil front) (Contains-append_left ls (line ∷ []) o.0 o.2)) in not_both found.0 o.1 o.0 found.1 o.3
 
-pub goes_not_on : (roms : List RomLine) (ops : List OpKind) (ls : List (List ℕ)) (line : List ℕ) → Spells roms ops ls → (ops ≡ [] → (given : RomLine) → IsRomLine given line → ⊥) → ((op : OpKind) → IsOpLine op line → ⊥)
-    → (roms2 : List RomLine) (ops2 : List OpKind) → Spells roms2 ops2 (ls ++ line ∷ []) → ⊥
+pub goes_not_on : (roms : List RomLine) (ops : List OpKind) (ls : List (List ℕ)) (line : List ℕ) → SpellsDraft roms ops ls → (ops ≡ [] → (given : RomLine) → IsRomLine given line → ⊥) → ((op : OpKind) → IsOpLine op line → ⊥)
+    → (roms2 : List RomLine) (ops2 : List OpKind) → SpellsDraft roms2 ops2 (ls ++ line ∷ []) → ⊥
 goes_not_on roms ops ls line s no_rom no_op roms2 ops2 t = by_rest roms ops ls line s no_rom no_op roms2 ops2 t.front t.rest t.cut t.rom t.draft
 
 -- ---- the lines of a text, up to some line
@@ -105,7 +105,7 @@ pub record ReadTo (text : List ℕ) (left : List (List ℕ)) (n : ℕ) (ops : Li
   pub cut : lines text ≡ before ++ left
   pub number : n ≡ length before
   pub roms : List RomLine
-  pub spelled : Spells roms ops (told before)
+  pub spelled : SpellsDraft roms ops (told before)
   pub words : AreAfter roms R
 
 pub cut_on : (text : List ℕ) (before left rest : List (List ℕ)) (line : List ℕ) → lines text ≡ before ++ left → left ≡ line ∷ rest → lines text ≡ (before ++ line ∷ []) ++ rest
@@ -122,7 +122,7 @@ module _ (text : List ℕ) (left rest : List (List ℕ)) (n : ℕ) (ops : List O
     cut = cut_on text r.before left rest line r.cut next;
     number = count_on n r.before line r.number;
     roms = r.roms;
-    spelled = subst (Spells r.roms ops) (sym (told_more r.before line e)) r.spelled;
+    spelled = subst (SpellsDraft r.roms ops) (sym (told_more r.before line e)) r.spelled;
     words = r.words;
   }
 
@@ -133,8 +133,8 @@ module _ (text : List ℕ) (left rest : List (List ℕ)) (n : ℕ) (ops : List O
     cut = cut_on text r.before left rest line r.cut next;
     number = count_on n r.before line r.number;
     roms = r.roms ++ given ∷ [];
-    spelled = subst (Spells (r.roms ++ given ∷ []) ops) (sym (told_one r.before line e))
-        (subst (λ l. Spells (r.roms ++ given ∷ []) l (told r.before ++ line ∷ [])) (sym none) (rom_spelled r.roms given (told r.before) line (subst (λ l. Spells r.roms l (told r.before)) none r.spelled) h));
+    spelled = subst (SpellsDraft (r.roms ++ given ∷ []) ops) (sym (told_one r.before line e))
+        (subst (λ l. SpellsDraft (r.roms ++ given ∷ []) l (told r.before ++ line ∷ [])) (sym none) (rom_spelled r.roms given (told r.before) line (subst (λ l. SpellsDraft r.roms l (told r.before)) none r.spelled) h));
     words = λ k small. behind k small ∙ ap (word_behind given (0x800 + k)) (r.words k small) ∙ sym (after_more r.roms given (0x800 + k) 0xD000);
   }
 
@@ -145,12 +145,12 @@ module _ (text : List ℕ) (left rest : List (List ℕ)) (n : ℕ) (ops : List O
     cut = cut_on text r.before left rest line r.cut next;
     number = count_on n r.before line r.number;
     roms = r.roms;
-    spelled = subst (Spells r.roms (ops ++ op ∷ [])) (sym (told_one r.before line e)) (op_spelled r.roms ops op (told r.before) line r.spelled h);
+    spelled = subst (SpellsDraft r.roms (ops ++ op ∷ [])) (sym (told_one r.before line e)) (op_spelled r.roms ops op (told r.before) line r.spelled h);
     words = r.words;
   }
 
   module _ (short : IsShort text) (count : length ops ≤ 511) (e : is_passed line ≡ false) where
-    reaches : Reaches IsFine text (n + 1) r.before line
+    reaches : Reaches IsFineDraft text (n + 1) r.before line
     reaches = record {
       short = short;
       after = rest;
@@ -161,11 +161,11 @@ module _ (text : List ℕ) (left rest : List (List ℕ)) (n : ℕ) (ops : List O
     }
 
     -- a line that doesn't go on
-    pub meets_syntax : (ops ≡ [] → (given : RomLine) → IsRomLine given line → ⊥) → ((op : OpKind) → IsOpLine op line → ⊥) → MeetsSyntax text (n + 1)
+    pub meets_syntax : (ops ≡ [] → (given : RomLine) → IsRomLine given line → ⊥) → ((op : OpKind) → IsOpLine op line → ⊥) → DraftMeetsSyntax text (n + 1)
     meets_syntax no_rom no_op = record { before = r.before; line = line; reaches = reaches; wrong = goes_not_on r.roms ops (told r.before) line r.spelled no_rom no_op }
 
     -- a line of an operation too many
-    pub meets_full : (op : OpKind) → 511 ≤ length ops → IsOpLine op line → MeetsFull text (n + 1)
+    pub meets_full : (op : OpKind) → 511 ≤ length ops → IsOpLine op line → DraftMeetsFull text (n + 1)
     meets_full op full h = record {
       before = r.before;
       line = line;
@@ -190,7 +190,7 @@ begins text left ops R all none words = record {
 pub gives_all : (text : List ℕ) (left : List (List ℕ)) (n : ℕ) (ops : List OpKind) (R : List ℕ) → left ≡ [] → ReadTo text left n ops R → IsShort text → length ops ≤ 511 → IsImage R → Gives text ops R
 gives_all text left n ops R none r short count image = record {
   roms = r.roms;
-  denotes = record { short = short; spelled = subst (λ ls. Spells r.roms ops (told ls)) (sym (r.cut ∙ ap (λ l. r.before ++ l) none ∙ append-nil r.before)) r.spelled; count = count };
+  denotes = record { short = short; spelled = subst (λ ls. SpellsDraft r.roms ops (told ls)) (sym (r.cut ∙ ap (λ l. r.before ++ l) none ∙ append-nil r.before)) r.spelled; count = count };
   rom = record { image = image; words = λ a low high. word_at_address R r.roms a low high r.words };
 }
 

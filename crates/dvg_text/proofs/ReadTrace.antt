@@ -10,7 +10,7 @@ use Rattle.dvg_text.specs.Texts.{is_passed, lines, told}
 use Rattle.dvg_text.specs.RomTexts.{RomLine}
 use Rattle.dvg_text.specs.RomWords.{AreAfter}
 use Rattle.dvg_text.specs.FirstFaults.{IsShort, Reaches}
-use Rattle.dvg_text.specs.TraceTexts.{EndsInside, Fits, IsFine, SpellsTrace}
+use Rattle.dvg_text.specs.TraceTexts.{EndsInside, FitsTrace, IsFineTrace, SpellsTrace}
 use Rattle.dvg_text.specs.TraceGives.{GivesTrace, StopsLine, StopsReading, TakesLine, fault_at}
 use Rattle.dvg_text.proofs.ReadTo.{count_on, cut_on, lines_length, told_more, told_one, word_at_address}
 use Rattle.dvg_text.proofs.TraceSteps.{last_line, says_more, says_nothing, so_far}
@@ -52,7 +52,7 @@ module _ (text : List ℕ) (left rest : List (List ℕ)) (n : ℕ) (old : List H
         words = t.words;
       }
 
-  reaches : IsShort text → Fits old opened → is_passed line ≡ false → Reaches IsFine text (n + 1) r.before line
+  reaches : IsShort text → FitsTrace old opened → is_passed line ≡ false → Reaches IsFineTrace text (n + 1) r.before line
   reaches short fits is = record {
     short = short;
     after = rest;
@@ -63,7 +63,7 @@ module _ (text : List ℕ) (left rest : List (List ℕ)) (n : ℕ) (old : List H
   }
 
   -- a line at fault
-  pub stops : (fault : LineFault) → IsShort text → Fits old opened → is_passed line ≡ false → StopsLine fault old opened line → StopsReading (fault_at fault (n + 1)) text
+  pub stops : (fault : LineFault) → IsShort text → FitsTrace old opened → is_passed line ≡ false → StopsLine fault old opened line → StopsReading (fault_at fault (n + 1)) text
   stops Syntax short fits is h = record {
     before = r.before;
     line = line;
@@ -96,15 +96,15 @@ module _ (text : List ℕ) (left rest : List (List ℕ)) (n : ℕ) (old : List H
 all_told : (text : List ℕ) (left before : List (List ℕ)) → left ≡ [] → lines text ≡ before ++ left → told before ≡ told (lines text)
 all_told text left before none cut = ap told (sym (cut ∙ ap (λ l. before ++ l) none ∙ append-nil before))
 
-pub gives_all : (text : List ℕ) (left : List (List ℕ)) (n : ℕ) (events : List Happening) (opened : Option (List OpKind)) (R : List ℕ) → left ≡ [] → ReadTrace text left n events opened R → IsShort text → Fits events opened → opened ≡ None → IsImage R
+pub gives_all : (text : List ℕ) (left : List (List ℕ)) (n : ℕ) (events : List Happening) (opened : Option (List OpKind)) (R : List ℕ) → left ≡ [] → ReadTrace text left n events opened R → IsShort text → FitsTrace events opened → opened ≡ None → IsImage R
     → GivesTrace text events R
 gives_all text left n events opened R none r short fits closed image = record {
   roms = r.roms;
-  denotes = record { short = short; spelled = subst (λ kept. SpellsTrace r.roms events kept (told (lines text))) closed (subst (SpellsTrace r.roms events opened) (all_told text left r.before none r.cut) r.spelled); fits = subst (Fits events) closed fits };
+  denotes = record { short = short; spelled = subst (λ kept. SpellsTrace r.roms events kept (told (lines text))) closed (subst (SpellsTrace r.roms events opened) (all_told text left r.before none r.cut) r.spelled); fits = subst (FitsTrace events) closed fits };
   rom = record { image = image; words = λ a low high. word_at_address R r.roms a low high r.words };
 }
 
-pub ends_inside : (text : List ℕ) (left : List (List ℕ)) (n : ℕ) (events : List Happening) (opened : Option (List OpKind)) (R : List ℕ) (F : List OpKind) → left ≡ [] → ReadTrace text left n events opened R → IsShort text → Fits events opened → opened ≡ Some F
+pub ends_inside : (text : List ℕ) (left : List (List ℕ)) (n : ℕ) (events : List Happening) (opened : Option (List OpKind)) (R : List ℕ) (F : List OpKind) → left ≡ [] → ReadTrace text left n events opened R → IsShort text → FitsTrace events opened → opened ≡ Some F
     → EndsInside text
 ends_inside text left n events opened R F none r short fits inside = record {
   short = short;
@@ -112,15 +112,15 @@ ends_inside text left n events opened R F none r short fits inside = record {
   events = events;
   F = F;
   spelled = subst (λ kept. SpellsTrace r.roms events kept (told (lines text))) inside (subst (SpellsTrace r.roms events opened) (all_told text left r.before none r.cut) r.spelled);
-  fits = subst (Fits events) inside fits;
+  fits = subst (FitsTrace events) inside fits;
 }
 
-pub ends_open : (text : List ℕ) (left : List (List ℕ)) (n : ℕ) (events : List Happening) (opened : Option (List OpKind)) (R : List ℕ) → left ≡ [] → ReadTrace text left n events opened R → IsShort text → Fits events opened
+pub ends_open : (text : List ℕ) (left : List (List ℕ)) (n : ℕ) (events : List Happening) (opened : Option (List OpKind)) (R : List ℕ) → left ≡ [] → ReadTrace text left n events opened R → IsShort text → FitsTrace events opened
     → (b : Bool) → b ≡ is_some opened → b ≡ true → EndsInside text
 ends_open text left n events (Some F) R none r short fits b e test = ends_inside text left n events (Some F) R F none r short fits refl
 ends_open text left n events None R none r short fits b e test = absurd (cc)
 
-pub closed_all : (text : List ℕ) (left : List (List ℕ)) (n : ℕ) (events : List Happening) (opened : Option (List OpKind)) (R : List ℕ) → left ≡ [] → ReadTrace text left n events opened R → IsShort text → Fits events opened
+pub closed_all : (text : List ℕ) (left : List (List ℕ)) (n : ℕ) (events : List Happening) (opened : Option (List OpKind)) (R : List ℕ) → left ≡ [] → ReadTrace text left n events opened R → IsShort text → FitsTrace events opened
     → (b : Bool) → b ≡ is_some opened → b ≡ false → IsImage R → GivesTrace text events R
 closed_all text left n events None R none r short fits b e test image = gives_all text left n events None R none r short fits refl image
 closed_all text left n events (Some F) R none r short fits b e test image = absurd (cc)

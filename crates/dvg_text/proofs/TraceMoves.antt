@@ -15,11 +15,11 @@ use Rattle.dvg_text.specs.Texts.{parts}
 use Rattle.dvg_text.specs.OpLines.{IsOpLine}
 use Rattle.dvg_text.specs.RomTexts.{IsRomLine, RomLine, word_behind}
 use Rattle.dvg_text.specs.RomWords.{AreAfter, IsBehind}
-use Rattle.dvg_text.specs.TraceTexts.{EventParts, Fits, FitsDraft, redraw, tick, strobe, fetch, resetgen, resetcpu, resetall}
+use Rattle.dvg_text.specs.TraceTexts.{EventParts, FitsTrace, FitsDraft, redraw, tick, strobe, fetch, resetgen, resetcpu, resetall}
 use Rattle.dvg_text.specs.TraceReading.{Takes, does, ends, events, opens, rom}
 use Rattle.dvg_text.proofs.ReadTo.{after_more}
 use Rattle.dvg_text.specs.declared.trace_text.Reading.{Reading}
-use Rattle.dvg_text.specs.TraceGives.{AreResets, IsHeld, StopsEvents, StopsLine, StopsOperation, TakesLine, events_of, opened_by, opened_of}
+use Rattle.dvg_text.specs.TraceGives.{AreResets, IsHeld, StopsEvents, StopsLine, StopsOperation, TakesLine, events_read, opened_by, opened_of}
 
 all_one : {A : Type 0} (P : A → Type 0) (y : A) → P y → All P (y ∷ [])
 all_one P y h zero d l = h
@@ -37,7 +37,7 @@ any_opened true F = refl
 any_opened false F = refl
 
 -- what is held, where it is taken
-pub held_on : {A E B : Type 0} (answer : Result A E) (reading : Reading B) → OnOk answer (Fits (events_of reading) (opened_of reading)) → IsImage reading.rom → OnOk answer (AreResets reading.resets (events_of reading)) → OnOk answer (IsHeld reading)
+pub held_on : {A E B : Type 0} (answer : Result A E) (reading : Reading B) → OnOk answer (FitsTrace (events_read reading) (opened_of reading)) → IsImage reading.rom → OnOk answer (AreResets reading.resets (events_read reading)) → OnOk answer (IsHeld reading)
 held_on (Ok x) reading fits image known = record { fits = fits; image = image; known = known }
 held_on (Err x) reading fits image known = tt
 
@@ -105,7 +105,7 @@ pub end_taken : (old new : List Happening) (opened left : Option (List OpKind)) 
     → (roms : List RomLine) → AreAfter roms R → TakesLine roms old opened (codes "end") new left R
 end_taken old new opened left F R e f g roms words = record { given = roms; takes = rw (e, f, g) ends; words = words }
 
-pub end_fits : (old new : List Happening) (opened left : Option (List OpKind)) (F : List OpKind) → opened ≡ Some F → left ≡ None → new ≡ old ++ Offer F ∷ [] → length old < 65536 → Fits old opened → Fits new left
+pub end_fits : (old new : List Happening) (opened left : Option (List OpKind)) (F : List OpKind) → opened ≡ Some F → left ≡ None → new ≡ old ++ Offer F ∷ [] → length old < 65536 → FitsTrace old opened → FitsTrace new left
 end_fits old new opened left F e f g room fits =
     let inside = rw e at fits in
     let last : length F ≤ 511 = inside.last in
@@ -120,7 +120,7 @@ pub offer_taken : (old : List Happening) (opened left : Option (List OpKind)) (l
     → (roms : List RomLine) → AreAfter roms R → TakesLine roms old opened l old left R
 offer_taken old opened left l R e is f roms words = record { given = roms; takes = rw (e, is, f) opens; words = words }
 
-pub offer_fits : (old : List Happening) (opened : Option (List OpKind)) → Fits old opened → Fits old (Some [])
+pub offer_fits : (old : List Happening) (opened : Option (List OpKind)) → FitsTrace old opened → FitsTrace old (Some [])
 offer_fits old opened fits = record { count = fits.count; drafts = fits.drafts; last = omega arith }
 
 pub events_taken : {A E : Type 0} (answer : Result A E) (old more new : List Happening) (opened : Option (List OpKind)) (l R : List ℕ) → opened ≡ None → EventParts more (parts l) → OnOk answer (new ≡ old ++ more)
@@ -138,7 +138,7 @@ fine_events resetcpu = all_one FitsDraft ResetCpu tt
 fine_events (resetall {byte = byte} h) = all_one FitsDraft (ResetAll (replicate 2048 byte)) tt
 
 pub events_fit : {A E : Type 0} (answer : Result A E) (old more new : List Happening) (opened : Option (List OpKind)) (ps : List (List ℕ)) → EventParts more ps → OnOk answer (new ≡ old ++ more) → OnOk answer (length new ≤ 65536)
-    → Fits old opened → OnOk answer (Fits new opened)
+    → FitsTrace old opened → OnOk answer (FitsTrace new opened)
 events_fit (Ok x) old more new opened ps p g room fits = record { count = room; drafts = subst (All FitsDraft) (sym g) (All-append FitsDraft old more fits.drafts (fine_events p)); last = fits.last }
 events_fit (Err x) old more new opened ps p g room fits = tt
 

@@ -8,7 +8,7 @@ use Rattle.dvg_world.specs.Events.{Happening, Offer}
 use Rattle.dvg_text.specs.Texts.{parts}
 use Rattle.dvg_text.specs.OpLines.{IsOpLine}
 use Rattle.dvg_text.specs.RomTexts.{IsRomLine, RomLine}
-use Rattle.dvg_text.specs.TraceTexts.{Begun, EventParts, Fits, FitsDraft, IsFine, SpellsTrace, Whole, alone, inside, nothing, offer, whole}
+use Rattle.dvg_text.specs.TraceTexts.{Begun, EventParts, FitsTrace, FitsDraft, IsFineTrace, SpellsTrace, Whole, alone, inside, nothing, offer, whole}
 use Rattle.dvg_text.specs.TraceReading.{Goes, SoFar, Takes, does, ends, events, opens, rom}
 use Rattle.dvg_text.proofs.OneOperation.{one_operation}
 use Rattle.dvg_text.proofs.OneMeaning.{one_rom_line}
@@ -229,7 +229,7 @@ all_front P xs ys h k d l = subst P (get_or_append_left xs ys d k l) (h k d (ome
 all_last : {A : Type 0} (P : A → Type 0) (xs : List A) (y : A) → All P (xs ++ y ∷ []) → P y
 all_last P xs y h = subst P (get_or-append_seam xs y [] y) (h (length xs) y (omega (arith, length-append xs (y ∷ []))))
 
-fits_before : {roms given : List RomLine} {old new : List Happening} {opened left : Option (List OpKind)} {l : List ℕ} → Takes roms old opened l given new left → Fits new left → Fits old opened
+fits_before : {roms given : List RomLine} {old new : List Happening} {opened left : Option (List OpKind)} {l : List ℕ} → Takes roms old opened l given new left → FitsTrace new left → FitsTrace old opened
 fits_before (rom g h) f = record { count = f.count; drafts = f.drafts; last = tt }
 fits_before (events {old = old} {more = more} p) f = let count = f.count in record { count = omega (arith, length-append old more); drafts = all_front FitsDraft old more f.drafts; last = tt }
 fits_before opens f = record { count = f.count; drafts = f.drafts; last = tt }
@@ -238,12 +238,12 @@ fits_before (ends {old = old} {F = F}) f =
     let count = f.count in
     record { count = omega (arith, length-append old (Offer F ∷ [])); drafts = all_front FitsDraft old (Offer F ∷ []) f.drafts; last = all_last FitsDraft old (Offer F) f.drafts }
 
-fits_along : {s t : SoFar} {ls : List (List ℕ)} → Leads s ls t → Fits t.events t.opened → Fits s.events s.opened
+fits_along : {s t : SoFar} {ls : List (List ℕ)} → Leads s ls t → FitsTrace t.events t.opened → FitsTrace s.events s.opened
 fits_along here f = f
 fits_along (on g p) f = fits_before g (fits_along p f)
 
 -- a front of lines without fault is without fault
-pub fine_front : (ls more : List (List ℕ)) → IsFine (ls ++ more) → IsFine ls
+pub fine_front : (ls more : List (List ℕ)) → IsFineTrace (ls ++ more) → IsFineTrace ls
 fine_front ls more h =
     let all = so_far h.roms h.events h.opened in
     let way = halfway start all ls more (leads_to all (ls ++ more) h.spelled) in

@@ -10,7 +10,7 @@ use Rattle.dvg_text.specs.OpLines.{IsOpLine}
 use Rattle.dvg_text.specs.RomTexts.{IsRomLine, RomLine}
 
 -- lines that give words of the ROM, and then lines of operations
-pub record Spells (roms : List RomLine) (ops : List OpKind) (ls : List (List ℕ)) : Type 0 where
+pub record SpellsDraft (roms : List RomLine) (ops : List OpKind) (ls : List (List ℕ)) : Type 0 where
   pub front : List (List ℕ)
   pub rest : List (List ℕ)
   pub cut : ls ≡ front ++ rest
@@ -20,36 +20,36 @@ pub record Spells (roms : List RomLine) (ops : List OpKind) (ls : List (List ℕ
 -- the text denotes these ROM lines and this draft: what its lines spell that aren't passed over
 pub record Denotes (text : List ℕ) (roms : List RomLine) (ops : List OpKind) : Type 0 where
   pub short : IsShort text
-  pub spelled : Spells roms ops (told (lines text))
+  pub spelled : SpellsDraft roms ops (told (lines text))
   pub count : length ops ≤ 511
 
 -- lines that spell ROM lines and no more operations than a draft holds
-pub record IsFine (ls : List (List ℕ)) : Type 0 where
+pub record IsFineDraft (ls : List (List ℕ)) : Type 0 where
   pub roms : List RomLine
   pub ops : List OpKind
-  pub spelled : Spells roms ops ls
+  pub spelled : SpellsDraft roms ops ls
   pub count : length ops ≤ 511
 
 -- line n is the first with which the lines spell nothing
-pub record MeetsSyntax (text : List ℕ) (n : ℕ) : Type 0 where
+pub record DraftMeetsSyntax (text : List ℕ) (n : ℕ) : Type 0 where
   pub before : List (List ℕ)
   pub line : List ℕ
-  pub reaches : Reaches IsFine text n before line
-  pub wrong : (roms : List RomLine) (ops : List OpKind) → ¬ Spells roms ops (told before ++ line ∷ [])
+  pub reaches : Reaches IsFineDraft text n before line
+  pub wrong : (roms : List RomLine) (ops : List OpKind) → ¬ SpellsDraft roms ops (told before ++ line ∷ [])
 
 -- line n is that of operation number 511, which no draft can hold
-pub record MeetsFull (text : List ℕ) (n : ℕ) : Type 0 where
+pub record DraftMeetsFull (text : List ℕ) (n : ℕ) : Type 0 where
   pub before : List (List ℕ)
   pub line : List ℕ
-  pub reaches : Reaches IsFine text n before line
+  pub reaches : Reaches IsFineDraft text n before line
   pub roms : List RomLine
   pub ops : List OpKind
-  pub right : Spells roms ops (told before ++ line ∷ [])
+  pub right : SpellsDraft roms ops (told before ++ line ∷ [])
   pub over : 511 < length ops
 
 -- the fault of a draft's text
-abbrev pub HasFault : List ℕ → TextFault → Type 0
-HasFault text TooLong = 1048576 < length text
-HasFault text (Syntax n) = MeetsSyntax text n
-HasFault text (Full n) = MeetsFull text n
-HasFault text _ = ⊥
+abbrev pub HasDraftFault : List ℕ → TextFault → Type 0
+HasDraftFault text TooLong = 1048576 < length text
+HasDraftFault text (Syntax n) = DraftMeetsSyntax text n
+HasDraftFault text (Full n) = DraftMeetsFull text n
+HasDraftFault text _ = ⊥

@@ -15,11 +15,11 @@ IsNamed ResetCpu name = name ≡ codes "resetcpu"
 IsNamed event name = ⊥
 
 -- a count may follow the event's name
-abbrev pub IsCounted : Happening → Type 0
-IsCounted Tick = Unit {0}
-IsCounted Strobe = Unit {0}
-IsCounted Fetch = Unit {0}
-IsCounted event = ⊥
+abbrev pub TakesCount : Happening → Type 0
+TakesCount Tick = Unit {0}
+TakesCount Strobe = Unit {0}
+TakesCount Fetch = Unit {0}
+TakesCount event = ⊥
 
 -- the events of a line
 abbrev pub happenings : {A : Type 0} → EventLine A → List Happening

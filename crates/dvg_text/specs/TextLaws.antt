@@ -4,7 +4,7 @@ use Rattle.dvg_frame.specs.declared.op.OpKind.{OpKind}
 use Rattle.dvg_text.specs.declared.fault.TextFault.{TextFault}
 use Rattle.dvg_text.specs.declared.verdict.Verdict.{Verdict}
 use Rattle.dvg_text.specs.DraftReading.{Gives}
-use Rattle.dvg_text.specs.DraftTexts.{Denotes, HasFault}
+use Rattle.dvg_text.specs.DraftTexts.{Denotes, HasDraftFault}
 use Rattle.dvg_text.specs.RomTexts.{IsRomOf, RomLine}
 use Rattle.dvg_text.specs.Verdicts.{Judges}
 
@@ -18,15 +18,15 @@ OneRom = (roms : List RomLine) (R S : List ℕ) → IsRomOf roms R → IsRomOf r
 
 -- a text has one fault at most
 abbrev pub OneTextFault : Type 0
-OneTextFault = (text : List ℕ) (one other : TextFault) → HasFault text one → HasFault text other → other ≡ one
+OneTextFault = (text : List ℕ) (one other : TextFault) → HasDraftFault text one → HasDraftFault text other → other ≡ one
 
 -- each text denotes a draft and a ROM, or has a fault
 abbrev pub IsRead : List ℕ → Type 0
-IsRead text = ((F : List OpKind) × (R : List ℕ) × Gives text F R) ⊎ ((fault : TextFault) × HasFault text fault)
+IsRead text = ((F : List OpKind) × (R : List ℕ) × Gives text F R) ⊎ ((fault : TextFault) × HasDraftFault text fault)
 
 -- a text that denotes something has no fault
 abbrev pub NoFaultBeside : Type 0
-NoFaultBeside = (text : List ℕ) (roms : List RomLine) (F : List OpKind) → Denotes text roms F → (fault : TextFault) → ¬ HasFault text fault
+NoFaultBeside = (text : List ℕ) (roms : List RomLine) (F : List OpKind) → Denotes text roms F → (fault : TextFault) → ¬ HasDraftFault text fault
 
 -- of a text one verdict is given at most
 abbrev pub OneVerdict : Type 0

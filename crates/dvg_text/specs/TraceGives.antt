@@ -13,7 +13,7 @@ use Rattle.dvg_text.specs.OpLines.{IsOpLine}
 use Rattle.dvg_text.specs.RomTexts.{IsRomOf, RomLine}
 use Rattle.dvg_text.specs.RomWords.{AreAfter}
 use Rattle.dvg_text.specs.TraceReading.{Takes}
-use Rattle.dvg_text.specs.TraceTexts.{DenotesTrace, Fits, HasTraceFault}
+use Rattle.dvg_text.specs.TraceTexts.{DenotesTrace, FitsTrace, HasTraceFault}
 
 -- the text denotes these events and ROM lines that give these bytes
 pub record GivesTrace (text : List ℕ) (events : List Happening) (R : List ℕ) : Type 0 where
@@ -34,8 +34,8 @@ fault_at line_fault.Many n = Text (Many n)
 fault_at line_fault.Memory n = Memory
 
 -- the events that were read
-abbrev pub events_of : {A : Type 0} → Reading A → List Happening
-events_of reading = reading.events
+abbrev pub events_read : {A : Type 0} → Reading A → List Happening
+events_read reading = reading.events
 
 -- the operations of the newest offer, where it isn't ended
 abbrev pub opened_by : Bool → List OpKind → Option (List OpKind)
@@ -52,9 +52,9 @@ pub record AreResets (numbers : List (Option ℕ)) (events : List Happening) : T
 
 -- what was read is within the limits, over a whole ROM, and the resets of its bytes are known
 pub record IsHeld {A : Type 0} (reading : Reading A) : Type 0 where
-  pub fits : Fits (events_of reading) (opened_of reading)
+  pub fits : FitsTrace (events_read reading) (opened_of reading)
   pub image : IsImage reading.rom
-  pub known : AreResets reading.resets (events_of reading)
+  pub known : AreResets reading.resets (events_read reading)
 
 -- a line more was read, behind ROM lines that gave the bytes before it
 pub record TakesLine (roms : List RomLine) (old : List Happening) (opened : Option (List OpKind)) (line : List ℕ) (new : List Happening) (left : Option (List OpKind)) (S : List ℕ) : Type 0 where
@@ -64,7 +64,7 @@ pub record TakesLine (roms : List RomLine) (old : List Happening) (opened : Opti
 
 -- the same, of the reader before the line and behind it
 abbrev pub ReadsLine : {A : Type 0} → Reading A → List ℕ → Reading A → Type 0
-ReadsLine old line new = (roms : List RomLine) → AreAfter roms old.rom → TakesLine roms (events_of old) (opened_of old) line (events_of new) (opened_of new) new.rom
+ReadsLine old line new = (roms : List RomLine) → AreAfter roms old.rom → TakesLine roms (events_read old) (opened_of old) line (events_read new) (opened_of new) new.rom
 
 -- why a line more isn't read
 abbrev pub StopsLine : LineFault → List Happening → Option (List OpKind) → List ℕ → Type 0

@@ -52,7 +52,7 @@ FitsDraft (Offer F) = length F ≤ 511
 FitsDraft event = Unit {0}
 
 -- at most 65,536 events, with drafts of at most 511 operations
-pub record Fits (events : List Happening) (opened : Option (List OpKind)) : Type 0 where
+pub record FitsTrace (events : List Happening) (opened : Option (List OpKind)) : Type 0 where
   pub count : length events ≤ 65536
   pub drafts : All FitsDraft events
   pub last : IfSome opened (λ F. length F ≤ 511)
@@ -61,28 +61,28 @@ pub record Fits (events : List Happening) (opened : Option (List OpKind)) : Type
 pub record DenotesTrace (text : List ℕ) (roms : List RomLine) (events : List Happening) : Type 0 where
   pub short : IsShort text
   pub spelled : SpellsTrace roms events None (told (lines text))
-  pub fits : Fits events None
+  pub fits : FitsTrace events None
 
 -- lines that spell ROM lines and events within the limits, perhaps with an offer that isn't ended
-pub record IsFine (ls : List (List ℕ)) : Type 0 where
+pub record IsFineTrace (ls : List (List ℕ)) : Type 0 where
   pub roms : List RomLine
   pub events : List Happening
   pub opened : Option (List OpKind)
   pub spelled : SpellsTrace roms events opened ls
-  pub fits : Fits events opened
+  pub fits : FitsTrace events opened
 
 -- line n is the first with which the lines spell nothing
-pub record MeetsSyntax (text : List ℕ) (n : ℕ) : Type 0 where
+pub record TraceMeetsSyntax (text : List ℕ) (n : ℕ) : Type 0 where
   pub before : List (List ℕ)
   pub line : List ℕ
-  pub reaches : Reaches IsFine text n before line
+  pub reaches : Reaches IsFineTrace text n before line
   pub wrong : (roms : List RomLine) (events : List Happening) (opened : Option (List OpKind)) → ¬ SpellsTrace roms events opened (told before ++ line ∷ [])
 
 -- line n is that of operation number 511 of an offer, which no draft can hold
-pub record MeetsFull (text : List ℕ) (n : ℕ) : Type 0 where
+pub record TraceMeetsFull (text : List ℕ) (n : ℕ) : Type 0 where
   pub before : List (List ℕ)
   pub line : List ℕ
-  pub reaches : Reaches IsFine text n before line
+  pub reaches : Reaches IsFineTrace text n before line
   pub roms : List RomLine
   pub events : List Happening
   pub F : List OpKind
@@ -93,7 +93,7 @@ pub record MeetsFull (text : List ℕ) (n : ℕ) : Type 0 where
 pub record MeetsMany (text : List ℕ) (n : ℕ) : Type 0 where
   pub before : List (List ℕ)
   pub line : List ℕ
-  pub reaches : Reaches IsFine text n before line
+  pub reaches : Reaches IsFineTrace text n before line
   pub roms : List RomLine
   pub events : List Happening
   pub right : SpellsTrace roms events None (told before ++ line ∷ [])
@@ -106,13 +106,13 @@ pub record EndsInside (text : List ℕ) : Type 0 where
   pub events : List Happening
   pub F : List OpKind
   pub spelled : SpellsTrace roms events (Some F) (told (lines text))
-  pub fits : Fits events (Some F)
+  pub fits : FitsTrace events (Some F)
 
 -- the fault of a trace's text
 abbrev pub HasTraceFault : List ℕ → TextFault → Type 0
 HasTraceFault text TooLong = 1048576 < length text
-HasTraceFault text (Syntax n) = MeetsSyntax text n
-HasTraceFault text (Full n) = MeetsFull text n
+HasTraceFault text (Syntax n) = TraceMeetsSyntax text n
+HasTraceFault text (Full n) = TraceMeetsFull text n
 HasTraceFault text (Many n) = MeetsMany text n
 HasTraceFault text Unended = EndsInside text
 HasTraceFault text _ = ⊥

@@ -1,7 +1,7 @@
 //! Texts of drafts.
 ghost use Rattle.std.specs.Prelude.{IfErr, IfOk};
 ghost use Rattle.dvg_text.specs.DraftReading.{Gives};
-ghost use Rattle.dvg_text.specs.DraftTexts.{HasFault};
+ghost use Rattle.dvg_text.specs.DraftTexts.{HasDraftFault};
 
 use crate::fault::TextFault;
 use crate::op_line::read_op;
@@ -31,7 +31,7 @@ pub struct DraftText {
 /// - `Full`: this line spells operation number 511, the lines before it being without fault.
 pub fn read_draft(text: &[u8]) -> Result<DraftText, TextFault>
     ensures gives { IfOk result (λ told. Gives text.now told.draft told.rom) }
-    ensures fault { IfErr result (λ fault. HasFault text.now fault) }
+    ensures fault { IfErr result (λ fault. HasDraftFault text.now fault) }
 {
     if text.len() > MOST_TEXT_BYTES {
         return Err(TextFault::TooLong);

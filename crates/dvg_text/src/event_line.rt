@@ -3,7 +3,7 @@ ghost use Rattle.std.specs.Prelude.{◌≡◌, ◌↔◌, ℕ, ◌≤◌, List, 
 ghost use Rattle.dvg_world.specs.Events.{Happening, happening_of};
 ghost use Rattle.dvg_text.specs.LineParts.{bytes_of};
 ghost use Rattle.dvg_text.specs.Texts.{IsHex, parts};
-ghost use Rattle.dvg_text.specs.EventLines.{IsCounted, IsNamed, happenings};
+ghost use Rattle.dvg_text.specs.EventLines.{TakesCount, IsNamed, happenings};
 ghost use Rattle.dvg_text.specs.TraceTexts.{EventParts};
 
 use crate::line_parts::parts_of;
@@ -77,7 +77,7 @@ fn event_named<A: Allocator>(name: &[u8]) -> Option<Event<A>>
 
 // Whether a count may follow an event's name.
 fn is_counted<A: Allocator>(event: &Event<A>) -> bool
-    ensures { IsTrue result ↔ IsCounted (happening_of event.now) }
+    ensures { IsTrue result ↔ TakesCount (happening_of event.now) }
 {
     matches!(event, Event::Tick | Event::Strobe | Event::Fetch)
 }

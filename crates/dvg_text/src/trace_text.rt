@@ -3,7 +3,7 @@ ghost use Rattle.std.specs.Prelude.{◌≡◌, ◌+◌, ◌^◌, ◌<◌, ◌≤
 ghost use Rattle.dvg_frame.specs.declared.op.OpKind.{OpKind};
 ghost use Rattle.dvg_text.specs.EventLines.{happenings};
 ghost use Rattle.dvg_text.specs.OpLines.{IsOpLine};
-ghost use Rattle.dvg_text.specs.TraceGives.{AreResets, GivesTrace, IsHeld, ReadsLine, StopsEvents, StopsLine, StopsOperation, StopsReading, events_of, fault_at, opened_of};
+ghost use Rattle.dvg_text.specs.TraceGives.{AreResets, GivesTrace, IsHeld, ReadsLine, StopsEvents, StopsLine, StopsOperation, StopsReading, events_read, fault_at, opened_of};
 ghost use Rattle.dvg_world.specs.Events.{ResetAll, happening_of};
 
 use crate::draft_text::MOST_TEXT_BYTES;
@@ -116,7 +116,7 @@ impl<A: Allocator + Copy> Reading<A> {
         requires held { IsHeld self.old }
         ensures taken { OnOk result (ReadsLine self.old line.now self.new) }
         ensures held { OnOk result (IsHeld self.new) }
-        ensures fault { IfErr result (λ fault. StopsLine fault (events_of self.old) (opened_of self.old) line.now) }
+        ensures fault { IfErr result (λ fault. StopsLine fault (events_read self.old) (opened_of self.old) line.now) }
     {
         if !self.is_open {
             return self.take_outside(line);
@@ -133,7 +133,7 @@ impl<A: Allocator + Copy> Reading<A> {
         requires held { IsHeld self.old }
         ensures taken { OnOk result (ReadsLine self.old line.now self.new) }
         ensures held { OnOk result (IsHeld self.new) }
-        ensures fault { IfErr result (λ fault. StopsLine fault (events_of self.old) (opened_of self.old) line.now) }
+        ensures fault { IfErr result (λ fault. StopsLine fault (events_read self.old) (opened_of self.old) line.now) }
     {
         if line == b"offer".as_slice() {
             self.draft.clear();
@@ -159,7 +159,7 @@ impl<A: Allocator + Copy> Reading<A> {
         requires held { IsHeld self.old }
         ensures taken { OnOk result (ReadsLine self.old (codes "end") self.new) }
         ensures held { OnOk result (IsHeld self.new) }
-        ensures fault { IfErr result (λ fault. StopsLine fault (events_of self.old) (opened_of self.old) (codes "end")) }
+        ensures fault { IfErr result (λ fault. StopsLine fault (events_read self.old) (opened_of self.old) (codes "end")) }
     {
         if self.events.len() == MOST_EVENTS {
             return Err(LineFault::Many);

@@ -12,7 +12,7 @@ use Rattle.dvg_text.specs.declared.fault.TraceFault.TheVariants as of_trace
 use Rattle.dvg_tool.specs.Plays.{IsPlayed, Plays, called, log_text}
 use Rattle.dvg_tool.specs.Roms.{StopsWriting, WritesText}
 use Rattle.dvg_text.specs.TraceGives.{StopsReading}
-use Rattle.dvg_text.specs.TraceTexts.{HasTraceFault, MeetsSyntax, MeetsFull, MeetsMany, EndsInside}
+use Rattle.dvg_text.specs.TraceTexts.{HasTraceFault, TraceMeetsSyntax, TraceMeetsFull, MeetsMany, EndsInside}
 use Rattle.dvg_tool.specs.Watching.{BeginsToWrite}
 use Rattle.dvg_tool.proofs.Known.{Appends-nil}
 use Rattle.dvg_tool.proofs.Played.{PlayedPart}
@@ -25,8 +25,8 @@ Stops all fault input old new = Plays {T = Unit {0}} all (Err fault) input old n
 -- the fault of what was read is that of the input
 faulted : (fault : TextFault) (input read : List ℕ) → read ≡ take 1048577 input → HasTraceFault read fault → HasTraceFault input fault
 faulted TooLong input read e h = omega (arith, ap length e, length-take 1048577 input)
-faulted (Syntax n) input read e h = subst (λ text. MeetsSyntax text n) (whole 1048576 read input e h.reaches.short) h
-faulted (Full n) input read e h = subst (λ text. MeetsFull text n) (whole 1048576 read input e h.reaches.short) h
+faulted (Syntax n) input read e h = subst (λ text. TraceMeetsSyntax text n) (whole 1048576 read input e h.reaches.short) h
+faulted (Full n) input read e h = subst (λ text. TraceMeetsFull text n) (whole 1048576 read input e h.reaches.short) h
 faulted (Many n) input read e h = subst (λ text. MeetsMany text n) (whole 1048576 read input e h.reaches.short) h
 faulted Unended input read e h = subst EndsInside (whole 1048576 read input e h.short) h
 faulted _ input read e h = absurd h

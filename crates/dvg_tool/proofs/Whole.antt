@@ -6,7 +6,7 @@ use Rattle.dvg_code.specs.Words.{words_of}
 use Rattle.dvg_text.specs.declared.fault.TextFault.{TextFault}
 use Rattle.dvg_text.specs.declared.verdict.Verdict.{Verdict}
 use Rattle.dvg_tool.specs.Checks.{Checks, IsJudgingFault}
-use Rattle.dvg_text.specs.DraftTexts.{HasFault}
+use Rattle.dvg_text.specs.DraftTexts.{HasDraftFault}
 use Rattle.dvg_text.specs.Verdicts.{Judges, verdict_line}
 use Rattle.dvg_tool.specs.Watching.{BeginsToWrite}
 use Rattle.dvg_text.specs.Lines.{rom_text}
@@ -89,17 +89,17 @@ judged verdict input read e j =
     subst (λ text. Judges text verdict) (whole 1048576 read input e short) j
 
 -- a text that is at fault but not too long is short
-short_or_long : (fault : TextFault) (read : List ℕ) → HasFault read fault → (fault ≡ TooLong) ⊎ (length read ≤ 1048576)
+short_or_long : (fault : TextFault) (read : List ℕ) → HasDraftFault read fault → (fault ≡ TooLong) ⊎ (length read ≤ 1048576)
 short_or_long TooLong read h = inl refl
 short_or_long (Syntax n) read h = inr h.reaches.short
 short_or_long (Full n) read h = inr h.reaches.short
 short_or_long _ read h = absurd h
 
 -- the fault of what was read is that of the input
-pub faulted : (fault : TextFault) (input read : List ℕ) → read ≡ take 1048577 input → HasFault read fault → HasFault input fault
+pub faulted : (fault : TextFault) (input read : List ℕ) → read ≡ take 1048577 input → HasDraftFault read fault → HasDraftFault input fault
 faulted fault input read e h = ⊎_elim
-    (λ same. subst (λ text. HasFault text fault) same h)
-    (λ long. ⊎_elim (λ is. subst (HasFault input) (sym is) long.1) (λ short. absurd (omega arith)) (short_or_long fault read h))
+    (λ same. subst (λ text. HasDraftFault text fault) same h)
+    (λ long. ⊎_elim (λ is. subst (HasDraftFault input) (sym is) long.1) (λ short. absurd (omega arith)) (short_or_long fault read h))
     (whole_or_long 1048576 read input e)
 
 -- so is where nothing is said

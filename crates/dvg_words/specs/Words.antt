@@ -44,7 +44,7 @@ abbrev pub IsJobName : Text → Type 0
 IsJobName name = (name ≡ codes "list") ⊎ ((name ≡ codes "rom") ⊎ ((name ≡ codes "check") ⊎ (name ≡ codes "play")))
 
 -- the exit status of words that give no job, by the kind of the error
-abbrev pub status_of : ErrorKind → ℕ
-status_of DisplayHelp = 0
-status_of OutOfMemory = 2
-status_of _ = 64
+abbrev pub error_status : ErrorKind → ℕ
+error_status DisplayHelp = 0
+error_status OutOfMemory = 2
+error_status _ = 64

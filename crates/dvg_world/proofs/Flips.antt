@@ -4,7 +4,7 @@ use Rattle.std.specs.Prelude.{if◌then◌else◌}
 use Rattle.std.proofs.lemmas.Option.{same_Some}
 use Rattle.dvg_driver.specs.declared.action.Action.TheVariants.{Peek, Wrote, Read, Sent, Idle}
 use Rattle.dvg_driver.specs.Script.{Item, Offered, Asked, Did, flips, has_flip}
-use Rattle.dvg_driver.specs.Place.{Place, Start, Booting, Resting, Writing, Waiting, Sending, next, place_of, with_left, after_write}
+use Rattle.dvg_driver.specs.Place.{Place, Start, Booting, Resting, Writing, Waiting, Sending, next_place, place_of_life, with_left, after_write}
 use Rattle.dvg_driver.proofs.Places.{place_before}
 
 -- no frame part was begun before this place
@@ -29,7 +29,7 @@ never_after_write (w ∷ ws) a b q e f = both (nat_eq w.0 a && nat_eq w.1 b) ws 
     both true (v ∷ vs) d = absurd (cc)
     both false vs d = absurd (cc)
 
-step : (p : Place) (item : Item) (q : Place) → next p item ≡ Some q → is_first q ≡ true → (is_first p ≡ true) × (flips item ≡ false)
+step : (p : Place) (item : Item) (q : Place) → next_place p item ≡ Some q → is_first q ≡ true → (is_first p ≡ true) × (flips item ≡ false)
 step Start (Did Peek) q e f = (refl, refl)
 step Booting (Did (Read halted)) q e f = (refl, refl)
 step (Resting first) (Offered half F) q e f = absurd (cc)
@@ -40,7 +40,7 @@ step (Waiting first) (Did (Read halted)) q e f = (sym (after_read halted (Sendin
 step (Sending first) (Did Sent) q e f = (ap is_first (same_Some _ _ e) ∙ f, refl)
 step _ _ q e f = absurd (cc)
 
-pub no_flip : (life : List Item) (p : Place) → place_of life ≡ Some p → is_first p ≡ true → has_flip life ≡ false
+pub no_flip : (life : List Item) (p : Place) → place_of_life life ≡ Some p → is_first p ≡ true → has_flip life ≡ false
 no_flip [] p e f = refl
 no_flip (item ∷ life) p e f =
     let before = place_before item life p e in

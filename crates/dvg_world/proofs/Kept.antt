@@ -17,7 +17,7 @@ use Rattle.dvg_driver.specs.declared.action.Action.TheVariants.{Peek, Wrote, Rea
 use Rattle.dvg_driver.specs.Script
 use Rattle.dvg_driver.specs.Script.{Item, Did, IsWhole, IsLife, has_flip, frame_writes}
 use Rattle.dvg_driver.specs.Stands.{Tells}
-use Rattle.dvg_driver.specs.Place.{Place, Start, Booting, Resting, Writing, Waiting, Sending, next, place_of}
+use Rattle.dvg_driver.specs.Place.{Place, Start, Booting, Resting, Writing, Waiting, Sending, next_place, place_of_life}
 use Rattle.dvg_world.specs.Events.{Happening, Offer, Redraw, Tick, Strobe, Fetch, ResetGen, ResetCpu, ResetAll}
 use Rattle.dvg_world.specs.Entries.{Shown, Offered, Refused, Busy, Asked, NothingPublished, Acted, Started, NoStrobe, Low, Fetched, Done, Broke, Still, Cleared}
 use Rattle.dvg_world.specs.Log.{◌⟼◌, Log, Throughout, ram, history, open_run, free_half, life, strobed, before_flip}
@@ -72,7 +72,7 @@ AtPlace b0 b1 run flip (Waiting first) = HasFlipped flip
 AtPlace b0 b1 run flip (Sending first) = DrawsCurrent b1 run × HasFlipped flip
 
 pub record Kept (b0 b1 : ℕ) (run : Option (List (ℕ × ℕ))) (items : List Item) (sent : Bool) (flip : Option Log) (p : Place) : Type 0 where
-  pub stands : place_of items ≡ Some p
+  pub stands : place_of_life items ≡ Some p
   -- once there was a flip, word zero is a jump to a half
   pub jumps : HasFlipped flip → (b0 ≡ 1) × (b1 ≡ high (half_of_high b1))
   -- a strobe is sent after a flip, and a run begins after a strobe was sent
@@ -87,12 +87,12 @@ KeptBy image log p = Kept (byte image log 0) (byte image log 1) (open_run log) (
 abbrev Goes : List ℕ → Log → Happening → Shown → Type 0
 Goes image log event entry = (q : Place) × KeptBy image ((event ⟼ entry) ∷ log) q × SparesDrawn log event entry
 
-pub same_place : (items : List Item) (p q : Place) → place_of items ≡ Some p → place_of items ≡ Some q → p ≡ q
+pub same_place : (items : List Item) (p q : Place) → place_of_life items ≡ Some p → place_of_life items ≡ Some q → p ≡ q
 same_place items p q e d = same_Some _ _ (sym e ∙ d)
 
 module _ {b0 b1 : ℕ} {run : Option (List (ℕ × ℕ))} {items : List Item} {sent : Bool} {flip : Option Log} {p : Place} (k : Kept b0 b1 run items sent flip p) where
   -- to another place, with nothing else changed
-  moved : (items2 : List Item) (p2 : Place) → place_of items2 ≡ Some p2 → AtPlace b0 b1 run flip p2 → Kept b0 b1 run items2 sent flip p2
+  moved : (items2 : List Item) (p2 : Place) → place_of_life items2 ≡ Some p2 → AtPlace b0 b1 run flip p2 → Kept b0 b1 run items2 sent flip p2
   moved items2 p2 d h = record { stands = d; jumps = k.jumps; flipped = k.flipped; started = k.started; here = h }
 
 here_map : (b0 b1 : ℕ) (run run2 : Option (List (ℕ × ℕ))) (flip : Option Log) (p : Place) → (DrawsCurrent b1 run → DrawsCurrent b1 run2) → AtPlace b0 b1 run flip p → AtPlace b0 b1 run2 flip p
@@ -112,7 +112,7 @@ offer_step R image log p F k c w =
     let at : AtPlace (byte image log 0) (byte image log 1) (open_run log) (before_flip log) (Resting first) =
     rw (same_place (life image log) p (Resting first) k.stands rests.1) at k.here in (
       Writing (frame_writes h F first),
-      moved k (Script.Offered h F ∷ life image log) (Writing (frame_writes h F first)) (ap (option_and_then (λ p. next p (Script.Offered h F))) rests.1)
+      moved k (Script.Offered h F ∷ life image log) (Writing (frame_writes h F first)) (ap (option_and_then (λ p. next_place p (Script.Offered h F))) rests.1)
           (at.0, todo_frame h (byte image log 0) F R first c (λ e. (k.jumps (at.1 e)).0)),
     )
 
@@ -123,11 +123,11 @@ ask_step image log p k f w =
     let at : AtPlace (byte image log 0) (byte image log 1) (open_run log) (before_flip log) (Resting rests.0) =
     rw (same_place (life image log) p (Resting rests.0) k.stands rests.1) at k.here in (
       Waiting rests.0,
-      moved k (Script.Asked ∷ life image log) (Waiting rests.0) (ap (option_and_then (λ p. next p Script.Asked)) rests.1)
+      moved k (Script.Asked ∷ life image log) (Waiting rests.0) (ap (option_and_then (λ p. next_place p Script.Asked)) rests.1)
           (at.1 (not_first rests.0 refl)),
     )
   where
-    rests2 : (f : Bool) × (place_of (life image log) ≡ Some (Resting f))
+    rests2 : (f : Bool) × (place_of_life (life image log) ≡ Some (Resting f))
     rests2 = whole_rests (life image log) w
 
     not_first : (g : Bool) → rests2.0 ≡ g → g ≡ false
@@ -138,7 +138,7 @@ none_draws : (b1 : ℕ) (run : Option (List (ℕ × ℕ))) → true ≡ is_none 
 none_draws b1 None e words half f l = absurd (cc)
 none_draws b1 (Some ws) e words half f l = absurd (cc)
 
-write_step : (image : List ℕ) (log : Log) (ws : List (ℕ × ℕ)) (a b : ℕ) (q : Place) → length (ram image log) ≡ 0x800 → KeptBy image log (Writing ws) → place_of (Did (Wrote a b) ∷ life image log) ≡ Some q →
+write_step : (image : List ℕ) (log : Log) (ws : List (ℕ × ℕ)) (a b : ℕ) (q : Place) → length (ram image log) ≡ 0x800 → KeptBy image log (Writing ws) → place_of_life (Did (Wrote a b) ∷ life image log) ≡ Some q →
     IsWrite (free_half image log) (byte image log 0) a b q → Goes image log Tick (Acted (Wrote a b))
 write_step image log ws a b q size k d (to_half i vs e t) =
     let low = past_zero (free_half image log) (a / 2) i in
@@ -167,7 +167,7 @@ write_step image log ws a b q size k d (to_one ea eb e z) =
       λ half drawn inside. let low = past_zero half (1 / 2) inside in omega arith,
     )
 
-tick_step : (image : List ℕ) (log : Log) (p : Place) (action : Action) (q : Place) → length (ram image log) ≡ 0x800 → KeptBy image log p → next p (Did action) ≡ Some q → place_of (Did action ∷ life image log) ≡ Some q → Tells action (is_none (open_run log)) → Goes image log Tick (Acted action)
+tick_step : (image : List ℕ) (log : Log) (p : Place) (action : Action) (q : Place) → length (ram image log) ≡ 0x800 → KeptBy image log p → next_place p (Did action) ≡ Some q → place_of_life (Did action ∷ life image log) ≡ Some q → Tells action (is_none (open_run log)) → Goes image log Tick (Acted action)
 tick_step image log Start Peek q size k e d r = (Booting, moved k (Did Peek ∷ life image log) Booting (d ∙ sym e) tt, tt)
 tick_step image log Booting (Read true) q size k e d r = (Resting true, moved k (Did (Read true) ∷ life image log) (Resting true) (d ∙ sym e) (none_draws (byte image log 1) (open_run log) r, λ f. absurd (cc)), tt)
 tick_step image log Booting (Read false) q size k e d r = (Booting, moved k (Did (Read false) ∷ life image log) Booting (d ∙ sym e) tt, tt)
@@ -246,7 +246,7 @@ step R image log p Redraw Asked g k m f = let s = ask_step image log p k f.0 f.1
 step R image log p Tick (Acted action) g k m f =
     let after = life_place (Did action ∷ life image log) f.0 in
     let before = place_before (Did action) (life image log) after.0 after.1 in
-    tick_step image log p action after.0 (sized R image log g) k (ap (λ p. next p (Did action)) (same_place (life image log) p before.0 k.stands before.1) ∙ before.2) after.1 f.1
+    tick_step image log p action after.0 (sized R image log g) k (ap (λ p. next_place p (Did action)) (same_place (life image log) p before.0 k.stands before.1) ∙ before.2) after.1 f.1
 step R image log p Strobe Started g k m f = (p, begun_step f k, tt)
 step R image log p Strobe NoStrobe g k m f = (p, k, tt)
 step R image log p Fetch Still g k m f = (p, k, tt)

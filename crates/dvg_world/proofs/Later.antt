@@ -18,7 +18,7 @@ use Rattle.dvg_driver.specs.declared.action.Action.{Action}
 use Rattle.dvg_driver.specs.declared.action.Action.TheVariants.{Peek, Wrote, Read, Sent, Idle}
 use Rattle.dvg_driver.specs.Script
 use Rattle.dvg_driver.specs.Script.{Did, IsWhole}
-use Rattle.dvg_driver.specs.Place.{Place, Writing, next, place_of}
+use Rattle.dvg_driver.specs.Place.{Place, Writing, next_place, place_of_life}
 use Rattle.dvg_world.specs.Events.{Happening, Offer, Redraw, Tick, Strobe, Fetch, ResetGen, ResetCpu, ResetAll, IsEvent}
 use Rattle.dvg_world.specs.Entries.{Shown, Offered, Refused, Busy, Asked, NothingPublished, Acted, Started, NoStrobe, Low, Fetched, Done, Broke, Still, Cleared}
 use Rattle.dvg_world.specs.Log.{◌⟼◌, Log, Throughout, ram, low_byte, meets, history, open_run, free_half, life, published, publication, at_zero}
@@ -253,7 +253,7 @@ module _ (R image : List ℕ) where
       let e = least_draws u.half u.draft R u.checked in
       e.safe.fault (length ((a, m.0) ∷ u.fetches)) u.visits u.held u.runs fault (fails_breaks u.held (fate u.visits) (strokes u.begun_with u.visits) fault u.replies)
 
-  tick_shows : (log : Log) (p : Place) (action : Action) (q : Place) → length (ram image log) ≡ 0x800 → KeptBy image log p → Shows R image log → next p (Did action) ≡ Some q → place_of (Did action ∷ life image log) ≡ Some q → Shows R image ((Tick ⟼ Acted action) ∷ log)
+  tick_shows : (log : Log) (p : Place) (action : Action) (q : Place) → length (ram image log) ≡ 0x800 → KeptBy image log p → Shows R image log → next_place p (Did action) ≡ Some q → place_of_life (Did action ∷ life image log) ≡ Some q → Shows R image ((Tick ⟼ Acted action) ∷ log)
   tick_shows log (Writing ws) (Wrote a b) q size k s e d = write_shows R image log ws a b q size k s e d (is_write (free_half image log) (byte image log 0) ws k.here.1 a b q e)
   tick_shows log p Peek q size k s e d = same_line R image log Tick (Acted Peek) s (λ v vs o. o) refl (λ a. refl) (λ n f. tt) (λ v vs f m. tt) (λ ws l. absurd (idle_lays image log Peek (λ a b f. cc) ws l))
   tick_shows log p (Read h) q size k s e d = same_line R image log Tick (Acted (Read h)) s (λ v vs o. o) refl (λ a. refl) (λ n f. tt) (λ v vs f m. tt) (λ ws l. absurd (idle_lays image log (Read h) (λ a b f. cc) ws l))
@@ -269,12 +269,12 @@ module _ (R image : List ℕ) where
   step log p Redraw Busy g i k s m f = (same_life R image log Redraw Busy s (λ v vs o. o) refl (λ a. refl) (λ n g. tt) (λ v vs g m. tt) refl refl, (tt, tt, tt, tt))
   step log p Redraw Asked g i k s m f = (same_line R image log Redraw Asked s (λ v vs o. o) refl (λ a. refl) (λ n g. tt) (λ v vs g m. tt) (λ ws l. absurd (ask_lays log ws f.1 l)), (tt, tt, tt, tt))
     where
-      ask_lays : (log : Log) (ws : List (ℕ × ℕ)) → IsWhole (life image log) → option_and_then (λ p. next p Script.Asked) (place_of (life image log)) ≡ Some (Writing ws) → ⊥
+      ask_lays : (log : Log) (ws : List (ℕ × ℕ)) → IsWhole (life image log) → option_and_then (λ p. next_place p Script.Asked) (place_of_life (life image log)) ≡ Some (Writing ws) → ⊥
       ask_lays log ws w l = let r = whole_rests (life image log) w in let d = rw r.1 at l in cc
   step log p Tick (Acted action) g i k s m f =
       let after = life_place (Did action ∷ life image log) f.0 in
       let before = place_before (Did action) (life image log) after.0 after.1 in
-      (tick_shows log p action after.0 (sized R image log g) k s (ap (λ p. next p (Did action)) (same_place (life image log) p before.0 k.stands before.1) ∙ before.2) after.1, (tt, tt, tt, tt))
+      (tick_shows log p action after.0 (sized R image log g) k s (ap (λ p. next_place p (Did action)) (same_place (life image log) p before.0 k.stands before.1) ∙ before.2) after.1, (tt, tt, tt, tt))
   step log p Strobe Started g i k s m f = (same_life R image log Strobe Started s (λ v vs o. absurd (cc)) refl (λ a. refl) (λ n g. tt) (λ v vs g m. tt) refl refl, (tt, tt, tt, tt))
   step log p Strobe NoStrobe g i k s m f = (same_life R image log Strobe NoStrobe s (λ v vs o. o) refl (λ a. refl) (λ n g. tt) (λ v vs g m. tt) refl refl, (tt, tt, tt, tt))
   step log p Fetch Still g i k s m f = (same_life R image log Fetch Still s (λ v vs o. o) refl (λ a. refl) (λ n g. tt) (λ v vs g m. tt) refl refl, (tt, tt, tt, tt))

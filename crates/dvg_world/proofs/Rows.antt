@@ -29,7 +29,7 @@ use Rattle.dvg_driver.specs.declared.action.Action.{Action}
 use Rattle.dvg_driver.specs.declared.action.Action.TheVariants.{Peek, Wrote, Read, Sent}
 use Rattle.dvg_driver.specs.Script.{Did, IsWhole}
 use Rattle.dvg_driver.specs.Place as place
-use Rattle.dvg_driver.specs.Place.{next, place_of, with_left, after_write}
+use Rattle.dvg_driver.specs.Place.{next_place, place_of_life, with_left, after_write}
 use Rattle.dvg_driver.specs.Stands.{Tells}
 use Rattle.dvg_world.specs.Events.{Offer, Redraw, Tick, Strobe, Fetch}
 use Rattle.dvg_world.specs.Entries.{Offered, Busy, NothingPublished, Acted, Started, NoStrobe, Low, Fetched, Done, Still}
@@ -134,9 +134,9 @@ module _ (R : List ℕ) where
   walks_up : {d n : ℕ} {p q : Place} → At p d → Walks F1 R d p n q → number p + n ≤ 2
   walks_up at none = let few = low at in omega arith
   walks_up at (more leads walk) =
-      let next = lead at leads in
-      let up = next.1 in
-      let rest = walks_up next.0 walk in
+      let next_place = lead at leads in
+      let up = next_place.1 in
+      let rest = walks_up next_place.0 walk in
       omega arith
 
   no_loop : ¬ HasLoop F1 R
@@ -152,7 +152,7 @@ LegalOverZeros = IsLegal zeros zeros
 abbrev did : Action → Line
 did action = Tick ⟼ Acted action
 
-ticked : (log : Log) (action : Action) (to : place.Place) → LegalOverZeros log → place_of (Did action ∷ life zeros log) ≡ Some to → Tells action (is_none (open_run log)) → LegalOverZeros (did action ∷ log)
+ticked : (log : Log) (action : Action) (to : place.Place) → LegalOverZeros log → place_of_life (Did action ∷ life zeros log) ≡ Some to → Tells action (is_none (open_run log)) → LegalOverZeros (did action ∷ log)
 ticked log action to legal at reads = ((place_life (Did action ∷ life zeros log) to at, reads), tt, legal)
 
 -- writes of a frame part
@@ -160,11 +160,11 @@ abbrev wrote : List (ℕ × ℕ) → Log → Log
 wrote [] log = log
 wrote (write ∷ writes) log = wrote writes (did (Wrote write.0 write.1) ∷ log)
 
-written : (writes rest : List (ℕ × ℕ)) (log : Log) → LegalOverZeros log → place_of (life zeros log) ≡ Some (with_left (writes ++ rest))
-    → LegalOverZeros (wrote writes log) × (place_of (life zeros (wrote writes log)) ≡ Some (with_left rest))
+written : (writes rest : List (ℕ × ℕ)) (log : Log) → LegalOverZeros log → place_of_life (life zeros log) ≡ Some (with_left (writes ++ rest))
+    → LegalOverZeros (wrote writes log) × (place_of_life (life zeros (wrote writes log)) ≡ Some (with_left rest))
 written [] rest log legal at = (legal, at)
 written (write ∷ writes) rest log legal at =
-    let after = ap (option_and_then (λ p. next p (Did (Wrote write.0 write.1)))) at ∙ write_fits write.0 write.1 (writes ++ rest) in
+    let after = ap (option_and_then (λ p. next_place p (Did (Wrote write.0 write.1)))) at ∙ write_fits write.0 write.1 (writes ++ rest) in
     written writes rest (did (Wrote write.0 write.1) ∷ log) (ticked log (Wrote write.0 write.1) (with_left (writes ++ rest)) legal after tt) after
 
 -- F1 is offered to a driver that has booted, written to half 1 and published, and a strobe is sent and arrives
@@ -327,7 +327,7 @@ F1_again = (0x002, 0x90) ∷ (0x003, 0xA1) ∷ (0x004, 0x00) ∷ (0x005, 0x02) �
 abbrev written_again : Log
 written_again = wrote F1_again ((Offer F1 ⟼ Offered) ∷ finished started)
 
-is_written_again : LegalOverZeros written_again × (place_of (life zeros written_again) ≡ Some (with_left ((0x001, 0xE0) ∷ [])))
+is_written_again : LegalOverZeros written_again × (place_of_life (life zeros written_again) ≡ Some (with_left ((0x001, 0xE0) ∷ [])))
 is_written_again =
     written F1_again ((0x001, 0xE0) ∷ []) ((Offer F1 ⟼ Offered) ∷ finished started) ((accepts zeros, rests_whole (life zeros (finished started)) false refl), is_draft, first_picture) refl
 
@@ -349,7 +349,7 @@ low_fetched_legal = ((refl, record { run = begun before_again; leaves = leaves_a
 
 between_legal : LegalOverZeros between
 between_legal =
-    let after = ap (option_and_then (λ p. next p (Did (Wrote 0x001 0xE0)))) is_written_again.1 ∙ write_fits 0x001 0xE0 [] in
+    let after = ap (option_and_then (λ p. next_place p (Did (Wrote 0x001 0xE0)))) is_written_again.1 ∙ write_fits 0x001 0xE0 [] in
     ticked low_fetched (Wrote 0x001 0xE0) (with_left []) low_fetched_legal after tt
 
 -- no half is drawn before the high byte is fetched

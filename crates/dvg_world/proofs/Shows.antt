@@ -15,7 +15,7 @@ use Rattle.dvg_driver.specs.declared.action.Action.{Action}
 use Rattle.dvg_driver.specs.declared.action.Action.TheVariants.{Peek, Wrote, Read, Sent, Idle}
 use Rattle.dvg_driver.specs.Script
 use Rattle.dvg_driver.specs.Script.{Did, IsWhole, frame_writes}
-use Rattle.dvg_driver.specs.Place.{Place, Start, Booting, Resting, Writing, Waiting, Sending, next, place_of, after_write, with_left}
+use Rattle.dvg_driver.specs.Place.{Place, Start, Booting, Resting, Writing, Waiting, Sending, next_place, place_of_life, after_write, with_left}
 use Rattle.dvg_world.specs.Events.{Happening, Offer, Tick, ResetAll}
 use Rattle.dvg_world.specs.Entries.{Shown, Offered, Acted, Done}
 use Rattle.dvg_world.specs.Log.{Line, ◌⟼◌, Log, Throughout, ram, open_run, free_half, life, before_flip, offered, published, publication, has_fetched, at_zero}
@@ -67,7 +67,7 @@ pub record Current (R image : List ℕ) (log : Log) : Type 0 where
 
 pub record Shows (R image : List ℕ) (log : Log) : Type 0 where
   pub now : HasFlipped (before_flip log) → Current R image log
-  pub laying : (ws : List (ℕ × ℕ)) → place_of (life image log) ≡ Some (Writing ws) → Laying R image log ws
+  pub laying : (ws : List (ℕ × ℕ)) → place_of_life (life image log) ≡ Some (Writing ws) → Laying R image log ws
   pub running : (v : ℕ × ℕ) (vs : List (ℕ × ℕ)) → open_run log ≡ Some (v ∷ vs) → Running R image log (v ∷ vs)
   -- no run that ended shows a later publication than the newest, or than the one that the open run shows
   pub newest : (n : ℕ) → publication log ≡ Some n → Throughout (IsNoLater n) log
@@ -91,7 +91,7 @@ module _ (R image : List ℕ) (log : Log) (event : Happening) (entry : Shown) (s
     (b1 : byte image ((event ⟼ entry) ∷ log) 1 ≡ byte image log 1)
     (keeps_now : (F : List OpKind) → Checked F R → Lies (current image log) F (byte image log) → Lies (current image log) F (byte image ((event ⟼ entry) ∷ log)))
     (keeps_run : (h : Half) (F : List OpKind) → Checked F R → (words : List (ℕ × ℕ)) → open_run log ≡ Some words → LeadsTo words h → Lies h F (byte image log) → Lies h F (byte image ((event ⟼ entry) ∷ log)))
-    (lays : (ws : List (ℕ × ℕ)) → place_of (life image ((event ⟼ entry) ∷ log)) ≡ Some (Writing ws) → Laying R image ((event ⟼ entry) ∷ log) ws) where
+    (lays : (ws : List (ℕ × ℕ)) → place_of_life (life image ((event ⟼ entry) ∷ log)) ≡ Some (Writing ws) → Laying R image ((event ⟼ entry) ∷ log) ws) where
   pub carried : Shows R image ((event ⟼ entry) ∷ log)
   carried = record {
     now = λ g.
@@ -124,7 +124,7 @@ module _ (R image : List ℕ) (log : Log) (event : Happening) (entry : Shown) (s
 
 -- a new frame, of which nothing is written
 pub begun : (R image : List ℕ) (log : Log) (F : List OpKind) → Checked F R → IsWhole (life image log) → (ws : List (ℕ × ℕ)) →
-    option_and_then (λ p. next p (Script.Offered (free_half image log) F)) (place_of (life image log)) ≡ Some (Writing ws) → Laying R image ((Offer F ⟼ Offered) ∷ log) ws
+    option_and_then (λ p. next_place p (Script.Offered (free_half image log) F)) (place_of_life (life image log)) ≡ Some (Writing ws) → Laying R image ((Offer F ⟼ Offered) ∷ log) ws
 begun R image log F c w ws e =
     let r = whole_rests (life image log) w in
     let d : Some (Writing (frame_writes (free_half image log) F r.0)) ≡ Some (Writing ws) = rw r.1 at e in
@@ -144,7 +144,7 @@ begun R image log F c w ws e =
     writing_is d = cc
 
 -- an action that is no write leads to no writing
-no_write : (p : Place) (action : Action) (ws : List (ℕ × ℕ)) → ((a b : ℕ) → action ≡ Wrote a b → ⊥) → next p (Did action) ≡ Some (Writing ws) → ⊥
+no_write : (p : Place) (action : Action) (ws : List (ℕ × ℕ)) → ((a b : ℕ) → action ≡ Wrote a b → ⊥) → next_place p (Did action) ≡ Some (Writing ws) → ⊥
 no_write Start Peek ws n e = cc
 no_write Booting (Read true) ws n e = cc
 no_write Booting (Read false) ws n e = cc
@@ -156,7 +156,7 @@ no_write (Sending first) Sent ws n e = cc
 no_write _ _ ws n e = cc
 
 -- after such an action no frame is being written
-pub idle_lays : (image : List ℕ) (log : Log) (action : Action) → ((a b : ℕ) → action ≡ Wrote a b → ⊥) → (ws : List (ℕ × ℕ)) → place_of (Did action ∷ life image log) ≡ Some (Writing ws) → ⊥
+pub idle_lays : (image : List ℕ) (log : Log) (action : Action) → ((a b : ℕ) → action ≡ Wrote a b → ⊥) → (ws : List (ℕ × ℕ)) → place_of_life (Did action ∷ life image log) ≡ Some (Writing ws) → ⊥
 idle_lays image log action n ws e =
     let before = place_before (Did action) (life image log) (Writing ws) e in
     no_write before.0 action ws n before.2
@@ -269,7 +269,7 @@ flip_last R image log ws a b q g one e =
       | inr t ↦ omega arith
     ]
 
-plain_write : (R image : List ℕ) (log : Log) (ws : List (ℕ × ℕ)) (a b : ℕ) (q : Place) → length (ram image log) ≡ 0x800 → KeptBy image log (Writing ws) → Shows R image log → after_write ws a b ≡ Some q → place_of (Did (Wrote a b) ∷ life image log) ≡ Some q →
+plain_write : (R image : List ℕ) (log : Log) (ws : List (ℕ × ℕ)) (a b : ℕ) (q : Place) → length (ram image log) ≡ 0x800 → KeptBy image log (Writing ws) → Shows R image log → after_write ws a b ≡ Some q → place_of_life (Did (Wrote a b) ∷ life image log) ≡ Some q →
     a ≢ 1 → (IsIn (Frame (current image log)) (a / 2) → ⊥) → Shows R image ((Tick ⟼ Acted (Wrote a b)) ∷ log)
 plain_write R image log ws a b q size k s e d n1 away =
     let c = current image log in
@@ -278,7 +278,7 @@ plain_write R image log ws a b q size k s e d n1 away =
     (λ h F cl words o x y. frame_kept h F a b (ram image log) (apart h F R a cl (λ i. away (subst (λ g. IsIn (Frame g) (a / 2)) (k.here.0 words h o x) i))) y)
     (λ us l. laid_more R image log ws us a b size n1 (s.laying ws k.stands) (e ∙ (sym d ∙ l)))
 
-flip_write : (R image : List ℕ) (log : Log) (ws : List (ℕ × ℕ)) (q : Place) → length (ram image log) ≡ 0x800 → Shows R image log → Laying R image log ws → after_write ws 1 (high (free_half image log)) ≡ Some q → place_of (Did (Wrote 1 (high (free_half image log))) ∷ life image log) ≡ Some q →
+flip_write : (R image : List ℕ) (log : Log) (ws : List (ℕ × ℕ)) (q : Place) → length (ram image log) ≡ 0x800 → Shows R image log → Laying R image log ws → after_write ws 1 (high (free_half image log)) ≡ Some q → place_of_life (Did (Wrote 1 (high (free_half image log))) ∷ life image log) ≡ Some q →
     q ≡ Waiting false → Shows R image ((Tick ⟼ Acted (Wrote 1 (high (free_half image log)))) ∷ log)
 flip_write R image log ws q size s g e d v =
     let b = high (free_half image log) in
@@ -317,7 +317,7 @@ flip_write R image log ws q size s g e d v =
     one_low H0 k f = omega arith
     one_low H1 k f = omega arith
 
-pub write_shows : (R image : List ℕ) (log : Log) (ws : List (ℕ × ℕ)) (a b : ℕ) (q : Place) → length (ram image log) ≡ 0x800 → KeptBy image log (Writing ws) → Shows R image log → after_write ws a b ≡ Some q → place_of (Did (Wrote a b) ∷ life image log) ≡ Some q →
+pub write_shows : (R image : List ℕ) (log : Log) (ws : List (ℕ × ℕ)) (a b : ℕ) (q : Place) → length (ram image log) ≡ 0x800 → KeptBy image log (Writing ws) → Shows R image log → after_write ws a b ≡ Some q → place_of_life (Did (Wrote a b) ∷ life image log) ≡ Some q →
     IsWrite (free_half image log) (byte image log 0) a b q → Shows R image ((Tick ⟼ Acted (Wrote a b)) ∷ log)
 write_shows R image log ws a b q size k s e d (to_half i vs v t) = plain_write R image log ws a b q size k s e d not_one (not_both (current image log) (a / 2) i)
   where
@@ -347,7 +347,7 @@ pub same_line : (R image : List ℕ) (log : Log) (event : Happening) (entry : Sh
     ((a : ℕ) → byte image ((event ⟼ entry) ∷ log) a ≡ byte image log a) →
     ((n : ℕ) → publication log ≡ Some n → IsNoLater n log event entry) →
     ((v : ℕ × ℕ) (vs : List (ℕ × ℕ)) → open_run ((event ⟼ entry) ∷ log) ≡ Some (v ∷ vs) → (m : ℕ) → IsNoLater m log event entry) →
-    ((ws : List (ℕ × ℕ)) → place_of (life image ((event ⟼ entry) ∷ log)) ≡ Some (Writing ws) → Laying R image ((event ⟼ entry) ∷ log) ws) →
+    ((ws : List (ℕ × ℕ)) → place_of_life (life image ((event ⟼ entry) ∷ log)) ≡ Some (Writing ws) → Laying R image ((event ⟼ entry) ∷ log) ws) →
     Shows R image ((event ⟼ entry) ∷ log)
 same_line R image log event entry s o f b n rn lays =
     carried R image log event entry s o f n rn (b 1)
@@ -366,4 +366,4 @@ pub same_life : (R image : List ℕ) (log : Log) (event : Happening) (entry : Sh
     Shows R image ((event ⟼ entry) ∷ log)
 same_life R image log event entry s o f b n rn l y =
     same_line R image log event entry s o f b n rn
-    (λ ws e. same_laying R image log ((event ⟼ entry) ∷ log) ws y b (s.laying ws (ap place_of (sym l) ∙ e)))
+    (λ ws e. same_laying R image log ((event ⟼ entry) ∷ log) ws y b (s.laying ws (ap place_of_life (sym l) ∙ e)))

@@ -42,7 +42,7 @@ pub adds_between : {old old' new new' : State} (event : Happening) (entry : Show
 adds_between {old' = old'} {new = new} event entry same_old same_new adds =
     subst (λ s. AddsLine s event entry new) same_old (subst (λ s. AddsLine old' event entry s) (sym same_new) adds)
 
-pub new_world : (rom image bytes : List ℕ) (machine : Machine) (stage : Stage) → IsImage rom → IsImage bytes → bytes ≡ image → generator.StandsAfter machine [] None
+pub new_world : (rom image bytes : List ℕ) (machine : Machine) (stage : Stage) → IsImage rom → IsImage bytes → bytes ≡ image → generator.HasTaken machine [] None
     → ((peeked : ℕ) → driver.StandsAfter stage peeked []) → WorldAfter rom image [] (world_of rom bytes machine stage false)
 new_world rom image bytes machine stage r b same g d = record {
   legal = (r, subst IsImage same b);
@@ -50,7 +50,7 @@ new_world rom image bytes machine stage r b same g d = record {
 }
 
 module _ {rom bytes R ram : List ℕ} {machine : Machine} {stage : Stage} {sent strobe : Bool} {told : List Told} {low : Option ℕ} {items : List Item} (stands : StandsAt (world_of rom bytes machine stage sent) R ram told low items strobe) where
-  with_machine : {machine' : Machine} {told' : List Told} {low' : Option ℕ} → generator.StandsAfter machine' told' low' → StandsAt (world_of rom bytes machine' stage sent) R ram told' low' items strobe
+  with_machine : {machine' : Machine} {told' : List Told} {low' : Option ℕ} → generator.HasTaken machine' told' low' → StandsAt (world_of rom bytes machine' stage sent) R ram told' low' items strobe
   with_machine after = record { rom = stands.rom; ram = stands.ram; machine = after; peeked = stands.peeked; stage = stands.stage; byte1 = stands.byte1; sent = stands.sent }
 
   with_stage : {stage' : Stage} {items' : List Item} (peeked : ℕ) → driver.StandsAfter stage' peeked items' → byte1_of peeked items' ≡ slice_index ram 1
@@ -177,14 +177,14 @@ module _ {rom bytes : List ℕ} {machine : Machine} {stage : Stage} {sent : Bool
   pub strobe_lost : sent ≡ false → AddsLine (world_of rom bytes machine stage sent) Strobe NoStrobe (world_of rom bytes machine stage sent)
   strobe_lost none R image log w = record { legal = (sym w.stands.sent ∙ none, tt, w.legal); stands = w.stands }
 
-  pub strobe_starts : {machine' : Machine} → sent ≡ true → ((told : List Told) (low : Option ℕ) → generator.StandsAfter machine told low → generator.StandsAfter machine' (Start ∷ told) None)
+  pub strobe_starts : {machine' : Machine} → sent ≡ true → ((told : List Told) (low : Option ℕ) → generator.HasTaken machine told low → generator.HasTaken machine' (Start ∷ told) None)
       → AddsLine (world_of rom bytes machine stage sent) Strobe Started (world_of rom bytes machine' stage sent)
   strobe_starts some starts R image log w = record {
     legal = (sym w.stands.sent ∙ some, tt, w.legal);
     stands = with_machine w.stands (starts (history R image log) (low_byte log) w.stands.machine);
   }
 
-  pub reset_gen : {machine' : Machine} → ((told : List Told) (low : Option ℕ) → generator.StandsAfter machine told low → generator.StandsAfter machine' (Reset ∷ told) None)
+  pub reset_gen : {machine' : Machine} → ((told : List Told) (low : Option ℕ) → generator.HasTaken machine told low → generator.HasTaken machine' (Reset ∷ told) None)
       → AddsLine (world_of rom bytes machine stage sent) ResetGen Cleared (world_of rom bytes machine' stage sent)
   reset_gen resets R image log w = record { legal = (tt, tt, w.legal); stands = with_machine w.stands (resets (history R image log) (low_byte log) w.stands.machine) }
 
@@ -193,7 +193,7 @@ module _ {rom bytes : List ℕ} {machine : Machine} {stage : Stage} {sent : Bool
       let peeked = slice_index (ram image log) 1 in
       record { legal = (tt, tt, w.legal); stands = with_stage w.stands peeked (resets peeked) refl }
 
-  pub reset_all : {machine' : Machine} {stage' : Stage} {all bytes' : List ℕ} → IsImage bytes' → bytes' ≡ all → ((told : List Told) (low : Option ℕ) → generator.StandsAfter machine told low → generator.StandsAfter machine' (Reset ∷ told) None)
+  pub reset_all : {machine' : Machine} {stage' : Stage} {all bytes' : List ℕ} → IsImage bytes' → bytes' ≡ all → ((told : List Told) (low : Option ℕ) → generator.HasTaken machine told low → generator.HasTaken machine' (Reset ∷ told) None)
       → ((peeked : ℕ) → driver.StandsAfter stage' peeked []) → AddsLine (world_of rom bytes machine stage sent) (ResetAll all) Cleared (world_of rom bytes' machine' stage' false)
   reset_all {all = all} content same resets again R image log w = record {
     legal = (tt, subst IsImage same content, w.legal);
@@ -243,7 +243,7 @@ module _ {rom bytes : List ℕ} {machine : Machine} {stage : Stage} {sent : Bool
       let m = w.stands.machine in
       record {
         legal = ((None, met, record { asked = record { run = m.run; leaves = m.leaves; wanted = wanted }; later = x.0.run; leaves_later = x.0.leaves; replies = refl }), tt, w.legal);
-        stands = with_machine w.stands (subst (λ o. generator.StandsAfter machine' (Fed o ∷ history R image log) None) (sym (ap word_of met)) x.0);
+        stands = with_machine w.stands (subst (λ o. generator.HasTaken machine' (Fed o ∷ history R image log) None) (sym (ap word_of met)) x.0);
       }
   line_of_fetch R image log address (Whole (Some word)) taken.Low w wanted met x = absurd x.1
   line_of_fetch {A} R image log address (Whole (Some word)) taken.Word w wanted met x =
@@ -262,7 +262,7 @@ module _ {rom bytes : List ℕ} {machine : Machine} {stage : Stage} {sent : Bool
       let m = w.stands.machine in
       record {
         legal = ((Some word, met, record { asked = record { run = m.run; leaves = m.leaves; wanted = wanted }; later = x.0.run; leaves_later = x.0.leaves; replies = fails_is A fault (reply (Some word) x.0.run) x.1 }), tt, w.legal);
-        stands = with_machine w.stands (subst (λ o. generator.StandsAfter machine' (Fed o ∷ history R image log) None) (sym (ap word_of met)) x.0);
+        stands = with_machine w.stands (subst (λ o. generator.HasTaken machine' (Fed o ∷ history R image log) None) (sym (ap word_of met)) x.0);
       }
 
   -- what a fetch meets is what the log says
@@ -275,8 +275,8 @@ module _ {rom bytes : List ℕ} {machine : Machine} {stage : Stage} {sent : Bool
       (same, ap (met (low_byte log)) (sym there))
 
   pub fetch_takes : {A : Type 0} {machine' : Machine} (address : ℕ) (low byte : Option ℕ) (high : Bool) (answer : Taken A) (entry : Shown)
-      → ((told : List Told) (l : Option ℕ) (after : generator.StandsAfter machine told l) → Some address ≡ wants after.run) → low ≡ machine.low → high ≡ is_some low → byte ≡ fetched_byte bytes rom address high
-      → ((told : List Told) (l : Option ℕ) → generator.StandsAfter machine told l → Answers told (met l byte) machine' answer) → entry ≡ entry_by address (met low byte) answer
+      → ((told : List Told) (l : Option ℕ) (after : generator.HasTaken machine told l) → Some address ≡ wants after.run) → low ≡ machine.low → high ≡ is_some low → byte ≡ fetched_byte bytes rom address high
+      → ((told : List Told) (l : Option ℕ) → generator.HasTaken machine told l → Answers told (met l byte) machine' answer) → entry ≡ entry_by address (met low byte) answer
       → AddsLine (world_of rom bytes machine stage sent) Fetch entry (world_of rom bytes machine' stage sent)
   fetch_takes {machine' = machine'} address low byte high answer entry wanted kept second found answers shown R image log w =
       let m = w.stands.machine in
@@ -284,7 +284,7 @@ module _ {rom bytes : List ℕ} {machine : Machine} {stage : Stage} {sent : Bool
       subst (λ e. WorldAfter R image ((Fetch ⟼ e) ∷ log) (world_of rom bytes machine' stage sent)) (ap (λ l. entry_by address (met l byte) answer) (sym there.0) ∙ sym shown)
       (line_of_fetch R image log address (met (low_byte log) byte) answer w (sym (wanted (history R image log) (low_byte log) m)) there.1 (answers (history R image log) (low_byte log) m))
 
-  pub draws_now : (address : ℕ) (low byte : Option ℕ) (high : Bool) → machine.is_open ≡ true → ((told : List Told) (l : Option ℕ) (after : generator.StandsAfter machine told l) → Some address ≡ wants after.run)
+  pub draws_now : (address : ℕ) (low byte : Option ℕ) (high : Bool) → machine.is_open ≡ true → ((told : List Told) (l : Option ℕ) (after : generator.HasTaken machine told l) → Some address ≡ wants after.run)
       → low ≡ machine.low → high ≡ is_some low → byte ≡ fetched_byte bytes rom address high → ¬ DrawsNothing machine.held (met machine.low byte) → DrawsNow (world_of rom bytes machine stage sent)
   draws_now address low byte high is_open wanted kept second found draws R image log w =
       let m = w.stands.machine in

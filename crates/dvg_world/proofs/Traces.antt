@@ -13,7 +13,7 @@ use Rattle.dvg_world.specs.Events.{Happening, Offer, ResetAll}
 use Rattle.dvg_world.specs.Log.{Log}
 use Rattle.dvg_world.specs.Standing.{State, WorldAfter, AddsLine}
 use Rattle.dvg_world.specs.Stepping.{AddsEvent, WantsMemory}
-use Rattle.dvg_world.specs.Traces.{IsWithin, event_of, events_of}
+use Rattle.dvg_world.specs.Traces.{IsWithin, step_event, step_events}
 use Rattle.dvg_world.specs.Wanting.{TakesMemory}
 
 -- the event of an item is the one that its number has
@@ -41,7 +41,7 @@ same_range ops more first count low =
     ∙ take-append-le (first + count - first) (drop first ops) more (omega (arith, length-drop first ops))
 
 -- nor do more images change a reset
-same_step : (ops more all : List OpKind) (images others kept : List (List ℕ)) (s : Step) → all ≡ ops ++ more → kept ≡ images ++ others → IsWithin ops images s → event_of all kept s ≡ event_of ops images s
+same_step : (ops more all : List OpKind) (images others kept : List (List ℕ)) (s : Step) → all ≡ ops ++ more → kept ≡ images ++ others → IsWithin ops images s → step_event all kept s ≡ step_event ops images s
 same_step ops more all images others kept (step.Offer first count) e f within = rw e (ap Offer (same_range ops more first count within.0))
 same_step ops more all images others kept step.Redraw e f within = refl
 same_step ops more all images others kept step.Tick e f within = refl
@@ -51,11 +51,11 @@ same_step ops more all images others kept step.ResetGen e f within = refl
 same_step ops more all images others kept step.ResetCpu e f within = refl
 same_step ops more all images others kept (step.ResetAll number) e f within = rw f (ap ResetAll (get_or_append_left images others [] number within))
 
-same_events : (steps : List Step) (ops more all : List OpKind) (images others kept : List (List ℕ)) → all ≡ ops ++ more → kept ≡ images ++ others → All (IsWithin ops images) steps → events_of steps all kept ≡ events_of steps ops images
+same_events : (steps : List Step) (ops more all : List OpKind) (images others kept : List (List ℕ)) → all ≡ ops ++ more → kept ≡ images ++ others → All (IsWithin ops images) steps → step_events steps all kept ≡ step_events steps ops images
 same_events [] ops more all images others kept e f within = refl
 same_events (s ∷ steps) ops more all images others kept e f within =
-    ap (λ event. event ∷ events_of steps all kept) (same_step ops more all images others kept s e f (All-head (IsWithin ops images) s steps within))
-    ∙ ap (λ events. event_of ops images s ∷ events) (same_events steps ops more all images others kept e f (All-tail (IsWithin ops images) s steps within))
+    ap (λ event. event ∷ step_events steps all kept) (same_step ops more all images others kept s e f (All-head (IsWithin ops images) s steps within))
+    ∙ ap (λ events. step_event ops images s ∷ events) (same_events steps ops more all images others kept e f (All-tail (IsWithin ops images) s steps within))
 
 -- the last offer has the last operations
 last_range : (ops F : List OpKind) (first count : ℕ) → first ≡ length ops → count ≡ length F → slice_range (ops ++ F) first (first + count) ≡ F
@@ -64,19 +64,19 @@ last_range ops F first count begins counts =
     ∙ (ap (λ k. take (length F) (drop k (ops ++ F))) begins ∙ (ap (take (length F)) (drop-append_seam ops F) ∙ take-length F))
 
 pub one_offer_more : (steps : List Step) (ops F : List OpKind) (images : List (List ℕ)) (first count : ℕ) → All (IsWithin ops images) steps → first ≡ length ops → count ≡ length F
-    → events_of (steps ++ step.Offer first count ∷ []) (ops ++ F) images ≡ events_of steps ops images ++ Offer F ∷ []
+    → step_events (steps ++ step.Offer first count ∷ []) (ops ++ F) images ≡ step_events steps ops images ++ Offer F ∷ []
 one_offer_more steps ops F images first count within begins counts =
-    map-append (event_of (ops ++ F) images) steps (step.Offer first count ∷ [])
-    ∙ (ap (λ events. events ++ event_of (ops ++ F) images (step.Offer first count) ∷ []) (same_events steps ops F (ops ++ F) images [] images refl (sym (append-nil images)) within)
-    ∙ ap (λ G. events_of steps ops images ++ Offer G ∷ []) (last_range ops F first count begins counts))
+    map-append (step_event (ops ++ F) images) steps (step.Offer first count ∷ [])
+    ∙ (ap (λ events. events ++ step_event (ops ++ F) images (step.Offer first count) ∷ []) (same_events steps ops F (ops ++ F) images [] images refl (sym (append-nil images)) within)
+    ∙ ap (λ G. step_events steps ops images ++ Offer G ∷ []) (last_range ops F first count begins counts))
 
 -- the last reset has the last image
 pub one_reset_more : (steps : List Step) (ops : List OpKind) (images : List (List ℕ)) (image : List ℕ) (number : ℕ) → All (IsWithin ops images) steps → number ≡ length images
-    → events_of (steps ++ step.ResetAll number ∷ []) ops (images ++ image ∷ []) ≡ events_of steps ops images ++ ResetAll image ∷ []
+    → step_events (steps ++ step.ResetAll number ∷ []) ops (images ++ image ∷ []) ≡ step_events steps ops images ++ ResetAll image ∷ []
 one_reset_more steps ops images image number within counts =
-    map-append (event_of ops (images ++ image ∷ [])) steps (step.ResetAll number ∷ [])
-    ∙ (ap (λ events. events ++ event_of ops (images ++ image ∷ []) (step.ResetAll number) ∷ []) (same_events steps ops [] ops images (image ∷ []) (images ++ image ∷ []) (sym (append-nil ops)) refl within)
-    ∙ ap (λ bytes. events_of steps ops images ++ ResetAll bytes ∷ []) (ap (λ n. get_or (images ++ image ∷ []) n []) counts ∙ get_or-append_seam images image [] []))
+    map-append (step_event ops (images ++ image ∷ [])) steps (step.ResetAll number ∷ [])
+    ∙ (ap (λ events. events ++ step_event ops (images ++ image ∷ []) (step.ResetAll number) ∷ []) (same_events steps ops [] ops images (image ∷ []) (images ++ image ∷ []) (sym (append-nil ops)) refl within)
+    ∙ ap (λ bytes. step_events steps ops images ++ ResetAll bytes ∷ []) (ap (λ n. get_or (images ++ image ∷ []) n []) counts ∙ get_or-append_seam images image [] []))
 
 -- a step that is there, once more at the end, brings the event that its number has
 pub one_step_again : (f : Step → Happening) (steps more : List Step) (old : List Happening) (n : ℕ) (s d : Step) (event : Happening) → map f steps ≡ old → n < length old → s ≡ get_or steps n d → more ≡ steps ++ s ∷ [] → slice_get old n ≡ Some event

@@ -25,7 +25,7 @@ pub record State : Type 0 where
 pub record StandsAt (world : State) (R bytes : List ℕ) (told : List Told) (low : Option ℕ) (items : List Item) (strobe : Bool) : Type 0 where
   pub rom : world.rom ≡ R
   pub ram : world.ram ≡ bytes
-  pub machine : generator.StandsAfter world.machine told low
+  pub machine : generator.HasTaken world.machine told low
   pub peeked : ℕ
   pub stage : driver.StandsAfter world.stage peeked items
   pub byte1 : byte1_of peeked items ≡ slice_index bytes 1

@@ -8,19 +8,19 @@ use Rattle.dvg_world.specs.declared.trace.TraceEvent.TheVariants as seen
 use Rattle.dvg_world.specs.Events.{Happening, Offer, Redraw, Tick, Strobe, Fetch, ResetGen, ResetCpu, ResetAll}
 
 -- the event of a step, by the operations of all offers and the images of all resets
-abbrev pub event_of : List OpKind → List (List ℕ) → Step → Happening
-event_of ops images (step.Offer first count) = Offer (slice_range ops first (first + count))
-event_of ops images step.Redraw = Redraw
-event_of ops images step.Tick = Tick
-event_of ops images step.Strobe = Strobe
-event_of ops images step.Fetch = Fetch
-event_of ops images step.ResetGen = ResetGen
-event_of ops images step.ResetCpu = ResetCpu
-event_of ops images (step.ResetAll number) = ResetAll (get_or images number [])
+abbrev pub step_event : List OpKind → List (List ℕ) → Step → Happening
+step_event ops images (step.Offer first count) = Offer (slice_range ops first (first + count))
+step_event ops images step.Redraw = Redraw
+step_event ops images step.Tick = Tick
+step_event ops images step.Strobe = Strobe
+step_event ops images step.Fetch = Fetch
+step_event ops images step.ResetGen = ResetGen
+step_event ops images step.ResetCpu = ResetCpu
+step_event ops images (step.ResetAll number) = ResetAll (get_or images number [])
 
 -- the events of steps
-abbrev pub events_of : List Step → List OpKind → List (List ℕ) → List Happening
-events_of steps ops images = map (event_of ops images) steps
+abbrev pub step_events : List Step → List OpKind → List (List ℕ) → List Happening
+step_events steps ops images = map (step_event ops images) steps
 
 -- an offer's operations are among all of them, and a draft can hold them; a reset's image is among all of them
 abbrev pub IsWithin : List OpKind → List (List ℕ) → Step → Type 0

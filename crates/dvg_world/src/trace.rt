@@ -3,7 +3,7 @@ ghost use Rattle.std.specs.Prelude.{◌≡◌, ◌+◌, ◌<◌, ◌≤◌, ◌�
 ghost use Rattle.dvg_world.specs.Entries.{shown_of};
 ghost use Rattle.dvg_world.specs.Events.{Happening, Offer, ResetAll, happening_of};
 ghost use Rattle.dvg_world.specs.Stepping.{AddsEvent, WantsMemory};
-ghost use Rattle.dvg_world.specs.Traces.{FitsInDraft, IsTrace, events_of, seen_as};
+ghost use Rattle.dvg_world.specs.Traces.{FitsInDraft, IsTrace, step_events, seen_as};
 
 use crate::entry::Entry;
 use crate::event::Event;
@@ -33,7 +33,7 @@ pub struct Trace<A: Allocator = Global> {
 impl<A: Allocator> Model for Trace<A> {
     ghost Value = { List Happening };
 
-    ghost view = { λ trace. events_of trace.steps.items trace.ops.items trace.images.items };
+    ghost view = { λ trace. step_events trace.steps.items trace.ops.items trace.images.items };
 
     ghost invariant = { λ trace. IsTrace trace.steps.items trace.ops.items trace.images.items };
 }

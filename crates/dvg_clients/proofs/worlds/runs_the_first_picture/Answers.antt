@@ -3,7 +3,8 @@ use Rattle.std.proofs.lemmas.List.{length-map}
 use Rattle.dvg_world.specs.Events.{happening_of}
 use Rattle.dvg_world.specs.Legal.{IsLegal}
 use Rattle.dvg_world.specs.Runs.{log_of}
-use Rattle.dvg_clients.specs.Facts.{zeros, first_picture_events}
+use Rattle.dvg_clients.specs.Facts.{first_picture_events}
+use Rattle.dvg_tool.specs.Plays.{zeros}
 use Rattle.dvg_clients.proofs.FirstPicture.{first_picture_is}
 use Rattle.dvg_clients.proofs.worlds.runs_the_first_picture.Goals as goal
 

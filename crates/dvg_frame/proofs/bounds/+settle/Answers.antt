@@ -2,7 +2,7 @@ use Rattle.std.proofs.lemmas.Bool.{cases_lt}
 use Rattle.dvg_frame.specs.declared.chain.TheConstants.{LONGEST}
 use Rattle.std.proofs.Common.{length-append, [], ◌∷◌, ◌≡◌, ◌≤◌, ◌+◌, ◌*◌, ⊎_elim, ◌∙◌, sym, subst, arith, ap, length}
 use Rattle.dvg_frame.specs.Ways.{StandsSo}
-use Rattle.dvg_frame.specs.Tables.{IsReady, Keeps}
+use Rattle.dvg_frame.specs.Tables.{IsReady, KeepsKnown}
 use Rattle.dvg_frame.proofs.Tabled.{popped, left_chain, ready_call, ready_other, to_in, to_low, to_reached, keeps_same, keeps_both}
 use Rattle.dvg_frame.proofs.bounds.+settle.Goals as goal
 use Rattle.dvg_frame.proofs.bounds.+settle.Goals.{in-Call+else-not-settle, in_default}
@@ -65,10 +65,10 @@ loop-start-preserved g t c =
       | in-Call+else-not-settle w ↦ w.chain-is ∙ w.if-not-settle.ensures.settled.1
       | in_default w ↦ w.chain-is
     ] in
-    let keeps : Keeps c.loop-start.table c.match-way.table =
+    let keeps : KeepsKnown c.loop-start.table c.match-way.table =
     elim c.match-way.branch [
-      | in-Call+else-not-settle w ↦ subst (Keeps c.loop-start.table) (sym w.table-is) w.settle.ensures.kept
-      | in_default w ↦ subst (Keeps c.loop-start.table) (sym w.table-is) (keeps_same _)
+      | in-Call+else-not-settle w ↦ subst (KeepsKnown c.loop-start.table) (sym w.table-is) w.settle.ensures.kept
+      | in_default w ↦ subst (KeepsKnown c.loop-start.table) (sym w.table-is) (keeps_same _)
     ] in
     record {
       entries = c.put_drawn.ensures.entries _ _ _ ready.0 ready.1;

@@ -1,7 +1,7 @@
 use Rattle.std.proofs.Common.{◌≡◌, ◌++◌, List, length}
 use Rattle.dvg_frame.specs.declared.pair.Pair.{Pair}
 use Rattle.dvg_frame.specs.Steps.{Reached}
-use Rattle.dvg_frame.specs.Ways.{IsIn}
+use Rattle.dvg_frame.specs.Ways.{IsPlaceOf}
 use Rattle.dvg_frame.specs.Tables.{AllFine, Linked}
 use Rattle.dvg_frame.proofs.bounds.follow.Given as goal
 
@@ -11,6 +11,6 @@ invariant-loop-step g l = record {
   is : l.chain ≡ l.fn.chain ++ pairs;
   linked : Linked l.draft l.rom l.fn.start.depth l.fn.start.place pairs l.place;
   count : length pairs ≡ l.step;
-  inside : IsIn l.draft l.place;
+  inside : IsPlaceOf l.draft l.place;
   reached : AllFine l.draft l.rom → Reached l.draft l.rom l.place l.fn.start.depth;
 }

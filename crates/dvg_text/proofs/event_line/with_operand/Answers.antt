@@ -1,6 +1,6 @@
 use Rattle.std.proofs.Common.{◌≡◌, codes, rules, ⊎_elim}
 use Rattle.dvg_world.specs.Events.{happening_of}
-use Rattle.dvg_text.specs.EventLines.{IsCounted}
+use Rattle.dvg_text.specs.EventLines.{TakesCount}
 use Rattle.dvg_text.proofs.EventRows.{operand_row, resetall_made, resetall_only, times_made}
 use Rattle.dvg_text.proofs.event_line.with_operand.Goals as goal
 
@@ -19,5 +19,5 @@ returns-in_err-event-clause-only g c events h =
 
 pub returns-clause-found : goal.returns-clause-found
 returns-clause-found g c =
-    let counts : IsCounted (happening_of c.in_ok-event.event) = search rules in
+    let counts : TakesCount (happening_of c.in_ok-event.event) = search rules in
     times_made (happening_of c.in_ok-event.event) c.in_ok-times.field-0 c.args.name.now c.args.operand.now c.in_ok-event.ensures.found counts c.in_ok-times.ensures.found c.in_ok-times.ensures.least c.in_ok-times.ensures.most

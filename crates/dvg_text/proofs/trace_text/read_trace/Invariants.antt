@@ -1,6 +1,6 @@
 use Rattle.dvg_text.specs.FirstFaults.{IsShort}
 use Rattle.dvg_text.specs.TextLines.{lines_left}
-use Rattle.dvg_text.specs.TraceGives.{IsHeld, events_of, opened_of}
+use Rattle.dvg_text.specs.TraceGives.{IsHeld, events_read, opened_of}
 use Rattle.dvg_text.proofs.ReadTrace.{ReadTrace}
 use Rattle.dvg_text.proofs.trace_text.read_trace.Given as goal
 
@@ -10,5 +10,5 @@ invariant-loop-line g l = record {
   ends : (goal.iterator-loop-line g).is_finite l.line-iterator;
   short : IsShort l.text;
   held : IsHeld l.reading;
-  read : ReadTrace l.text (lines_left l.line-iterator) l.number (events_of l.reading) (opened_of l.reading) l.reading.rom;
+  read : ReadTrace l.text (lines_left l.line-iterator) l.number (events_read l.reading) (opened_of l.reading) l.reading.rom;
 }

@@ -1,6 +1,6 @@
 use Rattle.std.proofs.Common.{subst, sym}
 use Rattle.dvg_driver.specs.declared.driver.Phase.TheVariants as phase
-use Rattle.dvg_driver.specs.Phases.{Keeps}
+use Rattle.dvg_driver.specs.Phases.{KeepsPhase}
 use Rattle.dvg_driver.proofs.Standing.{at_phase, in_phase, behind_word_zero, writes_on, none_left, flips_next}
 use Rattle.dvg_driver.proofs.driver.Driver.act.Goals as goal
 
@@ -8,7 +8,7 @@ pub invariant_of-self-in-Some : goal.invariant_of-self-in-Some
 invariant_of-self-in-Some c =
     let driver = c.self.inside in
     let rest = (behind_word_zero _ _ driver.flipped _ (c.in-Some.address, c.in-Some.byte) c.self.invariant c.in-Writing.is c.in-Some.ensures.given).1 in
-    subst (λ v. Keeps v c.next_of.new.cursor driver.flipped) (sym c.in-Writing.is) rest
+    subst (λ v. KeepsPhase v c.next_of.new.cursor driver.flipped) (sym c.in-Writing.is) rest
 
 pub returns-in-Some-clause-stands : goal.returns-in-Some-clause-stands
 returns-in-Some-clause-stands c peeked life stands =

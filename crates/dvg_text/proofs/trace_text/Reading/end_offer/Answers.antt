@@ -1,7 +1,7 @@
 use Rattle.std.proofs.Common.{◌≡◌, ◌<◌, ◌∷◌, ◌++◌, [], None, length, refl, arith, rules}
 use Rattle.std.proofs.lemmas.Grind.{common_steps}
 use Rattle.dvg_world.specs.Events.{Offer}
-use Rattle.dvg_text.specs.TraceGives.{events_of, opened_of}
+use Rattle.dvg_text.specs.TraceGives.{events_read, opened_of}
 use Rattle.dvg_text.proofs.TraceMoves.{end_fits, end_stops, end_taken, resets_stay, some_opened}
 use Rattle.dvg_text.proofs.trace_text.Reading.end_offer.Goals as goal
 
@@ -9,24 +9,24 @@ pub returns-then-len-eq-MOST_EVENTS-clause-fault : goal.returns-then-len-eq-MOST
 returns-then-len-eq-MOST_EVENTS-clause-fault g c =
     let reading = c.args.self.now in
     let inside = some_opened reading.is_open reading.draft (search rules) in
-    let full : length (events_of reading) ≡ 65536 = grind (arith, common_steps) in
-    end_stops (events_of reading) (opened_of reading) reading.draft inside full
+    let full : length (events_read reading) ≡ 65536 = grind (arith, common_steps) in
+    end_stops (events_read reading) (opened_of reading) reading.draft inside full
 
 pub returns-clause-held : goal.returns-clause-held
 returns-clause-held g c =
     let reading = c.args.self.now in
     let inside = some_opened reading.is_open reading.draft (search rules) in
-    let pushed : c.push_offer.new.self ≡ events_of reading ++ Offer reading.draft ∷ [] = search rules in
-    let room : length (events_of reading) < 65536 = grind (arith, common_steps) in
+    let pushed : c.push_offer.new.self ≡ events_read reading ++ Offer reading.draft ∷ [] = search rules in
+    let room : length (events_read reading) < 65536 = grind (arith, common_steps) in
     record {
-      fits = end_fits (events_of reading) c.push_offer.new.self (opened_of reading) None reading.draft inside refl pushed room c.requires.held.fits;
+      fits = end_fits (events_read reading) c.push_offer.new.self (opened_of reading) None reading.draft inside refl pushed room c.requires.held.fits;
       image = c.requires.held.image;
-      known = resets_stay reading.resets (events_of reading) (Offer reading.draft ∷ []) c.push_offer.new.self pushed c.requires.held.known;
+      known = resets_stay reading.resets (events_read reading) (Offer reading.draft ∷ []) c.push_offer.new.self pushed c.requires.held.known;
     }
 
 pub returns-clause-taken : goal.returns-clause-taken
 returns-clause-taken g c =
     let reading = c.args.self.now in
     let inside = some_opened reading.is_open reading.draft (search rules) in
-    let pushed : c.push_offer.new.self ≡ events_of reading ++ Offer reading.draft ∷ [] = search rules in
-    end_taken (events_of reading) c.push_offer.new.self (opened_of reading) None reading.draft reading.rom inside refl pushed
+    let pushed : c.push_offer.new.self ≡ events_read reading ++ Offer reading.draft ∷ [] = search rules in
+    end_taken (events_read reading) c.push_offer.new.self (opened_of reading) None reading.draft reading.rom inside refl pushed

@@ -3,8 +3,8 @@ use Rattle.dvg_world.specs.Events.{Happening}
 use Rattle.dvg_text.specs.declared.trace_text.Reading.{Reading}
 use Rattle.dvg_text.specs.EventLines.{happenings}
 use Rattle.dvg_text.specs.Texts.{parts}
-use Rattle.dvg_text.specs.TraceTexts.{EventParts, Fits}
-use Rattle.dvg_text.specs.TraceGives.{events_of, opened_of}
+use Rattle.dvg_text.specs.TraceTexts.{EventParts, FitsTrace}
+use Rattle.dvg_text.specs.TraceGives.{events_read, opened_of}
 use Rattle.dvg_text.proofs.TraceMoves.{events_fit, events_stop, events_taken, held_on, none_opened, offer_fits, offer_taken, outside_stops, rom_taken}
 use Rattle.dvg_text.proofs.EventRows.{some_events}
 use Rattle.dvg_text.proofs.trace_text.Reading.take_outside.Goals as goal
@@ -13,45 +13,45 @@ pub returns-then-eq-clause-taken : goal.returns-then-eq-clause-taken
 returns-then-eq-clause-taken g c =
     let reading = c.args.self.now in
     let named : c.args.line.now ≡ codes "offer" = search rules in
-    offer_taken (events_of reading) (opened_of reading) (Some c.clear.new.self) c.args.line.now reading.rom (none_opened reading.is_open reading.draft c.requires.outside) named (ap Some c.clear.ensures)
+    offer_taken (events_read reading) (opened_of reading) (Some c.clear.new.self) c.args.line.now reading.rom (none_opened reading.is_open reading.draft c.requires.outside) named (ap Some c.clear.ensures)
 
 pub returns-then-eq-clause-held : goal.returns-then-eq-clause-held
 returns-then-eq-clause-held g c =
     let reading = c.args.self.now in
-    record { fits = subst (λ F. Fits (events_of reading) (Some F)) (sym c.clear.ensures) (offer_fits (events_of reading) (opened_of reading) c.requires.held.fits); image = c.requires.held.image; known = c.requires.held.known }
+    record { fits = subst (λ F. FitsTrace (events_read reading) (Some F)) (sym c.clear.ensures) (offer_fits (events_read reading) (opened_of reading) c.requires.held.fits); image = c.requires.held.image; known = c.requires.held.known }
 
 pub returns-in-Some-clause-taken : goal.returns-in-Some-clause-taken
 returns-in-Some-clause-taken g c =
-    events_taken c.add_events.result (events_of c.args.self.now) (happenings c.in-Some.told) c.add_events.new.events (opened_of c.args.self.now) c.args.line.now c.args.self.now.rom (none_opened c.args.self.now.is_open c.args.self.now.draft c.requires.outside) c.in-Some.ensures.found c.add_events.ensures.added
+    events_taken c.add_events.result (events_read c.args.self.now) (happenings c.in-Some.told) c.add_events.new.events (opened_of c.args.self.now) c.args.line.now c.args.self.now.rom (none_opened c.args.self.now.is_open c.args.self.now.draft c.requires.outside) c.in-Some.ensures.found c.add_events.ensures.added
 
 pub returns-in-Some-clause-held : goal.returns-in-Some-clause-held
 returns-in-Some-clause-held g c =
     let new : Reading g.row.A.Denot = record { alloc = c.args.self.now.alloc; rom = c.args.self.now.rom; events = c.add_events.new.events; draft = c.args.self.now.draft; is_open = c.args.self.now.is_open; resets = c.add_events.new.resets } in
     held_on c.add_events.result new
-    (events_fit c.add_events.result (events_of c.args.self.now) (happenings c.in-Some.told) (events_of new) (opened_of c.args.self.now) (parts c.args.line.now) c.in-Some.ensures.found c.add_events.ensures.added c.add_events.ensures.room c.requires.held.fits)
+    (events_fit c.add_events.result (events_read c.args.self.now) (happenings c.in-Some.told) (events_read new) (opened_of c.args.self.now) (parts c.args.line.now) c.in-Some.ensures.found c.add_events.ensures.added c.add_events.ensures.room c.requires.held.fits)
     c.requires.held.image
     c.add_events.ensures.resets
 
 pub returns-in-Some-clause-fault : goal.returns-in-Some-clause-fault
-returns-in-Some-clause-fault g c = events_stop c.add_events.result (events_of c.args.self.now) (happenings c.in-Some.told) (opened_of c.args.self.now) c.args.line.now (none_opened c.args.self.now.is_open c.args.self.now.draft c.requires.outside) c.in-Some.ensures.found c.add_events.ensures.fault
+returns-in-Some-clause-fault g c = events_stop c.add_events.result (events_read c.args.self.now) (happenings c.in-Some.told) (opened_of c.args.self.now) c.args.line.now (none_opened c.args.self.now.is_open c.args.self.now.draft c.requires.outside) c.in-Some.ensures.found c.add_events.ensures.fault
 
 pub returns-then-not-is_empty-clause-fault : goal.returns-then-not-is_empty-clause-fault
 returns-then-not-is_empty-clause-fault g c =
     let other : c.args.line.now ≡ codes "offer" → ⊥ = search rules in
     let no_events : (more : List Happening) → EventParts more (parts c.args.line.now) → ⊥ = λ more p. let answered = c.in_default.ensures.only more p in search rules in
-    outside_stops (events_of c.args.self.now) (opened_of c.args.self.now) c.args.line.now (none_opened c.args.self.now.is_open c.args.self.now.draft c.requires.outside) other no_events
+    outside_stops (events_read c.args.self.now) (opened_of c.args.self.now) c.args.line.now (none_opened c.args.self.now.is_open c.args.self.now.draft c.requires.outside) other no_events
     (λ none given h. let empty = c.is_empty.ensures.1 none in absurd (cc))
 
 pub returns-in_default-read_rom_line-clause-fault : goal.returns-in_default-read_rom_line-clause-fault
 returns-in_default-read_rom_line-clause-fault g c =
     let other : c.args.line.now ≡ codes "offer" → ⊥ = search rules in
     let no_events : (more : List Happening) → EventParts more (parts c.args.line.now) → ⊥ = λ more p. let answered = c.in_default.ensures.only more p in search rules in
-    outside_stops (events_of c.args.self.now) (opened_of c.args.self.now) c.args.line.now (none_opened c.args.self.now.is_open c.args.self.now.draft c.requires.outside) other no_events (λ none given h. let answered = c.in_default-read_rom_line.ensures.only given h in absurd (cc))
+    outside_stops (events_read c.args.self.now) (opened_of c.args.self.now) c.args.line.now (none_opened c.args.self.now.is_open c.args.self.now.draft c.requires.outside) other no_events (λ none given h. let answered = c.in_default-read_rom_line.ensures.only given h in absurd (cc))
 
 pub returns-clause-taken : goal.returns-clause-taken
 returns-clause-taken g c =
-    let none : events_of c.args.self.now ≡ [] = c.is_empty.ensures.0 (search rules) in
-    rom_taken (events_of c.args.self.now) (opened_of c.args.self.now) c.args.line.now c.args.self.now.rom c.put.new.rom c.in-Some-read_rom_line.given none (none_opened c.args.self.now.is_open c.args.self.now.draft c.requires.outside) c.in-Some-read_rom_line.ensures.found c.put.ensures.behind
+    let none : events_read c.args.self.now ≡ [] = c.is_empty.ensures.0 (search rules) in
+    rom_taken (events_read c.args.self.now) (opened_of c.args.self.now) c.args.line.now c.args.self.now.rom c.put.new.rom c.in-Some-read_rom_line.given none (none_opened c.args.self.now.is_open c.args.self.now.draft c.requires.outside) c.in-Some-read_rom_line.ensures.found c.put.ensures.behind
 
 pub add_events-requires-clause-some : goal.add_events-requires-clause-some
 add_events-requires-clause-some g c = some_events c.in-Some.ensures.found

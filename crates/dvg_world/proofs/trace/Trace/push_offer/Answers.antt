@@ -1,7 +1,7 @@
 use Rattle.std.proofs.Common.{rules, ◌≡◌, ◌∷◌, ◌++◌, [], length, ap, ◌∙◌}
 use Rattle.dvg_world.specs.declared.trace.Step.TheVariants as step
 use Rattle.dvg_world.specs.Events.{Offer}
-use Rattle.dvg_world.specs.Traces.{events_of}
+use Rattle.dvg_world.specs.Traces.{step_events}
 use Rattle.dvg_world.proofs.Traces.{one_offer_more}
 use Rattle.dvg_world.proofs.trace.Trace.push_offer.Goals as goal
 
@@ -14,5 +14,5 @@ returns-clause-pushed g c =
     let more = one_offer_more steps ops c.args.draft.now images c.len-first.result c.len.result c.self.invariant.within first c.len.ensures.value in
     let steps_now : c.push_reserved.new.self.items ≡ steps ++ step.Offer c.len-first.result c.len.result ∷ [] = search rules in
     let ops_now : c.extend_from_slice.new.self.items ≡ ops ++ c.args.draft.now = search rules in
-    let view = ap (λ steps. events_of steps c.extend_from_slice.new.self.items images) steps_now ∙ ap (λ ops. events_of (steps ++ step.Offer c.len-first.result c.len.result ∷ []) ops images) ops_now in
+    let view = ap (λ steps. step_events steps c.extend_from_slice.new.self.items images) steps_now ∙ ap (λ ops. step_events (steps ++ step.Offer c.len-first.result c.len.result ∷ []) ops images) ops_now in
     view ∙ (more ∙ ap (λ events. events ++ Offer c.args.draft.now ∷ []) c.self.view_is)
