@@ -38,7 +38,7 @@ impl<'a> Checked<'a> {
         }
     }
 
-    /// How many words its frame has in a half, 1 to 511.
+    /// How many words its frame has in a half, at most 511.
     pub fn len_words(&self) -> u16
         ensures value { result ≡ size self.now.operations }
         ensures bound { result ≤ 511 }

@@ -62,7 +62,7 @@ impl Frame {
         self.bound = bound;
     }
 
-    /// How many words the frame has in a half, 1 to 511.
+    /// How many words the frame has in a half, at most 511.
     pub fn len_words(&self) -> u16
         ensures value { result ≡ layout.size self.now.operations }
         ensures laid { (half : Half) → length (layout.laid half self.now.operations) ≡ result }
