@@ -1,9 +1,13 @@
 //! Runs that stop early.
 use crate::entry::Entry;
 use std::alloc::{Allocator, Global};
+use thiserror::Error;
 
 /// A run that stopped for want of memory, and for no other cause.
-#[derive(Debug, Drop)]
+#[derive(Error, Drop)]
+#[derive_where(Debug, PartialEq, Eq)]
+#[derive_where(Clone; A)]
+#[error("memory was refused at event {event}")]
 pub struct Stopped<A: Allocator = Global> {
     /// The entries of the events before the one at which the run stopped.
     pub entries: Vec<Entry<A>, A>,
