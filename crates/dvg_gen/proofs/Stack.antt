@@ -2,7 +2,7 @@
 use Rattle.std.proofs.Common.{◌≡◌, ℕ, zero, suc, ◌+◌, ◌≤◌, false, List, [], ◌∷◌, length, get_or, refl, ap, subst, eqb, cond, ⊎_elim, arith}
 use Rattle.std.proofs.lemmas.Bool.{eqb-false, ne_eqb, cases_Bool, cases_lt}
 use Rattle.dvg_gen.specs.declared.taken.GenFault.TheVariants.{StackOver, StackUnder}
-use Rattle.dvg_gen.specs.Obeyed.{stack_by, to_of, CanGo}
+use Rattle.dvg_gen.specs.Stacks.{stack_by, to_of, CanGo}
 use Rattle.dvg_code.specs.Acts.{Act, Moves, Jumps, Calls, Returns, Halts, act_of}
 use Rattle.dvg_gen.specs.Run.{Visit, back_over, past_call, led, next, call_count, return_count, calls, returns, Goes, Finished, Breaks, fate_by, fate}
 

@@ -13,7 +13,8 @@ use Rattle.dvg_gen.specs.Completing.{Completes}
 use Rattle.dvg_gen.specs.Drawing.{moved, drawn}
 use Rattle.dvg_gen.specs.Bytes.{Met, met, Waits, Whole}
 use Rattle.dvg_gen.specs.Machine.{Machine, IsReply, IsInRun, HasTaken, Answers}
-use Rattle.dvg_gen.specs.Obeyed.{stack_by, to_of, past, CanGo, gone, IsShut, Obeyed}
+use Rattle.dvg_gen.specs.Stacks.{stack_by, to_of, CanGo}
+use Rattle.dvg_gen.specs.Obeyed.{past, gone, IsShut, Obeyed}
 use Rattle.dvg_code.specs.Acts.{act_of}
 use Rattle.dvg_gen.specs.Run.{Visit, on, next, wanted, calls, returns, Fate, Goes, Finished, Breaks, fate_by, fate, beam_after, strokes, Adds, first, one, two}
 use Rattle.dvg_gen.specs.Told.{Told, Newest, nothing, goes_on, grown, stopped, begun, Leaves, new, starts, resets, meets_hole, takes, Start, Reset, reply_by}

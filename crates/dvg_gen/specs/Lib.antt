@@ -7,5 +7,6 @@ pub mod Whole
 pub mod Bytes
 pub mod Completing
 pub mod Machine
+pub mod Stacks
 pub mod Obeyed
 pub mod Laws

@@ -10,23 +10,7 @@ use Rattle.dvg_gen.specs.Drawing.{moved, drawn}
 use Rattle.dvg_gen.specs.Machine.{Machine}
 use Rattle.dvg_code.specs.Acts.{Act, Moves, Jumps, Calls, Returns, Halts, act_of}
 use Rattle.dvg_gen.specs.Run.{on}
-
--- the stack after an instruction at a place
-abbrev pub stack_by : Act ℕ → ℕ → List ℕ → List ℕ
-stack_by (Moves code) place stack = stack
-stack_by (Jumps to) place stack = stack
-stack_by (Calls to) place stack = on place 1 ∷ stack
-stack_by Returns place [] = []
-stack_by Returns place (back ∷ stack) = stack
-stack_by Halts place stack = stack
-
--- where an instruction at a place leads
-abbrev pub to_of : Act ℕ → ℕ → List ℕ → ℕ
-to_of (Moves code) place stack = on place (word_count code)
-to_of (Jumps to) place stack = to
-to_of (Calls to) place stack = to
-to_of Returns place stack = slice_index stack 0
-to_of Halts place stack = on place 1
+use Rattle.dvg_gen.specs.Stacks.{stack_by, to_of, CanGo}
 
 -- where an instruction leads, by the address of its last word
 abbrev pub past : Act ℕ → ℕ → List ℕ → ℕ
@@ -35,14 +19,6 @@ past (Jumps to) at stack = to
 past (Calls to) at stack = to
 past Returns at stack = slice_index stack 0
 past Halts at stack = on at 1
-
--- an instruction after which the machine goes on
-abbrev pub CanGo : Act ℕ → List ℕ → Type 0
-CanGo (Moves code) stack = Unit {0}
-CanGo (Jumps to) stack = Unit {0}
-CanGo (Calls to) stack = length stack < 4
-CanGo Returns stack = 0 < length stack
-CanGo Halts stack = ⊥
 
 -- the machine after an instruction that it goes on from
 abbrev pub gone : Machine → Instr → Machine

@@ -1,7 +1,6 @@
 -- The lines that the engines write.
-use Rattle.std.specs.Prelude.{ℕ, ℤ, ◌+◌, ◌/◌, ◌%◌, Bool, true, cond, List, [], ◌∷◌, ◌++◌, drop, flat_map, map, nat_eq, codes}
+use Rattle.std.specs.Prelude.{ℕ, ℤ, ◌+◌, ◌/◌, ◌%◌, Bool, true, cond, List, [], ◌∷◌, ◌++◌, flat_map, map, nat_eq, codes}
 use Rattle.std.specs.Fmt.{decimal, signed_decimal, digit_glyph}
-use Rattle.std.specs.List.{starts_with}
 use lib.Pointwise.{pointwise}
 use Rattle.dvg_code.specs.declared.instr.Instr.{Instr}
 use Rattle.dvg_code.specs.declared.instr.Instr.TheVariants.{Vctr, Labs, Halt, Jsrl, Rtsl, Jmpl, Svec}
@@ -46,10 +45,6 @@ line_text place instr canonical = hex_3 place ++ spaced (instr_parts instr ++ co
 -- the line of an instruction at its place, with the words that spell it
 abbrev pub line_of : Placed → List ℕ
 line_of item = line_text item.place item.instr (pointwise nat_eq (canon item.instr) item.words)
-
--- the same, of the instruction that stands at a place of the words (for private contracts)
-abbrev pub line_at : List ℕ → ℕ → Instr → List ℕ
-line_at words place instr = line_text place instr (starts_with nat_eq (drop place words) (canon instr))
 
 -- the text of a listing
 abbrev pub list_text : List Placed → List ℕ

@@ -1,13 +1,20 @@
 -- What `list` answers and writes.
-use Rattle.std.specs.Prelude.{◌≡◌, ◌≢◌, ◌%◌, ◌<◌, ◌≤◌, ℕ, List, [], length, Option, Result, Ok, Err, MatchResult}
+use Rattle.std.specs.Prelude.{◌≡◌, ◌≢◌, ◌%◌, ◌<◌, ◌≤◌, ℕ, List, [], drop, length, nat_eq, Option, Result, Ok, Err, MatchResult}
 use Rattle.std.specs.Io.KnownBytes.{Appends}
+use Rattle.std.specs.List.{starts_with}
+use Rattle.dvg_code.specs.declared.instr.Instr.{Instr}
+use Rattle.dvg_code.specs.Spelling.{canon}
 use Rattle.dvg_code.specs.Words.{words_of}
 use Rattle.dvg_code.specs.Cutting.{Cutting}
-use Rattle.dvg_text.specs.Lines.{list_text}
+use Rattle.dvg_text.specs.Lines.{line_text, list_text}
 use Rattle.dvg_tool.specs.Watching.{BeginsToWrite}
 use Rattle.dvg_text.specs.declared.fault.TextFault.TheVariants.{TooLong, Odd, Cut}
 use Rattle.dvg_tool.specs.declared.fault.ToolFault.{ToolFault}
 use Rattle.dvg_tool.specs.declared.fault.ToolFault.TheVariants.{Text, Writer}
+
+-- the line of the instruction that stands at a place of the words (for a private contract)
+abbrev pub line_at : List ℕ → ℕ → Instr → List ℕ
+line_at words place instr = line_text place instr (starts_with nat_eq (drop place words) (canon instr))
 
 -- where the words' cutting leaves a rest, its place is answered and the text before it went out; at `Writer` a beginning of the text (for a private contract)
 abbrev pub StopsListing : ToolFault → (words : List ℕ) → Option (List ℕ) → Option (List ℕ) → Type 0

@@ -2,8 +2,7 @@
 ghost use Rattle.std.specs.Prelude.{◌≡◌, ◌↔◌, ◌≤◌, ◌%◌, length, IfErr, IfSome, IsErrOf, OnErr, OnOk};
 ghost use Rattle.std.specs.Io.KnownBytes.{Appends};
 ghost use Rattle.dvg_code.specs.Words.{words_of};
-ghost use Rattle.dvg_text.specs.Lines.{line_at};
-ghost use Rattle.dvg_tool.specs.Lists.{Lists, ListsWords};
+ghost use Rattle.dvg_tool.specs.Lists.{Lists, ListsWords, line_at};
 ghost use Rattle.dvg_tool.specs.Outcomes.{StopsBeforeWriting};
 ghost use Rattle.dvg_tool.specs.Watching.{BeginsToWrite, CountsErrors, TakesAtMost, device_of, failures_of};
 

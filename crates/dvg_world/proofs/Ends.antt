@@ -10,7 +10,7 @@ use Rattle.dvg_gen.specs.Drawing.{moved, drawn}
 use Rattle.dvg_code.specs.Acts.{Act, Moves, Jumps, Calls, Returns, Halts, act_of}
 use Rattle.dvg_gen.specs.declared.taken.GenFault.TheVariants.{StackOver, StackUnder}
 use Rattle.dvg_gen.specs.Run.{Visit, next, calls, returns, Goes, Finished, Breaks, fate_by, fate, beam_after, strokes}
-use Rattle.dvg_gen.specs.Obeyed.{stack_by, to_of, CanGo}
+use Rattle.dvg_gen.specs.Stacks.{stack_by, to_of, CanGo}
 use Rattle.dvg_gen.proofs.Stack.{stack, next_is, Sound, sound_none, sound_more, goes_more, can_more, halts_finish}
 use Rattle.dvg_world.proofs.Machine.{ReadsAt, Whole, none, more}
 

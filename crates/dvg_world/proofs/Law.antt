@@ -28,7 +28,7 @@ use Rattle.dvg_frame.specs.Picture.{End, AtHalt, Draws as Drawing, halts, return
 use Rattle.dvg_code.specs.Words.{word_in}
 use Rattle.dvg_mem.specs.Memory.{rom_word}
 use Rattle.dvg_world.specs.Law.{Finishes, NeverBreaks, AnyMemory, Undisturbed, OnlyFirst}
-use Rattle.dvg_gen.specs.Obeyed.{stack_by, to_of, CanGo}
+use Rattle.dvg_gen.specs.Stacks.{stack_by, to_of, CanGo}
 use Rattle.dvg_gen.proofs.Stack.{stack, next_is, Sound, sound_none, sound_more, goes_more, halts_finish}
 use Rattle.dvg_world.proofs.Machine.{ReadsAt, reads1, reads2, Whole, none, more, Partly, whole, half, partly_run, run_whole, one_size}
 use Rattle.dvg_world.proofs.Ends.{Ends, ends, steps, quiet, IsQuiet, moves_is, finish, ends_of}
