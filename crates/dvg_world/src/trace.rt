@@ -152,10 +152,11 @@ impl<A: Allocator> Trace<A> {
         ensures refused { OnErr result (self.new ≡ self.old) }
     {
         let first = self.ops.len() as u32;
+        let count = draft.len();
+        self.ops.reserve(count)?;
         self.steps.reserve(1)?;
-        self.ops.extend_from_slice(draft.ops())?;
-        self.steps
-            .push_reserved(Step::Offer(first, draft.len() as u16));
+        self.ops.extend_from_slice(draft.ops()).unwrap();
+        self.steps.push_reserved(Step::Offer(first, count as u16));
         Ok(())
     }
 
