@@ -36,8 +36,8 @@ impl Code {
         }
     }
 
-    // The instruction, of which the caller knows that it is in range.
-    pub(crate) fn within(instr: Instr) -> Code
+    /// The instruction, of which the caller knows that it is in range.
+    pub fn within(instr: Instr) -> Code
         requires { InRange instr }
         ensures { result ≡ instr }
     {

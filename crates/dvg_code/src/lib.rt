@@ -14,8 +14,6 @@ mod instr;
 pub mod laws;
 mod listing;
 mod memory;
-#[cfg(test)]
-mod tests;
 mod word;
 
 pub use code::Code;

@@ -16,8 +16,6 @@ mod action;
 mod driver;
 mod fault;
 pub mod laws;
-#[cfg(test)]
-mod tests;
 
 pub use action::Action;
 pub use driver::Driver;

@@ -1,4 +1,4 @@
--- The faults that are looked for first, by one operation. Only the check's own functions cite this.
+-- The faults that are looked for first, by one operation. Only private contracts cite this.
 use Rattle.std.specs.Prelude.{ℕ, ◌≤◌}
 use Rattle.dvg_code.specs.declared.instr.Instr.{Instr}
 use Rattle.dvg_code.specs.declared.instr.Instr.TheVariants.{Vctr, Labs, Halt, Jsrl, Rtsl, Jmpl, Svec}

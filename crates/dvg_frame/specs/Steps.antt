@@ -87,7 +87,7 @@ pub data Reached (F : List OpKind) (R : List ℕ) : Place → ℕ → Type 0 whe
 pub data BeginsWithLabs : List OpKind → Type 0 where
   labs : {x y scale : ℕ} {ops : List OpKind} → BeginsWithLabs (Draw (Labs x y scale) ∷ ops)
 
--- the draft has no fault over the ROM
+-- the draft has none of the faults 1 to 8 over the ROM
 pub record Closed (F : List OpKind) (R : List ℕ) : Type 0 where
   pub begins : BeginsWithLabs F
   pub fits : size F ≤ 511

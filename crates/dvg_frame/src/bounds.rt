@@ -216,7 +216,8 @@ fn settle<A: Allocator>(
 /// fault, or steps at one depth come to no end. The table has nothing at first.
 ///
 /// Each place is gone over once, however many depths it is reached at: what is drawn from it is the same at each,
-/// and the table has at which depths no run from it breaks. So the time is linear in the places that are reached.
+/// and the table has at which depths no run from it breaks. So the time is linear in the places that are reached, but that
+/// a loop is followed for as many steps as there are operations and ROM words.
 pub(crate) fn bound_of<A: Allocator>(
     draft: &Draft,
     rom: &Rom<A>,

@@ -90,8 +90,8 @@ fn words_or_fault(draft: &Draft) -> Result<u16, FrameFault>
     }
 }
 
-/// The tables of the check, kept from one check to the next: a check takes time for the pairs that it
-/// reaches, and none for the size of the tables. They are about 130 KB.
+/// The tables of the check, kept from one check to the next: a check takes time for the operations and for
+/// the places and pairs that it reaches, and none for the size of the tables. They are about 125 KB.
 #[derive(Drop)]
 pub struct Checker {
     reached: Worklist,
@@ -128,7 +128,7 @@ impl Checker {
     /// a halt and a pair with a fault lead nowhere.
     ///
     /// Exactly one answer holds of each draft and ROM. The time is linear in the draft's operations and the
-    /// pairs that are reached.
+    /// places and pairs that are reached, but that a loop is followed for as many steps as there are places.
     pub fn check<'a, A: Allocator>(
         &mut self,
         draft: &'a Draft,

@@ -1,6 +1,5 @@
 //! Frames: drafts that were checked.
 ghost use Rattle.std.specs.Prelude.{◌≡◌, ◌*◌, ◌%◌, ◌^◌, ◌<◌, ◌≤◌, [], ◌∷◌, Some, length, slice_get};
-ghost use Rattle.dvg_code.specs.Ranges.{InRange};
 ghost use Rattle.dvg_code.specs.Spelling.{canon};
 ghost use Rattle.dvg_frame.specs.Bytes.{bytes};
 ghost use Rattle.dvg_frame.specs.Faults.{Begins, FrameState};
@@ -104,11 +103,7 @@ impl Frame {
 pub(crate) fn byte_of(word: u16, k: u16) -> u8
     ensures { slice_get (bytes (word ∷ [])) (k % 2) ≡ Some result }
 {
-    if k % 2 == 0 {
-        (word % 256) as u8
-    } else {
-        (word / 256) as u8
-    }
+    word.to_le_bytes()[usize::from(k % 2)]
 }
 
 // Word n of the draft's layout for a half.
@@ -146,23 +141,12 @@ fn code_of(draft: &Counted, half: Half, kind: OpKind) -> Code
 {
     match kind {
         OpKind::Draw(code) => code,
-        OpKind::CallRom(a) => in_range(Instr::Jsrl(a)),
-        OpKind::JumpRom(a) => in_range(Instr::Jmpl(a)),
-        OpKind::Call(j) => in_range(Instr::Jsrl(address(draft, half, j))),
-        OpKind::Jump(j) => in_range(Instr::Jmpl(address(draft, half, j))),
-        OpKind::Return => in_range(Instr::Rtsl),
-        OpKind::Halt => in_range(Instr::Halt),
-    }
-}
-
-// An instruction in range.
-fn in_range(instr: Instr) -> Code
-    requires { InRange instr }
-    ensures { result ≡ instr }
-{
-    match Code::new(instr) {
-        Some(code) => code,
-        None => unreachable!(),
+        OpKind::CallRom(a) => Code::within(Instr::Jsrl(a)),
+        OpKind::JumpRom(a) => Code::within(Instr::Jmpl(a)),
+        OpKind::Call(j) => Code::within(Instr::Jsrl(address(draft, half, j))),
+        OpKind::Jump(j) => Code::within(Instr::Jmpl(address(draft, half, j))),
+        OpKind::Return => Code::within(Instr::Rtsl),
+        OpKind::Halt => Code::within(Instr::Halt),
     }
 }
 

@@ -29,7 +29,7 @@ pub fn one_picture()
     ensures { OnePicture }
 {}
 
-/// A draft has a loop exactly where a reached pair comes back to itself.
+/// A closed draft has a loop exactly where steps at one depth lead from a reached pair back to it.
 pub fn loops_come_back()
     ensures { LoopsComeBack }
 {}

@@ -25,8 +25,6 @@ mod pair;
 mod place;
 mod sweep;
 mod table;
-#[cfg(test)]
-mod tests;
 mod way;
 mod worklist;
 

@@ -32,10 +32,7 @@ impl Way {
     pub(crate) fn goes_on(self) -> bool
         ensures { IsTrue result ↔ GoesOn self }
     {
-        match self {
-            Way::Move(_, _) | Way::Call(_, _) => true,
-            Way::Jump(_) | Way::Return | Way::Halt => false,
-        }
+        matches!(self, Way::Move(_, _) | Way::Call(_, _))
     }
 
     // Whether it leads to an address outside the ROM.
@@ -53,20 +50,14 @@ impl Way {
     pub(crate) fn is_call(self) -> bool
         ensures { IsTrue result ↔ IsCall self }
     {
-        match self {
-            Way::Call(_, _) => true,
-            Way::Move(_, _) | Way::Jump(_) | Way::Return | Way::Halt => false,
-        }
+        matches!(self, Way::Call(_, _))
     }
 
     // Whether it is a return.
     pub(crate) fn is_return(self) -> bool
         ensures { IsTrue result ↔ IsReturn self }
     {
-        match self {
-            Way::Return => true,
-            Way::Move(_, _) | Way::Jump(_) | Way::Call(_, _) | Way::Halt => false,
-        }
+        matches!(self, Way::Return)
     }
 }
 

@@ -13,8 +13,6 @@ mod generator;
 pub mod laws;
 mod stroke;
 mod taken;
-#[cfg(test)]
-mod tests;
 
 pub use beam::Beam;
 pub use generator::Generator;

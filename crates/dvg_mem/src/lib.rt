@@ -27,8 +27,6 @@ pub mod laws;
 mod lookup;
 mod rom;
 mod store;
-#[cfg(test)]
-mod tests;
 
 pub use areas::Area;
 pub use fetching::{fetch, fetch_byte};

@@ -13,7 +13,9 @@ pub mod TraceSteps
 pub mod OneTrace
 pub mod TraceMoves
 pub mod ReadTrace
+pub mod FirstBytes
 pub mod LineEnds
 pub mod GivenWords
 pub mod ReadTo
 pub mod Spaced
+pub mod Spaces

@@ -1,14 +1,13 @@
 //! Lines that spell events by themselves.
 ghost use Rattle.std.specs.Prelude.{◌≡◌, ◌↔◌, ℕ, ◌≤◌, List, [], ◌∷◌, decimal, length, IfSome, IsSomeAnd, IsTrue, Some};
 ghost use Rattle.dvg_world.specs.Events.{Happening, happening_of};
-ghost use Rattle.dvg_text.specs.LineParts.{bytes_of};
 ghost use Rattle.dvg_text.specs.Texts.{IsHex, parts};
 ghost use Rattle.dvg_text.specs.EventLines.{TakesCount, IsNamed, happenings};
 ghost use Rattle.dvg_text.specs.TraceTexts.{EventParts};
 
-use crate::line_parts::parts_of;
 use crate::number::{hex, natural};
 use dvg_world::Event;
+use memchr::memchr;
 use std::alloc::Allocator;
 
 /// The most events of one line.
@@ -28,11 +27,9 @@ pub fn read_event_line<A: Allocator>(line: &[u8]) -> Option<EventLine<A>>
     ensures found { IfSome result (λ told. EventParts (happenings told) (parts line.now)) }
     ensures only { (events : List Happening) → EventParts events (parts line.now) → IsSomeAnd result (λ told. happenings told ≡ events) }
 {
-    let parts = parts_of(line)?;
-    match parts.as_slice() {
-        [name] => once(name),
-        [name, operand] => with_operand(name, operand),
-        _ => None,
+    match memchr(b' ', line) {
+        Some(space) => with_operand(&line[..space], &line[space + 1..]),
+        None => once(line),
     }
 }
 

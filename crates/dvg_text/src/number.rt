@@ -7,18 +7,18 @@ ghost use Rattle.dvg_text.specs.Texts.{IsHex};
 /// The most decimal digits of a number of 16 bits.
 const MAX_DIGITS: usize = 5;
 
-// The number that decimal digits spell. None where another byte is among them.
-fn natural_value(digits: &[u8]) -> Option<u32>
-    requires { length digits.now ≤ 5 }
-    ensures found { IfSome result (λ n. AllDigits 10 digits.now × (digits_value 10 digits.now ≡ n)) }
-    ensures only { AllDigits 10 digits.now → result ≡ Some (digits_value 10 digits.now) }
+// The number that digits of this radix spell. None where another byte is among them.
+#[inline(always)]
+fn value_of(digits: &[u8], radix: u32) -> Option<u32>
+    requires few { length digits.now ≤ 5 }
+    requires least { 2 ≤ radix }
+    requires most { radix ≤ 16 }
+    ensures found { IfSome result (λ n. AllDigits radix digits.now × (digits_value radix digits.now ≡ n)) }
+    ensures only { AllDigits radix digits.now → result ≡ Some (digits_value radix digits.now) }
 {
     let mut number = 0;
-    for digit in digits {
-        if !digit.is_ascii_digit() {
-            return None;
-        }
-        number = 10 * number + u32::from(*digit - b'0');
+    for byte in digits {
+        number = number * radix + char::from(*byte).to_digit(radix)?;
     }
     Some(number)
 }
@@ -32,7 +32,7 @@ pub fn natural(part: &[u8]) -> Option<u16>
     if part.len() > MAX_DIGITS || (first == b'0' && part.len() > 1) {
         return None;
     }
-    u16::try_from(natural_value(part)?).ok()
+    u16::try_from(value_of(part, 10)?).ok()
 }
 
 /// A decimal number of at most 8 bits, without a sign and without leading zeros.
@@ -67,13 +67,12 @@ pub fn small_integer(part: &[u8]) -> Option<i8>
 
 /// A number of exactly so many hexadecimal digits, at most four, of either case.
 pub fn hex(part: &[u8], count: usize) -> Option<u16>
-    requires some { 0 < count }
-    requires most { count ≤ 4 }
+    requires { count ≤ 4 }
     ensures found { IfSome result (λ n. IsHex count n part.now) }
     ensures only { (n : ℕ) → IsHex count n part.now → result ≡ Some n }
 {
-    if part.len() != count || part[0] == b'+' {
+    if part.len() != count {
         return None;
     }
-    u16::from_str_radix(str::from_utf8(part).ok()?, 16).ok()
+    u16::try_from(value_of(part, 16)?).ok()
 }

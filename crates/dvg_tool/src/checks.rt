@@ -14,9 +14,6 @@ use dvg_text::{Line, MOST_TEXT_BYTES, Verdict, read_draft};
 use std::alloc::Allocator;
 use std::io::{Read, Write};
 
-#[cfg(test)]
-mod tests;
-
 // What the check says of the draft that a text denotes, over the ROM that it denotes.
 fn judge<A: Allocator>(alloc: A, text: &[u8]) -> Result<Verdict, ToolFault>
     ensures said { IfOk result (Judges text.now) }

@@ -16,6 +16,3 @@ mod words;
 pub use refusal::words_status;
 pub use task::Job;
 pub use words::job;
-
-#[cfg(test)]
-mod tests;

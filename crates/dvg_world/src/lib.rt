@@ -11,8 +11,6 @@ mod event;
 pub mod laws;
 mod runs;
 mod stopped;
-#[cfg(test)]
-mod tests;
 mod trace;
 mod world;
 

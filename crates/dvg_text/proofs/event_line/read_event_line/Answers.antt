@@ -1,12 +1,19 @@
-use Rattle.std.proofs.Common.{◌≡◌, length, sym, ap, ◌∙◌, rules}
-use Rattle.std.proofs.lemmas.List.{length-map}
-use Rattle.dvg_text.specs.Texts.{parts}
-use Rattle.dvg_text.proofs.EventRows.{few_parts, some_parts}
+use Rattle.std.proofs.Common.{◌≡◌, sym}
+use Rattle.dvg_text.proofs.FirstBytes.{IsCutAt, cut_at_first}
+use Rattle.dvg_text.proofs.Spaces.{found_whole, one_operand, part_ended, part_unended}
 use Rattle.dvg_text.proofs.event_line.read_event_line.Goals as goal
 
-pub returns-in_default-clause-only : goal.returns-in_default-clause-only
-returns-in_default-clause-only g c events h =
-    let few = few_parts h in
-    let some = some_parts h in
-    let size : length c.as_slice.result.now ≡ length (parts c.args.line.now) = ap length c.as_slice.ensures.value ∙ (sym (length-map c.in_ok-parts.parts.items _) ∙ ap length c.in_ok-parts.ensures.found) in
-    search rules
+pub returns-in-Some-clause-found : goal.returns-in-Some-clause-found
+returns-in-Some-clause-found g c =
+    let cut : IsCutAt 32 c.args.line.now c.memchr.result = cut_at_first 32 c.args.line.now _ c.memchr.ensures in
+    rw (part_ended c.args.line.now c.in-Some.space (rw c.in-Some.is at cut)) (found_whole _ _ _ c.with_operand.ensures.found)
+
+pub returns-in-Some-clause-only : goal.returns-in-Some-clause-only
+returns-in-Some-clause-only g c events h =
+    let cut : IsCutAt 32 c.args.line.now c.memchr.result = cut_at_first 32 c.args.line.now _ c.memchr.ensures in
+    c.with_operand.ensures.only events (one_operand (rw (part_ended c.args.line.now c.in-Some.space (rw c.in-Some.is at cut)) at h))
+
+pub returns-in-None-clause-only : goal.returns-in-None-clause-only
+returns-in-None-clause-only g c events h =
+    let cut : IsCutAt 32 c.args.line.now c.memchr.result = cut_at_first 32 c.args.line.now _ c.memchr.ensures in
+    c.once.ensures.only events (rw (part_unended c.args.line.now (rw c.in-None.is at cut)) at h)

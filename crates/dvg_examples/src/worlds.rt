@@ -1,9 +1,9 @@
-//! Worked examples: frames that are laid into a store, with the jump to them in word zero, and drawn; and an offer.
-use crate::*;
+//! Frames that are laid into a store, with the jump to them in word zero, and drawn; and an offer.
 use dvg_code::{Code, Instr};
 use dvg_frame::{Draft, Frame, FrameFault, Op, OpKind, check};
 use dvg_gen::{Generator, Stroke, Taken};
 use dvg_mem::{Flat, Half, Image, Rom, Store, fetch_byte};
+use dvg_world::{Entry, Event, MOST_EVENTS, Trace, TraceEvent, run};
 use std::alloc::Global;
 use std::test::Fail;
 

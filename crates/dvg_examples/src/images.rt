@@ -1,5 +1,5 @@
 //! Images are compared and cloned, and faults have texts.
-use crate::*;
+use dvg_mem::{Image, MEMORY_BYTES, MemFault};
 use std::alloc::Global;
 use std::test::Fail;
 

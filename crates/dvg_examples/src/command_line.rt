@@ -1,5 +1,6 @@
-use crate::{Job, job, words_status};
+//! What the words of the program ask for.
 use clap::error::ErrorKind;
+use dvg_words::{Job, job, words_status};
 
 /// Words that ask for a job.
 const JOBS: [(&[&str], Job); 6] = [

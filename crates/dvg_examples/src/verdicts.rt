@@ -1,9 +1,6 @@
 //! What the engines say of drafts, with the bound and without it.
-use crate::checks::{check_bound, check_text};
-use crate::fault::ToolFault;
-use crate::watched::Watched;
 use dvg_frame::FrameFault;
-use dvg_text::Verdict;
+use dvg_tool::{ToolFault, Verdict, Watched, check_bound, check_text};
 use std::alloc::Global;
 use std::test::Fail;
 

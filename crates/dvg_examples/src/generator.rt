@@ -1,8 +1,8 @@
-//! Worked examples, which show that the contracts mean what was meant.
+//! What the beam does, and what a generator wants and answers.
 ghost use Rattle.std.specs.Prelude.{◌≡◌, true};
 
-use crate::*;
 use dvg_code::{Code, Instr, OutOfMemory};
+use dvg_gen::{Beam, GenFault, Generator, Stroke, Taken};
 use std::alloc::Allocator;
 use std::test::Fail;
 

@@ -1,6 +1,6 @@
-//! Worked examples of drafts, their check and their bytes, over memory.
-use crate::*;
+//! Drafts, their check and their bytes.
 use dvg_code::{Code, Instr};
+use dvg_frame::{Checker, Cursor, Draft, DraftFull, Frame, FrameFault, Op, OpKind, Place, check};
 use dvg_mem::{Half, Rom};
 use std::alloc::Global;
 use std::test::Fail;

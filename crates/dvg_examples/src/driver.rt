@@ -1,6 +1,6 @@
-//! Worked examples: what a driver answers, and what its writes leave in a store.
-use crate::*;
+//! What a driver answers, and what its writes leave in a store.
 use dvg_code::{Code, Instr};
+use dvg_driver::{Action, Driver, DriverFault};
 use dvg_frame::{Checker, Draft, Frame, Op, OpKind, check};
 use dvg_mem::{Flat, Half, Image, Rom, Store};
 use std::alloc::Global;

@@ -1,5 +1,7 @@
-//! Worked examples, which show that the contracts mean what was meant.
-use crate::*;
+//! Instructions, their words and lists of them.
+use dvg_code::{
+    Code, CodeFault, Instr, Listed, Listing, OutOfMemory, decode, encode, is_canonical, word_at,
+};
 use std::test::Fail;
 
 // A VCTR.
