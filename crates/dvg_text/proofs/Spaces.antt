@@ -1,5 +1,5 @@
 -- How a line of an event is cut at its first space.
-use Rattle.std.proofs.Common.{◌≡◌, ◌<◌, ◌≤◌, ℕ, List, [], ◌∷◌, length, get_or, take, refl, sym, subst, ap, ◌∙◌, arith, true, false, eqb, Option, Some, None, IfSome, ⊎_elim}
+use Rattle.std.proofs.Common.{◌≡◌, ◌≤◌, ℕ, List, [], ◌∷◌, length, get_or, take, refl, sym, subst, ap, ◌∙◌, arith, eqb, Option, Some, None, IfSome, ⊎_elim}
 use Rattle.std.specs.Char.{digit_value}
 use Rattle.std.specs.List.{join_with_byte}
 use Rattle.std.specs.Str.Parse.{AllDigits}
@@ -13,7 +13,7 @@ use Rattle.dvg_text.specs.Texts.{parts}
 use Rattle.dvg_text.specs.TraceTexts.{EventParts}
 use Rattle.dvg_text.proofs.Decimals.{digit_below, shaped}
 use Rattle.dvg_text.proofs.EventRows.{few_parts, operand_row}
-use Rattle.dvg_text.proofs.FirstBytes.{IsCutAt, behind}
+use Rattle.dvg_text.proofs.FirstBytes.{HasNone, IsCutAt, behind}
 
 -- the first part goes up to the first space
 pub part_ended : (line : List ℕ) (i : ℕ) → IsCutAt 32 line (Some i) → parts line ≡ take i line ∷ parts (behind i line)
@@ -23,15 +23,14 @@ part_ended line i (end, halves, before, there) = ap parts halves ∙ slice_split
 pub part_unended : (line : List ℕ) → IsCutAt 32 line None → parts line ≡ line ∷ []
 part_unended line h = slice_split_none (λ byte. eqb byte 32) line h
 
--- so are digits
+-- a space is no digit
+no_space : (radix : ℕ) (digits : List ℕ) → radix ≤ 16 → AllDigits radix digits → HasNone 32 digits
+no_space radix digits most h k d inside = false_from_ne_true (eqb (get_or digits k d) 32) (λ is.
+    absurd (omega (arith, most, digit_below radix digits k h inside, ap digit_value (get_or_default digits k 0 d inside ∙ eqb-true _ 32 is))))
+
+-- so digits are one part
 digits_alone : (radix : ℕ) (digits : List ℕ) → radix ≤ 16 → AllDigits radix digits → parts digits ≡ digits ∷ []
-digits_alone radix digits most h = slice_split_none (λ byte. eqb byte 32) digits (λ k d inside.
-    let below = digit_below radix digits k h inside in
-    let same = get_or_default digits k 0 d inside in
-    false_from_ne_true (eqb (get_or digits k d) 32) (λ is.
-        let space : get_or digits k 0 ≡ 32 = same ∙ eqb-true _ 32 is in
-        let value = ap digit_value space in
-        absurd (omega (arith, below, value, most))))
+digits_alone radix digits most h = slice_split_none (λ byte. eqb byte 32) digits (no_space radix digits most h)
 
 -- so is the operand of an event
 pub operand_alone : {events : List Happening} {name operand : List ℕ} → EventParts events (name ∷ operand ∷ []) → parts operand ≡ operand ∷ []

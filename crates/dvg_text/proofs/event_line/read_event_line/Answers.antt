@@ -1,4 +1,3 @@
-use Rattle.std.proofs.Common.{◌≡◌, sym}
 use Rattle.dvg_text.proofs.FirstBytes.{IsCutAt, cut_at_first}
 use Rattle.dvg_text.proofs.Spaces.{found_whole, one_operand, part_ended, part_unended}
 use Rattle.dvg_text.proofs.event_line.read_event_line.Goals as goal
