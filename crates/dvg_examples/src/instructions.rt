@@ -1,7 +1,5 @@
 //! Instructions, their words and lists of them.
-use dvg_code::{
-    Code, CodeFault, Instr, Listed, Listing, OutOfMemory, decode, encode, is_canonical, word_at,
-};
+use dvg_code::{Code, CodeFault, Instr, OutOfMemory, decode, encode, is_canonical, word_at};
 use std::test::Fail;
 
 // A VCTR.
@@ -12,62 +10,6 @@ fn vctr(scale: u8, dx: i16, dy: i16, z: u8) -> Instr {
 // An SVEC.
 fn svec(scale: u8, dx: i8, dy: i8, z: u8) -> Instr {
     Instr::Svec { scale, dx, dy, z }
-}
-
-#[test]
-fn codes_up_to_each_border(rt: HostRuntime) {
-    let inside = [
-        vctr(0, -1023, -1023, 0),
-        vctr(9, 1023, 1023, 15),
-        Instr::Labs {
-            x: 4095,
-            y: 4095,
-            scale: 15,
-        },
-        Instr::Jsrl(4095),
-        Instr::Jmpl(4095),
-        svec(2, -3, -3, 0),
-        svec(5, 3, 3, 15),
-    ];
-    for instr in inside {
-        assert_eq!(rt; Code::new(instr).map(|code| code.instr()), Some(instr));
-    }
-}
-
-#[test]
-fn no_code_past_a_border(rt: HostRuntime) {
-    let outside = [
-        vctr(10, 0, 0, 0),
-        vctr(9, -1024, 0, 0),
-        vctr(9, 0, 1024, 0),
-        vctr(9, i16::MIN, 0, 0),
-        vctr(9, 0, 0, 16),
-        Instr::Labs {
-            x: 4096,
-            y: 0,
-            scale: 0,
-        },
-        Instr::Labs {
-            x: 0,
-            y: 4096,
-            scale: 0,
-        },
-        Instr::Labs {
-            x: 0,
-            y: 0,
-            scale: 16,
-        },
-        Instr::Jsrl(4096),
-        Instr::Jmpl(4096),
-        svec(1, 0, 0, 0),
-        svec(6, 0, 0, 0),
-        svec(2, 4, 0, 0),
-        svec(2, 0, -4, 0),
-        svec(2, 0, 0, 16),
-    ];
-    for instr in outside {
-        assert_eq!(rt; Code::new(instr), None);
-    }
 }
 
 #[test]
@@ -127,21 +69,6 @@ fn faults(rt: HostRuntime) {
         assert_eq!(rt; decode(&[first]), Err(CodeFault::Cut), "{first:x}");
         assert!(rt; !is_canonical(&[first]), "{first:x}");
     }
-}
-
-#[test]
-fn lists(rt: HostRuntime) {
-    let mut listing = Listing::new(&[0x9064, 0x7464, 0xB000, 0xA190]);
-    assert_eq!(rt;
-        listing.next(),
-        Code::new(vctr(9, -100, 100, 7)).map(|code| Listed::At(0, code))
-    );
-    assert_eq!(rt;
-        listing.next(),
-        Code::new(Instr::Halt).map(|code| Listed::At(2, code))
-    );
-    assert_eq!(rt; listing.next(), Some(Listed::Cut(3)));
-    assert_eq!(rt; listing.next(), None);
 }
 
 #[test]
