@@ -1,28 +1,10 @@
-//! The memory map, images, the ROM and stores.
+//! Images, the ROM and stores: which lengths are taken, and what is fetched.
 use crate::scripts::rom;
-use dvg_mem::{
-    Area, Flat, Half, Image, MEMORY_BYTES, MemFault, Rom, Store, area, fetch, fetch_byte,
-};
+use dvg_mem::{Flat, Image, MEMORY_BYTES, MemFault, Rom, Store, fetch, fetch_byte};
 use linked_list_allocator::LocalHeap;
 use std::alloc::Global;
 use std::process::Abort;
 use std::test::Fail;
-
-/// Word addresses at the borders of the areas.
-const BORDERS: [(u16, Area); 12] = [
-    (0x000, Area::Zero),
-    (0x001, Area::Frame(Half::H0)),
-    (0x1FF, Area::Frame(Half::H0)),
-    (0x200, Area::Unused),
-    (0x201, Area::Frame(Half::H1)),
-    (0x3FF, Area::Frame(Half::H1)),
-    (0x400, Area::Hole),
-    (0x7FF, Area::Hole),
-    (0x800, Area::Rom),
-    (0xBFF, Area::Rom),
-    (0xC00, Area::Hole),
-    (0xFFF, Area::Hole),
-];
 
 /// Word addresses, and the low and the high byte that are fetched there.
 const FETCHED: [(u16, Option<u8>, Option<u8>); 8] = [
@@ -39,29 +21,6 @@ const FETCHED: [(u16, Option<u8>, Option<u8>); 8] = [
 /// 2,048 bytes of one value.
 fn same_bytes(alloc: Global, byte: u8) -> Result<Vec<u8>, Fail> {
     Ok(vec![in alloc; byte; MEMORY_BYTES]?)
-}
-
-#[test]
-fn each_address_has_its_area(rt: HostRuntime) {
-    for (w, wanted) in BORDERS {
-        assert!(rt; w <= 0xFFF);
-        assert_eq!(rt; area(w), wanted, "at {w:03X}");
-    }
-}
-
-#[test]
-fn halves_are_named_by_bit_1(rt: HostRuntime) {
-    for (half, other, base, high) in [
-        (Half::H0, Half::H1, 0x001, 0xE0),
-        (Half::H1, Half::H0, 0x201, 0xE2),
-    ] {
-        assert_eq!(rt; half.other(), other);
-        assert_eq!(rt; half.base(), base);
-        assert_eq!(rt; half.high(), high);
-        assert_eq!(rt; Half::of_high(high), half);
-    }
-    assert_eq!(rt; Half::of_high(0xFF), Half::H1);
-    assert_eq!(rt; Half::of_high(0x01), Half::H0);
 }
 
 #[test]

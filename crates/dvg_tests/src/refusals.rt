@@ -46,7 +46,7 @@ fn stops_at(alloc: Global, room: usize) -> Result<Option<usize>, Fail> {
         return Err("not an entry for each event before".into());
     }
     let text = entries_text(alloc, entries.as_slice())?;
-    if !wanted.as_bytes().starts_with(text.as_bytes()) {
+    if !wanted.starts_with(text.as_slice()) {
         return Err("other entries".into());
     }
     Ok(event)

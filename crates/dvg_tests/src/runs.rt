@@ -134,7 +134,7 @@ fn a_list_and_its_trace_have_one_log(rt: HostRuntime) -> Result<(), Fail> {
         let listed = transcript(rt.alloc(), &ROM, steps)?;
         let traced = trace_transcript(rt.alloc(), &ROM, steps)?;
         assert!(rt; !listed.is_empty());
-        assert_eq!(rt; listed.as_str(), traced.as_str(), "in run {index}");
+        assert!(rt; listed == traced, "in run {index}");
     }
     Ok(())
 }

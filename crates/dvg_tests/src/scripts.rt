@@ -1,9 +1,8 @@
 //! Events in a compact notation, and the entries that they lead to as text.
 use dvg_code::{Code, Instr};
-use dvg_driver::Action;
 use dvg_frame::{Draft, Op, OpKind};
-use dvg_gen::GenFault;
 use dvg_mem::{Flat, Image, Rom};
+use dvg_text::Line;
 use dvg_world::{Entry, Event, MOST_EVENTS, Trace, run, run_trace};
 use std::alloc::{Allocator, Global};
 use std::test::Fail;
@@ -149,66 +148,25 @@ fn trace(alloc: Global, steps: &[Step]) -> Result<Trace, Fail> {
     Ok(trace)
 }
 
-/// What the driver did.
-fn action_text(alloc: Global, action: Action) -> Result<String, Fail> {
-    Ok(match action {
-        Action::Peek => format!(in alloc; "peek")?,
-        Action::Wrote(a, byte) => format!(in alloc; "wrote {a:03X} {byte:02X}")?,
-        Action::Read(true) => format!(in alloc; "read halted")?,
-        Action::Read(false) => format!(in alloc; "read running")?,
-        Action::Sent => format!(in alloc; "sent")?,
-        Action::Idle => format!(in alloc; "idle")?,
-    })
-}
-
-/// An entry without its number.
-fn entry_text<A: Allocator>(alloc: Global, entry: &Entry<A>) -> Result<String, Fail> {
-    Ok(match entry {
-        Entry::Offered => format!(in alloc; "offered")?,
-        Entry::Refused(fault) => format!(in alloc; "refused {fault:?}")?,
-        Entry::Busy => format!(in alloc; "busy")?,
-        Entry::Asked => format!(in alloc; "asked")?,
-        Entry::NothingPublished => format!(in alloc; "nothing published")?,
-        Entry::Acted(action) => action_text(alloc, *action)?,
-        Entry::Started => format!(in alloc; "started")?,
-        Entry::NoStrobe => format!(in alloc; "no strobe")?,
-        Entry::Low(address, byte) => format!(in alloc; "low {address:03X} {byte:02X}")?,
-        Entry::Fetched(address, word) => format!(in alloc; "fetched {address:03X} {word:04X}")?,
-        Entry::Done(address, word, strokes) => {
-            let count = strokes.len();
-            let mut text = format!(in alloc; "done {address:03X} {word:04X} {count}")?;
-            for stroke in strokes.as_slice() {
-                let (x0, y0, x1, y1, z) = (stroke.x0, stroke.y0, stroke.x1, stroke.y1, stroke.z);
-                text.push_str(format!(in alloc; "\n{x0} {y0} {x1} {y1} {z}")?.as_str())?;
-            }
-            text
-        }
-        Entry::Broke(address, fault) => {
-            let number = match fault {
-                GenFault::StackOver => 1,
-                GenFault::StackUnder => 2,
-                GenFault::Hole => 3,
-            };
-            format!(in alloc; "broke {address:03X} {number}")?
-        }
-        Entry::Still => format!(in alloc; "still")?,
-        Entry::Cleared => format!(in alloc; "cleared")?,
-    })
-}
-
-/// Entries, each with its number, a line each; the strokes of a picture stand below it.
-pub fn entries_text<A: Allocator>(alloc: Global, entries: &[Entry<A>]) -> Result<String, Fail> {
-    let mut text = String::new(alloc);
+/// The lines of entries, as `play --all` shows them: each with its number, and the strokes of a picture below it.
+pub fn entries_text<A: Allocator>(alloc: Global, entries: &[Entry<A>]) -> Result<Vec<u8>, Fail> {
+    let mut text = Vec::new(alloc);
+    let mut line = Line::new();
     for (number, entry) in entries.iter().enumerate() {
-        let entry = entry_text(alloc, entry)?;
-        let entry = entry.as_str();
-        text.push_str(format!(in alloc; "{number} {entry}\n")?.as_str())?;
+        line.become_entry(number, entry);
+        text.extend_from_slice(line.as_bytes())?;
+        if let Entry::Done(_, _, strokes) = entry {
+            for stroke in strokes.as_slice() {
+                line.become_stroke(*stroke);
+                text.extend_from_slice(line.as_bytes())?;
+            }
+        }
     }
     Ok(text)
 }
 
 /// What a run shows, with ample memory and an image of zeros.
-pub fn transcript(alloc: Global, rom_words: &[u16], steps: &[Step]) -> Result<String, Fail> {
+pub fn transcript(alloc: Global, rom_words: &[u16], steps: &[Step]) -> Result<Vec<u8>, Fail> {
     let rom = rom(alloc, alloc, rom_words)?;
     let image = image(alloc, alloc, 0)?;
     let events = events(alloc, alloc, steps)?;
@@ -219,7 +177,7 @@ pub fn transcript(alloc: Global, rom_words: &[u16], steps: &[Step]) -> Result<St
 }
 
 /// The same of the trace of these events.
-pub fn trace_transcript(alloc: Global, rom_words: &[u16], steps: &[Step]) -> Result<String, Fail> {
+pub fn trace_transcript(alloc: Global, rom_words: &[u16], steps: &[Step]) -> Result<Vec<u8>, Fail> {
     let rom = rom(alloc, alloc, rom_words)?;
     let image = image(alloc, alloc, 0)?;
     let trace = trace(alloc, steps)?;
