@@ -1,10 +1,10 @@
-//! Images are compared and cloned, and faults have texts.
-use dvg_mem::{Image, MEMORY_BYTES, MemFault};
+//! Images are compared and cloned.
+use dvg_mem::{Image, MEMORY_BYTES};
 use std::alloc::Global;
 use std::test::Fail;
 
-// The image of which each byte is this one.
-fn image(alloc: Global, byte: u8) -> Result<Image, Fail> {
+/// The image of which each byte is this one.
+pub fn image(alloc: Global, byte: u8) -> Result<Image, Fail> {
     Image::new(alloc, &[byte; MEMORY_BYTES]).map_err(|_| "no image".into())
 }
 
@@ -14,12 +14,5 @@ fn images_are_compared_and_cloned(rt: HostRuntime) -> Result<(), Fail> {
     let copy = one.clone()?;
     assert!(rt; copy == one);
     assert!(rt; image(rt.alloc(), 2)? != one);
-    Ok(())
-}
-
-#[test]
-fn faults_have_texts(rt: HostRuntime) -> Result<(), Fail> {
-    let text = format!(in rt.alloc(); "{}", MemFault::Size)?;
-    assert_eq!(rt; text.as_str(), "there are not 2,048 bytes");
     Ok(())
 }

@@ -1,12 +1,16 @@
-//! Worked examples as tests, a module for each crate: they show that the contracts mean what was meant. They stand
-//! here and not beside the code, since a crate with tests of its own is proved a second time with them. The crate
-//! exports nothing.
+//! Worked examples of the library's calls as tests, where no text shows them (what a text shows is told by the cases of
+//! tests/cases). They stand here and not beside the code, since a crate with tests of its own is proved a second time
+//! with them. The crate exports nothing.
 #![tactic(auto)]
 
 #[cfg(test)]
-mod command_line;
+mod beams;
+#[cfg(test)]
+mod drafts;
 #[cfg(test)]
 mod driver;
+#[cfg(test)]
+mod fault_texts;
 #[cfg(test)]
 mod frames;
 #[cfg(test)]
@@ -18,6 +22,4 @@ mod instructions;
 #[cfg(test)]
 mod log_lines;
 #[cfg(test)]
-mod verdicts;
-#[cfg(test)]
-mod worlds;
+mod traces;

@@ -1,103 +1,103 @@
 //! Devices that fail at each call in turn, once or from then on: every failure is told at once, and nothing is tried
 //! again.
-use crate::devices::{FailsOnce, Failure, Mishap, Slow, Stubborn};
+use crate::devices::{Failing, Mishap};
 use crate::tasks::{Task, tasks, written};
 use dvg_frame::FrameFault;
 use dvg_mem::MEMORY_BYTES;
 use dvg_tool::{Done, TextFault, ToolFault, Verdict, Watched, finish, perform};
 use std::alloc::Global;
-use std::process::Abort;
 use std::test::Fail;
 
-/// Two bytes of a HALT.
-const HALT: [u8; 2] = [0x00, 0xB0];
+/// How a device fails, and whether it goes on failing. A reader fails in the first four ways.
+type Way = (Mishap, bool);
 
-/// A device with this input, that fails at its call after so many others.
+const WAYS: [Way; 6] = [
+    (Mishap::Error, false),
+    (Mishap::Error, true),
+    (Mishap::Interrupted, false),
+    (Mishap::Interrupted, true),
+    (Mishap::Nothing, false),
+    (Mishap::Nothing, true),
+];
+
+/// A device with this input, that fails after so many calls.
 fn device<'a>(
     alloc: Global,
     rest: &'a [u8],
     step: usize,
     calls_before: u32,
-    mishap: Mishap,
-) -> FailsOnce<'a> {
-    FailsOnce {
+    way: Way,
+) -> Failing<'a> {
+    Failing {
         rest,
         taken: Vec::new(alloc),
         step,
         calls_before,
-        mishap: Some(mishap),
+        mishap: way.0,
+        lasts: way.1,
     }
+}
+
+/// Whether a read that fails is passed on and counted, and the next one isn't.
+fn passes_a_failed_read_on(alloc: Global, mishap: Mishap) -> bool {
+    let mut reader = Watched::new(device(alloc, b"ab", 2, 0, (mishap, false)));
+    let mut buf = [0u8; 2];
+    let failed = reader.read(&mut buf).is_err() && reader.failures() == 1;
+    failed && reader.read(&mut buf) == Ok(2) && reader.failures() == 1
+}
+
+/// Whether a write that fails or takes nothing is passed on and counted, and the next one isn't.
+fn passes_a_failed_write_on(alloc: Global, mishap: Mishap) -> bool {
+    let mut writer = Watched::new(device(alloc, &[], 2, 0, (mishap, false)));
+    let failed = writer.write(b"ab").is_err() && writer.failures() == 1;
+    failed && writer.write(b"ab") == Ok(2) && writer.failures() == 1
 }
 
 #[test]
-fn watched_passes_each_failure_on(rt: HostRuntime) -> Result<(), Fail> {
-    for mishap in [Mishap::Error, Mishap::Interrupted] {
-        let mut reader = Watched::new(device(rt.alloc(), HALT.as_slice(), 2, 0, mishap));
-        let mut buf = [0u8; 2];
-        assert!(rt; reader.read(&mut buf).is_err());
-        assert_eq!(rt; reader.failures(), 1);
-        assert_eq!(rt; reader.read(&mut buf), Ok(2));
-        assert_eq!(rt; reader.failures(), 1);
+fn watched_passes_each_failure_on(rt: HostRuntime) {
+    assert!(rt; passes_a_failed_read_on(rt.alloc(), Mishap::Error));
+    assert!(rt; passes_a_failed_read_on(rt.alloc(), Mishap::Interrupted));
+    for (mishap, _) in WAYS {
+        assert!(rt; passes_a_failed_write_on(rt.alloc(), mishap));
     }
-    for mishap in [Mishap::Error, Mishap::Interrupted, Mishap::TakesNothing] {
-        let mut writer = Watched::new(device(rt.alloc(), &[], 2, 0, mishap));
-        assert!(rt; writer.write(b"ab").is_err());
-        assert_eq!(rt; writer.failures(), 1);
-        assert_eq!(rt; writer.write(b"ab"), Ok(2));
-        assert_eq!(rt; writer.failures(), 1);
-        assert_eq!(rt; writer.into_inner().taken.as_slice(), b"ab".as_slice());
-    }
-    Ok(())
 }
 
-/// The reads of a task fail in turn, of which the last one tells that the input ends.
-fn reads_fail(rt: &(impl Abort + AllocGlobal), task: Task) -> Result<(), Fail> {
-    let (job, step) = (task.job, task.step);
-    let wanted = written(rt.alloc(), task)?;
-    let full = task.input.len().checked_div(step).ok_or("no step")?;
-    let calls = u32::try_from(full)?.saturating_add(1);
-    for calls_left in 0..=calls {
-        let rest = task.input;
-        let mut reader = Watched::new(Slow {
-            rest,
-            step,
-            calls_left,
-        });
-        let mut writer = Watched::new(Vec::new(rt.alloc()));
-        let answer = perform(rt.alloc(), job, &mut reader, &mut writer);
-        if calls_left < calls {
-            assert_eq!(rt; answer, Err(ToolFault::Reader), "after {calls_left} reads");
-            assert_eq!(rt; reader.failures(), 1);
-            assert!(rt; writer.into_inner().is_empty());
-        } else {
-            assert_eq!(rt; answer, task.answer);
-            assert_eq!(rt; reader.failures(), 0);
-            assert_eq!(rt; writer.into_inner(), wanted);
-        }
-    }
-    for mishap in [Mishap::Error, Mishap::Interrupted] {
-        for calls_before in 0..calls {
-            let broken = device(rt.alloc(), task.input, step, calls_before, mishap);
-            let mut reader = Watched::new(broken);
-            let mut writer = Watched::new(Vec::new(rt.alloc()));
-            let answer = perform(rt.alloc(), job, &mut reader, &mut writer);
-            assert_eq!(rt;
-                answer,
-                Err(ToolFault::Reader),
-                "after {calls_before} reads"
-            );
-            assert_eq!(rt; reader.failures(), 1);
-            assert!(rt; writer.into_inner().is_empty());
-        }
-    }
-    Ok(())
+/// Whether a read after so many others fails a task before it writes.
+fn read_fails(alloc: Global, task: Task, calls_before: u32, way: Way) -> bool {
+    let mut reader = Watched::new(device(alloc, task.input, task.step, calls_before, way));
+    let mut writer = Watched::new(Vec::new(alloc));
+    let answer = perform(alloc, task.job, &mut reader, &mut writer);
+    answer == Err(ToolFault::Reader) && reader.failures() == 1 && writer.into_inner().is_empty()
+}
+
+/// The number of reads of a task, of which the last one tells that the input ends.
+fn reads(task: Task) -> Result<u32, Fail> {
+    let full = task.input.len().checked_div(task.step).ok_or("no step")?;
+    Ok(u32::try_from(full)?.saturating_add(1))
+}
+
+/// Whether a task whose device fails after all of its reads does as if nothing failed.
+fn does_well(alloc: Global, task: Task) -> Result<bool, Fail> {
+    let mut reader = Watched::new(device(alloc, task.input, task.step, reads(task)?, WAYS[0]));
+    let mut writer = Watched::new(Vec::new(alloc));
+    let answer = perform(alloc, task.job, &mut reader, &mut writer);
+    Ok(
+        answer == task.answer
+            && reader.failures() == 0
+            && writer.into_inner() == written(alloc, task)?,
+    )
 }
 
 #[test]
 fn each_read_fails_in_turn(rt: HostRuntime) -> Result<(), Fail> {
     let rom = vec![in rt.alloc(); 0xD0u8; MEMORY_BYTES]?;
     for task in tasks(rom.as_slice()) {
-        reads_fail(&rt, task)?;
+        for calls_before in 0..reads(task)? {
+            for way in [WAYS[0], WAYS[1], WAYS[2], WAYS[3]] {
+                assert!(rt; read_fails(rt.alloc(), task, calls_before, way), "{way:?}");
+            }
+        }
+        assert!(rt; does_well(rt.alloc(), task)?);
     }
     Ok(())
 }
@@ -111,65 +111,55 @@ fn writes(bytes: &[u8], step: usize) -> usize {
     }
 }
 
-/// The writes of a task fail in turn: what goes out before is a beginning of what is written where none fails.
-fn writes_fail(rt: &(impl Abort + AllocGlobal), task: Task) -> Result<(), Fail> {
-    let (job, step) = (task.job, task.step);
-    let wanted = written(rt.alloc(), task)?;
-    let calls = u32::try_from(writes(wanted.as_slice(), step))?;
-    for failure in [Failure::Error, Failure::TakesNothing] {
-        for calls_left in 0..=calls {
-            let mut reader = Watched::new(task.input);
-            let mut writer = Watched::new(Stubborn {
-                taken: Vec::new(rt.alloc()),
-                step,
-                calls_left,
-                failure,
-            });
-            let answer = perform(rt.alloc(), job, &mut reader, &mut writer);
-            let failures = writer.failures();
-            let taken = writer.into_inner().taken;
-            assert!(rt; wanted.starts_with(taken.as_slice()));
-            assert_eq!(rt; writes(taken.as_slice(), step), calls_left as usize);
-            if calls_left < calls {
-                assert_eq!(rt; answer, Err(ToolFault::Writer), "after {calls_left} writes");
-                assert_eq!(rt; failures, 1);
-            } else {
-                assert_eq!(rt; answer, task.answer);
-                assert_eq!(rt; failures, 0);
-                assert_eq!(rt; taken.len(), wanted.len());
-            }
-        }
-    }
-    for mishap in [Mishap::Error, Mishap::Interrupted, Mishap::TakesNothing] {
-        for calls_before in 0..calls {
-            let mut reader = Watched::new(task.input);
-            let mut writer = Watched::new(device(rt.alloc(), &[], step, calls_before, mishap));
-            let answer = perform(rt.alloc(), job, &mut reader, &mut writer);
-            assert_eq!(rt;
-                answer,
-                Err(ToolFault::Writer),
-                "after {calls_before} writes"
-            );
-            assert_eq!(rt; writer.failures(), 1);
-            let taken = writer.into_inner().taken;
-            assert!(rt; wanted.starts_with(taken.as_slice()));
-            assert_eq!(rt; writes(taken.as_slice(), step), calls_before as usize);
-        }
-    }
-    Ok(())
+/// Whether a write after so many others fails a task, and what went out before is a beginning of what is written where
+/// none fails.
+fn write_fails(
+    alloc: Global,
+    task: Task,
+    wanted: &[u8],
+    calls_before: usize,
+    way: Way,
+) -> Result<bool, Fail> {
+    let mut reader = Watched::new(task.input);
+    let mut writer = Watched::new(device(alloc, &[], task.step, u32::try_from(calls_before)?, way));
+    let answer = perform(alloc, task.job, &mut reader, &mut writer);
+    let failures = writer.failures();
+    let taken = writer.into_inner().taken;
+    Ok(
+        answer == Err(ToolFault::Writer)
+            && failures == 1
+            && wanted.starts_with(taken.as_slice())
+            && writes(taken.as_slice(), task.step) == calls_before,
+    )
 }
 
 #[test]
 fn each_write_fails_in_turn(rt: HostRuntime) -> Result<(), Fail> {
     let rom = vec![in rt.alloc(); 0xD0u8; MEMORY_BYTES]?;
     for task in tasks(rom.as_slice()) {
-        writes_fail(&rt, task)?;
+        let wanted = written(rt.alloc(), task)?;
+        for calls_before in 0..writes(wanted.as_slice(), task.step) {
+            for way in WAYS {
+                assert!(rt;
+                    write_fails(rt.alloc(), task, wanted.as_slice(), calls_before, way)?,
+                    "{way:?}"
+                );
+            }
+        }
     }
     Ok(())
 }
 
+/// Whether a flush that fails is the writer's fault, whatever was answered, and one that does well leaves the answer.
+fn flush_fails(alloc: Global, answer: Result<Done, ToolFault>) -> bool {
+    let mut failing = Watched::new(device(alloc, &[], 1, 0, WAYS[0]));
+    let mut fine = Watched::new(device(alloc, &[], 1, 1, WAYS[0]));
+    let told = finish(answer, &mut failing) == Err(ToolFault::Writer) && failing.failures() == 1;
+    told && finish(answer, &mut fine) == answer && fine.failures() == 0
+}
+
 #[test]
-fn a_failing_flush_is_the_writers_fault(rt: HostRuntime) -> Result<(), Fail> {
+fn a_failing_flush_is_the_writers_fault(rt: HostRuntime) {
     for answer in [
         Ok(Done::Written),
         Ok(Done::Judged(Verdict::Good { words: 3, bound: 4 })),
@@ -177,22 +167,6 @@ fn a_failing_flush_is_the_writers_fault(rt: HostRuntime) -> Result<(), Fail> {
         Err(ToolFault::Text(TextFault::Cut(4))),
         Err(ToolFault::Reader),
     ] {
-        for calls_left in 0..2u32 {
-            let mut writer = Watched::new(Stubborn {
-                taken: Vec::new(rt.alloc()),
-                step: 1,
-                calls_left,
-                failure: Failure::Error,
-            });
-            let finished = finish(answer, &mut writer);
-            if calls_left == 0 {
-                assert_eq!(rt; finished, Err(ToolFault::Writer));
-                assert_eq!(rt; writer.failures(), 1);
-            } else {
-                assert_eq!(rt; finished, answer);
-                assert_eq!(rt; writer.failures(), 0);
-            }
-        }
+        assert!(rt; flush_fails(rt.alloc(), answer));
     }
-    Ok(())
 }

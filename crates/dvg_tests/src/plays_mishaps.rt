@@ -1,192 +1,112 @@
-//! The engine `play`: what it writes before a write that fails, or before memory is refused.
-use crate::devices::{Failure, Stubborn};
-use crate::traces::{FIRST_PICTURE, first_picture_shown, joined, played};
-use dvg_frame::Op;
-use dvg_mem::MEMORY_BYTES;
+//! The engine `play`: what it writes before memory is refused.
+use crate::traces::{FIRST_PICTURE, joined, played};
 use dvg_tool::{ToolFault, Watched, play};
-use dvg_world::Entry;
 use linked_list_allocator::LocalHeap;
-use std::alloc::{AllocError, Global};
-use std::mem::size_of;
+use std::alloc::Global;
 use std::test::Fail;
 
-/// A writer that takes at most so many bytes a call, and fails after so many calls.
-fn stubborn(alloc: Global, step: usize, calls_left: u32, failure: Failure) -> Stubborn {
-    Stubborn {
-        taken: Vec::new(alloc),
-        step,
-        calls_left,
-        failure,
-    }
+/// A trace, what is written of it in ample memory, and the events that complete a vector.
+#[derive(Clone, Copy)]
+struct Wanted<'a> {
+    trace: &'a str,
+    all: bool,
+    shown: &'a str,
+    first: usize,
+    last: usize,
 }
 
-/// Each line is one write, as far as the writer takes it: the second one fails.
-#[test]
-fn a_failing_second_write_leaves_the_first_line(rt: HostRuntime) -> Result<(), Fail> {
-    for failure in [Failure::Error, Failure::TakesNothing] {
-        let mut reader = Watched::new(FIRST_PICTURE.as_bytes());
-        let mut writer = Watched::new(stubborn(rt.alloc(), 64, 1, failure));
-        let answer = play(rt.alloc(), &mut reader, &mut writer, false);
-        assert_eq!(rt; answer, Err(ToolFault::Writer));
-        assert_eq!(rt; writer.failures(), 1);
-        assert_eq!(rt;
-            writer.into_inner().taken.as_slice(),
-            b"picture 29 1\n".as_slice()
-        );
-    }
-    Ok(())
-}
-
-/// What is written of the first picture in a heap of so many bytes, and what is answered.
+/// What is written in a heap of so many bytes, and what is answered.
 fn played_in(
     alloc: Global,
-    text: &str,
+    wanted: Wanted,
     bytes: usize,
-    all: bool,
 ) -> Result<(Vec<u8>, Result<(), ToolFault>), Fail> {
     let heap = LocalHeap::new(alloc, bytes)?;
-    let mut reader = Watched::new(text.as_bytes());
+    let mut reader = Watched::new(wanted.trace.as_bytes());
     let mut writer = Watched::new(Vec::new(alloc));
-    let answer = play(&heap, &mut reader, &mut writer, all);
+    let answer = play(&heap, &mut reader, &mut writer, wanted.all);
     Ok((writer.into_inner(), answer))
 }
 
-/// What is written with `--all` of a text before this line.
-fn shown_before(alloc: Global, text: &str, line: &str) -> Result<String, Fail> {
-    let (shown, answer) = played(alloc, text, true)?;
-    if answer.is_err() {
-        return Err("not a trace".into());
-    }
-    match shown.as_str().split_once(line) {
-        Some((before, _)) => joined(alloc, &[before]),
-        None => Err("no such line".into()),
-    }
+/// What a heap leads to: a refusal before anything is written, the log before an event that completes a vector, or
+/// everything.
+#[derive(Clone, Copy, Debug, PartialEq, Eq)]
+enum Led {
+    Nothing,
+    Beginning,
+    Whole,
 }
 
-/// Heaps of rising sizes, up to the first that has room for the whole picture.
-#[test]
-fn a_refusal_leaves_a_beginning_of_the_log(rt: HostRuntime) -> Result<(), Fail> {
-    let before = shown_before(rt.alloc(), FIRST_PICTURE, "27 fetched")?;
-    let wanted = first_picture_shown(rt.alloc(), true)?;
-    let mut refused = 0u32;
+/// The number at the front of a line.
+fn number_of(line: &str) -> Option<usize> {
+    line.split(' ').next()?.parse().ok()
+}
+
+/// Whether this is the log before an event that completes a vector: a beginning of all lines.
+fn is_log_before(wanted: Wanted, text: &str) -> bool {
+    let Some(number) = wanted.shown.strip_prefix(text).and_then(number_of) else {
+        return false;
+    };
+    wanted.first <= number
+        && number <= wanted.last
+        && number % 2 == 1
+        && text.split('\n').count() == number.saturating_add(1)
+}
+
+/// What a heap of so many bytes leads to, and nothing else.
+fn led_to(alloc: Global, wanted: Wanted, bytes: usize) -> Result<Led, Fail> {
+    let (written, answer) = played_in(alloc, wanted, bytes)?;
+    let text = String::from_utf8(written)?;
+    if answer == Ok(()) && text.as_str() == wanted.shown {
+        return Ok(Led::Whole);
+    }
+    if answer != Err(ToolFault::Memory) {
+        return Err("another answer".into());
+    }
+    if text.as_str().is_empty() {
+        return Ok(Led::Nothing);
+    }
+    if wanted.all && is_log_before(wanted, text.as_str()) {
+        return Ok(Led::Beginning);
+    }
+    Err("another text".into())
+}
+
+/// How many heaps of rising sizes lead to nothing and to a beginning, up to the first that has room for everything.
+fn refusals(alloc: Global, wanted: Wanted) -> Result<(u32, u32), Fail> {
+    let (mut silent, mut begun) = (0u32, 0u32);
     for slots in 0..4096usize {
-        let (written, answer) = played_in(rt.alloc(), FIRST_PICTURE, slots * 16, true)?;
-        if answer == Ok(()) {
-            assert_eq!(rt; written.as_slice(), wanted.as_str().as_bytes());
-            break;
-        }
-        refused = refused.saturating_add(1);
-        assert_eq!(rt; answer, Err(ToolFault::Memory));
-        assert!(rt; written.is_empty() || written.as_slice() == before.as_str().as_bytes());
-    }
-    assert!(rt; 128 < refused && refused < 4096, "refused {refused}");
-    Ok(())
-}
-
-/// A heap whose free bytes are parted by a wall: so many are before it, and the rest is behind it.
-fn wall_in<'a>(heap: &'a LocalHeap, front: usize) -> Result<Vec<u8, &'a LocalHeap>, AllocError> {
-    let room = Vec::<u8, &'a LocalHeap>::with_capacity(heap, front)?;
-    let wall = Vec::with_capacity(heap, 16)?;
-    drop(room);
-    Ok(wall)
-}
-
-/// The first picture behind an offer of one operation, with five ticks more before its own offer, and before an offer
-/// of so many operations: 38 events, of which the last but four draws.
-fn late_picture(alloc: Global, last: usize) -> Result<String, Fail> {
-    let mut text = joined(
-        alloc,
-        &[
-            "offer\nhalt\nend\ntick 7\noffer\nlabs 512 400 0\nvctr 9 -100 100 7\nhalt\nend\ntick 14\nstrobe\nfetch 13\noffer\n",
-        ],
-    )?;
-    for _ in 0..last {
-        text.push_str("halt\n")?;
-    }
-    text.push_str("end\n")?;
-    Ok(text)
-}
-
-/// The text of the late picture, behind a comment that makes it as long as is wanted.
-fn text_of_length(alloc: Global, wanted: usize, last: usize) -> Result<String, Fail> {
-    let picture = late_picture(alloc, last)?;
-    let mut text = joined(alloc, &["#"])?;
-    let dots = wanted.saturating_sub(picture.len().saturating_add("#\n".len()));
-    for _dot in 0..dots {
-        text.push_str(".")?;
-    }
-    text.push_str("\n")?;
-    text.push_str(picture.as_str())?;
-    Ok(text)
-}
-
-/// An enum of the size of a trace's step.
-#[allow(dead_code)]
-enum Shape {
-    Offer(u32, u16),
-    Tick,
-    ResetAll(u32),
-}
-
-/// In front of the wall there is room for the text, for the four operations of the first two offers, for a list of
-/// steps that grows from 4 to 8, 16, 32 and 64, and for the log of 38 events. The text gives its room back to the ROM,
-/// which is as long. The 60 steps that the list gives back are just enough for the list of all operations, so the
-/// stroke has to find room behind the wall.
-#[test]
-fn a_refusal_at_the_vector_leaves_the_entries_before(rt: HostRuntime) -> Result<(), Fail> {
-    let (step, op, entry) = (
-        size_of::<Shape>(),
-        size_of::<Op>(),
-        size_of::<Entry<&LocalHeap>>(),
-    );
-    assert!(rt; op > 0 && step * 60 % op == 0);
-    let operations = step * 60 / op;
-    let text = text_of_length(rt.alloc(), MEMORY_BYTES, operations.saturating_sub(4))?;
-    assert_eq!(rt; text.len(), MEMORY_BYTES);
-    let front = MEMORY_BYTES + 48 + step * 124 + entry * 38;
-    let before = shown_before(rt.alloc(), text.as_str(), "33 fetched")?;
-    let (mut refused, mut whole) = (0u32, false);
-    for slots in 0..2048usize {
-        let heap = LocalHeap::new(rt.alloc(), front.saturating_add(slots * 16))?;
-        let Ok(wall) = wall_in(&heap, front) else {
-            continue;
-        };
-        let mut reader = Watched::new(text.as_str().as_bytes());
-        let mut writer = Watched::new(Vec::new(rt.alloc()));
-        let answer = play(&heap, &mut reader, &mut writer, true);
-        drop(wall);
-        let written = writer.into_inner();
-        if answer == Ok(()) {
-            whole = true;
-            break;
-        }
-        assert_eq!(rt; answer, Err(ToolFault::Memory));
-        if !written.is_empty() {
-            assert_eq!(rt; written.as_slice(), before.as_str().as_bytes());
-            refused = refused.saturating_add(1);
+        match led_to(alloc, wanted, slots * 16)? {
+            Led::Nothing => silent = silent.saturating_add(1),
+            Led::Beginning => begun = begun.saturating_add(1),
+            Led::Whole => return Ok((silent, begun)),
         }
     }
-    assert!(rt; whole);
-    assert!(rt; refused > 0, "step {step}, operation {op}, entry {entry}");
-    Ok(())
+    Err("no heap has room".into())
 }
 
-/// Without `--all` nothing goes out before the picture is whole.
+/// What is written of a trace in ample memory.
+fn shown(alloc: Global, trace: &str, all: bool) -> Result<String, Fail> {
+    let (shown, answer) = played(alloc, trace, all)?;
+    if answer.is_err() {
+        return Err("not played".into());
+    }
+    Ok(shown)
+}
+
+/// Without `--all` nothing goes out before the picture is whole, or before what is refused.
 #[test]
 fn a_refusal_leaves_no_picture(rt: HostRuntime) -> Result<(), Fail> {
-    let wanted = first_picture_shown(rt.alloc(), false)?;
-    let mut whole = false;
-    for slots in 0..4096usize {
-        let (written, answer) = played_in(rt.alloc(), FIRST_PICTURE, slots * 16, false)?;
-        if answer == Ok(()) {
-            assert_eq!(rt; written.as_slice(), wanted.as_str().as_bytes());
-            whole = true;
-            break;
-        }
-        assert_eq!(rt; answer, Err(ToolFault::Memory));
-        assert!(rt; written.is_empty());
-    }
-    assert!(rt; whole);
+    let shown = shown(rt.alloc(), FIRST_PICTURE, false)?;
+    let wanted = Wanted {
+        trace: FIRST_PICTURE,
+        all: false,
+        shown: shown.as_str(),
+        first: 27,
+        last: 27,
+    };
+    let (silent, begun) = refusals(rt.alloc(), wanted)?;
+    assert!(rt; silent > 128 && begun == 0);
     Ok(())
 }
 
@@ -201,43 +121,19 @@ fn long_picture(alloc: Global) -> Result<String, Fail> {
     Ok(text)
 }
 
-/// The number at the front of a line.
-fn number_of(line: &str) -> Option<usize> {
-    line.split(' ').next()?.parse().ok()
-}
-
 /// In some heaps the memory for one stroke more is refused: what goes out is the log before that fetch.
 #[test]
 fn a_refusal_amid_a_picture_leaves_the_log_before(rt: HostRuntime) -> Result<(), Fail> {
-    let text = long_picture(rt.alloc())?;
-    let (wanted, answer) = played(rt.alloc(), text.as_str(), true)?;
-    assert_eq!(rt; answer, Ok(()));
-    let (mut stopped, mut whole) = (0u32, false);
-    for slots in 0..4096usize {
-        let (written, answer) = played_in(rt.alloc(), text.as_str(), slots * 16, true)?;
-        if answer == Ok(()) {
-            assert_eq!(rt; written.as_slice(), wanted.as_str().as_bytes());
-            whole = true;
-            break;
-        }
-        assert_eq!(rt; answer, Err(ToolFault::Memory));
-        if written.is_empty() {
-            continue;
-        }
-        stopped = stopped.saturating_add(1);
-        let written = String::from_utf8(written)?;
-        let rest = wanted
-            .as_str()
-            .strip_prefix(written.as_str())
-            .ok_or("other text")?;
-        let number = number_of(rest).ok_or("not a whole line")?;
-        assert!(rt;
-            137 <= number && number <= 251 && number % 2 == 1,
-            "event {number}"
-        );
-        assert_eq!(rt; written.as_str().split('\n').count(), number + 1);
-    }
-    assert!(rt; whole);
-    assert!(rt; stopped > 0);
+    let trace = long_picture(rt.alloc())?;
+    let shown = shown(rt.alloc(), trace.as_str(), true)?;
+    let wanted = Wanted {
+        trace: trace.as_str(),
+        all: true,
+        shown: shown.as_str(),
+        first: 137,
+        last: 251,
+    };
+    let (silent, begun) = refusals(rt.alloc(), wanted)?;
+    assert!(rt; silent > 128 && begun > 0);
     Ok(())
 }

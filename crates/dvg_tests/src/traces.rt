@@ -27,12 +27,3 @@ pub fn played(
     let answer = play(alloc, &mut reader, &mut writer, all);
     Ok((String::from_utf8(writer.into_inner())?, answer))
 }
-
-/// What is written of the first picture where nothing fails, which the cases of the program tell.
-pub fn first_picture_shown(alloc: Global, all: bool) -> Result<String, Fail> {
-    let (written, answer) = played(alloc, FIRST_PICTURE, all)?;
-    if answer.is_err() {
-        return Err("not played".into());
-    }
-    Ok(written)
-}
