@@ -1,6 +1,6 @@
 -- The subcommands that the program's command can match.
 use Rattle.std.proofs.Common.{◌≡◌, ◌∙◌, ◌⊎◌, ◌&&◌, ◌||◌, inl, inr, Bool, true, false, not, cond, codes, List, [], ◌∷◌, ℕ, find, subst, sym, Option, Some, None, option_map, is_some, refl, ap, fold, true≢false}
-use Rattle.std.specs.Prelude.{Box}
+use Rattle.std.specs.Prelude.{Box, IfSome}
 use Rattle.std.specs.Str.{bytes_eq}
 use Rattle.std.specs.Cmp.Lexicographic.{same_text}
 use Rattle.clap.specs.Lexer.{long_of, short_of}
@@ -168,3 +168,9 @@ pub entered_as : {Z : Type 0} (met : Option (Box SubCommand Z)) (name : Text) (r
     → subcommand_rows met ≡ Some (name, rows)
 entered_as None name rows e f = cc
 entered_as (Some b) name rows e f = cc
+
+-- the name that a parse entered is that of a job
+pub entered_name : (words : List Text) {Z : Type 0} (met : Option (Box SubCommand Z)) → fault_of dvg_app words ≡ []
+    → subcommand_rows met ≡ subcommand_of dvg_app words → IfSome (option_map (λ b. (out-SubCommand (box_value b)).name.now) met) IsJobName
+entered_name words None none e = tt
+entered_name words (Some b) none e = matched_name words none _ (sym e)

@@ -1,8 +1,8 @@
 //! The program's command, as `clap` reads it.
-ghost use Rattle.std.specs.Prelude.{◌≡◌, IfOk, codes, false};
-ghost use Rattle.clap.specs.Words.{app_of, new_app};
+ghost use Rattle.std.specs.Prelude.{◌≡◌, IfOk, false, take};
+ghost use Rattle.clap.specs.Words.{app_of, new_app, rule_of, with_rule, with_subcommand};
 ghost use Rattle.clap.specs.declared.builder.command.Command.TheViews.{out-Command as fields_of};
-ghost use Rattle.dvg_words.specs.Words.{dvg_app, with_flag};
+ghost use Rattle.dvg_words.specs.Words.{dvg_app, flag};
 
 use crate::help;
 use clap::{Arg, ArgAction, Command};
@@ -16,34 +16,44 @@ fn helped<'a>(alloc: Global, name: &'a str, about: &'a str, details: &'a str) ->
     Command::new(alloc, name).about(about).after_help(details)
 }
 
-// The subcommand `check` with its option.
-fn check_command<'a>(alloc: Global) -> Result<Command<'a>, AllocError>
-    ensures app { IfOk result (λ c. (app_of c).top ≡ with_flag (codes "check") (codes "bound")) }
-    ensures local { IfOk result (λ c. (fields_of c).has_globals ≡ false) }
+// An option that is given or not.
+fn flag<'a>(alloc: Global, option: &'a str, details: &'a str) -> Arg<'a>
+    ensures rule { rule_of result ≡ flag option.entry.now }
+    ensures local { result.global ≡ false }
 {
-    let bound = Arg::new(alloc, "bound")
-        .long("bound")
-        .help("Also tell how many words the whole run of a good draft fetches")
-        .action(ArgAction::SetTrue);
-    helped(
-        alloc,
-        "check",
-        "Say whether a draft may be drawn",
-        help::CHECK,
-    )
-    .arg(bound)
+    Arg::new(alloc, option)
+        .long(option)
+        .help(details)
+        .action(ArgAction::SetTrue)
 }
 
-// The subcommand `play` with its option.
-fn play_command<'a>(alloc: Global) -> Result<Command<'a>, AllocError>
-    ensures app { IfOk result (λ c. (app_of c).top ≡ with_flag (codes "play") (codes "all")) }
+// The program with one subcommand more, which has an option.
+fn with_option<'a>(
+    program: Command<'a>,
+    part: Command<'a>,
+    option: Arg<'a>,
+) -> Result<Command<'a>, AllocError>
+    requires program { (fields_of program).has_globals ≡ false }
+    requires part { (fields_of part).has_globals ≡ false }
+    requires option { option.global ≡ false }
+    ensures app { IfOk result (λ c. app_of c ≡ with_subcommand (app_of program.entry) (with_rule (app_of part.entry) (rule_of option.entry)).top) }
     ensures local { IfOk result (λ c. (fields_of c).has_globals ≡ false) }
 {
-    let all = Arg::new(alloc, "all")
-        .long("all")
-        .help("Print each entry, not the finished pictures alone")
-        .action(ArgAction::SetTrue);
-    helped(alloc, "play", "Play a trace", help::PLAY).arg(all)
+    let whole = part.arg(option)?;
+    program.subcommand(whole)
+}
+
+// The program with the subcommands that have no option.
+fn with_plain<'a>(alloc: Global) -> Result<Command<'a>, AllocError>
+    ensures app { IfOk result (λ c. app_of c ≡ record dvg_app { subs = take 2 dvg_app.subs }) }
+    ensures local { IfOk result (λ c. (fields_of c).has_globals ≡ false) }
+{
+    let about = "List, check and play display lists of the Digital Vector Generator (DVG)";
+    let program = helped(alloc, "dvg", about, help::PROGRAM).subcommand_required(true);
+    let list = helped(alloc, "list", "List the instructions of words", help::LIST);
+    let with_list = program.subcommand(list)?;
+    let rom = helped(alloc, "rom", "Write a ROM as text", help::ROM);
+    with_list.subcommand(rom)
 }
 
 /// The program's command.
@@ -51,15 +61,16 @@ pub(crate) fn command<'a>(alloc: Global) -> Result<Command<'a>, AllocError>
     ensures app { IfOk result (λ c. app_of c ≡ dvg_app) }
     ensures local { IfOk result (λ c. (fields_of c).has_globals ≡ false) }
 {
-    let list = helped(alloc, "list", "List the instructions of words", help::LIST);
-    let rom = helped(alloc, "rom", "Write a ROM as text", help::ROM);
-    let check = check_command(alloc)?;
-    let play = play_command(alloc)?;
-    let about = "List, check and play display lists of the Digital Vector Generator (DVG)";
-    let program = helped(alloc, "dvg", about, help::PROGRAM).subcommand_required(true);
-    let with_list = program.subcommand(list)?;
-    let with_rom = with_list.subcommand(rom)?;
-    let with_check = with_rom.subcommand(check)?;
-    let with_play = with_check.subcommand(play)?;
-    Ok(with_play)
+    let program = with_plain(alloc)?;
+    let check = helped(
+        alloc,
+        "check",
+        "Say whether a draft may be drawn",
+        help::CHECK,
+    );
+    let bound = "Also tell how many words the whole run of a good draft fetches";
+    let with_check = with_option(program, check, flag(alloc, "bound", bound))?;
+    let play = helped(alloc, "play", "Play a trace", help::PLAY);
+    let all = "Print each entry, not the finished pictures alone";
+    with_option(with_check, play, flag(alloc, "all", all))
 }

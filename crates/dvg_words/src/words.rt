@@ -1,7 +1,7 @@
 //! What the words of the program ask for.
 ghost use Rattle.std.specs.Prelude.{◌≡◌, IfErr, IfOk, IfSome, IsNone, Some, map, true};
 ghost use Rattle.dvg_words.specs.Words.{IsJob, IsJobName, dvg_app, sets};
-ghost use Rattle.clap.specs.Words.{FailsBy, fault_of, found_of, kind_of, rows_of, subcommand_of, takes};
+ghost use Rattle.clap.specs.Words.{FailsBy, fault_of, found_of, has_subcommand, kind_of, rows_of, subcommand_name_of, subcommand_of, subcommand_rows_of, takes};
 
 use crate::command::command;
 use crate::task::Job;
@@ -41,6 +41,31 @@ fn is_set(found: &ArgMatches, id: &str) -> bool
     }
 }
 
+// The job of a matching that entered a subcommand, where that is one.
+fn entered(matches: &ArgMatches) -> Job
+    requires some { has_subcommand matches.now ≡ true }
+    requires name { IfSome (subcommand_name_of matches.now) IsJobName }
+    ensures { IsJob result (subcommand_rows_of matches.now) }
+{
+    let Some(entered) = matches.subcommand() else {
+        unreachable!()
+    };
+    match named(entered.0, entered.1) {
+        Some(job) => job,
+        None => unreachable!(),
+    }
+}
+
+// The matching of words, which enters a subcommand where they are taken.
+fn matched<'a>(alloc: Global, words: &'a [&'a str]) -> Result<ArgMatches<'a>, Error>
+    ensures some { IfOk result (λ m. has_subcommand m ≡ true) }
+    ensures rows { IfOk result (λ m. subcommand_rows_of m ≡ subcommand_of dvg_app (map (λ w. w.now) words.entry.now)) }
+    ensures err { IfErr result (λ e. takes dvg_app (map (λ w. w.now) words.entry.now) ≡ true → kind_of e ≡ ErrorKind.OutOfMemory) }
+    ensures kinds { FailsBy (fault_of dvg_app (map (λ w. w.now) words.entry.now)) result }
+{
+    command(alloc)?.try_get_matches_from(words)
+}
+
 /// What the words ask for: the subcommand and the options that they match. The first word is the
 /// program's name, and may be anything.
 ///
@@ -56,15 +81,8 @@ pub fn job<'a>(alloc: Global, words: &'a [&'a str]) -> Result<Job, Error>
     // to, or memory ran out.
     ensures kinds { FailsBy (fault_of dvg_app (map (λ w. w.now) words.entry.now)) result }
 {
-    let matches = match command(alloc)?.try_get_matches_from(words) {
-        Ok(matches) => matches,
-        Err(error) => return Err(error),
-    };
-    let Some(entered) = matches.subcommand() else {
-        unreachable!()
-    };
-    match named(entered.0, entered.1) {
-        Some(job) => Ok(job),
-        None => unreachable!(),
+    match matched(alloc, words) {
+        Ok(matches) => Ok(entered(&matches)),
+        Err(error) => Err(error),
     }
 }
