@@ -61,14 +61,20 @@ fn event_named<A: Allocator>(name: &[u8]) -> Option<Event<A>>
     ensures found { IfSome result (λ event. IsNamed (happening_of event) name.now) }
     ensures only { (event : Happening) → IsNamed event name.now → IsSomeAnd result (λ found. happening_of found ≡ event) }
 {
-    match name {
-        b"redraw" => Some(Event::Redraw),
-        b"tick" => Some(Event::Tick),
-        b"strobe" => Some(Event::Strobe),
-        b"fetch" => Some(Event::Fetch),
-        b"resetgen" => Some(Event::ResetGen),
-        b"resetcpu" => Some(Event::ResetCpu),
-        _ => None,
+    if name == b"redraw".as_slice() {
+        Some(Event::Redraw)
+    } else if name == b"tick".as_slice() {
+        Some(Event::Tick)
+    } else if name == b"strobe".as_slice() {
+        Some(Event::Strobe)
+    } else if name == b"fetch".as_slice() {
+        Some(Event::Fetch)
+    } else if name == b"resetgen".as_slice() {
+        Some(Event::ResetGen)
+    } else if name == b"resetcpu".as_slice() {
+        Some(Event::ResetCpu)
+    } else {
+        None
     }
 }
 
