@@ -21,7 +21,13 @@ fn faults_have_texts(rt: HostRuntime) -> Result<(), Fail> {
     assert!(rt; shows(alloc, &OutOfMemory, "out of memory")?);
     assert!(rt; shows(alloc, &CodeFault::Empty, "there is no word")?);
     assert!(rt; shows(alloc, &CodeFault::Cut, "the second word is missing")?);
-    assert!(rt; shows(alloc, &MemFault::Size, "there are not 2,048 bytes")?);
+    assert!(rt;
+        shows(
+            alloc,
+            &MemFault::Size,
+            "there are not as many bytes as the memory has"
+        )?
+    );
     assert!(rt;
         shows(
             alloc,

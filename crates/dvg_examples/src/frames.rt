@@ -1,6 +1,6 @@
 //! What the check answers, and the bytes of frames in both halves.
 use crate::drafts::{behind_labs, rom, svec, vctr};
-use dvg_frame::{Checker, Cursor, Draft, Frame, FrameFault, OpKind, check};
+use dvg_frame::{Checker, Cursor, Draft, Frame, FrameFault, OpKind, Place, check};
 use dvg_mem::{Half, Rom};
 use std::alloc::Global;
 use std::test::Fail;
@@ -113,5 +113,26 @@ fn a_checker_answers_as_if_each_check_were_its_first(rt: HostRuntime) -> Result<
         };
         assert!(rt; agrees(&mut checker, draft, &rom), "draft {at}");
     }
+    Ok(())
+}
+
+/// The ROM of 4,096 bytes whose first words are FE37 and D000, and whose others are D000.
+fn large_rom(alloc: Global) -> Result<Rom, Fail> {
+    let mut bytes = Vec::new(alloc);
+    bytes.extend_from_slice(&[0x37, 0xFE])?;
+    for _word in 1..2048 {
+        bytes.extend_from_slice(&[0x00, 0xD0])?;
+    }
+    Rom::new(alloc, bytes.as_slice()).map_err(|_| "no ROM".into())
+}
+
+#[test]
+fn a_draft_calls_a_word_of_a_larger_rom(rt: HostRuntime) -> Result<(), Fail> {
+    let draft = behind_labs(0, 0, &[OpKind::CallRom(0x400), OpKind::Halt])?;
+    let outside = Err(FrameFault::OutOfRom(Place::InFrame(1)));
+    assert_eq!(rt; sizes(&draft, &large_rom(rt.alloc())?), Ok((4, 7)));
+    assert_eq!(rt; sizes(&draft, &rom(rt.alloc(), &[])?), outside);
+    let draft = behind_labs(0, 0, &[OpKind::CallRom(0x3FF), OpKind::Halt])?;
+    assert_eq!(rt; sizes(&draft, &large_rom(rt.alloc())?), outside);
     Ok(())
 }

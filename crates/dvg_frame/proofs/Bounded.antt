@@ -1,5 +1,5 @@
 -- A draft without a fault and without a loop has a picture, and its fetches are bounded.
-use Rattle.std.proofs.Common.{◌≡◌, ℕ, zero, suc, ◌+◌, ◌-◌, ◌*◌, ◌/◌, ◌^◌, ◌<◌, ◌≤◌, inr, ⊎_elim, List, [], ◌++◌, length, refl, ap, subst, arith}
+use Rattle.std.proofs.Common.{◌≡◌, ℕ, zero, suc, ◌+◌, ◌-◌, ◌*◌, ◌^◌, ◌<◌, ◌≤◌, inr, ⊎_elim, List, [], ◌++◌, refl, subst, arith}
 use Rattle.std.proofs.Math.Nat.{suc-mul, mul-le-mul}
 use Rattle.std.proofs.lemmas.Bool.{cases_lt}
 use Rattle.std.proofs.lemmas.Option.{slice_get-get_or}
@@ -9,7 +9,8 @@ use Rattle.dvg_code.specs.Spelling.{word_count}
 use Rattle.dvg_code.specs.Words.{IsWord, word_in}
 use Rattle.dvg_code.specs.Acts.{Act, Moves, Jumps, Calls, Returns, Halts}
 use Rattle.dvg_code.proofs.Beginnings.{one_word, two_words}
-use Rattle.dvg_mem.specs.Memory.{IsImage}
+use Rattle.dvg_mem.specs.Memory.{IsRom, first_word}
+use Rattle.dvg_mem.proofs.Roms.{behind_ram, rom_there, word_fits, words_from_first}
 use Rattle.dvg_gen.specs.declared.beam.Beam.{Beam}
 use Rattle.dvg_gen.specs.declared.stroke.Stroke.{Stroke}
 use Rattle.dvg_gen.specs.Drawing.{moved, drawn}
@@ -24,7 +25,6 @@ use Rattle.dvg_frame.specs.Pairs.{pair_of}
 use Rattle.dvg_frame.specs.Ways.{IsPlaceOf}
 use Rattle.dvg_frame.specs.Picture.{End, AtHalt, AtReturn, Draws, halts, returns, moves, jumps, call_halts, calls, IsPicture, IsBound}
 use Rattle.dvg_frame.specs.Loops.{Walks, none, more, places, HasLoop}
-use Rattle.dvg_frame.proofs.Words.{rom_there, word_fits}
 use Rattle.dvg_frame.proofs.Swept.{few_ops, pair_in, reached_pair}
 use Rattle.dvg_frame.proofs.OneFault.{closed_misses}
 use Rattle.dvg_frame.proofs.Pictures.{one_picture}
@@ -71,32 +71,32 @@ module _ (F : List OpKind) (R : List ℕ) where
   pub drawn_halts : {p after : Place} → Stands F R p Halts after → Drawn p AtHalt 1
   drawn_halts stands beam = ([], beam, halts stands)
 
-module _ (F : List OpKind) (R : List ℕ) (image : IsImage R) (closed : Closed F R) where
+module _ (F : List OpKind) (R : List ℕ) (image : IsRom R) (closed : Closed F R) where
   -- something stands at each reached place
   pub record Something (p : Place) : Type 0 where
     pub act : Act Place
     pub after : Place
     pub stands : Stands F R p act after
 
-  in_rom_stands : (a d : ℕ) → IsPlaceOf F (InRom a) → IsFine F R (InRom a) d → Something (InRom a)
+  in_rom_stands : (a d : ℕ) → IsPlaceOf F R (InRom a) → IsFine F R (InRom a) d → Something (InRom a)
   in_rom_stands a d inside fine =
       let low = inside.0 in
       let high = inside.1 in
-      let first = word_in R (a - 0x800) in
+      let first = word_in R (a - first_word R) in
       let there = rom_there R a low high in
-      let fits : IsWord first = word_fits R (a - 0x800) image (omega arith) in
+      let fits : IsWord first = word_fits R a image low high in
       ⊎_elim
       (λ is_first.
       let next_in : a + 1 < 0xC00 = ⊎_elim (λ less. less) (λ far. absurd (fine (OutOfRom (InRom a)) (second there is_first (inr far)))) (cases_lt (a + 1) 0xC00) in
       let next_there = rom_there R (a + 1) (omega arith) next_in in
-      let spelled = two_words first (word_in R (a + 1 - 0x800)) is_first (word_fits R (a + 1 - 0x800) image (omega arith)) in
+      let spelled = two_words first (word_in R (a + 1 - first_word R)) is_first (word_fits R (a + 1) image (omega arith) next_in) in
       record { act = _; after = _; stands = in_rom (two there next_there spelled.1) refl })
       (λ alone.
       let spelled = one_word first alone fits in
       record { act = _; after = _; stands = in_rom (one there spelled.1) refl })
       (cases_lt first 0xB000)
 
-  stands_in : (p : Place) (d : ℕ) → IsPlaceOf F p → IsFine F R p d → Something p
+  stands_in : (p : Place) (d : ℕ) → IsPlaceOf F R p → IsFine F R p d → Something p
   stands_in (InFrame i) d inside fine =
       record { act = _; after = _; stands = in_frame (slice_get-get_or F i Return inside.0) refl }
   stands_in (InRom a) d inside fine = in_rom_stands a d inside fine
@@ -193,8 +193,8 @@ module _ (F : List OpKind) (R : List ℕ) (image : IsImage R) (closed : Closed F
   few_places : places F R ≤ 2559
   few_places =
       let ops = few_ops F begins in
-      let bytes = image.count in
-      let words : length R / 2 ≡ 1024 = ap (λ n. n / 2) bytes in
+      let words = words_from_first R image in
+      let behind = behind_ram R in
       omega arith
 
   cost_most : (k h : ℕ) → k ≤ 2560 → cost k h ≤ cost 2560 h

@@ -1,12 +1,12 @@
 -- What stands at a place is one thing, and what is wrong there shows by how it leads on.
-use Rattle.std.proofs.Common.{◌≡◌, ℕ, ◌+◌, ◌≤◌, inl, inr, ⊎_elim, List, [], ◌∷◌, length, Option, Some, None, refl, sym, ap, ◌∙◌, subst, arith, Bool, true, false}
-use Rattle.std.specs.Prelude.{slice_get, nat_le, nat_lt, ◌&&◌, if◌then◌else◌}
-use Rattle.std.proofs.lemmas.Bool.Decides.{nat_tests}
+use Rattle.std.proofs.Common.{◌≡◌, ℕ, ◌+◌, ◌≤◌, inl, inr, ⊎_elim, List, [], ◌∷◌, length, Option, Some, refl, sym, ap, ◌∙◌, subst, arith}
+use Rattle.std.specs.Prelude.{slice_get}
 use Rattle.dvg_code.specs.declared.instr.Instr.{Instr}
 use Rattle.dvg_code.specs.Spelling.{Spells, IsFirst, word_count}
 use Rattle.dvg_code.specs.Acts.{Act, Moves, Jumps, Calls, Returns, Halts, act_by}
 use Rattle.dvg_code.proofs.Unique.{same_spelling, same_front, rest_begins_none}
 use Rattle.dvg_mem.specs.Memory.{rom_word}
+use Rattle.dvg_mem.proofs.Roms.{rom_some}
 use Rattle.dvg_frame.specs.declared.op.OpKind.{OpKind}
 use Rattle.dvg_frame.specs.declared.place.Place.{Place}
 use Rattle.dvg_frame.specs.declared.place.Place.TheVariants.{InFrame, InRom}
@@ -44,17 +44,12 @@ same_standing {F} {R} (in_rom {a = a} {instr = instr} spelled act_is) (in_rom {i
     (act_is ∙ ap (act_by InRom) same ∙ sym act_is', ap (λ x. InRom (a + word_count x)) same)
 
 -- no ROM word has an address outside the ROM
-tested : (test : Bool) (v w : ℕ) → (if test then Some v else None) ≡ Some w → test ≡ true
-tested true v w is = refl
-tested false v w is = let none : ◌≡◌ {A = Option ℕ} None (Some w) = is in cc
-
-outside_none : (R : List ℕ) (a word : ℕ) → IsOutside a → rom_word R a ≡ Some word → ⊥
+outside_none : (R : List ℕ) (a word : ℕ) → IsOutside R a → rom_word R a ≡ Some word → ⊥
 outside_none R a word outside is =
-    let inside = tested (nat_le 0x800 a && nat_lt a 0xC00) _ word is in
-    grind (arith, nat_tests)
+    let inside = rom_some R a word is in ⊎_elim (λ below. let low = inside.0 in omega arith) (λ past. let high = inside.1 in omega arith) outside
 
 -- nothing is spelled where a second word lies outside the ROM
-cut_none : (R : List ℕ) (a word : ℕ) (instr : Instr) → SpelledAt (rom_word R) a instr → rom_word R a ≡ Some word → IsFirst word → IsOutside (a + 1) → ⊥
+cut_none : (R : List ℕ) (a word : ℕ) (instr : Instr) → SpelledAt (rom_word R) a instr → rom_word R a ≡ Some word → IsFirst word → IsOutside R (a + 1) → ⊥
 cut_none R a word instr (one {word = v} v_is spells) is first outside =
     let same : word ≡ v = cc in
     rest_begins_none (v ∷ []) (subst IsFirst same first) instr 1 (record { front = v ∷ []; after = []; parts = refl; spells = spells; counted = refl })
@@ -75,31 +70,31 @@ goes_past (Calls q) after goes = goes
 goes_past Returns after goes = goes
 goes_past Halts after goes = goes
 
-names_outside : (act : Act Place) (after : Place) (a : ℕ) → Names act (InRom a) → IsOutside a → LeadsOutside (way act after)
-names_outside (Moves instr) after a named outside = absurd named
-names_outside (Jumps q) after a named outside = subst Outside (sym named) outside
-names_outside (Calls q) after a named outside = inl (subst Outside (sym named) outside)
-names_outside Returns after a named outside = named
-names_outside Halts after a named outside = named
+names_outside : (R : List ℕ) (act : Act Place) (after : Place) (a : ℕ) → Names act (InRom a) → IsOutside R a → LeadsOutside R (way act after)
+names_outside R (Moves instr) after a named outside = absurd named
+names_outside R (Jumps q) after a named outside = subst (Outside R) (sym named) outside
+names_outside R (Calls q) after a named outside = inl (subst (Outside R) (sym named) outside)
+names_outside R Returns after a named outside = named
+names_outside R Halts after a named outside = named
 
-past_outside : (act : Act Place) (after : Place) → GoesPast act → Outside after → LeadsOutside (way act after)
-past_outside (Moves instr) after goes outside = outside
-past_outside (Jumps q) after goes outside = absurd goes
-past_outside (Calls q) after goes outside = inr outside
-past_outside Returns after goes outside = absurd goes
-past_outside Halts after goes outside = absurd goes
+past_outside : (R : List ℕ) (act : Act Place) (after : Place) → GoesPast act → Outside R after → LeadsOutside R (way act after)
+past_outside R (Moves instr) after goes outside = outside
+past_outside R (Jumps q) after goes outside = absurd goes
+past_outside R (Calls q) after goes outside = inr outside
+past_outside R Returns after goes outside = absurd goes
+past_outside R Halts after goes outside = absurd goes
 
 module _ (F : List OpKind) (R : List ℕ) where
   -- what is wrong by the way is wrong on paper
-  bad_target : {p after : Place} {act : Act Place} (q : Place) (d : ℕ) → Stands F R p act after → Names act q → Outside q → Bad F R p d (OutOfRom p)
+  bad_target : {p after : Place} {act : Act Place} (q : Place) (d : ℕ) → Stands F R p act after → Names act q → Outside R q → Bad F R p d (OutOfRom p)
   bad_target (InFrame j) d stands named outside = absurd outside
   bad_target (InRom a) d stands named outside = target stands named outside
 
-  bad_past : {p after : Place} {act : Act Place} (d : ℕ) → Stands F R p act after → GoesPast act → Outside after → Bad F R p d (OutOfRom p)
+  bad_past : {p after : Place} {act : Act Place} (d : ℕ) → Stands F R p act after → GoesPast act → Outside R after → Bad F R p d (OutOfRom p)
   bad_past d (in_frame is act_is) goes outside = absurd outside
   bad_past d (in_rom spelled act_is) goes outside = past (in_rom spelled act_is) goes outside
 
-  bad_outside : {p : Place} (act : Act Place) (after : Place) (d : ℕ) → Stands F R p act after → LeadsOutside (way act after) → Bad F R p d (OutOfRom p)
+  bad_outside : {p : Place} (act : Act Place) (after : Place) (d : ℕ) → Stands F R p act after → LeadsOutside R (way act after) → Bad F R p d (OutOfRom p)
   bad_outside (Moves instr) after d stands outside = bad_past d stands tt outside
   bad_outside (Jumps q) after d stands outside = bad_target q d stands refl outside
   bad_outside (Calls q) after d stands outside = ⊎_elim (bad_target q d stands refl) (bad_past d stands tt) outside
@@ -120,7 +115,7 @@ module _ (F : List OpKind) (R : List ℕ) where
   bad_bare (Calls q) after d stands is depth = absurd is
   bad_bare Halts after d stands is depth = absurd is
 
-  bad_by : (p : Place) (d : ℕ) (act : Act Place) (after : Place) (fault : FrameFault) → Stands F R p act after → HasFaultAt (length F) (record { place = p; depth = d }) (way act after) fault → Bad F R p d fault
+  bad_by : (p : Place) (d : ℕ) (act : Act Place) (after : Place) (fault : FrameFault) → Stands F R p act after → HasFaultAt R (length F) (record { place = p; depth = d }) (way act after) fault → Bad F R p d fault
   bad_by p d act after (RunsOff i) stands has =
       subst (λ x. Bad F R x d (RunsOff i)) (sym has.0) (last (subst (λ x. Stands F R x act after) has.0 stands) (goes_past act after has.2) has.1)
   bad_by p d act after (OutOfRom q) stands has = subst (λ x. Bad F R p d (OutOfRom x)) has.0 (bad_outside act after d stands has.1)
@@ -129,20 +124,20 @@ module _ (F : List OpKind) (R : List ℕ) where
   bad_by p d act after _ stands has = absurd has
 
   -- and what is wrong on paper is wrong by the way
-  cut_stands : {a word : ℕ} {act : Act Place} {after : Place} → Stands F R (InRom a) act after → rom_word R a ≡ Some word → IsFirst word → IsOutside (a + 1) → ⊥
+  cut_stands : {a word : ℕ} {act : Act Place} {after : Place} → Stands F R (InRom a) act after → rom_word R a ≡ Some word → IsFirst word → IsOutside R (a + 1) → ⊥
   cut_stands {a} {word} (in_rom {instr = instr} spelled act_is) is first outside = cut_none R a word instr spelled is first outside
 
-  by_bad : {p : Place} {d : ℕ} {fault : FrameFault} (act : Act Place) (after : Place) → Stands F R p act after → Bad F R p d fault → HasFaultAt (length F) (record { place = p; depth = d }) (way act after) fault
+  by_bad : {p : Place} {d : ℕ} {fault : FrameFault} (act : Act Place) (after : Place) → Stands F R p act after → Bad F R p d fault → HasFaultAt R (length F) (record { place = p; depth = d }) (way act after) fault
   by_bad act after stands (last {act = b} {after = q} stood goes end) =
       let same = same_standing stood stands in
       (refl, end, subst (λ x. GoesOn (way act x)) same.1 (subst (λ x. GoesOn (way x q)) same.0 (past_goes b q goes)))
   by_bad act after stands (target {after = q} {a = a} {act = b} stood named outside) =
       let same = same_standing stood stands in
-      (refl, subst (λ x. LeadsOutside (way act x)) same.1 (subst (λ x. LeadsOutside (way x q)) same.0 (names_outside b q a named outside)))
+      (refl, subst (λ x. LeadsOutside R (way act x)) same.1 (subst (λ x. LeadsOutside R (way x q)) same.0 (names_outside R b q a named outside)))
   by_bad act after stands (second is first outside) = absurd (cut_stands stands is first outside)
   by_bad act after stands (past {b = e} {act = b} stood goes outside) =
       let same = same_standing stood stands in
-      (refl, subst (λ x. LeadsOutside (way act x)) same.1 (subst (λ x. LeadsOutside (way x (InRom e))) same.0 (past_outside b (InRom e) goes outside)))
+      (refl, subst (λ x. LeadsOutside R (way act x)) same.1 (subst (λ x. LeadsOutside R (way x (InRom e))) same.0 (past_outside R b (InRom e) goes outside)))
   by_bad act after stands (deep stood depth) =
       let same = same_standing stood stands in
       (refl, subst (λ x. IsCall (way x after)) same.0 tt, depth)
@@ -155,20 +150,20 @@ module _ (F : List OpKind) (R : List ℕ) where
       subst (λ x. StandsSo F R x seen) (sym place)
       (record { act = op_act kind; after = InFrame (i + 1); stands = in_frame (subst (λ k. slice_get F k ≡ Some op) n_is is) (ap op_act kind_is); is = seen_is })
 
-  pub least_there : (pair : Pair) (count : ℕ) (seen : Way) (fault : FrameFault) → count ≡ length F → StandsSo F R pair.place seen → IsLeast (HasFaultAt count pair seen) fault
+  pub least_there : (pair : Pair) (count : ℕ) (seen : Way) (fault : FrameFault) → count ≡ length F → StandsSo F R pair.place seen → IsLeast (HasFaultAt R count pair seen) fault
       → IsLeast (Bad F R pair.place pair.depth) fault
   least_there pair count seen fault count_is so found =
-      let here : IsLeast (HasFaultAt (length F) pair (way so.act so.after)) fault =
-      subst (λ x. IsLeast (HasFaultAt (length F) pair x) fault) so.is (subst (λ n. IsLeast (HasFaultAt n pair seen) fault) count_is found) in
+      let here : IsLeast (HasFaultAt R (length F) pair (way so.act so.after)) fault =
+      subst (λ x. IsLeast (HasFaultAt R (length F) pair x) fault) so.is (subst (λ n. IsLeast (HasFaultAt R n pair seen) fault) count_is found) in
       record {
         holds = bad_by pair.place pair.depth so.act so.after fault so.stands here.holds;
         least = λ other bad. here.least other (by_bad so.act so.after so.stands bad);
       }
 
-  pub fine_there : (pair : Pair) (count : ℕ) (seen : Way) → count ≡ length F → StandsSo F R pair.place seen → ((fault : FrameFault) → ¬ HasFaultAt count pair seen fault) → IsFine F R pair.place pair.depth
+  pub fine_there : (pair : Pair) (count : ℕ) (seen : Way) → count ≡ length F → StandsSo F R pair.place seen → ((fault : FrameFault) → ¬ HasFaultAt R count pair seen fault) → IsFine F R pair.place pair.depth
   fine_there pair count seen count_is so none fault bad =
-      let here : HasFaultAt (length F) pair (way so.act so.after) fault = by_bad so.act so.after so.stands bad in
-      none fault (subst (λ n. HasFaultAt n pair seen fault) (sym count_is) (subst (λ x. HasFaultAt (length F) pair x fault) (sym so.is) here))
+      let here : HasFaultAt R (length F) pair (way so.act so.after) fault = by_bad so.act so.after so.stands bad in
+      none fault (subst (λ n. HasFaultAt R n pair seen fault) (sym count_is) (subst (λ x. HasFaultAt R (length F) pair x fault) (sym so.is) here))
 
   -- where the ROM ends within an instruction, its second word lies outside
   cut_least : {p : Place} {d : ℕ} {fault : FrameFault} → EndsWithin R p → Bad F R p d fault → 6 ≤ number fault

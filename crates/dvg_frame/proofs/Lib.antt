@@ -12,6 +12,7 @@ pub mod Counts
 pub mod Walks
 pub mod Pictures
 pub mod Bounded
+pub mod Grown
 pub mod Turns
 pub mod Tabled
 pub mod Notes

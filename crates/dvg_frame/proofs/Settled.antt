@@ -1,6 +1,6 @@
 -- What the table says of the whole draft, once it has operation 0.
 use Rattle.std.proofs.Common.{◌≡◌, ℕ, suc, ◌+◌, ◌<◌, ◌≤◌, ◌^◌, List, Option, Some, refl, sym, ◌∙◌, subst, arith, true}
-use Rattle.dvg_mem.specs.Memory.{IsImage}
+use Rattle.dvg_mem.specs.Memory.{IsRom}
 use Rattle.dvg_gen.specs.declared.beam.Beam.{Beam}
 use Rattle.dvg_frame.specs.declared.op.OpKind.{OpKind}
 use Rattle.dvg_frame.specs.declared.pair.TheConstants.{DEEPEST}
@@ -32,7 +32,7 @@ module _ (F : List OpKind) (R : List ℕ) (begins : Begins F) (table : List (Opt
   pub deep_refused : DEEPEST < first.calls → IsRefused F R
   deep_refused deep all = let low = (known.tight all 0 begin).deep in absurd (omega arith)
 
-  module _ (image : IsImage R) (fits : FitsAt first 0) where
+  module _ (image : IsRom R) (fits : FitsAt first 0) where
     -- each reached pair has a place of the table that fits its depth
     all_fit : {p : Place} {d : ℕ} → Reached F R p d → GoesTo table p d
     all_fit begin = record { inside = inside; drawn = first; known = is; fits = fits }

@@ -14,7 +14,9 @@ use Rattle.dvg_frame.specs.declared.place.Place.{Place}
 use Rattle.dvg_frame.specs.declared.place.Place.TheVariants.{InFrame, InRom}
 use Rattle.dvg_frame.specs.declared.place.FrameFault.{FrameFault}
 use Rattle.dvg_frame.specs.declared.place.FrameFault.TheVariants.{RunsOff, OutOfRom, TooDeep}
-use Rattle.dvg_frame.specs.declared.pair.TheConstants.{DEEPEST, ROM_FIRST, ROM_END}
+use Rattle.dvg_frame.specs.declared.pair.TheConstants.{DEEPEST, ROM_END}
+use Rattle.dvg_mem.specs.Memory.{first_word}
+use Rattle.dvg_mem.proofs.Roms.{behind_ram}
 use Rattle.dvg_frame.specs.declared.pair.Pair.{Pair}
 use Rattle.dvg_frame.specs.declared.way.Way.{Way}
 use Rattle.dvg_frame.specs.declared.way.Way.TheVariants.{Move, Jump, Call}
@@ -52,9 +54,9 @@ precedes one other a b below = by_places one.place other.place one.depth other.d
     by_places (InRom x) (InFrame j) d e g h l m below = omega arith
     by_places (InRom x) (InRom y) d e g h l m below = ⊎_elim (λ less. inl less) (λ no_less. let same : x ≡ y = omega arith in inr (same, omega arith)) (cases_lt x y)
 
-pub in_place : (F : List OpKind) (p : Place) → IsPlaceOf F p → IsPlace p
-in_place F (InFrame i) inside = inside.1
-in_place F (InRom a) inside = inside
+pub in_place : (F : List OpKind) (R : List ℕ) (p : Place) → IsPlaceOf F R p → IsPlace p
+in_place F R (InFrame i) inside = inside.1
+in_place F R (InRom a) inside = let behind = behind_ram R in let low = inside.0 in (omega arith, inside.1)
 
 -- no instruction of the ROM names an operation
 rom_names : (instr : Instr) (j : ℕ) → Names (act_by InRom instr) (InFrame j) → ⊥
@@ -66,9 +68,9 @@ rom_names Rtsl j named = named
 rom_names (Jmpl a) j named = let is : InRom a ≡ InFrame j = named in cc
 rom_names (Svec scale dx dy z) j named = named
 
-inside_rom : (F : List OpKind) (a : ℕ) → ¬ IsOutside a → IsPlaceOf F (InRom a)
-inside_rom F a not_outside =
-    let low : ROM_FIRST ≤ a = ⊎_elim (λ below. absurd (not_outside (inl below))) (λ no_less. no_less) (cases_lt a ROM_FIRST) in
+inside_rom : (F : List OpKind) (R : List ℕ) (a : ℕ) → ¬ IsOutside R a → IsPlaceOf F R (InRom a)
+inside_rom F R a not_outside =
+    let low : first_word R ≤ a = ⊎_elim (λ below. absurd (not_outside (inl below))) (λ no_less. no_less) (cases_lt a (first_word R)) in
     let high : a < ROM_END = ⊎_elim (λ below. below) (λ far. absurd (not_outside (inr far))) (cases_lt a ROM_END) in
     (low, high)
 
@@ -105,21 +107,21 @@ some_op F labs = omega arith
 
 module _ (F : List OpKind) (R : List ℕ) (few : length F ≤ 511) (begins : Begins F) where
   -- a fine place leads to places of the draft and the ROM
-  pub after_in : {p q : Place} {act : Act Place} (d : ℕ) → Stands F R p act q → GoesPast act → IsFine F R p d → IsPlaceOf F q
+  pub after_in : {p q : Place} {act : Act Place} (d : ℕ) → Stands F R p act q → GoesPast act → IsFine F R p d → IsPlaceOf F R q
   after_in d (in_frame {i = i} {op = op} is act_is) goes fine =
       let within = slice_get_within F i op is in
       let not_last : i + 1 ≢ length F = λ end. fine (RunsOff i) (last (in_frame is act_is) goes end) in
       (omega arith, omega arith)
-  after_in d (in_rom {a = a} spelled act_is) goes fine = inside_rom F _ (λ outside. fine (OutOfRom (InRom a)) (past (in_rom spelled act_is) goes outside))
+  after_in d (in_rom {a = a} spelled act_is) goes fine = inside_rom F R _ (λ outside. fine (OutOfRom (InRom a)) (past (in_rom spelled act_is) goes outside))
 
-  pub target_in : {p after : Place} {act : Act Place} (q : Place) (d : ℕ) → Stands F R p act after → Names act q → IsFine F R p d → IsPlaceOf F q
+  pub target_in : {p after : Place} {act : Act Place} (q : Place) (d : ℕ) → Stands F R p act after → Names act q → IsFine F R p d → IsPlaceOf F R q
   target_in (InFrame j) d (in_frame {i = i} {op = op} is act_is) named fine =
       let below : j < length F = ⊎_elim (λ less. less) (λ far. absurd (begins.targets i (misses is (subst (λ x. Names x (InFrame j)) act_is named) far))) (cases_lt j (length F)) in
       (below, omega arith)
   target_in (InFrame j) d (in_rom {instr = instr} spelled act_is) named fine = absurd (rom_names instr j (subst (λ x. Names x (InFrame j)) act_is named))
-  target_in {p} (InRom a) d stands named fine = inside_rom F a (λ outside. fine (OutOfRom p) (target stands named outside))
+  target_in {p} (InRom a) d stands named fine = inside_rom F R a (λ outside. fine (OutOfRom p) (target stands named outside))
 
-  reached_in : {p : Place} {d : ℕ} → Reached F R p d → IsPlaceOf F p × (d ≤ DEEPEST)
+  reached_in : {p : Place} {d : ℕ} → Reached F R p d → IsPlaceOf F R p × (d ≤ DEEPEST)
   reached_in begin = let some = some_op F begins.begins in ((some, omega arith), omega arith)
   reached_in (step {d = d} reached fine (on stands)) = let before = reached_in reached in (after_in d stands tt fine, before.1)
   reached_in (step {d = d} reached fine (jump {q = q} stands)) = let before = reached_in reached in (target_in q d stands refl fine, before.1)
@@ -130,18 +132,18 @@ module _ (F : List OpKind) (R : List ℕ) (few : length F ≤ 511) (begins : Beg
       (target_in q d stands refl fine, omega arith)
   reached_in (step {d = d} reached fine (back stands)) = let before = reached_in reached in (after_in d stands tt fine, before.1)
 
-  pub pair_in : (pair : Pair) → ReachedPair F R pair → IsPlaceOf F pair.place
+  pub pair_in : (pair : Pair) → ReachedPair F R pair → IsPlaceOf F R pair.place
   pair_in pair reached = (reached_in reached).0
 
   pub reached_pair : (pair : Pair) → ReachedPair F R pair → IsPair pair
-  reached_pair pair reached = let both = reached_in reached in record { place = in_place F pair.place both.0; depth = both.1 }
+  reached_pair pair reached = let both = reached_in reached in record { place = in_place F R pair.place both.0; depth = both.1 }
 
   stays_by : (p : Place) (act : Act Place) (after : Place) (d : ℕ) → Stands F R p act after → d ≤ DEEPEST → IsFine F R p d → StaysIn (way act after) d
-  stays_by p (Moves instr) after d stands low fine = in_place F after (after_in d stands tt fine)
-  stays_by p (Jumps q) after d stands low fine = in_place F q (target_in q d stands refl fine)
+  stays_by p (Moves instr) after d stands low fine = in_place F R after (after_in d stands tt fine)
+  stays_by p (Jumps q) after d stands low fine = in_place F R q (target_in q d stands refl fine)
   stays_by p (Calls q) after d stands low fine =
       let not_deep : d ≢ DEEPEST = λ is. fine (TooDeep p) (deep stands is) in
-      (in_place F q (target_in q d stands refl fine), in_place F after (after_in d stands tt fine), omega arith)
+      (in_place F R q (target_in q d stands refl fine), in_place F R after (after_in d stands tt fine), omega arith)
   stays_by p Returns after d stands low fine = tt
   stays_by p Halts after d stands low fine = tt
 

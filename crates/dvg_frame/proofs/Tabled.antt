@@ -309,7 +309,7 @@ module _ (F : List OpKind) (R : List ℕ) (table : List (Option Drawn)) (p : Pla
     by_halt new is new_is = let it = seen_as Halt is in known_halt it.0 new it.1 new_is
 
   pub here_place : IsPlace p
-  here_place = in_place F p ready.good.inside
+  here_place = in_place F R p ready.good.inside
 
 -- what is known stays so where the table keeps what it has
 pub known_keeps : (F : List OpKind) (R : List ℕ) (old new : List (Option Drawn)) (p : Place) (drawn : Drawn) → KeepsKnown old new → IsKnown F R old p drawn → IsKnown F R new p drawn
@@ -388,29 +388,29 @@ module _ (F : List OpKind) (R : List ℕ) (d : ℕ) where
   not_within (InFrame i) fine never = never
   not_within (InRom a) fine it = fine (OutOfRom (InRom a)) (second it.1 it.2 (inr (omega (arith, it.3))))
 
-  pub good_by : (p : Place) → IsPlaceOf F p → IsFine F R p d → (AllFine F R → Reached F R p d) → IsGood F R d p
+  pub good_by : (p : Place) → IsPlaceOf F R p → IsFine F R p d → (AllFine F R → Reached F R p d) → IsGood F R d p
   good_by p inside fine reached = record { inside = inside; fine = fine; reached = reached }
 
-pub has_some : (F : List OpKind) (table : List (Option Drawn)) (p : Place) → IsPlaceOf F p → (known : Option Drawn) (some : Bool) → known_at table p ≡ known → some ≡ is_some known → some ≡ true → HasPlace table p
-has_some F table p inside None some is some_is holds = let never : false ≡ true = sym some_is ∙ holds in absurd cc
-has_some F table p inside (Some drawn) some is some_is holds = (in_place F p inside, (drawn, is))
+pub has_some : (F : List OpKind) (R : List ℕ) (table : List (Option Drawn)) (p : Place) → IsPlaceOf F R p → (known : Option Drawn) (some : Bool) → known_at table p ≡ known → some ≡ is_some known → some ≡ true → HasPlace table p
+has_some F R table p inside None some is some_is holds = let never : false ≡ true = sym some_is ∙ holds in absurd cc
+has_some F R table p inside (Some drawn) some is some_is holds = (in_place F R p inside, (drawn, is))
 
 module _ (F : List OpKind) (R : List ℕ) (begins : Begins F) (d : ℕ) where
   -- where a place without a fault leads on to, there is a place
-  pub goes_in : (p q : Place) → IsFine F R p d → StepsOn F R p q → IsPlaceOf F q
+  pub goes_in : (p q : Place) → IsFine F R p d → StepsOn F R p q → IsPlaceOf F R q
   goes_in p q fine goes = by_goes goes.act goes.after goes.stands goes.next
     where
-      by_goes : (act : Act Place) (after : Place) → Stands F R p act after → Next act after q → IsPlaceOf F q
-      by_goes (Moves instr) after stands is = subst (IsPlaceOf F) is (after_in F R (few_ops F begins) begins d stands tt fine)
-      by_goes (Jumps to) after stands is = subst (IsPlaceOf F) is (target_in F R (few_ops F begins) begins to d stands refl fine)
-      by_goes (Calls to) after stands is = subst (IsPlaceOf F) is (after_in F R (few_ops F begins) begins d stands tt fine)
+      by_goes : (act : Act Place) (after : Place) → Stands F R p act after → Next act after q → IsPlaceOf F R q
+      by_goes (Moves instr) after stands is = subst (IsPlaceOf F R) is (after_in F R (few_ops F begins) begins d stands tt fine)
+      by_goes (Jumps to) after stands is = subst (IsPlaceOf F R) is (target_in F R (few_ops F begins) begins to d stands refl fine)
+      by_goes (Calls to) after stands is = subst (IsPlaceOf F R) is (after_in F R (few_ops F begins) begins d stands tt fine)
       by_goes GoesBack after stands is = absurd is
       by_goes Stops after stands is = absurd is
 
   pub goes_good : (p q : Place) → IsGood F R d p → StepsOn F R p q → AllFine F R → Reached F R q d
   goes_good p q good goes all = step (good.reached all) good.fine (leads_from F R p q d goes)
 
-  pub call_in : (p to after : Place) → IsGood F R d p → Stands F R p (Calls to) after → IsPlaceOf F to
+  pub call_in : (p to after : Place) → IsGood F R d p → Stands F R p (Calls to) after → IsPlaceOf F R to
   call_in p to after good stands = target_in F R (few_ops F begins) begins to d stands refl good.fine
 
   pub call_low : (p to after : Place) → IsGood F R d p → Stands F R p (Calls to) after → d ≡ 4 → ⊥
@@ -571,7 +571,7 @@ module _ (F : List OpKind) (R : List ℕ) (begins : Begins F) (d : ℕ) where
       stands : Stands F R p (Calls to) after
       stands = call_stands F R p to after seen so is
 
-      pub to_in : IsPlaceOf F to
+      pub to_in : IsPlaceOf F R to
       to_in = call_in F R begins d p to after last.good stands
 
       pub to_low : d ≡ 4 → ⊥

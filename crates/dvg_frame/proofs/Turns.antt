@@ -1,12 +1,13 @@
 -- So many steps at one depth come to a place twice, and then come to no end.
-use Rattle.std.proofs.Common.{◌≡◌, ℕ, suc, ◌+◌, ◌-◌, ◌/◌, ◌<◌, ◌⊎◌, inl, inr, ⊎_elim, List, [], ◌∷◌, length, refl, sym, ap, ◌∙◌, subst, arith, true, false}
+use Rattle.std.proofs.Common.{◌≡◌, ℕ, suc, ◌+◌, ◌-◌, ◌<◌, ◌⊎◌, inl, inr, ⊎_elim, List, [], ◌∷◌, length, refl, sym, ap, ◌∙◌, subst, arith, true, false}
 use Rattle.std.specs.Prelude.{◌||◌}
 use Rattle.std.specs.List.{AllByRecursion, IsDistinct, list_any}
 use Rattle.std.proofs.Math.Dec.{eqb}
 use Rattle.std.proofs.lemmas.Bool.{eqb-true, cases_Bool, or_cases}
 use Rattle.std.proofs.lemmas.Map.Keys.{IsDistinct-cons}
 use Rattle.std.proofs.lemmas.Map.Steps.{length-le_from_distinct_below}
-use Rattle.dvg_mem.specs.Memory.{IsImage}
+use Rattle.dvg_mem.specs.Memory.{IsRom, first_word}
+use Rattle.dvg_mem.proofs.Roms.{words_from_first}
 use Rattle.dvg_frame.specs.declared.op.OpKind.{OpKind}
 use Rattle.dvg_frame.specs.declared.place.Place.{Place}
 use Rattle.dvg_frame.specs.declared.place.Place.TheVariants.{InFrame, InRom}
@@ -30,20 +31,20 @@ one_distinct : (x : ℕ) → IsDistinct eqb (x ∷ [])
 unfolding IsDistinct
 one_distinct x = (tt, tt)
 
-module _ (F : List OpKind) (R : List ℕ) (image : IsImage R) (closed : Closed F R) where
-  place_in : (p : Place) (d : ℕ) → Reached F R p d → IsPlaceOf F p
+module _ (F : List OpKind) (R : List ℕ) (image : IsRom R) (closed : Closed F R) where
+  place_in : (p : Place) (d : ℕ) → Reached F R p d → IsPlaceOf F R p
   place_in p d reached = let begins = begins_of F R closed in pair_in F R (few_ops F begins) begins (pair_of p d) reached
 
   -- the places are numbered, each once
   abbrev numbered : Place → ℕ
   numbered (InFrame i) = i
-  numbered (InRom a) = length F + (a - 0x800)
+  numbered (InRom a) = length F + (a - first_word R)
 
-  numbered_low : (p : Place) → IsPlaceOf F p → numbered p < places F R
+  numbered_low : (p : Place) → IsPlaceOf F R p → numbered p < places F R
   numbered_low (InFrame i) inside = let below = inside.0 in omega arith
-  numbered_low (InRom a) inside = let words : length R / 2 ≡ 1024 = ap (λ n. n / 2) image.count in omega arith
+  numbered_low (InRom a) inside = let words = words_from_first R image in let low = inside.0 in let high = inside.1 in omega arith
 
-  numbered_once : (p q : Place) → IsPlaceOf F p → IsPlaceOf F q → numbered p ≡ numbered q → p ≡ q
+  numbered_once : (p q : Place) → IsPlaceOf F R p → IsPlaceOf F R q → numbered p ≡ numbered q → p ≡ q
   numbered_once (InFrame i) (InFrame j) a b same = ap InFrame same
   numbered_once (InFrame i) (InRom y) a b same = let below = a.0 in absurd (omega arith)
   numbered_once (InRom x) (InFrame j) a b same = let below = b.0 in absurd (omega arith)

@@ -1,13 +1,11 @@
 -- The words of the ROM, and what stands there by their opcodes.
-use Rattle.std.proofs.Common.{◌≡◌, ℕ, ◌+◌, ◌-◌, ◌*◌, ◌%◌, ◌<◌, ◌≤◌, List, [], ◌∷◌, Some, None, cond, refl, sym, ap, ◌∙◌, arith}
-use Rattle.std.specs.Prelude.{slice_index, nat_lt, ◌&&◌}
-use Rattle.std.proofs.lemmas.Bool.{le-leb, lt-ltb}
-use Rattle.std.proofs.lemmas.List.Elements.{All-get_or}
+use Rattle.std.proofs.Common.{◌≡◌, ℕ, ◌+◌, ◌-◌, ◌%◌, ◌<◌, ◌≤◌, List, [], ◌∷◌, Some, refl, sym, ap, ◌∙◌, arith}
 use Rattle.dvg_code.specs.declared.instr.Instr.{Instr}
 use Rattle.dvg_code.specs.Spelling.{Spells, IsFirst, word_count, vctr, labs, halt, jsrl, rtsl, jmpl, svec}
 use Rattle.dvg_code.specs.Words.{IsWord, word_in}
 use Rattle.dvg_code.proofs.Beginnings.{one_word, two_words}
-use Rattle.dvg_mem.specs.Memory.{IsImage, rom_word}
+use Rattle.dvg_mem.specs.Memory.{IsRom, first_word, rom_word}
+use Rattle.dvg_mem.proofs.Roms.{rom_there, word_fits}
 use Rattle.dvg_frame.specs.declared.op.OpKind.{OpKind}
 use Rattle.dvg_code.specs.Acts.{act_by}
 use Rattle.dvg_frame.specs.declared.place.Place.{Place}
@@ -15,21 +13,6 @@ use Rattle.dvg_frame.specs.declared.place.Place.TheVariants.{InRom}
 use Rattle.dvg_frame.specs.declared.way.Way.TheVariants.{Move, Jump, Call, Return, Halt}
 use Rattle.dvg_frame.specs.Steps.{one, two, in_rom}
 use Rattle.dvg_frame.specs.Ways.{way, StandsSo}
-
--- a word of an image fits
-byte_fits : (R : List ℕ) (j : ℕ) → IsImage R → j < 2048 → slice_index R j < 256
-byte_fits R j image within = let count = image.count in All-get_or (λ byte. byte < 256) R j 0 (omega arith) image.bytes
-
-pub word_fits : (R : List ℕ) (k : ℕ) → IsImage R → k < 1024 → IsWord (word_in R k)
-word_fits R k image within =
-    let low = byte_fits R (2 * k) image (omega arith) in
-    let high = byte_fits R (2 * k + 1) image (omega arith) in
-    omega arith
-
-pub rom_there : (R : List ℕ) (a : ℕ) → 0x800 ≤ a → a < 0xC00 → rom_word R a ≡ Some (word_in R (a - 0x800))
-rom_there R a low high =
-    ap (λ b. cond (b && nat_lt a 0xC00) (Some (word_in R (a - 0x800))) None) (le-leb 0x800 a low)
-    ∙ ap (λ b. cond b (Some (word_in R (a - 0x800))) None) (lt-ltb a 0xC00 high)
 
 -- an instruction of two words, or one of opcode F, leads to the place after it
 long_moves : {first second : ℕ} {instr : Instr} (after : Place) → Spells instr (first ∷ second ∷ []) → (way (act_by InRom instr) after ≡ Move after 2) × (word_count instr ≡ 2)
@@ -67,9 +50,9 @@ module _ (F : List OpKind) (R : List ℕ) (a word : ℕ) (there : rom_word R a �
       let kind = short_moves (InRom (a + word_count instr)) low spelled.1 in
       record { act = _; after = _; stands = in_rom (one there spelled.1) refl; is = ap (λ n. Move (InRom (a + n)) 1) (sym kind.1) ∙ sym kind.0 }
 
-  pub stands_long : IsImage R → 2048 ≤ a → a + 1 < 3072 → IsFirst word → StandsSo F R (InRom a) (Move (InRom (a + 2)) 2)
+  pub stands_long : IsRom R → first_word R ≤ a → a + 1 < 0xC00 → IsFirst word → StandsSo F R (InRom a) (Move (InRom (a + 2)) 2)
   stands_long image low high first =
       let next_there = rom_there R (a + 1) (omega arith) high in
-      let spelled = two_words word (word_in R (a + 1 - 0x800)) first (word_fits R (a + 1 - 0x800) image (omega arith)) in
+      let spelled = two_words word (word_in R (a + 1 - first_word R)) first (word_fits R (a + 1) image (omega arith) high) in
       let kind = long_moves (InRom (a + word_count spelled.0)) spelled.1 in
       record { act = _; after = _; stands = in_rom (two there next_there spelled.1) refl; is = ap (λ n. Move (InRom (a + n)) 2) (sym kind.1) ∙ sym kind.0 }

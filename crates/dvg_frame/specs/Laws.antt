@@ -3,7 +3,7 @@ use Rattle.std.specs.Prelude.{◌≡◌, ◌<◌, ◌^◌, ◌↔◌, ℕ, List,
 use Rattle.dvg_frame.specs.declared.op.OpKind.{OpKind}
 use Rattle.dvg_frame.specs.declared.place.FrameFault.{FrameFault}
 use Rattle.dvg_gen.specs.declared.stroke.Stroke.{Stroke}
-use Rattle.dvg_mem.specs.Memory.{IsImage}
+use Rattle.dvg_mem.specs.Memory.{IsGrown, IsRom, first_word}
 use Rattle.dvg_frame.specs.Steps.{Closed}
 use Rattle.dvg_frame.specs.Picture.{IsPicture}
 use Rattle.dvg_frame.specs.Loops.{HasLoop, ComesBack}
@@ -24,9 +24,14 @@ OneAnswer F R = (answer : Result FrameState FrameFault) × IsChecked F R answer
 
 -- a draft with no fault and no loop has exactly one picture, of fewer than 2^63 words
 abbrev pub OnePicture : Type 0
-OnePicture = (F : List OpKind) (R : List ℕ) → IsImage R → Accepts F R
+OnePicture = (F : List OpKind) (R : List ℕ) → IsRom R → Accepts F R
     → (strokes : List Stroke) × (n : ℕ) × IsPicture F R strokes n × (n < 2 ^ 63) × ((others : List Stroke) (m : ℕ) → IsPicture F R others m → (others ≡ strokes) × (m ≡ n))
 
 -- a draft without the faults 1 to 8 has a loop exactly where a reached pair comes back to itself
 abbrev pub LoopsComeBack : Type 0
-LoopsComeBack = (F : List OpKind) (R : List ℕ) → IsImage R → Closed F R → (HasLoop F R ↔ ComesBack F R)
+LoopsComeBack = (F : List OpKind) (R : List ℕ) → IsRom R → Closed F R → (HasLoop F R ↔ ComesBack F R)
+
+-- a draft without the faults 1 to 8 has none over the ROM that a smaller one grows to, and the same pictures
+abbrev pub GrownStays : Type 0
+GrownStays = (F : List OpKind) (R grown : List ℕ) → IsGrown R grown → first_word R ≡ 0x800 → Closed F R
+    → Closed F grown × ((strokes : List Stroke) (n : ℕ) → IsPicture F grown strokes n ↔ IsPicture F R strokes n)

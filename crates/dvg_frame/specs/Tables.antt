@@ -105,7 +105,7 @@ pub record StepsOn (F : List OpKind) (R : List ℕ) (p q : Place) : Type 0 where
 
 -- a place without a fault at this depth, which is reached there if no reached pair has a fault
 pub record IsGood (F : List OpKind) (R : List ℕ) (d : ℕ) (p : Place) : Type 0 where
-  pub inside : IsPlaceOf F p
+  pub inside : IsPlaceOf F R p
   pub fine : IsFine F R p d
   pub reached : AllFine F R → Reached F R p d
 

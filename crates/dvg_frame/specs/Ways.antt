@@ -2,7 +2,7 @@
 use Rattle.std.specs.Prelude.{◌≡◌, ℕ, ◌+◌, ◌<◌, ◌≤◌, ◌⊎◌, List, length, Some}
 use Rattle.dvg_code.specs.Spelling.{IsFirst, word_count}
 use Rattle.dvg_code.specs.Acts.{Act, Moves, Jumps, Calls, Returns, Halts}
-use Rattle.dvg_mem.specs.Memory.{rom_word}
+use Rattle.dvg_mem.specs.Memory.{first_word, rom_word}
 use Rattle.dvg_frame.specs.declared.draft.TheConstants.{MAX_OPS}
 use Rattle.dvg_frame.specs.declared.op.OpKind.{OpKind}
 use Rattle.dvg_frame.specs.declared.place.Place.{Place}
@@ -10,7 +10,7 @@ use Rattle.dvg_frame.specs.declared.place.Place.TheVariants.{InFrame, InRom}
 use Rattle.dvg_frame.specs.declared.place.FrameFault.{FrameFault}
 use Rattle.dvg_frame.specs.declared.place.FrameFault.TheVariants.{Empty, NoLabs, TooLong, Target, RunsOff, OutOfRom, TooDeep, NoCaller, Loops}
 use Rattle.dvg_frame.specs.declared.pair.Pair.{Pair}
-use Rattle.dvg_frame.specs.declared.pair.TheConstants.{DEEPEST, ROM_FIRST, ROM_END}
+use Rattle.dvg_frame.specs.declared.pair.TheConstants.{DEEPEST, ROM_END}
 use Rattle.dvg_frame.specs.declared.way.Way.{Way}
 use Rattle.dvg_frame.specs.declared.way.Way.TheVariants.{Move, Jump, Call, Return, Halt}
 use Rattle.dvg_frame.specs.Steps.{Stands, IsOutside}
@@ -32,9 +32,9 @@ pub record StandsSo (F : List OpKind) (R : List ℕ) (p : Place) (seen : Way) : 
   pub is : seen ≡ way act after
 
 -- this is an operation of the draft or a word of the ROM
-abbrev pub IsPlaceOf : List OpKind → Place → Type 0
-IsPlaceOf F (InFrame i) = (i < length F) × (i < MAX_OPS)
-IsPlaceOf F (InRom a) = (ROM_FIRST ≤ a) × (a < ROM_END)
+abbrev pub IsPlaceOf : List OpKind → List ℕ → Place → Type 0
+IsPlaceOf F R (InFrame i) = (i < length F) × (i < MAX_OPS)
+IsPlaceOf F R (InRom a) = (first_word R ≤ a) × (a < ROM_END)
 
 -- the ROM ends within the instruction at this place
 abbrev pub EndsWithin : List ℕ → Place → Type 0
@@ -50,17 +50,17 @@ GoesOn Return = ⊥
 GoesOn Halt = ⊥
 
 -- a place at an address outside the ROM
-abbrev pub Outside : Place → Type 0
-Outside (InFrame i) = ⊥
-Outside (InRom a) = IsOutside a
+abbrev pub Outside : List ℕ → Place → Type 0
+Outside R (InFrame i) = ⊥
+Outside R (InRom a) = IsOutside R a
 
 -- it leads to such a place
-abbrev pub LeadsOutside : Way → Type 0
-LeadsOutside (Move after words) = Outside after
-LeadsOutside (Jump to) = Outside to
-LeadsOutside (Call to after) = Outside to ⊎ Outside after
-LeadsOutside Return = ⊥
-LeadsOutside Halt = ⊥
+abbrev pub LeadsOutside : List ℕ → Way → Type 0
+LeadsOutside R (Move after words) = Outside R after
+LeadsOutside R (Jump to) = Outside R to
+LeadsOutside R (Call to after) = Outside R to ⊎ Outside R after
+LeadsOutside R Return = ⊥
+LeadsOutside R Halt = ⊥
 
 -- it is a call
 abbrev pub IsCall : Way → Type 0
@@ -79,16 +79,16 @@ IsReturn Return = Unit {0}
 IsReturn Halt = ⊥
 
 -- the fault holds at a pair among so many operations, where this is the way on
-abbrev pub HasFaultAt : ℕ → Pair → Way → FrameFault → Type 0
-HasFaultAt count pair seen Empty = ⊥
-HasFaultAt count pair seen NoLabs = ⊥
-HasFaultAt count pair seen TooLong = ⊥
-HasFaultAt count pair seen (Target i) = ⊥
-HasFaultAt count pair seen (RunsOff i) = (pair.place ≡ InFrame i) × (i + 1 ≡ count) × GoesOn seen
-HasFaultAt count pair seen (OutOfRom p) = (pair.place ≡ p) × LeadsOutside seen
-HasFaultAt count pair seen (TooDeep p) = (pair.place ≡ p) × IsCall seen × (pair.depth ≡ DEEPEST)
-HasFaultAt count pair seen (NoCaller p) = (pair.place ≡ p) × IsReturn seen × (pair.depth ≡ 0)
-HasFaultAt count pair seen Loops = ⊥
+abbrev pub HasFaultAt : List ℕ → ℕ → Pair → Way → FrameFault → Type 0
+HasFaultAt R count pair seen Empty = ⊥
+HasFaultAt R count pair seen NoLabs = ⊥
+HasFaultAt R count pair seen TooLong = ⊥
+HasFaultAt R count pair seen (Target i) = ⊥
+HasFaultAt R count pair seen (RunsOff i) = (pair.place ≡ InFrame i) × (i + 1 ≡ count) × GoesOn seen
+HasFaultAt R count pair seen (OutOfRom p) = (pair.place ≡ p) × LeadsOutside R seen
+HasFaultAt R count pair seen (TooDeep p) = (pair.place ≡ p) × IsCall seen × (pair.depth ≡ DEEPEST)
+HasFaultAt R count pair seen (NoCaller p) = (pair.place ≡ p) × IsReturn seen × (pair.depth ≡ 0)
+HasFaultAt R count pair seen Loops = ⊥
 
 -- this fault holds, and none of a lesser number does
 pub record IsLeast (Holds : FrameFault → Type 0) (fault : FrameFault) : Type 0 where

@@ -1,6 +1,6 @@
 //! What is drawn from each place, whether a run from it breaks, and whether steps at one depth come to no end.
 ghost use Rattle.std.specs.Prelude.{◌≡◌, ◌+◌, ◌*◌, ◌<◌, ◌≤◌, ◌^◌, ℕ, List, Some, None, length, Option, MatchOption, MatchBool};
-ghost use Rattle.dvg_mem.specs.Memory.{IsImage};
+ghost use Rattle.dvg_mem.specs.Memory.{IsRom};
 ghost use Rattle.dvg_frame.specs.Faults.{Accepts, Begins};
 ghost use Rattle.dvg_frame.specs.Picture.{IsBound};
 ghost use Rattle.dvg_frame.specs.Steps.{IsFine};
@@ -127,9 +127,9 @@ fn follow<A: Allocator>(
     chain: &mut Chain,
     start: Pair,
 ) -> bool
-    requires image { IsImage rom.now }
+    requires rom { IsRom rom.now }
     requires begins { Begins draft.now }
-    requires inside { IsPlaceOf draft.now start.place }
+    requires inside { IsPlaceOf draft.now rom.now start.place }
     requires depth { start.depth ≤ DEEPEST }
     requires reached { AllFine draft.now rom.now → ReachedPair draft.now rom.now start }
     requires room { length chain.old ≤ start.depth * LONGEST }
@@ -160,8 +160,8 @@ fn follow<A: Allocator>(
 // How a place without a fault leads on.
 #[inline(always)]
 fn way_on<A: Allocator>(draft: &Draft, rom: &Rom<A>, place: Place) -> Way
-    requires image { IsImage rom.now }
-    requires inside { IsPlaceOf draft.now place }
+    requires rom { IsRom rom.now }
+    requires inside { IsPlaceOf draft.now rom.now place }
     requires fine { (d : ℕ) × IsFine draft.now rom.now place d }
     ensures { StandsSo draft.now rom.now place result }
 {
@@ -180,9 +180,9 @@ fn settle<A: Allocator>(
     chain: &mut Chain,
     start: Pair,
 ) -> bool
-    requires image { IsImage rom.now }
+    requires rom { IsRom rom.now }
     requires begins { Begins draft.now }
-    requires inside { IsPlaceOf draft.now start.place }
+    requires inside { IsPlaceOf draft.now rom.now start.place }
     requires depth { start.depth ≤ DEEPEST }
     requires reached { AllFine draft.now rom.now → ReachedPair draft.now rom.now start }
     requires room { length chain.old ≤ start.depth * LONGEST }
@@ -224,7 +224,7 @@ pub(crate) fn bound_of<A: Allocator>(
     table: &mut Table,
     chain: &mut Chain,
 ) -> Option<u64>
-    requires image { IsImage rom.now }
+    requires rom { IsRom rom.now }
     requires begins { Begins draft.now }
     requires none { HasNone table.old }
     ensures { MatchOption result (IsRefused draft.now rom.now) (λ n. Accepts draft.now rom.now × IsBound draft.now rom.now n × (n < 2 ^ 63)) }

@@ -1,6 +1,6 @@
 //! The check of a draft.
 ghost use Rattle.std.specs.Prelude.{◌≡◌, ◌^◌, [], ℕ, ◌<◌, ◌↔◌, List, IsTrue, MatchOption, MatchResult};
-ghost use Rattle.dvg_mem.specs.Memory.{IsImage};
+ghost use Rattle.dvg_mem.specs.Memory.{IsRom};
 ghost use Rattle.dvg_frame.specs.Faults.{Accepts, Begins, IsChecked, Misses, Refuses};
 ghost use Rattle.dvg_frame.specs.Firsts.{DrawsLabs, NamesNone};
 ghost use Rattle.dvg_frame.specs.Frames.{IsFrame};
@@ -91,7 +91,7 @@ fn words_or_fault(draft: &Draft) -> Result<u16, FrameFault>
 }
 
 /// The tables of the check, kept from one check to the next: a check takes time for the operations and for
-/// the places and pairs that it reaches, and none for the size of the tables. They are about 125 KB.
+/// the places and pairs that it reaches, and none for the size of the tables. They are about 208 KB.
 #[derive(Drop)]
 pub struct Checker {
     reached: Worklist,
@@ -140,7 +140,7 @@ impl Checker {
             Ok(words) => words,
             Err(fault) => return Err(fault),
         };
-        // A ROM is an image of 2,048 bytes, as its type says.
+        // A ROM has 2,048 or 4,096 bytes, as its type says.
         let _ = rom.len_words();
         let bound = bound_of(draft, rom, &mut self.table, &mut self.chain);
         self.table.clear();
@@ -158,7 +158,7 @@ impl Checker {
 // The fault that is picked of a draft that has one behind the first four, or a loop. The list has no pair at first,
 // and the reached ones at the end.
 fn fault_of<A: Allocator>(draft: &Draft, rom: &Rom<A>, list: &mut Worklist) -> FrameFault
-    requires image { IsImage rom.now }
+    requires rom { IsRom rom.now }
     requires empty { list.old ≡ [] }
     requires begins { Begins draft.now }
     requires refused { IsRefused draft.now rom.now }
@@ -178,7 +178,7 @@ pub fn check<A: Allocator>(draft: &Draft, rom: &Rom<A>) -> Result<Frame, FrameFa
     if let Err(fault) = words_or_fault(draft) {
         return Err(fault);
     }
-    // A ROM is an image of 2,048 bytes, as its type says.
+    // A ROM has 2,048 or 4,096 bytes, as its type says.
     let _ = rom.len_words();
     match bound_anew(draft, rom) {
         Some(bound) => Ok(Frame::of(draft, bound)),
@@ -189,7 +189,7 @@ pub fn check<A: Allocator>(draft: &Draft, rom: &Rom<A>) -> Result<Frame, FrameFa
 // As `bound_of`, with new tables. They lie in a call of their own: where none is wanted, no room is made for them.
 #[inline(never)]
 fn bound_anew<A: Allocator>(draft: &Draft, rom: &Rom<A>) -> Option<u64>
-    requires image { IsImage rom.now }
+    requires rom { IsRom rom.now }
     requires begins { Begins draft.now }
     ensures { MatchOption result (IsRefused draft.now rom.now) (λ n. Accepts draft.now rom.now × IsBound draft.now rom.now n × (n < 2 ^ 63)) }
 {
@@ -199,7 +199,7 @@ fn bound_anew<A: Allocator>(draft: &Draft, rom: &Rom<A>) -> Option<u64>
 // As `fault_of`, with a new list, which lies in a call of its own.
 #[inline(never)]
 fn fault_anew<A: Allocator>(draft: &Draft, rom: &Rom<A>) -> FrameFault
-    requires image { IsImage rom.now }
+    requires rom { IsRom rom.now }
     requires begins { Begins draft.now }
     requires refused { IsRefused draft.now rom.now }
     ensures { Refuses draft.now rom.now result }

@@ -1,6 +1,6 @@
 //! What is wrong at a pair of place and depth.
 ghost use Rattle.std.specs.Prelude.{◌≡◌, ◌≢◌, ◌+◌, ℕ, MatchOption, MatchResult};
-ghost use Rattle.dvg_mem.specs.Memory.{IsImage};
+ghost use Rattle.dvg_mem.specs.Memory.{IsRom};
 ghost use Rattle.dvg_frame.specs.Steps.{Bad, IsFine};
 ghost use Rattle.dvg_frame.specs.Ways.{HasFaultAt, IsPlaceOf, IsLeast, StandsSo};
 ghost use Rattle.dvg_frame.specs.declared.place.FrameFault.{FrameFault};
@@ -30,15 +30,15 @@ fn last_op(count: usize, place: Place) -> Option<u16>
 
 // The fault at a pair among so many operations, where this is the way on: that of least number.
 #[inline(always)]
-fn fault_at(count: usize, pair: Pair, seen: Way) -> Option<FrameFault>
-    ensures { MatchOption result ((fault : FrameFault) → ¬ HasFaultAt count pair seen fault) (λ fault. IsLeast (HasFaultAt count pair seen) fault) }
+fn fault_at<A: Allocator>(rom: &Rom<A>, count: usize, pair: Pair, seen: Way) -> Option<FrameFault>
+    ensures { MatchOption result ((fault : FrameFault) → ¬ HasFaultAt rom.now count pair seen fault) (λ fault. IsLeast (HasFaultAt rom.now count pair seen) fault) }
 {
     if seen.goes_on() {
         if let Some(i) = last_op(count, pair.place) {
             return Some(FrameFault::RunsOff(i));
         }
     }
-    if seen.leads_outside() {
+    if seen.leads_outside(rom) {
         return Some(FrameFault::OutOfRom(pair.place));
     }
     if seen.is_call() && pair.depth == DEEPEST {
@@ -53,14 +53,14 @@ fn fault_at(count: usize, pair: Pair, seen: Way) -> Option<FrameFault>
 // The way on from a pair without a fault, or the fault of least number there.
 #[inline(always)]
 pub(crate) fn look<A: Allocator>(draft: &Draft, rom: &Rom<A>, pair: Pair) -> Result<Way, FrameFault>
-    requires image { IsImage rom.now }
-    requires inside { IsPlaceOf draft.now pair.place }
+    requires rom { IsRom rom.now }
+    requires inside { IsPlaceOf draft.now rom.now pair.place }
     ensures { MatchResult result
         (λ seen. IsFine draft.now rom.now pair.place pair.depth × StandsSo draft.now rom.now pair.place seen)
         (λ fault. IsLeast (Bad draft.now rom.now pair.place pair.depth) fault) }
 {
     match way_at(draft, rom, pair.place) {
-        Some(seen) => match fault_at(draft.len(), pair, seen) {
+        Some(seen) => match fault_at(rom, draft.len(), pair, seen) {
             Some(fault) => Err(fault),
             None => Ok(seen),
         },

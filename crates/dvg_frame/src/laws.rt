@@ -1,5 +1,5 @@
 //! Laws of the check's answer. Each is the contract of a function that does nothing else.
-ghost use Rattle.dvg_frame.specs.Laws.{AcceptedStays, LoopsComeBack, OneAnswer, OneFault, OnePicture};
+ghost use Rattle.dvg_frame.specs.Laws.{AcceptedStays, GrownStays, LoopsComeBack, OneAnswer, OneFault, OnePicture};
 
 use crate::checks::check;
 use crate::draft::Draft;
@@ -32,4 +32,10 @@ pub fn one_picture()
 /// A closed draft has a loop exactly where steps at one depth lead from a reached pair back to it.
 pub fn loops_come_back()
     ensures { LoopsComeBack }
+{}
+
+/// A draft that is closed over a ROM of 2,048 bytes is closed over the ROM that `Rom::grow` makes of it, with the same
+/// pictures.
+pub fn grown_stays()
+    ensures { GrownStays }
 {}

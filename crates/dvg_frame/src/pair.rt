@@ -4,19 +4,20 @@ ghost use Rattle.dvg_frame.specs.Pairs.{IsPair, index};
 
 use crate::draft::MAX_OPS;
 use crate::place::Place;
+use dvg_mem::{FIRST_LARGE_ROM_WORD, LAST_ROM_WORD};
 
 /// The most calls that are open at once: the generator's return stack holds four addresses.
 pub(crate) const DEEPEST: u8 = 4;
 
-/// The word address of the ROM's first word, and that after its last.
-pub(crate) const ROM_FIRST: u16 = 0x800;
+/// The word address of the first word that a ROM can have, and that after its last.
+pub(crate) const ROM_FIRST: u16 = FIRST_LARGE_ROM_WORD;
 
-pub(crate) const ROM_END: u16 = 0xC00;
+pub(crate) const ROM_END: u16 = LAST_ROM_WORD + 1;
 
-/// How many words the ROM has.
+/// How many words a ROM can have.
 pub(crate) const ROM_WORDS: usize = (ROM_END - ROM_FIRST) as usize;
 
-/// How many places there are: each operation and each word of the ROM.
+/// How many places there are: each operation and each word that a ROM can have.
 pub(crate) const PLACES: usize = MAX_OPS + ROM_WORDS;
 
 /// How many pairs there are: at each place one for each depth.

@@ -39,9 +39,9 @@ pub enum FrameFault {
     /// 5: this operation is the last one, and goes on at the place after it.
     #[error("operation {0} is the last one, and goes on")]
     RunsOff(u16),
-    /// 6: this place leads to an address outside 800 to BFF: by a target, by a second word, or by the
-    /// place after it.
-    #[error("{0} leads to an address outside 800 to BFF")]
+    /// 6: this place leads to an address outside the ROM, which is at `Rom::first` to BFF: by a target, by a second word,
+    /// or by the place after it.
+    #[error("{0} leads to an address outside the ROM")]
     OutOfRom(Place),
     /// 7: at this place there is a call while four are open.
     #[error("{0} calls while four calls are open")]

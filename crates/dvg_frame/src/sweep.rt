@@ -1,6 +1,6 @@
 //! The sweep over all pairs that a draft's run can come to.
 ghost use Rattle.std.specs.Prelude.{◌≡◌, ◌≤◌, ◌⊎◌, [], IfSome, MatchOption, Some};
-ghost use Rattle.dvg_mem.specs.Memory.{IsImage};
+ghost use Rattle.dvg_mem.specs.Memory.{IsRom};
 ghost use Rattle.dvg_frame.specs.Faults.{Begins, Least};
 ghost use Rattle.dvg_frame.specs.Growth.{Grows};
 ghost use Rattle.dvg_frame.specs.Pairs.{IsPair, index};
@@ -73,7 +73,7 @@ fn first_of(best: Option<Found>, found: Found) -> Found
 /// Each pair is looked at once, when its turn comes in a list without doubles, so the time is linear in
 /// the number of reached pairs.
 pub(crate) fn sweep<A: Allocator>(list: &mut Worklist, draft: &Draft, rom: &Rom<A>) -> Option<Found>
-    requires image { IsImage rom.now }
+    requires rom { IsRom rom.now }
     requires empty { list.old ≡ [] }
     requires begins { Begins draft.now }
     ensures { MatchOption result

@@ -1,13 +1,13 @@
 //! How what stands at a place leads on.
 ghost use Rattle.std.specs.Prelude.{◌≡◌, ◌<◌, ◌≤◌, ◌↔◌, List, IsTrue, MatchOption};
-ghost use Rattle.dvg_mem.specs.Memory.{IsImage};
+ghost use Rattle.dvg_mem.specs.Memory.{IsRom, first_word};
 ghost use Rattle.dvg_frame.specs.Steps.{op_act};
 ghost use Rattle.dvg_frame.specs.Ways.{EndsWithin, GoesOn, IsCall, IsPlaceOf, IsReturn, LeadsOutside, Outside, StandsSo, way};
 ghost use Rattle.dvg_frame.specs.declared.op.OpKind.{OpKind};
 
 use crate::draft::{Draft, words_of};
 use crate::op::OpKind;
-use crate::pair::{ROM_END, ROM_FIRST};
+use crate::pair::ROM_END;
 use crate::place::Place;
 use dvg_mem::Rom;
 use std::alloc::Allocator;
@@ -36,12 +36,12 @@ impl Way {
     }
 
     // Whether it leads to an address outside the ROM.
-    pub(crate) fn leads_outside(self) -> bool
-        ensures { IsTrue result ↔ LeadsOutside self }
+    pub(crate) fn leads_outside<A: Allocator>(self, rom: &Rom<A>) -> bool
+        ensures { IsTrue result ↔ LeadsOutside rom.now self }
     {
         match self {
-            Way::Move(next, _) | Way::Jump(next) => is_outside(next),
-            Way::Call(target, after) => is_outside(target) || is_outside(after),
+            Way::Move(next, _) | Way::Jump(next) => is_outside(rom, next),
+            Way::Call(target, after) => is_outside(rom, target) || is_outside(rom, after),
             Way::Return | Way::Halt => false,
         }
     }
@@ -62,12 +62,12 @@ impl Way {
 }
 
 // Whether a place is at an address outside the ROM.
-fn is_outside(place: Place) -> bool
-    ensures { IsTrue result ↔ Outside place }
+fn is_outside<A: Allocator>(rom: &Rom<A>, place: Place) -> bool
+    ensures { IsTrue result ↔ Outside rom.now place }
 {
     match place {
         Place::InFrame(_) => false,
-        Place::InRom(a) => a < ROM_FIRST || ROM_END <= a,
+        Place::InRom(a) => a < rom.first() || ROM_END <= a,
     }
 }
 
@@ -89,8 +89,8 @@ fn way_of_op(kind: OpKind, after: Place) -> Way
 
 // The way on from a word of the ROM, by its opcode. None where the ROM ends within the instruction.
 fn rom_way<A: Allocator>(rom: &Rom<A>, a: u16) -> Option<Way>
-    requires image { IsImage rom.now }
-    requires low { ROM_FIRST ≤ a }
+    requires rom { IsRom rom.now }
+    requires low { first_word rom.now ≤ a }
     requires high { a < ROM_END }
     ensures { MatchOption result (EndsWithin rom.now (Place.InRom a)) (λ seen. (F : List OpKind) → StandsSo F rom.now (Place.InRom a) seen) }
 {
@@ -117,8 +117,8 @@ fn rom_way<A: Allocator>(rom: &Rom<A>, a: u16) -> Option<Way>
 // The way on from a place. None where the ROM ends within the instruction there.
 #[inline(always)]
 pub(crate) fn way_at<A: Allocator>(draft: &Draft, rom: &Rom<A>, place: Place) -> Option<Way>
-    requires image { IsImage rom.now }
-    requires inside { IsPlaceOf draft.now place }
+    requires rom { IsRom rom.now }
+    requires inside { IsPlaceOf draft.now rom.now place }
     ensures { MatchOption result (EndsWithin rom.now place) (λ seen. StandsSo draft.now rom.now place seen) }
 {
     match place {

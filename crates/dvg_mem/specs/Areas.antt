@@ -1,18 +1,22 @@
 -- The table of areas, and the two halves.
-use Rattle.std.specs.Prelude.{◌≡◌, ℕ, ◌≤◌, ◌⊎◌, ◌/◌, ◌%◌, ◌==◌, if◌then◌else◌}
+use Rattle.std.specs.Prelude.{◌≡◌, ℕ, ◌<◌, ◌≤◌, ◌⊎◌, ◌/◌, ◌%◌, ◌==◌, if◌then◌else◌}
 use Rattle.dvg_mem.specs.declared.half.Half.{Half}
 use Rattle.dvg_mem.specs.declared.half.Half.TheVariants.{H0, H1}
 use Rattle.dvg_mem.specs.declared.areas.Area.{Area}
 use Rattle.dvg_mem.specs.declared.areas.Area.TheVariants.{Zero, Frame, Unused, Rom, Hole}
 
--- the word addresses of each area
+-- the word addresses of each area, where the ROM's first word is at an address
+abbrev pub IsInMap : ℕ → Area → ℕ → Type 0
+IsInMap first Zero w = w ≡ 0x000
+IsInMap first (Frame H0) w = (0x001 ≤ w) × (w ≤ 0x1FF)
+IsInMap first Unused w = w ≡ 0x200
+IsInMap first (Frame H1) w = (0x201 ≤ w) × (w ≤ 0x3FF)
+IsInMap first Rom w = (first ≤ w) × (w ≤ 0xBFF)
+IsInMap first Hole w = ((0x400 ≤ w) × (w < first)) ⊎ ((0xC00 ≤ w) × (w ≤ 0xFFF))
+
+-- the word addresses of each area with a ROM of 2,048 bytes
 abbrev pub IsIn : Area → ℕ → Type 0
-IsIn Zero w = w ≡ 0x000
-IsIn (Frame H0) w = (0x001 ≤ w) × (w ≤ 0x1FF)
-IsIn Unused w = w ≡ 0x200
-IsIn (Frame H1) w = (0x201 ≤ w) × (w ≤ 0x3FF)
-IsIn Rom w = (0x800 ≤ w) × (w ≤ 0xBFF)
-IsIn Hole w = ((0x400 ≤ w) × (w ≤ 0x7FF)) ⊎ ((0xC00 ≤ w) × (w ≤ 0xFFF))
+IsIn = IsInMap 0x800
 
 -- the word address of a half's first word
 abbrev pub base : Half → ℕ

@@ -1,15 +1,16 @@
 -- Laws of the memory map.
-use Rattle.std.specs.Prelude.{◌≡◌, ◌≢◌, ◌<◌, ◌≤◌, ◌+◌, ◌*◌, ◌↔◌, ℕ, List, Some, true, false, slice_index}
+use Rattle.std.specs.Prelude.{◌≡◌, ◌≢◌, ◌<◌, ◌≤◌, ◌+◌, ◌*◌, ◌↔◌, ℕ, List, Some, true, false, length, slice_index}
 use Rattle.dvg_mem.specs.declared.half.Half.{Half}
 use Rattle.dvg_mem.specs.declared.areas.Area.{Area}
 use Rattle.dvg_mem.specs.declared.areas.Area.TheVariants.{Frame}
-use Rattle.dvg_mem.specs.Areas.{IsIn, base, half_of_high, high, other}
-use Rattle.dvg_mem.specs.Memory.{IsImage, rom_word, fetched_byte}
+use Rattle.dvg_mem.specs.Areas.{IsIn, IsInMap, base, half_of_high, high, other}
+use Rattle.dvg_mem.specs.Memory.{IsImage, IsRom, first_word, rom_word, fetched_byte}
 use Rattle.dvg_code.specs.Words.{words_of}
 
--- each word address lies in an area, and in no other
+-- each word address lies in an area, and in no other, wherever behind the RAM the ROM's first word is
 abbrev pub OneArea : Type 0
-OneArea = (w : ℕ) → w ≤ 0xFFF → (one : Area) × IsIn one w × ((also : Area) → IsIn also w → also ≡ one)
+OneArea = (first w : ℕ) → 0x400 ≤ first → first ≤ 0xBFF → w ≤ 0xFFF
+    → (one : Area) × IsInMap first one w × ((also : Area) → IsInMap first also w → also ≡ one)
 
 -- word zero with a half's high byte over the low byte 01 is a jump to the half's first word, and the high byte names the half
 abbrev pub HighNamesHalf : Type 0
@@ -23,9 +24,9 @@ HalvesDiffer = (half : Half) → (other half ≢ half) × (other (other half) �
 abbrev pub HalfFromBase : Type 0
 HalfFromBase = (half : Half) (w : ℕ) → IsIn (Frame half) w ↔ ((base half ≤ w) × (w ≤ base half + 510))
 
--- the ROM's words, from 800 on, are the words of its bytes in order
+-- the ROM's words, from its first address on, are the words of its bytes in order
 abbrev pub RomWordsInOrder : Type 0
-RomWordsInOrder = (rom : List ℕ) (k : ℕ) → IsImage rom → k < 1024 → rom_word rom (0x800 + k) ≡ Some (slice_index (words_of rom) k)
+RomWordsInOrder = (rom : List ℕ) (k : ℕ) → IsRom rom → 2 * k < length rom → rom_word rom (first_word rom + k) ≡ Some (slice_index (words_of rom) k)
 
 -- the bytes of a word of the RAM are those at twice its address, the low byte first
 abbrev pub BytesInOrder : Type 0

@@ -1,3 +1,4 @@
 pub mod Areas
 pub mod Memory
+pub mod Grown
 pub mod Laws

@@ -1,10 +1,9 @@
 //! What the generator finds at an address.
 ghost use Rattle.std.specs.Prelude.{◌≡◌, ◌≤◌, ◌↔◌, IsNone};
-ghost use Rattle.dvg_mem.specs.Areas.{IsIn};
-ghost use Rattle.dvg_mem.specs.Memory.{fetched, fetched_byte};
+ghost use Rattle.dvg_mem.specs.Areas.{IsInMap};
+ghost use Rattle.dvg_mem.specs.Memory.{fetched, fetched_byte, first_word};
 
 use crate::areas::Area;
-use crate::lookup::area;
 use crate::rom::Rom;
 use crate::store::Store;
 use std::alloc::Allocator;
@@ -14,9 +13,9 @@ use std::alloc::Allocator;
 pub fn fetch_byte<S: Store, A: Allocator>(store: &S, rom: &Rom<A>, w: u16, high: bool) -> Option<u8>
     requires { w ≤ 0xFFF }
     ensures byte { result ≡ fetched_byte (S.content store.now) rom.now w high }
-    ensures hole { IsNone result ↔ IsIn Area.Hole w }
+    ensures hole { IsNone result ↔ IsInMap (first_word rom.now) Area.Hole w }
 {
-    match area(w) {
+    match rom.area(w) {
         Area::Zero | Area::Frame(_) | Area::Unused => {
             let place = if high { 2 * w + 1 } else { 2 * w };
             Some(store.read(place))
@@ -33,7 +32,7 @@ pub fn fetch_byte<S: Store, A: Allocator>(store: &S, rom: &Rom<A>, w: u16, high:
 pub fn fetch<S: Store, A: Allocator>(store: &S, rom: &Rom<A>, w: u16) -> Option<u16>
     requires { w ≤ 0xFFF }
     ensures word { result ≡ fetched (S.content store.now) rom.now w }
-    ensures hole { IsNone result ↔ IsIn Area.Hole w }
+    ensures hole { IsNone result ↔ IsInMap (first_word rom.now) Area.Hole w }
 {
     let low = fetch_byte(store, rom, w, false)?;
     let high = fetch_byte(store, rom, w, true)?;

@@ -10,8 +10,8 @@ use thiserror::Error;
 /// Why a memory was not made.
 #[derive(Clone, Copy, Debug, PartialEq, Eq, Error)]
 pub enum MemFault {
-    /// There are not 2,048 bytes.
-    #[error("there are not 2,048 bytes")]
+    /// There are not as many bytes as the memory has: 2,048, or for a ROM 2,048 or 4,096.
+    #[error("there are not as many bytes as the memory has")]
     Size,
     /// A growth was refused for want of memory.
     #[error("out of memory")]

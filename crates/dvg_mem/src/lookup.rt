@@ -1,21 +1,31 @@
 //! The area of an address.
 ghost use Rattle.std.specs.Prelude.{◌≤◌};
-ghost use Rattle.dvg_mem.specs.Areas.{IsIn};
+ghost use Rattle.dvg_mem.specs.Areas.{IsIn, IsInMap};
 
 use crate::areas::Area;
 use crate::half::Half;
+use crate::{FIRST_ROM_WORD, LAST_ROM_WORD};
 
-/// The area of a word address, which has 12 bits.
+/// The area of a word address, which has 12 bits, with a ROM of 2,048 bytes. `Rom::area` tells it of any ROM.
 pub fn area(w: u16) -> Area
     requires { w ≤ 0xFFF }
     ensures { IsIn result w }
+{
+    area_in_map(FIRST_ROM_WORD, w)
+}
+
+// The area of a word address, where the ROM's first word is at an address behind the RAM.
+pub(crate) fn area_in_map(first: u16, w: u16) -> Area
+    requires ram { 0x400 ≤ first }
+    requires word { w ≤ 0xFFF }
+    ensures { IsInMap first result w }
 {
     match w {
         0x000 => Area::Zero,
         0x001..=0x1FF => Area::Frame(Half::H0),
         0x200 => Area::Unused,
         0x201..=0x3FF => Area::Frame(Half::H1),
-        0x800..=0xBFF => Area::Rom,
+        _ if first <= w && w <= LAST_ROM_WORD => Area::Rom,
         _ => Area::Hole,
     }
 }

@@ -1,62 +1,118 @@
 //! The vector ROM.
-ghost use Rattle.std.specs.Prelude.{◌≡◌, ◌≢◌, ◌*◌, ◌≤◌, ◌↔◌, length, IfOk, IsErrOf, Some};
-ghost use Rattle.dvg_mem.specs.Memory.{IsImage, rom_word};
+ghost use Rattle.std.specs.Prelude.{◌≡◌, ◌≢◌, ◌*◌, ◌≤◌, ◌⊎◌, ◌↔◌, ◌++◌, length, IfErr, IfOk, IsErrOf, Some};
+ghost use Rattle.dvg_mem.specs.Areas.{IsInMap};
+ghost use Rattle.dvg_mem.specs.Memory.{IsGrown, IsRom, first_word, rom_word};
+ghost use Rattle.dvg_mem.specs.Grown.{ArePushedBack};
 
+use crate::areas::Area;
 use crate::image::MemFault;
-use crate::{FIRST_ROM_WORD, MEMORY_BYTES};
+use crate::lookup::area_in_map;
+use crate::{FIRST_LARGE_ROM_WORD, FIRST_ROM_WORD, LARGE_ROM_BYTES, MEMORY_BYTES};
 use dvg_code::word_at;
-use std::alloc::{Allocator, Global};
+use std::alloc::{AllocError, Allocator, Global};
 use std::marker::Model;
 
-/// The 2,048 bytes of a vector ROM: the words 800 to BFF.
+/// The bytes of a vector ROM: 2,048 of the words 800 to BFF, as in Asteroids, or 4,096 of the words 400 to BFF, as on
+/// boards of Asteroids Deluxe (the second map is this project's own choice).
 #[derive(Drop)]
 pub struct Rom<A: Allocator = Global> {
-    bytes: Box<[u8; MEMORY_BYTES], A>,
+    bytes: Vec<u8, A>,
 }
 
 /// Contracts see the list of the bytes.
 impl<A: Allocator> Model for Rom<A> {
     ghost use Rattle.std.specs.Prelude.{List, ℕ};
-    ghost use Rattle.dvg_mem.specs.Memory.{IsImage};
+    ghost use Rattle.dvg_mem.specs.Memory.{IsRom};
 
     ghost Value = { List ℕ };
 
-    ghost view = { λ rom. rom.bytes.value };
+    ghost view = { λ rom. rom.bytes.items };
 
-    ghost invariant = { λ rom. IsImage rom.bytes.value };
+    ghost invariant = { λ rom. IsRom rom.bytes.items };
 }
 
 impl<A: Allocator> Rom<A> {
-    /// The ROM of these bytes. It is refused as `Size` exactly where they are not 2,048.
+    /// The ROM of these bytes. It is refused as `Size` exactly where they are neither 2,048 nor 4,096.
     pub fn new(alloc: A, bytes: &[u8]) -> Result<Rom<A>, MemFault>
         ensures bytes { IfOk result (λ rom. rom ≡ bytes.now) }
-        ensures size { IsErrOf result MemFault.Size ↔ (length bytes.now ≢ 2048) }
+        ensures size { IsErrOf result MemFault.Size ↔ ((length bytes.now ≢ 2048) × (length bytes.now ≢ 4096)) }
     {
-        if bytes.len() != MEMORY_BYTES {
+        if bytes.len() != MEMORY_BYTES && bytes.len() != LARGE_ROM_BYTES {
             return Err(MemFault::Size);
         }
-        let mut copy = [0; MEMORY_BYTES];
-        copy.copy_from_slice(bytes);
-        match Box::new(alloc, copy) {
+        match bytes.to_vec(alloc) {
             Ok(bytes) => Ok(Rom { bytes }),
             Err(_) => Err(MemFault::OutOfMemory),
         }
     }
 
-    /// How many words there are: 1,024.
-    pub fn len_words(&self) -> u16
-        ensures count { length self.now ≡ 2 * result }
-        ensures image { IsImage self.now }
+    /// The word address of the first word: 800 or 400.
+    pub fn first(&self) -> u16
+        ensures first { result ≡ first_word self.now }
+        ensures size { ((result ≡ 0x800) × (length self.now ≡ 2048)) ⊎ ((result ≡ 0x400) × (length self.now ≡ 4096)) }
     {
-        (self.bytes.as_slice().len() / 2) as u16
+        if self.bytes.len() == MEMORY_BYTES {
+            FIRST_ROM_WORD
+        } else {
+            FIRST_LARGE_ROM_WORD
+        }
     }
 
-    /// The word at a word address from 800 to BFF.
+    /// How many words there are: 1,024 or 2,048.
+    pub fn len_words(&self) -> u16
+        ensures count { length self.now ≡ 2 * result }
+        ensures rom { IsRom self.now }
+    {
+        (self.bytes.len() / 2) as u16
+    }
+
+    /// The word at a word address from `first` to BFF.
     pub fn word(&self, a: u16) -> u16
-        requires first { 0x800 ≤ a }
+        requires first { first_word self.now ≤ a }
         requires last { a ≤ 0xBFF }
         ensures { rom_word self.now a ≡ Some result }
     {
-        word_at(self.bytes.as_slice(), usize::from(a - FIRST_ROM_WORD))
+        word_at(self.bytes.as_slice(), usize::from(a - self.first()))
+    }
+
+    /// The ROM of 4,096 bytes that has this one's words from 800 on, and D000, a return, at 400 to 7FF. It is refused as
+    /// `OutOfMemory` alone.
+    #[tactic(auto, using(crate::proofs::Grown::is_rom, crate::proofs::Grown::grown))]
+    pub fn grow(&self) -> Result<Rom<A>, MemFault>
+    where
+        A: Clone,
+        requires { first_word self.now ≡ 0x800 }
+        ensures grown { IfOk result (λ rom. IsGrown self.now rom) }
+        ensures refused { IfErr result (λ fault. fault ≡ MemFault.OutOfMemory) }
+    {
+        let _ = &self.bytes;
+        match self.grown_bytes() {
+            Ok(bytes) => Ok(Rom { bytes }),
+            Err(_) => Err(MemFault::OutOfMemory),
+        }
+    }
+
+    // The bytes of 1,024 returns, and this ROM's behind them.
+    #[tactic(auto, using(crate::proofs::Grown::one_more, crate::proofs::Grown::no_return))]
+    fn grown_bytes(&self) -> Result<Vec<u8, A>, AllocError>
+    where
+        A: Clone,
+        ensures { IfOk result (λ bytes. ArePushedBack self.now bytes.items) }
+    {
+        let mut bytes = Vec::with_capacity(self.bytes.allocator().clone()?, LARGE_ROM_BYTES)?;
+        for _word in 0..1024u16 {
+            bytes.extend_from_slice(&[0x00, 0xD0])?;
+        }
+        bytes.extend_from_slice(self.bytes.as_slice())?;
+        Ok(bytes)
+    }
+
+    /// The area of a word address, which has 12 bits, with this ROM.
+    pub fn area(&self, w: u16) -> Area
+        requires { w ≤ 0xFFF }
+        ensures area { IsInMap (first_word self.now) result w }
+        ensures behind_ram { 0x400 ≤ first_word self.now }
+    {
+        area_in_map(self.first(), w)
     }
 }

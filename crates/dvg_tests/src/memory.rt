@@ -1,6 +1,6 @@
 //! Images, the ROM and stores: which lengths are taken, and what is fetched.
 use crate::scripts::{image, rom};
-use dvg_mem::{Flat, Image, MEMORY_BYTES, MemFault, Rom, Store, fetch, fetch_byte};
+use dvg_mem::{Area, Flat, Half, Image, MEMORY_BYTES, MemFault, Rom, Store, fetch, fetch_byte};
 use linked_list_allocator::LocalHeap;
 use std::alloc::{Allocator, Global};
 use std::test::Fail;
@@ -17,29 +17,40 @@ const FETCHED: [(u16, Option<u8>, Option<u8>); 8] = [
     (0xC00, None, None),
 ];
 
-/// Why an image and a ROM of so many bytes are refused, if both are for one reason.
-fn refusal<A: Allocator + Copy>(alloc: A, bytes: &[u8]) -> Result<Option<MemFault>, Fail> {
-    let fault = Image::new(alloc, bytes).err();
-    if Rom::new(alloc, bytes).err() != fault {
-        return Err("two answers".into());
-    }
-    Ok(fault)
+/// Why an image and why a ROM of these bytes is refused.
+fn refusals<A: Allocator + Copy>(alloc: A, bytes: &[u8]) -> (Option<MemFault>, Option<MemFault>) {
+    (Image::new(alloc, bytes).err(), Rom::new(alloc, bytes).err())
 }
 
+/// Counts of bytes, and whether an image and a ROM may have so many.
+const SIZES: [(usize, bool, bool); 7] = [
+    (0, false, false),
+    (2047, false, false),
+    (2048, true, true),
+    (2049, false, false),
+    (4095, false, false),
+    (4096, false, true),
+    (4097, false, false),
+];
+
 #[test]
-fn only_2048_bytes_are_taken(rt: HostRuntime) -> Result<(), Fail> {
-    let bytes = [7; 2049];
-    assert_eq!(rt; refusal(rt.alloc(), &[])?, Some(MemFault::Size));
-    assert_eq!(rt; refusal(rt.alloc(), &bytes[..2047])?, Some(MemFault::Size));
-    assert_eq!(rt; refusal(rt.alloc(), &bytes[..2048])?, None);
-    assert_eq!(rt; refusal(rt.alloc(), &bytes)?, Some(MemFault::Size));
+fn a_memory_has_so_many_bytes(rt: HostRuntime) -> Result<(), Fail> {
+    let bytes = vec![in rt.alloc(); 7u8; 4097]?;
+    for (count, image, rom) in SIZES {
+        let Some(bytes) = bytes.as_slice().get(..count) else {
+            return Err("too few bytes".into());
+        };
+        let size = |fits: bool| if fits { None } else { Some(MemFault::Size) };
+        assert_eq!(rt; refusals(rt.alloc(), bytes), (size(image), size(rom)));
+    }
     Ok(())
 }
 
 #[test]
 fn want_of_memory_is_told(rt: HostRuntime) -> Result<(), Fail> {
     let heap = LocalHeap::new(rt.alloc(), 512)?;
-    assert_eq!(rt; refusal(&heap, &[7; 2048])?, Some(MemFault::OutOfMemory));
+    let told = Some(MemFault::OutOfMemory);
+    assert_eq!(rt; refusals(&heap, &[7; 2048]), (told, told));
     Ok(())
 }
 
@@ -80,5 +91,37 @@ fn keeps_bytes<S: Store<Alloc = Global>>(alloc: Global) -> Result<bool, Fail> {
 #[test]
 fn a_flat_store_keeps_bytes(rt: HostRuntime) -> Result<(), Fail> {
     assert!(rt; keeps_bytes::<Flat>(rt.alloc())?);
+    Ok(())
+}
+
+/// Word addresses, and what is fetched there where the ROM has grown: first its area, and then its word.
+const GROWN: [(u16, Area, Option<u16>); 6] = [
+    (0x3FF, Area::Frame(Half::H1), Some(0x1200)),
+    (0x400, Area::Rom, Some(0xD000)),
+    (0x7FF, Area::Rom, Some(0xD000)),
+    (0x800, Area::Rom, Some(0xFE37)),
+    (0xBFF, Area::Rom, Some(0xD000)),
+    (0xC00, Area::Hole, None),
+];
+
+/// Whether this is what is fetched.
+fn is_grown(store: &Flat, rom: &Rom) -> bool {
+    for (w, area, word) in GROWN {
+        if w > 0xFFF || rom.area(w) != area || fetch(store, rom, w) != word {
+            return false;
+        }
+    }
+    rom.first() == 0x400 && rom.len_words() == 2048
+}
+
+#[test]
+fn a_rom_grows(rt: HostRuntime) -> Result<(), Fail> {
+    let small = rom(rt.alloc(), rt.alloc(), &[0xFE37])?;
+    if small.first() != 0x800 {
+        return Err("no small ROM".into());
+    }
+    let grown = small.grow().map_err(|_| "not grown")?;
+    let store = Flat::make(rt.alloc(), &marked_image(rt.alloc())?)?;
+    assert!(rt; is_grown(&store, &grown));
     Ok(())
 }

@@ -1,10 +1,11 @@
 -- ROM lines give one ROM at most.
-use Rattle.std.proofs.Common.{◌≡◌, ◌<◌, ◌+◌, ◌-◌, ◌*◌, ◌/◌, ℕ, List, get_or, Some, ⊎_elim, true, nat_le, nat_lt, sym, ap, ◌∙◌, arith}
-use Rattle.std.proofs.lemmas.Bool.{cases_lt, le-leb, lt-ltb}
+use Rattle.std.proofs.Common.{◌≡◌, ◌<◌, ◌+◌, ◌-◌, ◌*◌, ◌/◌, ℕ, List, get_or, Some, ⊎_elim, sym, ap, ◌∙◌, arith}
+use Rattle.std.proofs.lemmas.Bool.{cases_lt}
 use Rattle.std.proofs.lemmas.List.{ext_get_or}
 use Rattle.std.proofs.lemmas.List.Elements.{All-get_or}
 use Rattle.dvg_code.specs.Words.{word_in}
 use Rattle.dvg_mem.specs.Memory.{IsImage, rom_word}
+use Rattle.dvg_mem.proofs.Roms.{small_there}
 use Rattle.dvg_text.specs.RomTexts.{IsRomOf, RomLine}
 
 byte_of : (R : List ℕ) (i : ℕ) → IsImage R → i < 2048 → get_or R i 0 < 256
@@ -34,18 +35,16 @@ same_words R S one other e =
     let n = other.count in
     ext_get_or 0 R S (omega arith) (λ i low. same_byte R S i one other (omega arith) (e (i / 2) (omega arith)))
 
-rom_word_at : (R : List ℕ) (k : ℕ) → k < 1024 → rom_word R (0x800 + k) ≡ Some (word_in R k)
-rom_word_at R k low =
-    let first : nat_le 0x800 (0x800 + k) ≡ true = le-leb _ _ (omega arith) in
-    let last : nat_lt (0x800 + k) 0xC00 ≡ true = lt-ltb _ _ (omega arith) in
+rom_word_at : (R : List ℕ) (k : ℕ) → IsImage R → k < 1024 → rom_word R (0x800 + k) ≡ Some (word_in R k)
+rom_word_at R k image low =
     let place : 0x800 + k - 0x800 ≡ k = omega arith in
-    rw (first, last) (ap (λ k. Some (word_in R k)) place)
+    small_there R (0x800 + k) image.count (omega arith) (omega arith) ∙ ap (λ k. Some (word_in R k)) place
 
 -- the same lines give the same ROM
 pub one_rom : (roms : List RomLine) (R S : List ℕ) → IsRomOf roms R → IsRomOf roms S → S ≡ R
 one_rom roms R S h k = same_words S R k.image h.image (λ i low.
     let p = h.words (0x800 + i) (omega arith) (omega arith) in
     let q = k.words (0x800 + i) (omega arith) (omega arith) in
-    let r = rom_word_at R i low in
-    let s = rom_word_at S i low in
+    let r = rom_word_at R i h.image low in
+    let s = rom_word_at S i k.image low in
     cc)

@@ -1,10 +1,11 @@
 -- A text of a draft, read up to some line.
-use Rattle.std.proofs.Common.{◌≡◌, ◌<◌, ◌≤◌, ◌+◌, ℕ, List, [], ◌∷◌, ◌++◌, length, refl, sym, ap, subst, ◌∙◌, arith, true, false, Bool, cond, eqb, suc, append_assoc, length-append, append-nil, codes, nat_le, nat_lt, ◌-◌, Some, ◌⊎◌, inl, inr, Result, Ok, Err, IsOk, OnOk}
+use Rattle.std.proofs.Common.{◌≡◌, ◌<◌, ◌≤◌, ◌+◌, ℕ, List, [], ◌∷◌, ◌++◌, length, refl, sym, ap, subst, ◌∙◌, arith, true, false, Bool, cond, eqb, suc, append_assoc, length-append, append-nil, codes, ◌-◌, Some, ◌⊎◌, inl, inr, Result, Ok, Err, IsOk, OnOk}
 use Rattle.std.specs.Result.{is_err}
 use Rattle.std.specs.List.{AllZip, Contains, onto_first}
 use Rattle.std.proofs.lemmas.List.Elements.{Contains-append_left, Contains-append_right, Contains-push, filter-append}
-use Rattle.std.proofs.lemmas.Bool.{cases_lt, le-leb, lt-ltb}
+use Rattle.std.proofs.lemmas.Bool.{cases_lt}
 use Rattle.dvg_mem.specs.Memory.{IsImage, rom_word}
+use Rattle.dvg_mem.proofs.Roms.{small_there}
 use Rattle.dvg_text.specs.DraftReading.{Gives}
 use Rattle.dvg_frame.specs.declared.op.OpKind.{OpKind}
 use Rattle.dvg_text.specs.Texts.{is_passed, lines, told}
@@ -92,12 +93,10 @@ after_more [] given a word = refl
 after_more (r ∷ roms) given a word = after_more roms given a (word_behind r a word)
 
 -- the word at an address of the ROM
-pub word_at_address : (R : List ℕ) (roms : List RomLine) (a : ℕ) → 0x800 ≤ a → a < 0xC00 → AreAfter roms R → rom_word R a ≡ Some (word_after roms a 0xD000)
-word_at_address R roms a low high words =
-    let first : nat_le 0x800 a ≡ true = le-leb _ _ low in
-    let last : nat_lt a 0xC00 ≡ true = lt-ltb _ _ high in
+pub word_at_address : (R : List ℕ) (roms : List RomLine) (a : ℕ) → IsImage R → 0x800 ≤ a → a < 0xC00 → AreAfter roms R → rom_word R a ≡ Some (word_after roms a 0xD000)
+word_at_address R roms a image low high words =
     let place : 0x800 + (a - 0x800) ≡ a = omega arith in
-    rw (first, last) (ap Some (words (a - 0x800) (omega arith) ∙ ap (λ b. word_after roms b 0xD000) place))
+    small_there R a image.count low high ∙ ap Some (words (a - 0x800) (omega arith) ∙ ap (λ b. word_after roms b 0xD000) place)
 
 -- n lines were read, which spell these operations and give these bytes; those are left
 pub record ReadTo (text : List ℕ) (left : List (List ℕ)) (n : ℕ) (ops : List OpKind) (R : List ℕ) : Type 0 where
@@ -191,7 +190,7 @@ pub gives_all : (text : List ℕ) (left : List (List ℕ)) (n : ℕ) (ops : List
 gives_all text left n ops R none r short count image = record {
   roms = r.roms;
   denotes = record { short = short; spelled = subst (λ ls. SpellsDraft r.roms ops (told ls)) (sym (r.cut ∙ ap (λ l. r.before ++ l) none ∙ append-nil r.before)) r.spelled; count = count };
-  rom = record { image = image; words = λ a low high. word_at_address R r.roms a low high r.words };
+  rom = record { image = image; words = λ a low high. word_at_address R r.roms a image low high r.words };
 }
 
 -- an operation is refused only where there are 511

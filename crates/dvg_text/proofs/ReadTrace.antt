@@ -101,7 +101,7 @@ pub gives_all : (text : List ℕ) (left : List (List ℕ)) (n : ℕ) (events : L
 gives_all text left n events opened R none r short fits closed image = record {
   roms = r.roms;
   denotes = record { short = short; spelled = subst (λ kept. SpellsTrace r.roms events kept (told (lines text))) closed (subst (SpellsTrace r.roms events opened) (all_told text left r.before none r.cut) r.spelled); fits = subst (FitsTrace events) closed fits };
-  rom = record { image = image; words = λ a low high. word_at_address R r.roms a low high r.words };
+  rom = record { image = image; words = λ a low high. word_at_address R r.roms a image low high r.words };
 }
 
 pub ends_inside : (text : List ℕ) (left : List (List ℕ)) (n : ℕ) (events : List Happening) (opened : Option (List OpKind)) (R : List ℕ) (F : List OpKind) → left ≡ [] → ReadTrace text left n events opened R → IsShort text → FitsTrace events opened → opened ≡ Some F

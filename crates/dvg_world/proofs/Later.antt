@@ -4,7 +4,7 @@ use Rattle.std.specs.Prelude.{option_and_then, option_map}
 use Rattle.std.proofs.lemmas.Option.{same_Some}
 use Rattle.dvg_mem.specs.declared.half.Half.{Half}
 use Rattle.dvg_mem.specs.Areas.{base}
-use Rattle.dvg_mem.specs.Memory.{fetched, IsImage}
+use Rattle.dvg_mem.specs.Memory.{fetched, IsRom}
 use Rattle.dvg_gen.specs.declared.taken.GenFault.{GenFault}
 use Rattle.dvg_gen.specs.declared.beam.Beam.{Beam}
 use Rattle.dvg_gen.specs.declared.stroke.Stroke.{Stroke}
@@ -46,9 +46,9 @@ record Ready (R image : List ℕ) (log : Log) (ws : List (ℕ × ℕ)) (vs : Lis
   memory : frame_memory half draft R (wanted vs held) ≡ fetched (ram image log) R (wanted vs held)
   drawn : (w : ℕ) → fetched (ram image log) R (wanted vs held) ≡ Some w → LeadsTo ((wanted vs held, w) ∷ ws) half
 
-image_of : (R image : List ℕ) (log : Log) → IsLegal R image log → IsImage R
-image_of R image [] g = g.0
-image_of R image ((event ⟼ entry) ∷ log) g = image_of R image log g.2
+rom_of : (R image : List ℕ) (log : Log) → IsLegal R image log → IsRom R
+rom_of R image [] g = g.0
+rom_of R image ((event ⟼ entry) ∷ log) g = rom_of R image log g.2
 
 -- a run over the least memory finds a word
 some_word : {F : List OpKind} {R : List ℕ} {mem : ℕ → Option ℕ} {n : ℕ} {vs : List Visit} {held : Option ℕ} → IsDrawn F R mem → Runs mem n vs held → fate vs ≡ Goes → (o : Option ℕ) → mem (wanted vs held) ≡ o → (w : ℕ) × (o ≡ Some w)
@@ -264,7 +264,7 @@ module _ (R image : List ℕ) where
   step : (log : Log) (p : Place) (event : Happening) (entry : Shown) → IsLegal R image log → IsEvent event → KeptBy image log p → Shows R image log → IsInMemory R image log event entry → Fits R image log event entry → Shows R image ((event ⟼ entry) ∷ log) × IsRight log event entry
   step log p (Offer F) (Refused fault) g i k s m f = (same_life R image log (Offer F) (Refused fault) s (λ v vs o. o) refl (λ a. refl) (λ n g. tt) (λ v vs g m. tt) refl refl, (tt, tt, tt, tt))
   step log p (Offer F) Busy g i k s m f = (same_life R image log (Offer F) Busy s (λ v vs o. o) refl (λ a. refl) (λ n g. tt) (λ v vs g m. tt) refl refl, (tt, tt, tt, tt))
-  step log p (Offer F) Offered g i k s m f = (same_line R image log (Offer F) Offered s (λ v vs o. o) refl (λ a. refl) (λ n g. tt) (λ v vs g m. tt) (begun R image log F (record { draft = i; accepts = f.0; image = image_of R image log g }) f.1), (tt, tt, tt, tt))
+  step log p (Offer F) Offered g i k s m f = (same_line R image log (Offer F) Offered s (λ v vs o. o) refl (λ a. refl) (λ n g. tt) (λ v vs g m. tt) (begun R image log F (record { draft = i; accepts = f.0; rom = rom_of R image log g }) f.1), (tt, tt, tt, tt))
   step log p Redraw NothingPublished g i k s m f = (same_life R image log Redraw NothingPublished s (λ v vs o. o) refl (λ a. refl) (λ n g. tt) (λ v vs g m. tt) refl refl, (tt, tt, tt, tt))
   step log p Redraw Busy g i k s m f = (same_life R image log Redraw Busy s (λ v vs o. o) refl (λ a. refl) (λ n g. tt) (λ v vs g m. tt) refl refl, (tt, tt, tt, tt))
   step log p Redraw Asked g i k s m f = (same_line R image log Redraw Asked s (λ v vs o. o) refl (λ a. refl) (λ n g. tt) (λ v vs g m. tt) (λ ws l. absurd (ask_lays log ws f.1 l)), (tt, tt, tt, tt))

@@ -33,7 +33,8 @@ use Rattle.dvg_gen.proofs.Stack.{stack, next_is, Sound, sound_none, sound_more, 
 use Rattle.dvg_world.proofs.Machine.{ReadsAt, reads1, reads2, Whole, none, more, Partly, whole, half, partly_run, run_whole, one_size}
 use Rattle.dvg_world.proofs.Ends.{Ends, ends, steps, quiet, IsQuiet, moves_is, finish, ends_of}
 use Rattle.dvg_world.proofs.Control.{at_addresses, Faithful, Result, halted, returned, follows, traces, depth}
-use Rattle.dvg_world.proofs.Local.{addr, faithful, start_reads, behind, rom_some}
+use Rattle.dvg_mem.proofs.Roms.{behind_ram, rom_some}
+use Rattle.dvg_world.proofs.Local.{addr, faithful, start_reads, behind}
 
 -- each address on the stack is that of a place which is reached at its depth
 abbrev StackOk : List OpKind → List ℕ → (Place → ℕ) → List ℕ → Type 0
@@ -316,7 +317,7 @@ fetched_ram : (ram rom : List ℕ) (a : ℕ) → a < 1024 → fetched ram rom a 
 fetched_ram ram rom a h = ap (λ b. cond b (Some (word_in ram a)) (rom_word rom a)) (lt-ltb a 1024 h)
 
 fetched_rom : (ram rom : List ℕ) (a w : ℕ) → rom_word rom a ≡ Some w → fetched ram rom a ≡ Some w
-fetched_rom ram rom a w e = let b = rom_some rom a w e in let l = b.0 in ap (λ b. cond b (Some (word_in ram a)) (rom_word rom a)) (le-ltb a 1024 (omega arith)) ∙ e
+fetched_rom ram rom a w e = let b = rom_some rom a w e in let l = b.0 in let past = behind_ram rom in ap (λ b. cond b (Some (word_in ram a)) (rom_word rom a)) (le-ltb a 1024 (omega arith)) ∙ e
 
 -- a RAM that holds the frame
 pub undisturbed : Undisturbed

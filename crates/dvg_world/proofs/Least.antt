@@ -8,7 +8,7 @@ use Rattle.dvg_code.specs.Words.{word_in}
 use Rattle.dvg_mem.specs.declared.half.Half.{Half}
 use Rattle.dvg_mem.specs.declared.half.Half.TheVariants.{H0, H1}
 use Rattle.dvg_mem.specs.Areas.{base}
-use Rattle.dvg_mem.specs.Memory.{rom_word, fetched, IsImage}
+use Rattle.dvg_mem.specs.Memory.{rom_word, fetched, IsRom}
 use Rattle.dvg_gen.specs.declared.beam.Beam.{Beam}
 use Rattle.dvg_gen.specs.declared.stroke.Stroke.{Stroke}
 use Rattle.dvg_gen.specs.Run.{Visit, Goes, Finished, Runs, fate, wanted, strokes}
@@ -22,13 +22,13 @@ use Rattle.dvg_frame.specs.Picture.{IsPicture}
 use Rattle.dvg_frame.proofs.Sizes.{closed_fits}
 use Rattle.dvg_world.specs.Law.{HasFrame, IsDrawn}
 use Rattle.dvg_world.proofs.Law.{any_memory, only_once}
-use Rattle.dvg_world.proofs.Local.{rom_some}
+use Rattle.dvg_mem.proofs.Roms.{behind_ram, rom_some}
 
 -- a draft whose frame a driver may be handed
 pub record Checked (F : List OpKind) (R : List ℕ) : Type 0 where
   pub draft : IsDraft F
   pub accepts : Accepts F R
-  pub image : IsImage R
+  pub rom : IsRom R
 
 pub fits : (half : Half) (F : List OpKind) (R : List ℕ) → Checked F R → length (laid half F) ≤ 511
 fits half F R checked = closed_fits half F R checked.accepts.closed
@@ -68,16 +68,17 @@ least_has half F R l = record { zero = refl; laid = λ k lt. in_half k lt; shape
         let r1 = r.1 in
         let b = rom_some R a w e in
         let b0 = b.0 in
+        let past = behind_ram R in
         let z = not_zero a (omega arith) in
         let e1 : nat_le (base half) a ≡ true = le-leb (base half) a (omega arith) in
         let e2 : nat_lt a (base half + length (laid half F)) ≡ false = above_le (suc a) (base half + length (laid half F)) (omega arith) in
         rw (z, e1, e2) e
 
 pub least_draws : (half : Half) (F : List OpKind) (R : List ℕ) → Checked F R → IsDrawn F R (frame_memory half F R)
-least_draws half F R c = any_memory half F R (frame_memory half F R) c.draft c.image c.accepts.closed (least_has half F R (fits half F R c))
+least_draws half F R c = any_memory half F R (frame_memory half F R) c.draft c.rom c.accepts.closed (least_has half F R (fits half F R c))
 
 pub least_once : (half : Half) (F : List OpKind) (R : List ℕ) → Checked F R → (n : ℕ) (vs : List Visit) (held : Option ℕ) → Runs (frame_memory half F R) (suc n) vs held → fate vs ≡ Goes → wanted vs held ≢ 0
-least_once half F R c = only_once half F R (frame_memory half F R) c.draft c.image c.accepts.closed (least_has half F R (fits half F R c))
+least_once half F R c = only_once half F R (frame_memory half F R) c.draft c.rom c.accepts.closed (least_has half F R (fits half F R c))
 
 -- of a frame with a picture, a run that goes on is shorter
 pub goes_in_time : {F : List OpKind} {R : List ℕ} {mem : ℕ → Option ℕ} {m n : ℕ} {vs : List Visit} {held : Option ℕ} {s : List Stroke} → IsDrawn F R mem → Runs mem m vs held → fate vs ≡ Goes → IsPicture F R s n → m < n
@@ -134,6 +135,7 @@ agrees ram R half F l lies a w n m =
     in_rom d =
         let b = rom_some R a w d in
         let b0 = b.0 in
+        let past = behind_ram R in
         let f : nat_lt a 0x400 ≡ false = above_le (suc a) 0x400 (omega arith) in
         rw f d
 

@@ -1,7 +1,7 @@
 -- The memory of a laid-out draft holds its operations and the ROM's instructions.
-use Rattle.std.proofs.Common.{◌≡◌, ℕ, zero, suc, ◌+◌, ◌-◌, ◌*◌, ◌<◌, ◌≤◌, inl, inr, ⊎_elim, cond, ltb, leb, List, [], ◌∷◌, ◌++◌, length, get_or, take, Option, Some, None, refl, sym, ap, ◌∙◌, subst, arith}
-use Rattle.std.specs.Prelude.{slice_get, slice_index, flat_map, ◌&&◌}
-use Rattle.std.proofs.lemmas.Bool.{cases_lt, lt-ltb, le-leb, ltb-true, leb-true, and_parts, cases_Bool}
+use Rattle.std.proofs.Common.{◌≡◌, ℕ, zero, suc, ◌+◌, ◌-◌, ◌<◌, ◌≤◌, inl, inr, ⊎_elim, List, [], ◌∷◌, ◌++◌, length, get_or, take, Option, Some, refl, sym, ap, ◌∙◌, subst, arith}
+use Rattle.std.specs.Prelude.{slice_get, slice_index, flat_map}
+use Rattle.std.proofs.lemmas.Bool.{cases_lt}
 use Rattle.std.proofs.lemmas.Option.{slice_get_within, slice_get-get_or, get_or_from_slice_get}
 use Rattle.std.proofs.lemmas.List.Elements.{All-get_or}
 use Rattle.dvg_code.specs.declared.instr.Instr.{Instr}
@@ -15,7 +15,8 @@ use Rattle.dvg_mem.specs.declared.half.Half.{Half}
 use Rattle.dvg_mem.specs.declared.half.Half.TheVariants.{H0, H1}
 use Rattle.dvg_mem.specs.Areas.{base}
 use Rattle.dvg_code.specs.Words.{word_in}
-use Rattle.dvg_mem.specs.Memory.{rom_word}
+use Rattle.dvg_mem.specs.Memory.{first_word, rom_word}
+use Rattle.dvg_mem.proofs.Roms.{behind_ram, rom_some, rom_there, word_fits}
 use Rattle.dvg_code.specs.Acts.{Act, Moves, Jumps, Calls, act_by, act_of}
 use Rattle.dvg_gen.specs.Run.{on}
 use Rattle.dvg_frame.specs.declared.op.OpKind.{OpKind}
@@ -28,7 +29,7 @@ use Rattle.dvg_frame.specs.declared.place.FrameFault.TheVariants.{RunsOff, OutOf
 use Rattle.dvg_frame.specs.Steps.{SpelledAt, one, two, op_act, Stands, in_frame, in_rom, GoesPast, Names, IsOutside, IsFine, last, target, second, past, Leads, Reached, begin, step, Closed, BeginsWithLabs, labs}
 use Rattle.dvg_frame.specs.Steps.{on as leads_on, jump as leads_jump, call as leads_call, back as leads_back}
 use Rattle.dvg_frame.proofs.Sizes.{canon_length}
-use Rattle.dvg_mem.specs.Memory.{IsImage}
+use Rattle.dvg_mem.specs.Memory.{IsRom}
 use Rattle.dvg_world.specs.Law.{HasFrame}
 use Rattle.dvg_world.proofs.Machine.{ReadsAt, reads1, reads2, one_size, first_size}
 use Rattle.dvg_world.proofs.Control.{at_addresses, Found, Faithful}
@@ -152,19 +153,6 @@ rom_acts h F Rtsl = refl
 rom_acts h F (Jmpl to) = refl
 rom_acts h F (Svec scale dx dy z) = refl
 
--- a ROM word's address
-pub rom_some : (rom : List ℕ) (a w : ℕ) → rom_word rom a ≡ Some w → (2048 ≤ a) × (a < 3072)
-rom_some rom a w e =
-    ⊎_elim
-    (λ t. let p = and_parts (leb 2048 a) (ltb a 3072) t in (leb-true 2048 a p.0, ltb-true a 3072 p.1))
-    (λ f. let e2 = subst (λ b. cond b (Some (word_in rom (a - 2048))) None ≡ Some w) f e in cc)
-    (cases_Bool (leb 2048 a && ltb a 3072))
-
-rom_there : (rom : List ℕ) (a : ℕ) → 2048 ≤ a → a < 3072 → rom_word rom a ≡ Some (word_in rom (a - 2048))
-rom_there rom a h k =
-    ap (λ b. cond (b && ltb a 3072) (Some (word_in rom (a - 2048))) None) (le-leb 2048 a h)
-    ∙ ap (λ b. cond b (Some (word_in rom (a - 2048))) None) (lt-ltb a 3072 k)
-
 rom_reads : (mem : ℕ → Option ℕ) (rom : List ℕ) → ((a w : ℕ) → rom_word rom a ≡ Some w → mem a ≡ Some w) → (a : ℕ) (c : Instr) → SpelledAt (rom_word rom) a c → ReadsAt mem a c
 rom_reads mem rom m a c (one {word = w} e s) = reads1 (m a w e) s
 rom_reads mem rom m a c (two {first = v} {second = w} e1 e2 s) =
@@ -172,7 +160,7 @@ rom_reads mem rom m a c (two {first = v} {second = w} e1 e2 s) =
     let n : a + 1 ≡ on a 1 = omega arith in
     reads2 (m a v e1) (subst (λ x. mem x ≡ Some w) n (m (a + 1) w e2)) (first_size s) s
 
-rom_inside : (rom : List ℕ) (a : ℕ) (c : Instr) → SpelledAt (rom_word rom) a c → (2048 ≤ a) × (a < 3072)
+rom_inside : (rom : List ℕ) (a : ℕ) (c : Instr) → SpelledAt (rom_word rom) a c → (first_word rom ≤ a) × (a < 0xC00)
 rom_inside rom a c (one {word = w} e s) = rom_some rom a w e
 rom_inside rom a c (two {first = v} e1 e2 s) = rom_some rom a v e1
 
@@ -200,7 +188,7 @@ reads_unique mem a c c' (reads2 {v = v} {w = w} e e2 f s) (reads2 {v = v'} {w = 
     let l = same_some w w' (sym e2 ∙ e2') in
     same_spelling _ _ _ s (subst (λ y. Spells c' (v ∷ y ∷ [])) (sym l) (subst (λ x. Spells c' (x ∷ w' ∷ [])) (sym k) s'))
 
-module _ (h : Half) (F : List OpKind) (rom : List ℕ) (mem : ℕ → Option ℕ) (draft : IsDraft F) (image : IsImage rom) (closed : Closed F rom) (holds : HasFrame mem h F rom) where
+module _ (h : Half) (F : List OpKind) (rom : List ℕ) (mem : ℕ → Option ℕ) (draft : IsDraft F) (image : IsRom rom) (closed : Closed F rom) (holds : HasFrame mem h F rom) where
   op_of : (i : ℕ) (op : OpKind) → slice_get F i ≡ Some op → IsOp op
   op_of i op e =
       let n = slice_get_within F i op e in
@@ -242,11 +230,11 @@ module _ (h : Half) (F : List OpKind) (rom : List ℕ) (mem : ℕ → Option ℕ
   -- a place of the draft, or of the ROM
   abbrev Inside : Place → Type 0
   Inside (InFrame i) = i < length F
-  Inside (InRom a) = (2048 ≤ a) × (a < 3072)
+  Inside (InRom a) = (first_word rom ≤ a) × (a < 0xC00)
 
-  not_outside : (a : ℕ) → ¬ IsOutside a → (2048 ≤ a) × (a < 3072)
+  not_outside : (a : ℕ) → ¬ IsOutside rom a → (first_word rom ≤ a) × (a < 0xC00)
   not_outside a n =
-      ⊎_elim (λ lt. absurd (n (inl lt))) (λ ge. ⊎_elim (λ lt. (ge, lt)) (λ ge2. absurd (n (inr ge2))) (cases_lt a 3072)) (cases_lt a 2048)
+      ⊎_elim (λ lt. absurd (n (inl lt))) (λ ge. ⊎_elim (λ lt. (ge, lt)) (λ ge2. absurd (n (inr ge2))) (cases_lt a 0xC00)) (cases_lt a (first_word rom))
 
   after_inside : (p after : Place) (d : ℕ) (act : Act Place) → IsFine F rom p d → Stands F rom p act after → GoesPast act → Inside after
   after_inside p after d act f (in_frame {i = i} {op = op} e ea) g =
@@ -282,28 +270,21 @@ module _ (h : Half) (F : List OpKind) (rom : List ℕ) (mem : ℕ → Option ℕ
   inside p d begin = some_first F closed.begins
   inside p d (step {p = q} {d = e} r f l) = lead_inside q p e d f l
 
-  word_size : (k : ℕ) → k < 1024 → word_in rom k < 65536
-  word_size k lt =
-      let c = image.count in
-      let a : get_or rom (2 * k) 0 < 256 = All-get_or (λ b. b < 256) rom (2 * k) 0 (omega arith) image.bytes in
-      let b : get_or rom (2 * k + 1) 0 < 256 = All-get_or (λ b. b < 256) rom (2 * k + 1) 0 (omega arith) image.bytes in
-      omega arith
-
-  stands_rom : (a d : ℕ) → 2048 ≤ a → a < 3072 → IsFine F rom (InRom a) d → (act : Act Place) × (after : Place) × Stands F rom (InRom a) act after
+  stands_rom : (a d : ℕ) → first_word rom ≤ a → a < 0xC00 → IsFine F rom (InRom a) d → (act : Act Place) × (after : Place) × Stands F rom (InRom a) act after
   stands_rom a d h1 h2 f =
       let e = rom_there rom a h1 h2 in
-      let n = word_size (a - 2048) (omega arith) in
+      let n = word_fits rom a image h1 h2 in
       ⊎_elim
       (λ lt.
       let b = not_outside (a + 1) (λ o. f (OutOfRom (InRom a)) (second e lt o)) in
       let e2 = rom_there rom (a + 1) b.0 b.1 in
-      let n2 = word_size (a + 1 - 2048) (omega arith) in
-      let c = two_words (word_in rom (a - 2048)) (word_in rom (a + 1 - 2048)) lt n2 in
+      let n2 = word_fits rom (a + 1) image b.0 b.1 in
+      let c = two_words (word_in rom (a - first_word rom)) (word_in rom (a + 1 - first_word rom)) lt n2 in
       (act_by InRom c.0, InRom (a + word_count c.0), in_rom (two e e2 c.1) refl))
       (λ ge.
-      let c = one_word (word_in rom (a - 2048)) ge n in
+      let c = one_word (word_in rom (a - first_word rom)) ge n in
       (act_by InRom c.0, InRom (a + word_count c.0), in_rom (one e c.1) refl))
-      (cases_lt (word_in rom (a - 2048)) 45056)
+      (cases_lt (word_in rom (a - first_word rom)) 45056)
 
   stands_in : (p : Place) (d : ℕ) → Inside p → IsFine F rom p d → (act : Act Place) × (after : Place) × Stands F rom p act after
   stands_in (InFrame i) d n f =
@@ -335,4 +316,4 @@ module _ (h : Half) (F : List OpKind) (rom : List ℕ) (mem : ℕ → Option ℕ
 
       behind_in : (q : Place) → Inside q → (1 ≤ addr h F q) × (addr h F q < 4095)
       behind_in (InFrame i) n = let l = low h in let k = at_size h F i closed.fits in (omega arith, omega arith)
-      behind_in (InRom a) n = let l = n.0 in let u = n.1 in (omega arith, omega arith)
+      behind_in (InRom a) n = let l = n.0 in let u = n.1 in let past = behind_ram rom in (omega arith, omega arith)

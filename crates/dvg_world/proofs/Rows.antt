@@ -1,5 +1,5 @@
 -- Worked examples of legal logs, over a RAM and a ROM of zeros.
-use Rattle.std.proofs.Common.{◌≡◌, ℕ, zero, suc, ◌+◌, ◌<◌, ◌≤◌, pos, negsuc, true, false, List, [], ◌∷◌, ◌++◌, length, Option, Some, None, refl, sym, ap, ◌∙◌, subst, lit<, lit≤, replicate, arith}
+use Rattle.std.proofs.Common.{inl, ◌≡◌, ℕ, zero, suc, ◌+◌, ◌<◌, ◌≤◌, pos, negsuc, true, false, List, [], ◌∷◌, ◌++◌, length, Option, Some, None, refl, sym, ap, ◌∙◌, subst, lit<, lit≤, replicate, arith}
 use Rattle.std.specs.Prelude.{slice_get, option_and_then, is_none}
 use Rattle.std.proofs.lemmas.Option.{same_Some}
 use Rattle.std.proofs.lemmas.List.Elements.{All-replicate, All-from_recursion}
@@ -11,7 +11,7 @@ use Rattle.dvg_code.specs.Spelling.{Spells, labs, halt, jmpl}
 use Rattle.dvg_code.proofs.Rows.{long_vector}
 use Rattle.dvg_mem.specs.declared.half.Half.{Half}
 use Rattle.dvg_mem.specs.declared.half.Half.TheVariants.{H0}
-use Rattle.dvg_mem.specs.Memory.{IsImage}
+use Rattle.dvg_mem.specs.Memory.{IsImage, IsRom}
 use Rattle.dvg_gen.specs.Bytes.{Met, Waits, Whole}
 use Rattle.dvg_gen.specs.declared.stroke.Stroke.{Stroke}
 use Rattle.dvg_gen.specs.Run.{Visit, first, one, two}
@@ -41,6 +41,9 @@ use Rattle.dvg_driver.proofs.Places.{whole_rests, write_fits}
 
 abbrev zeros : List ℕ
 zeros = replicate 2048 0
+
+is_rom : IsRom zeros
+is_rom = record { count = inl (length-replicate {A = ℕ} 2048 0); bytes = All-replicate (λ b. b < 256) 2048 0 (lit< tt) }
 
 is_image : IsImage zeros
 is_image = record { count = length-replicate {A = ℕ} 2048 0; bytes = All-replicate (λ b. b < 256) 2048 0 (lit< tt) }
@@ -183,7 +186,7 @@ abbrev started : Log
 started = (Strobe ⟼ Started) ∷ did Sent ∷ did (Read true) ∷ published
 
 booted_legal : LegalOverZeros (did (Read true) ∷ did Peek ∷ [])
-booted_legal = ticked (did Peek ∷ []) (Read true) _ (ticked [] Peek _ (is_image, is_image) refl tt) refl refl
+booted_legal = ticked (did Peek ∷ []) (Read true) _ (ticked [] Peek _ (is_rom, is_image) refl tt) refl refl
 
 offered_legal : LegalOverZeros offered
 offered_legal = ((accepts zeros, rests_whole (life zeros (did (Read true) ∷ did Peek ∷ [])) true refl), is_draft, booted_legal)
@@ -378,4 +381,4 @@ not_idle whole = let rests = whole_rests [] whole in let e = rests.1 in cc
 
 -- before the driver has booted: no strobe was sent, no run is open, there is nothing to draw again, and it is busy
 pub refusals : LegalOverZeros ((Offer F1 ⟼ Busy) ∷ (Redraw ⟼ NothingPublished) ∷ (Fetch ⟼ Still) ∷ (Strobe ⟼ NoStrobe) ∷ [])
-refusals = ((accepts zeros, not_idle), is_draft, (refl, tt, (refl, tt, (refl, tt, (is_image, is_image)))))
+refusals = ((accepts zeros, not_idle), is_draft, (refl, tt, (refl, tt, (refl, tt, (is_rom, is_image)))))

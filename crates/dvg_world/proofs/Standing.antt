@@ -4,7 +4,7 @@ use Rattle.std.proofs.lemmas.Bool.{eqb-true, eqb-false}
 use Rattle.std.proofs.lemmas.List.{get_or-set_other, get_or-set_same}
 use Rattle.std.specs.Prelude.{◌↔◌, IsTrue, IsNone, OnErr, Result, Ok, Err, is_some, is_none, slice_index, slice_set, nat_eq, if◌then◌else◌}
 use Rattle.dvg_mem.specs.Areas.{half_of_high, other}
-use Rattle.dvg_mem.specs.Memory.{fetched_byte, IsImage}
+use Rattle.dvg_mem.specs.Memory.{fetched_byte, IsImage, IsRom}
 use Rattle.dvg_gen.specs.Bytes.{Met, met, Waits, Whole, word_of}
 use Rattle.dvg_gen.specs.Completing.{DrawsNothing}
 use Rattle.dvg_gen.specs.declared.stroke.Stroke.{Stroke}
@@ -42,7 +42,7 @@ pub adds_between : {old old' new new' : State} (event : Happening) (entry : Show
 adds_between {old' = old'} {new = new} event entry same_old same_new adds =
     subst (λ s. AddsLine s event entry new) same_old (subst (λ s. AddsLine old' event entry s) (sym same_new) adds)
 
-pub new_world : (rom image bytes : List ℕ) (machine : Machine) (stage : Stage) → IsImage rom → IsImage bytes → bytes ≡ image → generator.HasTaken machine [] None
+pub new_world : (rom image bytes : List ℕ) (machine : Machine) (stage : Stage) → IsRom rom → IsImage bytes → bytes ≡ image → generator.HasTaken machine [] None
     → ((peeked : ℕ) → driver.StandsAfter stage peeked []) → WorldAfter rom image [] (world_of rom bytes machine stage false)
 new_world rom image bytes machine stage r b same g d = record {
   legal = (r, subst IsImage same b);

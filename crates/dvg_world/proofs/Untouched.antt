@@ -2,7 +2,7 @@
 use Rattle.std.proofs.Common.{◌≡◌, ℕ, suc, List, [], ◌∷◌, length, Option, Some, None, refl, sym, ap, ◌∙◌, subst}
 use Rattle.std.specs.Prelude.{option_map}
 use Rattle.std.proofs.lemmas.Option.{same_Some}
-use Rattle.dvg_mem.specs.Memory.{fetched, IsImage}
+use Rattle.dvg_mem.specs.Memory.{fetched, IsRom}
 use Rattle.dvg_gen.specs.Run.{wanted, fate, strokes, Runs, begins, fetches}
 use Rattle.dvg_gen.specs.Told.{Newest, Leaves, starts, takes, More, Drew, reply}
 use Rattle.dvg_gen.proofs.Replies.{drew_finished}
@@ -22,9 +22,9 @@ use Rattle.dvg_world.proofs.Least.{finished_picture}
 use Rattle.dvg_world.proofs.Linked.{added, fetching}
 
 -- the ROM of a legal log
-image_of : (R image : List ℕ) (log : Log) → IsLegal R image log → IsImage R
-image_of R image [] legal = legal.0
-image_of R image ((event ⟼ entry) ∷ log) legal = image_of R image log legal.2
+rom_of : (R image : List ℕ) (log : Log) → IsLegal R image log → IsRom R
+rom_of R image [] legal = legal.0
+rom_of R image ((event ⟼ entry) ∷ log) legal = rom_of R image log legal.2
 
 -- a run with one more fetch had the others
 before_fetch : (fetch : ℕ × ℕ) (run : Option (List (ℕ × ℕ))) (met : List (ℕ × ℕ)) → option_map (λ older. fetch ∷ older) run ≡ Some met → (older : List (ℕ × ℕ)) × (run ≡ Some older) × (fetch ∷ older ≡ met)
@@ -63,7 +63,7 @@ held_line R image log Fetch (Done a word drew) legal is_there fits = λ half F m
     let runs = fetches (runs_over R image log legal same fetch.asked.leaves met is_open) fetching_run.goes there more.2 in
     let end = drew_finished more.1 (fate more.0) (strokes fetch.asked.run.first more.0) drew (ap (λ run. reply (Some word) run) (sym more.3) ∙ fetch.replies) in
     let whole = subst (λ held. Runs memory (suc (length met)) more.0 held) end.0 runs in
-    let drawn = undisturbed half F (ram image log) R draft (image_of R image log legal) closed holds in
+    let drawn = undisturbed half F (ram image log) R draft (rom_of R image log legal) closed holds in
     subst (λ strokes. IsPicture F R strokes (suc (length met))) end.2 (finished_picture drawn fetch.asked.run.first whole end.1)
 held_line R image log event (Done a word drew) legal there fits = absurd fits
 held_line R image log event entry legal there fits = tt

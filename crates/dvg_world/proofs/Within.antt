@@ -41,7 +41,7 @@ module _ (R image : List ℕ) where
   in_time : (P : ℕ → List Stroke → ℕ → Type 0) → ((number : ℕ) (drew : List Stroke) (n : ℕ) → P number drew n → number ≤ 2 * n) → (log : Log) → IsLegal R image log → ByPicture R log P → IsBounded log
   in_time P low log legal by words F o shown =
       let checked = shown_checked log words F legal o shown in
-      let it = some_picture F R checked.image checked.accepts.closed checked.accepts.ends in
+      let it = some_picture F R checked.rom checked.accepts.closed checked.accepts.ends in
       (it.1, (it.0, it.2), it.3, low _ it.0 it.1 (by words F it.0 it.1 o shown it.2))
 
   goes_on : (log : Log) → IsLegal R image log → ByPicture R log (λ number drew n. number < 2 * n) → IsBounded log

@@ -3,7 +3,7 @@ use Rattle.std.specs.Prelude.{◌≡◌, ◌≢◌, ℕ, suc, ◌+◌, ◌<◌, 
 use Rattle.dvg_mem.specs.declared.half.Half.{Half}
 use Rattle.dvg_mem.specs.Areas.{base}
 use Rattle.dvg_code.specs.Words.{word_in}
-use Rattle.dvg_mem.specs.Memory.{rom_word, fetched, IsImage}
+use Rattle.dvg_mem.specs.Memory.{rom_word, fetched, IsRom}
 use Rattle.dvg_gen.specs.declared.beam.Beam.{Beam}
 use Rattle.dvg_gen.specs.declared.stroke.Stroke.{Stroke}
 use Rattle.dvg_gen.specs.declared.taken.GenFault.{GenFault}
@@ -48,21 +48,21 @@ pub record IsDrawn (F : List OpKind) (R : List ℕ) (memory : ℕ → Option ℕ
 
 -- the draft of a checked frame is drawn out of each memory that has it
 abbrev pub AnyMemory : Type 0
-AnyMemory = (half : Half) (F : List OpKind) (R : List ℕ) (memory : ℕ → Option ℕ) → IsDraft F → IsImage R → Closed F R
+AnyMemory = (half : Half) (F : List OpKind) (R : List ℕ) (memory : ℕ → Option ℕ) → IsDraft F → IsRom R → Closed F R
     → HasFrame memory half F R → IsDrawn F R memory
 
 -- the same of a RAM beside the ROM
 abbrev pub Undisturbed : Type 0
-Undisturbed = (half : Half) (F : List OpKind) (ram R : List ℕ) → IsDraft F → IsImage R → Closed F R
+Undisturbed = (half : Half) (F : List OpKind) (ram R : List ℕ) → IsDraft F → IsRom R → Closed F R
     → HoldsFrame ram half F → IsDrawn F R (fetched ram R)
 
 -- no run that goes on wants word zero again
 abbrev pub OnlyFirst : Type 0
-OnlyFirst = (half : Half) (F : List OpKind) (R : List ℕ) (memory : ℕ → Option ℕ) → IsDraft F → IsImage R → Closed F R → HasFrame memory half F R
+OnlyFirst = (half : Half) (F : List OpKind) (R : List ℕ) (memory : ℕ → Option ℕ) → IsDraft F → IsRom R → Closed F R → HasFrame memory half F R
     → (n : ℕ) (visits : List Visit) (held : Option ℕ) → Runs memory (suc n) visits held → fate visits ≡ Goes → wanted visits held ≢ 0
 
 -- where the draft has a picture of n words, no run has more, and each of n ends in HALT with the picture's strokes
 abbrev pub EndsInTime : Type 0
-EndsInTime = (half : Half) (F : List OpKind) (R : List ℕ) (memory : ℕ → Option ℕ) → IsDraft F → IsImage R → Closed F R → HasFrame memory half F R
+EndsInTime = (half : Half) (F : List OpKind) (R : List ℕ) (memory : ℕ → Option ℕ) → IsDraft F → IsRom R → Closed F R → HasFrame memory half F R
     → (beam : Beam) (drew : List Stroke) (n : ℕ) → IsPicture F R drew n → (m : ℕ) (visits : List Visit) (held : Option ℕ) → Runs memory m visits held
     → (m ≤ n) × (m ≡ n → (held ≡ None) × (fate visits ≡ Finished) × (strokes beam visits ≡ drew))

@@ -1,6 +1,6 @@
 -- Legal logs: each event has the entry that it gets over the log before it.
 use Rattle.std.specs.Prelude.{◌≡◌, ℕ, true, false, List, [], ◌∷◌, Option, Some, None, is_none}
-use Rattle.dvg_mem.specs.Memory.{IsImage}
+use Rattle.dvg_mem.specs.Memory.{IsImage, IsRom}
 use Rattle.dvg_gen.specs.Bytes.{Waits, Whole}
 use Rattle.dvg_gen.specs.Told.{Told, Fed, Newest, Leaves, Reply, More, Drew, Fails, reply, wants}
 use Rattle.dvg_frame.specs.Faults.{Refuses, Accepts}
@@ -50,7 +50,7 @@ Fits R image log event entry = ⊥
 
 -- a legal log over a ROM and a first image of the RAM
 abbrev pub IsLegal : List ℕ → List ℕ → Log → Type 0
-IsLegal R image [] = IsImage R × IsImage image
+IsLegal R image [] = IsRom R × IsImage image
 IsLegal R image ((event ⟼ entry) ∷ log) = Fits R image log event entry × IsEvent event × IsLegal R image log
 
 -- over each ROM and from each first image, this holds of each line of each legal log

@@ -24,7 +24,7 @@ settle-requires g t c κs within =
       (
         within,
         (
-          c.requires.image,
+          c.requires.rom,
           (
             c.requires.begins,
             (

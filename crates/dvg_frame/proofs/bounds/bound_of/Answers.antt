@@ -17,14 +17,14 @@ returns-then-first g c =
 
 pub overflow_add-result : goal.overflow_add-result
 overflow_add-result g c =
-    let low = small _ _ c.requires.begins _ c.settle.ensures.entries _ (omega arith) c.entry-first.ensures c.requires.image
+    let low = small _ _ c.requires.begins _ c.settle.ensures.entries _ (omega arith) c.entry-first.ensures c.requires.rom
     (fits_by _ (λ returns. let never : true ≡ false = sym returns ∙ c.if-first.false in cc) c.if-first-gt-DEEPEST.false) in
     omega arith
 
 pub returns : goal.returns
 returns g c =
     let fits = fits_by c.entry-first.result (λ returns. let never : true ≡ false = sym returns ∙ c.if-first.false in cc) c.if-first-gt-DEEPEST.false in
-    let all = accepted _ _ c.requires.begins _ c.settle.ensures.entries _ (omega arith) c.entry-first.ensures c.requires.image fits in
-    let words = bound _ _ c.requires.begins _ c.settle.ensures.entries _ (omega arith) c.entry-first.ensures c.requires.image fits in
-    let low = small _ _ c.requires.begins _ c.settle.ensures.entries _ (omega arith) c.entry-first.ensures c.requires.image fits in
+    let all = accepted _ _ c.requires.begins _ c.settle.ensures.entries _ (omega arith) c.entry-first.ensures c.requires.rom fits in
+    let words = bound _ _ c.requires.begins _ c.settle.ensures.entries _ (omega arith) c.entry-first.ensures c.requires.rom fits in
+    let low = small _ _ c.requires.begins _ c.settle.ensures.entries _ (omega arith) c.entry-first.ensures c.requires.rom fits in
     (all, words, low)

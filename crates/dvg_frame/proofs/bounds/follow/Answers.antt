@@ -11,7 +11,7 @@ returns-then-is_some-clause-followed g c =
     record {
       pairs = i.pairs;
       is = i.is;
-      chain = chain_to _ _ c.requires.begins _ _ _ _ i.pairs i.linked (has_some _ _ _ i.inside _ _ c.at.ensures c.is_some.ensures c.if-is_some.true);
+      chain = chain_to _ _ c.requires.begins _ _ _ _ i.pairs i.linked (has_some _ _ _ _ i.inside _ _ c.at.ensures c.is_some.ensures c.if-is_some.true);
     }
 
 pub returns-in-None-clause-followed : goal.returns-in-None-clause-followed

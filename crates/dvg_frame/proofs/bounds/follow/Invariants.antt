@@ -11,6 +11,6 @@ invariant-loop-step g l = record {
   is : l.chain ≡ l.fn.chain ++ pairs;
   linked : Linked l.draft l.rom l.fn.start.depth l.fn.start.place pairs l.place;
   count : length pairs ≡ l.step;
-  inside : IsPlaceOf l.draft l.place;
+  inside : IsPlaceOf l.draft l.rom l.place;
   reached : AllFine l.draft l.rom → Reached l.draft l.rom l.place l.fn.start.depth;
 }

@@ -3,7 +3,7 @@ use Rattle.dvg_frame.proofs.Words.{stands_halt, stands_call, stands_return, stan
 use Rattle.dvg_frame.proofs.way.rom_way.Goals as goal
 
 pub returns-else-a-eq-ROM_END : goal.returns-else-a-eq-ROM_END
-returns-else-a-eq-ROM_END g c = λ F. stands_long F _ _ _ c.word-word.ensures c.requires.image c.requires.low (omega arith) c.if-word-lt45056.true
+returns-else-a-eq-ROM_END g c = λ F. stands_long F _ _ _ c.word-word.ensures c.requires.rom c.requires.low (omega arith) c.if-word-lt45056.true
 
 pub returns-in-11 : goal.returns-in-11
 returns-in-11 g c = let opcode = c.in-11.is in λ F. stands_halt F _ _ _ c.word-word.ensures (omega arith) (omega arith)
