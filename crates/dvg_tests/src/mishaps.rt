@@ -88,15 +88,23 @@ fn does_well(alloc: Global, task: Task) -> Result<bool, Fail> {
     )
 }
 
+/// Whether each read of a task fails it, in each way.
+fn each_read_fails(alloc: Global, task: Task) -> Result<bool, Fail> {
+    for calls_before in 0..reads(task)? {
+        for way in [WAYS[0], WAYS[1], WAYS[2], WAYS[3]] {
+            if !read_fails(alloc, task, calls_before, way) {
+                return Ok(false);
+            }
+        }
+    }
+    Ok(true)
+}
+
 #[test]
 fn each_read_fails_in_turn(rt: HostRuntime) -> Result<(), Fail> {
     let rom = vec![in rt.alloc(); 0xD0u8; MEMORY_BYTES]?;
     for task in tasks(rom.as_slice()) {
-        for calls_before in 0..reads(task)? {
-            for way in [WAYS[0], WAYS[1], WAYS[2], WAYS[3]] {
-                assert!(rt; read_fails(rt.alloc(), task, calls_before, way), "{way:?}");
-            }
-        }
+        assert!(rt; each_read_fails(rt.alloc(), task)?);
         assert!(rt; does_well(rt.alloc(), task)?);
     }
     Ok(())
@@ -133,19 +141,24 @@ fn write_fails(
     )
 }
 
+/// Whether each write of a task fails it, in each way.
+fn each_write_fails(alloc: Global, task: Task) -> Result<bool, Fail> {
+    let wanted = written(alloc, task)?;
+    for calls_before in 0..writes(wanted.as_slice(), task.step) {
+        for way in WAYS {
+            if !write_fails(alloc, task, wanted.as_slice(), calls_before, way)? {
+                return Ok(false);
+            }
+        }
+    }
+    Ok(true)
+}
+
 #[test]
 fn each_write_fails_in_turn(rt: HostRuntime) -> Result<(), Fail> {
     let rom = vec![in rt.alloc(); 0xD0u8; MEMORY_BYTES]?;
     for task in tasks(rom.as_slice()) {
-        let wanted = written(rt.alloc(), task)?;
-        for calls_before in 0..writes(wanted.as_slice(), task.step) {
-            for way in WAYS {
-                assert!(rt;
-                    write_fails(rt.alloc(), task, wanted.as_slice(), calls_before, way)?,
-                    "{way:?}"
-                );
-            }
-        }
+        assert!(rt; each_write_fails(rt.alloc(), task)?);
     }
     Ok(())
 }

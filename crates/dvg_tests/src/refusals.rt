@@ -2,8 +2,8 @@
 use crate::scripts::Picture::F1;
 use crate::scripts::Step::{Fetch, Offer, Strobe, Tick};
 use crate::scripts::{Step, entries_text, events, image, rom, transcript};
-use dvg_mem::Flat;
-use dvg_world::{Entry, World, run};
+use dvg_mem::{Flat, Image, Rom};
+use dvg_world::{Entry, Event, World, run};
 use linked_list_allocator::LocalHeap;
 use std::alloc::Global;
 use std::test::Fail;
@@ -24,6 +24,31 @@ enum Stop {
     Nowhere,
 }
 
+/// Where a run of these events stops, and its entries up to there.
+fn ran<'a>(
+    heap: &'a LocalHeap,
+    rom: Rom<&'a LocalHeap>,
+    image: &Image<&'a LocalHeap>,
+    events: &[Event<&'a LocalHeap>],
+) -> (Vec<Entry<&'a LocalHeap>, &'a LocalHeap>, Stop) {
+    match run::<Flat<&LocalHeap>>(heap, rom, image, events) {
+        Ok(entries) => (entries, Stop::Nowhere),
+        Err(stopped) => (stopped.entries, Stop::At(stopped.event)),
+    }
+}
+
+/// Whether these are the entries before the place of a stop, as they are where nothing stops.
+fn are_before(
+    alloc: Global,
+    wanted: &[u8],
+    entries: &[Entry<&LocalHeap>],
+    stopped: Stop,
+) -> Result<bool, Fail> {
+    let text = entries_text(alloc, entries)?;
+    let is_number = Stop::At(entries.len()) == stopped || entries.len() == 30;
+    Ok(is_number && wanted.starts_with(text.as_slice()))
+}
+
 /// Where the first picture's run stops in a heap of which a blocker takes so many bytes.
 fn place_of_stop(alloc: Global, wanted: &[u8], blocked: usize) -> Result<Stop, Fail> {
     let heap = LocalHeap::new(alloc, AMPLE)?;
@@ -33,15 +58,9 @@ fn place_of_stop(alloc: Global, wanted: &[u8], blocked: usize) -> Result<Stop, F
     let Ok(blocker) = Vec::<u8, &LocalHeap>::with_capacity(&heap, blocked) else {
         return Ok(Stop::Before);
     };
-    let (entries, stopped) = match run::<Flat<&LocalHeap>>(&heap, rom, &image, events.as_slice()) {
-        Ok(entries) => (entries, Stop::Nowhere),
-        Err(stopped) => (stopped.entries, Stop::At(stopped.event)),
-    };
+    let (entries, stopped) = ran(&heap, rom, &image, events.as_slice());
     drop(blocker);
-    let text = entries_text(alloc, entries.as_slice())?;
-    if !wanted.starts_with(text.as_slice())
-        || Stop::At(entries.len()) != stopped && entries.len() != 30
-    {
+    if !are_before(alloc, wanted, entries.as_slice(), stopped)? {
         return Err("not the entries before".into());
     }
     Ok(stopped)
@@ -78,15 +97,29 @@ fn fillers(alloc: Global, heap: &LocalHeap) -> Result<Vec<Vec<u8, &LocalHeap>>, 
     Ok(fillers)
 }
 
+/// The first picture's events before that, in a world.
+fn happen_before_the_vector<'a>(
+    world: &mut World<Flat<&'a LocalHeap>>,
+    events: &[Event<&'a LocalHeap>],
+) -> bool {
+    for event in events.iter().take(26) {
+        if world.apply(event).is_err() {
+            return false;
+        }
+    }
+    true
+}
+
 /// A world in which the first byte of the vector's second word is fetched next.
 fn before_the_vector<'a>(
     alloc: Global,
     heap: &'a LocalHeap,
 ) -> Result<World<Flat<&'a LocalHeap>>, Fail> {
+    let events = events(alloc, heap, &STEPS)?;
     let image = image(alloc, heap, 0)?;
     let mut world = World::new(heap, rom(alloc, heap, &[])?, &image)?;
-    for event in events(alloc, heap, &STEPS)?.as_slice().iter().take(26) {
-        let _ = world.apply(event)?;
+    if !happen_before_the_vector(&mut world, events.as_slice()) {
+        return Err("refused".into());
     }
     Ok(world)
 }
