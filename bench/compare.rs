@@ -93,6 +93,11 @@ const PART_ROWS: &[Row] = &[
         Vec::new,
     ),
     row(
+        "200 checks, 2,048 ROM words at 5 depths",
+        &["check-large"],
+        Vec::new,
+    ),
+    row(
         "200 checks, 512 ROM words at 5 depths",
         &["check-half"],
         Vec::new,

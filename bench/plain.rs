@@ -29,11 +29,14 @@ use std::process::ExitCode;
 /// The most bytes that `list` takes as its input.
 const MOST_LIST_BYTES: usize = 8192;
 
-/// The bytes that `rom` takes as its input.
+/// The bytes of a ROM, which `rom` takes as its input.
 const ROM_BYTES: usize = 2048;
 
-/// The word address of a ROM's first word.
-const FIRST_ROM_WORD: usize = 0x800;
+/// The bytes of the larger ROM.
+const LARGE_ROM_BYTES: usize = 4096;
+
+/// The word address behind a ROM's last word.
+const ROM_END: usize = 0xC00;
 
 /// How many bytes of a ROM stand in a line.
 const ROM_LINE_BYTES: usize = 16;
@@ -211,12 +214,18 @@ fn list_words(bytes: &[u8], writer: &mut impl Write) -> Result<(), Fault> {
     Ok(())
 }
 
-/// Writes a line for each eight words of a ROM.
+/// Writes the line of the map of the larger ROM, and a line for each eight words.
 fn write_rom(bytes: &[u8], writer: &mut impl Write) -> Result<(), Fault> {
+    if bytes.len() == LARGE_ROM_BYTES {
+        writer
+            .write_all(b"map 4096\n")
+            .map_err(|_| Fault::Writer)?;
+    }
+    let first = ROM_END - bytes.len() / 2;
     for (row, part) in bytes.chunks(ROM_LINE_BYTES).enumerate() {
         let mut line = Line::new();
         line.text(b"rom ");
-        line.hex::<3>(FIRST_ROM_WORD + row * ROM_LINE_BYTES / 2);
+        line.hex::<3>(first + row * ROM_LINE_BYTES / 2);
         for word in part.as_chunks().0 {
             line.push(b' ');
             line.hex::<4>(usize::from(u16::from_le_bytes(*word)));
@@ -266,12 +275,13 @@ fn list() -> Result<(), Fault> {
 
 /// Writes the ROM that standard input holds as text on standard output.
 fn rom() -> Result<(), Fault> {
-    let mut buffer = [0; ROM_BYTES + 1];
-    if read_input(&mut buffer)? != ROM_BYTES {
+    let mut buffer = [0; LARGE_ROM_BYTES + 1];
+    let length = read_input(&mut buffer)?;
+    if length != ROM_BYTES && length != LARGE_ROM_BYTES {
         return Err(Fault::RomSize);
     }
     let mut writer = output()?;
-    write_rom(&buffer[..ROM_BYTES], &mut writer)?;
+    write_rom(&buffer[..length], &mut writer)?;
     writer.flush().map_err(|_| Fault::Writer)
 }
 

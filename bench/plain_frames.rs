@@ -5,8 +5,35 @@ use std::fmt;
 /// The most operations of a draft, and the most words of a frame.
 pub const MOST: usize = 511;
 
-/// The words of a ROM, from word address 800 on.
-pub type Rom = [u16; 1024];
+/// The word address behind a ROM's last word.
+const ROM_END: u16 = 0xC00;
+
+/// A ROM.
+pub struct Rom {
+    /// The word address of its first word: 800, or 400 of the larger one.
+    pub first: u16,
+    pub words: Vec<u16>,
+}
+
+impl Rom {
+    /// A ROM of this word alone.
+    pub fn of(first: u16, word: u16) -> Rom {
+        Rom {
+            first,
+            words: vec![word; usize::from(ROM_END - first)],
+        }
+    }
+
+    /// Whether a word address is one of the ROM's.
+    pub fn has(&self, a: u16) -> bool {
+        (self.first..ROM_END).contains(&a)
+    }
+
+    /// The word at a word address of the ROM.
+    pub fn word(&self, a: u16) -> u16 {
+        self.words[usize::from(a - self.first)]
+    }
+}
 
 /// An instruction that a draft draws by.
 #[derive(Clone, Copy)]
@@ -108,27 +135,29 @@ enum Way {
 const DEPTHS: usize = 5;
 
 /// How many places there are.
-const PLACES: usize = MOST + 1024;
+fn places(rom: &Rom) -> usize {
+    MOST + rom.words.len()
+}
 
 /// The number of a place: operations come before words of the ROM.
-fn number(place: Place) -> usize {
+fn number(rom: &Rom, place: Place) -> usize {
     match place {
         Place::Op(i) => usize::from(i),
-        Place::Word(a) => MOST + usize::from(a - 0x800),
+        Place::Word(a) => MOST + usize::from(a - rom.first),
     }
 }
 
-fn is_outside(place: Place) -> bool {
-    matches!(place, Place::Word(a) if !(0x800..0xC00).contains(&a))
+fn is_outside(rom: &Rom, place: Place) -> bool {
+    matches!(place, Place::Word(a) if !rom.has(a))
 }
 
 /// The way on from a word of the ROM; none where the ROM ends within the instruction.
 fn rom_way(rom: &Rom, a: u16) -> Option<Way> {
-    let word = rom[usize::from(a - 0x800)];
+    let word = rom.word(a);
     let target = Place::Word(word & 0xFFF);
     let behind = Place::Word(a + 1);
     Some(match word >> 12 {
-        0..=0xA if a + 1 == 0xC00 => return None,
+        0..=0xA if a + 1 == ROM_END => return None,
         0..=0xA => Way::Move(Place::Word(a + 2), 2),
         0xB => Way::Halt,
         0xC => Way::Call(target, behind),
@@ -164,10 +193,10 @@ fn look(ops: &[Op], rom: &Rom, place: Place, depth: usize) -> Result<Way, FrameF
         return Err(FrameFault::RunsOff(i));
     }
     match way {
-        Way::Move(next, _) | Way::Jump(next) if is_outside(next) => {
+        Way::Move(next, _) | Way::Jump(next) if is_outside(rom, next) => {
             Err(FrameFault::OutOfRom(place))
         }
-        Way::Call(target, behind) if is_outside(target) || is_outside(behind) => {
+        Way::Call(target, behind) if is_outside(rom, target) || is_outside(rom, behind) => {
             Err(FrameFault::OutOfRom(place))
         }
         Way::Call(..) if depth + 1 == DEPTHS => Err(FrameFault::TooDeep(place)),
@@ -177,14 +206,15 @@ fn look(ops: &[Op], rom: &Rom, place: Place, depth: usize) -> Result<Way, FrameF
 }
 
 /// The pairs of a place and a depth that were come to and not looked at yet, and those that were come to.
-struct Pairs {
-    seen: [bool; PLACES * DEPTHS],
+struct Pairs<'a> {
+    rom: &'a Rom,
+    seen: Vec<bool>,
     open: Vec<(Place, usize)>,
 }
 
-impl Pairs {
+impl Pairs<'_> {
     fn add(&mut self, place: Place, depth: usize) {
-        let seen = &mut self.seen[number(place) * DEPTHS + depth];
+        let seen = &mut self.seen[number(self.rom, place) * DEPTHS + depth];
         if !*seen {
             *seen = true;
             self.open.push((place, depth));
@@ -195,7 +225,8 @@ impl Pairs {
 /// The fault at the first pair, of all that are come to, that has one.
 fn first_fault(ops: &[Op], rom: &Rom) -> Option<FrameFault> {
     let mut pairs = Pairs {
-        seen: [false; PLACES * DEPTHS],
+        rom,
+        seen: vec![false; places(rom) * DEPTHS],
         open: Vec::new(),
     };
     let mut first: Option<(usize, FrameFault)> = None;
@@ -209,7 +240,7 @@ fn first_fault(ops: &[Op], rom: &Rom) -> Option<FrameFault> {
             }
             Ok(Way::Return | Way::Halt) => {}
             Err(fault) => {
-                let number = number(place) * DEPTHS + depth;
+                let number = number(rom, place) * DEPTHS + depth;
                 if first.is_none_or(|(least, _)| number < least) {
                     first = Some((number, fault));
                 }
@@ -233,8 +264,8 @@ enum End {
 struct Drawn<'a> {
     ops: &'a [Op],
     rom: &'a Rom,
-    ends: [End; PLACES],
-    fetches: [u64; PLACES],
+    ends: Vec<End>,
+    fetches: Vec<u64>,
 }
 
 impl Drawn<'_> {
@@ -243,7 +274,7 @@ impl Drawn<'_> {
     /// A place that is come to again while it is open is one of those: if it led to itself through a call, there would be
     /// a call too deep.
     fn from(&mut self, place: Place) -> Option<(End, u64)> {
-        let number = number(place);
+        let number = number(self.rom, place);
         match self.ends[number] {
             End::Unknown => self.ends[number] = End::Open,
             End::Open => return None,
@@ -282,8 +313,8 @@ fn bound(ops: &[Op], rom: &Rom) -> Option<u64> {
     let mut drawn = Drawn {
         ops,
         rom,
-        ends: [End::Unknown; PLACES],
-        fetches: [0; PLACES],
+        ends: vec![End::Unknown; places(rom)],
+        fetches: vec![0; places(rom)],
     };
     let (_, fetches) = drawn.after(1, Place::Op(0))?;
     Some(fetches)

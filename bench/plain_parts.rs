@@ -63,18 +63,21 @@ const LABS: Op = Op::Draw(Instr::Labs {
 });
 
 /// The operations: behind the LABS, the ROM's first word is jumped to from each depth, 0 to 4.
-const NESTED: [Op; 10] = [
-    LABS,
-    Op::Call(3),
-    Op::JumpRom(0x800),
-    Op::Call(5),
-    Op::JumpRom(0x800),
-    Op::Call(7),
-    Op::JumpRom(0x800),
-    Op::Call(9),
-    Op::JumpRom(0x800),
-    Op::JumpRom(0x800),
-];
+fn nested(first: u16) -> [Op; 10] {
+    let jump = Op::JumpRom(first);
+    [
+        LABS,
+        Op::Call(3),
+        jump,
+        Op::Call(5),
+        jump,
+        Op::Call(7),
+        jump,
+        Op::Call(9),
+        jump,
+        jump,
+    ]
+}
 
 /// A short draft: behind the LABS, a call of the return at its end, a short vector and HALT.
 const SHORT: [Op; 5] = [
@@ -106,9 +109,10 @@ fn check_often(checks: u32, ops: &[Op], rom: &Rom) {
 
 /// Checks the nested draft over a ROM of blank SVECs with a HALT as word number `words - 1`.
 fn run_check(words: usize) {
-    let mut rom: Rom = [0xF000; 1024];
-    rom[words - 1] = 0xB000;
-    check_often(CHECKS, &NESTED, &rom);
+    let first = if words > 1024 { 0x400 } else { 0x800 };
+    let mut rom = Rom::of(first, 0xF000);
+    rom.words[words - 1] = 0xB000;
+    check_often(CHECKS, &nested(first), &rom);
 }
 
 /// How often the driver ticks.
@@ -146,7 +150,7 @@ fn full_frame() -> Vec<Op> {
 /// Ticks, and offers the frame again wherever the driver is idle. The flag always shows halted.
 fn run_ticks() {
     let ops = full_frame();
-    let rom: Rom = [0xD000; 1024];
+    let rom = Rom::of(0x800, 0xD000);
     let mut driver = Driver::new();
     let (mut frames, mut writes, mut sum) = (0u32, 0u32, 0u32);
     for _ in 0..TICKS {
@@ -236,7 +240,7 @@ const RUNS: u32 = 100;
 
 /// Runs the events from a RAM of zeros.
 fn run_events() {
-    let rom: Rom = [0xD000; 1024];
+    let rom = Rom::of(0x800, 0xD000);
     let trace = mixed_events();
     let (mut pictures, mut strokes, mut writes) = (0u32, 0u32, 0u32);
     for _ in 0..RUNS {
@@ -259,10 +263,11 @@ fn main() {
     match words.get(1).map(String::as_str) {
         Some("generator") => run_generator(),
         Some("check") => run_check(1024),
+        Some("check-large") => run_check(2048),
         Some("check-half") => run_check(512),
-        Some("check-short") => check_often(SHORT_CHECKS, &SHORT, &[0xD000; 1024]),
+        Some("check-short") => check_often(SHORT_CHECKS, &SHORT, &Rom::of(0x800, 0xD000)),
         Some("driver") => run_ticks(),
         Some("world") => run_events(),
-        _ => eprintln!("usage: plain_parts generator|check|check-half|check-short|driver|world"),
+        _ => eprintln!("usage: plain_parts generator|check|check-large|check-half|check-short|driver|world"),
     }
 }

@@ -91,22 +91,60 @@ pub fn read_op(line: &[u8]) -> Option<Op> {
     last(parts, op)
 }
 
-/// Puts the words of a ROM line into the ROM. None where the line is none.
-pub fn read_rom_line(line: &[u8], rom: &mut Rom) -> Option<()> {
-    let mut parts = line.split(|byte| *byte == b' ');
-    if parts.next()? != b"rom" {
-        return None;
+/// A word that no line gives.
+const UNGIVEN: u16 = 0xD000;
+
+/// The ROM that the lines tell which were read.
+pub struct RomText {
+    is_told: bool,
+    rom: Rom,
+}
+
+impl RomText {
+    pub fn new() -> RomText {
+        RomText {
+            is_told: false,
+            rom: Rom::of(0x800, UNGIVEN),
+        }
     }
-    let mut place = usize::from(hex(parts.next()?, 3)?).checked_sub(0x800)?;
-    let first = place;
-    for part in parts {
-        if place == first + 8 {
+
+    pub fn into_rom(self) -> Rom {
+        self.rom
+    }
+
+    /// Reads one line more. None where it tells nothing of the ROM, or may not stand here.
+    pub fn read(&mut self, line: &[u8]) -> Option<()> {
+        let first = match line {
+            b"map 2048" => 0x800,
+            b"map 4096" => 0x400,
+            _ => return self.read_words(line),
+        };
+        if self.is_told {
             return None;
         }
-        *rom.get_mut(place)? = hex(part, 4)?;
-        place += 1;
+        self.is_told = true;
+        self.rom = Rom::of(first, UNGIVEN);
+        Some(())
     }
-    (first < place).then_some(())
+
+    /// Puts the words of a ROM line into the ROM.
+    fn read_words(&mut self, line: &[u8]) -> Option<()> {
+        let mut parts = line.split(|byte| *byte == b' ');
+        if parts.next()? != b"rom" {
+            return None;
+        }
+        let mut place = usize::from(hex(parts.next()?, 3)?.checked_sub(self.rom.first)?);
+        let first = place;
+        for part in parts {
+            if place == first + 8 {
+                return None;
+            }
+            *self.rom.words.get_mut(place)? = hex(part, 4)?;
+            place += 1;
+        }
+        self.is_told = true;
+        (first < place).then_some(())
+    }
 }
 
 /// The draft and the ROM that a text denotes.
@@ -114,14 +152,14 @@ pub fn read_draft(text: &[u8]) -> Result<(Vec<Op>, Rom), TextFault> {
     if text.len() > MOST_TEXT_BYTES {
         return Err(TextFault::TooLong);
     }
-    let mut rom = [0xD000; 1024];
+    let mut rom = RomText::new();
     let mut ops = Vec::new();
     // The part behind the last LF is no line where it is empty, and such a line is passed over.
     for (line, number) in text.split(|byte| *byte == b'\n').zip(1..) {
         if line.is_empty() || line[0] == b'#' {
             continue;
         }
-        if ops.is_empty() && read_rom_line(line, &mut rom).is_some() {
+        if ops.is_empty() && rom.read(line).is_some() {
             continue;
         }
         let op = read_op(line).ok_or(TextFault::Syntax(number))?;
@@ -130,5 +168,5 @@ pub fn read_draft(text: &[u8]) -> Result<(Vec<Op>, Rom), TextFault> {
         }
         ops.push(op);
     }
-    Ok((ops, rom))
+    Ok((ops, rom.into_rom()))
 }

@@ -1,7 +1,7 @@
 //! Texts of traces in plain Rust, for the plain twin.
 
 use crate::plain_frames::{MOST, Op, Rom};
-use crate::plain_texts::{MOST_TEXT_BYTES, TextFault, hex, last, natural, read_op, read_rom_line};
+use crate::plain_texts::{MOST_TEXT_BYTES, RomText, TextFault, hex, last, natural, read_op};
 use crate::plain_world::{Event, Trace};
 
 /// The most events of a trace.
@@ -44,7 +44,7 @@ pub fn read_trace(text: &[u8]) -> Result<(Trace, Rom), TextFault> {
     if text.len() > MOST_TEXT_BYTES {
         return Err(TextFault::TooLong);
     }
-    let mut rom = [0xD000; 1024];
+    let mut rom = RomText::new();
     let mut trace = Trace::default();
     // For each byte the number of its image.
     let mut resets = [None; 256];
@@ -69,13 +69,13 @@ pub fn read_trace(text: &[u8]) -> Result<(Trace, Rom), TextFault> {
             opened = Some(trace.ops.len());
         } else if let Some(told) = read_event(line) {
             add_events(told, &mut resets, &mut trace).ok_or(TextFault::Many(number))?;
-        } else if !trace.events.is_empty() || read_rom_line(line, &mut rom).is_none() {
+        } else if !trace.events.is_empty() || rom.read(line).is_none() {
             return Err(TextFault::Syntax(number));
         }
     }
     match opened {
         Some(_) => Err(TextFault::Unended),
-        None => Ok((trace, rom)),
+        None => Ok((trace, rom.into_rom())),
     }
 }
 

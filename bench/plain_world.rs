@@ -73,7 +73,7 @@ impl World<'_> {
         let (k, side) = (usize::from(address), usize::from(high));
         match address {
             0..0x400 => Some(self.ram[2 * k + side]),
-            0x800..0xC00 => Some(self.rom[k - 0x800].to_le_bytes()[side]),
+            a if self.rom.has(a) => Some(self.rom.word(a).to_le_bytes()[side]),
             _ => None,
         }
     }

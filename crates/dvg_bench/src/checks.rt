@@ -2,7 +2,7 @@
 use crate::drafts::{draw, labs, put};
 use dvg_code::Instr;
 use dvg_frame::{Checker, Draft, Op, OpKind, check};
-use dvg_mem::{MEMORY_BYTES, Rom};
+use dvg_mem::{LARGE_ROM_BYTES, MEMORY_BYTES, Rom};
 use std::alloc::Global;
 
 /// How often a draft is checked that comes to many words of the ROM.
@@ -11,18 +11,8 @@ const CHECKS: u32 = 200;
 /// How often a short draft is checked.
 const SHORT_CHECKS: u32 = 200_000;
 
-/// The operations behind the LABS: from each depth, 0 to 4, the ROM's first word is jumped to.
-const NESTED: [OpKind; 9] = [
-    OpKind::Call(3),
-    OpKind::JumpRom(0x800),
-    OpKind::Call(5),
-    OpKind::JumpRom(0x800),
-    OpKind::Call(7),
-    OpKind::JumpRom(0x800),
-    OpKind::Call(9),
-    OpKind::JumpRom(0x800),
-    OpKind::JumpRom(0x800),
-];
+/// The operations that are called, behind the LABS: the last one from depth 3.
+const CALLED: [u16; 4] = [3, 5, 7, 9];
 
 /// What the checks showed.
 #[derive(Clone, Copy)]
@@ -55,22 +45,34 @@ impl Passed {
     }
 }
 
-/// What stands in the ROM: blank SVECs, and a HALT as word number `words - 1`.
-fn bytes(words: usize) -> [u8; MEMORY_BYTES] {
-    let mut bytes = [0x00; MEMORY_BYTES];
-    for k in 0..MEMORY_BYTES / 2 {
+/// What stands in a ROM of so many bytes: blank SVECs, and a HALT as word number `words - 1`.
+fn bytes<const N: usize>(words: usize) -> [u8; N] {
+    let mut bytes = [0x00; N];
+    for k in 0..N / 2 {
         bytes[2 * k + 1] = if k + 1 == words { 0xB0 } else { 0xF0 };
     }
     bytes
 }
 
-/// The draft that comes to the ROM's first word at each depth.
-fn nested() -> Option<Draft> {
+/// The smaller ROM of those that have so many words. None where there is no memory.
+fn rom(alloc: Global, words: usize) -> Option<Rom> {
+    let made = if words > MEMORY_BYTES / 2 {
+        Rom::new(alloc, &bytes::<LARGE_ROM_BYTES>(words))
+    } else {
+        Rom::new(alloc, &bytes::<MEMORY_BYTES>(words))
+    };
+    made.ok()
+}
+
+/// The draft that comes to the ROM's first word at each depth, 0 to 4.
+fn nested(first: u16) -> Option<Draft> {
     let mut draft = Draft::new();
     put(&mut draft, labs(0, 0, 0)?)?;
-    for kind in NESTED {
-        put(&mut draft, Op::new(kind)?)?;
+    for target in CALLED {
+        put(&mut draft, Op::new(OpKind::Call(target))?)?;
+        put(&mut draft, Op::new(OpKind::JumpRom(first))?)?;
     }
+    put(&mut draft, Op::new(OpKind::JumpRom(first))?)?;
     Some(draft)
 }
 
@@ -94,8 +96,8 @@ fn short() -> Option<Draft> {
 /// Checks the nested draft over a ROM of which it comes to so many words, with new tables each time. None where
 /// there is no memory.
 pub fn check_often(alloc: Global, words: usize) -> Option<Passed> {
-    let rom = Rom::new(alloc, &bytes(words)).ok()?;
-    let draft = nested()?;
+    let rom = rom(alloc, words)?;
+    let draft = nested(rom.first())?;
     let mut passed = Passed::none();
     for _ in 0..CHECKS {
         if let Ok(frame) = check(&draft, &rom) {
@@ -107,7 +109,7 @@ pub fn check_often(alloc: Global, words: usize) -> Option<Passed> {
 
 /// Checks the short draft with one checker, which keeps its tables. None where there is no memory.
 pub fn check_short(alloc: Global) -> Option<Passed> {
-    let rom = Rom::new(alloc, &bytes(1)).ok()?;
+    let rom = rom(alloc, 1)?;
     let draft = short()?;
     let mut checker = Checker::new();
     let mut passed = Passed::none();

@@ -62,10 +62,13 @@ fn main(rt: HostRuntime) -> io::Result<()> {
     match words.get(1).map(|word| word.as_str()) {
         Some("generator") => run_generator(&rt),
         Some("check") => write_passed(&rt, check_often(rt.alloc(), 1024)),
+        Some("check-large") => write_passed(&rt, check_often(rt.alloc(), 2048)),
         Some("check-half") => write_passed(&rt, check_often(rt.alloc(), 512)),
         Some("check-short") => write_passed(&rt, check_short(rt.alloc())),
         Some("driver") => run_driver(&rt),
         Some("world") => run_world(&rt),
-        _ => eprintln!(rt; "usage: dvg_bench generator|check|check-half|check-short|driver|world"),
+        _ => eprintln!(rt;
+            "usage: dvg_bench generator|check|check-large|check-half|check-short|driver|world"
+        ),
     }
 }

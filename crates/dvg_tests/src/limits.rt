@@ -6,7 +6,7 @@ use std::alloc::Global;
 /// Each job, the most bytes of its input, and the fault of a longer one.
 const LIMITS: [(Job, usize, TextFault); 6] = [
     (Job::List, 8192, TextFault::TooLong),
-    (Job::Rom, 2048, TextFault::RomSize),
+    (Job::Rom, 4096, TextFault::RomSize),
     (Job::Check { bound: false }, 1_048_576, TextFault::TooLong),
     (Job::Check { bound: true }, 1_048_576, TextFault::TooLong),
     (Job::Play { all: false }, 1_048_576, TextFault::TooLong),

@@ -120,6 +120,14 @@ no_offer_row (ticks c) = let is = letter c in absurd (omega arith)
 no_offer_row (strobes c) = let is = letter c in absurd (omega arith)
 no_offer_row (fetches c) = let is = letter c in absurd (omega arith)
 
+no_map_row : {fill : ℕ → List ℕ} {more : List Happening} {ps : List (List ℕ)} → Row fill more (codes "map" ∷ ps) → ⊥
+no_map_row (ticks c) = let is = letter c in absurd (omega arith)
+no_map_row (strobes c) = let is = letter c in absurd (omega arith)
+no_map_row (fetches c) = let is = letter c in absurd (omega arith)
+
+pub no_map : {more : List Happening} {ps : List (List ℕ)} → EventParts more (codes "map" ∷ ps) → ⊥
+no_map h = no_map_row (row h)
+
 pub no_rom : {more : List Happening} {ps : List (List ℕ)} → EventParts more (codes "rom" ∷ ps) → ⊥
 no_rom h = no_rom_row (row h)
 

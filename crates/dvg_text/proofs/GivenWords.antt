@@ -2,12 +2,11 @@
 use Rattle.std.proofs.Common.{◌≡◌, ◌≢◌, ◌+◌, ◌-◌, ◌<◌, ◌≤◌, ℕ, List, [], ◌∷◌, ◌++◌, length, zero, suc, set, get_or, take, drop, codes, refl, sym, ap, subst, ◌∙◌, arith, below_more, true, false, nat_le, nat_lt, slice_index, ◌⊎◌, inl, inr}
 use Rattle.std.specs.Borrow.{Bor}
 use Rattle.std.proofs.lemmas.Bool.{cases_lt, le-leb, le-ltb, lt-leb, lt-ltb}
-use Rattle.std.proofs.lemmas.List.{get_or_default, get_or-map, length-map, length-set, length-take-le, map_more, take_all}
+use Rattle.std.proofs.lemmas.List.{get_or-map, length-map, length-take-le, map_more, take_all}
 use Rattle.dvg_code.specs.Words.{word_in}
-use Rattle.dvg_mem.specs.Memory.{IsImage}
 use Rattle.dvg_text.specs.LineParts.{bytes_of}
 use Rattle.dvg_text.specs.RomTexts.{IsRomLine, RomLine, word_behind}
-use Rattle.dvg_text.specs.RomWords.{IsBehind, SpellsWords}
+use Rattle.dvg_text.specs.RomReading.{IsBehind, SpellsWords}
 use Rattle.dvg_text.specs.Texts.{IsHex, parts}
 use Rattle.dvg_text.proofs.Zips.{zip_at, zip_length, zip_push, zip_same}
 
@@ -57,18 +56,18 @@ word_beyond address words a word low high =
     let first : nat_le address a ≡ true = le-leb _ _ low in
     let last : nat_lt a (address + length words) ≡ false = le-ltb _ _ high in rw (first, last)
 
-by_place : (address first : ℕ) (words old new : List ℕ) → address ≡ 0x800 + first → PutTo first (length words) words old new → (k : ℕ) → (k < first) ⊎ (first ≤ k) → (k < first + length words) ⊎ (first + length words ≤ k)
-    → word_in new k ≡ word_behind (record { address = address; words = words }) (0x800 + k) (word_in old k)
-by_place address first words old new is p k (inl low) any = p.before k low ∙ sym (word_before address words (0x800 + k) (word_in old k) (omega arith))
-by_place address first words old new is p k (inr low) (inl high) =
-    let place : first + (k - first) ≡ k = omega arith in
-    let index : 0x800 + k - address ≡ k - first = omega arith in
-    ap (word_in new) (sym place) ∙ p.inside (k - first) (omega arith) ∙ ap (slice_index words) (sym index) ∙ sym (word_inside address words (0x800 + k) (word_in old k) (omega arith) (omega arith))
-by_place address first words old new is p k (inr low) (inr high) = p.behind k high ∙ sym (word_beyond address words (0x800 + k) (word_in old k) (omega arith) (omega arith))
+by_place : (address first place : ℕ) (words old new : List ℕ) → address ≡ first + place → PutTo place (length words) words old new → (k : ℕ) → (k < place) ⊎ (place ≤ k) → (k < place + length words) ⊎ (place + length words ≤ k)
+    → word_in new k ≡ word_behind (record { address = address; words = words }) (first + k) (word_in old k)
+by_place address first place words old new is p k (inl low) any = p.before k low ∙ sym (word_before address words (first + k) (word_in old k) (omega arith))
+by_place address first place words old new is p k (inr low) (inl high) =
+    let at : place + (k - place) ≡ k = omega arith in
+    let index : first + k - address ≡ k - place = omega arith in
+    ap (word_in new) (sym at) ∙ p.inside (k - place) (omega arith) ∙ ap (slice_index words) (sym index) ∙ sym (word_inside address words (first + k) (word_in old k) (omega arith) (omega arith))
+by_place address first place words old new is p k (inr low) (inr high) = p.behind k high ∙ sym (word_beyond address words (first + k) (word_in old k) (omega arith) (omega arith))
 
 -- all words of a line
-pub all_put : (address first : ℕ) (words old new : List ℕ) → 0x800 ≤ address → first ≡ address - 0x800 → PutTo first (length words) words old new → IsBehind (record { address = address; words = words }) old new
-all_put address first words old new low is p k small = by_place address first words old new (omega arith) p k (cases_lt k first) (cases_lt k (first + length words))
+pub all_put : (address first place : ℕ) (words old new : List ℕ) → first ≤ address → place ≡ address - first → length new ≡ length old → PutTo place (length words) words old new → IsBehind (record { address = address; words = words }) first old new
+all_put address first place words old new low is size p = record { count = size; words = λ k small. by_place address first place words old new (omega arith) p k (cases_lt k place) (cases_lt k (place + length words)) }
 
 -- no words go with parts of which too many are left
 pub too_many : (found words : List ℕ) (parts : List (Bor (List ℕ))) (k : ℕ) → SpellsWords found (bytes_of (take k parts)) → k < length parts → length found ≡ 8 → length words ≤ 8 → SpellsWords words (bytes_of parts) → ⊥
@@ -85,8 +84,8 @@ no_word words parts k d l none all =
     none found.0 (subst (IsHex 4 found.0) (get_or-map (λ p. p.now) parts k d d.now l) found.1)
 
 -- a line of a ROM has no more than ten parts
-pub ten_parts : (given : RomLine) (line : List ℕ) → IsRomLine given line → length (parts line) ≤ 10
-ten_parts given line h = let count = ap length h.split in let size = zip_length (λ w p. IsHex 4 w p) given.words h.spelled h.words in let most = h.most in omega (arith, count, size, most)
+pub ten_parts : (first : ℕ) (given : RomLine) (line : List ℕ) → IsRomLine first given line → length (parts line) ≤ 10
+ten_parts first given line h = let count = ap length h.split in let size = zip_length (λ w p. IsHex 4 w p) given.words h.spelled h.words in let most = h.most in omega (arith, count, size, most)
 
 split_rom : (items : List (Bor (List ℕ))) (d : Bor (List ℕ)) → 2 ≤ length items → (get_or items 0 d).now ≡ codes "rom" → bytes_of items ≡ codes "rom" ∷ (get_or items 1 d).now ∷ bytes_of (take (length items - 2) (drop 2 items))
 split_rom [] d two name = absurd (omega arith)
@@ -95,30 +94,24 @@ split_rom (x ∷ y ∷ items) d two name =
     ap (λ n. n ∷ y.now ∷ bytes_of items) name ∙ ap (λ l. codes "rom" ∷ y.now ∷ bytes_of l) (sym (take_all (length (x ∷ y ∷ items) - 2) items (omega arith)))
 
 -- a line of a ROM, by its parts
-pub rom_read : (line : List ℕ) (items : List (Bor (List ℕ))) (d : Bor (List ℕ)) (address : ℕ) (words : List ℕ) → bytes_of items ≡ parts line → 2 ≤ length items → (get_or items 0 d).now ≡ codes "rom" → IsHex 3 address (get_or items 1 d).now
-    → SpellsWords words (bytes_of (take (length items - 2) (drop 2 items))) → 0 < length words → length words ≤ 8 → 0x800 ≤ address → address + length words ≤ 0xC00 → IsRomLine (record { address = address; words = words }) line
-rom_read line items d address words is two name first read some most low high = record {
+pub rom_read : (first : ℕ) (line : List ℕ) (items : List (Bor (List ℕ))) (d : Bor (List ℕ)) (address : ℕ) (words : List ℕ) → bytes_of items ≡ parts line → 2 ≤ length items → (get_or items 0 d).now ≡ codes "rom" → IsHex 3 address (get_or items 1 d).now
+    → SpellsWords words (bytes_of (take (length items - 2) (drop 2 items))) → 0 < length words → length words ≤ 8 → first ≤ address → address + length words ≤ 0xC00 → IsRomLine first (record { address = address; words = words }) line
+rom_read first line items d address words is two name digits read some most low high = record {
   digits = (get_or items 1 d).now;
   spelled = bytes_of (take (length items - 2) (drop 2 items));
   split = sym is ∙ split_rom items d two name;
-  address = first;
+  address = digits;
   words = read;
   some = some;
   most = most;
-  first = low;
-  last = high;
+  low = low;
+  high = high;
 }
 
--- 2,048 bytes are those of a ROM
-pub image_of : (R : List ℕ) → length R ≡ 2048 → ((i : ℕ) → get_or R i 0 < 256) → IsImage R
-image_of R count fits = record { count = count; bytes = λ k d low. subst (λ b. b < 256) (sym (get_or_default R k d 0 low)) (fits k) }
-
-set_fits : (R : List ℕ) (i byte : ℕ) → byte < 256 → ((k : ℕ) → get_or R k 0 < 256) → (k : ℕ) → get_or (set R i byte) k 0 < 256
+-- bytes of which one was written
+pub set_fits : (R : List ℕ) (i byte : ℕ) → byte < 256 → ((k : ℕ) → get_or R k 0 < 256) → (k : ℕ) → get_or (set R i byte) k 0 < 256
 set_fits [] i byte h fits k = fits k
 set_fits (x ∷ R) zero byte h fits zero = h
 set_fits (x ∷ R) zero byte h fits (suc k) = fits (suc k)
 set_fits (x ∷ R) (suc i) byte h fits zero = fits zero
 set_fits (x ∷ R) (suc i) byte h fits (suc k) = set_fits R i byte h (λ j. fits (suc j)) k
-
-pub image_put : (R : List ℕ) (i j low high : ℕ) → length R ≡ 2048 → ((k : ℕ) → get_or R k 0 < 256) → low < 256 → high < 256 → IsImage (set (set R i low) j high)
-image_put R i j low high count fits l h = image_of _ (omega (arith, count, length-set R i low, length-set (set R i low) j high)) (set_fits (set R i low) j high h (set_fits R i low l fits))

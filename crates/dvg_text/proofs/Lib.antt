@@ -1,5 +1,7 @@
 pub mod OneOperation
-pub mod OneMeaning
+pub mod Steps
+pub mod RomSteps
+pub mod DraftSteps
 pub mod FirstStop
 pub mod OneStop
 pub mod OneRom
@@ -16,6 +18,7 @@ pub mod ReadTrace
 pub mod FirstBytes
 pub mod LineEnds
 pub mod GivenWords
+pub mod HeldRom
 pub mod ReadTo
 pub mod Spaced
 pub mod Spaces

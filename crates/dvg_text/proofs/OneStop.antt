@@ -4,15 +4,15 @@ use Rattle.dvg_frame.specs.declared.op.OpKind.{OpKind}
 use Rattle.dvg_text.specs.declared.fault.TextFault.{TextFault}
 use Rattle.dvg_text.specs.declared.fault.TextFault.TheVariants.{TooLong, Syntax, Full}
 use Rattle.dvg_text.specs.Texts.{told}
-use Rattle.dvg_text.specs.RomTexts.{RomLine}
+use Rattle.dvg_text.specs.RomTexts.{RomText}
 use Rattle.dvg_text.specs.DraftTexts.{Denotes, HasDraftFault, IsFineDraft, DraftMeetsFull, DraftMeetsSyntax, SpellsDraft}
 use Rattle.dvg_text.proofs.FirstStop.{StopsAt, never_stops, one_stop, too_short}
-use Rattle.dvg_text.proofs.OneMeaning.{fine_front, one_spelled}
+use Rattle.dvg_text.proofs.DraftSteps.{fine_front, one_spelled}
 
 abbrev syntax_stops : {text : List ℕ} {n : ℕ} → DraftMeetsSyntax text n → StopsAt IsFineDraft text n
-syntax_stops m = record { before = m.before; line = m.line; reaches = m.reaches; wrong = λ fine. m.wrong fine.roms fine.ops fine.spelled }
+syntax_stops m = record { before = m.before; line = m.line; reaches = m.reaches; wrong = λ fine. m.wrong fine.rom fine.ops fine.spelled }
 
-too_many : {roms : List RomLine} {ops : List OpKind} {ls : List (List ℕ)} → SpellsDraft roms ops ls → 511 < length ops → ¬ IsFineDraft ls
+too_many : {rom : RomText} {ops : List OpKind} {ls : List (List ℕ)} → SpellsDraft rom ops ls → 511 < length ops → ¬ IsFineDraft ls
 too_many right over fine = let same = (one_spelled right fine.spelled).1 in let count = ap length same in let few = fine.count in omega arith
 
 abbrev full_stops : {text : List ℕ} {n : ℕ} → DraftMeetsFull text n → StopsAt IsFineDraft text n
@@ -24,7 +24,7 @@ same_stop a b = one_stop IsFineDraft fine_front a b
 not_both : {text : List ℕ} {m n : ℕ} → DraftMeetsSyntax text m → DraftMeetsFull text n → ⊥
 not_both s f =
     let same = same_stop (syntax_stops s) (full_stops f) in
-    s.wrong f.roms f.ops (subst (λ line. SpellsDraft f.roms f.ops (told s.before ++ line ∷ [])) (sym same.1) (subst (λ before. SpellsDraft f.roms f.ops (told before ++ f.line ∷ [])) (sym same.0) f.right))
+    s.wrong f.rom f.ops (subst (λ line. SpellsDraft f.rom f.ops (told s.before ++ line ∷ [])) (sym same.1) (subst (λ before. SpellsDraft f.rom f.ops (told before ++ f.line ∷ [])) (sym same.0) f.right))
 
 -- a text has one fault at most
 pub one_text_fault : (text : List ℕ) (one other : TextFault) → HasDraftFault text one → HasDraftFault text other → other ≡ one
@@ -42,12 +42,12 @@ one_text_fault text (Syntax m) _ a b = absurd b
 one_text_fault text (Full m) _ a b = absurd b
 one_text_fault text _ _ a b = absurd a
 
-never_at_fault : {text : List ℕ} {n : ℕ} {roms : List RomLine} {F : List OpKind} → Denotes text roms F → StopsAt IsFineDraft text n → ⊥
-never_at_fault {roms = roms} {F = F} d s = never_stops IsFineDraft fine_front (record { roms = roms; ops = F; spelled = d.spelled; count = d.count }) s
+never_at_fault : {text : List ℕ} {n : ℕ} {rom : RomText} {F : List OpKind} → Denotes text rom F → StopsAt IsFineDraft text n → ⊥
+never_at_fault {rom = rom} {F = F} d s = never_stops IsFineDraft fine_front (record { rom = rom; ops = F; spelled = d.spelled; count = d.count }) s
 
 -- a text that denotes something has no fault
-pub no_fault_beside : (text : List ℕ) (roms : List RomLine) (F : List OpKind) → Denotes text roms F → (fault : TextFault) → ¬ HasDraftFault text fault
-no_fault_beside text roms F d TooLong h = let short = d.short in omega arith
-no_fault_beside text roms F d (Syntax n) h = never_at_fault d (syntax_stops h)
-no_fault_beside text roms F d (Full n) h = never_at_fault d (full_stops h)
-no_fault_beside text roms F d _ h = h
+pub no_fault_beside : (text : List ℕ) (rom : RomText) (F : List OpKind) → Denotes text rom F → (fault : TextFault) → ¬ HasDraftFault text fault
+no_fault_beside text rom F d TooLong h = let short = d.short in omega arith
+no_fault_beside text rom F d (Syntax n) h = never_at_fault d (syntax_stops h)
+no_fault_beside text rom F d (Full n) h = never_at_fault d (full_stops h)
+no_fault_beside text rom F d _ h = h

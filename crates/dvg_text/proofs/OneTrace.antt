@@ -5,19 +5,19 @@ use Rattle.dvg_world.specs.Events.{Happening}
 use Rattle.dvg_text.specs.declared.fault.TextFault.{TextFault}
 use Rattle.dvg_text.specs.declared.fault.TextFault.TheVariants.{TooLong, Syntax, Full, Many, Unended}
 use Rattle.dvg_text.specs.Texts.{lines, told}
-use Rattle.dvg_text.specs.RomTexts.{RomLine}
+use Rattle.dvg_text.specs.RomTexts.{RomText}
 use Rattle.dvg_text.specs.TraceTexts.{DenotesTrace, EndsInside, HasTraceFault, IsFineTrace, TraceMeetsFull, MeetsMany, TraceMeetsSyntax, SpellsTrace}
 use Rattle.dvg_text.proofs.FirstStop.{StopsAt, never_stops, one_stop, too_short}
 use Rattle.dvg_text.proofs.TraceSteps.{fine_front, one_spelled_trace}
 
--- a text denotes one list of events and one list of ROM lines at most
-pub one_trace_meaning : (text : List ℕ) (roms others : List RomLine) (one other : List Happening) → DenotesTrace text roms one → DenotesTrace text others other → (others ≡ roms) × (other ≡ one)
-one_trace_meaning text roms others one other a b = let same = one_spelled_trace a.spelled b.spelled in (same.0, same.1)
+-- a text denotes one list of events, and tells one thing of the ROM, at most
+pub one_trace_meaning : (text : List ℕ) (rom also : RomText) (one other : List Happening) → DenotesTrace text rom one → DenotesTrace text also other → (also ≡ rom) × (other ≡ one)
+one_trace_meaning text rom also one other a b = let same = one_spelled_trace a.spelled b.spelled in (same.0, same.1)
 
 abbrev syntax_stops : {text : List ℕ} {n : ℕ} → TraceMeetsSyntax text n → StopsAt IsFineTrace text n
-syntax_stops m = record { before = m.before; line = m.line; reaches = m.reaches; wrong = λ fine. m.wrong fine.roms fine.events fine.opened fine.spelled }
+syntax_stops m = record { before = m.before; line = m.line; reaches = m.reaches; wrong = λ fine. m.wrong fine.rom fine.events fine.opened fine.spelled }
 
-draft_too_long : {roms : List RomLine} {events : List Happening} {F : List OpKind} {ls : List (List ℕ)} → SpellsTrace roms events (Some F) ls → 511 < length F → ¬ IsFineTrace ls
+draft_too_long : {rom : RomText} {events : List Happening} {F : List OpKind} {ls : List (List ℕ)} → SpellsTrace rom events (Some F) ls → 511 < length F → ¬ IsFineTrace ls
 draft_too_long {F = F} right over fine =
     let is = (one_spelled_trace right fine.spelled).2 in
     let few : length F ≤ 511 = subst (λ opened. IfSome opened (λ F. length F ≤ 511)) is fine.fits.last in
@@ -26,7 +26,7 @@ draft_too_long {F = F} right over fine =
 abbrev full_stops : {text : List ℕ} {n : ℕ} → TraceMeetsFull text n → StopsAt IsFineTrace text n
 full_stops m = record { before = m.before; line = m.line; reaches = m.reaches; wrong = draft_too_long m.right m.over }
 
-too_many : {roms : List RomLine} {events : List Happening} {ls : List (List ℕ)} → SpellsTrace roms events None ls → 65536 < length events → ¬ IsFineTrace ls
+too_many : {rom : RomText} {events : List Happening} {ls : List (List ℕ)} → SpellsTrace rom events None ls → 65536 < length events → ¬ IsFineTrace ls
 too_many right over fine = let same = (one_spelled_trace right fine.spelled).1 in let count = ap length same in let few = fine.fits.count in omega arith
 
 abbrev many_stops : {text : List ℕ} {n : ℕ} → MeetsMany text n → StopsAt IsFineTrace text n
@@ -36,17 +36,17 @@ same_stop : {text : List ℕ} {m n : ℕ} (a : StopsAt IsFineTrace text m) (b : 
 same_stop a b = one_stop IsFineTrace fine_front a b
 
 -- what is spelled up to one line that stops the text is spelled up to another
-moved : {text : List ℕ} {m n : ℕ} {roms : List RomLine} {events : List Happening} {opened : Option (List OpKind)} (a : StopsAt IsFineTrace text m) (b : StopsAt IsFineTrace text n)
-    → SpellsTrace roms events opened (told b.before ++ b.line ∷ []) → SpellsTrace roms events opened (told a.before ++ a.line ∷ [])
-moved {roms = roms} {events = events} {opened = opened} a b right =
+moved : {text : List ℕ} {m n : ℕ} {rom : RomText} {events : List Happening} {opened : Option (List OpKind)} (a : StopsAt IsFineTrace text m) (b : StopsAt IsFineTrace text n)
+    → SpellsTrace rom events opened (told b.before ++ b.line ∷ []) → SpellsTrace rom events opened (told a.before ++ a.line ∷ [])
+moved {rom = rom} {events = events} {opened = opened} a b right =
     let same = same_stop a b in
-    subst (λ line. SpellsTrace roms events opened (told a.before ++ line ∷ [])) (sym same.1) (subst (λ before. SpellsTrace roms events opened (told before ++ b.line ∷ [])) (sym same.0) right)
+    subst (λ line. SpellsTrace rom events opened (told a.before ++ line ∷ [])) (sym same.1) (subst (λ before. SpellsTrace rom events opened (told before ++ b.line ∷ [])) (sym same.0) right)
 
 not_full : {text : List ℕ} {m n : ℕ} → TraceMeetsSyntax text m → TraceMeetsFull text n → ⊥
-not_full s f = s.wrong f.roms f.events (Some f.F) (moved (syntax_stops s) (full_stops f) f.right)
+not_full s f = s.wrong f.rom f.events (Some f.F) (moved (syntax_stops s) (full_stops f) f.right)
 
 not_many : {text : List ℕ} {m n : ℕ} → TraceMeetsSyntax text m → MeetsMany text n → ⊥
-not_many s f = s.wrong f.roms f.events None (moved (syntax_stops s) (many_stops f) f.right)
+not_many s f = s.wrong f.rom f.events None (moved (syntax_stops s) (many_stops f) f.right)
 
 full_or_many : {text : List ℕ} {m n : ℕ} → TraceMeetsFull text m → MeetsMany text n → ⊥
 full_or_many a b = let same = (one_spelled_trace a.right (moved (full_stops a) (many_stops b) b.right)).2 in absurd cc
@@ -56,7 +56,7 @@ never_at_fault : {text : List ℕ} {n : ℕ} → IsFineTrace (told (lines text))
 never_at_fault fine s = never_stops IsFineTrace fine_front fine s
 
 ends_fine : {text : List ℕ} → EndsInside text → IsFineTrace (told (lines text))
-ends_fine e = record { roms = e.roms; events = e.events; opened = Some e.F; spelled = e.spelled; fits = e.fits }
+ends_fine e = record { rom = e.rom; events = e.events; opened = Some e.F; spelled = e.spelled; fits = e.fits }
 
 -- a text of a trace has one fault at most
 pub one_trace_fault : (text : List ℕ) (one other : TextFault) → HasTraceFault text one → HasTraceFault text other → other ≡ one
@@ -92,14 +92,14 @@ one_trace_fault text (Many m) _ a b = absurd b
 one_trace_fault text Unended _ a b = absurd b
 one_trace_fault text _ _ a b = absurd a
 
-denotes_fine : {text : List ℕ} {roms : List RomLine} {events : List Happening} → DenotesTrace text roms events → IsFineTrace (told (lines text))
-denotes_fine {roms = roms} {events = events} d = record { roms = roms; events = events; opened = None; spelled = d.spelled; fits = d.fits }
+denotes_fine : {text : List ℕ} {rom : RomText} {events : List Happening} → DenotesTrace text rom events → IsFineTrace (told (lines text))
+denotes_fine {rom = rom} {events = events} d = record { rom = rom; events = events; opened = None; spelled = d.spelled; fits = d.fits }
 
 -- a text that denotes events has no fault
-pub no_fault_beside_trace : (text : List ℕ) (roms : List RomLine) (events : List Happening) → DenotesTrace text roms events → (fault : TextFault) → ¬ HasTraceFault text fault
-no_fault_beside_trace text roms events d TooLong h = let short = d.short in omega arith
-no_fault_beside_trace text roms events d (Syntax n) h = never_at_fault (denotes_fine d) (syntax_stops h)
-no_fault_beside_trace text roms events d (Full n) h = never_at_fault (denotes_fine d) (full_stops h)
-no_fault_beside_trace text roms events d (Many n) h = never_at_fault (denotes_fine d) (many_stops h)
-no_fault_beside_trace text roms events d Unended h = let same = (one_spelled_trace d.spelled h.spelled).2 in absurd cc
-no_fault_beside_trace text roms events d _ h = h
+pub no_fault_beside_trace : (text : List ℕ) (rom : RomText) (events : List Happening) → DenotesTrace text rom events → (fault : TextFault) → ¬ HasTraceFault text fault
+no_fault_beside_trace text rom events d TooLong h = let short = d.short in omega arith
+no_fault_beside_trace text rom events d (Syntax n) h = never_at_fault (denotes_fine d) (syntax_stops h)
+no_fault_beside_trace text rom events d (Full n) h = never_at_fault (denotes_fine d) (full_stops h)
+no_fault_beside_trace text rom events d (Many n) h = never_at_fault (denotes_fine d) (many_stops h)
+no_fault_beside_trace text rom events d Unended h = let same = (one_spelled_trace d.spelled h.spelled).2 in absurd cc
+no_fault_beside_trace text rom events d _ h = h

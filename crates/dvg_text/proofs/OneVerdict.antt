@@ -8,7 +8,7 @@ use Rattle.dvg_text.specs.declared.verdict.Verdict.TheVariants.{Good, Refused}
 use Rattle.dvg_text.specs.RomTexts.{IsRomOf}
 use Rattle.dvg_text.specs.Verdicts.{IsVerdict}
 use Rattle.dvg_text.specs.Verdicts.{Judges}
-use Rattle.dvg_text.proofs.OneMeaning.{one_meaning}
+use Rattle.dvg_text.proofs.DraftSteps.{one_meaning}
 use Rattle.dvg_text.proofs.OneRom.{one_rom}
 
 -- of a draft over a ROM one verdict is right
@@ -22,6 +22,6 @@ pub one_verdict : (text : List ℕ) (one other : Verdict) → Judges text one �
 one_verdict text said also a b =
     let one = a.gives in
     let other = b.gives in
-    let (roms, ops) = one_meaning text one.roms other.roms a.F b.F one.denotes other.denotes in
-    let rom = one_rom one.roms a.R b.R one.rom (subst (λ roms. IsRomOf roms b.R) roms other.rom) in
+    let (told, ops) = one_meaning text one.rom other.rom a.F b.F one.denotes other.denotes in
+    let rom = one_rom one.rom a.R b.R one.bytes (subst (λ rom. IsRomOf rom b.R) told other.bytes) in
     one_said a.F a.R said also a.said (subst (λ R. IsVerdict a.F R also) rom (subst (λ F. IsVerdict F b.R also) ops b.said))

@@ -6,18 +6,17 @@ use Rattle.std.proofs.lemmas.Grind.{get_or-set_at}
 use Rattle.std.proofs.lemmas.List.{get_or-set_other}
 use Rattle.std.proofs.lemmas.Option.{none-some, same_Some}
 use Rattle.std.proofs.lemmas.List.Elements.{All-append, All-replicate}
-use Rattle.dvg_mem.specs.Memory.{IsImage}
 use Rattle.dvg_frame.specs.declared.op.OpKind.{OpKind}
 use Rattle.dvg_world.specs.Events.{Happening, Offer, Redraw, Tick, Strobe, Fetch, ResetGen, ResetCpu, ResetAll}
 use Rattle.dvg_text.specs.declared.trace_text.LineFault.{LineFault}
 use Rattle.dvg_text.specs.declared.trace_text.LineFault.TheVariants.{Syntax, Full, Many, Memory}
 use Rattle.dvg_text.specs.Texts.{parts}
 use Rattle.dvg_text.specs.OpLines.{IsOpLine}
-use Rattle.dvg_text.specs.RomTexts.{IsRomLine, RomLine, word_behind}
-use Rattle.dvg_text.specs.RomWords.{AreAfter, IsBehind}
+use Rattle.dvg_text.specs.RomTexts.{RomText}
+use Rattle.dvg_text.specs.declared.rom_text.RomReading.{RomReading}
+use Rattle.dvg_text.specs.RomReading.{HoldsRom, TellsMore, TellsRom}
 use Rattle.dvg_text.specs.TraceTexts.{EventParts, FitsTrace, FitsDraft, redraw, tick, strobe, fetch, resetgen, resetcpu, resetall}
-use Rattle.dvg_text.specs.TraceReading.{Takes, does, ends, events, opens, rom}
-use Rattle.dvg_text.proofs.ReadTo.{after_more}
+use Rattle.dvg_text.specs.TraceReading.{Takes, does, ends, events, opens, tells}
 use Rattle.dvg_text.specs.declared.trace_text.Reading.{Reading}
 use Rattle.dvg_text.specs.TraceGives.{AreResets, IsHeld, StopsEvents, StopsLine, StopsOperation, TakesLine, events_read, opened_by, opened_of}
 
@@ -37,9 +36,9 @@ any_opened true F = refl
 any_opened false F = refl
 
 -- what is held, where it is taken
-pub held_on : {A E B : Type 0} (answer : Result A E) (reading : Reading B) → OnOk answer (FitsTrace (events_read reading) (opened_of reading)) → IsImage reading.rom → OnOk answer (AreResets reading.resets (events_read reading)) → OnOk answer (IsHeld reading)
-held_on (Ok x) reading fits image known = record { fits = fits; image = image; known = known }
-held_on (Err x) reading fits image known = tt
+pub held_on : {A E B : Type 0} (answer : Result A E) (reading : Reading B) → OnOk answer (FitsTrace (events_read reading) (opened_of reading)) → OnOk answer (AreResets reading.resets (events_read reading)) → OnOk answer (IsHeld reading)
+held_on (Ok x) reading fits known = record { fits = fits; known = known }
+held_on (Err x) reading fits known = tt
 
 -- the numbers of resets
 
@@ -101,9 +100,9 @@ reset_more numbers old new byte n low counts e known = record { found = λ other
 
 -- the end of an offer
 
-pub end_taken : (old new : List Happening) (opened left : Option (List OpKind)) (F : List OpKind) (R : List ℕ) → opened ≡ Some F → left ≡ None → new ≡ old ++ Offer F ∷ []
-    → (roms : List RomLine) → AreAfter roms R → TakesLine roms old opened (codes "end") new left R
-end_taken old new opened left F R e f g roms words = record { given = roms; takes = rw (e, f, g) ends; words = words }
+pub end_taken : (old new : List Happening) (opened left : Option (List OpKind)) (F : List OpKind) (held : RomReading) → opened ≡ Some F → left ≡ None → new ≡ old ++ Offer F ∷ []
+    → (rom : RomText) → HoldsRom rom held → TakesLine rom old opened (codes "end") new left held
+end_taken old new opened left F held e f g rom holds = record { now = rom; takes = rw (e, f, g) ends; holds = holds }
 
 pub end_fits : (old new : List Happening) (opened left : Option (List OpKind)) (F : List OpKind) → opened ≡ Some F → left ≡ None → new ≡ old ++ Offer F ∷ [] → length old < 65536 → FitsTrace old opened → FitsTrace new left
 end_fits old new opened left F e f g room fits =
@@ -111,22 +110,22 @@ end_fits old new opened left F e f g room fits =
     let last : length F ≤ 511 = inside.last in
     rw (f, g) (record { count = omega (arith, length-append old (Offer F ∷ [])); drafts = All-append FitsDraft old (Offer F ∷ []) fits.drafts (all_one FitsDraft (Offer F) last); last = tt })
 
-pub end_stops : (old : List Happening) (opened : Option (List OpKind)) (F : List OpKind) → opened ≡ Some F → length old ≡ 65536 → StopsLine Many old opened (codes "end")
-end_stops old opened F e full = rw e (old ++ Offer F ∷ [], omega (arith, length-append old (Offer F ∷ [])), λ roms. ends)
+pub end_stops : (old : List Happening) (opened : Option (List OpKind)) (F : List OpKind) (held : RomReading) → opened ≡ Some F → length old ≡ 65536 → StopsLine Many old opened held (codes "end")
+end_stops old opened F held e full = rw e (old ++ Offer F ∷ [], omega (arith, length-append old (Offer F ∷ [])), λ rom. ends)
 
 -- where no offer is open
 
-pub offer_taken : (old : List Happening) (opened left : Option (List OpKind)) (l R : List ℕ) → opened ≡ None → l ≡ codes "offer" → left ≡ Some []
-    → (roms : List RomLine) → AreAfter roms R → TakesLine roms old opened l old left R
-offer_taken old opened left l R e is f roms words = record { given = roms; takes = rw (e, is, f) opens; words = words }
+pub offer_taken : (old : List Happening) (opened left : Option (List OpKind)) (l : List ℕ) (held : RomReading) → opened ≡ None → l ≡ codes "offer" → left ≡ Some []
+    → (rom : RomText) → HoldsRom rom held → TakesLine rom old opened l old left held
+offer_taken old opened left l held e is f rom holds = record { now = rom; takes = rw (e, is, f) opens; holds = holds }
 
 pub offer_fits : (old : List Happening) (opened : Option (List OpKind)) → FitsTrace old opened → FitsTrace old (Some [])
 offer_fits old opened fits = record { count = fits.count; drafts = fits.drafts; last = omega arith }
 
-pub events_taken : {A E : Type 0} (answer : Result A E) (old more new : List Happening) (opened : Option (List OpKind)) (l R : List ℕ) → opened ≡ None → EventParts more (parts l) → OnOk answer (new ≡ old ++ more)
-    → OnOk answer ((roms : List RomLine) → AreAfter roms R → TakesLine roms old opened l new opened R)
-events_taken (Ok x) old more new opened l R e p g = λ roms words. record { given = roms; takes = rw (e, g) (events p); words = words }
-events_taken (Err x) old more new opened l R e p g = tt
+pub events_taken : {A E : Type 0} (answer : Result A E) (old more new : List Happening) (opened : Option (List OpKind)) (l : List ℕ) (held : RomReading) → opened ≡ None → EventParts more (parts l) → OnOk answer (new ≡ old ++ more)
+    → OnOk answer ((rom : RomText) → HoldsRom rom held → TakesLine rom old opened l new opened held)
+events_taken (Ok x) old more new opened l held e p g = λ rom holds. record { now = rom; takes = rw (e, g) (events p); holds = holds }
+events_taken (Err x) old more new opened l held e p g = tt
 
 fine_events : {more : List Happening} {ps : List (List ℕ)} → EventParts more ps → All FitsDraft more
 fine_events redraw = all_one FitsDraft Redraw tt
@@ -142,59 +141,55 @@ pub events_fit : {A E : Type 0} (answer : Result A E) (old more new : List Happe
 events_fit (Ok x) old more new opened ps p g room fits = record { count = room; drafts = subst (All FitsDraft) (sym g) (All-append FitsDraft old more fits.drafts (fine_events p)); last = fits.last }
 events_fit (Err x) old more new opened ps p g room fits = tt
 
-many_events : (fault : LineFault) (old more : List Happening) (l : List ℕ) → EventParts more (parts l) → StopsEvents fault old more → StopsLine fault old None l
-many_events Many old more l p h = (old ++ more, omega (arith, length-append old more), λ roms. events p)
-many_events Memory old more l p h = tt
-many_events Syntax old more l p h = absurd h
-many_events Full old more l p h = absurd h
+many_events : (fault : LineFault) (old more : List Happening) (l : List ℕ) (held : RomReading) → EventParts more (parts l) → StopsEvents fault old more → StopsLine fault old None held l
+many_events Many old more l held p h = (old ++ more, omega (arith, length-append old more), λ rom. events p)
+many_events Memory old more l held p h = tt
+many_events Syntax old more l held p h = absurd h
+many_events Full old more l held p h = absurd h
 
-pub events_stop : {A : Type 0} (answer : Result A LineFault) (old more : List Happening) (opened : Option (List OpKind)) (l : List ℕ) → opened ≡ None → EventParts more (parts l) → IfErr answer (λ fault. StopsEvents fault old more)
-    → IfErr answer (λ fault. StopsLine fault old opened l)
-events_stop (Ok x) old more opened l e p h = tt
-events_stop (Err fault) old more opened l e p h = rw e (many_events fault old more l p h)
+pub events_stop : {A : Type 0} (answer : Result A LineFault) (old more : List Happening) (opened : Option (List OpKind)) (l : List ℕ) (held : RomReading) → opened ≡ None → EventParts more (parts l) → IfErr answer (λ fault. StopsEvents fault old more)
+    → IfErr answer (λ fault. StopsLine fault old opened held l)
+events_stop (Ok x) old more opened l held e p h = tt
+events_stop (Err fault) old more opened l held e p h = rw e (many_events fault old more l held p h)
 
-pub rom_taken : (old : List Happening) (opened : Option (List OpKind)) (l R S : List ℕ) (given : RomLine) → old ≡ [] → opened ≡ None → IsRomLine given l → IsBehind given R S
-    → (roms : List RomLine) → AreAfter roms R → TakesLine roms old opened l old opened S
-rom_taken old opened l R S given none e h behind roms words = record {
-  given = roms ++ given ∷ [];
-  takes = rw (none, e) (rom given h);
-  words = λ k low. behind k low ∙ ap (word_behind given (0x800 + k)) (words k low) ∙ sym (after_more roms given (0x800 + k) 0xD000);
-}
+pub rom_taken : (old : List Happening) (opened : Option (List OpKind)) (l : List ℕ) (held now : RomReading) → old ≡ [] → opened ≡ None → ((rom : RomText) → HoldsRom rom held → TellsMore rom l now)
+    → (rom : RomText) → HoldsRom rom held → TakesLine rom old opened l old opened now
+rom_taken old opened l held now none e more rom holds = let m = more rom holds in record { now = m.now; takes = rw (none, e) (tells m.tells); holds = m.holds }
 
-nothing_outside : {roms given : List RomLine} {old new : List Happening} {opened left : Option (List OpKind)} {l : List ℕ} → opened ≡ None → (l ≡ codes "offer" → ⊥) → ((more : List Happening) → EventParts more (parts l) → ⊥)
-    → (old ≡ [] → (g : RomLine) → IsRomLine g l → ⊥) → Takes roms old opened l given new left → ⊥
-nothing_outside e no_offer no_events no_rom (rom g h) = no_rom refl g h
+nothing_outside : {rom now : RomText} {old new : List Happening} {opened left : Option (List OpKind)} {l : List ℕ} → opened ≡ None → (l ≡ codes "offer" → ⊥) → ((more : List Happening) → EventParts more (parts l) → ⊥)
+    → (old ≡ [] → ¬ TellsRom rom l now) → Takes rom old opened l now new left → ⊥
+nothing_outside e no_offer no_events no_rom (tells h) = no_rom refl h
 nothing_outside e no_offer no_events no_rom (events {more = more} p) = no_events more p
 nothing_outside e no_offer no_events no_rom opens = no_offer refl
 nothing_outside e no_offer no_events no_rom (does op h) = absurd (cc)
 nothing_outside e no_offer no_events no_rom ends = absurd (cc)
 
-pub outside_stops : (old : List Happening) (opened : Option (List OpKind)) (l : List ℕ) → opened ≡ None → (l ≡ codes "offer" → ⊥) → ((more : List Happening) → EventParts more (parts l) → ⊥)
-    → (old ≡ [] → (g : RomLine) → IsRomLine g l → ⊥) → StopsLine Syntax old opened l
-outside_stops old opened l e no_offer no_events no_rom roms given new left t = nothing_outside e no_offer no_events no_rom t
+pub outside_stops : (old : List Happening) (opened : Option (List OpKind)) (l : List ℕ) (held : RomReading) → opened ≡ None → (l ≡ codes "offer" → ⊥) → ((more : List Happening) → EventParts more (parts l) → ⊥)
+    → (old ≡ [] → (rom now : RomText) → HoldsRom rom held → ¬ TellsRom rom l now) → StopsLine Syntax old opened held l
+outside_stops old opened l held e no_offer no_events no_rom rom now new left holds t = nothing_outside e no_offer no_events (λ none. no_rom none rom now holds) t
 
 -- inside an offer
 
-pub op_taken : {A E : Type 0} (answer : Result A E) (old : List Happening) (F G : List OpKind) (opened left : Option (List OpKind)) (l R : List ℕ) → opened ≡ Some F → left ≡ Some G
-    → OnOk answer ((op : OpKind) × IsOpLine op l × (G ≡ F ++ op ∷ [])) → OnOk answer ((roms : List RomLine) → AreAfter roms R → TakesLine roms old opened l old left R)
-op_taken (Ok x) old F G opened left l R e f h = λ roms words. let is = h.2 in record { given = roms; takes = rw (e, f, is) (does h.0 h.1); words = words }
-op_taken (Err x) old F G opened left l R e f h = tt
+pub op_taken : {A E : Type 0} (answer : Result A E) (old : List Happening) (F G : List OpKind) (opened left : Option (List OpKind)) (l : List ℕ) (held : RomReading) → opened ≡ Some F → left ≡ Some G
+    → OnOk answer ((op : OpKind) × IsOpLine op l × (G ≡ F ++ op ∷ [])) → OnOk answer ((rom : RomText) → HoldsRom rom held → TakesLine rom old opened l old left held)
+op_taken (Ok x) old F G opened left l held e f h = λ rom holds. let is = h.2 in record { now = rom; takes = rw (e, f, is) (does h.0 h.1); holds = holds }
+op_taken (Err x) old F G opened left l held e f h = tt
 
-nothing_inside : {roms given : List RomLine} {old new : List Happening} {opened left : Option (List OpKind)} {l : List ℕ} (F : List OpKind) → opened ≡ Some F → (l ≡ codes "end" → ⊥) → ((op : OpKind) → IsOpLine op l → ⊥)
-    → Takes roms old opened l given new left → ⊥
-nothing_inside F e no_end no_op (rom g h) = absurd (cc)
+nothing_inside : {rom now : RomText} {old new : List Happening} {opened left : Option (List OpKind)} {l : List ℕ} (F : List OpKind) → opened ≡ Some F → (l ≡ codes "end" → ⊥) → ((op : OpKind) → IsOpLine op l → ⊥)
+    → Takes rom old opened l now new left → ⊥
+nothing_inside F e no_end no_op (tells h) = absurd (cc)
 nothing_inside F e no_end no_op (events p) = absurd (cc)
 nothing_inside F e no_end no_op opens = absurd (cc)
 nothing_inside F e no_end no_op (does op h) = no_op op h
 nothing_inside F e no_end no_op ends = no_end refl
 
-no_op_more : (fault : LineFault) (old : List Happening) (F : List OpKind) (l : List ℕ) → (l ≡ codes "end" → ⊥) → StopsOperation fault F l → StopsLine fault old (Some F) l
-no_op_more Syntax old F l no_end h = λ roms given new left t. nothing_inside F refl no_end h t
-no_op_more Full old F l no_end h = let full = h.1 in (F ++ h.0 ∷ [], omega (arith, length-append F (h.0 ∷ [])), λ roms. does h.0 h.2)
-no_op_more Many old F l no_end h = absurd h
-no_op_more Memory old F l no_end h = absurd h
+no_op_more : (fault : LineFault) (old : List Happening) (F : List OpKind) (l : List ℕ) (held : RomReading) → (l ≡ codes "end" → ⊥) → StopsOperation fault F l → StopsLine fault old (Some F) held l
+no_op_more Syntax old F l held no_end h = λ rom now new left holds t. nothing_inside F refl no_end h t
+no_op_more Full old F l held no_end h = let full = h.1 in (F ++ h.0 ∷ [], omega (arith, length-append F (h.0 ∷ [])), λ rom. does h.0 h.2)
+no_op_more Many old F l held no_end h = absurd h
+no_op_more Memory old F l held no_end h = absurd h
 
-pub op_stops : {A : Type 0} (answer : Result A LineFault) (old : List Happening) (F : List OpKind) (opened : Option (List OpKind)) (l : List ℕ) → opened ≡ Some F → (l ≡ codes "end" → ⊥) → IfErr answer (λ fault. StopsOperation fault F l)
-    → IfErr answer (λ fault. StopsLine fault old opened l)
-op_stops (Ok x) old F opened l e no_end h = tt
-op_stops (Err fault) old F opened l e no_end h = rw e (no_op_more fault old F l no_end h)
+pub op_stops : {A : Type 0} (answer : Result A LineFault) (old : List Happening) (F : List OpKind) (opened : Option (List OpKind)) (l : List ℕ) (held : RomReading) → opened ≡ Some F → (l ≡ codes "end" → ⊥) → IfErr answer (λ fault. StopsOperation fault F l)
+    → IfErr answer (λ fault. StopsLine fault old opened held l)
+op_stops (Ok x) old F opened l held e no_end h = tt
+op_stops (Err fault) old F opened l held e no_end h = rw e (no_op_more fault old F l held no_end h)

@@ -7,27 +7,27 @@ use Rattle.dvg_text.specs.declared.fault.TextFault.TheVariants.{TooLong, Syntax,
 use Rattle.dvg_text.specs.Texts.{lines, told}
 use Rattle.dvg_text.specs.FirstFaults.{IsShort, Reaches}
 use Rattle.dvg_text.specs.OpLines.{IsOpLine}
-use Rattle.dvg_text.specs.RomTexts.{IsRomLine, RomLine}
+use Rattle.dvg_text.specs.RomTexts.{RomText, SpellsRom}
 
--- lines that give words of the ROM, and then lines of operations
-pub record SpellsDraft (roms : List RomLine) (ops : List OpKind) (ls : List (List ℕ)) : Type 0 where
+-- lines that tell of the ROM, and then lines of operations
+pub record SpellsDraft (rom : RomText) (ops : List OpKind) (ls : List (List ℕ)) : Type 0 where
   pub front : List (List ℕ)
   pub rest : List (List ℕ)
   pub cut : ls ≡ front ++ rest
-  pub rom : AllZip IsRomLine roms front
+  pub head : SpellsRom rom front
   pub draft : AllZip IsOpLine ops rest
 
--- the text denotes these ROM lines and this draft: what its lines spell that aren't passed over
-pub record Denotes (text : List ℕ) (roms : List RomLine) (ops : List OpKind) : Type 0 where
+-- the text denotes this ROM and this draft: what its lines spell that aren't passed over
+pub record Denotes (text : List ℕ) (rom : RomText) (ops : List OpKind) : Type 0 where
   pub short : IsShort text
-  pub spelled : SpellsDraft roms ops (told (lines text))
+  pub spelled : SpellsDraft rom ops (told (lines text))
   pub count : length ops ≤ 511
 
--- lines that spell ROM lines and no more operations than a draft holds
+-- lines that spell a ROM and no more operations than a draft holds
 pub record IsFineDraft (ls : List (List ℕ)) : Type 0 where
-  pub roms : List RomLine
+  pub rom : RomText
   pub ops : List OpKind
-  pub spelled : SpellsDraft roms ops ls
+  pub spelled : SpellsDraft rom ops ls
   pub count : length ops ≤ 511
 
 -- line n is the first with which the lines spell nothing
@@ -35,16 +35,16 @@ pub record DraftMeetsSyntax (text : List ℕ) (n : ℕ) : Type 0 where
   pub before : List (List ℕ)
   pub line : List ℕ
   pub reaches : Reaches IsFineDraft text n before line
-  pub wrong : (roms : List RomLine) (ops : List OpKind) → ¬ SpellsDraft roms ops (told before ++ line ∷ [])
+  pub wrong : (rom : RomText) (ops : List OpKind) → ¬ SpellsDraft rom ops (told before ++ line ∷ [])
 
 -- line n is that of operation number 511, which no draft can hold
 pub record DraftMeetsFull (text : List ℕ) (n : ℕ) : Type 0 where
   pub before : List (List ℕ)
   pub line : List ℕ
   pub reaches : Reaches IsFineDraft text n before line
-  pub roms : List RomLine
+  pub rom : RomText
   pub ops : List OpKind
-  pub right : SpellsDraft roms ops (told before ++ line ∷ [])
+  pub right : SpellsDraft rom ops (told before ++ line ∷ [])
   pub over : 511 < length ops
 
 -- the fault of a draft's text

@@ -7,7 +7,7 @@ pub mod DraftTexts
 pub mod Verdicts
 pub mod LineParts
 pub mod TextLines
-pub mod RomWords
+pub mod RomReading
 pub mod DraftReading
 pub mod TextLaws
 pub mod TraceTexts

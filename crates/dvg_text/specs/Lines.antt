@@ -1,5 +1,5 @@
 -- The lines that the engines write.
-use Rattle.std.specs.Prelude.{ℕ, ℤ, ◌+◌, ◌/◌, ◌%◌, Bool, true, cond, List, [], ◌∷◌, ◌++◌, flat_map, map, nat_eq, codes}
+use Rattle.std.specs.Prelude.{ℕ, ℤ, ◌+◌, ◌/◌, ◌%◌, Bool, true, cond, if◌then◌else◌, ◌==◌, length, List, [], ◌∷◌, ◌++◌, flat_map, map, nat_eq, codes}
 use Rattle.std.specs.Fmt.{decimal, signed_decimal, digit_glyph}
 use lib.Pointwise.{pointwise}
 use Rattle.dvg_code.specs.declared.instr.Instr.{Instr}
@@ -7,6 +7,7 @@ use Rattle.dvg_code.specs.declared.instr.Instr.TheVariants.{Vctr, Labs, Halt, Js
 use Rattle.dvg_code.specs.Words.{words_of}
 use Rattle.dvg_code.specs.Spelling.{canon}
 use Rattle.dvg_code.specs.Cutting.{Placed}
+use Rattle.dvg_mem.specs.Memory.{first_word}
 
 -- a number of 8 bits as two hexadecimal digits in upper case
 abbrev pub hex_2 : ℕ → List ℕ
@@ -59,6 +60,10 @@ abbrev pub rom_lines : ℕ → List ℕ → List ℕ
 rom_lines address (a ∷ b ∷ c ∷ d ∷ e ∷ f ∷ g ∷ h ∷ words) = rom_line address (a ∷ b ∷ c ∷ d ∷ e ∷ f ∷ g ∷ h ∷ []) ++ rom_lines (address + 8) words
 rom_lines address _ = []
 
--- the text of a ROM: its words, from 800 on
+-- the line of a ROM's map; none where it has 2,048 bytes
+abbrev pub map_text : List ℕ → List ℕ
+map_text bytes = if length bytes == 2048 then [] else codes "map 4096" ++ 10 ∷ []
+
+-- the text of a ROM: its map, and its words, from the first one on
 abbrev pub rom_text : List ℕ → List ℕ
-rom_text bytes = rom_lines 0x800 (words_of bytes)
+rom_text bytes = map_text bytes ++ rom_lines (first_word bytes) (words_of bytes)

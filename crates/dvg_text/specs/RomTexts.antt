@@ -1,7 +1,7 @@
--- The lines that give words of a ROM, and the ROM that they give.
-use Rattle.std.specs.Prelude.{◌≡◌, ℕ, ◌+◌, ◌-◌, ◌<◌, ◌≤◌, ◌&&◌, nat_le, nat_lt, if◌then◌else◌, List, [], ◌∷◌, length, codes, slice_index, Some}
+-- The lines that tell of a ROM, and the ROM that they give.
+use Rattle.std.specs.Prelude.{◌≡◌, ℕ, ◌+◌, ◌-◌, ◌<◌, ◌≤◌, ◌&&◌, nat_le, nat_lt, if◌then◌else◌, List, [], ◌∷◌, length, codes, slice_index, Option, Some, None, unwrap_or}
 use Rattle.std.specs.List.{AllZip}
-use Rattle.dvg_mem.specs.Memory.{IsImage, rom_word}
+use Rattle.dvg_mem.specs.Memory.{IsRom, first_word, rom_word}
 use Rattle.dvg_text.specs.Texts.{IsHex, parts}
 
 -- the words that a line gives, from a word address on
@@ -9,8 +9,8 @@ pub record RomLine : Type 0 where
   pub address : ℕ
   pub words : List ℕ
 
--- one to eight words, whose addresses are those of ROM words
-pub record IsRomLine (given : RomLine) (line : List ℕ) : Type 0 where
+-- one to eight words, whose addresses are those of a ROM's words, where its first one is at `first`
+pub record IsRomLine (first : ℕ) (given : RomLine) (line : List ℕ) : Type 0 where
   pub digits : List ℕ
   pub spelled : List (List ℕ)
   pub split : parts line ≡ codes "rom" ∷ digits ∷ spelled
@@ -18,8 +18,28 @@ pub record IsRomLine (given : RomLine) (line : List ℕ) : Type 0 where
   pub words : AllZip (λ word part. IsHex 4 word part) given.words spelled
   pub some : 0 < length given.words
   pub most : length given.words ≤ 8
-  pub first : 0x800 ≤ given.address
-  pub last : given.address + length given.words ≤ 0xC00
+  pub low : first ≤ given.address
+  pub high : given.address + length given.words ≤ 0xC00
+
+-- the line of a memory map: how many bytes the ROM has, and so the word address of its first word
+pub data IsMapLine : (first : ℕ) → List ℕ → Type 0 where
+  small : IsMapLine 0x800 (codes "map 2048")
+  large : IsMapLine 0x400 (codes "map 4096")
+
+-- what a text tells of the ROM: the word address of its first word, where a line tells the map, and the words that lines give
+pub record RomText : Type 0 where
+  pub map : Option ℕ
+  pub given : List RomLine
+
+-- the word address of the ROM's first word: 800, where no line tells the map
+abbrev pub first_told : Option ℕ → ℕ
+first_told map = unwrap_or map 0x800
+
+-- perhaps the line of a map, and then lines that give words
+pub data SpellsRom : RomText → List (List ℕ) → Type 0 where
+  unmapped : {given : List RomLine} {ls : List (List ℕ)} → AllZip (IsRomLine 0x800) given ls → SpellsRom (record { map = None; given = given }) ls
+  mapped : {first : ℕ} {given : List RomLine} {line : List ℕ} {ls : List (List ℕ)} → IsMapLine first line → AllZip (IsRomLine first) given ls
+      → SpellsRom (record { map = Some first; given = given }) (line ∷ ls)
 
 -- the word at an address behind one line more, before which it was `word`
 abbrev pub word_behind : RomLine → (a word : ℕ) → ℕ
@@ -30,7 +50,8 @@ abbrev pub word_after : List RomLine → (a word : ℕ) → ℕ
 word_after [] a word = word
 word_after (given ∷ roms) a word = word_after roms a (word_behind given a word)
 
--- the ROM that the lines give; a word that no line gives is D000, an RTSL
-pub record IsRomOf (roms : List RomLine) (R : List ℕ) : Type 0 where
-  pub image : IsImage R
-  pub words : (a : ℕ) → 0x800 ≤ a → a < 0xC00 → rom_word R a ≡ Some (word_after roms a 0xD000)
+-- the ROM that a text tells; a word that no line gives is D000, an RTSL
+pub record IsRomOf (rom : RomText) (R : List ℕ) : Type 0 where
+  pub whole : IsRom R
+  pub first : first_word R ≡ first_told rom.map
+  pub words : (a : ℕ) → first_word R ≤ a → a < 0xC00 → rom_word R a ≡ Some (word_after rom.given a 0xD000)

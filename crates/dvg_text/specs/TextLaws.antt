@@ -5,16 +5,16 @@ use Rattle.dvg_text.specs.declared.fault.TextFault.{TextFault}
 use Rattle.dvg_text.specs.declared.verdict.Verdict.{Verdict}
 use Rattle.dvg_text.specs.DraftReading.{Gives}
 use Rattle.dvg_text.specs.DraftTexts.{Denotes, HasDraftFault}
-use Rattle.dvg_text.specs.RomTexts.{IsRomOf, RomLine}
+use Rattle.dvg_text.specs.RomTexts.{IsRomOf, RomText}
 use Rattle.dvg_text.specs.Verdicts.{Judges}
 
--- a text denotes one draft and one list of ROM lines at most
+-- a text denotes one draft, and tells one thing of the ROM, at most
 abbrev pub OneMeaning : Type 0
-OneMeaning = (text : List ℕ) (roms others : List RomLine) (F G : List OpKind) → Denotes text roms F → Denotes text others G → (others ≡ roms) × (G ≡ F)
+OneMeaning = (text : List ℕ) (rom other : RomText) (F G : List OpKind) → Denotes text rom F → Denotes text other G → (other ≡ rom) × (G ≡ F)
 
--- ROM lines give one ROM at most
+-- what is told of a ROM gives one ROM at most
 abbrev pub OneRom : Type 0
-OneRom = (roms : List RomLine) (R S : List ℕ) → IsRomOf roms R → IsRomOf roms S → S ≡ R
+OneRom = (rom : RomText) (R S : List ℕ) → IsRomOf rom R → IsRomOf rom S → S ≡ R
 
 -- a text has one fault at most
 abbrev pub OneTextFault : Type 0
@@ -26,7 +26,7 @@ IsRead text = ((F : List OpKind) × (R : List ℕ) × Gives text F R) ⊎ ((faul
 
 -- a text that denotes something has no fault
 abbrev pub NoFaultBeside : Type 0
-NoFaultBeside = (text : List ℕ) (roms : List RomLine) (F : List OpKind) → Denotes text roms F → (fault : TextFault) → ¬ HasDraftFault text fault
+NoFaultBeside = (text : List ℕ) (rom : RomText) (F : List OpKind) → Denotes text rom F → (fault : TextFault) → ¬ HasDraftFault text fault
 
 -- of a text one verdict is given at most
 abbrev pub OneVerdict : Type 0

@@ -1,6 +1,5 @@
 -- What the reader of traces answers.
 use Rattle.std.specs.Prelude.{ℕ, ◌+◌, ◌<◌, ◌≤◌, List, length, get_or, slice_get, replicate, ◌≡◌, Bool, true, false, Option, Some, None}
-use Rattle.dvg_mem.specs.Memory.{IsImage}
 use Rattle.dvg_frame.specs.declared.op.OpKind.{OpKind}
 use Rattle.dvg_world.specs.Events.{Happening, ResetAll}
 use Rattle.dvg_text.specs.declared.fault.TextFault.TheVariants.{Syntax, Full, Many}
@@ -10,16 +9,17 @@ use Rattle.dvg_text.specs.declared.trace_text.LineFault.{LineFault}
 use Rattle.dvg_text.specs.declared.trace_text.LineFault.TheVariants as line_fault
 use Rattle.dvg_text.specs.declared.trace_text.Reading.{Reading}
 use Rattle.dvg_text.specs.OpLines.{IsOpLine}
-use Rattle.dvg_text.specs.RomTexts.{IsRomOf, RomLine}
-use Rattle.dvg_text.specs.RomWords.{AreAfter}
+use Rattle.dvg_text.specs.RomTexts.{IsRomOf, RomText}
+use Rattle.dvg_text.specs.declared.rom_text.RomReading.{RomReading}
+use Rattle.dvg_text.specs.RomReading.{HoldsRom}
 use Rattle.dvg_text.specs.TraceReading.{Takes}
 use Rattle.dvg_text.specs.TraceTexts.{DenotesTrace, FitsTrace, HasTraceFault}
 
--- the text denotes these events and ROM lines that give these bytes
+-- the text denotes these events and a ROM of these bytes
 pub record GivesTrace (text : List ℕ) (events : List Happening) (R : List ℕ) : Type 0 where
-  pub roms : List RomLine
-  pub denotes : DenotesTrace text roms events
-  pub rom : IsRomOf roms R
+  pub rom : RomText
+  pub denotes : DenotesTrace text rom events
+  pub bytes : IsRomOf rom R
 
 -- why a trace isn't read: the fault of its text, or want of memory
 abbrev pub StopsReading : TraceFault → List ℕ → Type 0
@@ -50,28 +50,27 @@ opened_of reading = opened_by reading.is_open reading.draft
 pub record AreResets (numbers : List (Option ℕ)) (events : List Happening) : Type 0 where
   pub found : (byte n : ℕ) → get_or numbers byte None ≡ Some n → slice_get events n ≡ Some (ResetAll (replicate 2048 byte))
 
--- what was read is within the limits, over a whole ROM, and the resets of its bytes are known
+-- what was read is within the limits, and the resets of its bytes are known
 pub record IsHeld {A : Type 0} (reading : Reading A) : Type 0 where
   pub fits : FitsTrace (events_read reading) (opened_of reading)
-  pub image : IsImage reading.rom
   pub known : AreResets reading.resets (events_read reading)
 
--- a line more was read, behind ROM lines that gave the bytes before it
-pub record TakesLine (roms : List RomLine) (old : List Happening) (opened : Option (List OpKind)) (line : List ℕ) (new : List Happening) (left : Option (List OpKind)) (S : List ℕ) : Type 0 where
-  pub given : List RomLine
-  pub takes : Takes roms old opened line given new left
-  pub words : AreAfter given S
+-- a line more was read, behind lines that told this ROM
+pub record TakesLine (rom : RomText) (old : List Happening) (opened : Option (List OpKind)) (line : List ℕ) (new : List Happening) (left : Option (List OpKind)) (held : RomReading) : Type 0 where
+  pub now : RomText
+  pub takes : Takes rom old opened line now new left
+  pub holds : HoldsRom now held
 
 -- the same, of the reader before the line and behind it
 abbrev pub ReadsLine : {A : Type 0} → Reading A → List ℕ → Reading A → Type 0
-ReadsLine old line new = (roms : List RomLine) → AreAfter roms old.rom → TakesLine roms (events_read old) (opened_of old) line (events_read new) (opened_of new) new.rom
+ReadsLine old line new = (rom : RomText) → HoldsRom rom old.rom → TakesLine rom (events_read old) (opened_of old) line (events_read new) (opened_of new) new.rom
 
 -- why a line more isn't read
-abbrev pub StopsLine : LineFault → List Happening → Option (List OpKind) → List ℕ → Type 0
-StopsLine line_fault.Syntax old opened line = (roms given : List RomLine) (new : List Happening) (left : Option (List OpKind)) → ¬ Takes roms old opened line given new left
-StopsLine line_fault.Full old opened line = (F : List OpKind) × (511 < length F) × ((roms : List RomLine) → Takes roms old opened line roms old (Some F))
-StopsLine line_fault.Many old opened line = (new : List Happening) × (65536 < length new) × ((roms : List RomLine) → Takes roms old opened line roms new None)
-StopsLine line_fault.Memory old opened line = Unit {0}
+abbrev pub StopsLine : LineFault → List Happening → Option (List OpKind) → RomReading → List ℕ → Type 0
+StopsLine line_fault.Syntax old opened held line = (rom now : RomText) (new : List Happening) (left : Option (List OpKind)) → HoldsRom rom held → ¬ Takes rom old opened line now new left
+StopsLine line_fault.Full old opened held line = (F : List OpKind) × (511 < length F) × ((rom : RomText) → Takes rom old opened line rom old (Some F))
+StopsLine line_fault.Many old opened held line = (new : List Happening) × (65536 < length new) × ((rom : RomText) → Takes rom old opened line rom new None)
+StopsLine line_fault.Memory old opened held line = Unit {0}
 
 -- why an operation more isn't read
 abbrev pub StopsOperation : LineFault → List OpKind → List ℕ → Type 0

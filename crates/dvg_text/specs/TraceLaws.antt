@@ -2,12 +2,12 @@
 use Rattle.std.specs.Prelude.{◌≡◌, ℕ, List}
 use Rattle.dvg_world.specs.Events.{Happening}
 use Rattle.dvg_text.specs.declared.fault.TextFault.{TextFault}
-use Rattle.dvg_text.specs.RomTexts.{RomLine}
+use Rattle.dvg_text.specs.RomTexts.{RomText}
 use Rattle.dvg_text.specs.TraceTexts.{DenotesTrace, HasTraceFault}
 
--- a text denotes one list of events and one list of ROM lines at most
+-- a text denotes one list of events, and tells one thing of the ROM, at most
 abbrev pub OneTraceMeaning : Type 0
-OneTraceMeaning = (text : List ℕ) (roms others : List RomLine) (one other : List Happening) → DenotesTrace text roms one → DenotesTrace text others other → (others ≡ roms) × (other ≡ one)
+OneTraceMeaning = (text : List ℕ) (rom also : RomText) (one other : List Happening) → DenotesTrace text rom one → DenotesTrace text also other → (also ≡ rom) × (other ≡ one)
 
 -- a text of a trace has one fault at most
 abbrev pub OneTraceFault : Type 0
@@ -15,4 +15,4 @@ OneTraceFault = (text : List ℕ) (one other : TextFault) → HasTraceFault text
 
 -- a text that denotes events has no fault
 abbrev pub NoFaultBesideTrace : Type 0
-NoFaultBesideTrace = (text : List ℕ) (roms : List RomLine) (events : List Happening) → DenotesTrace text roms events → (fault : TextFault) → ¬ HasTraceFault text fault
+NoFaultBesideTrace = (text : List ℕ) (rom : RomText) (events : List Happening) → DenotesTrace text rom events → (fault : TextFault) → ¬ HasTraceFault text fault

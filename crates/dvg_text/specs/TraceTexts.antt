@@ -7,7 +7,7 @@ use Rattle.dvg_text.specs.declared.fault.TextFault.{TextFault}
 use Rattle.dvg_text.specs.declared.fault.TextFault.TheVariants.{TooLong, Syntax, Full, Many, Unended}
 use Rattle.dvg_text.specs.Texts.{IsHex, lines, parts, told}
 use Rattle.dvg_text.specs.OpLines.{IsOpLine}
-use Rattle.dvg_text.specs.RomTexts.{IsRomLine, RomLine}
+use Rattle.dvg_text.specs.RomTexts.{RomText, SpellsRom}
 use Rattle.dvg_text.specs.FirstFaults.{IsShort, Reaches}
 
 -- a name alone, or a name and a count
@@ -38,12 +38,12 @@ pub data Begun : List Happening → Option (List OpKind) → List (List ℕ) →
   inside : {events : List Happening} {ls : List (List ℕ)} (F : List OpKind) (ops : List (List ℕ)) → Whole events ls → AllZip IsOpLine F ops
       → Begun events (Some F) (ls ++ codes "offer" ∷ ops)
 
--- lines that give words of the ROM, and then lines of events
-pub record SpellsTrace (roms : List RomLine) (events : List Happening) (opened : Option (List OpKind)) (ls : List (List ℕ)) : Type 0 where
+-- lines that tell of the ROM, and then lines of events
+pub record SpellsTrace (rom : RomText) (events : List Happening) (opened : Option (List OpKind)) (ls : List (List ℕ)) : Type 0 where
   pub front : List (List ℕ)
   pub rest : List (List ℕ)
   pub cut : ls ≡ front ++ rest
-  pub rom : AllZip IsRomLine roms front
+  pub head : SpellsRom rom front
   pub begun : Begun events opened rest
 
 -- what an offer brings can be held by a draft
@@ -57,18 +57,18 @@ pub record FitsTrace (events : List Happening) (opened : Option (List OpKind)) :
   pub drafts : All FitsDraft events
   pub last : IfSome opened (λ F. length F ≤ 511)
 
--- the text denotes these ROM lines and these events: what its lines spell that aren't passed over
-pub record DenotesTrace (text : List ℕ) (roms : List RomLine) (events : List Happening) : Type 0 where
+-- the text denotes this ROM and these events: what its lines spell that aren't passed over
+pub record DenotesTrace (text : List ℕ) (rom : RomText) (events : List Happening) : Type 0 where
   pub short : IsShort text
-  pub spelled : SpellsTrace roms events None (told (lines text))
+  pub spelled : SpellsTrace rom events None (told (lines text))
   pub fits : FitsTrace events None
 
--- lines that spell ROM lines and events within the limits, perhaps with an offer that isn't ended
+-- lines that spell a ROM and events within the limits, perhaps with an offer that isn't ended
 pub record IsFineTrace (ls : List (List ℕ)) : Type 0 where
-  pub roms : List RomLine
+  pub rom : RomText
   pub events : List Happening
   pub opened : Option (List OpKind)
-  pub spelled : SpellsTrace roms events opened ls
+  pub spelled : SpellsTrace rom events opened ls
   pub fits : FitsTrace events opened
 
 -- line n is the first with which the lines spell nothing
@@ -76,17 +76,17 @@ pub record TraceMeetsSyntax (text : List ℕ) (n : ℕ) : Type 0 where
   pub before : List (List ℕ)
   pub line : List ℕ
   pub reaches : Reaches IsFineTrace text n before line
-  pub wrong : (roms : List RomLine) (events : List Happening) (opened : Option (List OpKind)) → ¬ SpellsTrace roms events opened (told before ++ line ∷ [])
+  pub wrong : (rom : RomText) (events : List Happening) (opened : Option (List OpKind)) → ¬ SpellsTrace rom events opened (told before ++ line ∷ [])
 
 -- line n is that of operation number 511 of an offer, which no draft can hold
 pub record TraceMeetsFull (text : List ℕ) (n : ℕ) : Type 0 where
   pub before : List (List ℕ)
   pub line : List ℕ
   pub reaches : Reaches IsFineTrace text n before line
-  pub roms : List RomLine
+  pub rom : RomText
   pub events : List Happening
   pub F : List OpKind
-  pub right : SpellsTrace roms events (Some F) (told before ++ line ∷ [])
+  pub right : SpellsTrace rom events (Some F) (told before ++ line ∷ [])
   pub over : 511 < length F
 
 -- line n brings the number of events above 65,536
@@ -94,18 +94,18 @@ pub record MeetsMany (text : List ℕ) (n : ℕ) : Type 0 where
   pub before : List (List ℕ)
   pub line : List ℕ
   pub reaches : Reaches IsFineTrace text n before line
-  pub roms : List RomLine
+  pub rom : RomText
   pub events : List Happening
-  pub right : SpellsTrace roms events None (told before ++ line ∷ [])
+  pub right : SpellsTrace rom events None (told before ++ line ∷ [])
   pub over : 65536 < length events
 
 -- no line is at fault, and the text ends inside an offer
 pub record EndsInside (text : List ℕ) : Type 0 where
   pub short : IsShort text
-  pub roms : List RomLine
+  pub rom : RomText
   pub events : List Happening
   pub F : List OpKind
-  pub spelled : SpellsTrace roms events (Some F) (told (lines text))
+  pub spelled : SpellsTrace rom events (Some F) (told (lines text))
   pub fits : FitsTrace events (Some F)
 
 -- the fault of a trace's text

@@ -5,10 +5,11 @@ ghost use Rattle.dvg_text.specs.DraftTexts.{HasDraftFault};
 
 use crate::fault::TextFault;
 use crate::op_line::read_op;
-use crate::rom_line::{read_rom_line, ungiven_rom};
+use crate::rom_text::RomReading;
 use crate::text_lines::{TextLines, is_passed};
+use arrayvec::ArrayVec;
 use dvg_frame::Draft;
-use dvg_mem::MEMORY_BYTES;
+use dvg_mem::LARGE_ROM_BYTES;
 
 /// The most bytes of a text (this project's own choice).
 pub const MOST_TEXT_BYTES: usize = 1_048_576;
@@ -18,8 +19,8 @@ pub const MOST_TEXT_BYTES: usize = 1_048_576;
 pub struct DraftText {
     /// Its operations.
     pub draft: Draft,
-    /// The bytes of the ROM: the words that its ROM lines give, and D000, an RTSL, for each other.
-    pub rom: [u8; MEMORY_BYTES],
+    /// The bytes of the ROM, 2,048 or 4,096: the words that its lines `rom` give, and D000, an RTSL, for each other.
+    pub rom: ArrayVec<u8, LARGE_ROM_BYTES>,
 }
 
 /// Reads the text of a draft, in one pass over its lines and without taking memory. It answers for
@@ -30,24 +31,21 @@ pub struct DraftText {
 /// - `Syntax`: this line is the first that spells nothing that may stand at its place.
 /// - `Full`: this line spells operation number 511, the lines before it being without fault.
 pub fn read_draft(text: &[u8]) -> Result<DraftText, TextFault>
-    ensures gives { IfOk result (λ told. Gives text.now told.draft told.rom) }
+    ensures gives { IfOk result (λ told. Gives text.now told.draft told.rom.items) }
     ensures fault { IfErr result (λ fault. HasDraftFault text.now fault) }
 {
     if text.len() > MOST_TEXT_BYTES {
         return Err(TextFault::TooLong);
     }
     let mut draft = Draft::new();
-    let mut rom = ungiven_rom();
+    let mut rom = RomReading::new();
     let mut number = 0;
     for line in TextLines::new(text) {
         number += 1;
         if is_passed(line) {
             continue;
         }
-        if draft.is_empty()
-            && let Some(given) = read_rom_line(line)
-        {
-            given.put(&mut rom);
+        if draft.is_empty() && rom.take(line) {
             continue;
         }
         let Some(op) = read_op(line) else {
@@ -57,5 +55,8 @@ pub fn read_draft(text: &[u8]) -> Result<DraftText, TextFault>
             return Err(TextFault::Full(number));
         }
     }
-    Ok(DraftText { draft, rom })
+    Ok(DraftText {
+        draft,
+        rom: rom.into_bytes(),
+    })
 }

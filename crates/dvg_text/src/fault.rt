@@ -13,7 +13,7 @@ pub enum TextFault {
     /// The word at this place, counted in words from 0, wants a second word, which is missing.
     #[error("cut at {0:03X}")]
     Cut(usize),
-    /// A ROM hasn't exactly 2,048 bytes.
+    /// A ROM has neither 2,048 nor 4,096 bytes.
     #[error("rom size")]
     RomSize,
     /// The line of this number, counted from 1, spells nothing that may stand at its place.

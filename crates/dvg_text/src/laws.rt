@@ -5,12 +5,12 @@ ghost use Rattle.dvg_text.specs.TextLaws.{IsRead, NoFaultBeside, OneMeaning, One
 
 use crate::draft_text::read_draft;
 
-/// A text denotes one draft, and one list of ROM lines, at most.
+/// A text denotes one draft, and tells one thing of the ROM, at most.
 pub fn one_meaning()
     ensures { OneMeaning }
 {}
 
-/// ROM lines give one ROM at most.
+/// What is told of a ROM gives one ROM at most.
 pub fn one_rom()
     ensures { OneRom }
 {}
@@ -38,7 +38,7 @@ pub fn one_verdict()
     ensures { OneVerdict }
 {}
 
-/// The text of a trace denotes one list of events, and one list of ROM lines, at most.
+/// The text of a trace denotes one list of events, and tells one thing of the ROM, at most.
 pub fn one_trace_meaning()
     ensures { OneTraceMeaning }
 {}

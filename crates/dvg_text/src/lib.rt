@@ -13,6 +13,7 @@ mod log_line;
 mod number;
 mod op_line;
 mod rom_line;
+mod rom_text;
 mod text_lines;
 mod trace_text;
 mod verdict;

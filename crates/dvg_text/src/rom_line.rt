@@ -1,25 +1,18 @@
 //! Lines that give words of a ROM.
-ghost use Rattle.std.specs.Prelude.{◌≡◌, ◌≢◌, ℕ, ◌<◌, ◌≤◌, List, [], length, IfSome, IsSomeAnd, Some};
+ghost use Rattle.std.specs.Prelude.{◌≡◌, ◌≢◌, ℕ, ◌+◌, ◌*◌, ◌<◌, ◌≤◌, List, get_or, length, IfSome, IsSomeAnd, Some};
 ghost use Rattle.dvg_code.specs.Words.{word_in};
-ghost use Rattle.dvg_mem.specs.Memory.{IsImage};
 ghost use Rattle.dvg_text.specs.LineParts.{bytes_of};
 ghost use Rattle.dvg_text.specs.RomTexts.{IsRomLine, RomLine};
-ghost use Rattle.dvg_text.specs.RomWords.{AreAfter, IsBehind, SpellsWords};
+ghost use Rattle.dvg_text.specs.RomReading.{IsBehind, SpellsWords};
 
 use crate::line_parts::parts_of;
 use crate::number::hex;
 use arrayvec::ArrayVec;
-use dvg_mem::{FIRST_ROM_WORD, MEMORY_BYTES};
+use dvg_mem::LAST_ROM_WORD;
 use std::marker::Model;
 
 /// The most words that a line gives.
 const MAX_WORDS: usize = 8;
-
-/// The word address behind the ROM's last word.
-const ROM_END: usize = 0xC00;
-
-/// A word that no line gives, an RTSL (this project's own choice).
-const UNGIVEN: u16 = 0xD000;
 
 /// The words that a line gives, from a word address on. All of them are words of the ROM.
 #[derive(Drop)]
@@ -37,13 +30,14 @@ impl Model for RomWords {
 
     ghost view = { λ given. record { address = given.address; words = given.words.items } };
 
-    ghost invariant = { λ given. (0x800 ≤ given.address) × (given.address + length given.words.items ≤ 0xC00) };
+    ghost invariant = { λ given. given.address + length given.words.items ≤ 0xC00 };
 }
 
-/// The words that a line gives. None exactly where it is no line of a ROM.
-pub fn read_rom_line(line: &[u8]) -> Option<RomWords>
-    ensures found { IfSome result (λ given. IsRomLine given line.now) }
-    ensures only { (given : RomLine) → IsRomLine given line.now → result ≡ Some given }
+/// The words that a line gives, where the ROM's first one is at this word address. None exactly where it is no line of
+/// the ROM.
+pub fn read_rom_line(first: u16, line: &[u8]) -> Option<RomWords>
+    ensures found { IfSome result (λ given. IsRomLine first given line.now) }
+    ensures only { (given : RomLine) → IsRomLine first given line.now → result ≡ Some given }
 {
     let parts = parts_of(line)?;
     let [name, address, spelled @ ..] = parts.as_slice() else {
@@ -54,10 +48,10 @@ pub fn read_rom_line(line: &[u8]) -> Option<RomWords>
     }
     let address = hex(address, 3)?;
     let words = hex_words(spelled)?;
-    if words.is_empty() || address < FIRST_ROM_WORD {
+    if words.is_empty() || address < first {
         return None;
     }
-    if usize::from(address) + words.len() > ROM_END {
+    if usize::from(address) + words.len() > usize::from(LAST_ROM_WORD) + 1 {
         return None;
     }
     Some(RomWords { address, words })
@@ -80,35 +74,27 @@ fn hex_words(parts: &[&[u8]]) -> Option<ArrayVec<u16, MAX_WORDS>>
 }
 
 impl RomWords {
-    /// Puts the words into the bytes of a ROM.
-    pub fn put(&self, rom: &mut [u8; MEMORY_BYTES])
-        ensures behind { IsBehind self.now rom.old rom.new }
-        ensures image { IsImage rom.new }
+    /// Puts the words into the bytes of a ROM, of which the first word is at this word address.
+    pub fn put(&self, first: u16, rom: &mut [u8])
+        requires low { first ≤ self.now.address }
+        requires whole { 0x1800 ≤ length rom.old + 2 * first }
+        ensures behind { IsBehind self.now first rom.old rom.new }
+        ensures fits { (i : ℕ) → get_or rom.new i 0 < 256 }
     {
-        let first = usize::from(self.address - FIRST_ROM_WORD);
+        let place = usize::from(self.address - first);
         for (k, word) in self.words.as_slice().iter().enumerate() {
-            put_word(rom, first + k, *word);
+            put_word(rom, place + k, *word);
         }
     }
 }
 
-/// The bytes of a ROM of which no line gives a word.
-pub fn ungiven_rom() -> [u8; MEMORY_BYTES]
-    ensures { AreAfter [] result }
-{
-    let mut rom = [0; MEMORY_BYTES];
-    for k in 0..MEMORY_BYTES / 2 {
-        put_word(&mut rom, k, UNGIVEN);
-    }
-    rom
-}
-
 // Puts a word in its place of these bytes, the low byte first.
-fn put_word(bytes: &mut [u8; MEMORY_BYTES], k: usize, word: u16)
-    requires { k < 1024 }
+fn put_word(bytes: &mut [u8], k: usize, word: u16)
+    requires { 2 * k + 1 < length bytes.old }
     ensures word { word_in bytes.new k ≡ word }
     ensures others { (j : ℕ) → j ≢ k → word_in bytes.new j ≡ word_in bytes.old j }
-    ensures image { IsImage bytes.new }
+    ensures count { length bytes.new ≡ length bytes.old }
+    ensures fits { (i : ℕ) → get_or bytes.new i 0 < 256 }
 {
     bytes[2 * k] = (word % 256) as u8;
     bytes[2 * k + 1] = (word / 256) as u8;

@@ -10,11 +10,12 @@ use crate::draft_text::MOST_TEXT_BYTES;
 use crate::event_line::{EventLine, read_event_line};
 use crate::fault::{TextFault, TraceFault};
 use crate::op_line::read_op;
-use crate::rom_line::{read_rom_line, ungiven_rom};
+use crate::rom_text::RomReading;
 use crate::text_lines::{TextLines, is_passed};
+use arrayvec::ArrayVec;
 use dvg_code::OutOfMemory;
 use dvg_frame::Draft;
-use dvg_mem::{Image, MEMORY_BYTES};
+use dvg_mem::{Image, LARGE_ROM_BYTES, MEMORY_BYTES};
 use dvg_world::{Event, MOST_EVENTS, Trace};
 use std::alloc::{Allocator, Global};
 
@@ -23,8 +24,8 @@ use std::alloc::{Allocator, Global};
 pub struct TraceText<A: Allocator = Global> {
     /// Its events, in order.
     pub events: Trace<A>,
-    /// The bytes of the ROM: the words that its ROM lines give, and D000, an RTSL, for each other.
-    pub rom: [u8; MEMORY_BYTES],
+    /// The bytes of the ROM, 2,048 or 4,096: the words that its ROM lines give, and D000, an RTSL, for each other.
+    pub rom: ArrayVec<u8, LARGE_ROM_BYTES>,
 }
 
 /// Reads the text of a trace, in one pass over its lines (the format is this project's own choice).
@@ -37,7 +38,7 @@ pub struct TraceText<A: Allocator = Global> {
 /// - `Unended`: no line is at fault, and the text ends inside an offer.
 /// - `Memory`: a growth was refused.
 pub fn read_trace<A: Allocator + Copy>(alloc: A, text: &[u8]) -> Result<TraceText<A>, TraceFault>
-    ensures gives { IfOk result (λ told. GivesTrace text.now told.events told.rom) }
+    ensures gives { IfOk result (λ told. GivesTrace text.now told.events told.rom.items) }
     ensures fault { IfErr result (λ fault. StopsReading fault text.now) }
 {
     if text.len() > MOST_TEXT_BYTES {
@@ -45,7 +46,7 @@ pub fn read_trace<A: Allocator + Copy>(alloc: A, text: &[u8]) -> Result<TraceTex
     }
     let mut reading = Reading {
         alloc,
-        rom: ungiven_rom(),
+        rom: RomReading::new(),
         events: Trace::new(alloc),
         draft: Draft::new(),
         is_open: false,
@@ -67,7 +68,7 @@ pub fn read_trace<A: Allocator + Copy>(alloc: A, text: &[u8]) -> Result<TraceTex
     }
     Ok(TraceText {
         events: reading.events,
-        rom: reading.rom,
+        rom: reading.rom.into_bytes(),
     })
 }
 
@@ -100,7 +101,7 @@ fn at_line(fault: LineFault, number: usize) -> TraceFault
 #[derive(Drop)]
 struct Reading<A: Allocator> {
     alloc: A,
-    rom: [u8; MEMORY_BYTES],
+    rom: RomReading,
     events: Trace<A>,
     // The draft of the newest offer.
     draft: Draft,
@@ -116,7 +117,7 @@ impl<A: Allocator + Copy> Reading<A> {
         requires held { IsHeld self.old }
         ensures taken { OnOk result (ReadsLine self.old line.now self.new) }
         ensures held { OnOk result (IsHeld self.new) }
-        ensures fault { IfErr result (λ fault. StopsLine fault (events_read self.old) (opened_of self.old) line.now) }
+        ensures fault { IfErr result (λ fault. StopsLine fault (events_read self.old) (opened_of self.old) self.old.rom line.now) }
     {
         if !self.is_open {
             return self.take_outside(line);
@@ -133,7 +134,7 @@ impl<A: Allocator + Copy> Reading<A> {
         requires held { IsHeld self.old }
         ensures taken { OnOk result (ReadsLine self.old line.now self.new) }
         ensures held { OnOk result (IsHeld self.new) }
-        ensures fault { IfErr result (λ fault. StopsLine fault (events_read self.old) (opened_of self.old) line.now) }
+        ensures fault { IfErr result (λ fault. StopsLine fault (events_read self.old) (opened_of self.old) self.old.rom line.now) }
     {
         if line == b"offer".as_slice() {
             self.draft.clear();
@@ -143,14 +144,10 @@ impl<A: Allocator + Copy> Reading<A> {
         if let Some(told) = read_event_line(line) {
             return add_events(self.alloc, told, &mut self.resets, &mut self.events);
         }
-        if !self.events.is_empty() {
-            return Err(LineFault::Syntax);
+        if self.events.is_empty() && self.rom.take(line) {
+            return Ok(());
         }
-        let Some(given) = read_rom_line(line) else {
-            return Err(LineFault::Syntax);
-        };
-        given.put(&mut self.rom);
-        Ok(())
+        Err(LineFault::Syntax)
     }
 
     // Ends the offer that is open.
@@ -159,7 +156,7 @@ impl<A: Allocator + Copy> Reading<A> {
         requires held { IsHeld self.old }
         ensures taken { OnOk result (ReadsLine self.old (codes "end") self.new) }
         ensures held { OnOk result (IsHeld self.new) }
-        ensures fault { IfErr result (λ fault. StopsLine fault (events_read self.old) (opened_of self.old) (codes "end")) }
+        ensures fault { IfErr result (λ fault. StopsLine fault (events_read self.old) (opened_of self.old) self.old.rom (codes "end")) }
     {
         if self.events.len() == MOST_EVENTS {
             return Err(LineFault::Many);

@@ -2,8 +2,7 @@
 use Rattle.std.proofs.Common.{◌≡◌, ℕ, ◌+◌, ◌≤◌, ◌<◌, List, [], ◌∷◌, ◌++◌, map, reverse, length, drop, Bool, refl, sym, ap, ◌∙◌, subst, le_of_suc-le-suc, not-suc-le-zero, ⊎_elim, arith, ◌⊎◌, inl, inr}
 use Rattle.std.proofs.lemmas.List.{drop_all, length-replicate, reverse-reverse, drop_more}
 use Rattle.std.proofs.lemmas.List.Elements.{All-replicate}
-use Rattle.dvg_mem.specs.Memory.{IsImage}
-use Rattle.dvg_mem.proofs.Roms.{small_rom}
+use Rattle.dvg_mem.specs.Memory.{IsImage, IsRom}
 use Rattle.std.proofs.lemmas.Option.{slice_get_within, get_or_from_slice_get}
 use Rattle.std.specs.List.{zip}
 use Rattle.dvg_world.specs.declared.entry.Entry.{Entry}
@@ -109,5 +108,5 @@ zeros_are_image : IsImage zeros
 zeros_are_image = record { count = length-replicate {A = ℕ} 2048 0; bytes = All-replicate (λ byte. byte < 256) 2048 0 (omega arith) }
 
 -- before the first event there is a log, and it is legal
-pub legal_at_once : {A : Type 0} (R : List ℕ) (events : List Happening) (entries : List (Entry A)) → entries ≡ [] → IsImage R → IsLegal R zeros (log_of events entries)
-legal_at_once R events entries none image = subst (IsLegal R zeros) (sym (ap (log_of events) none ∙ log_of-none _ events)) (small_rom R image, zeros_are_image)
+pub legal_at_once : {A : Type 0} (R : List ℕ) (events : List Happening) (entries : List (Entry A)) → entries ≡ [] → IsRom R → IsLegal R zeros (log_of events entries)
+legal_at_once R events entries none rom = subst (IsLegal R zeros) (sym (ap (log_of events) none ∙ log_of-none _ events)) (rom, zeros_are_image)

@@ -1,49 +1,81 @@
 -- How far the lines of a ROM have come.
-use Rattle.std.proofs.Common.{◌≡◌, ℕ, ◌+◌, ◌*◌, ◌<◌, ◌≤◌, List, ◌∷◌, ◌++◌, Option, length, take, drop, refl, sym, ap, ◌∙◌, arith, length-drop}
+use Rattle.std.proofs.Common.{◌≡◌, ℕ, ◌+◌, ◌*◌, ◌≤◌, List, [], ◌∷◌, ◌++◌, Option, Result, Ok, Err, length, take, drop, refl, sym, ap, subst, codes, ◌∙◌, arith, length-drop, inl, inr, ◌%◌}
 use Rattle.std.proofs.lemmas.List.{drop-drop, drop_all}
 use Rattle.std.specs.Io.KnownBytes.{Appends}
-use Rattle.dvg_text.specs.Lines.{rom_line, rom_lines}
+use Rattle.dvg_code.specs.Words.{words_of}
+use Rattle.dvg_mem.proofs.Roms.{large_first, small_first}
+use Rattle.dvg_text.specs.Lines.{map_text, rom_line, rom_lines, rom_text}
+use Rattle.dvg_tool.specs.Roms.{HasRomSize, WritesText}
+use Rattle.dvg_tool.specs.declared.fault.ToolFault.{ToolFault}
+use Rattle.dvg_tool.specs.declared.fault.ToolFault.TheVariants.{Writer}
 use Rattle.dvg_tool.specs.Watching.{BeginsToWrite}
-use Rattle.dvg_tool.proofs.Went.{Went, all_of_it, nothing, piece_begun, piece_more}
+use Rattle.dvg_tool.proofs.Whole.{length-words_of}
+use Rattle.dvg_tool.proofs.Went.{Went, all_of_it, both, nothing, piece_begun, piece_more, second_begun}
+
+-- the text of either size
+pub small_text : (R : List ℕ) → length R ≡ 2048 → [] ++ rom_lines 0x800 (words_of R) ≡ rom_text R
+small_text R size =
+    let none : map_text R ≡ [] = rw size in
+    let first = small_first R size in
+    sym (rw (none, first))
+
+pub large_text : (R : List ℕ) → length R ≡ 4096 → (codes "map 4096" ++ 10 ∷ []) ++ rom_lines 0x400 (words_of R) ≡ rom_text R
+large_text R size =
+    let map : map_text R ≡ codes "map 4096" ++ 10 ∷ [] = rw size in
+    let first = large_first R size in
+    sym (rw (map, first))
+
+-- the words of either size make whole rows
+pub whole_rows : (R : List ℕ) → HasRomSize R → length (words_of R) % 8 ≡ 0
+whole_rows R (inl small) = let words = length-words_of R (omega (arith, small)) in omega (arith, small, words)
+whole_rows R (inr large) = let words = length-words_of R (omega (arith, large)) in omega (arith, large, words)
 
 -- the first line is that of the first eight words
 first_line : (address : ℕ) (words : List ℕ) → 8 ≤ length words → rom_lines address words ≡ rom_line address (take 8 words) ++ rom_lines (address + 8) (drop 8 words)
 first_line address (a ∷ b ∷ c ∷ d ∷ e ∷ f ∷ g ∷ h ∷ words) long = refl
 first_line address words long = absurd (omega arith)
 
+-- one text behind another
+pub text_more : {T : Type 0} (answer : Result T ToolFault) (first second : List ℕ) (old now new : Option (List ℕ)) → Appends old now first → WritesText answer second now new → WritesText answer (first ++ second) old new
+text_more (Ok done) first second old now new wrote more = both first second old now new wrote more
+text_more (Err Writer) first second old now new wrote more = second_begun first second wrote more
+text_more (Err _) first second old now new wrote more = more
+
 -- the lines of the words before this row went out
-abbrev pub RowsWritten : (words : List ℕ) (row : ℕ) (old now : Option (List ℕ)) → Type 0
-RowsWritten words row = Went (rom_lines 0x800 words) (rom_lines (0x800 + row * 8) (drop (row * 8) words))
+abbrev pub RowsWritten : (first : ℕ) (words : List ℕ) (row : ℕ) (old now : Option (List ℕ)) → Type 0
+RowsWritten first words row = Went (rom_lines first words) (rom_lines (first + row * 8) (drop (row * 8) words))
 
-pub no_row : (words : List ℕ) (known : Option (List ℕ)) → RowsWritten words 0 known known
-no_row words known = nothing (rom_lines 0x800 words) known
+pub no_row : (first : ℕ) (words : List ℕ) (known : Option (List ℕ)) → RowsWritten first words 0 known known
+no_row first words known =
+    let address : first ≡ first + 0 * 8 = omega arith in
+    subst (λ k. Went (rom_lines first words) (rom_lines k words) known known) address (nothing (rom_lines first words) known)
 
-row_of : (words : List ℕ) (row : ℕ) → length words ≡ 1024 → row < 128
-    → rom_lines (0x800 + row * 8) (drop (row * 8) words) ≡ rom_line (0x800 + row * 8) (take 8 (drop (row * 8) words)) ++ rom_lines (0x800 + (row + 1) * 8) (drop ((row + 1) * 8) words)
-row_of words row whole low =
+row_of : (first : ℕ) (words : List ℕ) (row : ℕ) → row * 8 + 8 ≤ length words
+    → rom_lines (first + row * 8) (drop (row * 8) words) ≡ rom_line (first + row * 8) (take 8 (drop (row * 8) words)) ++ rom_lines (first + (row + 1) * 8) (drop ((row + 1) * 8) words)
+row_of first words row within =
     let long : 8 ≤ length (drop (row * 8) words) = omega (arith, length-drop (row * 8) words) in
-    let address : 0x800 + row * 8 + 8 ≡ 0x800 + (row + 1) * 8 = omega arith in
+    let address : first + row * 8 + 8 ≡ first + (row + 1) * 8 = omega arith in
     let count : row * 8 + 8 ≡ (row + 1) * 8 = omega arith in
     let words_after : drop 8 (drop (row * 8) words) ≡ drop ((row + 1) * 8) words = drop-drop 8 (row * 8) words ∙ ap (λ k. drop k words) count in
-    let after : rom_lines (0x800 + row * 8 + 8) (drop 8 (drop (row * 8) words)) ≡ rom_lines (0x800 + (row + 1) * 8) (drop ((row + 1) * 8) words) =
-    ap (λ k. rom_lines k (drop 8 (drop (row * 8) words))) address ∙ ap (rom_lines (0x800 + (row + 1) * 8)) words_after in
-    first_line _ _ long ∙ ap (λ l. rom_line (0x800 + row * 8) (take 8 (drop (row * 8) words)) ++ l) after
+    let after : rom_lines (first + row * 8 + 8) (drop 8 (drop (row * 8) words)) ≡ rom_lines (first + (row + 1) * 8) (drop ((row + 1) * 8) words) =
+    ap (λ k. rom_lines k (drop 8 (drop (row * 8) words))) address ∙ ap (rom_lines (first + (row + 1) * 8)) words_after in
+    first_line _ _ long ∙ ap (λ l. rom_line (first + row * 8) (take 8 (drop (row * 8) words)) ++ l) after
 
 -- the lines from this row on
-next_row : (words line : List ℕ) (row : ℕ) → length words ≡ 1024 → row < 128 → line ≡ rom_line (0x800 + row * 8) (take 8 (drop (row * 8) words))
-    → rom_lines (0x800 + row * 8) (drop (row * 8) words) ≡ line ++ rom_lines (0x800 + (row + 1) * 8) (drop ((row + 1) * 8) words)
-next_row words line row whole low is = row_of words row whole low ∙ ap (λ l. l ++ rom_lines (0x800 + (row + 1) * 8) (drop ((row + 1) * 8) words)) (sym is)
+next_row : (first : ℕ) (words line : List ℕ) (row : ℕ) → row * 8 + 8 ≤ length words → line ≡ rom_line (first + row * 8) (take 8 (drop (row * 8) words))
+    → rom_lines (first + row * 8) (drop (row * 8) words) ≡ line ++ rom_lines (first + (row + 1) * 8) (drop ((row + 1) * 8) words)
+next_row first words line row within is = row_of first words row within ∙ ap (λ l. l ++ rom_lines (first + (row + 1) * 8) (drop ((row + 1) * 8) words)) (sym is)
 
 -- a row more
-pub row_written : (words line : List ℕ) (row : ℕ) (old now new : Option (List ℕ)) → length words ≡ 1024 → row < 128 → RowsWritten words row old now
-    → line ≡ rom_line (0x800 + row * 8) (take 8 (drop (row * 8) words)) → Appends now new line → RowsWritten words (row + 1) old new
-row_written words line row old now new whole low went is wrote = piece_more line _ went (next_row words line row whole low is) wrote
+pub row_written : (first : ℕ) (words line : List ℕ) (row : ℕ) (old now new : Option (List ℕ)) → row * 8 + 8 ≤ length words → RowsWritten first words row old now
+    → line ≡ rom_line (first + row * 8) (take 8 (drop (row * 8) words)) → Appends now new line → RowsWritten first words (row + 1) old new
+row_written first words line row old now new within went is wrote = piece_more line _ went (next_row first words line row within is) wrote
 
 -- a beginning of a row more
-pub row_begun : (words line : List ℕ) (row : ℕ) (old now new : Option (List ℕ)) → length words ≡ 1024 → row < 128 → RowsWritten words row old now
-    → line ≡ rom_line (0x800 + row * 8) (take 8 (drop (row * 8) words)) → BeginsToWrite line now new → BeginsToWrite (rom_lines 0x800 words) old new
-row_begun words line row old now new whole low went is begun = piece_begun line _ went (next_row words line row whole low is) begun
+pub row_begun : (first : ℕ) (words line : List ℕ) (row : ℕ) (old now new : Option (List ℕ)) → row * 8 + 8 ≤ length words → RowsWritten first words row old now
+    → line ≡ rom_line (first + row * 8) (take 8 (drop (row * 8) words)) → BeginsToWrite line now new → BeginsToWrite (rom_lines first words) old new
+row_begun first words line row old now new within went is begun = piece_begun line _ went (next_row first words line row within is) begun
 
 -- all rows
-pub all_rows : (words : List ℕ) (old now : Option (List ℕ)) → length words ≡ 1024 → RowsWritten words 128 old now → Appends old now (rom_lines 0x800 words)
-all_rows words old now whole went = all_of_it went (ap (rom_lines 0xC00) (drop_all 1024 words (omega arith)))
+pub all_rows : (first : ℕ) (words : List ℕ) (rows : ℕ) (old now : Option (List ℕ)) → length words ≤ rows * 8 → RowsWritten first words rows old now → Appends old now (rom_lines first words)
+all_rows first words rows old now whole went = all_of_it went (ap (rom_lines (first + rows * 8)) (drop_all (rows * 8) words whole))

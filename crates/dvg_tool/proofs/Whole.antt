@@ -1,5 +1,5 @@
 -- From what was read to what the reader had.
-use Rattle.std.proofs.Common.{◌≡◌, ◌≢◌, ℕ, ◌+◌, ◌*◌, [], ◌∷◌, refl, sym, ◌%◌, ◌<◌, ◌≤◌, List, Bool, Option, None, Some, Result, Ok, Err, IfSome, length, take, length-take, take_all, ap, subst, ◌∙◌, arith, ◌⊎◌, inl, inr, ⊎_elim}
+use Rattle.std.proofs.Common.{◌≡◌, ℕ, ◌+◌, ◌*◌, [], ◌∷◌, refl, sym, ◌%◌, ◌<◌, ◌≤◌, List, Bool, Option, None, Some, Result, Ok, Err, IfSome, length, take, length-take, take_all, ap, subst, ◌∙◌, arith, ◌⊎◌, inl, inr, ⊎_elim}
 use Rattle.std.proofs.lemmas.Bool.{cases_lt}
 use Rattle.std.specs.Io.KnownBytes.{Appends}
 use Rattle.dvg_code.specs.Words.{words_of}
@@ -10,7 +10,7 @@ use Rattle.dvg_text.specs.DraftTexts.{HasDraftFault}
 use Rattle.dvg_text.specs.Verdicts.{Judges, verdict_line}
 use Rattle.dvg_tool.specs.Watching.{BeginsToWrite}
 use Rattle.dvg_text.specs.Lines.{rom_text}
-use Rattle.dvg_tool.specs.Roms.{WritesRom, WritesText}
+use Rattle.dvg_tool.specs.Roms.{HasRomSize, WritesRom, WritesText}
 use Rattle.dvg_tool.specs.Lists.{IsListable, Lists, ListsWords}
 use Rattle.dvg_text.specs.declared.fault.TextFault.TheVariants.{TooLong, Cut, Syntax, Full}
 use Rattle.dvg_tool.specs.declared.fault.ToolFault.{ToolFault}
@@ -56,24 +56,27 @@ length-words_of [] even = refl
 length-words_of (low ∷ []) even = absurd (omega arith)
 length-words_of (low ∷ high ∷ bytes) even = let rest = length-words_of bytes (omega arith) in omega arith
 
--- of another length than 2,048, so is what was read
-pub wrong_size : (known : Option (List ℕ)) (read : List ℕ) → Read 2048 known read → length read ≢ 2048 → IfSome known (λ input. length input ≢ 2048)
+-- of another size than a ROM has, so is what was read
+pub wrong_size : (known : Option (List ℕ)) (read : List ℕ) → Read 4096 known read → ¬ HasRomSize read → IfSome known (λ input. ¬ HasRomSize input)
 wrong_size None read e h = tt
-wrong_size (Some input) read e h = λ size. h (ap length e ∙ ap length (take_all 2049 input (omega arith)) ∙ size)
+wrong_size (Some input) read e h = λ size. h (⊎_elim
+    (λ small. inl (ap length e ∙ ap length (take_all 4097 input (omega arith)) ∙ small))
+    (λ large. inr (ap length e ∙ ap length (take_all 4097 input (omega arith)) ∙ large))
+    size)
 
-rom_written : {T : Type 0} (answer : Result T ToolFault) (input : List ℕ) (old new : Option (List ℕ)) → length input ≡ 2048 → WritesText answer (rom_text input) old new → WritesRom answer input old new
+rom_written : {T : Type 0} (answer : Result T ToolFault) (input : List ℕ) (old new : Option (List ℕ)) → HasRomSize input → WritesText answer (rom_text input) old new → WritesRom answer input old new
 rom_written (Ok done) input old new size h = (size, h)
 rom_written (Err (Text fault)) input old new size h = absurd h
 rom_written (Err Reader) input old new size h = absurd h
 rom_written (Err Writer) input old new size h = (size, h)
 rom_written (Err Memory) input old new size h = absurd h
 
-pub writes_rom : {T : Type 0} (answer : Result T ToolFault) (known old new : Option (List ℕ)) (read : List ℕ) → Read 2048 known read → length read ≡ 2048
+pub writes_rom : {T : Type 0} (answer : Result T ToolFault) (known old new : Option (List ℕ)) (read : List ℕ) → Read 4096 known read → length read ≤ 4096 → HasRomSize read
     → WritesText answer (rom_text read) old new → IfSome known (λ input. WritesRom answer input old new)
-writes_rom answer None old new read e h w = tt
-writes_rom answer (Some input) old new read e h w =
-    let same = whole 2048 read input e (omega arith) in
-    rom_written answer input old new (sym (ap length same) ∙ h) (subst (λ l. WritesText answer (rom_text l) old new) same w)
+writes_rom answer None old new read e few h w = tt
+writes_rom answer (Some input) old new read e few h w =
+    let same = whole 4096 read input e few in
+    rom_written answer input old new (subst HasRomSize same h) (subst (λ l. WritesText answer (rom_text l) old new) same w)
 
 -- what was read is the whole input, or both are too long
 whole_or_long : (most : ℕ) (read input : List ℕ) → read ≡ take (most + 1) input → (read ≡ input) ⊎ ((most < length read) × (most < length input))

@@ -29,5 +29,5 @@ StaysUnwritten _ fault = StopsBeforeWriting fault
 -- the most bytes that are taken of the input
 abbrev pub most_taken : Job → ℕ
 most_taken list_job = 8193
-most_taken Rom = 2049
+most_taken Rom = 4097
 most_taken _ = 1048577

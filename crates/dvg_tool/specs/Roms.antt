@@ -1,5 +1,5 @@
 -- What `rom_text` answers and writes.
-use Rattle.std.specs.Prelude.{◌≡◌, ◌≢◌, ℕ, List, length, Option, Result, Ok, Err, MatchResult}
+use Rattle.std.specs.Prelude.{◌≡◌, ◌⊎◌, ℕ, List, length, Option, Result, Ok, Err, MatchResult}
 use Rattle.std.specs.Io.KnownBytes.{Appends}
 use Rattle.dvg_text.specs.Lines.{rom_text}
 use Rattle.dvg_tool.specs.Watching.{BeginsToWrite}
@@ -16,10 +16,14 @@ StopsWriting _ text old new = ⊥
 abbrev pub WritesText : {T : Type 0} → Result T ToolFault → (text : List ℕ) → Option (List ℕ) → Option (List ℕ) → Type 0
 WritesText answer text old new = MatchResult answer (λ _. Appends old new text) (λ fault. StopsWriting fault text old new)
 
+-- an input of as many bytes as a ROM has
+abbrev pub HasRomSize : List ℕ → Type 0
+HasRomSize input = (length input ≡ 2048) ⊎ (length input ≡ 4096)
+
 -- what `rom_text` answers of an input, and what went out: the text, or at `Writer` a beginning of it (that nothing went out at the other faults is a clause of its own)
 abbrev pub WritesRom : {T : Type 0} → Result T ToolFault → (input : List ℕ) → Option (List ℕ) → Option (List ℕ) → Type 0
-WritesRom (Ok done) input old new = (length input ≡ 2048) × Appends old new (rom_text input)
-WritesRom (Err (Text RomSize)) input old new = length input ≢ 2048
+WritesRom (Ok done) input old new = HasRomSize input × Appends old new (rom_text input)
+WritesRom (Err (Text RomSize)) input old new = ¬ HasRomSize input
 WritesRom (Err (Text _)) input old new = ⊥
-WritesRom (Err Writer) input old new = (length input ≡ 2048) × BeginsToWrite (rom_text input) old new
+WritesRom (Err Writer) input old new = HasRomSize input × BeginsToWrite (rom_text input) old new
 WritesRom _ input old new = Unit {0}

@@ -23,7 +23,7 @@ fn judge<A: Allocator>(alloc: A, text: &[u8]) -> Result<Verdict, ToolFault>
         Ok(told) => told,
         Err(fault) => return Err(ToolFault::Text(fault)),
     };
-    let Ok(rom) = Rom::new(alloc, &told.rom) else {
+    let Ok(rom) = Rom::new(alloc, told.rom.as_slice()) else {
         return Err(ToolFault::Memory);
     };
     match check(&told.draft, &rom) {
@@ -63,7 +63,7 @@ fn check_telling<A: Allocator, R: Read, W: Write>(
     Ok(verdict)
 }
 
-/// Reads a draft as text, with the lines of a ROM before it, and writes in one line what the check says
+/// Reads a draft as text, with the lines of a memory map and of a ROM before it, and writes in one line what the check says
 /// of the draft over that ROM: `ok` and its number of words, or `fault` and the fault's number, name and
 /// place (the texts are this project's own choice). It answers what it wrote, and the bound of a good draft,
 /// which the line leaves out.

@@ -1,6 +1,6 @@
 //! The engine `play`.
 ghost use Rattle.std.specs.Prelude.{◌≡◌, ◌↔◌, ◌≤◌, [], length, IfErr, IfOk, IfSome, IsErrOf};
-ghost use Rattle.dvg_mem.specs.Memory.{IsImage};
+ghost use Rattle.dvg_mem.specs.Memory.{IsRom};
 ghost use Rattle.dvg_world.specs.Legal.{IsLegal};
 ghost use Rattle.dvg_world.specs.Runs.{IsStop, log_by};
 ghost use Rattle.dvg_tool.specs.Plays.{Plays, StopsBeforeShowing, zeros};
@@ -33,13 +33,13 @@ fn run_text<A: Allocator + Copy>(
     alloc: A,
     told: &TraceText<A>,
 ) -> Result<Vec<Entry<A>, A>, Stopped<A>>
-    requires { IsImage told.now.rom }
-    ensures legal { IsLegal told.now.rom zeros (log_by told.now.events result) }
+    requires { IsRom told.now.rom.items }
+    ensures legal { IsLegal told.now.rom.items zeros (log_by told.now.events result) }
     ensures whole { IfOk result (λ entries. length entries.items ≡ length told.now.events) }
     ensures stopped { IfErr result (λ stopped. length stopped.entries.items ≡ stopped.event) }
-    ensures early { IfErr result (IsStop told.now.rom zeros told.now.events) }
+    ensures early { IfErr result (IsStop told.now.rom.items zeros told.now.events) }
 {
-    let Ok(rom) = Rom::new(alloc, &told.rom) else {
+    let Ok(rom) = Rom::new(alloc, told.rom.as_slice()) else {
         return Err(unstarted(alloc));
     };
     let Ok(image) = Image::new(alloc, &[0; MEMORY_BYTES]) else {
@@ -48,7 +48,7 @@ fn run_text<A: Allocator + Copy>(
     run_trace::<Flat<A>>(alloc, rom, &image, &told.events)
 }
 
-/// Reads a trace as text, with the lines of a ROM before it, lets its events happen from a RAM of zeros, and
+/// Reads a trace as text, with the lines of a memory map and of a ROM before it, lets its events happen from a RAM of zeros, and
 /// writes what the log shows: with `all` a line for each entry, and else for each finished run; and behind
 /// the line of a finished run one for each of its strokes, in the order drawn (the texts are this project's
 /// own choice).

@@ -34,11 +34,13 @@ Example:
 
 /// The input and output of `rom`.
 pub(crate) const ROM: &str =
-    "Standard input: the 2,048 bytes of a ROM, the low byte of each word first.
+    "Standard input: the 2,048 or 4,096 bytes of a ROM, the low byte of each word
+first.
 
-Standard output: 128 lines `rom HHH HHHH ..`, each with a word address and the
-eight words that stand from there on, in hexadecimal. The first address is 800,
-the last BF8. `check` and `play` read such lines.
+Standard output: of 2,048 bytes 128 lines `rom HHH HHHH ..`, each with a word
+address and the eight words that stand from there on, in hexadecimal. The first
+address is 800, the last BF8. Of 4,096 bytes the line `map 4096` and 256 lines
+`rom HHH HHHH ..`, from 400 on. `check` and `play` read such lines.
 
 Fault: `rom size` for any other number of bytes.
 
@@ -48,10 +50,12 @@ Example:
 
 /// The input and output of `check`.
 pub(crate) const CHECK: &str =
-    "Standard input: a draft as text, at most 1,048,576 bytes. First may come lines
-`rom HHH HHHH ..`: one to eight words of the ROM from a word address of 800 to
-BFF on, in hexadecimal. A word that no line gives is D000. Then a line an
-operation, at most 511, which are numbered from 0:
+    "Standard input: a draft as text, at most 1,048,576 bytes. First may come a line
+`map 2048` or `map 4096`, the number of the ROM's bytes: its words are those of
+800 to BFF, or of 400 to BFF; 2048 holds where there is no such line. Then lines
+`rom HHH HHHH ..`: one to eight words of the ROM from one of these addresses on,
+in hexadecimal. A word that no line gives is D000. Then a line an operation, at
+most 511, which are numbered from 0:
 
   labs X Y S        put the beam at X Y and set the global scale
                     (X and Y 0 to 4095, S 0 to 15)
@@ -62,8 +66,8 @@ operation, at most 511, which are numbered from 0:
                     (S 2 to 5, DX and DY -3 to 3, Z 0 to 15)
   call N            call operation N (0 to 65535)
   jump N            go on at operation N (0 to 65535)
-  callrom HHH       call the ROM word at this address (800 to BFF)
-  jumprom HHH       go on at the ROM word at this address (800 to BFF)
+  callrom HHH       call the ROM word at this address
+  jumprom HHH       go on at the ROM word at this address
   return            return from the newest call
   halt              end the picture
 
@@ -101,9 +105,10 @@ Example:
 
 /// The input and output of `play`.
 pub(crate) const PLAY: &str =
-    "Standard input: a trace as text, at most 1,048,576 bytes. Lines `rom` may come
-first, as `dvg rom` writes them; a word that no line gives is D000. Then events,
-at most 65,536, which are numbered from 0:
+    "Standard input: a trace as text, at most 1,048,576 bytes. Lines `map` and `rom`
+may come first, as `dvg rom` writes them and `dvg help check` tells them; a word
+that no line gives is D000. Then events, at most 65,536, which are numbered from
+0:
 
   offer         offer a frame to the driver: this line, a line for each of its
   ..            operations (`dvg help check` tells them, at most 511), and `end`

@@ -4,4 +4,4 @@ use Rattle.dvg_clients.proofs.Clients.{events_are}
 use Rattle.dvg_clients.proofs.texts.reads_a_tick.Goals as goal
 
 pub returns-in-Ok : goal.returns-in-Ok
-returns-in-Ok c = events_are c.in-Ok.told.events c.in-Ok.told.rom (subst (λ text. GivesTrace text c.in-Ok.told.events c.in-Ok.told.rom) c.requires c.in-Ok.ensures.gives)
+returns-in-Ok c = events_are c.in-Ok.told.events c.in-Ok.told.rom.items (subst (λ text. GivesTrace text c.in-Ok.told.events c.in-Ok.told.rom.items) c.requires c.in-Ok.ensures.gives)

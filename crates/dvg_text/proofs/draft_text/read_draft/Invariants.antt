@@ -1,5 +1,4 @@
 use Rattle.std.proofs.Common.{◌≤◌, length}
-use Rattle.dvg_mem.specs.Memory.{IsImage}
 use Rattle.dvg_text.specs.FirstFaults.{IsShort}
 use Rattle.dvg_text.specs.TextLines.{lines_left}
 use Rattle.dvg_text.proofs.ReadTo.{ReadTo}
@@ -11,6 +10,5 @@ invariant-loop-line l = record {
   ends : (goal.iterator-loop-line).is_finite l.line-iterator;
   short : IsShort l.text;
   count : length l.draft ≤ 511;
-  image : IsImage l.rom;
   read : ReadTo l.text (lines_left l.line-iterator) l.number l.draft l.rom;
 }

@@ -1,4 +1,4 @@
-use Rattle.dvg_text.proofs.OneMeaning.{one_meaning}
+use Rattle.dvg_text.proofs.DraftSteps.{one_meaning}
 use Rattle.dvg_text.proofs.laws.one_meaning.Goals as goal
 
 pub returns : goal.returns

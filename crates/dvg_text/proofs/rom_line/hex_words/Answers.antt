@@ -1,7 +1,7 @@
 use Rattle.std.proofs.Common.{◌≡◌, ◌+◌, rules, subst, sym, take}
 use Rattle.std.proofs.lemmas.List.{take_all}
 use Rattle.dvg_text.specs.LineParts.{bytes_of}
-use Rattle.dvg_text.specs.RomWords.{SpellsWords}
+use Rattle.dvg_text.specs.RomReading.{SpellsWords}
 use Rattle.dvg_text.proofs.GivenWords.{no_word, same_words, too_many, word_read}
 use Rattle.dvg_text.proofs.rom_line.hex_words.Goals as goal
 

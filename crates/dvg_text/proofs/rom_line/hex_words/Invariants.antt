@@ -1,6 +1,6 @@
 use Rattle.std.proofs.Common.{◌≤◌, length, take}
 use Rattle.dvg_text.specs.LineParts.{bytes_of}
-use Rattle.dvg_text.specs.RomWords.{SpellsWords}
+use Rattle.dvg_text.specs.RomReading.{SpellsWords}
 use Rattle.dvg_text.proofs.rom_line.hex_words.Given as goal
 
 abbrev pub invariant-loop-part : goal.invariant-loop-part

@@ -4,7 +4,6 @@ use Rattle.dvg_text.specs.Texts.{lines}
 use Rattle.dvg_text.specs.TextLines.{lines_left}
 use Rattle.dvg_text.specs.TraceTexts.{FitsDraft}
 use Rattle.dvg_text.specs.TraceGives.{events_read, opened_of}
-use Rattle.dvg_text.proofs.GivenWords.{image_of}
 use Rattle.dvg_text.proofs.ReadTrace.{begins, bounded, closed_all, ends_open, passes, stops, takes}
 use Rattle.dvg_text.proofs.TraceMoves.{any_opened, no_resets}
 use Rattle.dvg_text.proofs.trace_text.read_trace.Goals as goal
@@ -13,14 +12,13 @@ pub loop-line-init : goal.loop-line-init
 loop-line-init g c =
     let start = c.into_iter-line-iterator.result in
     let all : lines_left start ≡ lines c.args.text.now = search rules in
-    let none : c.new.result ≡ [] = c.new.ensures in
-    let image = image_of c.ungiven_rom.result (search rules) (search rules) in
+    let none : c.new-2.result ≡ [] = c.new-2.ensures in
     record {
       next = tt;
       ends = tt;
       short = search rules;
-      held = record { fits = record { count = omega (arith, ap length none); drafts = rw none (All-nil FitsDraft); last = tt }; image = image; known = no_resets _ c.new.result refl };
-      read = begins c.args.text.now (lines_left start) c.new.result None c.ungiven_rom.result all none refl c.ungiven_rom.ensures;
+      held = record { fits = record { count = omega (arith, ap length none); drafts = rw none (All-nil FitsDraft); last = tt }; known = no_resets _ c.new-2.result refl };
+      read = begins c.args.text.now (lines_left start) c.new-2.result None c.new.result all none refl c.new.ensures;
     }
 
 pub overflow_add-number : goal.overflow_add-number
@@ -56,4 +54,4 @@ returns-then-reading-clause-fault g c =
 
 pub returns-clause-gives : goal.returns-clause-gives
 returns-clause-gives g c =
-    closed_all c.args.text.now _ c.loop-line.number (events_read c.loop-line.reading) (opened_of c.loop-line.reading) c.loop-line.reading.rom c.in-None.ensures.steps.0 c.loop-line.invariant.read c.loop-line.invariant.short c.loop-line.invariant.held.fits c.loop-line.reading.is_open (any_opened c.loop-line.reading.is_open c.loop-line.reading.draft) c.if-reading.false c.loop-line.invariant.held.image
+    closed_all c.args.text.now _ c.loop-line.number (events_read c.loop-line.reading) (opened_of c.loop-line.reading) c.loop-line.reading.rom c.in-None.ensures.steps.0 c.loop-line.invariant.read c.loop-line.invariant.short c.loop-line.invariant.held.fits c.loop-line.reading.is_open (any_opened c.loop-line.reading.is_open c.loop-line.reading.draft) c.if-reading.false _ (ap (λ bytes. bytes.items) c.into_bytes.ensures)

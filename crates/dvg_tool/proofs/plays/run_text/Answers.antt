@@ -1,4 +1,4 @@
-use Rattle.std.proofs.Common.{IfErr, subst}
+use Rattle.std.proofs.Common.{IfErr, subst, ◌∙◌}
 use Rattle.dvg_world.specs.Legal.{IsLegal}
 use Rattle.dvg_world.specs.Runs.{IsStop, log_by}
 use Rattle.dvg_tool.specs.Plays.{zeros}
@@ -6,19 +6,19 @@ use Rattle.dvg_tool.proofs.Played.{legal_at_once}
 use Rattle.dvg_tool.proofs.plays.run_text.Goals as goal
 
 pub returns-in_default-clause-legal : goal.returns-in_default-clause-legal
-returns-in_default-clause-legal g c = legal_at_once c.args.told.now.rom c.args.told.now.events _ c.unstarted.ensures.entries c.requires
+returns-in_default-clause-legal g c = legal_at_once c.args.told.now.rom.items c.args.told.now.events _ c.unstarted.ensures.entries c.requires
 
 pub returns-in_default-new-clause-legal : goal.returns-in_default-new-clause-legal
-returns-in_default-new-clause-legal g c = legal_at_once c.args.told.now.rom c.args.told.now.events _ c.unstarted-in_default-new.ensures.entries c.requires
+returns-in_default-new-clause-legal g c = legal_at_once c.args.told.now.rom.items c.args.told.now.events _ c.unstarted-in_default-new.ensures.entries c.requires
 
 pub returns-clause-legal : goal.returns-clause-legal
 returns-clause-legal g c =
     let told = c.args.told.now in
     let image = subst (λ image. IsLegal c.in-Ok.rom image (log_by told.events c.run_trace.result)) c.in-Ok-new.ensures.bytes c.run_trace.ensures.legal in
-    subst (λ R. IsLegal R zeros (log_by told.events c.run_trace.result)) c.in-Ok.ensures.bytes image
+    subst (λ R. IsLegal R zeros (log_by told.events c.run_trace.result)) (c.in-Ok.ensures.bytes ∙ c.as_slice.ensures.value) image
 
 pub returns-clause-early : goal.returns-clause-early
 returns-clause-early g c =
     let told = c.args.told.now in
     let image = subst (λ image. IfErr c.run_trace.result (IsStop c.in-Ok.rom image told.events)) c.in-Ok-new.ensures.bytes c.run_trace.ensures.early in
-    subst (λ R. IfErr c.run_trace.result (IsStop R zeros told.events)) c.in-Ok.ensures.bytes image
+    subst (λ R. IfErr c.run_trace.result (IsStop R zeros told.events)) (c.in-Ok.ensures.bytes ∙ c.as_slice.ensures.value) image

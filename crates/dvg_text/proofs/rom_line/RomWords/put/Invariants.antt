@@ -1,9 +1,10 @@
-use Rattle.dvg_mem.specs.Memory.{IsImage}
+use Rattle.std.proofs.Common.{◌≡◌, ◌<◌, ℕ, get_or, length}
 use Rattle.dvg_text.proofs.GivenWords.{PutTo}
 use Rattle.dvg_text.proofs.rom_line.RomWords.put.Given as goal
 
 abbrev pub invariant-loop-k : goal.invariant-loop-k
 invariant-loop-k l = record {
-  image : IsImage l.rom;
-  put : PutTo l.first l.k l.self.words l.initial.rom l.rom;
+  size : length l.rom ≡ length l.initial.rom;
+  fits : (i : ℕ) → get_or l.rom i 0 < 256;
+  put : PutTo l.place l.k l.self.words l.initial.rom l.rom;
 }

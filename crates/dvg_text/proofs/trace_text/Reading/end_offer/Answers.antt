@@ -10,7 +10,7 @@ returns-then-len-eq-MOST_EVENTS-clause-fault g c =
     let reading = c.args.self.now in
     let inside = some_opened reading.is_open reading.draft (search rules) in
     let full : length (events_read reading) ≡ 65536 = grind (arith, common_steps) in
-    end_stops (events_read reading) (opened_of reading) reading.draft inside full
+    end_stops (events_read reading) (opened_of reading) reading.draft reading.rom inside full
 
 pub returns-clause-held : goal.returns-clause-held
 returns-clause-held g c =
@@ -20,7 +20,6 @@ returns-clause-held g c =
     let room : length (events_read reading) < 65536 = grind (arith, common_steps) in
     record {
       fits = end_fits (events_read reading) c.push_offer.new.self (opened_of reading) None reading.draft inside refl pushed room c.requires.held.fits;
-      image = c.requires.held.image;
       known = resets_stay reading.resets (events_read reading) (Offer reading.draft ∷ []) c.push_offer.new.self pushed c.requires.held.known;
     }
 

@@ -15,4 +15,4 @@ returns-clause-fault g c =
     let reading = c.args.self.now in
     let inside = some_opened reading.is_open reading.draft (search rules) in
     let other : c.args.line.now ≡ codes "end" → ⊥ = search rules in
-    op_stops c.add_op.result (events_read reading) reading.draft (opened_of reading) c.args.line.now inside other c.add_op.ensures.fault
+    op_stops c.add_op.result (events_read reading) reading.draft (opened_of reading) c.args.line.now reading.rom inside other c.add_op.ensures.fault

@@ -1,0 +1,16 @@
+use Rattle.std.proofs.Common.{rules, refl}
+use Rattle.dvg_text.proofs.HeldRom.{map_told, nothing_told, words_told}
+use Rattle.dvg_text.proofs.rom_text.RomReading.take.Goals as goal
+
+pub returns-in-Some-clause-took : goal.returns-in-Some-clause-took
+returns-in-Some-clause-took c told rom holds = map_told rom c.args.line.now c.args.self.now _ c.in-Some.first holds (search rules) (search rules) refl c.ungiven-self.ensures
+
+pub returns-in_default-read_rom_line-clause-refused : goal.returns-in_default-read_rom_line-clause-refused
+returns-in_default-read_rom_line-clause-refused c told rom now holds =
+    nothing_told rom now c.args.line.now c.args.self.now c.first-first.result holds c.first-first.ensures
+    (λ first m. let answered = c.read_map_line.ensures.only first m in let none = c.in_default.is in absurd cc)
+    (λ given h. let answered = c.read_rom_line.ensures.only given h in let none = c.in_default-read_rom_line.is in absurd cc)
+
+pub returns-clause-took : goal.returns-clause-took
+returns-clause-took c told rom holds =
+    words_told rom c.args.line.now c.args.self.now _ c.in-Some-read_rom_line.given c.first-first.result c.as_mut_slice.result.now c.put.new.rom holds c.first-first.ensures (search rules) (search rules) c.put.ensures.behind c.put.ensures.fits refl refl
