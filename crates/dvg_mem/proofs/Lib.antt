@@ -1,3 +1,4 @@
 pub mod Map
 pub mod Roms
 pub mod Grown
+pub mod Banks

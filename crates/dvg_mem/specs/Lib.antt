@@ -2,3 +2,4 @@ pub mod Areas
 pub mod Memory
 pub mod Grown
 pub mod Laws
+pub mod Banks

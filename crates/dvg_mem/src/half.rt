@@ -1,6 +1,8 @@
 //! The two halves of the vector RAM.
-ghost use Rattle.std.specs.Prelude.{◌≡◌};
-ghost use Rattle.dvg_mem.specs.Areas.{base, half_of_high, high, other};
+ghost use Rattle.std.specs.Prelude.{◌≡◌, ◌↔◌, Some};
+ghost use Rattle.dvg_mem.specs.Areas.{IsIn, base, half_of_high, high, other};
+
+use crate::areas::Area;
 
 /// One half of the vector RAM. The processor writes a frame into one while the generator draws the
 /// other.
@@ -53,6 +55,17 @@ impl Half {
             Half::H0
         } else {
             Half::H1
+        }
+    }
+
+    /// The half in which a word of this number lies; none for word zero, word 200 and all from 400 on.
+    pub fn of_word(w: u16) -> Option<Half>
+        ensures { (half : Half) → (result ≡ Some half) ↔ IsIn (Area.Frame half) w }
+    {
+        match w {
+            0x001..=0x1FF => Some(Half::H0),
+            0x201..=0x3FF => Some(Half::H1),
+            _ => None,
         }
     }
 }

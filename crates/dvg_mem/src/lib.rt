@@ -20,6 +20,7 @@
 #![tactic(auto)]
 
 mod areas;
+mod banked;
 mod fetching;
 mod flat;
 mod half;
@@ -30,6 +31,7 @@ mod rom;
 mod store;
 
 pub use areas::Area;
+pub use banked::Banked;
 pub use fetching::{fetch, fetch_byte};
 pub use flat::Flat;
 pub use half::Half;
@@ -40,6 +42,12 @@ pub use store::Store;
 
 /// The bytes of a vector RAM, and of the smaller vector ROM.
 pub const MEMORY_BYTES: usize = 2048;
+
+/// The bytes of one half of the vector RAM: 511 words.
+pub const HALF_BYTES: usize = 1022;
+
+/// The bytes of a word.
+pub(crate) const WORD_BYTES: usize = 2;
 
 /// The bytes of the larger vector ROM.
 pub const LARGE_ROM_BYTES: usize = 4096;
