@@ -2,7 +2,7 @@
 use Rattle.std.proofs.Common.{◌≡◌, ℕ, ◌<◌, Bool, true, false, List, [], ◌∷◌, length, Option, Some, None, refl, sym, ap, ◌∙◌, subst, lit<, Vec}
 use Rattle.std.proofs.lemmas.Bool.{eqb-true, eqb-false}
 use Rattle.std.proofs.lemmas.List.{get_or-set_other, get_or-set_same}
-use Rattle.std.specs.Prelude.{◌↔◌, IsTrue, IsNone, OnErr, Result, Ok, Err, is_some, is_none, slice_index, slice_set, nat_eq, if◌then◌else◌}
+use Rattle.std.specs.Prelude.{◌↔◌, IsTrue, IsNone, IsOk, OnErr, Result, Ok, Err, is_ok, is_some, is_none, slice_index, slice_set, nat_eq, if◌then◌else◌}
 use Rattle.dvg_mem.specs.Areas.{half_of_high, other}
 use Rattle.dvg_mem.specs.Memory.{fetched_byte, IsImage, IsRom}
 use Rattle.dvg_gen.specs.Bytes.{Met, met, Waits, Whole, word_of}
@@ -303,6 +303,10 @@ module _ {rom bytes : List ℕ} {machine : Machine} {stage : Stage} {sent : Bool
 pub open_of : (wanted : Option ℕ) (address : ℕ) (is_open : Bool) → wanted ≡ Some address → (IsNone wanted ↔ (is_open ≡ false)) → is_open ≡ true
 open_of wanted address true is halted = refl
 open_of wanted address false is halted = let none = halted.1 refl in absurd (cc)
+
+-- an error is no success
+pub not_ok : {T E : Type 0} {result : Result T E} {error : E} → result ≡ Err error → ¬ (IsOk result)
+not_ok same ok = absurd (cc (ap is_ok same))
 
 pub on_err : {T E P : Type 0} (result : Result T E) → P → OnErr result P
 on_err (Ok value) p = tt

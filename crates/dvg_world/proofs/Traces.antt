@@ -13,7 +13,7 @@ use Rattle.dvg_world.specs.Events.{Happening, Offer, ResetAll}
 use Rattle.dvg_world.specs.Log.{Log}
 use Rattle.dvg_world.specs.Standing.{State, WorldAfter, AddsLine}
 use Rattle.dvg_world.specs.Stepping.{AddsEvent, WantsMemory}
-use Rattle.dvg_world.specs.Traces.{IsWithin, step_event, step_events}
+use Rattle.dvg_world.specs.Traces.{IsTrace, IsWithin, step_event, step_events}
 use Rattle.dvg_world.specs.Wanting.{TakesMemory}
 
 -- the event of an item is the one that its number has
@@ -21,6 +21,18 @@ same_event : {X : Type 0} (f : X → Happening) (xs : List X) (n : ℕ) (x d : X
 same_event f [] n x d event low item at = absurd (not-suc-le-zero low)
 same_event f (y ∷ xs) zero x d event low item at = ap f item ∙ same_Some (f y) event at
 same_event f (y ∷ xs) (suc n) x d event low item at = same_event f xs n x d event (le_of_suc-le-suc low) item at
+
+-- the event of an item's number is the item's
+number_of : {X : Type 0} (f : X → Happening) (xs : List X) (n : ℕ) (x d : X) → n < length (map f xs) → x ≡ get_or xs n d → slice_get (map f xs) n ≡ Some (f x)
+number_of f [] n x d low item = absurd (not-suc-le-zero low)
+number_of f (y ∷ xs) zero x d low item = ap (λ z. Some (f z)) (sym item)
+number_of f (y ∷ xs) (suc n) x d low item = number_of f xs n x d (le_of_suc-le-suc low) item
+
+-- a trace has the event of its step at that step's number
+pub event_at : {steps : List Step} {ops : List OpKind} {images : List (List ℕ)} {events : List Happening} {number : ℕ} {found s : Step} → IsTrace steps ops images → step_events steps ops images ≡ events → number < length events → found ≡ get_or steps number found → found ≡ s
+    → slice_get events number ≡ Some (step_event ops images s)
+event_at {steps} {ops} {images} {number = number} {found} trace view low item is =
+    rw (← view) (rw is at (number_of (step_event ops images) steps number found found (rw (← view) at low) item))
 
 -- a line of an item's event is one of the event that its number has
 pub adds : {A E X : Type 0} (old new : State) (answer : Result (Entry A) E) (f : X → Happening) (xs : List X) (n : ℕ) (x d : X) → n < length (map f xs) → x ≡ get_or xs n d

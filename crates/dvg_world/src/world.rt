@@ -105,7 +105,6 @@ impl<S: Store> World<S> {
     }
 
     /// The driver is handed a draft to show, as by `Event::Offer`.
-    #[tactic(auto, using(crate::proofs::Headline::draws_a_half))]
     pub fn offer(&mut self, draft: &Draft) -> Entry<S::Alloc>
         ensures stands { AddsLine self.old (Offer draft.now) (shown_of result) self.new }
         ensures headline { KeepsHeadlineAfter self.old (Offer draft.now) (shown_of result) }
@@ -159,7 +158,6 @@ impl<S: Store> World<S> {
     }
 
     /// A strobe reaches the generator, if the driver has sent one, as by `Event::Strobe`.
-    #[tactic(auto, using(crate::proofs::Headline::draws_a_half))]
     pub fn strobe(&mut self) -> Entry<S::Alloc>
         ensures stands { AddsLine self.old Strobe (shown_of result) self.new }
         ensures headline { KeepsHeadlineAfter self.old Strobe (shown_of result) }
@@ -189,17 +187,15 @@ impl<S: Store> World<S> {
     }
 
     /// The generator is reset, as by `Event::ResetGen`.
-    #[tactic(auto, using(crate::proofs::Headline::draws_a_half))]
     pub fn reset_generator(&mut self) -> Entry<S::Alloc>
         ensures stands { AddsLine self.old ResetGen (shown_of result) self.new }
         ensures headline { KeepsHeadlineAfter self.old ResetGen (shown_of result) }
     {
-        self.generator.reset();
+        self.generator.reset(); // The open run is over.
         Entry::Cleared
     }
 
     /// The driver is reset, as by `Event::ResetCpu`.
-    #[tactic(auto, using(crate::proofs::Headline::draws_a_half))]
     pub fn reset_processor(&mut self) -> Entry<S::Alloc>
         ensures stands { AddsLine self.old ResetCpu (shown_of result) self.new }
         ensures headline { KeepsHeadlineAfter self.old ResetCpu (shown_of result) }
@@ -209,7 +205,6 @@ impl<S: Store> World<S> {
     }
 
     /// The whole system is reset, and the RAM holds this image, as by `Event::ResetAll`.
-    #[tactic(auto, using(crate::proofs::Headline::draws_a_half))]
     pub fn reset_all(&mut self, image: &Image<S::Alloc>) -> Entry<S::Alloc>
         ensures stands { AddsLine self.old (ResetAll image.now) (shown_of result) self.new }
         ensures headline { KeepsHeadlineAfter self.old (ResetAll image.now) (shown_of result) }

@@ -1,0 +1,36 @@
+-- What a judge keeps of a log's open run: the words of private contracts.
+use Rattle.std.specs.Prelude.{◌≡◌, ◌≢◌, ◌+◌, ◌++◌, ◌∷◌, [], ℕ, List, Option, Some, None, option_map}
+use Rattle.dvg_mem.specs.declared.half.Half.{Half}
+use Rattle.dvg_mem.specs.declared.areas.Area.TheVariants.{Frame}
+use Rattle.dvg_mem.specs.Areas.{IsIn}
+use Rattle.dvg_world.specs.declared.judge.Drawing.{Drawing}
+use Rattle.dvg_world.specs.declared.judge.Drawing.TheVariants.{Nothing, Begun, Within}
+use Rattle.dvg_world.specs.Entries.{Shown, Started, Fetched, Done, Broke}
+use Rattle.dvg_world.specs.Events.{Happening, ResetGen, ResetAll}
+
+-- the run's first word is that at 000, a jump to an address in the half
+pub record IsRunIn (run : Option (List (ℕ × ℕ))) (half : Half) : Type 0 where
+  pub later : List (ℕ × ℕ)
+  pub target : ℕ
+  pub fetches : run ≡ Some (later ++ (0x000, 0xE000 + target) ∷ [])
+  pub in_half : IsIn (Frame half) target
+
+-- what a run draws, where there is one
+abbrev pub FitsRun : Drawing → Option (List (ℕ × ℕ)) → Type 0
+FitsRun Nothing run = (run ≢ Some []) × ((half : Half) → ¬ IsRunIn run half)
+FitsRun Begun run = run ≡ Some []
+FitsRun (Within half) run = IsRunIn run half
+
+-- the run that an event leaves
+abbrev pub left_by : Happening → Option (List (ℕ × ℕ)) → Option (List (ℕ × ℕ))
+left_by ResetGen run = None
+left_by (ResetAll bytes) run = None
+left_by event run = run
+
+-- the run behind an entry
+abbrev pub behind : Shown → Option (List (ℕ × ℕ)) → Option (List (ℕ × ℕ))
+behind Started run = Some []
+behind (Fetched address word) run = option_map (λ fetches. (address, word) ∷ fetches) run
+behind (Done address word strokes) run = None
+behind (Broke address fault) run = None
+behind entry run = run
