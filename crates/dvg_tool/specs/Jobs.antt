@@ -19,11 +19,11 @@ Performs (Check bound) (Err fault) input old new = Checks bound (Err fault) inpu
 Performs _ (Ok (Judged verdict)) input old new = ⊥
 Performs list_job answer input old new = Lists answer input old new
 Performs Rom answer input old new = WritesRom answer input old new
-Performs (Play all) answer input old new = Plays all answer input old new
+Performs (Play all banked) answer input old new = Plays all answer input old new
 
 -- the faults before which a job writes nothing
 abbrev pub StaysUnwritten : Job → ToolFault → Type 0
-StaysUnwritten (Play all) fault = StopsBeforeShowing fault
+StaysUnwritten (Play all banked) fault = StopsBeforeShowing fault
 StaysUnwritten _ fault = StopsBeforeWriting fault
 
 -- the most bytes that are taken of the input

@@ -7,14 +7,16 @@ use crate::checks::{check_bound, check_text};
 use crate::fault::ToolFault;
 use crate::lists::list;
 use crate::outcome::Done;
-use crate::plays::play;
+use crate::plays::{play, play_in};
 use crate::roms::rom_text;
 use crate::watched::Watched;
+use dvg_mem::Banked;
 use dvg_words::Job;
 use std::alloc::Allocator;
 use std::io::{Read, Write};
 
-/// Does a job by its engine: `list`, `rom_text`, `check_text` or `check_bound`, whose verdict it tells, or `play`.
+/// Does a job by its engine: `list`, `rom_text`, `check_text` or `check_bound`, whose verdict it tells, `play`, or `play_in` over
+/// the store `Banked`.
 pub fn perform<A: Allocator + Copy, R: Read, W: Write>(
     alloc: A,
     job: Job,
@@ -40,6 +42,11 @@ pub fn perform<A: Allocator + Copy, R: Read, W: Write>(
         Job::Rom => rom_text(alloc, reader, writer).map(|()| Done::Written),
         Job::Check { bound: false } => check_text(alloc, reader, writer).map(Done::Judged),
         Job::Check { bound: true } => check_bound(alloc, reader, writer).map(Done::Judged),
-        Job::Play { all } => play(alloc, reader, writer, all).map(|()| Done::Written),
+        Job::Play { all, banked: false } => play(alloc, reader, writer, all).map(
+            |()| Done::Written,
+        ),
+        Job::Play { all, banked: true } => {
+            play_in::<Banked<A>, R, W>(alloc, reader, writer, all).map(|()| Done::Written)
+        }
     }
 }

@@ -24,6 +24,6 @@ pub use fault::ToolFault;
 pub use jobs::perform;
 pub use lists::{MOST_LIST_BYTES, list};
 pub use outcome::{Done, finish, status};
-pub use plays::play;
+pub use plays::{play, play_in};
 pub use roms::rom_text;
 pub use watched::{DeviceFailed, Watched};

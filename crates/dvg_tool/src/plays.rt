@@ -11,7 +11,7 @@ use crate::fault::ToolFault;
 use crate::shows::write_entries;
 use crate::transfer::read_up_to;
 use crate::watched::Watched;
-use dvg_mem::{Flat, Image, MEMORY_BYTES, Rom};
+use dvg_mem::{Flat, Image, MEMORY_BYTES, Rom, Store};
 use dvg_text::{MOST_TEXT_BYTES, TraceText, read_trace};
 use dvg_world::{Entry, Stopped, run_trace};
 use std::alloc::Allocator;
@@ -29,10 +29,10 @@ fn unstarted<A: Allocator>(alloc: A) -> Stopped<A>
 }
 
 // Lets the events of a trace happen over its ROM, from a RAM of zeros.
-fn run_text<A: Allocator + Copy>(
-    alloc: A,
-    told: &TraceText<A>,
-) -> Result<Vec<Entry<A>, A>, Stopped<A>>
+fn run_text<S: Store>(
+    alloc: S::Alloc,
+    told: &TraceText<S::Alloc>,
+) -> Result<Vec<Entry<S::Alloc>, S::Alloc>, Stopped<S::Alloc>>
     requires { IsRom told.now.rom.items }
     ensures legal { IsLegal told.now.rom.items zeros (log_by told.now.events result) }
     ensures whole { IfOk result (λ entries. length entries.items ≡ length told.now.events) }
@@ -45,7 +45,7 @@ fn run_text<A: Allocator + Copy>(
     let Ok(image) = Image::new(alloc, &[0; MEMORY_BYTES]) else {
         return Err(unstarted(alloc));
     };
-    run_trace::<Flat<A>>(alloc, rom, &image, &told.events)
+    run_trace::<S>(alloc, rom, &image, &told.events)
 }
 
 /// Reads a trace as text, with the lines of a memory map and of a ROM before it, lets its events happen from a RAM of zeros, and
@@ -65,8 +65,10 @@ fn run_text<A: Allocator + Copy>(
 ///   refused, so by it nothing at all may have gone out; tests show that text.
 ///
 /// Where it stops before it writes, which is at any fault but `Writer` and `Memory`, the writer is as it was.
-pub fn play<A: Allocator + Copy, R: Read, W: Write>(
-    alloc: A,
+///
+/// The RAM is kept in any store. All of this holds whichever it is, so what is written doesn't depend on it.
+pub fn play_in<S: Store, R: Read, W: Write>(
+    alloc: S::Alloc,
     reader: &mut Watched<R>,
     writer: &mut Watched<W>,
     all: bool,
@@ -89,11 +91,33 @@ pub fn play<A: Allocator + Copy, R: Read, W: Write>(
         let text = read_up_to(alloc, reader, MOST_TEXT_BYTES)?;
         read_trace(alloc, text.as_slice())?
     };
-    match run_text(alloc, &told) {
+    match run_text::<S>(alloc, &told) {
         Ok(entries) => write_entries(entries.as_slice(), all, writer),
         Err(stopped) => {
             write_entries(stopped.entries.as_slice(), all, writer)?;
             Err(ToolFault::Memory)
         }
     }
+}
+
+/// Plays a trace over a RAM that is kept in one array: `play_in` with the store `Flat`, and with its clauses.
+pub fn play<A: Allocator + Copy, R: Read, W: Write>(
+    alloc: A,
+    reader: &mut Watched<R>,
+    writer: &mut Watched<W>,
+    all: bool,
+) -> Result<(), ToolFault>
+    requires fresh_reader { failures_of reader.old ≡ 0 }
+    requires fresh_writer { failures_of writer.old ≡ 0 }
+
+    ensures plays { IfSome (R.remaining (device_of reader.old)) (λ input.
+        Plays all result input (W.contents (device_of writer.old)) (W.contents (device_of writer.new))) }
+    ensures took { TakesAtMost 1048577 (R.remaining (device_of reader.old)) (R.remaining (device_of reader.new)) }
+
+    ensures unwritten { IfErr result (λ fault. StopsBeforeShowing fault → writer.new ≡ writer.old) }
+    ensures reader { IsErrOf result ToolFault.Reader ↔ (failures_of reader.new ≡ 1) }
+    ensures writer { IsErrOf result ToolFault.Writer ↔ (failures_of writer.new ≡ 1) }
+    ensures stops { (failures_of reader.new ≤ 1) × (failures_of writer.new ≤ 1) }
+{
+    play_in::<Flat<A>, R, W>(alloc, reader, writer, all)
 }

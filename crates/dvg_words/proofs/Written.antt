@@ -6,7 +6,16 @@ use Rattle.dvg_words.specs.Laws.{HelpWords, JobWords, OtherWords}
 
 pub job_words : JobWords
 unfolding dvg_app clap_on_literals
-job_words = (λ name. (refl, refl, refl), λ name. (refl, refl, refl), λ name. (refl, refl, refl), λ name. (refl, refl, refl), λ name. (refl, refl, refl), λ name. (refl, refl, refl))
+job_words = (
+  λ name. (refl, refl, refl),
+  λ name. (refl, refl, refl),
+  λ name. (refl, refl, refl),
+  λ name. (refl, refl, refl),
+  λ name. (refl, refl, refl),
+  λ name. (refl, refl, refl),
+  λ name. (refl, refl, refl),
+  λ name. (refl, refl, refl),
+)
 
 pub help_words : HelpWords
 unfolding dvg_app clap_on_literals

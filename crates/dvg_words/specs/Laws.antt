@@ -18,7 +18,8 @@ FailAs words kinds = (name : Text) → fault_of dvg_app (name ∷ words) ≡ kin
 -- the words of each job
 abbrev pub JobWords : Type 0
 JobWords = AskFor (codes "list" ∷ []) list_job × AskFor (codes "rom" ∷ []) Rom × AskFor (codes "check" ∷ []) (Check false)
-    × AskFor (codes "check" ∷ codes "--bound" ∷ []) (Check true) × AskFor (codes "play" ∷ []) (Play false) × AskFor (codes "play" ∷ codes "--all" ∷ []) (Play true)
+    × AskFor (codes "check" ∷ codes "--bound" ∷ []) (Check true) × AskFor (codes "play" ∷ []) (Play false false) × AskFor (codes "play" ∷ codes "--all" ∷ []) (Play true false)
+    × AskFor (codes "play" ∷ codes "--banked" ∷ []) (Play false true) × AskFor (codes "play" ∷ codes "--banked" ∷ codes "--all" ∷ []) (Play true true)
 
 -- words that ask for help; the words behind `help` may name no subcommand
 abbrev pub HelpWords : Type 0

@@ -17,15 +17,16 @@ plain name = (new_app name).top
 abbrev pub flag : Text → Rule
 flag name = record (new_rule name) { long = Some name; action = Some SetTrue }
 
--- a subcommand with such an option
-abbrev pub with_flag : (name option : Text) → Shape
-with_flag name option = (with_rule (new_app name) (flag option)).top
+-- a subcommand with such an option more
+abbrev pub with_flag : App → Text → App
+with_flag part option = with_rule part (flag option)
 
 -- the program's command, which requires one of four subcommands; clap adds `help` and the option `--help`
 unfoldable pub dvg_app : App
 dvg_app = record {
   top = record (plain (codes "dvg")) { is_leaf = false; subcommand_required = true };
-  subs = plain (codes "list") ∷ plain (codes "rom") ∷ with_flag (codes "check") (codes "bound") ∷ with_flag (codes "play") (codes "all") ∷ [];
+  subs = plain (codes "list") ∷ plain (codes "rom") ∷ (with_flag (new_app (codes "check")) (codes "bound")).top
+      ∷ (with_flag (with_flag (new_app (codes "play")) (codes "all")) (codes "banked")).top ∷ [];
 }
 
 -- the matching sets the option
@@ -37,7 +38,7 @@ abbrev pub IsJob : Job → Option (Text × List Row) → Type 0
 IsJob list_job met = option_map (λ p. p.0) met ≡ Some (codes "list")
 IsJob Rom met = option_map (λ p. p.0) met ≡ Some (codes "rom")
 IsJob (Check bound) met = option_map {U = Text × Bool} (λ p. (p.0, sets (codes "bound") p.1)) met ≡ Some (codes "check", bound)
-IsJob (Play all) met = option_map {U = Text × Bool} (λ p. (p.0, sets (codes "all") p.1)) met ≡ Some (codes "play", all)
+IsJob (Play all banked) met = option_map {U = Text × Bool × Bool} (λ p. (p.0, sets (codes "all") p.1, sets (codes "banked") p.1)) met ≡ Some (codes "play", all, banked)
 
 -- the name of a subcommand that is a job
 abbrev pub IsJobName : Text → Type 0

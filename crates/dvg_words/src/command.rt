@@ -1,8 +1,8 @@
 //! The program's command, as `clap` reads it.
-ghost use Rattle.std.specs.Prelude.{◌≡◌, IfOk, false, take};
+ghost use Rattle.std.specs.Prelude.{◌≡◌, IfOk, codes, false, take};
 ghost use Rattle.clap.specs.Words.{app_of, new_app, rule_of, with_rule, with_subcommand};
 ghost use Rattle.clap.specs.declared.builder.command.Command.TheViews.{out-Command as fields_of};
-ghost use Rattle.dvg_words.specs.Words.{dvg_app, flag};
+ghost use Rattle.dvg_words.specs.Words.{dvg_app, flag, with_flag};
 
 use crate::help;
 use clap::{Arg, ArgAction, Command};
@@ -56,6 +56,16 @@ fn with_plain<'a>(alloc: Global) -> Result<Command<'a>, AllocError>
     with_list.subcommand(rom)
 }
 
+// The subcommand `play`, with one of its two options.
+fn play_with_all<'a>(alloc: Global) -> Result<Command<'a>, AllocError>
+    ensures app { IfOk result (λ c. app_of c ≡ with_flag (new_app (codes "play")) (codes "all")) }
+    ensures local { IfOk result (λ c. (fields_of c).has_globals ≡ false) }
+{
+    let play = helped(alloc, "play", "Play a trace", help::PLAY);
+    let all = "Print each entry, not the finished pictures alone";
+    play.arg(flag(alloc, "all", all))
+}
+
 /// The program's command.
 pub(crate) fn command<'a>(alloc: Global) -> Result<Command<'a>, AllocError>
     ensures app { IfOk result (λ c. app_of c ≡ dvg_app) }
@@ -70,7 +80,7 @@ pub(crate) fn command<'a>(alloc: Global) -> Result<Command<'a>, AllocError>
     );
     let bound = "Also tell how many words the whole run of a good draft fetches";
     let with_check = with_option(program, check, flag(alloc, "bound", bound))?;
-    let play = helped(alloc, "play", "Play a trace", help::PLAY);
-    let all = "Print each entry, not the finished pictures alone";
-    with_option(with_check, play, flag(alloc, "all", all))
+    let play = play_with_all(alloc)?;
+    let banked = "Keep the RAM in banks, of which none has bytes of both halves";
+    with_option(with_check, play, flag(alloc, "banked", banked))
 }

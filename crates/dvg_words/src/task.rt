@@ -9,6 +9,6 @@ pub enum Job {
     Rom,
     /// Check the draft of a text, and tell the bound of a good one or leave it out.
     Check { bound: bool },
-    /// Play a trace, with every entry or its pictures alone.
-    Play { all: bool },
+    /// Play a trace, with every entry or its pictures alone, over a RAM that is kept in banks or in one array.
+    Play { all: bool, banked: bool },
 }

@@ -25,6 +25,7 @@ fn named(name: &str, found: &ArgMatches) -> Option<Job>
     } else if name == "play" {
         Some(Job::Play {
             all: is_set(found, "all"),
+            banked: is_set(found, "banked"),
         })
     } else {
         None

@@ -1,7 +1,4 @@
 use Rattle.std.proofs.Common.{rules}
-use Rattle.dvg_code.specs.Words.{words_of}
-use Rattle.dvg_tool.specs.Lists.{ListsWords}
-use Rattle.dvg_tool.specs.Watching.{device_of}
 use Rattle.dvg_tool.proofs.Whole.{too_long, odd, lists}
 use Rattle.dvg_tool.proofs.lists.list.Goals as goal
 
@@ -15,5 +12,4 @@ returns-then-len-eq1-clause-lists g c =
 
 pub returns-clause-lists : goal.returns-clause-lists
 returns-clause-lists g c =
-    let words : ListsWords c.list_words.result (words_of c.in_ok-bytes.bytes.items) (g.W.Write.contents (device_of c.args.writer.now)) (g.W.Write.contents (device_of c.list_words.new.writer)) = search rules in
-    lists _ _ _ _ c.in_ok-bytes.bytes.items c.in_ok-bytes.ensures.bytes (search rules) (search rules) words
+    lists _ _ _ _ c.in_ok-bytes.bytes.items c.in_ok-bytes.ensures.bytes (search rules) (search rules) (search rules)

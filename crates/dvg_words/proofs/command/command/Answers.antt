@@ -16,5 +16,5 @@ pub returns-clause-app : goal.returns-clause-app
 unfolding dvg_app
 returns-clause-app c =
     let with_check = same c.in_ok-with_check.ensures.app c.in_ok-program.ensures.app c.helped-check.ensures.app c.flag.ensures.rule in
-    IfOk-weaker c.with_option-2.result (λ r. app_of r ≡ with_option (app_of c.in_ok-with_check.with_check) (app_of c.helped-play.result) (rule_of c.flag-2.result)) _
-    (λ r e. same e with_check c.helped-play.ensures.app c.flag-2.ensures.rule) c.with_option-2.ensures.app
+    IfOk-weaker c.with_option-2.result (λ r. app_of r ≡ with_option (app_of c.in_ok-with_check.with_check) (app_of c.in_ok-play.play) (rule_of c.flag-2.result)) _
+    (λ r e. same e with_check c.in_ok-play.ensures.app c.flag-2.ensures.rule) c.with_option-2.ensures.app

@@ -8,7 +8,7 @@ use Rattle.dvg_text.specs.TraceGives.{GivesTrace, StopsReading}
 use Rattle.dvg_tool.specs.Watching.{device_of}
 use Rattle.dvg_tool.proofs.Played.{few, log_shown, played_part, played_whole}
 use Rattle.dvg_tool.proofs.TracesPlayed.{answered, broke_off, misread, told_part, told_whole, unread}
-use Rattle.dvg_tool.proofs.plays.play.Goals as goal
+use Rattle.dvg_tool.proofs.plays.play_in.Goals as goal
 
 pub returns-in_err-text-clause-plays : goal.returns-in_err-text-clause-plays
 returns-in_err-text-clause-plays g c =
