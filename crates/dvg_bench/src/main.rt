@@ -9,7 +9,7 @@ mod ticks;
 
 use checks::{Passed, check_often, check_short};
 use generator::draw;
-use runs::run_often;
+use runs::{judge_often, run_often};
 use std::{env, io};
 use ticks::tick_often;
 
@@ -57,6 +57,14 @@ fn run_world(rt: &HostRuntime) -> io::Result<()> {
     }
 }
 
+/// Judges a log.
+fn run_judge(rt: &HostRuntime) -> io::Result<()> {
+    match judge_often(rt.alloc()) {
+        Some(judged) => println!(rt; "{} not torn, {}", judged.whole, judged.sum),
+        None => eprintln!(rt; "out of memory"),
+    }
+}
+
 fn main(rt: HostRuntime) -> io::Result<()> {
     let words: Vec<String> = env::args(&rt)?.collect(rt.alloc())?;
     match words.get(1).map(|word| word.as_str()) {
@@ -67,8 +75,9 @@ fn main(rt: HostRuntime) -> io::Result<()> {
         Some("check-short") => write_passed(&rt, check_short(rt.alloc())),
         Some("driver") => run_driver(&rt),
         Some("world") => run_world(&rt),
+        Some("judge") => run_judge(&rt),
         _ => eprintln!(rt;
-            "usage: dvg_bench generator|check|check-large|check-half|check-short|driver|world"
+            "usage: dvg_bench generator|check|check-large|check-half|check-short|driver|world|judge"
         ),
     }
 }

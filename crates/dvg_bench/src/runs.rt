@@ -6,7 +6,7 @@ use dvg_code::Instr;
 use dvg_driver::Action;
 use dvg_frame::{Draft, Op, OpKind};
 use dvg_mem::{Flat, Image, MEMORY_BYTES, Rom};
-use dvg_world::{Entry, Event, run};
+use dvg_world::{Entry, Event, first_torn, run};
 use std::alloc::Global;
 
 /// How many events there are.
@@ -14,6 +14,9 @@ const EVENTS: usize = 65_536;
 
 /// How often they are run.
 const RUNS: u32 = 100;
+
+/// How often their log is judged.
+const JUDGEMENTS: usize = 400;
 
 /// A small linear congruential generator (Knuth's MMIX constants), of which the high bits are used.
 #[derive(Clone, Copy)]
@@ -134,6 +137,33 @@ pub fn run_often(alloc: Global) -> Option<Shown> {
         }
     }
     Some(shown)
+}
+
+/// What judges found: how many logs weren't torn, and the sum of the numbers of what tore the others.
+#[derive(Clone, Copy)]
+pub struct Judged {
+    pub whole: u32,
+    pub sum: u64,
+}
+
+/// Judges the log of the events, first whole, and then each time without one line more at its front. None where there
+/// is no memory.
+pub fn judge_often(alloc: Global) -> Option<Judged> {
+    let events = mixed_events(alloc)?;
+    let image = Image::new(alloc, &[0; MEMORY_BYTES]).ok()?;
+    let rom = Rom::new(alloc, &returns()).ok()?;
+    let log = run::<Flat>(alloc, rom, &image, events.as_slice()).ok()?;
+    let mut judged = Judged { whole: 0, sum: 0 };
+    for skipped in 0..JUDGEMENTS {
+        match first_torn(
+            events.as_slice().get(skipped..)?,
+            log.as_slice().get(skipped..)?,
+        ) {
+            Some(number) => judged.sum = judged.sum.wrapping_add(number as u64),
+            None => judged.whole = judged.whole.wrapping_add(1),
+        }
+    }
+    Some(judged)
 }
 
 /// A ROM of RTSL.

@@ -154,17 +154,17 @@ abbrev first_of : List ℕ → ℕ
 first_of [] = 0
 first_of (x ∷ xs) = x
 
-pub play_only : (job : Job) (met : Option (WordText × List Row)) → IsJob job met → IsJob (Play true) met → job ≡ Play true
+pub play_only : (job : Job) (met : Option (WordText × List Row)) → IsJob job met → IsJob (Play true false) met → job ≡ Play true false
 play_only list_job None x y = absurd (cc)
 play_only list_job (Some p) x y = let c = sym (same_Some _ _ x) ∙ ap (λ q. q.0) (same_Some _ _ y) in let d : 108 ≡ 112 = ap first_of c in absurd (omega (arith, d))
 play_only Rom None x y = absurd (cc)
 play_only Rom (Some p) x y = let c = sym (same_Some _ _ x) ∙ ap (λ q. q.0) (same_Some _ _ y) in let d : 114 ≡ 112 = ap first_of c in absurd (omega (arith, d))
 play_only (Check bound) None x y = absurd (cc)
 play_only (Check bound) (Some p) x y = let c = sym (ap (λ q. q.0) (same_Some _ _ x)) ∙ ap (λ q. q.0) (same_Some _ _ y) in let d : 99 ≡ 112 = ap first_of c in absurd (omega (arith, d))
-play_only (Play all) None x y = absurd (cc)
-play_only (Play all) (Some p) x y = ap Play (sym (ap (λ q. q.1) (same_Some _ _ x)) ∙ ap (λ q. q.1) (same_Some _ _ y))
+play_only (Play all banked) None x y = absurd (cc)
+play_only (Play all banked) (Some p) x y = ap (λ q. Play q.1 q.2) (sym (same_Some _ _ x) ∙ same_Some _ _ y)
 
-pub job_is : {E : Type 0} (result : Result Job E) (met : Option (WordText × List Row)) → IfOk result (λ job. IsJob job met) → IsJob (Play true) met → IfOk result (λ job. job ≡ Play true)
+pub job_is : {E : Type 0} (result : Result Job E) (met : Option (WordText × List Row)) → IfOk result (λ job. IsJob job met) → IsJob (Play true false) met → IfOk result (λ job. job ≡ Play true false)
 job_is (Ok job) met x y = play_only job met x y
 job_is (Err error) met x y = tt
 

@@ -9,5 +9,6 @@ pub mod engines;
 pub mod frames;
 pub mod generator;
 pub mod instructions;
+pub mod judges;
 pub mod texts;
 pub mod worlds;

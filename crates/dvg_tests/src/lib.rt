@@ -5,6 +5,8 @@
 #[cfg(test)]
 mod devices;
 #[cfg(test)]
+mod hostile;
+#[cfg(test)]
 mod limits;
 #[cfg(test)]
 mod memory;
@@ -20,6 +22,8 @@ mod requests;
 mod runs;
 #[cfg(test)]
 mod scripts;
+#[cfg(test)]
+mod stores;
 #[cfg(test)]
 mod tasks;
 #[cfg(test)]

@@ -1,16 +1,18 @@
 //! How much the engines take of a reader that never ends.
 use crate::devices::Endless;
+use crate::tasks::{BANKED_ENTRIES, ENTRIES, PICTURES};
 use dvg_tool::{Done, Job, TextFault, ToolFault, Watched, perform};
 use std::alloc::Global;
 
 /// Each job, the most bytes of its input, and the fault of a longer one.
-const LIMITS: [(Job, usize, TextFault); 6] = [
+const LIMITS: [(Job, usize, TextFault); 7] = [
     (Job::List, 8192, TextFault::TooLong),
     (Job::Rom, 4096, TextFault::RomSize),
     (Job::Check { bound: false }, 1_048_576, TextFault::TooLong),
     (Job::Check { bound: true }, 1_048_576, TextFault::TooLong),
-    (Job::Play { all: false }, 1_048_576, TextFault::TooLong),
-    (Job::Play { all: true }, 1_048_576, TextFault::TooLong),
+    (PICTURES, 1_048_576, TextFault::TooLong),
+    (ENTRIES, 1_048_576, TextFault::TooLong),
+    (BANKED_ENTRIES, 1_048_576, TextFault::TooLong),
 ];
 
 /// What a job answers of an input that never ends, and how many bytes were taken of it. None where it wrote something.

@@ -1,6 +1,9 @@
 //! Images, the ROM and stores: which lengths are taken, and what is fetched.
 use crate::scripts::{image, rom};
-use dvg_mem::{Area, Flat, Half, Image, MEMORY_BYTES, MemFault, Rom, Store, fetch, fetch_byte};
+use dvg_mem::{
+    Area, Banked, Flat, HALF_BYTES, Half, Image, MEMORY_BYTES, MemFault, Rom, Store, fetch,
+    fetch_byte,
+};
 use linked_list_allocator::LocalHeap;
 use std::alloc::{Allocator, Global};
 use std::test::Fail;
@@ -91,6 +94,40 @@ fn keeps_bytes<S: Store<Alloc = Global>>(alloc: Global) -> Result<bool, Fail> {
 #[test]
 fn a_flat_store_keeps_bytes(rt: HostRuntime) -> Result<(), Fail> {
     assert!(rt; keeps_bytes::<Flat>(rt.alloc())?);
+    Ok(())
+}
+
+#[test]
+fn a_banked_store_keeps_bytes(rt: HostRuntime) -> Result<(), Fail> {
+    assert!(rt; keeps_bytes::<Banked>(rt.alloc())?);
+    Ok(())
+}
+
+/// Whether a half of a store has as many bytes as a half, of which each is this one but the first and the last.
+fn is_marked(store: &Banked, half: Half, byte: u8, first: u8, last: u8) -> bool {
+    let bytes = store.half(half);
+    let inside = bytes.iter().filter(|inside| **inside == byte).count();
+    bytes.len() == HALF_BYTES
+        && inside == HALF_BYTES - 2
+        && bytes.first() == Some(&first)
+        && bytes.last() == Some(&last)
+}
+
+/// Bytes are written at both ends of each half and beside them.
+#[test]
+fn a_half_is_one_bank(rt: HostRuntime) -> Result<(), Fail> {
+    let mut store = Banked::make(rt.alloc(), &image(rt.alloc(), rt.alloc(), 0xFF)?)?;
+    if store.read(0x400) != 0xFF || store.read(0x401) != 0xFF {
+        return Err("word 200 is lost".into());
+    }
+    for (number, a) in [0x001u16, 0x002, 0x3FF, 0x400, 0x401, 0x402, 0x7FF]
+        .into_iter()
+        .enumerate()
+    {
+        store.write(a, u8::try_from(number)?);
+    }
+    assert!(rt; is_marked(&store, Half::H0, 0xFF, 1, 2));
+    assert!(rt; is_marked(&store, Half::H1, 0xFF, 5, 6));
     Ok(())
 }
 

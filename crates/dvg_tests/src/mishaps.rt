@@ -72,19 +72,21 @@ fn read_fails(alloc: Global, task: Task, calls_before: u32, way: Way) -> bool {
 
 /// The number of reads of a task, of which the last one tells that the input ends.
 fn reads(task: Task) -> Result<u32, Fail> {
-    let full = task.input.len().checked_div(task.step).ok_or("no step")?;
-    Ok(u32::try_from(full)?.saturating_add(1))
+    let most = task.input.len().saturating_add(task.step);
+    let some = most.saturating_sub(1).checked_div(task.step);
+    Ok(u32::try_from(some.ok_or("no step")?)?.saturating_add(1))
 }
 
-/// Whether a task whose device fails after all of its reads does as if nothing failed.
+/// Whether a task whose reader fails after all of its reads, and whose writer never does, does as if both moved all at
+/// once.
 fn does_well(alloc: Global, task: Task) -> Result<bool, Fail> {
     let mut reader = Watched::new(device(alloc, task.input, task.step, reads(task)?, WAYS[0]));
-    let mut writer = Watched::new(Vec::new(alloc));
+    let mut writer = Watched::new(device(alloc, &[], task.step, u32::MAX, WAYS[0]));
     let answer = perform(alloc, task.job, &mut reader, &mut writer);
     Ok(
         answer == task.answer
             && reader.failures() == 0
-            && writer.into_inner() == written(alloc, task)?,
+            && writer.into_inner().taken == written(alloc, task)?,
     )
 }
 

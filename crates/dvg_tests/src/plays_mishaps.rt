@@ -1,15 +1,16 @@
 //! The engine `play`: what it writes before memory is refused.
 use crate::traces::{FIRST_PICTURE, joined, played};
-use dvg_tool::{ToolFault, Watched, play};
+use dvg_tool::{Done, Job, ToolFault, Watched, perform};
 use linked_list_allocator::LocalHeap;
 use std::alloc::Global;
 use std::test::Fail;
 
-/// A trace, what is written of it in ample memory, and the events that complete a vector.
+/// A trace, how it is played, what is written of it in ample memory, and the events that complete a vector.
 #[derive(Clone, Copy)]
 struct Wanted<'a> {
     trace: &'a str,
     all: bool,
+    banked: bool,
     shown: &'a str,
     first: usize,
     last: usize,
@@ -20,11 +21,15 @@ fn played_in(
     alloc: Global,
     wanted: Wanted,
     bytes: usize,
-) -> Result<(Vec<u8>, Result<(), ToolFault>), Fail> {
+) -> Result<(Vec<u8>, Result<Done, ToolFault>), Fail> {
     let heap = LocalHeap::new(alloc, bytes)?;
     let mut reader = Watched::new(wanted.trace.as_bytes());
     let mut writer = Watched::new(Vec::new(alloc));
-    let answer = play(&heap, &mut reader, &mut writer, wanted.all);
+    let job = Job::Play {
+        all: wanted.all,
+        banked: wanted.banked,
+    };
+    let answer = perform(&heap, job, &mut reader, &mut writer);
     Ok((writer.into_inner(), answer))
 }
 
@@ -57,7 +62,7 @@ fn is_log_before(wanted: Wanted, text: &str) -> bool {
 fn led_to(alloc: Global, wanted: Wanted, bytes: usize) -> Result<Led, Fail> {
     let (written, answer) = played_in(alloc, wanted, bytes)?;
     let text = String::from_utf8(written)?;
-    if answer == Ok(()) && text.as_str() == wanted.shown {
+    if answer == Ok(Done::Written) && text.as_str() == wanted.shown {
         return Ok(Led::Whole);
     }
     if answer != Err(ToolFault::Memory) {
@@ -98,15 +103,18 @@ fn shown(alloc: Global, trace: &str, all: bool) -> Result<String, Fail> {
 #[test]
 fn a_refusal_leaves_no_picture(rt: HostRuntime) -> Result<(), Fail> {
     let shown = shown(rt.alloc(), FIRST_PICTURE, false)?;
-    let wanted = Wanted {
-        trace: FIRST_PICTURE,
-        all: false,
-        shown: shown.as_str(),
-        first: 27,
-        last: 27,
-    };
-    let (silent, begun) = refusals(rt.alloc(), wanted)?;
-    assert!(rt; silent > 128 && begun == 0);
+    for banked in [false, true] {
+        let wanted = Wanted {
+            trace: FIRST_PICTURE,
+            all: false,
+            banked,
+            shown: shown.as_str(),
+            first: 27,
+            last: 27,
+        };
+        let (silent, begun) = refusals(rt.alloc(), wanted)?;
+        assert!(rt; silent > 128 && begun == 0);
+    }
     Ok(())
 }
 
@@ -126,14 +134,17 @@ fn long_picture(alloc: Global) -> Result<String, Fail> {
 fn a_refusal_amid_a_picture_leaves_the_log_before(rt: HostRuntime) -> Result<(), Fail> {
     let trace = long_picture(rt.alloc())?;
     let shown = shown(rt.alloc(), trace.as_str(), true)?;
-    let wanted = Wanted {
-        trace: trace.as_str(),
-        all: true,
-        shown: shown.as_str(),
-        first: 137,
-        last: 251,
-    };
-    let (silent, begun) = refusals(rt.alloc(), wanted)?;
-    assert!(rt; silent > 128 && begun > 0);
+    for banked in [false, true] {
+        let wanted = Wanted {
+            trace: trace.as_str(),
+            all: true,
+            banked,
+            shown: shown.as_str(),
+            first: 137,
+            last: 251,
+        };
+        let (silent, begun) = refusals(rt.alloc(), wanted)?;
+        assert!(rt; silent > 128 && begun > 0);
+    }
     Ok(())
 }

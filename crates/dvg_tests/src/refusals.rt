@@ -2,7 +2,7 @@
 use crate::scripts::Picture::F1;
 use crate::scripts::Step::{Fetch, Offer, Strobe, Tick};
 use crate::scripts::{Step, entries_text, events, image, rom, transcript};
-use dvg_mem::{Flat, Image, Rom};
+use dvg_mem::{Banked, Flat, Image, Rom};
 use dvg_world::{Entry, Event, World, run};
 use linked_list_allocator::LocalHeap;
 use std::alloc::Global;
@@ -24,14 +24,20 @@ enum Stop {
     Nowhere,
 }
 
-/// Where a run of these events stops, and its entries up to there.
+/// Where a run of these events stops over a flat or a banked store, and its entries up to there.
 fn ran<'a>(
     heap: &'a LocalHeap,
     rom: Rom<&'a LocalHeap>,
     image: &Image<&'a LocalHeap>,
     events: &[Event<&'a LocalHeap>],
+    banked: bool,
 ) -> (Vec<Entry<&'a LocalHeap>, &'a LocalHeap>, Stop) {
-    match run::<Flat<&LocalHeap>>(heap, rom, image, events) {
+    let answer = if banked {
+        run::<Banked<&LocalHeap>>(heap, rom, image, events)
+    } else {
+        run::<Flat<&LocalHeap>>(heap, rom, image, events)
+    };
+    match answer {
         Ok(entries) => (entries, Stop::Nowhere),
         Err(stopped) => (stopped.entries, Stop::At(stopped.event)),
     }
@@ -50,7 +56,7 @@ fn are_before(
 }
 
 /// Where the first picture's run stops in a heap of which a blocker takes so many bytes.
-fn place_of_stop(alloc: Global, wanted: &[u8], blocked: usize) -> Result<Stop, Fail> {
+fn place_of_stop(alloc: Global, wanted: &[u8], blocked: usize, banked: bool) -> Result<Stop, Fail> {
     let heap = LocalHeap::new(alloc, AMPLE)?;
     let rom = rom(alloc, &heap, &[])?;
     let image = image(alloc, &heap, 0)?;
@@ -58,7 +64,7 @@ fn place_of_stop(alloc: Global, wanted: &[u8], blocked: usize) -> Result<Stop, F
     let Ok(blocker) = Vec::<u8, &LocalHeap>::with_capacity(&heap, blocked) else {
         return Ok(Stop::Before);
     };
-    let (entries, stopped) = ran(&heap, rom, &image, events.as_slice());
+    let (entries, stopped) = ran(&heap, rom, &image, events.as_slice(), banked);
     drop(blocker);
     if !are_before(alloc, wanted, entries.as_slice(), stopped)? {
         return Err("not the entries before".into());
@@ -66,24 +72,28 @@ fn place_of_stop(alloc: Global, wanted: &[u8], blocked: usize) -> Result<Stop, F
     Ok(stopped)
 }
 
-/// Ever smaller blockers, down to the first that leaves room for the whole run.
-#[test]
-fn runs_stop_where_a_growth_is_refused(rt: HostRuntime) -> Result<(), Fail> {
-    let wanted = transcript(rt.alloc(), &[], &STEPS)?;
+/// Ever smaller blockers, down to the first that leaves room for the whole run: whether the run stopped at once, and
+/// at the vector.
+fn places_of_stops(alloc: Global, banked: bool) -> Result<(bool, bool), Fail> {
+    let wanted = transcript::<Flat>(alloc, &[], &STEPS)?;
     let (mut at_once, mut at_the_vector) = (false, false);
     for slots in 0..AMPLE / 16 {
-        match place_of_stop(rt.alloc(), wanted.as_slice(), AMPLE - 16 * slots)? {
+        match place_of_stop(alloc, wanted.as_slice(), AMPLE - 16 * slots, banked)? {
             Stop::Before => {}
             Stop::At(0) => at_once = true,
             Stop::At(27) => at_the_vector = true,
             Stop::At(_) => return Err("stopped elsewhere".into()),
-            Stop::Nowhere => {
-                assert!(rt; at_once && at_the_vector);
-                return Ok(());
-            }
+            Stop::Nowhere => return Ok((at_once, at_the_vector)),
         }
     }
     Err("no room".into())
+}
+
+#[test]
+fn runs_stop_where_a_growth_is_refused(rt: HostRuntime) -> Result<(), Fail> {
+    assert_eq!(rt; places_of_stops(rt.alloc(), false)?, (true, true));
+    assert_eq!(rt; places_of_stops(rt.alloc(), true)?, (true, true));
+    Ok(())
 }
 
 /// Vectors that take what is left of a heap, each with a smaller capacity than the one before.

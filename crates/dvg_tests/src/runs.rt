@@ -1,8 +1,9 @@
-//! Worked runs of a list of events, and of the trace of the same events. What their logs are is told by the cases of
+//! Worked runs of a list of events, over both stores, and of the trace of the same events. What their logs are is told by the cases of
 //! `play --all`, which runs a trace.
 use crate::scripts::Picture::{F1, F2, F3, Shape};
 use crate::scripts::Step::{Fetch, Offer, Redraw, ResetAll, ResetCpu, ResetGen, Strobe, Tick};
 use crate::scripts::{Step, trace_transcript, transcript};
+use dvg_mem::{Banked, Flat};
 use dvg_world::{Event, Trace};
 use std::test::Fail;
 
@@ -129,12 +130,13 @@ const RUNS: [&[Step]; 12] = [
 const ROM: [u16; 2] = [0xFE37, 0xD000];
 
 #[test]
-fn a_list_and_its_trace_have_one_log(rt: HostRuntime) -> Result<(), Fail> {
+fn a_list_and_its_trace_have_one_log_over_both_stores(rt: HostRuntime) -> Result<(), Fail> {
     for (index, steps) in RUNS.iter().enumerate() {
-        let listed = transcript(rt.alloc(), &ROM, steps)?;
-        let traced = trace_transcript(rt.alloc(), &ROM, steps)?;
+        let listed = transcript::<Flat>(rt.alloc(), &ROM, steps)?;
+        let traced = trace_transcript::<Banked>(rt.alloc(), &ROM, steps)?;
         assert!(rt; !listed.is_empty());
         assert!(rt; listed == traced, "in run {index}");
+        assert!(rt; listed == transcript::<Banked>(rt.alloc(), &ROM, steps)?);
     }
     Ok(())
 }

@@ -1,7 +1,7 @@
 //! Events in a compact notation, and the entries that they lead to as text.
 use dvg_code::{Code, Instr};
 use dvg_frame::{Draft, Op, OpKind};
-use dvg_mem::{Flat, Image, Rom};
+use dvg_mem::{Image, Rom, Store};
 use dvg_text::Line;
 use dvg_world::{Entry, Event, MOST_EVENTS, Trace, run, run_trace};
 use std::alloc::{Allocator, Global};
@@ -166,22 +166,30 @@ pub fn entries_text<A: Allocator>(alloc: Global, entries: &[Entry<A>]) -> Result
 }
 
 /// What a run shows, with ample memory and an image of zeros.
-pub fn transcript(alloc: Global, rom_words: &[u16], steps: &[Step]) -> Result<Vec<u8>, Fail> {
+pub fn transcript<S: Store<Alloc = Global>>(
+    alloc: Global,
+    rom_words: &[u16],
+    steps: &[Step],
+) -> Result<Vec<u8>, Fail> {
     let rom = rom(alloc, alloc, rom_words)?;
     let image = image(alloc, alloc, 0)?;
     let events = events(alloc, alloc, steps)?;
-    match run::<Flat>(alloc, rom, &image, events.as_slice()) {
+    match run::<S>(alloc, rom, &image, events.as_slice()) {
         Ok(entries) => entries_text(alloc, entries.as_slice()),
         Err(_) => Err("stopped".into()),
     }
 }
 
 /// The same of the trace of these events.
-pub fn trace_transcript(alloc: Global, rom_words: &[u16], steps: &[Step]) -> Result<Vec<u8>, Fail> {
+pub fn trace_transcript<S: Store<Alloc = Global>>(
+    alloc: Global,
+    rom_words: &[u16],
+    steps: &[Step],
+) -> Result<Vec<u8>, Fail> {
     let rom = rom(alloc, alloc, rom_words)?;
     let image = image(alloc, alloc, 0)?;
     let trace = trace(alloc, steps)?;
-    match run_trace::<Flat>(alloc, rom, &image, &trace) {
+    match run_trace::<S>(alloc, rom, &image, &trace) {
         Ok(entries) => entries_text(alloc, entries.as_slice()),
         Err(_) => Err("stopped".into()),
     }

@@ -8,12 +8,33 @@ use std::test::Fail;
 /// What a job answers.
 pub type Answer = Result<Done, ToolFault>;
 
+/// To play a trace: its pictures, its entries, and both over a banked store.
+pub const PICTURES: Job = Job::Play {
+    all: false,
+    banked: false,
+};
+
+pub const ENTRIES: Job = Job::Play {
+    all: true,
+    banked: false,
+};
+
+pub const BANKED_PICTURES: Job = Job::Play {
+    all: false,
+    banked: true,
+};
+
+pub const BANKED_ENTRIES: Job = Job::Play {
+    all: true,
+    banked: true,
+};
+
 /// A job with its input.
 #[derive(Clone, Copy)]
 pub struct Task<'a> {
     pub job: Job,
     pub input: &'a [u8],
-    /// How many bytes a device moves by a call: one, or a whole line of a ROM.
+    /// How many bytes a device moves by a call: one, or as many as a whole line that is written.
     pub step: usize,
     /// What is answered where nothing fails.
     pub answer: Answer,
@@ -34,7 +55,7 @@ const GOOD: &str = "labs 0 0 0\nhalt\n";
 const SHORT: Verdict = Verdict::Good { words: 3, bound: 4 };
 
 /// The tasks, of which one reads this ROM.
-pub fn tasks(rom: &[u8]) -> [Task; 6] {
+pub fn tasks(rom: &[u8]) -> [Task; 8] {
     let task = |job, input, step, answer| Task {
         job,
         input,
@@ -62,8 +83,10 @@ pub fn tasks(rom: &[u8]) -> [Task; 6] {
             1,
             Ok(Done::Judged(SHORT)),
         ),
-        task(Job::Play { all: false }, picture, 1, Ok(Done::Written)),
-        task(Job::Play { all: true }, picture, 1, Ok(Done::Written)),
+        task(PICTURES, picture, 1, Ok(Done::Written)),
+        task(ENTRIES, picture, 64, Ok(Done::Written)),
+        task(BANKED_PICTURES, picture, 1, Ok(Done::Written)),
+        task(BANKED_ENTRIES, picture, 64, Ok(Done::Written)),
     ]
 }
 
