@@ -50,6 +50,19 @@ const PLAY_ROWS: &[Row] = &[
         &["play", "--all"],
         mixed_events,
     ),
+    row(
+        "play --banked, 65,536 mixed events",
+        &["play", "--banked"],
+        mixed_events,
+    ),
+    Row {
+        against: Against::Itself(&["play"]),
+        ..row(
+            "proved play --banked / proved play",
+            &["play", "--banked"],
+            mixed_events,
+        )
+    },
     row("play, 65,536 ticks", &["play"], ticks),
     row("play --all, 65,536 ticks", &["play", "--all"], ticks),
     row("play, 65,536 resets", &["play"], resets),
@@ -105,6 +118,7 @@ const PART_ROWS: &[Row] = &[
     row("200,000 checks, 5 operations", &["check-short"], Vec::new),
     row("driver, 1,000,000 ticks", &["driver"], Vec::new),
     row("100 runs of 65,536 mixed events", &["world"], Vec::new),
+    row("400 times first_torn, 65,536 entries", &["judge"], Vec::new),
 ];
 
 /// How long all rows together are timed; each gets the same part.
@@ -128,6 +142,16 @@ struct Row {
     input: fn() -> Vec<u8>,
     /// The exit status that both end with.
     status: i32,
+    against: Against,
+}
+
+/// What the proved program is compared with.
+#[derive(Clone, Copy)]
+enum Against {
+    /// The plain program, with the same words.
+    Plain,
+    /// Itself, with these words.
+    Itself(&'static [&'static str]),
 }
 
 const fn row(name: &'static str, words: &'static [&'static str], input: fn() -> Vec<u8>) -> Row {
@@ -136,6 +160,7 @@ const fn row(name: &'static str, words: &'static [&'static str], input: fn() -> 
         words,
         input,
         status: 0,
+        against: Against::Plain,
     }
 }
 
@@ -328,9 +353,10 @@ fn random_bytes(count: usize) -> Vec<u8> {
 
 // --- Runs ---
 
-/// A program, and the files that it reads and writes.
+/// A program with the words that it is called with, and the files that it reads and writes.
 struct Contender {
     program: PathBuf,
+    words: &'static [&'static str],
     input: PathBuf,
     output: PathBuf,
     error: PathBuf,
@@ -355,20 +381,21 @@ struct Cost {
 }
 
 impl Contender {
-    fn new(program: &str, name: &str, folder: &Path) -> Contender {
+    fn new(program: &Path, words: &'static [&'static str], name: &str, folder: &Path) -> Contender {
         Contender {
-            program: PathBuf::from(program),
+            program: program.to_owned(),
+            words,
             input: folder.join("input"),
             output: folder.join(format!("{name}.output")),
             error: folder.join(format!("{name}.error")),
         }
     }
 
-    /// The program with these words, reading its input, with new files for what it writes.
-    fn command(&self, words: &[&str]) -> io::Result<Command> {
+    /// The program, reading its input, with new files for what it writes.
+    fn command(&self) -> io::Result<Command> {
         let mut command = Command::new(&self.program);
         command
-            .args(words)
+            .args(self.words)
             .stdin(File::open(&self.input)?)
             .stdout(new_file(&self.output)?)
             .stderr(new_file(&self.error)?);
@@ -376,8 +403,8 @@ impl Contender {
     }
 
     /// Runs the program once, to measure its time.
-    fn timed_run(&self, words: &[&str]) -> io::Result<(Answer, Cost)> {
-        self.run(self.command(words)?)
+    fn timed_run(&self) -> io::Result<(Answer, Cost)> {
+        self.run(self.command()?)
     }
 
     /// Runs the program once, to measure its memory.
@@ -385,8 +412,8 @@ impl Contender {
     /// Linux also counts what the process held before the program was loaded into it. Until then it usually shares
     /// all memory of this comparer, and could never show less. A process that has a step to do before gets a copy
     /// instead, of what little was written: that takes longer, but shows what the program itself holds.
-    fn memory_run(&self, words: &[&str]) -> io::Result<(Answer, Cost)> {
-        let mut command = self.command(words)?;
+    fn memory_run(&self) -> io::Result<(Answer, Cost)> {
+        let mut command = self.command()?;
         // SAFETY: the step does nothing at all.
         unsafe { command.pre_exec(|| Ok(())) };
         self.run(command)
@@ -467,7 +494,7 @@ fn wait_for(process: u32) -> io::Result<(ExitStatus, Usage)> {
 
 // --- The comparison ---
 
-/// A number of the proved program's run, and the same number of the plain one's.
+/// A number of the proved program's run, and the same number of the run that it is compared with.
 type Pair = (f64, f64);
 
 /// What a row's runs took.
@@ -478,24 +505,24 @@ struct Measured {
     memory_kib: Vec<Pair>,
 }
 
-/// One way to run a program with these words.
-type Run = fn(&Contender, &[&str]) -> io::Result<(Answer, Cost)>;
+/// One way to run a program.
+type Run = fn(&Contender) -> io::Result<(Answer, Cost)>;
 
 /// Runs both programs once and answers their costs, the proved one's first. Their answers must be the same, and the
 /// status the row's: an input that was refused for another cause would be no measure of the work.
 fn run_both(
     row: &Row,
     run: Run,
-    [proved, plain]: [&Contender; 2],
-    plain_first: bool,
+    [proved, other]: &[Contender; 2],
+    other_first: bool,
 ) -> io::Result<(Cost, Cost)> {
-    let (first, second) = if plain_first {
-        (plain, proved)
+    let (first, second) = if other_first {
+        (other, proved)
     } else {
-        (proved, plain)
+        (proved, other)
     };
-    let (first_answer, first_cost) = run(first, row.words)?;
-    let (second_answer, second_cost) = run(second, row.words)?;
+    let (first_answer, first_cost) = run(first)?;
+    let (second_answer, second_cost) = run(second)?;
     if first_answer != second_answer {
         return Err(io::Error::other(format!(
             "the programs answer differently: {}",
@@ -508,7 +535,7 @@ fn run_both(
             row.name
         )));
     }
-    Ok(if plain_first {
+    Ok(if other_first {
         (second_cost, first_cost)
     } else {
         (first_cost, second_cost)
@@ -516,7 +543,7 @@ fn run_both(
 }
 
 /// Measures a row: times for so long, then memory.
-fn measure(row: &Row, contenders: [&Contender; 2], time: Duration) -> io::Result<Measured> {
+fn measure(row: &Row, contenders: &[Contender; 2], time: Duration) -> io::Result<Measured> {
     fs::write(&contenders[0].input, (row.input)())?;
     for _ in 0..WARM_UP_RUNS {
         run_both(row, Contender::timed_run, contenders, false)?;
@@ -525,18 +552,18 @@ fn measure(row: &Row, contenders: [&Contender; 2], time: Duration) -> io::Result
     let start = Instant::now();
     while measured.wall_ms.len() < LEAST_TIMED_RUNS || start.elapsed() < time {
         // The order changes each time, so that whatever else the machine does meets both programs alike.
-        let plain_first = measured.wall_ms.len() % 2 == 1;
-        let (proved, plain) = run_both(row, Contender::timed_run, contenders, plain_first)?;
-        measured.wall_ms.push((proved.wall_ms, plain.wall_ms));
+        let other_first = measured.wall_ms.len() % 2 == 1;
+        let (proved, other) = run_both(row, Contender::timed_run, contenders, other_first)?;
+        measured.wall_ms.push((proved.wall_ms, other.wall_ms));
         measured
             .processor_ms
-            .push((proved.processor_ms, plain.processor_ms));
+            .push((proved.processor_ms, other.processor_ms));
     }
     for _ in 0..MEMORY_RUNS {
-        let (proved, plain) = run_both(row, Contender::memory_run, contenders, false)?;
+        let (proved, other) = run_both(row, Contender::memory_run, contenders, false)?;
         measured
             .memory_kib
-            .push((proved.memory_kib, plain.memory_kib));
+            .push((proved.memory_kib, other.memory_kib));
     }
     Ok(measured)
 }
@@ -559,7 +586,7 @@ fn print_line(name: &str, measure: &str, decimals: usize, pairs: &[Pair]) {
 }
 
 /// Measures all rows and prints the table.
-fn compare(rows: &[Row], contenders: [&Contender; 2]) -> io::Result<()> {
+fn compare(rows: &[Row], proved: &Path, plain: &Path, folder: &Path) -> io::Result<()> {
     println!(
         "Medians of each program's runs, then proved / plain: the ratio of the medians and of the least.\n"
     );
@@ -568,7 +595,15 @@ fn compare(rows: &[Row], contenders: [&Contender; 2]) -> io::Result<()> {
         "row", "measure", "proved", "plain", "ratio", "least"
     );
     for row in rows {
-        let measured = measure(row, contenders, TIMED / rows.len() as u32)?;
+        let (other, words) = match row.against {
+            Against::Plain => (plain, row.words),
+            Against::Itself(words) => (proved, words),
+        };
+        let contenders = [
+            Contender::new(proved, row.words, "proved", folder),
+            Contender::new(other, words, "other", folder),
+        ];
+        let measured = measure(row, &contenders, TIMED / rows.len() as u32)?;
         print_line(row.name, "wall ms", 3, &measured.wall_ms);
         print_line(
             &format!("  {} runs each", measured.wall_ms.len()),
@@ -598,10 +633,7 @@ fn main() -> ExitCode {
         "parts" => PART_ROWS,
         _ => return misuse(),
     };
-    let folder = Path::new(folder);
-    let proved = Contender::new(proved, "proved", folder);
-    let plain = Contender::new(plain, "plain", folder);
-    match compare(rows, [&proved, &plain]) {
+    match compare(rows, Path::new(proved), Path::new(plain), Path::new(folder)) {
         Ok(()) => ExitCode::SUCCESS,
         Err(fault) => {
             eprintln!("compare: {fault}");

@@ -8,6 +8,7 @@ mod plain_driver;
 mod plain_frames;
 mod plain_generator;
 mod plain_lines;
+mod plain_memory;
 mod plain_shows;
 mod plain_texts;
 mod plain_traces;
@@ -15,6 +16,7 @@ mod plain_world;
 
 use plain_frames::check;
 use plain_lines::Line;
+use plain_memory::{BYTES, Banked, Flat};
 use plain_shows::write_entries;
 use plain_texts::{MOST_TEXT_BYTES, TextFault, read_draft};
 use plain_traces::read_trace;
@@ -217,9 +219,7 @@ fn list_words(bytes: &[u8], writer: &mut impl Write) -> Result<(), Fault> {
 /// Writes the line of the map of the larger ROM, and a line for each eight words.
 fn write_rom(bytes: &[u8], writer: &mut impl Write) -> Result<(), Fault> {
     if bytes.len() == LARGE_ROM_BYTES {
-        writer
-            .write_all(b"map 4096\n")
-            .map_err(|_| Fault::Writer)?;
+        writer.write_all(b"map 4096\n").map_err(|_| Fault::Writer)?;
     }
     let first = ROM_END - bytes.len() / 2;
     for (row, part) in bytes.chunks(ROM_LINE_BYTES).enumerate() {
@@ -319,12 +319,40 @@ fn check_text(bound: bool) -> Result<ExitCode, Fault> {
     Ok(status)
 }
 
+/// What the options of `play` ask for.
+#[derive(Clone, Copy, Default)]
+struct PlayOptions {
+    all: bool,
+    banked: bool,
+}
+
+/// The options that these words give, each at most once.
+fn play_options(words: &[String]) -> Option<PlayOptions> {
+    let mut options = PlayOptions::default();
+    for word in words {
+        let option = match word.as_str() {
+            "--all" => &mut options.all,
+            "--banked" => &mut options.banked,
+            _ => return None,
+        };
+        if std::mem::replace(option, true) {
+            return None;
+        }
+    }
+    Some(options)
+}
+
 /// Plays the trace that standard input holds as text, and writes its pictures, or all entries, on standard output.
-fn play(all: bool) -> Result<(), Fault> {
+fn play(options: PlayOptions) -> Result<(), Fault> {
     let (trace, rom) = read_trace(&read_text()?)?;
-    let entries = run(&rom, [0; 2048], &trace);
+    let image = [0; BYTES];
+    let entries = if options.banked {
+        run::<Banked>(&rom, &image, &trace)
+    } else {
+        run::<Flat>(&rom, &image, &trace)
+    };
     let mut writer = output()?;
-    write_entries(&entries, all, &mut writer)
+    write_entries(&entries, options.all, &mut writer)
         .and_then(|()| writer.flush())
         .map_err(|_| Fault::Writer)
 }
@@ -332,6 +360,19 @@ fn play(all: bool) -> Result<(), Fault> {
 /// Writes a line on standard error. The status is the same where it can't be written, and `eprintln!` would panic.
 fn complain(line: fmt::Arguments) {
     let _ = writeln!(io::stderr(), "{line}");
+}
+
+/// Does what the words ask for. None where they ask for nothing the program can do.
+fn do_job(words: &[String]) -> Option<Result<ExitCode, Fault>> {
+    let (command, options) = words.split_first()?;
+    match command.as_str() {
+        "list" if options.is_empty() => Some(list().map(|()| ExitCode::SUCCESS)),
+        "rom" if options.is_empty() => Some(rom().map(|()| ExitCode::SUCCESS)),
+        "check" if options.is_empty() => Some(check_text(false)),
+        "check" if options == ["--bound"] => Some(check_text(true)),
+        "play" => Some(play(play_options(options)?).map(|()| ExitCode::SUCCESS)),
+        _ => None,
+    }
 }
 
 fn main() -> ExitCode {
@@ -343,21 +384,9 @@ fn main() -> ExitCode {
         complain(format_args!("dvg: the words are no text"));
         return ExitCode::from(MISUSE);
     };
-    let done = if words == ["list"] {
-        list().map(|()| ExitCode::SUCCESS)
-    } else if words == ["rom"] {
-        rom().map(|()| ExitCode::SUCCESS)
-    } else if words == ["check"] {
-        check_text(false)
-    } else if words == ["check", "--bound"] {
-        check_text(true)
-    } else if words == ["play"] {
-        play(false).map(|()| ExitCode::SUCCESS)
-    } else if words == ["play", "--all"] {
-        play(true).map(|()| ExitCode::SUCCESS)
-    } else {
+    let Some(done) = do_job(&words) else {
         complain(format_args!(
-            "usage: dvg list|rom|check [--bound]|play [--all]"
+            "usage: dvg list|rom|check [--bound]|play [--all] [--banked]"
         ));
         return ExitCode::from(MISUSE);
     };

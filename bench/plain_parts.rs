@@ -4,11 +4,15 @@
 mod plain_driver;
 mod plain_frames;
 mod plain_generator;
+mod plain_judge;
+mod plain_memory;
 mod plain_world;
 
 use plain_driver::{Action, Driver};
 use plain_frames::{Instr, Op, Rom, check};
 use plain_generator::{Generator, Taken};
+use plain_judge::first_torn;
+use plain_memory::{BYTES, Flat};
 use plain_world::{Entry, Event, Trace, run};
 use std::hint::black_box;
 
@@ -214,7 +218,7 @@ fn offer_small(vectors: u64, ops: &mut Vec<Op>) -> Event {
 fn mixed_events() -> Trace {
     let mut random = Random(1979);
     let mut trace = Trace {
-        images: vec![Box::new([0xFF; 2048])],
+        images: vec![Box::new([0xFF; BYTES])],
         ..Trace::default()
     };
     while trace.events.len() < EVENTS {
@@ -244,7 +248,7 @@ fn run_events() {
     let trace = mixed_events();
     let (mut pictures, mut strokes, mut writes) = (0u32, 0u32, 0u32);
     for _ in 0..RUNS {
-        for entry in &run(&rom, [0; 2048], black_box(&trace)) {
+        for entry in &run::<Flat>(&rom, &[0; BYTES], black_box(&trace)) {
             match entry {
                 Entry::Done(_, _, drawn) => {
                     pictures = pictures.wrapping_add(1);
@@ -258,6 +262,24 @@ fn run_events() {
     println!("{pictures} pictures, {strokes} strokes, {writes} writes");
 }
 
+/// How often the log is judged.
+const JUDGED: usize = 400;
+
+/// Judges the log of the events, which is made once: first whole, and then each time without what was its first line.
+fn run_judge() {
+    let rom = Rom::of(0x800, 0xD000);
+    let trace = mixed_events();
+    let entries = run::<Flat>(&rom, &[0; BYTES], &trace);
+    let (mut spared, mut sum) = (0u32, 0u64);
+    for first in 0..JUDGED {
+        match first_torn(&trace.events[first..], &entries[first..]) {
+            None => spared = spared.wrapping_add(1),
+            Some(number) => sum = sum.wrapping_add(number as u64),
+        }
+    }
+    println!("{spared} not torn, {sum}");
+}
+
 fn main() {
     let words: Vec<String> = std::env::args().collect();
     match words.get(1).map(String::as_str) {
@@ -268,6 +290,9 @@ fn main() {
         Some("check-short") => check_often(SHORT_CHECKS, &SHORT, &Rom::of(0x800, 0xD000)),
         Some("driver") => run_ticks(),
         Some("world") => run_events(),
-        _ => eprintln!("usage: plain_parts generator|check|check-large|check-half|check-short|driver|world"),
+        Some("judge") => run_judge(),
+        _ => eprintln!(
+            "usage: plain_parts generator|check|check-large|check-half|check-short|driver|world|judge"
+        ),
     }
 }

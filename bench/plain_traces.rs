@@ -1,6 +1,7 @@
 //! Texts of traces in plain Rust, for the plain twin.
 
 use crate::plain_frames::{MOST, Op, Rom};
+use crate::plain_memory::BYTES;
 use crate::plain_texts::{MOST_TEXT_BYTES, RomText, TextFault, hex, last, natural, read_op};
 use crate::plain_world::{Event, Trace};
 
@@ -102,7 +103,7 @@ fn add_events(told: EventLine, resets: &mut [Option<u32>; 256], trace: &mut Trac
         EventLine::Times(event, count) => trace.events.extend((0..count).map(|_| event())),
         EventLine::ResetAll(byte) => {
             let number = *resets[usize::from(byte)].get_or_insert_with(|| {
-                trace.images.push(Box::new([byte; 2048]));
+                trace.images.push(Box::new([byte; BYTES]));
                 trace.images.len() as u32 - 1
             });
             trace.events.push(Event::ResetAll(number));

@@ -3,6 +3,7 @@
 use crate::plain_driver::{Action, Driver};
 use crate::plain_frames::{FrameFault, Op, Rom, check};
 use crate::plain_generator::{GenFault, Generator, Stroke, Taken};
+use crate::plain_memory::{BYTES, Memory};
 
 /// What can happen.
 pub enum Event {
@@ -23,7 +24,7 @@ pub enum Event {
 pub struct Trace {
     pub events: Vec<Event>,
     pub ops: Vec<Op>,
-    pub images: Vec<Box<[u8; 2048]>>,
+    pub images: Vec<Box<[u8; BYTES]>>,
 }
 
 /// What an event led to.
@@ -46,9 +47,9 @@ pub enum Entry {
 }
 
 /// The driver, the generator, and the memory that they share.
-pub struct World<'a> {
+pub struct World<'a, M> {
     rom: &'a Rom,
-    ram: [u8; 2048],
+    ram: M,
     generator: Generator,
     /// The byte that was fetched last.
     last: u8,
@@ -56,11 +57,11 @@ pub struct World<'a> {
     strobed: bool,
 }
 
-impl World<'_> {
-    pub fn new(rom: &Rom, image: [u8; 2048]) -> World<'_> {
+impl<M: Memory> World<'_, M> {
+    pub fn new<'a>(rom: &'a Rom, image: &[u8; BYTES]) -> World<'a, M> {
         World {
             rom,
-            ram: image,
+            ram: M::of(image),
             generator: Generator::new(),
             last: 0,
             driver: Driver::new(),
@@ -72,7 +73,7 @@ impl World<'_> {
     fn byte(&self, address: u16, high: bool) -> Option<u8> {
         let (k, side) = (usize::from(address), usize::from(high));
         match address {
-            0..0x400 => Some(self.ram[2 * k + side]),
+            0..0x400 => Some(self.ram.byte(2 * k + side)),
             a if self.rom.has(a) => Some(self.rom.word(a).to_le_bytes()[side]),
             _ => None,
         }
@@ -80,9 +81,9 @@ impl World<'_> {
 
     fn tick(&mut self) -> Entry {
         let halted = self.generator.wants().is_none();
-        let action = self.driver.tick(halted, self.ram[1]);
+        let action = self.driver.tick(halted, self.ram.byte(1));
         match action {
-            Action::Wrote(address, byte) => self.ram[usize::from(address)] = byte,
+            Action::Wrote(address, byte) => self.ram.write(usize::from(address), byte),
             Action::Sent => self.strobed = true,
             _ => {}
         }
@@ -118,7 +119,7 @@ impl World<'_> {
     }
 
     /// `rest` has the operations of this offer, if it is one, and of all later ones.
-    fn apply(&mut self, event: &Event, rest: &mut &[Op], images: &[Box<[u8; 2048]>]) -> Entry {
+    fn apply(&mut self, event: &Event, rest: &mut &[Op], images: &[Box<[u8; BYTES]>]) -> Entry {
         match event {
             Event::Offer(count) => {
                 let (ops, later) = rest.split_at(*count);
@@ -149,7 +150,7 @@ impl World<'_> {
                 self.generator.reset();
                 self.driver = Driver::new();
                 self.strobed = false;
-                self.ram = *images[*number as usize];
+                self.ram.load(&images[*number as usize]);
                 Entry::Cleared
             }
         }
@@ -157,8 +158,8 @@ impl World<'_> {
 }
 
 /// The entries of all events.
-pub fn run(rom: &Rom, image: [u8; 2048], trace: &Trace) -> Vec<Entry> {
-    let mut world = World::new(rom, image);
+pub fn run<M: Memory>(rom: &Rom, image: &[u8; BYTES], trace: &Trace) -> Vec<Entry> {
+    let mut world: World<M> = World::new(rom, image);
     let mut rest = trace.ops.as_slice();
     let mut entries = Vec::with_capacity(trace.events.len());
     for event in &trace.events {

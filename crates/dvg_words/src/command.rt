@@ -81,6 +81,6 @@ pub(crate) fn command<'a>(alloc: Global) -> Result<Command<'a>, AllocError>
     let bound = "Also tell how many words the whole run of a good draft fetches";
     let with_check = with_option(program, check, flag(alloc, "bound", bound))?;
     let play = play_with_all(alloc)?;
-    let banked = "Keep the RAM in banks, of which none has bytes of both halves";
+    let banked = "Keep the RAM in banks, not in one piece";
     with_option(with_check, play, flag(alloc, "banked", banked))
 }

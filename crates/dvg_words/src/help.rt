@@ -132,6 +132,10 @@ the event that finished it and the number of its strokes, and then a line
 the intensity. With `--all` a line for each event instead, with what came of it,
 and a picture's strokes behind the event that finished it.
 
+With `--banked` the RAM is kept in banks, of which none has bytes of both
+halves. The same is written, so one sees that no picture depends on how the RAM
+is kept.
+
 Faults: `too long`, `syntax at line N`, `full at line N` for operation 512 of a
 frame, `too many events at line N`, `offer without end`. Lines are numbered from
 1.
