@@ -15,6 +15,7 @@ use std::alloc::Allocator;
 use std::io::{Read, Write};
 
 // What the check says of the draft that a text denotes, over the ROM that it denotes.
+#[inline(never)]
 fn judge<A: Allocator>(alloc: A, text: &[u8]) -> Result<Verdict, ToolFault>
     ensures said { IfOk result (Judges text.now) }
     ensures fault { IfErr result (IsJudgingFault text.now) }
@@ -37,6 +38,7 @@ fn judge<A: Allocator>(alloc: A, text: &[u8]) -> Result<Verdict, ToolFault>
 
 // Reads a draft as text and writes in one line what the check says of it: as `check_bound` where the bound is
 // told, and else as `check_text`.
+#[inline(never)]
 fn check_telling<A: Allocator, R: Read, W: Write>(
     alloc: A,
     reader: &mut Watched<R>,
@@ -76,6 +78,7 @@ fn check_telling<A: Allocator, R: Read, W: Write>(
 /// - `Memory`: a growth was refused.
 ///
 /// Where it stops before it writes, which is at any fault but `Writer`, the writer is as it was.
+#[inline(never)]
 pub fn check_text<A: Allocator, R: Read, W: Write>(
     alloc: A,
     reader: &mut Watched<R>,
@@ -101,6 +104,7 @@ pub fn check_text<A: Allocator, R: Read, W: Write>(
 
 /// The same, but the line of a good draft tells its bound, too: `ok`, its number of words and how many fetches
 /// its whole run takes, which are the words that the generator fetches, word zero included.
+#[inline(never)]
 pub fn check_bound<A: Allocator, R: Read, W: Write>(
     alloc: A,
     reader: &mut Watched<R>,

@@ -67,6 +67,7 @@ fn run_text<S: Store>(
 /// Where it stops before it writes, which is at any fault but `Writer` and `Memory`, the writer is as it was.
 ///
 /// The RAM is kept in any store. All of this holds whichever it is, so what is written doesn't depend on it.
+#[inline(never)]
 pub fn play_in<S: Store, R: Read, W: Write>(
     alloc: S::Alloc,
     reader: &mut Watched<R>,
