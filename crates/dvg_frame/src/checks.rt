@@ -18,7 +18,7 @@ use crate::place::FrameFault;
 use crate::sweep::sweep;
 use crate::table::Table;
 use crate::worklist::Worklist;
-use dvg_code::Instr;
+use dvg_code::{Instr, OutOfMemory};
 use dvg_mem::Rom;
 use std::alloc::Allocator;
 use std::marker::Model;
@@ -116,6 +116,12 @@ impl Checker {
             table: Table::new(),
             chain: Chain::new(),
         }
+    }
+
+    /// A checker in memory of this allocator. While it is made, it takes room on the stack once.
+    #[inline(never)]
+    pub fn boxed<A: Allocator>(alloc: A) -> Result<Box<Checker, A>, OutOfMemory> {
+        Ok(Box::new(alloc, Checker::new())?)
     }
 
     /// The draft, checked, where it has no fault over the ROM, and else the fault that is picked: faults 1 to

@@ -7,7 +7,8 @@
 //! opens more than four calls, and never returns without a call.
 //!
 //! Drafts and their check are this project's own; the words are those of Atari's DVG documentation and
-//! of Margolin's *The Secret Life of Vector Generators*. No call of this crate takes memory.
+//! of Margolin's *The Secret Life of Vector Generators*. No call of this crate takes memory but
+//! `Checker::boxed`.
 #![tactic(auto)]
 
 mod bounds;

@@ -9,4 +9,5 @@ pub mod Completing
 pub mod Machine
 pub mod Stacks
 pub mod Obeyed
+pub mod Numbers
 pub mod Laws

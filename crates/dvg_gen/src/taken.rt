@@ -1,4 +1,7 @@
 //! The generator's answers.
+ghost use Rattle.std.specs.Prelude.{◌≡◌};
+ghost use Rattle.dvg_gen.specs.Numbers.{fault_number};
+
 use crate::stroke::Stroke;
 use std::alloc::Allocator;
 use thiserror::Error;
@@ -15,6 +18,20 @@ pub enum GenFault {
     /// A fetch where no memory answers.
     #[error("a fetch where no memory answers")]
     Hole,
+}
+
+impl GenFault {
+    /// The number by which texts and answers tell the fault: 1 to 3, in the order in which they are declared (this
+    /// project's own choice).
+    pub fn number(self) -> u8
+        ensures { result ≡ fault_number self }
+    {
+        match self {
+            GenFault::StackOver => 1,
+            GenFault::StackUnder => 2,
+            GenFault::Hole => 3,
+        }
+    }
 }
 
 /// What a fetch led to.

@@ -8,8 +8,11 @@ use linked_list_allocator::LocalHeap;
 use std::alloc::Global;
 use std::test::Fail;
 
+/// Fewer bytes than the tables of the check take.
+const TABLES: usize = 200_000;
+
 /// The bytes of a heap that has room for everything.
-const AMPLE: usize = 65_536;
+const AMPLE: usize = TABLES + 65_536;
 
 /// The first picture.
 const STEPS: [Step; 5] = [Tick(2), Offer(F1), Tick(14), Strobe, Fetch(12)];
@@ -77,8 +80,13 @@ fn place_of_stop(alloc: Global, wanted: &[u8], blocked: usize, banked: bool) -> 
 fn places_of_stops(alloc: Global, banked: bool) -> Result<(bool, bool), Fail> {
     let wanted = transcript::<Flat>(alloc, &[], &STEPS)?;
     let (mut at_once, mut at_the_vector) = (false, false);
-    for slots in 0..AMPLE / 16 {
-        match place_of_stop(alloc, wanted.as_slice(), AMPLE - 16 * slots, banked)? {
+    for slots in 0..4096usize {
+        match place_of_stop(
+            alloc,
+            wanted.as_slice(),
+            AMPLE - TABLES - 16 * slots,
+            banked,
+        )? {
             Stop::Before => {}
             Stop::At(0) => at_once = true,
             Stop::At(27) => at_the_vector = true,
@@ -99,8 +107,8 @@ fn runs_stop_where_a_growth_is_refused(rt: HostRuntime) -> Result<(), Fail> {
 /// Vectors that take what is left of a heap, each with a smaller capacity than the one before.
 fn fillers(alloc: Global, heap: &LocalHeap) -> Result<Vec<Vec<u8, &LocalHeap>>, Fail> {
     let mut fillers = Vec::new(alloc);
-    for slots in 0..AMPLE / 16 {
-        if let Ok(filler) = Vec::with_capacity(heap, AMPLE - 16 * slots) {
+    for slots in 0..4096usize {
+        if let Ok(filler) = Vec::with_capacity(heap, AMPLE - TABLES - 16 * slots) {
             fillers.push(filler)?;
         }
     }

@@ -1,19 +1,12 @@
 -- What `play` writes of a log.
 use Rattle.std.specs.Prelude.{ℕ, suc, List, [], ◌∷◌, ◌++◌, length, flat_map, codes, decimal, Bool, true, false}
 use Rattle.dvg_gen.specs.declared.stroke.Stroke.{Stroke}
-use Rattle.dvg_gen.specs.declared.taken.GenFault.{GenFault}
-use Rattle.dvg_gen.specs.declared.taken.GenFault.TheVariants.{StackOver, StackUnder, Hole}
+use Rattle.dvg_gen.specs.Numbers.{fault_number}
 use Rattle.dvg_driver.specs.declared.action.Action.{Action}
 use Rattle.dvg_driver.specs.declared.action.Action.TheVariants.{Peek, Wrote, Read, Sent, Idle}
 use Rattle.dvg_world.specs.Entries.{Shown, Offered, Refused, Busy, Asked, NothingPublished, Acted, Started, NoStrobe, Low, Fetched, Done, Broke, Still, Cleared}
 use Rattle.dvg_text.specs.Lines.{hex_2, hex_3, hex_4, spaced}
 use Rattle.dvg_text.specs.Verdicts.{fault_parts}
-
--- the number of a generator's fault
-abbrev pub fault_number : GenFault → ℕ
-fault_number StackOver = 1
-fault_number StackUnder = 2
-fault_number Hole = 3
 
 -- the parts of an action's text
 abbrev pub action_parts : Action → List (List ℕ)

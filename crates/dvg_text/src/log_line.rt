@@ -2,24 +2,13 @@
 ghost use Rattle.std.specs.Prelude.{◌≡◌, ◌≤◌, ◌+◌, ◌++◌, ◌∷◌, [], ℕ, length, codes, decimal};
 ghost use Rattle.dvg_world.specs.Entries.{shown_of};
 ghost use Rattle.dvg_text.specs.Lines.{hex_3, hex_4, spaced};
-ghost use Rattle.dvg_text.specs.Shows.{action_parts, entry_line, entry_parts, fault_number, stroke_line};
+ghost use Rattle.dvg_text.specs.Shows.{action_parts, entry_line, entry_parts, stroke_line};
 
 use crate::line::Line;
 use dvg_driver::Action;
-use dvg_gen::{GenFault, Stroke};
+use dvg_gen::Stroke;
 use dvg_world::Entry;
 use std::alloc::Allocator;
-
-// The number of a generator's fault.
-fn number_of(fault: GenFault) -> u8
-    ensures { result ≡ fault_number fault }
-{
-    match fault {
-        GenFault::StackOver => 1,
-        GenFault::StackUnder => 2,
-        GenFault::Hole => 3,
-    }
-}
 
 impl Line {
     // Appends what an action did.
@@ -80,7 +69,7 @@ impl Line {
             }
             Entry::Broke(address, fault) => {
                 self.with_address(b"broke", *address);
-                self.number(number_of(*fault));
+                self.number(fault.number());
             }
             Entry::Still => self.part(b"still"),
             Entry::Cleared => self.part(b"cleared"),

@@ -1,7 +1,11 @@
 -- Entries without where their strokes lie in memory.
-use Rattle.std.specs.Prelude.{ℕ, List}
+use Rattle.std.specs.Prelude.{ℕ, List, Some, None}
 use Rattle.dvg_gen.specs.declared.stroke.Stroke.{Stroke}
+use Rattle.dvg_gen.specs.Bytes.{Met, Waits, Whole}
 use Rattle.dvg_gen.specs.declared.taken.GenFault.{GenFault}
+use Rattle.dvg_gen.specs.declared.taken.GenFault.TheVariants.{Hole}
+use Rattle.dvg_gen.specs.declared.taken.Taken.{Taken}
+use Rattle.dvg_gen.specs.declared.taken.Taken.TheVariants as taken
 use Rattle.dvg_frame.specs.declared.place.FrameFault.{FrameFault}
 use Rattle.dvg_driver.specs.declared.action.Action.{Action}
 use Rattle.dvg_world.specs.declared.entry.Entry.{Entry}
@@ -40,3 +44,12 @@ shown_of (code.Done address word strokes) = Done address word strokes.items
 shown_of (code.Broke address fault) = Broke address fault
 shown_of code.Still = Still
 shown_of code.Cleared = Cleared
+
+-- the entry of a fetch at this address that met this, by the generator's answer
+abbrev pub entry_by : {A : Type 0} → ℕ → Met → Taken A → Shown
+entry_by address (Waits byte) answer = Low address byte
+entry_by address (Whole None) answer = Broke address Hole
+entry_by address (Whole (Some word)) taken.Low = Fetched address word
+entry_by address (Whole (Some word)) taken.Word = Fetched address word
+entry_by address (Whole (Some word)) (taken.Done strokes) = Done address word strokes.items
+entry_by address (Whole (Some word)) (taken.Broke fault) = Broke address fault

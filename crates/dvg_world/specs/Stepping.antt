@@ -1,13 +1,9 @@
 -- One line more: the words of private contracts.
-use Rattle.std.specs.Prelude.{ℕ, Bool, true, List, Some, None, slice_get, slice_set, ◌≡◌}
-use Rattle.dvg_gen.specs.Bytes.{Met, Waits, Whole}
-use Rattle.dvg_gen.specs.declared.taken.GenFault.TheVariants.{Hole}
-use Rattle.dvg_gen.specs.declared.taken.Taken.{Taken}
-use Rattle.dvg_gen.specs.declared.taken.Taken.TheVariants as taken
+use Rattle.std.specs.Prelude.{ℕ, Bool, true, List, Some, slice_get, slice_set, ◌≡◌}
 use Rattle.dvg_driver.specs.declared.action.Action.{Action}
 use Rattle.dvg_driver.specs.declared.action.Action.TheVariants.{Wrote, Sent}
 use Rattle.dvg_world.specs.Events.{Happening}
-use Rattle.dvg_world.specs.Entries.{Shown, Low, Fetched, Done, Broke}
+use Rattle.dvg_world.specs.Entries.{Shown}
 use Rattle.dvg_world.specs.Log.{Log}
 use Rattle.dvg_world.specs.Standing.{State, WorldAfter, AddsLine}
 use Rattle.dvg_world.specs.Wanting.{TakesMemory}
@@ -21,15 +17,6 @@ ram_by action ram = ram
 abbrev pub sent_by : Action → Bool → Bool
 sent_by Sent sent = true
 sent_by action sent = sent
-
--- the entry of a fetch at this address that met this, by the generator's answer
-abbrev pub entry_by : {A : Type 0} → ℕ → Met → Taken A → Shown
-entry_by address (Waits byte) answer = Low address byte
-entry_by address (Whole None) answer = Broke address Hole
-entry_by address (Whole (Some word)) taken.Low = Fetched address word
-entry_by address (Whole (Some word)) taken.Word = Fetched address word
-entry_by address (Whole (Some word)) (taken.Done strokes) = Done address word strokes.items
-entry_by address (Whole (Some word)) (taken.Broke fault) = Broke address fault
 
 -- the event of this number adds such a line
 abbrev pub AddsEvent : List Happening → ℕ → State → Shown → State → Type 0

@@ -1,7 +1,11 @@
 //! What a log shows of an event.
+ghost use Rattle.std.specs.Prelude.{◌≡◌};
+ghost use Rattle.dvg_gen.specs.Bytes.{met};
+ghost use Rattle.dvg_world.specs.Entries.{entry_by, shown_of};
+
 use dvg_driver::Action;
 use dvg_frame::FrameFault;
-use dvg_gen::{GenFault, Stroke};
+use dvg_gen::{GenFault, Stroke, Taken};
 use std::alloc::{Allocator, Global};
 
 /// What an event led to. Each event has exactly one entry.
@@ -39,4 +43,25 @@ pub enum Entry<A: Allocator = Global> {
     Still,
     /// A reset was done.
     Cleared,
+}
+
+impl<A: Allocator> Entry<A> {
+    /// The entry of a fetch at this word address, of a byte behind this low one, or of a hole, by what the generator
+    /// answers to it.
+    pub fn of_fetch(address: u16, low: Option<u8>, byte: Option<u8>, taken: Taken<A>) -> Entry<A>
+        ensures { shown_of result ≡ entry_by address (met low byte) taken }
+    {
+        let Some(byte) = byte else {
+            return Entry::Broke(address, GenFault::Hole);
+        };
+        let Some(low) = low else {
+            return Entry::Low(address, byte);
+        };
+        let word = u16::from_le_bytes([low, byte]);
+        match taken {
+            Taken::Low | Taken::Word => Entry::Fetched(address, word),
+            Taken::Done(strokes) => Entry::Done(address, word, strokes),
+            Taken::Broke(fault) => Entry::Broke(address, fault),
+        }
+    }
 }

@@ -1,13 +1,12 @@
 //! The world: both ends of the vector RAM, one event at a time.
 ghost use Rattle.std.specs.Prelude.{◌≡◌, ℕ, List, [], IfOk, OnErr};
 ghost use Rattle.dvg_driver.specs.Stands.{IsInRam};
-ghost use Rattle.dvg_gen.specs.Bytes.{met};
 ghost use Rattle.dvg_world.specs.Entries.{shown_of};
 ghost use Rattle.dvg_world.specs.Events.{Offer, Redraw, Tick, Strobe, Fetch, ResetGen, ResetCpu, ResetAll, happening_of};
 ghost use Rattle.dvg_world.specs.Legal.{IsLegal};
 ghost use Rattle.dvg_world.specs.Log.{Log};
 ghost use Rattle.dvg_world.specs.Standing.{AddsLine, DrawsNow, KeepsHeadlineAfter, WorldAfter};
-ghost use Rattle.dvg_world.specs.Stepping.{entry_by, ram_by, sent_by};
+ghost use Rattle.dvg_world.specs.Stepping.{ram_by, sent_by};
 ghost use Rattle.dvg_world.specs.Wanting.{TakesMemory};
 
 use crate::entry::Entry;
@@ -15,9 +14,8 @@ use crate::event::Event;
 use dvg_code::OutOfMemory;
 use dvg_driver::{Action, Driver, DriverFault};
 use dvg_frame::{Checker, Draft};
-use dvg_gen::{GenFault, Generator, Taken};
+use dvg_gen::Generator;
 use dvg_mem::{Image, Rom, Store, fetch_byte};
-use std::alloc::Allocator;
 use std::marker::Model;
 
 /// Both ends of the vector RAM: the driver that writes frames into it, and the generator that draws out of
@@ -38,7 +36,7 @@ pub struct World<S: Store> {
     driver: Driver,
     strobe_sent: bool,
     /// The tables by which drafts are checked.
-    checker: Checker,
+    checker: Box<Checker, S::Alloc>,
 }
 
 /// Contracts see a `State`.
@@ -71,13 +69,14 @@ impl<S: Store> World<S> {
         // An image is one of 2,048 bytes, as its type says.
         let _ = image.bytes();
         let store = S::make(alloc, image)?;
+        let checker = Checker::boxed(alloc)?;
         Ok(World {
             rom,
             store,
             generator: Generator::new(alloc),
             driver: Driver::new(),
             strobe_sent: false,
-            checker: Checker::new(),
+            checker,
         })
     }
 
@@ -183,7 +182,7 @@ impl<S: Store> World<S> {
         let low = self.generator.low_byte();
         let byte = fetch_byte(&self.store, &self.rom, address, low.is_some());
         let taken = self.generator.take_byte(byte)?;
-        Ok(entry_of(address, low, byte, taken))
+        Ok(Entry::of_fetch(address, low, byte, taken))
     }
 
     /// The generator is reset, as by `Event::ResetGen`.
@@ -214,28 +213,5 @@ impl<S: Store> World<S> {
         self.driver.reset();
         self.strobe_sent = false;
         Entry::Cleared
-    }
-}
-
-// The entry of a fetch at this address, of a byte behind this low one, or of a hole.
-fn entry_of<A: Allocator>(
-    address: u16,
-    low: Option<u8>,
-    byte: Option<u8>,
-    taken: Taken<A>,
-) -> Entry<A>
-    ensures { shown_of result ≡ entry_by address (met low byte) taken }
-{
-    let Some(byte) = byte else {
-        return Entry::Broke(address, GenFault::Hole);
-    };
-    let Some(low) = low else {
-        return Entry::Low(address, byte);
-    };
-    let word = u16::from_le_bytes([low, byte]);
-    match taken {
-        Taken::Low | Taken::Word => Entry::Fetched(address, word),
-        Taken::Done(strokes) => Entry::Done(address, word, strokes),
-        Taken::Broke(fault) => Entry::Broke(address, fault),
     }
 }

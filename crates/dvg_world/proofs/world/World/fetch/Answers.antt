@@ -18,12 +18,12 @@ returns-in_err-taken-clause-room g c =
 
 pub returns-clause-stands : goal.returns-clause-stands
 returns-clause-stands g c =
-    adds_between Fetch (shown_of c.entry_of.result) c.self.view_is refl
-    (fetch_takes c.in-Some.address c.low_byte-low.result c.fetch_byte-byte.result c.is_some.result c.in_ok-taken.taken (shown_of c.entry_of.result) (λ told low after. sym c.in-Some.is ∙ c.wants.ensures.address told low after) c.low_byte-low.ensures c.is_some.ensures c.fetch_byte-byte.ensures.byte
-    c.in_ok-taken.ensures.answers c.entry_of.ensures)
+    adds_between Fetch (shown_of c.of_fetch.result) c.self.view_is refl
+    (fetch_takes c.in-Some.address c.low_byte-low.result c.fetch_byte-byte.result c.is_some.result c.in_ok-taken.taken (shown_of c.of_fetch.result) (λ told low after. sym c.in-Some.is ∙ c.wants.ensures.address told low after) c.low_byte-low.ensures c.is_some.ensures c.fetch_byte-byte.ensures.byte
+    c.in_ok-taken.ensures.answers c.of_fetch.ensures)
 
 pub returns-in_default-clause-headline : goal.returns-in_default-clause-headline
 returns-in_default-clause-headline g c = keeps_headline Fetch Still (returns-in_default-clause-stands g c)
 
 pub returns-clause-headline : goal.returns-clause-headline
-returns-clause-headline g c = keeps_headline Fetch (shown_of c.entry_of.result) (returns-clause-stands g c)
+returns-clause-headline g c = keeps_headline Fetch (shown_of c.of_fetch.result) (returns-clause-stands g c)
