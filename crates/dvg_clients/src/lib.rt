@@ -10,5 +10,6 @@ pub mod frames;
 pub mod generator;
 pub mod instructions;
 pub mod judges;
+pub mod numbered;
 pub mod texts;
 pub mod worlds;

@@ -22,4 +22,6 @@ mod instructions;
 #[cfg(test)]
 mod log_lines;
 #[cfg(test)]
+mod numbered;
+#[cfg(test)]
 mod traces;

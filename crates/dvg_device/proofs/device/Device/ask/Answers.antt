@@ -1,0 +1,26 @@
+use Rattle.std.proofs.Common.{refl, sym, ap, ◌∙◌, subst}
+use Rattle.dvg_device.specs.Drivers.{DriverAnswers}
+use Rattle.dvg_device.specs.Worlds.{WorldAnswers}
+use Rattle.dvg_device.proofs.device.Device.ask.Goals as goal
+
+pub returns-in-World : goal.returns-in-World
+returns-in-World c = rw (sym c.self.view_is, c.in-World.is) (
+  c.ask_world.new.world,
+  c.ask_world.new.picture.items,
+  refl,
+  subst (λ staged. WorldAnswers c.self.inside.draft staged c.args.request c.in-World.world.value c.ask_world.new.world c.self.inside.picture.items c.ask_world.new.picture.items c.ask_world.result) c.as_slice.ensures.value
+      (subst (λ world. WorldAnswers c.self.inside.draft c.as_slice.result.now c.args.request world c.ask_world.new.world c.self.inside.picture.items c.ask_world.new.picture.items c.ask_world.result) c.deref_mut.ensures.value c.ask_world.ensures),
+)
+
+pub returns-in-Driver : goal.returns-in-Driver
+returns-in-Driver c =
+    let driven = c.deref_mut-in-Driver.ensures.value in
+    rw (sym c.self.view_is, c.in-Driver.is) (
+      c.ask.new.self,
+      refl,
+      c.ask.ensures.rom ∙ ap (λ d. d.rom) driven,
+      subst (λ d. DriverAnswers d.rom c.self.inside.draft c.args.request d.stage c.ask.new.self.stage c.ask.result) driven c.ask.ensures.answers,
+    )
+
+pub returns-in-Generator : goal.returns-in-Generator
+returns-in-Generator c = rw (sym c.self.view_is, c.in-Generator.is) (c.ask_generator.new.generator, c.ask_generator.new.picture.items, refl, c.ask_generator.ensures)

@@ -1,0 +1,9 @@
+pub mod Lookup
+pub mod Operations
+pub mod Requests
+pub mod Replies
+pub mod Worlds
+pub mod Drivers
+pub mod Generators
+pub mod Devices
+pub mod Parts

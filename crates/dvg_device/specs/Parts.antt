@@ -1,0 +1,11 @@
+-- What is open, as the code holds it.
+use Rattle.dvg_device.specs.Devices.{Open, Nothing, World, Driver, Generator}
+use Rattle.dvg_device.specs.declared.device.Part.{Part}
+use Rattle.dvg_device.specs.declared.device.Part.TheVariants as parts
+
+-- what is open, without where it lies in memory
+abbrev pub open_of : Part → Open
+open_of parts.Nothing = Nothing
+open_of (parts.World world) = World world.value
+open_of (parts.Driver desk) = Driver desk.value
+open_of (parts.Generator generator) = Generator generator

@@ -1,0 +1,110 @@
+-- Replies, and their numbers of 64 bits.
+use Rattle.std.specs.Prelude.{ℕ, ◌+◌, ◌*◌, ◌^◌, true, false, List, Option, Some, None}
+use Rattle.dvg_gen.specs.declared.stroke.Stroke.{Stroke}
+use Rattle.dvg_gen.specs.Numbers.{fault_number}
+use Rattle.dvg_driver.specs.declared.action.Action.{Action}
+use Rattle.dvg_driver.specs.declared.action.Action.TheVariants as actions
+use Rattle.dvg_frame.specs.declared.place.FrameFault.{FrameFault}
+use Rattle.dvg_frame.specs.declared.place.FrameFault.TheVariants.{Empty, NoLabs, TooLong, Target, RunsOff, OutOfRom, TooDeep, NoCaller, Loops}
+use Rattle.dvg_frame.specs.declared.place.Place.{Place}
+use Rattle.dvg_frame.specs.declared.place.Place.TheVariants.{InFrame, InRom}
+use Rattle.dvg_world.specs.Entries as entries
+use Rattle.dvg_world.specs.Entries.{Shown}
+use Rattle.dvg_device.specs.declared.reply.Reply.{Reply}
+use Rattle.dvg_device.specs.declared.reply.Reply.TheVariants.{Offered, Refused, Busy, Asked, NothingPublished, Acted, Started, NoStrobe, Low, Fetched, Done, Broke, Still, Cleared, Pushed, NoOperation, Full, Staged, Opened, WrongSize, Closed, Wants, Count, Point, Intensity, Unknown, NoMemory}
+
+-- 8 bits of a kind, 16 of an address and then a value
+abbrev pub packed : ℕ → ℕ → ℕ → ℕ
+packed kind address value = kind + 0x100 * address + 0x100_0000 * value
+
+-- a fault at a place: the operation's number or the ROM word's address, and the fault's number, with 100 where it is in the ROM
+abbrev pub placed : ℕ → Place → ℕ
+placed fault (InFrame i) = packed 1 i fault
+placed fault (InRom a) = packed 1 a (0x100 + fault)
+
+-- a refused draft: its fault by the number of `check`, at a place
+abbrev pub refusal : FrameFault → ℕ
+refusal Empty = packed 1 0 1
+refusal NoLabs = packed 1 0 2
+refusal TooLong = packed 1 0 3
+refusal (Target i) = placed 4 (InFrame i)
+refusal (RunsOff i) = placed 5 (InFrame i)
+refusal (OutOfRom place) = placed 6 place
+refusal (TooDeep place) = placed 7 place
+refusal (NoCaller place) = placed 8 place
+refusal Loops = packed 1 0 9
+
+-- what the driver did
+abbrev pub acted : Action → ℕ
+acted actions.Peek = packed 5 0 0
+acted (actions.Wrote a byte) = packed 6 a byte
+acted (actions.Read false) = packed 7 0 0
+acted (actions.Read true) = packed 7 0 1
+acted actions.Sent = packed 8 0 0
+acted actions.Idle = packed 9 0 0
+
+-- the number of a reply
+abbrev pub number_of : Reply → ℕ
+number_of Offered = packed 0 0 0
+number_of (Refused fault) = refusal fault
+number_of Busy = packed 2 0 0
+number_of Asked = packed 3 0 0
+number_of NothingPublished = packed 4 0 0
+number_of (Acted action) = acted action
+number_of Started = packed 10 0 0
+number_of NoStrobe = packed 11 0 0
+number_of (Low address byte) = packed 12 address byte
+number_of (Fetched address word) = packed 13 address word
+number_of (Done address word) = packed 14 address word
+number_of (Broke address fault) = packed 15 address (fault_number fault)
+number_of Still = packed 16 0 0
+number_of Cleared = packed 17 0 0
+number_of (Pushed i) = packed 18 0 i
+number_of NoOperation = packed 19 0 0
+number_of Full = packed 20 0 0
+number_of (Staged count) = packed 21 0 count
+number_of Opened = packed 22 0 0
+number_of WrongSize = packed 23 0 0
+number_of Closed = packed 24 0 0
+number_of (Wants address false) = packed 25 address 0
+number_of (Wants address true) = packed 25 address 1
+number_of (Count n) = n
+number_of (Point x y) = x + 2 ^ 32 * y
+number_of (Intensity z) = z
+number_of Unknown = packed 254 0 0
+number_of NoMemory = packed 255 0 0
+
+-- the reply to an event, by what the log shows of it
+abbrev pub told_by : Shown → Reply
+told_by entries.Offered = Offered
+told_by (entries.Refused fault) = Refused fault
+told_by entries.Busy = Busy
+told_by entries.Asked = Asked
+told_by entries.NothingPublished = NothingPublished
+told_by (entries.Acted action) = Acted action
+told_by entries.Started = Started
+told_by entries.NoStrobe = NoStrobe
+told_by (entries.Low address byte) = Low address byte
+told_by (entries.Fetched address word) = Fetched address word
+told_by (entries.Done address word strokes) = Done address word
+told_by (entries.Broke address fault) = Broke address fault
+told_by entries.Still = Still
+told_by entries.Cleared = Cleared
+
+-- the strokes of the newest run that came to a HALT, after this entry
+abbrev pub picture_by : Shown → List Stroke → List Stroke
+picture_by (entries.Done address word strokes) picture = strokes
+picture_by entry picture = picture
+
+-- where a stroke begins and ends, and its intensity; 0 where there is none
+abbrev pub begins : Option Stroke → Reply
+begins None = Point 0 0
+begins (Some stroke) = Point stroke.x0 stroke.y0
+
+abbrev pub ends : Option Stroke → Reply
+ends None = Point 0 0
+ends (Some stroke) = Point stroke.x1 stroke.y1
+
+abbrev pub shines : Option Stroke → Reply
+shines None = Intensity 0
+shines (Some stroke) = Intensity stroke.z

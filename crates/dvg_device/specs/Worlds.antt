@@ -1,0 +1,60 @@
+-- What a world answers to a request.
+use Rattle.std.specs.Prelude.{◌≡◌, ◌⊎◌, ◌==◌, ℕ, List, length, if◌then◌else◌, Option, Some, None}
+use Rattle.dvg_gen.specs.declared.stroke.Stroke.{Stroke}
+use Rattle.dvg_frame.specs.declared.op.OpKind.{OpKind}
+use Rattle.dvg_world.specs.Entries.{Shown}
+use Rattle.dvg_world.specs.Events as events
+use Rattle.dvg_world.specs.Events.{Happening}
+use Rattle.dvg_world.specs.Standing.{State, AddsLine, DrawsNow, KeepsHeadlineAfter}
+use Rattle.dvg_device.specs.Replies.{told_by, picture_by}
+use Rattle.dvg_device.specs.declared.reply.Reply.{Reply}
+use Rattle.dvg_device.specs.declared.reply.Reply.TheVariants.{NoMemory, Unknown, WrongSize}
+use Rattle.dvg_device.specs.declared.request.Request.{Request}
+use Rattle.dvg_device.specs.declared.request.Request.TheVariants.{Offer, Redraw, Tick, Strobe, Fetch, ResetGenerator, ResetProcessor, ResetAll}
+
+-- the event that a request asks a world for, with this draft and these staged bytes
+abbrev pub event_of : List OpKind → List ℕ → Request → Option Happening
+event_of F staged Offer = Some (events.Offer F)
+event_of F staged Redraw = Some events.Redraw
+event_of F staged (Tick halted byte1) = Some events.Tick
+event_of F staged Strobe = Some events.Strobe
+event_of F staged (Fetch byte) = Some events.Fetch
+event_of F staged ResetGenerator = Some events.ResetGen
+event_of F staged ResetProcessor = Some events.ResetCpu
+event_of F staged ResetAll = if length staged == 2048 then Some (events.ResetAll staged) else None
+event_of F staged request = None
+
+-- the event happens: over each log that the world stands after, it adds a line, which keeps the headline; the reply is of its entry, and the strokes are those of the newest finished run
+pub record Happens (event : Happening) (world later : State) (drawn left : List Stroke) (reply : Reply) : Type 0 where
+  pub entry : Shown
+  pub stands : AddsLine world event entry later
+  pub headline : KeepsHeadlineAfter world event entry
+  pub told : reply ≡ told_by entry
+  pub picture : left ≡ picture_by entry drawn
+
+-- an event that there may be no memory for: a fetch that completes a vector that is seen, and a reset of the whole system
+abbrev pub TakesRoom : Happening → State → Type 0
+TakesRoom events.Fetch world = DrawsNow world
+TakesRoom (events.ResetAll bytes) world = Unit {0}
+TakesRoom event world = ⊥
+
+-- there was no memory for the event, and nothing has changed
+pub record Lacks (event : Happening) (world later : State) (drawn left : List Stroke) (reply : Reply) : Type 0 where
+  pub room : TakesRoom event world
+  pub told : reply ≡ NoMemory
+  pub same : later ≡ world
+  pub kept : left ≡ drawn
+
+-- what a request for no event is answered
+abbrev pub declined : Request → Reply
+declined ResetAll = WrongSize
+declined request = Unknown
+
+-- a request that asks for an event has it happen, or there is no memory for it; another one leaves all as it was
+abbrev pub Goes : Option Happening → Request → State → State → List Stroke → List Stroke → Reply → Type 0
+Goes (Some event) request world later drawn left reply = Happens event world later drawn left reply ⊎ Lacks event world later drawn left reply
+Goes None request world later drawn left reply = (later ≡ world) × (left ≡ drawn) × (reply ≡ declined request)
+
+-- what a world with this draft, these staged bytes and these strokes of the newest finished run comes to by a request
+abbrev pub WorldAnswers : List OpKind → List ℕ → Request → State → State → List Stroke → List Stroke → Reply → Type 0
+WorldAnswers F staged request = Goes (event_of F staged request) request

@@ -1,0 +1,88 @@
+//! A driver alone.
+ghost use Rattle.std.specs.Prelude.{◌≡◌, ℕ, [], IfSome};
+ghost use Rattle.dvg_driver.specs.Stands.{StandsAfter};
+ghost use Rattle.dvg_device.specs.Drivers.{DriverAnswers, OfferAnswers, RedrawAnswers};
+
+use crate::reply::Reply;
+use crate::request::Request;
+use dvg_driver::{Driver, DriverFault};
+use dvg_frame::{Checker, Draft};
+use dvg_mem::Rom;
+use std::alloc::Global;
+use std::marker::Model;
+
+/// A driver alone, with the ROM over which its drafts are checked and the tables for that.
+#[derive(Drop)]
+pub(crate) struct Desk {
+    rom: Rom,
+    driver: Driver,
+    checker: Box<Checker>,
+}
+
+/// Contracts see the ROM and the driver's stage.
+impl Model for Desk {
+    ghost use Rattle.dvg_device.specs.Drivers.{Driven};
+
+    ghost Value = { Driven };
+
+    ghost view = { λ desk. record { rom = desk.rom; stage = desk.driver } };
+}
+
+impl Desk {
+    // A driver that was just reset, over this ROM. None for want of memory.
+    pub(crate) fn new(alloc: Global, rom: Rom) -> Option<Desk>
+        ensures { IfSome result (λ desk. (desk.rom ≡ rom) × ((peeked : ℕ) → StandsAfter desk.stage peeked [])) }
+    {
+        let checker = Checker::boxed(alloc).ok()?;
+        Some(Desk {
+            rom,
+            driver: Driver::new(),
+            checker,
+        })
+    }
+
+    // Asks it, with this draft.
+    #[inline(always)]
+    pub(crate) fn ask(&mut self, request: Request, draft: &Draft) -> Reply
+        ensures rom { self.new.rom ≡ self.old.rom }
+        ensures answers { DriverAnswers self.old.rom draft.now request self.old.stage self.new.stage result }
+    {
+        match request {
+            Request::Offer => self.offer(draft),
+            Request::Redraw => self.redraw(),
+            Request::Tick { halted, byte1 } => Reply::Acted(self.driver.tick(halted, byte1)),
+            Request::ResetProcessor => {
+                self.driver.reset();
+                Reply::Cleared
+            }
+            _ => Reply::Unknown,
+        }
+    }
+
+    // Offers the draft.
+    fn offer(&mut self, draft: &Draft) -> Reply
+        ensures rom { self.new.rom ≡ self.old.rom }
+        ensures answers { OfferAnswers self.old.rom draft.now self.old.stage self.new.stage result }
+    {
+        let checked = match self.checker.check(draft, &self.rom) {
+            Ok(checked) => checked,
+            Err(fault) => return Reply::Refused(fault),
+        };
+        match self.driver.offer_checked(&checked) {
+            Ok(()) => Reply::Offered,
+            Err(_) => Reply::Busy,
+        }
+    }
+
+    // Asks for a redraw.
+    fn redraw(&mut self) -> Reply
+        ensures rom { self.new.rom ≡ self.old.rom }
+        ensures answers { RedrawAnswers self.old.stage self.new.stage result }
+    {
+        match self.driver.redraw() {
+            Ok(()) => Reply::Asked,
+            Err(DriverFault::NothingPublished) => Reply::NothingPublished,
+            Err(DriverFault::Busy) => Reply::Busy,
+        }
+    }
+}

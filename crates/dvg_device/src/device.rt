@@ -1,0 +1,296 @@
+//! The device.
+ghost use Rattle.std.specs.Prelude.{◌≡◌, ◌↔◌, [], length, drop, take, slice_get, IfSome, IsTrue};
+ghost use Rattle.dvg_world.specs.Standing.{WorldAfter};
+ghost use Rattle.dvg_device.specs.Devices.{Answered, Driver, IsNewDriver, IsOneOf, PartAnswers, PushAnswers, StageAnswers, Turned, closed};
+ghost use Rattle.dvg_device.specs.Parts.{open_of};
+ghost use Rattle.dvg_device.specs.Replies.{begins, ends, shines};
+
+use crate::desk::Desk;
+use crate::happening::ask_world;
+use crate::lone::ask_generator;
+use crate::operation::Operation;
+use crate::reply::Reply;
+use crate::request::Request;
+use dvg_frame::Draft;
+use dvg_gen::{Generator, Stroke};
+use dvg_mem::{Flat, Image, Rom};
+use dvg_world::World;
+use std::alloc::Global;
+use std::marker::Model;
+
+/// The most bytes that are staged: those of a RAM, and of the larger ROM.
+const MOST_STAGED: usize = 6144;
+
+/// How many bytes a RAM has.
+const RAM_BYTES: usize = 2048;
+
+/// What is open.
+#[derive(Drop)]
+pub(crate) enum Part {
+    Nothing,
+    World(Box<World<Flat>>),
+    Driver(Box<Desk>),
+    Generator(Generator<Global>),
+}
+
+/// A device, in which a world, a driver alone or a generator alone may be open. It has a draft, which requests make and
+/// an offer hands to the driver; bytes that are staged for what is opened, and for a reset of the whole system; and the
+/// strokes of the newest run that came to a HALT.
+#[derive(Drop)]
+pub struct Device {
+    alloc: Global,
+    staged: Vec<u8>,
+    draft: Draft,
+    picture: Vec<Stroke>,
+    part: Part,
+}
+
+/// Contracts see a `Held`.
+impl Model for Device {
+    ghost use Rattle.dvg_device.specs.Devices.{Held};
+    ghost use Rattle.dvg_device.specs.Parts.{open_of};
+
+    ghost Value = { Held };
+
+    ghost view = { λ device. record {
+      staged = device.staged.items;
+      draft = device.draft;
+      picture = device.picture.items;
+      open_part = open_of device.part;
+    } };
+}
+
+impl Device {
+    /// A device in which nothing is open.
+    pub fn new(alloc: Global) -> Device
+        ensures { result ≡ closed }
+    {
+        Device {
+            alloc,
+            staged: Vec::new(alloc),
+            draft: Draft::new(),
+            picture: Vec::new(alloc),
+            part: Part::Nothing,
+        }
+    }
+
+    /// One request, as a number of 64 bits, and its answer. `Request` says which requests there are, and `Reply` which
+    /// answers.
+    pub fn turn(&mut self, request: u64) -> u64
+        ensures turned { Turned self.old request self.new result }
+    {
+        self.answer(Request::of(request)).number()
+    }
+
+    /// One request, and its answer.
+    #[inline(always)]
+    pub fn answer(&mut self, request: Request) -> Reply
+        ensures answered { Answered request self.old self.new result }
+    {
+        match request {
+            Request::Push(operation) => self.push(operation),
+            Request::ClearDraft => self.clear_draft(),
+            Request::Stage { byte, count } => self.stage(byte, count),
+            Request::Unstage => self.unstage(),
+            Request::OpenWorld => self.open_world(),
+            Request::OpenDriver => self.open_driver(),
+            Request::OpenGenerator => self.open_generator(),
+            Request::Close => self.close(),
+            Request::CountStrokes => Reply::Count(self.picture.len() as u64),
+            Request::StrokeFrom(i) => self.stroke_from(i),
+            Request::StrokeTo(i) => self.stroke_to(i),
+            Request::StrokeIntensity(i) => self.stroke_intensity(i),
+            _ => self.ask(request),
+        }
+    }
+
+    // Adds an operation to the draft.
+    fn push(&mut self, operation: Operation) -> Reply
+        ensures { PushAnswers operation self.old self.new result }
+    {
+        let Some(op) = operation.op() else {
+            return Reply::NoOperation;
+        };
+        match self.draft.push(op) {
+            Ok(i) => Reply::Pushed(i),
+            Err(_) => Reply::Full,
+        }
+    }
+
+    // Takes the operations of the draft away.
+    fn clear_draft(&mut self) -> Reply
+        ensures { Answered Request.ClearDraft self.old self.new result }
+    {
+        self.draft.clear();
+        Reply::Cleared
+    }
+
+    // Stages a byte so often.
+    fn stage(&mut self, byte: u8, count: u16) -> Reply
+        ensures { StageAnswers byte count self.old self.new result }
+    {
+        let length = self.staged.len() + usize::from(count);
+        if MOST_STAGED < length {
+            return Reply::Full;
+        }
+        match self.staged.resize(length, byte) {
+            Ok(()) => Reply::Staged(length as u16),
+            Err(_) => Reply::NoMemory,
+        }
+    }
+
+    // Takes the staged bytes away, with their memory.
+    fn unstage(&mut self) -> Reply
+        ensures { Answered Request.Unstage self.old self.new result }
+    {
+        self.staged = Vec::new(self.alloc);
+        Reply::Cleared
+    }
+
+    // Opens a world.
+    #[inline(never)]
+    fn open_world(&mut self) -> Reply
+        ensures { Answered Request.OpenWorld self.old self.new result }
+    {
+        if !is_one_of(self.staged.len(), 4096, 6144) {
+            return Reply::WrongSize;
+        }
+        match new_world(self.alloc, self.staged.as_slice()) {
+            Some(world) => self.open(Part::World(world)),
+            None => Reply::NoMemory,
+        }
+    }
+
+    // Opens a driver.
+    #[inline(never)]
+    fn open_driver(&mut self) -> Reply
+        ensures { Answered Request.OpenDriver self.old self.new result }
+    {
+        if !is_one_of(self.staged.len(), 2048, 4096) {
+            return Reply::WrongSize;
+        }
+        match new_desk(self.alloc, self.staged.as_slice()) {
+            Some(desk) => self.open(Part::Driver(desk)),
+            None => Reply::NoMemory,
+        }
+    }
+
+    // Opens a generator.
+    fn open_generator(&mut self) -> Reply
+        ensures { Answered Request.OpenGenerator self.old self.new result }
+    {
+        self.open(Part::Generator(Generator::new(self.alloc)))
+    }
+
+    // Opens this, in which nothing was drawn yet.
+    fn open(&mut self, part: Part) -> Reply
+        ensures opened { result ≡ Reply.Opened }
+        ensures device { self.new ≡ record self.old { picture = []; open_part = open_of part } }
+    {
+        self.part = part;
+        self.picture = Vec::new(self.alloc);
+        Reply::Opened
+    }
+
+    // Ends what is open, and gives its memory back.
+    #[inline(never)]
+    fn close(&mut self) -> Reply
+        ensures { Answered Request.Close self.old self.new result }
+    {
+        *self = Device::new(self.alloc);
+        Reply::Closed
+    }
+
+    // A stroke of the newest run that came to a HALT.
+    fn stroke(&self, i: u64) -> Option<Stroke>
+        ensures { result ≡ slice_get self.now.picture i }
+    {
+        if i < self.picture.len() as u64 {
+            Some(self.picture[i as usize])
+        } else {
+            None
+        }
+    }
+
+    // Where a stroke begins.
+    fn stroke_from(&self, i: u64) -> Reply
+        ensures { result ≡ begins (slice_get self.now.picture i) }
+    {
+        match self.stroke(i) {
+            Some(stroke) => Reply::Point(stroke.x0, stroke.y0),
+            None => Reply::Point(0, 0),
+        }
+    }
+
+    // Where a stroke ends.
+    fn stroke_to(&self, i: u64) -> Reply
+        ensures { result ≡ ends (slice_get self.now.picture i) }
+    {
+        match self.stroke(i) {
+            Some(stroke) => Reply::Point(stroke.x1, stroke.y1),
+            None => Reply::Point(0, 0),
+        }
+    }
+
+    // A stroke's intensity.
+    fn stroke_intensity(&self, i: u64) -> Reply
+        ensures { result ≡ shines (slice_get self.now.picture i) }
+    {
+        match self.stroke(i) {
+            Some(stroke) => Reply::Intensity(stroke.z),
+            None => Reply::Intensity(0),
+        }
+    }
+
+    // Asks what is open.
+    #[inline(always)]
+    fn ask(&mut self, request: Request) -> Reply
+        ensures { PartAnswers self.old.open_part request self.old self.new result }
+    {
+        match &mut self.part {
+            Part::Nothing => Reply::Closed,
+            Part::World(world) => ask_world(
+                self.alloc,
+                world,
+                request,
+                &self.draft,
+                self.staged.as_slice(),
+                &mut self.picture,
+            ),
+            Part::Driver(desk) => desk.ask(request, &self.draft),
+            Part::Generator(generator) => ask_generator(generator, request, &mut self.picture),
+        }
+    }
+}
+
+// Whether a number is one of two.
+fn is_one_of(n: usize, small: usize, large: usize) -> bool
+    ensures { IsTrue result ↔ IsOneOf n small large }
+{
+    n == small || n == large
+}
+
+// A world over the ROM of the bytes behind the first 2,048, with those as the first image of its RAM. None for want of
+// memory.
+fn new_world(alloc: Global, staged: &[u8]) -> Option<Box<World<Flat>>>
+    ensures { IfSome result (λ world. WorldAfter (drop 2048 staged.now) (take 2048 staged.now) [] world.value) }
+{
+    let (image, rom) = staged.split_at_checked(RAM_BYTES)?;
+    let rom = Rom::new(alloc, rom).ok()?;
+    let image = Image::new(alloc, image).ok()?;
+    let world = World::<Flat>::new(alloc, rom, &image).ok()?;
+    Box::new(alloc, world).ok()
+}
+
+// A driver alone over the ROM of these bytes. None for want of memory.
+fn new_desk(alloc: Global, rom: &[u8]) -> Option<Box<Desk>>
+    ensures { IfSome result (λ desk. IsNewDriver rom.now (Driver desk.value)) }
+{
+    let Ok(rom) = Rom::new(alloc, rom) else {
+        return None;
+    };
+    match Box::new(alloc, Desk::new(alloc, rom)?) {
+        Ok(desk) => Some(desk),
+        Err(_) => None,
+    }
+}
