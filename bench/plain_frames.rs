@@ -9,6 +9,7 @@ pub const MOST: usize = 511;
 const ROM_END: u16 = 0xC00;
 
 /// A ROM.
+#[derive(Clone)]
 pub struct Rom {
     /// The word address of its first word: 800, or 400 of the larger one.
     pub first: u16,
@@ -17,6 +18,7 @@ pub struct Rom {
 
 impl Rom {
     /// A ROM of this word alone.
+    #[allow(dead_code)]
     pub fn of(first: u16, word: u16) -> Rom {
         Rom {
             first,
@@ -116,6 +118,7 @@ impl fmt::Display for FrameFault {
 pub struct Frame {
     #[allow(dead_code)]
     pub ops: Vec<Op>,
+    #[allow(dead_code)]
     pub words: u16,
     /// How many words its whole run fetches, word zero included.
     #[allow(dead_code)]

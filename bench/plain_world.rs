@@ -6,6 +6,7 @@ use crate::plain_generator::{GenFault, Generator, Stroke, Taken};
 use crate::plain_memory::{BYTES, Memory};
 
 /// What can happen.
+#[allow(dead_code)]
 pub enum Event {
     /// An offer of so many operations, which stand behind those of the offers before it.
     Offer(usize),
@@ -47,8 +48,8 @@ pub enum Entry {
 }
 
 /// The driver, the generator, and the memory that they share.
-pub struct World<'a, M> {
-    rom: &'a Rom,
+pub struct World<M> {
+    rom: Rom,
     ram: M,
     generator: Generator,
     /// The byte that was fetched last.
@@ -57,8 +58,8 @@ pub struct World<'a, M> {
     strobed: bool,
 }
 
-impl<M: Memory> World<'_, M> {
-    pub fn new<'a>(rom: &'a Rom, image: &[u8; BYTES]) -> World<'a, M> {
+impl<M: Memory> World<M> {
+    pub fn new(rom: Rom, image: &[u8; BYTES]) -> World<M> {
         World {
             rom,
             ram: M::of(image),
@@ -79,7 +80,7 @@ impl<M: Memory> World<'_, M> {
         }
     }
 
-    fn tick(&mut self) -> Entry {
+    pub fn tick(&mut self) -> Entry {
         let halted = self.generator.wants().is_none();
         let action = self.driver.tick(halted, self.ram.byte(1));
         match action {
@@ -90,7 +91,7 @@ impl<M: Memory> World<'_, M> {
         Entry::Acted(action)
     }
 
-    fn fetch(&mut self) -> Entry {
+    pub fn fetch(&mut self) -> Entry {
         let Some(address) = self.generator.wants() else {
             return Entry::Still;
         };
@@ -106,8 +107,8 @@ impl<M: Memory> World<'_, M> {
         }
     }
 
-    fn offer(&mut self, ops: &[Op]) -> Entry {
-        let frame = match check(ops, self.rom) {
+    pub fn offer(&mut self, ops: &[Op]) -> Entry {
+        let frame = match check(ops, &self.rom) {
             Err(fault) => return Entry::Refused(fault),
             Ok(frame) => frame,
         };
@@ -118,7 +119,42 @@ impl<M: Memory> World<'_, M> {
         }
     }
 
+    pub fn redraw(&mut self) -> Entry {
+        match self.driver.redraw() {
+            None => Entry::NothingPublished,
+            Some(true) => Entry::Asked,
+            Some(false) => Entry::Busy,
+        }
+    }
+
+    pub fn strobe(&mut self) -> Entry {
+        if !self.strobed {
+            return Entry::NoStrobe;
+        }
+        self.generator.start();
+        Entry::Started
+    }
+
+    pub fn reset_generator(&mut self) -> Entry {
+        self.generator.reset();
+        Entry::Cleared
+    }
+
+    pub fn reset_processor(&mut self) -> Entry {
+        self.driver = Driver::new();
+        Entry::Cleared
+    }
+
+    pub fn reset_all(&mut self, image: &[u8; BYTES]) -> Entry {
+        self.generator.reset();
+        self.driver = Driver::new();
+        self.strobed = false;
+        self.ram.load(image);
+        Entry::Cleared
+    }
+
     /// `rest` has the operations of this offer, if it is one, and of all later ones.
+    #[allow(dead_code)]
     fn apply(&mut self, event: &Event, rest: &mut &[Op], images: &[Box<[u8; BYTES]>]) -> Entry {
         match event {
             Event::Offer(count) => {
@@ -126,40 +162,21 @@ impl<M: Memory> World<'_, M> {
                 *rest = later;
                 self.offer(ops)
             }
-            Event::Redraw => match self.driver.redraw() {
-                None => Entry::NothingPublished,
-                Some(true) => Entry::Asked,
-                Some(false) => Entry::Busy,
-            },
+            Event::Redraw => self.redraw(),
             Event::Tick => self.tick(),
-            Event::Strobe if self.strobed => {
-                self.generator.start();
-                Entry::Started
-            }
-            Event::Strobe => Entry::NoStrobe,
+            Event::Strobe => self.strobe(),
             Event::Fetch => self.fetch(),
-            Event::ResetGen => {
-                self.generator.reset();
-                Entry::Cleared
-            }
-            Event::ResetCpu => {
-                self.driver = Driver::new();
-                Entry::Cleared
-            }
-            Event::ResetAll(number) => {
-                self.generator.reset();
-                self.driver = Driver::new();
-                self.strobed = false;
-                self.ram.load(&images[*number as usize]);
-                Entry::Cleared
-            }
+            Event::ResetGen => self.reset_generator(),
+            Event::ResetCpu => self.reset_processor(),
+            Event::ResetAll(number) => self.reset_all(&images[*number as usize]),
         }
     }
 }
 
 /// The entries of all events.
+#[allow(dead_code)]
 pub fn run<M: Memory>(rom: &Rom, image: &[u8; BYTES], trace: &Trace) -> Vec<Entry> {
-    let mut world: World<M> = World::new(rom, image);
+    let mut world: World<M> = World::new(rom.clone(), image);
     let mut rest = trace.ops.as_slice();
     let mut entries = Vec::with_capacity(trace.events.len());
     for event in &trace.events {

@@ -1,0 +1,139 @@
+/* How an emulator uses a driver alone and a generator alone: the RAM and the ROM are arrays of its own, the driver's writes
+ * go into the RAM, and the generator is fed from both. Prints each picture as `dvg play` does, with the step that
+ * finished it.
+ *
+ *   ./lib && cc -O2 -I include examples/embed/emulator.c build/libdvg.a -o emulator && ./emulator
+ */
+#include "dvg.h"
+
+#include <inttypes.h>
+#include <stdio.h>
+
+/* The machine: a driver and a generator, which share a RAM, and a ROM beside it. */
+struct machine {
+    uint8_t ram[DVG_RAM_BYTES];
+    uint8_t rom[DVG_ROM_BYTES];
+    dvg *driver;
+    dvg *generator;
+};
+
+/* Word 800, the ROM's first, and what stands there: a subroutine of three short vectors and a return. */
+#define SHAPE 0x800
+static const uint16_t shape_words[] = {0xF9F3, 0xFDF8, 0xF8F7, 0xD000};
+
+/* Whether the generator is halted. */
+static bool is_halted(struct machine *machine)
+{
+    return dvg_wants(machine->generator).kind == DVG_STILL;
+}
+
+/* The driver does one action. */
+static dvg_answer tick(struct machine *machine)
+{
+    dvg_answer did = dvg_driver_tick(machine->driver, is_halted(machine), machine->ram[1]);
+    if (did.kind == DVG_WROTE) {
+        /* The address is below 2,048, whatever happens. */
+        machine->ram[did.address] = (uint8_t)did.value;
+    } else if (did.kind == DVG_SENT) {
+        dvg_strobe(machine->generator);
+    }
+    return did;
+}
+
+/* The generator fetches one byte: of words 000 to 3FF from the RAM, of 800 to BFF from the ROM, and elsewhere nothing answers. */
+static dvg_answer fetch(struct machine *machine)
+{
+    dvg_answer wanted = dvg_wants(machine->generator);
+    size_t at = 2 * (size_t)wanted.address + wanted.value;
+    if (wanted.kind != DVG_WANTED) {
+        return wanted;
+    }
+    if (wanted.address < 0x400) {
+        return dvg_generator_fetch(machine->generator, machine->ram[at]);
+    }
+    if (wanted.address >= 0x800 && wanted.address < 0xC00) {
+        return dvg_generator_fetch(machine->generator, machine->rom[at - 0x1000]);
+    }
+    return dvg_generator_hole(machine->generator);
+}
+
+/* Offers a frame of the shape at a place. Whether the driver took it. */
+static bool offer_shape(dvg *driver, int x, int y)
+{
+    dvg_clear(driver);
+    dvg_labs(driver, x, y, 3);
+    dvg_call_rom(driver, SHAPE);
+    dvg_vctr(driver, 4, 100, -50, 12);
+    dvg_halt(driver);
+    return dvg_offer(driver).kind == DVG_OFFERED;
+}
+
+/* Prints the picture that this step finished. */
+static void print_picture(dvg *generator, int step)
+{
+    uint64_t count = dvg_strokes(generator);
+    printf("picture %d %" PRIu64 "\n", step, count);
+    for (uint64_t i = 0; i < count; i++) {
+        dvg_stroke stroke = dvg_stroke_at(generator, i);
+        printf("%" PRIu32 " %" PRIu32 " %" PRIu32 " %" PRIu32 " %d\n", stroke.x0, stroke.y0, stroke.x1, stroke.y1,
+               stroke.z);
+    }
+}
+
+/* Lets the machine run until so many pictures are drawn: a step is an action of the driver and two fetches. */
+static bool run(struct machine *machine, int pictures)
+{
+    int frames = 0;
+    for (int step = 0; step < 10000; step++) {
+        if (tick(machine).kind == DVG_IDLE && offer_shape(machine->driver, 100 * frames, 400)) {
+            frames++;
+        }
+        for (int i = 0; i < 2; i++) {
+            dvg_answer fetched = fetch(machine);
+            if (fetched.kind == DVG_BROKE || fetched.kind == DVG_NO_MEMORY) {
+                return false;
+            }
+            if (fetched.kind == DVG_DONE) {
+                print_picture(machine->generator, step);
+                if (--pictures == 0) {
+                    return true;
+                }
+            }
+        }
+    }
+    return false;
+}
+
+/* Puts the words of the shape into the ROM, low bytes first. */
+static void fill_rom(uint8_t rom[DVG_ROM_BYTES])
+{
+    for (size_t i = 0; i < sizeof shape_words / sizeof shape_words[0]; i++) {
+        rom[2 * i] = (uint8_t)(shape_words[i] & 0xFF);
+        rom[2 * i + 1] = (uint8_t)(shape_words[i] >> 8);
+    }
+}
+
+/* Opens both ends, and runs. */
+static bool start(struct machine *machine)
+{
+    return dvg_open_driver(machine->driver, machine->rom, sizeof machine->rom).kind == DVG_OPENED
+           && dvg_open_generator(machine->generator).kind == DVG_OPENED && run(machine, 3);
+}
+
+int main(void)
+{
+    static struct machine machine;
+    bool drawn;
+    fill_rom(machine.rom);
+    if (dvg_new(&machine.driver) != 0) {
+        return 2;
+    }
+    if (dvg_new(&machine.generator) != 0) {
+        dvg_free(machine.driver);
+        return 2;
+    }
+    drawn = start(&machine);
+    dvg_free(machine.generator);
+    dvg_free(machine.driver);
+    return drawn ? 0 : 1;
+}

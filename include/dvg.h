@@ -1,0 +1,470 @@
+/* Gerbilargent's device, for C99 and C++: both ends of the vector RAM of Atari's Digital Vector Generator, and each end
+ * alone. `./lib` builds the archive build/libdvg.a, which is all that is linked beside this header.
+ *
+ * A device is asked by a number of 64 bits, and answers one (dvg_turn). Each number is a request, in each order, and each
+ * has an answer: no request can do harm. The functions below it only put requests together and take answers apart.
+ *
+ * What opens in a device is one of three:
+ *
+ *   a world             both ends, over a RAM and a ROM that it holds
+ *   a driver alone      it is handed the HALT flag and byte 001 of a RAM, and answers what is to be written there
+ *   a generator alone   it says which byte it wants, is handed that byte, and answers the strokes of a whole run
+ *
+ * What the caller owes. Nothing checks these four lines, and nothing else is trusted of a caller:
+ *
+ *   1. A dvg * is one that dvg_new wrote and dvg_free didn't get, and nothing but these functions touches what it points to; before dvg_new, *out holds some pointer, as NULL.
+ *   2. A device stays on its thread, is given to one call at a time, and to none in a signal handler or in the forked child of a process with threads.
+ *   3. malloc, realloc and free are those of one allocator, which aligns a block to each power of two up to 16 that divides its size; or the caller has the three functions of dvg_heap.h.
+ *   4. A call finds DVG_STACK_KB KB of room on the stack.
+ */
+#ifndef DVG_H
+#define DVG_H
+
+#include <stdbool.h>
+#include <stddef.h>
+#include <stdint.h>
+
+#ifdef __cplusplus
+extern "C" {
+#endif
+
+/* The room on the stack that a call needs at most, in KB of 1,024 bytes. */
+#define DVG_STACK_KB 256
+
+/* The bytes of a RAM, of the smaller ROM and of the larger one. */
+#define DVG_RAM_BYTES 2048
+#define DVG_ROM_BYTES 2048
+#define DVG_LARGE_ROM_BYTES 4096
+
+/* The most bytes that can be staged: those of a RAM, and of the larger ROM. */
+#define DVG_MOST_STAGED 6144
+
+/* The most operations of a draft. */
+#define DVG_MOST_OPERATIONS 511
+
+/* A device. Only pointers to it are of use. */
+typedef struct dvg dvg;
+
+/* --- What is linked --- */
+
+/* Makes a device in which nothing is open, and writes it to *out, which holds a pointer before, as NULL. 0: it did. 2: there was no
+ * memory, and *out is as it was. */
+uint32_t dvg_new(dvg **out);
+
+/* One request, and its answer. */
+uint64_t dvg_turn(dvg *device, uint64_t request);
+
+/* Frees a device, with all that it has. */
+void dvg_free(dvg *device);
+
+/* --- Requests and answers --- */
+
+/* The lowest byte of a request says which it is. What it brings stands above: a flag in bit 8, a byte in bits 16 to 23, a
+ * count in bits 24 to 39, the number of a stroke from bit 8 on; and the fields of DVG_REQUEST_PUSH, as dvg_push has them. */
+enum dvg_request {
+    DVG_REQUEST_OFFER = 0,
+    DVG_REQUEST_REDRAW = 1,
+    DVG_REQUEST_TICK = 2,
+    DVG_REQUEST_STROBE = 3,
+    DVG_REQUEST_FETCH = 4,
+    DVG_REQUEST_RESET_GENERATOR = 5,
+    DVG_REQUEST_RESET_PROCESSOR = 6,
+    DVG_REQUEST_RESET_ALL = 7,
+    DVG_REQUEST_PUSH = 8,
+    DVG_REQUEST_CLEAR = 9,
+    DVG_REQUEST_STAGE = 10,
+    DVG_REQUEST_UNSTAGE = 11,
+    DVG_REQUEST_OPEN_WORLD = 12,
+    DVG_REQUEST_OPEN_DRIVER = 13,
+    DVG_REQUEST_OPEN_GENERATOR = 14,
+    DVG_REQUEST_SHUT = 15,
+    DVG_REQUEST_WANTS = 16,
+    DVG_REQUEST_STROKES = 17,
+    DVG_REQUEST_STROKE_FROM = 18,
+    DVG_REQUEST_STROKE_TO = 19,
+    DVG_REQUEST_STROKE_INTENSITY = 20
+};
+
+/* The kind of an answer, with what its address and its value are; both are 0 where nothing is said of them. A word
+ * address is 000 to FFF (hexadecimal), and a byte address 0 to 2,047. After a kind marked = nothing has changed. */
+typedef enum dvg_kind {
+    DVG_OFFERED = 0,            /*   the draft was checked, and the driver took its frame */
+    DVG_REFUSED = 1,            /* = the check refused the draft: dvg_fault_of, dvg_in_rom; address: where */
+    DVG_BUSY = 2,               /* = the driver isn't idle */
+    DVG_ASKED = 3,              /*   the driver took the redraw */
+    DVG_NOTHING_PUBLISHED = 4,  /* = the driver has published no frame since its reset */
+    DVG_PEEK = 5,               /*   the driver looked at byte 001 */
+    DVG_WROTE = 6,              /*   the driver wrote the byte `value` at the byte address `address` */
+    DVG_READ = 7,               /*   the driver read the HALT flag; value: 1 where the generator is halted, else 0 */
+    DVG_SENT = 8,               /*   the driver sent a start strobe */
+    DVG_IDLE = 9,               /*   the driver did nothing */
+    DVG_STARTED = 10,           /*   a run began at word zero */
+    DVG_NO_STROBE = 11,         /* = the strobe had no effect, as the driver has sent none */
+    DVG_LOW = 12,               /*   the low byte `value` of the word at the word address `address` was fetched */
+    DVG_FETCHED = 13,           /*   the word `value` at the word address `address` was fetched, and the run goes on */
+    DVG_DONE = 14,              /*   the same, and the word is a HALT: the run's strokes can be asked for */
+    DVG_BROKE = 15,             /*   the fetch at the word address `address` broke the run: dvg_break_of */
+    DVG_STILL = 16,             /* = no run is open */
+    DVG_CLEARED = 17,           /*   it was done */
+    DVG_PUSHED = 18,            /*   value: the operation's number in the draft, from 0 */
+    DVG_NO_OPERATION = 19,      /* = a field is out of its range */
+    DVG_FULL = 20,              /* = the draft has 511 operations, or more than 6,144 bytes would be staged */
+    DVG_STAGED = 21,            /*   value: how many bytes are staged */
+    DVG_OPENED = 22,            /*   it is open, in place of what was */
+    DVG_WRONG_SIZE = 23,        /* = other than as many bytes are staged as it takes */
+    DVG_CLOSED = 24,            /*   nothing is open */
+    DVG_WANTED = 25,            /* = a byte of the word at the word address `address` is wanted; value: 1 the high one, 0 the low one */
+    DVG_UNKNOWN = 254,          /* = there is no such request, or none of what is open */
+    DVG_NO_MEMORY = 255         /* = there was no memory for it */
+} dvg_kind;
+
+/* An answer, but for those that are a number, a place or an intensity. */
+typedef struct dvg_answer {
+    dvg_kind kind;
+    uint16_t address;
+    uint16_t value;
+} dvg_answer;
+
+/* Why the check refuses a draft: the numbers of `dvg check`. The address of the answer is the number of an operation where
+ * the fault has a place there, or a word address where dvg_in_rom says so. */
+typedef enum dvg_fault {
+    DVG_FAULT_NONE = 0,         /* the answer is no refusal */
+    DVG_FAULT_EMPTY = 1,        /* no operation */
+    DVG_FAULT_NO_LABS = 2,      /* the first operation is no LABS */
+    DVG_FAULT_TOO_LONG = 3,     /* more than 511 words */
+    DVG_FAULT_TARGET = 4,       /* a call or a jump to no operation; at an operation */
+    DVG_FAULT_RUNS_OFF = 5,     /* the last operation leads on; at an operation */
+    DVG_FAULT_OUT_OF_ROM = 6,   /* a way out of the ROM; at an operation or a ROM word */
+    DVG_FAULT_TOO_DEEP = 7,     /* a fifth open call; at an operation or a ROM word */
+    DVG_FAULT_NO_CALLER = 8,    /* a return without a call; at an operation or a ROM word */
+    DVG_FAULT_LOOPS = 9         /* steps at one depth lead back to a place */
+} dvg_fault;
+
+/* Why a run broke. No world shows one. */
+typedef enum dvg_break {
+    DVG_BREAK_NONE = 0,         /* the answer is no DVG_BROKE */
+    DVG_BREAK_STACK_OVER = 1,   /* a fifth call */
+    DVG_BREAK_STACK_UNDER = 2,  /* a return without a call */
+    DVG_BREAK_HOLE = 3          /* no memory answers */
+} dvg_break;
+
+/* A line that was drawn: from x0, y0 to x1, y1, in 1/512 of a screen unit, 0 to 2,097,151 each, with intensity z, 1 to 15. */
+typedef struct dvg_stroke {
+    uint32_t x0;
+    uint32_t y0;
+    uint32_t x1;
+    uint32_t y1;
+    uint8_t z;
+} dvg_stroke;
+
+/* The answer that a number is. */
+static inline dvg_answer dvg_answer_of(uint64_t number)
+{
+    dvg_answer answer;
+    answer.kind = (dvg_kind)(number & 0xFF);
+    answer.address = (uint16_t)(number >> 8 & 0xFFFF);
+    answer.value = (uint16_t)(number >> 24 & 0xFFFF);
+    return answer;
+}
+
+/* One request, with its answer taken apart. Of requests for strokes the answer is no such thing. */
+static inline dvg_answer dvg_ask(dvg *device, uint64_t request)
+{
+    return dvg_answer_of(dvg_turn(device, request));
+}
+
+/* The fault that a draft was refused for. */
+static inline dvg_fault dvg_fault_of(dvg_answer answer)
+{
+    return answer.kind == DVG_REFUSED ? (dvg_fault)(answer.value & 0xF) : DVG_FAULT_NONE;
+}
+
+/* Whether the place of that fault is a word of the ROM. */
+static inline bool dvg_in_rom(dvg_answer answer)
+{
+    return answer.kind == DVG_REFUSED && (answer.value & 0x100) != 0;
+}
+
+/* Why a run broke. */
+static inline dvg_break dvg_break_of(dvg_answer answer)
+{
+    return answer.kind == DVG_BROKE ? (dvg_break)(answer.value & 0x3) : DVG_BREAK_NONE;
+}
+
+/* --- Staged bytes --- */
+
+/* Stages a byte so often, behind the bytes that are staged. DVG_STAGED; DVG_FULL; DVG_NO_MEMORY. */
+static inline dvg_answer dvg_stage_byte(dvg *device, uint8_t byte, uint16_t count)
+{
+    return dvg_ask(device, DVG_REQUEST_STAGE | (uint64_t)byte << 16 | (uint64_t)count << 24);
+}
+
+/* Stages bytes, by one request for each run of equal ones. `bytes` may be null where there are none. DVG_STAGED; DVG_FULL or
+ * DVG_NO_MEMORY, and then some of the first bytes may be staged. */
+static inline dvg_answer dvg_stage_bytes(dvg *device, const uint8_t *bytes, size_t count)
+{
+    dvg_answer answer = dvg_stage_byte(device, 0, 0);
+    size_t first = 0;
+    while (first < count && answer.kind == DVG_STAGED) {
+        size_t behind = first + 1;
+        while (behind < count && behind - first < 0xFFFF && bytes[behind] == bytes[first]) {
+            behind++;
+        }
+        answer = dvg_stage_byte(device, bytes[first], (uint16_t)(behind - first));
+        first = behind;
+    }
+    return answer;
+}
+
+/* Takes the staged bytes away, with their memory. DVG_CLEARED. */
+static inline dvg_answer dvg_unstage(dvg *device)
+{
+    return dvg_ask(device, DVG_REQUEST_UNSTAGE);
+}
+
+/* Stages the 2,048 bytes of a RAM, or as many zeros where `ram` is null, in place of what is staged. */
+static inline dvg_answer dvg_stage_ram(dvg *device, const uint8_t *ram)
+{
+    dvg_unstage(device);
+    return ram == NULL ? dvg_stage_byte(device, 0, DVG_RAM_BYTES) : dvg_stage_bytes(device, ram, DVG_RAM_BYTES);
+}
+
+/* Asks for this, for which bytes were staged with this answer, and takes them away: more bytes than can be staged are the wrong
+ * size for each request. */
+static inline dvg_answer dvg_ask_staged(dvg *device, dvg_answer staged, uint64_t request)
+{
+    if (staged.kind == DVG_STAGED) {
+        staged = dvg_ask(device, request);
+    } else if (staged.kind == DVG_FULL) {
+        staged.kind = DVG_WRONG_SIZE;
+    }
+    dvg_unstage(device);
+    return staged;
+}
+
+/* --- Opening and shutting --- */
+
+/* Each opens something in place of what is open, keeps the draft, forgets the strokes, and leaves no byte staged. Where the
+ * answer isn't DVG_OPENED, what was open is as it was. */
+
+/* Opens a world, over a RAM that holds the 2,048 bytes at `ram`, or zeros where that is null, and a ROM of the 2,048 or 4,096
+ * bytes at `rom`. Nothing is copied but here: the caller keeps both. `rom` may be null where the length is 0.
+ * DVG_OPENED; DVG_WRONG_SIZE: that is no length of a ROM; DVG_NO_MEMORY. */
+static inline dvg_answer dvg_open_world(dvg *device, const uint8_t *ram, const uint8_t *rom, size_t rom_length)
+{
+    dvg_answer staged = dvg_stage_ram(device, ram);
+    if (staged.kind == DVG_STAGED) {
+        staged = dvg_stage_bytes(device, rom, rom_length);
+    }
+    return dvg_ask_staged(device, staged, DVG_REQUEST_OPEN_WORLD);
+}
+
+/* Opens a driver alone, just reset. Its drafts are checked over a ROM of the 2,048 or 4,096 bytes at `rom`. Answers as
+ * dvg_open_world. */
+static inline dvg_answer dvg_open_driver(dvg *device, const uint8_t *rom, size_t rom_length)
+{
+    dvg_unstage(device);
+    return dvg_ask_staged(device, dvg_stage_bytes(device, rom, rom_length), DVG_REQUEST_OPEN_DRIVER);
+}
+
+/* Opens a generator alone, halted, with the beam at 0, 0 and scale 0. DVG_OPENED. */
+static inline dvg_answer dvg_open_generator(dvg *device)
+{
+    return dvg_ask(device, DVG_REQUEST_OPEN_GENERATOR);
+}
+
+/* Shuts what is open, and gives its memory back, with the draft, the staged bytes and the strokes: the device is as dvg_new
+ * made it. DVG_CLOSED. */
+static inline dvg_answer dvg_shut(dvg *device)
+{
+    return dvg_ask(device, DVG_REQUEST_SHUT);
+}
+
+/* --- Drafts --- */
+
+/* A device has one draft, whatever is open, and an offer hands it to the driver. Each of these adds one operation to it:
+ * DVG_PUSHED with its number; DVG_NO_OPERATION where a field is out of its range, whatever int it is; DVG_FULL. */
+
+/* An operation by its number and fields. Fields that don't fit into their bits are those of no operation. */
+static inline dvg_answer dvg_push(dvg *device, bool fits, uint8_t kind, int scale, int z, int x, int y)
+{
+    uint64_t known = fits && scale >= 0 && scale <= 0xFF && z >= 0 && z <= 0xFF ? kind : 0xFF;
+    return dvg_ask(device, DVG_REQUEST_PUSH | known << 8 | (uint64_t)(scale & 0xFF) << 16 | (uint64_t)(z & 0xFF) << 24
+                               | (uint64_t)(x & 0xFFFF) << 32 | (uint64_t)(y & 0xFFFF) << 48);
+}
+
+/* Whether a number fits into 16 bits, with a sign or without one. */
+static inline bool dvg_fits_signed(int number)
+{
+    return number >= -0x8000 && number <= 0x7FFF;
+}
+static inline bool dvg_fits(int number)
+{
+    return number >= 0 && number <= 0xFFFF;
+}
+
+/* Takes the operations of the draft away. DVG_CLEARED. */
+static inline dvg_answer dvg_clear(dvg *device)
+{
+    return dvg_ask(device, DVG_REQUEST_CLEAR);
+}
+
+/* A VCTR, two words: moves the beam by dx and dy, -1,023 to 1,023, times two to the power of s, in 1/512 of a screen unit, and draws
+ * with intensity z, 1 to 15, or nothing, 0. Here s is the sum of this scale, 0 to 9, and the global one, modulo 16; where it is over
+ * 9, nothing moves. */
+static inline dvg_answer dvg_vctr(dvg *device, int scale, int dx, int dy, int z)
+{
+    return dvg_push(device, dvg_fits_signed(dx) && dvg_fits_signed(dy), 0, scale, z, dx, dy);
+}
+
+/* An SVEC, one word: the same, but dx and dy are -3 to 3 and count 256 times as much, and this scale is 2 to 5. */
+static inline dvg_answer dvg_svec(dvg *device, int scale, int dx, int dy, int z)
+{
+    return dvg_push(device, dvg_fits_signed(dx) && dvg_fits_signed(dy), 1, scale, z, dx, dy);
+}
+
+/* A LABS, two words: puts the beam at x, y, 0 to 4,095 screen units, and sets the global scale, 0 to 15. */
+static inline dvg_answer dvg_labs(dvg *device, int x, int y, int scale)
+{
+    return dvg_push(device, dvg_fits(x) && dvg_fits(y), 2, scale, 0, x, y);
+}
+
+/* A call of, and a jump to, the operation of this number, 0 to 65,535, which may be added later; one word. */
+static inline dvg_answer dvg_call(dvg *device, int operation)
+{
+    return dvg_push(device, dvg_fits(operation), 3, 0, 0, operation, 0);
+}
+static inline dvg_answer dvg_jump(dvg *device, int operation)
+{
+    return dvg_push(device, dvg_fits(operation), 4, 0, 0, operation, 0);
+}
+
+/* A call of, and a jump to, a word of the ROM, by its word address, 000 to FFF (hexadecimal); one word. */
+static inline dvg_answer dvg_call_rom(dvg *device, int address)
+{
+    return dvg_push(device, dvg_fits(address), 5, 0, 0, address, 0);
+}
+static inline dvg_answer dvg_jump_rom(dvg *device, int address)
+{
+    return dvg_push(device, dvg_fits(address), 6, 0, 0, address, 0);
+}
+
+/* A return from the newest call; one word. */
+static inline dvg_answer dvg_return(dvg *device)
+{
+    return dvg_push(device, true, 7, 0, 0, 0, 0);
+}
+
+/* The end of the run; one word. */
+static inline dvg_answer dvg_halt(dvg *device)
+{
+    return dvg_push(device, true, 8, 0, 0, 0, 0);
+}
+
+/* --- Events --- */
+
+/* Each answers DVG_CLOSED where nothing is open, and DVG_UNKNOWN where it is none of what is open. */
+
+/* Of a world or a driver: offers the draft. DVG_OFFERED; DVG_REFUSED; DVG_BUSY. */
+static inline dvg_answer dvg_offer(dvg *device)
+{
+    return dvg_ask(device, DVG_REQUEST_OFFER);
+}
+
+/* Of a world or a driver: asks to have the published frame drawn again. DVG_ASKED; DVG_NOTHING_PUBLISHED; DVG_BUSY. */
+static inline dvg_answer dvg_redraw(dvg *device)
+{
+    return dvg_ask(device, DVG_REQUEST_REDRAW);
+}
+
+/* Of a world: the driver does one action. DVG_PEEK; DVG_WROTE; DVG_READ; DVG_SENT; DVG_IDLE. */
+static inline dvg_answer dvg_tick(dvg *device)
+{
+    return dvg_ask(device, DVG_REQUEST_TICK);
+}
+
+/* Of a driver: the same, where `halted` is the HALT flag, and byte1 byte 001 of the RAM. What DVG_WROTE says is to be written
+ * by the caller, before the next tick and the next fetch, and what DVG_SENT says is the caller's to send. */
+static inline dvg_answer dvg_driver_tick(dvg *device, bool halted, uint8_t byte1)
+{
+    return dvg_ask(device, DVG_REQUEST_TICK | (uint64_t)halted << 8 | (uint64_t)byte1 << 16);
+}
+
+/* Of a world or a generator: a start strobe arrives. DVG_STARTED; of a world also DVG_NO_STROBE. */
+static inline dvg_answer dvg_strobe(dvg *device)
+{
+    return dvg_ask(device, DVG_REQUEST_STROBE);
+}
+
+/* Of a world: the generator fetches a byte, the low byte of a word and then its high byte. DVG_LOW; DVG_FETCHED; DVG_DONE;
+ * DVG_BROKE, which no world shows; DVG_STILL; DVG_NO_MEMORY. */
+static inline dvg_answer dvg_fetch(dvg *device)
+{
+    return dvg_ask(device, DVG_REQUEST_FETCH);
+}
+
+/* Of a generator: which byte it wants. DVG_WANTED; DVG_STILL: it is halted, which is the HALT flag. */
+static inline dvg_answer dvg_wants(dvg *device)
+{
+    return dvg_ask(device, DVG_REQUEST_WANTS);
+}
+
+/* Of a generator: it is handed the byte that it wants. Answers as dvg_fetch. */
+static inline dvg_answer dvg_generator_fetch(dvg *device, uint8_t byte)
+{
+    return dvg_ask(device, DVG_REQUEST_FETCH | (uint64_t)byte << 16);
+}
+
+/* Of a generator: no memory answers at the address that it wants. DVG_BROKE; DVG_STILL. */
+static inline dvg_answer dvg_generator_hole(dvg *device)
+{
+    return dvg_ask(device, DVG_REQUEST_FETCH | 0x100);
+}
+
+/* Of a world or a generator: a reset of the generator alone, which ends its run. DVG_CLEARED. */
+static inline dvg_answer dvg_reset_generator(dvg *device)
+{
+    return dvg_ask(device, DVG_REQUEST_RESET_GENERATOR);
+}
+
+/* Of a world or a driver: a reset of the processor alone, which is one of the driver. DVG_CLEARED. */
+static inline dvg_answer dvg_reset_processor(dvg *device)
+{
+    return dvg_ask(device, DVG_REQUEST_RESET_PROCESSOR);
+}
+
+/* Of a world: a reset of the whole system, after which the RAM holds the 2,048 bytes at `ram`, or zeros where that is null.
+ * It leaves no byte staged. DVG_CLEARED; DVG_NO_MEMORY. */
+static inline dvg_answer dvg_reset_all(dvg *device, const uint8_t *ram)
+{
+    return dvg_ask_staged(device, dvg_stage_ram(device, ram), DVG_REQUEST_RESET_ALL);
+}
+
+/* --- Strokes --- */
+
+/* How many strokes the newest run drew that came to a HALT, since something was opened. */
+static inline uint64_t dvg_strokes(dvg *device)
+{
+    return dvg_turn(device, DVG_REQUEST_STROKES);
+}
+
+/* The stroke of this number, in the order drawn, from 0. Where there is none, all is 0. */
+static inline dvg_stroke dvg_stroke_at(dvg *device, uint64_t number)
+{
+    uint64_t place = number >> 56 == 0 ? number << 8 : UINT64_MAX << 8;
+    uint64_t from = dvg_turn(device, DVG_REQUEST_STROKE_FROM | place);
+    uint64_t to = dvg_turn(device, DVG_REQUEST_STROKE_TO | place);
+    dvg_stroke stroke;
+    stroke.x0 = (uint32_t)(from & 0xFFFFFFFF);
+    stroke.y0 = (uint32_t)(from >> 32);
+    stroke.x1 = (uint32_t)(to & 0xFFFFFFFF);
+    stroke.y1 = (uint32_t)(to >> 32);
+    stroke.z = (uint8_t)(dvg_turn(device, DVG_REQUEST_STROKE_INTENSITY | place) & 0xFF);
+    return stroke;
+}
+
+#ifdef __cplusplus
+}
+#endif
+
+#endif

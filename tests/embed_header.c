@@ -1,0 +1,204 @@
+/* Tests the functions of include/dvg.h alone: which numbers each asks for, and how answers are taken apart. The numbers stand here once
+ * more, by hand: a field in the wrong place compiles, too.
+ *
+ * It is linked with nothing. The last line of what is written is 'N passed, M failed'.
+ */
+
+/* What the header calls dvg_turn is here. */
+#define dvg_turn noted_turn
+#include "dvg.h"
+#include "dvg_heap.h"
+
+#include <inttypes.h>
+#include <limits.h>
+#include <stdio.h>
+#include <string.h>
+
+/* The most requests of a call. */
+#define MOST 16
+
+/* The requests since the last test, in order, and what each is answered. */
+static uint64_t noted[MOST];
+static int count = 0;
+static uint64_t answers[MOST];
+
+uint64_t noted_turn(dvg *device, uint64_t request)
+{
+    (void)device;
+    if (count == MOST) {
+        return DVG_UNKNOWN;
+    }
+    noted[count] = request;
+    return answers[count++];
+}
+
+static int passed = 0;
+static int failed = 0;
+
+static void expect(bool holds, const char *what)
+{
+    if (holds) {
+        passed++;
+    } else {
+        failed++;
+        printf("FAILED: %s\n", what);
+    }
+    count = 0;
+    memset(answers, 0, sizeof answers);
+}
+
+/* Whether a call asked one request, this one. */
+static void expect_one(uint64_t request, const char *what)
+{
+    if (count == 1 && noted[0] != request) {
+        printf("  %016" PRIx64 " is asked, and %016" PRIx64 " is wanted\n", noted[0], request);
+    }
+    expect(count == 1 && noted[0] == request, what);
+}
+
+/* The call is made, and must have asked this one request. */
+#define ASKS(request, call) ((void)(call), expect_one(request, #call))
+
+/* Whether a call asked an operation of no kind. */
+#define REFUSED(call) ((void)(call), expect(count == 1 && (noted[0] & 0xFFFF) == 0xFF08, #call))
+
+static void test_events(dvg *none)
+{
+    ASKS(0, dvg_offer(none));
+    ASKS(1, dvg_redraw(none));
+    ASKS(2, dvg_tick(none));
+    ASKS(0x000102, dvg_driver_tick(none, true, 0));
+    ASKS(0xE20002, dvg_driver_tick(none, false, 0xE2));
+    ASKS(0xFF0102, dvg_driver_tick(none, true, 0xFF));
+    ASKS(3, dvg_strobe(none));
+    ASKS(4, dvg_fetch(none));
+    ASKS(0xB00004, dvg_generator_fetch(none, 0xB0));
+    ASKS(0x000104, dvg_generator_hole(none));
+    ASKS(5, dvg_reset_generator(none));
+    ASKS(6, dvg_reset_processor(none));
+    ASKS(14, dvg_open_generator(none));
+    ASKS(15, dvg_shut(none));
+    ASKS(16, dvg_wants(none));
+}
+
+static void test_operations(dvg *none)
+{
+    ASKS(9, dvg_clear(none));
+    ASKS(0x0064FF9C07090008, dvg_vctr(none, 9, -100, 100, 7));
+    ASKS(0xFC0103FF0F000008, dvg_vctr(none, 0, 1023, -1023, 15));
+    ASKS(0xFFFD000201050108, dvg_svec(none, 5, 2, -3, 1));
+    ASKS(0x0190020000030208, dvg_labs(none, 512, 400, 3));
+    ASKS(0x0FFF0000000F0208, dvg_labs(none, 0, 4095, 15));
+    ASKS(0x0000FFFF00000308, dvg_call(none, 65535));
+    ASKS(0x0000000300000408, dvg_jump(none, 3));
+    ASKS(0x0000080000000508, dvg_call_rom(none, 0x800));
+    ASKS(0x00000BFF00000608, dvg_jump_rom(none, 0xBFF));
+    ASKS(0x0000000000000708, dvg_return(none));
+    ASKS(0x0000000000000808, dvg_halt(none));
+    /* Fields that fit, and are out of range, go through: the device judges them. */
+    ASKS(0x000000000A0A0008 | (uint64_t)1024 << 32, dvg_vctr(none, 10, 1024, 0, 10));
+    REFUSED(dvg_vctr(none, 256 + 9, 0, 0, 7));
+    REFUSED(dvg_vctr(none, -1, 0, 0, 7));
+    REFUSED(dvg_vctr(none, 9, 0x10000, 0, 7));
+    REFUSED(dvg_vctr(none, 9, 0, -0x8001, 7));
+    REFUSED(dvg_vctr(none, 9, 0, 0, 256));
+    REFUSED(dvg_vctr(none, 9, INT_MIN, INT_MAX, 0));
+    REFUSED(dvg_svec(none, 2, 0x8000, 0, 7));
+    REFUSED(dvg_svec(none, 2, 0, 0, -1));
+    REFUSED(dvg_labs(none, -1, 0, 0));
+    REFUSED(dvg_labs(none, 0, 0x10000, 0));
+    REFUSED(dvg_labs(none, 0, 0, 256));
+    REFUSED(dvg_call(none, -1));
+    REFUSED(dvg_jump(none, 65536));
+    REFUSED(dvg_call_rom(none, 0x10800));
+    REFUSED(dvg_jump_rom(none, INT_MIN));
+}
+
+/* Has the next so many requests answered by these kinds. */
+static void answer(int number, const int *kinds)
+{
+    for (int i = 0; i < number; i++) {
+        answers[i] = (uint64_t)kinds[i];
+    }
+}
+
+/* Whether these were the requests of the last call, and this the kind of its answer. */
+static void expect_all(dvg_answer got, dvg_kind kind, int number, const uint64_t *wanted, const char *what)
+{
+    expect(got.kind == kind && count == number && memcmp(noted, wanted, (size_t)number * sizeof *wanted) == 0, what);
+}
+
+static void test_staging(dvg *none)
+{
+    static const uint8_t bytes[] = {7, 7, 7, 0, 9};
+    static const uint8_t ram[DVG_RAM_BYTES] = {0};
+    static const int staged[] = {DVG_STAGED, DVG_STAGED, DVG_STAGED, DVG_STAGED};
+    static const int full[] = {DVG_STAGED, DVG_STAGED, DVG_FULL};
+    static const int opened[] = {DVG_CLEARED, DVG_STAGED, DVG_STAGED, DVG_STAGED, DVG_OPENED, DVG_CLEARED};
+    static const int wrong[] = {DVG_CLEARED, DVG_STAGED, DVG_STAGED, DVG_FULL, DVG_CLEARED};
+    static const int none_left[] = {DVG_CLEARED, DVG_NO_MEMORY, DVG_CLEARED};
+    static const int driver[] = {DVG_CLEARED, DVG_STAGED, DVG_STAGED, DVG_WRONG_SIZE, DVG_CLEARED};
+    static const int reset[] = {DVG_CLEARED, DVG_STAGED, DVG_STAGED, DVG_CLEARED, DVG_CLEARED};
+    static const uint64_t runs[] = {10, 0x307000A, 0x100000A, 0x109000A};
+    static const uint64_t world[] = {11, 0x80000000A, 10, 0x80000000A, 12, 11};
+    static const uint64_t too_long[] = {11, 0x80000000A, 10, 0x80000000A, 11};
+    static const uint64_t refused[] = {11, 0x80000000A, 11};
+    static const uint64_t driver_alone[] = {11, 10, 0x80000000A, 13, 11};
+    static const uint64_t all[] = {11, 10, 0x80000000A, 7, 11};
+    static const uint64_t empty[] = {10};
+    ASKS(11, dvg_unstage(none));
+    ASKS(0xFFFFAB000A, dvg_stage_byte(none, 0xAB, 0xFFFF));
+    answer(1, staged);
+    expect_all(dvg_stage_bytes(none, NULL, 0), DVG_STAGED, 1, empty, "no bytes are staged from a null pointer");
+    answer(4, staged);
+    expect_all(dvg_stage_bytes(none, bytes, 5), DVG_STAGED, 4, runs, "bytes are staged by their runs");
+    answer(3, full);
+    expect_all(dvg_stage_bytes(none, bytes, 5), DVG_FULL, 3, runs, "staging stops where it is refused");
+    answer(6, opened);
+    expect_all(dvg_open_world(none, NULL, ram, 2048), DVG_OPENED, 6, world, "a world is opened by RAM and then ROM");
+    answer(5, wrong);
+    expect_all(dvg_open_world(none, NULL, ram, 2048), DVG_WRONG_SIZE, 5, too_long, "what can't be staged has the wrong size");
+    answer(3, none_left);
+    expect_all(dvg_open_world(none, NULL, ram, 2048), DVG_NO_MEMORY, 3, refused, "refused memory ends an opening");
+    answer(5, driver);
+    expect_all(dvg_open_driver(none, ram, 2048), DVG_WRONG_SIZE, 5, driver_alone, "a driver is opened by its ROM");
+    answer(5, reset);
+    expect_all(dvg_reset_all(none, ram), DVG_CLEARED, 5, all, "a reset of the whole system stages its RAM");
+}
+
+static void test_answers(dvg *none)
+{
+    dvg_answer got = dvg_answer_of(0xB000020E00 + DVG_DONE);
+    dvg_stroke stroke;
+    expect(got.kind == DVG_DONE && got.address == 0x20E && got.value == 0xB000, "an answer is taken apart");
+    got = dvg_answer_of(0x0106080101);
+    expect(got.kind == DVG_REFUSED && dvg_fault_of(got) == DVG_FAULT_OUT_OF_ROM && dvg_in_rom(got) && got.address == 0x801, "a refusal at a ROM word");
+    got = dvg_answer_of(0x0008000301);
+    expect(dvg_fault_of(got) == DVG_FAULT_NO_CALLER && !dvg_in_rom(got) && got.address == 3, "a refusal at an operation");
+    got = dvg_answer_of(0x0003FFF00F);
+    expect(dvg_break_of(got) == DVG_BREAK_HOLE && dvg_fault_of(got) == DVG_FAULT_NONE && got.address == 0xFFF0, "a broken run");
+    expect(dvg_break_of(dvg_answer_of(0x0009000001)) == DVG_BREAK_NONE, "a refusal is no broken run");
+    expect(dvg_answer_of(0xFF).kind == DVG_NO_MEMORY && dvg_answer_of(0xFE).kind == DVG_UNKNOWN, "the last kinds");
+    answers[0] = 0x123456789;
+    expect(dvg_strokes(none) == 0x123456789 && noted[0] == 17, "the number of strokes");
+    answers[0] = 0x0003200000040000;
+    answers[1] = 0x001FFFFF00000001;
+    answers[2] = 15;
+    stroke = dvg_stroke_at(none, 0x102);
+    expect(stroke.x0 == 0x40000 && stroke.y0 == 0x32000 && stroke.x1 == 1 && stroke.y1 == 0x1FFFFF && stroke.z == 15
+               && count == 3 && noted[0] == 0x10212 && noted[1] == 0x10213 && noted[2] == 0x10214,
+           "a stroke");
+    dvg_stroke_at(none, (uint64_t)1 << 56);
+    expect(noted[0] == 0xFFFFFFFFFFFFFF12, "a stroke of a number above 56 bits is one that isn't there");
+}
+
+int main(void)
+{
+    dvg *none = NULL;
+    test_events(none);
+    test_operations(none);
+    test_staging(none);
+    test_answers(none);
+    printf("%d passed, %d failed\n", passed, failed);
+    return failed == 0 ? 0 : 1;
+}

@@ -1,0 +1,362 @@
+/* Asks a device random requests, sensible ones and others, and its plain twin the same ones: each answer must be equal.
+ *
+ *   embed_storm COUNT SEED
+ *
+ * Storm number i, from 0, comes from SEED + i alone. A storm begins with nothing open, with a world, with a driver or with a generator,
+ * by turns. The first line of what is written tells how often each kind of answer came, and the last is 'N passed, M failed'.
+ *
+ * It is linked with the archive of the port and with the twin, bench/plain_port.rs, and compiled with a sanitizer: then what a device
+ * does with memory is watched, too.
+ */
+
+/* Here a dvg is a pair, and what the header calls dvg_turn asks both of it. */
+#define dvg_turn pair_turn
+#include "dvg.h"
+#undef dvg_turn
+
+#include <inttypes.h>
+#include <stdio.h>
+#include <stdlib.h>
+#include <string.h>
+
+/* How many blows a storm has: each is some requests. */
+#define BLOWS 400
+
+struct dvg {
+    void *proved;
+    void *plain;
+};
+
+uint64_t dvg_turn(void *device, uint64_t request);
+uint32_t plain_new(void **out);
+uint64_t plain_turn(void *device, uint64_t request);
+void plain_free(void *device);
+
+/* How often each kind of answer came, and whether the answers of this storm were equal. */
+static unsigned long kinds[256];
+static unsigned long requests = 0;
+static bool equal = true;
+
+/* Asks both of a pair. The answer is that of the first. */
+uint64_t pair_turn(dvg *pair, uint64_t request)
+{
+    uint64_t proved = dvg_turn(pair->proved, request);
+    uint64_t plain = plain_turn(pair->plain, request);
+    uint64_t code = request & 0xFF;
+    requests++;
+    if (code < DVG_REQUEST_STROKES || code > DVG_REQUEST_STROKE_INTENSITY) {
+        kinds[proved & 0xFF]++;
+    }
+    if (proved != plain && equal) {
+        equal = false;
+        printf("FAILED: request %" PRIx64 " is answered %" PRIx64 ", and by the twin %" PRIx64 "\n", request, proved,
+               plain);
+    }
+    return proved;
+}
+
+/* --- Chance --- */
+
+/* A linear congruential generator (Knuth's MMIX constants), of which the high bits are used. */
+static uint64_t chance = 0;
+
+static uint32_t random_word(void)
+{
+    chance = chance * 6364136223846793005u + 1442695040888963407u;
+    return (uint32_t)(chance >> 32);
+}
+
+/* A number below `limit`. */
+static int below(int limit)
+{
+    return (int)(random_word() % (uint32_t)limit);
+}
+
+/* A number from `least` to `most`; seldom one just outside, or any at all. */
+static int about(int least, int most)
+{
+    switch (below(200)) {
+    case 0: return least - 1;
+    case 1: return most + 1;
+    case 2: return (int)(random_word() >> 1) * (below(2) == 0 ? 1 : -1);
+    default: return least + below(most - least + 1);
+    }
+}
+
+static uint8_t random_byte(void)
+{
+    return (uint8_t)below(256);
+}
+
+/* --- What a storm is over --- */
+
+/* A memory of 4,096 words, of which a world or a driver gets the RAM and the ROM, and a generator all. */
+static uint8_t memory[8192];
+
+/* A random instruction's first word, and its second one. Jumps and calls go anywhere; HALT and RTSL are often. */
+static uint32_t random_words(void)
+{
+    uint32_t words = random_word();
+    static const uint16_t tops[] = {0x0, 0x4, 0x9, 0xA, 0xB, 0xC, 0xD, 0xD, 0xE, 0xF, 0xF};
+    return (words & 0x0FFFFFFF) | (uint32_t)tops[below(11)] << 28;
+}
+
+/* Fills the memory with instructions, and seldom with anything. */
+static void fill_memory(void)
+{
+    for (size_t i = 0; i < sizeof memory; i += 4) {
+        uint32_t words = below(16) == 0 ? random_word() : random_words();
+        memory[i] = (uint8_t)(words >> 16 & 0xFF);
+        memory[i + 1] = (uint8_t)(words >> 24);
+        memory[i + 2] = (uint8_t)(words & 0xFF);
+        memory[i + 3] = (uint8_t)(words >> 8 & 0xFF);
+    }
+}
+
+/* Fills the ROM with short vectors and returns, so that calls of it may be drawn. */
+static void fill_rom(void)
+{
+    for (size_t i = 0x800; i < 0x1800; i += 2) {
+        uint16_t word = below(6) == 0 ? 0xD000 : (uint16_t)(0xF000 | below(0x1000));
+        memory[i] = (uint8_t)(word & 0xFF);
+        memory[i + 1] = (uint8_t)(word >> 8);
+    }
+    memory[0x17FF] = 0xD0;
+}
+
+/* --- Requests --- */
+
+/* What was opened last: nothing, a world, a driver or a generator. */
+static int opened = 0;
+
+/* Opens something. */
+static void open_part(dvg *pair, int part)
+{
+    dvg_answer answer;
+    size_t length = below(2) == 0 ? DVG_ROM_BYTES : DVG_LARGE_ROM_BYTES;
+    const uint8_t *rom = memory + 0x1800 - length;
+    if (below(12) == 0) {
+        length = (size_t)below(7000);
+        rom = memory;
+    }
+    switch (part) {
+    case 0: answer = dvg_shut(pair); break;
+    case 1: answer = dvg_open_world(pair, below(2) == 0 ? NULL : memory + below(6144), rom, length); break;
+    case 2: answer = dvg_open_driver(pair, rom, length); break;
+    default: answer = dvg_open_generator(pair); break;
+    }
+    if (answer.kind == DVG_OPENED || answer.kind == DVG_CLOSED) {
+        opened = part;
+    }
+}
+
+/* Adds an operation. There are `count` in all. */
+static void push_random(dvg *pair, int count)
+{
+    switch (below(24)) {
+    case 0: dvg_labs(pair, about(0, 4095), about(0, 4095), about(0, 15)); break;
+    case 1: dvg_call(pair, about(0, count - 1)); break;
+    case 2: dvg_jump(pair, about(0, count - 1)); break;
+    case 3: dvg_call_rom(pair, about(0x800, 0xBFF)); break;
+    case 4: dvg_call_rom(pair, about(0x400, 0xBFF)); break;
+    case 5: dvg_jump_rom(pair, about(0x800, 0xFFF)); break;
+    case 6: dvg_return(pair); break;
+    case 7: dvg_halt(pair); break;
+    case 8:
+    case 9:
+    case 10:
+    case 11:
+    case 12: dvg_vctr(pair, about(0, 9), about(-1023, 1023), about(-1023, 1023), about(0, 15)); break;
+    default: dvg_svec(pair, about(2, 5), about(-3, 3), about(-3, 3), about(0, 15)); break;
+    }
+}
+
+/* Makes a draft, mostly one that may be drawn, and offers it. */
+static void offer_random(dvg *pair)
+{
+    int count = below(40) == 0 ? 480 + below(60) : 2 + below(20);
+    bool wild = below(3) == 0;
+    if (below(20) != 0) {
+        dvg_clear(pair);
+    }
+    if (below(30) != 0) {
+        dvg_labs(pair, below(4096), below(4096), below(16));
+    }
+    for (int i = 1; i < count - 2; i++) {
+        if (wild) {
+            push_random(pair, count);
+        } else if (below(8) == 0) {
+            dvg_call(pair, count - 1);
+        } else {
+            dvg_svec(pair, 2 + below(4), below(7) - 3, below(7) - 3, below(16));
+        }
+    }
+    if (below(30) != 0) {
+        dvg_halt(pair);
+        dvg_return(pair);
+    }
+    dvg_offer(pair);
+}
+
+/* Lets the generator fetch so often: from the memory, and seldom something else. */
+static void fetch_often(dvg *pair, int count)
+{
+    for (; count > 0; count--) {
+        dvg_answer wanted = dvg_wants(pair);
+        if (wanted.kind != DVG_WANTED) {
+            dvg_fetch(pair);
+        } else if (below(500) == 0) {
+            dvg_generator_hole(pair);
+        } else if (below(100) == 0) {
+            dvg_generator_fetch(pair, random_byte());
+        } else {
+            dvg_generator_fetch(pair, memory[2 * wanted.address + wanted.value]);
+        }
+    }
+}
+
+/* Lets the driver tick so often. */
+static void tick_often(dvg *pair, int count)
+{
+    bool halted = below(4) != 0;
+    uint8_t byte1 = below(3) == 0 ? random_byte() : 0xE2;
+    for (; count > 0; count--) {
+        dvg_driver_tick(pair, halted, byte1);
+    }
+}
+
+/* Asks for the strokes, the one behind the last, and some that aren't there. */
+static void ask_strokes(dvg *pair)
+{
+    uint64_t count = dvg_strokes(pair);
+    for (uint64_t i = 0; i <= count && i < 20; i++) {
+        dvg_stroke_at(pair, i);
+    }
+    dvg_stroke_at(pair, count);
+    dvg_stroke_at(pair, (uint64_t)random_word() << 32 | random_word());
+}
+
+/* Stages something, or takes it away. */
+static void stage_random(dvg *pair)
+{
+    switch (below(4)) {
+    case 0: dvg_unstage(pair); break;
+    case 1: dvg_stage_byte(pair, random_byte(), (uint16_t)random_word()); break;
+    case 2: dvg_stage_byte(pair, random_byte(), DVG_RAM_BYTES); break;
+    default: dvg_stage_bytes(pair, memory, (size_t)below(100)); break;
+    }
+    if (below(3) == 0) {
+        dvg_ask(pair, DVG_REQUEST_RESET_ALL + (uint64_t)below(8));
+    }
+}
+
+/* What mostly happens, by what is open. */
+static void blow_as_usual(dvg *pair)
+{
+    int choice = below(6);
+    bool has_driver = opened == 1 || opened == 2;
+    if (choice == 0 || (choice == 1 && opened == 2)) {
+        offer_random(pair);
+    } else if (choice == 1) {
+        dvg_strobe(pair);
+    } else if (has_driver && (choice < 4 || opened == 2)) {
+        tick_often(pair, 1 + below(below(4) == 0 ? 1100 : 60));
+    } else {
+        fetch_often(pair, 1 + below(80));
+    }
+}
+
+/* Some requests. */
+static void blow(dvg *pair)
+{
+    switch (below(64)) {
+    case 0: open_part(pair, below(4)); break;
+    case 1: dvg_reset_all(pair, below(2) == 0 ? NULL : memory); break;
+    case 2: dvg_reset_generator(pair); break;
+    case 3: dvg_reset_processor(pair); break;
+    case 4: stage_random(pair); break;
+    case 5: dvg_offer(pair); break;
+    case 6: push_random(pair, 20); break;
+    case 7:
+    case 8: dvg_redraw(pair); break;
+    case 9:
+    case 10: ask_strokes(pair); break;
+    case 11:
+    case 12: pair_turn(pair, (uint64_t)random_word() << 32 | random_word()); break;
+    case 13: pair_turn(pair, (uint64_t)random_word() << 32 | (random_word() & 0xFFFFFF00) | (uint64_t)below(24)); break;
+    default: blow_as_usual(pair); break;
+    }
+}
+
+/* One storm. Whether the answers were equal. */
+static bool storm(uint64_t seed)
+{
+    dvg pair = {NULL, NULL};
+    chance = seed * 0x9E3779B97F4A7C15u;
+    equal = true;
+    opened = 0;
+    fill_memory();
+    if (below(4) != 0) {
+        fill_rom();
+    }
+    if (dvg_new((dvg **)&pair.proved) != 0 || plain_new(&pair.plain) != 0) {
+        printf("FAILED: no device was made\n");
+        return false;
+    }
+    if (seed % 4 != 0) {
+        open_part(&pair, (int)(seed % 4));
+    }
+    for (int i = 0; i < BLOWS && equal; i++) {
+        blow(&pair);
+    }
+    dvg_free((dvg *)pair.proved);
+    plain_free(pair.plain);
+    if (!equal) {
+        printf("  in the storm of seed %" PRIu64 "\n", seed);
+    }
+    return equal;
+}
+
+/* Whether each kind of answer came that can come. */
+static bool all_kinds_came(void)
+{
+    bool all = true;
+    for (int kind = DVG_OFFERED; kind <= DVG_WANTED; kind++) {
+        if (kinds[kind] == 0) {
+            printf("FAILED: no request was answered %d\n", kind);
+            all = false;
+        }
+    }
+    return all;
+}
+
+int main(int count, char **words)
+{
+    unsigned long passed = 0, failed = 0;
+    if (count != 3) {
+        fprintf(stderr, "usage: embed_storm COUNT SEED\n");
+        return 64;
+    }
+    uint64_t seed = strtoull(words[2], NULL, 10);
+    for (unsigned long storms = strtoul(words[1], NULL, 10); storms > 0; storms--, seed++) {
+        if (storm(seed)) {
+            passed++;
+        } else {
+            failed++;
+        }
+    }
+    printf("%lu requests;", requests);
+    for (int kind = 0; kind < 256; kind++) {
+        if (kinds[kind] != 0) {
+            printf(" %d: %lu", kind, kinds[kind]);
+        }
+    }
+    printf("\n");
+    if (all_kinds_came()) {
+        passed++;
+    } else {
+        failed++;
+    }
+    printf("%lu passed, %lu failed\n", passed, failed);
+    return failed == 0 ? 0 : 1;
+}
