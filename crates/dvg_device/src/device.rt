@@ -79,7 +79,12 @@ impl Device {
     pub fn turn(&mut self, request: u64) -> u64
         ensures turned { Turned self.old request self.new result }
     {
-        self.answer(Request::of(request)).number()
+        // Those that come most often go their way at once, so that what they bring stays in registers.
+        match request % 0x100 {
+            2 => self.ask(Request::of(request)).number(),
+            4 => self.ask(Request::of(request)).number(),
+            _ => self.answer(Request::of(request)).number(),
+        }
     }
 
     /// One request, and its answer.
