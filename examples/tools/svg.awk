@@ -6,24 +6,26 @@
 # along both axes, y upwards; with `-v units=4096` all units are. Positions stay in 1/512 of a unit, as the input has them.
 #
 # A stroke goes the shorter way from its begin to its end. Where that crosses the edge at 4,096 units, it is drawn at both edges.
-# A stroke of length 0 is a dot. Intensities 1 to 15 are opacities of 0.30 to 1.00. Lines are 2 units wide, and dots 4.
+# A stroke of length 0 is a dot. Intensities 1 to 15 are opacities of 0.30 to 1.00. Lines are 2 pixels wide, and dots 4.
 # That there is no such picture, that one is cut off, or a line that is none of these is told on standard error, with status 1.
 
 function refuse(text) {
     print "svg.awk: " text | "cat 1>&2"
-    refused = 1
-    exit 1
+    exit refused = 1
 }
 
 # Where the shorter way to an end leads, which may be beyond the edge.
 function way(from, to) { return to - from > field / 2 ? to - field : from - to > field / 2 ? to + field : to }
 
 function draw(x0, y0, x1, y1, z) {
-    shape = (x0 == x1 && y0 == y1) ? "<circle cx=\"%d\" cy=\"%d\" r=\"512\"" : "<line x1=\"%d\" y1=\"%d\" x2=\"%d\" y2=\"%d\""
+    shape = (x0 == x1 && y0 == y1) ? "<circle cx=\"%d\" cy=\"%d\" r=\"" (side / 1024) "\"" : "<line x1=\"%d\" y1=\"%d\" x2=\"%d\" y2=\"%d\""
     shapes[++most] = sprintf(shape, x0, y0, x1, y1) sprintf(" opacity=\"%d.%02d\"/>", z == 15, (z + 5) * 5 % 100)
 }
 
-BEGIN { field = 4096 * 512 }
+BEGIN {
+    field = 4096 * 512
+    side = (units ? units : 1024) * 512
+}
 
 { sub(/\r$/, "") }
 
@@ -47,13 +49,12 @@ left == 0 && (/^picture [0-9]+ [0-9]+$/ || /^[0-9]+ done [0-9A-F]+ [0-9A-F]+ [0-
 left > 0 || !/^[0-9]+ [a-z]/ { refuse("no line of a picture at line " NR) }
 
 END {
-    if (!refused && left > 0) refuse("a picture is cut off")
-    if (!refused && pictures < (picture ? picture : 1)) refuse("no such picture")
     if (refused) exit 1
-    side = (units ? units : 1024) * 512
+    if (left > 0) refuse("a picture is cut off")
+    if (pictures < (picture ? picture : 1)) refuse("no such picture")
     print "<svg xmlns=\"http://www.w3.org/2000/svg\" width=\"1024\" height=\"1024\" viewBox=\"-256 -256 " side " " side "\">"
     print "<rect x=\"-256\" y=\"-256\" width=\"" side "\" height=\"" side "\"/>"
-    print "<g transform=\"matrix(1 0 0 -1 0 " (side - 512) ")\" fill=\"#fff\" stroke=\"#fff\" stroke-width=\"1024\" stroke-linecap=\"round\">"
+    print "<g transform=\"matrix(1 0 0 -1 0 " (side - 512) ")\" fill=\"#fff\" stroke=\"#fff\" stroke-width=\"" (side / 512) "\" stroke-linecap=\"round\">"
     for (i = 1; i <= most; i++) print shapes[i]
     print "</g>\n</svg>"
 }
