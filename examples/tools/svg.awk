@@ -11,7 +11,8 @@
 
 function refuse(text) {
     print "svg.awk: " text | "cat 1>&2"
-    exit refused = 1
+    refused = 1
+    exit 1
 }
 
 # Where the shorter way to an end leads, which may be beyond the edge.
@@ -22,10 +23,7 @@ function draw(x0, y0, x1, y1, z) {
     shapes[++most] = sprintf(shape, x0, y0, x1, y1) sprintf(" opacity=\"%d.%02d\"/>", z == 15, (z + 5) * 5 % 100)
 }
 
-BEGIN {
-    field = 4096 * 512
-    side = (units ? units : 1024) * 512
-}
+BEGIN { field = 4096 * 512; side = (units ? units : 1024) * 512 }
 
 { sub(/\r$/, "") }
 
