@@ -1,7 +1,8 @@
 -- What every legal log of whole words keeps, and that no byte is written in the half being drawn.
 use Rattle.std.proofs.Common.{◌≡◌, ◌≢◌, ℕ, ◌+◌, ◌*◌, ◌/◌, ◌<◌, List, [], ◌∷◌, length, refl, sym, ◌∙◌, ap, subst, Option, Some, None, Bool, true, false, arith, slice_index, inl, inr}
-use Rattle.std.specs.Prelude.{◌==◌, is_none, option_and_then, option_map, slice_set}
-use Rattle.std.proofs.lemmas.Option.{same_Some}
+use Rattle.std.specs.Prelude.{◌==◌, if◌then◌else◌, is_none, option_and_then, option_map, slice_set}
+use Rattle.std.proofs.lemmas.Bool.{false≢true, true≢false}
+use Rattle.std.proofs.lemmas.Option.{none-some, same_Some}
 use Rattle.std.proofs.lemmas.List.{length-set, get_or-set_same, get_or-set_other}
 use Rattle.std.proofs.lemmas.Bool.Decides.{eqb_tells}
 use Rattle.dvg_mem.specs.declared.half.Half.{Half}
@@ -132,44 +133,72 @@ ask_step image log p k f w =
 
     not_first : (g : Bool) → rests2.0 ≡ g → g ≡ false
     not_first false e = refl
-    not_first true e = absurd (let n = no_flip (life image log) (Resting rests2.0) rests2.1 e in cc)
+    not_first true e = absurd (true≢false (sym f ∙ no_flip (life image log) (Resting rests2.0) rests2.1 e))
 
 none_draws : (b1 : ℕ) (run : Option (List (ℕ × ℕ))) → true ≡ is_none run → DrawsCurrent b1 run
-none_draws b1 None e words half f l = absurd (cc)
-none_draws b1 (Some ws) e words half f l = absurd (cc)
+none_draws b1 None e words half f l = absurd (none-some words f)
+none_draws b1 (Some ws) e words half f l = absurd (true≢false e)
+
+-- a byte past the first word was written
+half_written : (bs : List ℕ) (a b : ℕ) (log : Log) {run : Option (List (ℕ × ℕ))} {items : List Item} {sent : Bool} {flip : Option Log} {p : Place} → 0 < a / 2 → Kept (slice_index bs 0) (slice_index bs 1) run items sent flip p →
+    Kept (slice_index (slice_set bs a b) 0) (slice_index (slice_set bs a b) 1) run items sent (if a == 1 then Some log else flip) p
+half_written bs a b log low k = rw (not_equal a 1 (λ e. omega (arith, e)), byte_other bs a b 0 (λ e. omega (arith, e)), byte_other bs a b 1 (λ e. omega (arith, e))) k
+
+-- byte 000 was written
+zero_written : (bs : List ℕ) (a b : ℕ) (log : Log) {run : Option (List (ℕ × ℕ))} {items items2 : List Item} {sent : Bool} {flip : Option Log} {p p2 : Place} → 0 < length bs → a ≡ 0 → b ≡ 1 → Kept (slice_index bs 0) (slice_index bs 1) run items sent flip p →
+    place_of_life items2 ≡ Some p2 → AtPlace 1 (slice_index bs 1) run flip p2 → Kept (slice_index (slice_set bs a b) 0) (slice_index (slice_set bs a b) 1) run items2 sent (if a == 1 then Some log else flip) p2
+zero_written bs a b log size ea eb k d h =
+    rw (ea, eb, byte_here bs 0 1 size, byte_other bs 0 1 1 (below 0 1 (omega arith))) (record { stands = d; jumps = λ f. (refl, (k.jumps f).1); flipped = k.flipped; started = k.started; here = h })
+
+-- byte 001 was written: a flip
+one_written : (bs : List ℕ) (a b : ℕ) (log : Log) (half : Half) {run : Option (List (ℕ × ℕ))} {items items2 : List Item} {sent : Bool} {flip : Option Log} {p : Place} → 1 < length bs → a ≡ 1 → b ≡ high half → slice_index bs 0 ≡ 1 → Kept (slice_index bs 0) (slice_index bs 1) run items sent flip p →
+    place_of_life items2 ≡ Some (Waiting false) → Kept (slice_index (slice_set bs a b) 0) (slice_index (slice_set bs a b) 1) run items2 sent (if a == 1 then Some log else flip) (Waiting false)
+one_written bs a b log half size ea eb z k d =
+    rw (ea, eb, byte_here bs 1 (high half) size, byte_other bs 1 (high half) 0 (above 1 0 (omega arith))) (record {
+      stands = d;
+      jumps = λ f. (z, ap high (sym (half_high half)));
+      flipped = λ f. (log, refl {a = Some log});
+      started = k.started;
+      here = (log, refl {a = Some log});
+    })
+
+zero_low : 0 < 2
+zero_low = omega arith
+
+one_low : 1 < 2
+one_low = omega arith
+
+long_one : (bs : List ℕ) (n : ℕ) → length bs ≡ 0x800 → n < 2 → n < length bs
+long_one bs n size low = omega arith
+
+below_two : (a n : ℕ) → a ≡ n → n < 2 → a < 2
+below_two a n e low = omega arith
+
+-- neither byte of the first word is in a half
+spared : (half : Half) (a : ℕ) → a < 2 → IsIn (Frame half) (a / 2) → ⊥
+spared half a low inside = let past = past_zero half (a / 2) inside in omega arith
 
 write_step : (image : List ℕ) (log : Log) (ws : List (ℕ × ℕ)) (a b : ℕ) (q : Place) → length (ram image log) ≡ 0x800 → KeptBy image log (Writing ws) → place_of_life (Did (Wrote a b) ∷ life image log) ≡ Some q →
     IsWrite (free_half image log) (byte image log 0) a b q → Goes image log Tick (Acted (Wrote a b))
-write_step image log ws a b q size k d (to_half i vs e t) =
-    let low = past_zero (free_half image log) (a / 2) i in
-    let n0 : a ≢ 0 = λ z. omega (arith, z) in
-    let n1 : a ≢ 1 = λ z. omega (arith, z) in (
-      Writing vs,
-      rw (not_equal a 1 n1, byte_other (ram image log) a b 0 n0, byte_other (ram image log) a b 1 n1) (moved k (Did (Wrote a b) ∷ life image log) (Writing vs) (d ∙ ap Some e) (k.here.0, t)),
-      λ half drawn inside.
-          let run = drawn_leads log half drawn in
-          let current = k.here.0 run.0 half run.1 run.2 in
-          not_both half (a / 2) (subst (λ g. IsIn (Frame (other g)) (a / 2)) (sym current) i) inside,
-    )
+write_step image log ws a b q size k d (to_half i vs e t) = (
+  Writing vs,
+  half_written (ram image log) a b log (past_zero (free_half image log) (a / 2) i) (moved k (Did (Wrote a b) ∷ life image log) (Writing vs) (d ∙ ap Some e) (k.here.0, t)),
+  λ half drawn inside.
+      let run = drawn_leads log half drawn in
+      let current = k.here.0 run.0 half run.1 run.2 in
+      not_both half (a / 2) (subst (λ g. IsIn (Frame (other g)) (a / 2)) (sym current) i) inside,
+)
 write_step image log ws a b q size k d (to_zero ea eb vs e t) =
-    rw (ea, eb) (
-      Writing vs,
-      rw (byte_here (ram image log) 0 1 (omega arith), byte_other (ram image log) 0 1 1 (below 0 1 (omega arith)))
-          (record { stands = rw (ea, eb) at (d ∙ ap Some e); jumps = λ f. (refl, (k.jumps f).1); flipped = k.flipped; started = k.started; here = (k.here.0, t) }),
-      λ half drawn inside. let low = past_zero half (0 / 2) inside in omega arith,
-    )
-write_step image log ws a b q size k d (to_one ea eb e z) =
-    let b1 = high (free_half image log) in
-    rw (ea, eb) (
-      Waiting false,
-      rw (byte_here (ram image log) 1 b1 (omega arith), byte_other (ram image log) 1 b1 0 (above 1 0 (omega arith)))
-          (record { stands = rw (ea, eb) at (d ∙ ap Some e); jumps = λ f. (z, ap high (sym (half_high (free_half image log)))); flipped = λ f. (log, refl {a = Some log}); started = k.started; here = (log, refl {a = Some log}) }),
-      λ half drawn inside. let low = past_zero half (1 / 2) inside in omega arith,
-    )
+    (Writing vs, zero_written (ram image log) a b log (long_one (ram image log) 0 size zero_low) ea eb k (d ∙ ap Some e) (k.here.0, t), λ half drawn inside. spared half a (below_two a 0 ea zero_low) inside)
+write_step image log ws a b q size k d (to_one ea eb e z) = (
+  Waiting false,
+  one_written (ram image log) a b log (free_half image log) (long_one (ram image log) 1 size one_low) ea eb z k (d ∙ ap Some e),
+  λ half drawn inside. spared half a (below_two a 1 ea one_low) inside,
+)
 
 tick_step : (image : List ℕ) (log : Log) (p : Place) (action : Action) (q : Place) → length (ram image log) ≡ 0x800 → KeptBy image log p → next_place p (Did action) ≡ Some q → place_of_life (Did action ∷ life image log) ≡ Some q → Tells action (is_none (open_run log)) → Goes image log Tick (Acted action)
 tick_step image log Start Peek q size k e d r = (Booting, moved k (Did Peek ∷ life image log) Booting (d ∙ sym e) tt, tt)
-tick_step image log Booting (Read true) q size k e d r = (Resting true, moved k (Did (Read true) ∷ life image log) (Resting true) (d ∙ sym e) (none_draws (byte image log 1) (open_run log) r, λ f. absurd (cc)), tt)
+tick_step image log Booting (Read true) q size k e d r = (Resting true, moved k (Did (Read true) ∷ life image log) (Resting true) (d ∙ sym e) (none_draws (byte image log 1) (open_run log) r, λ f. absurd (true≢false f)), tt)
 tick_step image log Booting (Read false) q size k e d r = (Booting, moved k (Did (Read false) ∷ life image log) Booting (d ∙ sym e) tt, tt)
 tick_step image log (Resting first) Idle q size k e d r = (Resting first, moved k (Did Idle ∷ life image log) (Resting first) (d ∙ sym e) k.here, tt)
 tick_step image log (Writing ws) (Wrote a b) q size k e d r = write_step image log ws a b q size k d (is_write (free_half image log) (byte image log 0) ws k.here.1 a b q e)
@@ -177,7 +206,7 @@ tick_step image log (Waiting first) (Read true) q size k e d r = (Sending first,
 tick_step image log (Waiting first) (Read false) q size k e d r = (Waiting first, moved k (Did (Read false) ∷ life image log) (Waiting first) (d ∙ sym e) k.here, tt)
 tick_step image log (Sending first) Sent q size k e d r =
     (Resting first, record { stands = d ∙ sym e; jumps = k.jumps; flipped = λ f. k.here.1; started = λ ws f. refl; here = (k.here.0, λ f. k.here.1) }, tt)
-tick_step image log _ _ q size k e d r = absurd (cc)
+tick_step image log _ _ q size k e d r = absurd (none-some q e)
 
 -- the first word of a run leads to the half that byte 001 names
 first_draws : (b1 : ℕ) (w : ℕ × ℕ) (ws : List (ℕ × ℕ)) → (ws ≡ [] → LeadsTo (w ∷ []) (half_of_high b1)) → DrawsCurrent b1 (Some ws) → DrawsCurrent b1 (Some (w ∷ ws))
@@ -234,7 +263,7 @@ begun_step : {b0 b1 : ℕ} {run : Option (List (ℕ × ℕ))} {items : List Item
 begun_step s k = not_drawing (Some []) (λ words half e l. leads_none half (subst (λ all. LeadsTo all half) (sym (same_Some _ _ e)) l)) (λ ws e. s) k
 
 closed_step : {b0 b1 : ℕ} {run : Option (List (ℕ × ℕ))} {items : List Item} {sent : Bool} {flip : Option Log} {p : Place} → Kept b0 b1 run items sent flip p → Kept b0 b1 None items sent flip p
-closed_step k = not_drawing None (λ words half e l. absurd (cc)) (λ ws e. absurd (cc)) k
+closed_step k = not_drawing None (λ words half e l. none-some words e) (λ ws e. absurd (none-some ws e)) k
 
 step : (R image : List ℕ) (log : Log) (p : Place) (event : Happening) (entry : Shown) → IsLegal R image log → KeptBy image log p → IsInMemory R image log event entry → Fits R image log event entry → Goes image log event entry
 step R image log p (Offer F) (Refused fault) g k m f = (p, k, tt)
@@ -256,11 +285,11 @@ step R image log p Fetch (Done a w s) g k m f = (p, closed_step k, tt)
 step R image log p Fetch (Broke a fault) g k m f = (p, closed_step k, tt)
 step R image log p ResetGen Cleared g k m f = (p, closed_step k, tt)
 step R image log p ResetCpu Cleared g k m f = (Start, record { stands = refl; jumps = k.jumps; flipped = k.flipped; started = k.started; here = tt }, tt)
-step R image log p (ResetAll bytes) Cleared g k m f = (Start, record { stands = refl; jumps = λ (older, e). absurd (cc); flipped = λ e. absurd (cc); started = λ ws e. absurd (cc); here = tt }, tt)
+step R image log p (ResetAll bytes) Cleared g k m f = (Start, record { stands = refl; jumps = λ f. absurd (none-some f.0 f.1); flipped = λ e. absurd (false≢true e); started = λ ws e. absurd (none-some ws e); here = tt }, tt)
 step R image log p _ _ g k m f = absurd f
 
 pub kept : (R image : List ℕ) (log : Log) → IsLegal R image log → Throughout (IsInMemory R image) log → (p : Place) × KeptBy image log p × Throughout SparesDrawn log
-kept R image [] l m = (Start, record { stands = refl; jumps = λ (older, e). absurd (cc); flipped = λ e. absurd (cc); started = λ ws e. absurd (cc); here = tt }, tt)
+kept R image [] l m = (Start, record { stands = refl; jumps = λ f. absurd (none-some f.0 f.1); flipped = λ e. absurd (false≢true e); started = λ ws e. absurd (none-some ws e); here = tt }, tt)
 kept R image ((event ⟼ entry) ∷ log) l m =
     let before = kept R image log l.2 m.1 in
     let s = step R image log before.0 event entry l.2 before.1 m.0 l.0 in

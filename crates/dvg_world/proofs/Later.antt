@@ -1,7 +1,7 @@
 -- What every legal log of whole words shows: no faults, right pictures, no older picture, and an end in time.
-use Rattle.std.proofs.Common.{◌≡◌, ℕ, suc, ◌+◌, ◌*◌, ◌≤◌, List, [], ◌∷◌, length, refl, sym, ◌∙◌, ap, subst, Option, Some, None, arith}
+use Rattle.std.proofs.Common.{◌≡◌, ℕ, suc, ◌+◌, ◌*◌, ◌≤◌, List, [], ◌∷◌, length, refl, sym, ◌∙◌, ap, subst, Option, Some, None, Bool, arith}
 use Rattle.std.specs.Prelude.{option_and_then, option_map}
-use Rattle.std.proofs.lemmas.Option.{same_Some}
+use Rattle.std.proofs.lemmas.Option.{none-some, same_Some}
 use Rattle.dvg_mem.specs.declared.half.Half.{Half}
 use Rattle.dvg_mem.specs.Areas.{base}
 use Rattle.dvg_mem.specs.Memory.{fetched, IsRom}
@@ -18,7 +18,7 @@ use Rattle.dvg_driver.specs.declared.action.Action.{Action}
 use Rattle.dvg_driver.specs.declared.action.Action.TheVariants.{Peek, Wrote, Read, Sent, Idle}
 use Rattle.dvg_driver.specs.Script
 use Rattle.dvg_driver.specs.Script.{Did, IsWhole}
-use Rattle.dvg_driver.specs.Place.{Place, Writing, next_place, place_of_life}
+use Rattle.dvg_driver.specs.Place.{Place, Start, Writing, next_place, place_of_life}
 use Rattle.dvg_world.specs.Events.{Happening, Offer, Redraw, Tick, Strobe, Fetch, ResetGen, ResetCpu, ResetAll, IsEvent}
 use Rattle.dvg_world.specs.Entries.{Shown, Offered, Refused, Busy, Asked, NothingPublished, Acted, Started, NoStrobe, Low, Fetched, Done, Broke, Still, Cleared}
 use Rattle.dvg_world.specs.Log.{◌⟼◌, Log, Throughout, ram, low_byte, meets, history, open_run, free_half, life, published, publication, at_zero}
@@ -49,6 +49,26 @@ record Ready (R image : List ℕ) (log : Log) (ws : List (ℕ × ℕ)) (vs : Lis
 rom_of : (R image : List ℕ) (log : Log) → IsLegal R image log → IsRom R
 rom_of R image [] g = g.0
 rom_of R image ((event ⟼ entry) ∷ log) g = rom_of R image log g.2
+
+-- these actions write nothing
+no_peek : (a b : ℕ) → Peek ≡ Wrote a b → ⊥
+no_peek a b e = cc
+
+no_read : (shown : Bool) (a b : ℕ) → Read shown ≡ Wrote a b → ⊥
+no_read shown a b e = cc
+
+no_sent : (a b : ℕ) → Sent ≡ Wrote a b → ⊥
+no_sent a b e = cc
+
+no_idle : (a b : ℕ) → Idle ≡ Wrote a b → ⊥
+no_idle a b e = cc
+
+-- a driver that starts writes nothing, and a run that begins has fetched nothing
+not_at_start : (ws : List (ℕ × ℕ)) → Some Start ≡ Some (Writing ws) → ⊥
+not_at_start ws e = cc
+
+not_begun : (v : ℕ × ℕ) (vs : List (ℕ × ℕ)) → Some [] ≡ Some (v ∷ vs) → ⊥
+not_begun v vs e = cc
 
 -- a run over the least memory finds a word
 some_word : {F : List OpKind} {R : List ℕ} {mem : ℕ → Option ℕ} {n : ℕ} {vs : List Visit} {held : Option ℕ} → IsDrawn F R mem → Runs mem n vs held → fate vs ≡ Goes → (o : Option ℕ) → mem (wanted vs held) ≡ o → (w : ℕ) × (o ≡ Some w)
@@ -255,11 +275,11 @@ module _ (R image : List ℕ) where
 
   tick_shows : (log : Log) (p : Place) (action : Action) (q : Place) → length (ram image log) ≡ 0x800 → KeptBy image log p → Shows R image log → next_place p (Did action) ≡ Some q → place_of_life (Did action ∷ life image log) ≡ Some q → Shows R image ((Tick ⟼ Acted action) ∷ log)
   tick_shows log (Writing ws) (Wrote a b) q size k s e d = write_shows R image log ws a b q size k s e d (is_write (free_half image log) (byte image log 0) ws k.here.1 a b q e)
-  tick_shows log p Peek q size k s e d = same_line R image log Tick (Acted Peek) s (λ v vs o. o) refl (λ a. refl) (λ n f. tt) (λ v vs f m. tt) (λ ws l. absurd (idle_lays image log Peek (λ a b f. cc) ws l))
-  tick_shows log p (Read h) q size k s e d = same_line R image log Tick (Acted (Read h)) s (λ v vs o. o) refl (λ a. refl) (λ n f. tt) (λ v vs f m. tt) (λ ws l. absurd (idle_lays image log (Read h) (λ a b f. cc) ws l))
-  tick_shows log p Sent q size k s e d = same_line R image log Tick (Acted Sent) s (λ v vs o. o) refl (λ a. refl) (λ n f. tt) (λ v vs f m. tt) (λ ws l. absurd (idle_lays image log Sent (λ a b f. cc) ws l))
-  tick_shows log p Idle q size k s e d = same_line R image log Tick (Acted Idle) s (λ v vs o. o) refl (λ a. refl) (λ n f. tt) (λ v vs f m. tt) (λ ws l. absurd (idle_lays image log Idle (λ a b f. cc) ws l))
-  tick_shows log _ (Wrote a b) q size k s e d = absurd (cc)
+  tick_shows log p Peek q size k s e d = same_line R image log Tick (Acted Peek) s (λ v vs o. o) refl (λ a. refl) (λ n f. tt) (λ v vs f m. tt) (λ ws l. absurd (idle_lays image log Peek no_peek ws l))
+  tick_shows log p (Read h) q size k s e d = same_line R image log Tick (Acted (Read h)) s (λ v vs o. o) refl (λ a. refl) (λ n f. tt) (λ v vs f m. tt) (λ ws l. absurd (idle_lays image log (Read h) (no_read h) ws l))
+  tick_shows log p Sent q size k s e d = same_line R image log Tick (Acted Sent) s (λ v vs o. o) refl (λ a. refl) (λ n f. tt) (λ v vs f m. tt) (λ ws l. absurd (idle_lays image log Sent no_sent ws l))
+  tick_shows log p Idle q size k s e d = same_line R image log Tick (Acted Idle) s (λ v vs o. o) refl (λ a. refl) (λ n f. tt) (λ v vs f m. tt) (λ ws l. absurd (idle_lays image log Idle no_idle ws l))
+  tick_shows log _ (Wrote a b) q size k s e d = absurd (none-some q e)
 
   step : (log : Log) (p : Place) (event : Happening) (entry : Shown) → IsLegal R image log → IsEvent event → KeptBy image log p → Shows R image log → IsInMemory R image log event entry → Fits R image log event entry → Shows R image ((event ⟼ entry) ∷ log) × IsRight log event entry
   step log p (Offer F) (Refused fault) g i k s m f = (same_life R image log (Offer F) (Refused fault) s (λ v vs o. o) refl (λ a. refl) (λ n g. tt) (λ v vs g m. tt) refl refl, (tt, tt, tt, tt))
@@ -275,28 +295,28 @@ module _ (R image : List ℕ) where
       let after = life_place (Did action ∷ life image log) f.0 in
       let before = place_before (Did action) (life image log) after.0 after.1 in
       (tick_shows log p action after.0 (sized R image log g) k s (ap (λ p. next_place p (Did action)) (same_place (life image log) p before.0 k.stands before.1) ∙ before.2) after.1, (tt, tt, tt, tt))
-  step log p Strobe Started g i k s m f = (same_life R image log Strobe Started s (λ v vs o. absurd (cc)) refl (λ a. refl) (λ n g. tt) (λ v vs g m. tt) refl refl, (tt, tt, tt, tt))
+  step log p Strobe Started g i k s m f = (same_life R image log Strobe Started s (λ v vs o. absurd (not_begun v vs o)) refl (λ a. refl) (λ n g. tt) (λ v vs g m. tt) refl refl, (tt, tt, tt, tt))
   step log p Strobe NoStrobe g i k s m f = (same_life R image log Strobe NoStrobe s (λ v vs o. o) refl (λ a. refl) (λ n g. tt) (λ v vs g m. tt) refl refl, (tt, tt, tt, tt))
   step log p Fetch Still g i k s m f = (same_life R image log Fetch Still s (λ v vs o. o) refl (λ a. refl) (λ n g. tt) (λ v vs g m. tt) refl refl, (tt, tt, tt, tt))
   step log p Fetch (Low a b) g i k s m f = (same_life R image log Fetch (Low a b) s (λ v vs o. o) refl (λ a. refl) (λ n g. tt) (λ v vs g m. tt) refl refl, low_right log p a b g k s f.0 f.1)
   step log p Fetch (Fetched a w) g i k s m f = (let t = stepped log p a w More g k s m f.1 in (fetch_shows log a w s t, goes_right log a w f.0 t))
   step log p Fetch (Done a w d) g i k s m f =
       let t = stepped log p a w (Drew d) g k s m f.1 in (
-        same_life R image log Fetch (Done a w d) s (λ v vs o. absurd (cc)) refl (λ a. refl) (λ m b n z. rise log t.fetches n m s t.open_now z b) (λ v vs b m. absurd (cc)) refl refl,
+        same_life R image log Fetch (Done a w d) s (λ v vs o. absurd (none-some (v ∷ vs) o)) refl (λ a. refl) (λ m b n z. rise log t.fetches n m s t.open_now z b) (λ v vs b m. absurd (none-some (v ∷ vs) b)) refl refl,
         done_right log a w d s f.0 t,
       )
   step log p Fetch (Broke a fault) g i k s m f =
       absurd (broke_right log p a fault g k s (subst (λ w. IsFetch (history R image log) a w (Fails fault)) (same_Whole (sym f.1 ∙ m)) f.2))
-  step log p ResetGen Cleared g i k s m f = (same_life R image log ResetGen Cleared s (λ v vs o. absurd (cc)) refl (λ a. refl) (λ n g. tt) (λ v vs g m. tt) refl refl, (tt, tt, tt, tt))
-  step log p ResetCpu Cleared g i k s m f = (same_line R image log ResetCpu Cleared s (λ v vs o. o) refl (λ a. refl) (λ n g. tt) (λ v vs g m. tt) (λ ws l. absurd (cc)), (tt, tt, tt, tt))
+  step log p ResetGen Cleared g i k s m f = (same_life R image log ResetGen Cleared s (λ v vs o. absurd (none-some (v ∷ vs) o)) refl (λ a. refl) (λ n g. tt) (λ v vs g m. tt) refl refl, (tt, tt, tt, tt))
+  step log p ResetCpu Cleared g i k s m f = (same_line R image log ResetCpu Cleared s (λ v vs o. o) refl (λ a. refl) (λ n g. tt) (λ v vs g m. tt) (λ ws l. absurd (not_at_start ws l)), (tt, tt, tt, tt))
   step log p (ResetAll bytes) Cleared g i k s m f = (
-    record { now = λ (older, e). absurd (cc); laying = λ ws l. absurd (cc); running = λ v vs e. absurd (cc); newest = λ n e. absurd (cc); run_newest = λ v vs n e z. absurd (cc); rises = λ v vs n m e z y. absurd (cc) },
+    record { now = λ f. absurd (none-some f.0 f.1); laying = λ ws l. absurd (not_at_start ws l); running = λ v vs e. absurd (none-some (v ∷ vs) e); newest = λ n e. absurd (none-some n e); run_newest = λ v vs n e z. absurd (none-some (v ∷ vs) e); rises = λ v vs n m e z y. absurd (none-some (v ∷ vs) e) },
     (tt, tt, tt, tt),
   )
   step log p _ _ g i k s m f = absurd f
 
   pub shows : (log : Log) → IsLegal R image log → Throughout (IsInMemory R image) log → Shows R image log × Throughout IsRight log
-  shows [] l m = (record { now = λ (older, e). absurd (cc); laying = λ ws e. absurd (cc); running = λ v vs e. absurd (cc); newest = λ n e. absurd (cc); run_newest = λ v vs n e z. absurd (cc); rises = λ v vs n m e z y. absurd (cc) }, tt)
+  shows [] l m = (record { now = λ f. absurd (none-some f.0 f.1); laying = λ ws l. absurd (not_at_start ws l); running = λ v vs e. absurd (none-some (v ∷ vs) e); newest = λ n e. absurd (none-some n e); run_newest = λ v vs n e z. absurd (none-some (v ∷ vs) e); rises = λ v vs n m e z y. absurd (none-some (v ∷ vs) e) }, tt)
   shows ((event ⟼ entry) ∷ log) l m =
       let before = shows log l.2 m.1 in
       let k = kept R image log l.2 m.1 in

@@ -1,7 +1,7 @@
 -- The open run of a log is the run that the generator's history leaves.
 use Rattle.std.proofs.Common.{◌≡◌, ℕ, true, List, [], ◌∷◌, Option, Some, None, refl, sym, ap, ◌∙◌, subst}
 use Rattle.std.specs.Prelude.{is_some, option_map}
-use Rattle.std.proofs.lemmas.Option.{same_Some}
+use Rattle.std.proofs.lemmas.Option.{none-some, same_Some}
 use Rattle.dvg_gen.specs.Run.{Visit, wanted, Goes, fate, strokes, Adds}
 use Rattle.dvg_gen.specs.Told.{Told, Fed, Newest, goes_on, grown, Leaves, new, starts, resets, takes, Reply, More, Drew, Fails, reply, wants}
 use Rattle.dvg_gen.proofs.Standing.{open_goes}
@@ -27,20 +27,20 @@ cut_same (word {w = w} {vs = us} {vs' = vs} {held = k} {held' = held} c a) (word
 
 -- a run with one more fetch had the others
 more_parts : (w : ℕ × ℕ) (run : Option (List (ℕ × ℕ))) (ws : List (ℕ × ℕ)) → option_map (λ fetches. w ∷ fetches) run ≡ Some ws → (us : List (ℕ × ℕ)) × (run ≡ Some us) × (w ∷ us ≡ ws)
-more_parts w None ws e = absurd (cc)
+more_parts w None ws e = absurd (none-some ws e)
 more_parts w (Some us) ws e = (us, refl, same_Some _ _ e)
 
 -- the history's instructions are those of the open run's fetches
 pub linked : (R image : List ℕ) (log : Log) {run : Newest} → Leaves (history R image log) run → (ws : List (ℕ × ℕ)) → open_run log ≡ Some ws → Cut ws run.visits run.held
-linked R image [] l ws o = absurd (cc)
+linked R image [] l ws o = absurd (none-some ws o)
 linked R image ((event ⟼ Started) ∷ log) (starts l) ws o = subst (λ x. Cut x [] None) (same_Some _ _ o) none
-linked R image ((ResetGen ⟼ entry) ∷ log) l ws o = absurd (cc)
-linked R image ((ResetAll bytes ⟼ entry) ∷ log) l ws o = absurd (cc)
+linked R image ((ResetGen ⟼ entry) ∷ log) l ws o = absurd (none-some ws o)
+linked R image ((ResetAll bytes ⟼ entry) ∷ log) l ws o = absurd (none-some ws o)
 linked R image ((event ⟼ Fetched a w) ∷ log) (takes {visits = vs} {held = held} l p x) ws o =
     let q = more_parts (a, w) (open_run log) ws o in
     subst (λ y. Cut y vs held) q.2 (word (linked R image log l q.0 q.1) x)
-linked R image ((event ⟼ Done a w s) ∷ log) l ws o = absurd (cc)
-linked R image ((event ⟼ Broke a fault) ∷ log) l ws o = absurd (cc)
+linked R image ((event ⟼ Done a w s) ∷ log) l ws o = absurd (none-some ws o)
+linked R image ((event ⟼ Broke a fault) ∷ log) l ws o = absurd (none-some ws o)
 linked R image (line ∷ log) l ws o = linked R image log l ws o
 
 some_more : (w : ℕ × ℕ) (run : Option (List (ℕ × ℕ))) → is_some run ≡ is_some (option_map (λ fetches. w ∷ fetches) run)

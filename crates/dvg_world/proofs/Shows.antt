@@ -1,7 +1,7 @@
 -- What the halves hold and what runs show, in every legal log.
 use Rattle.std.proofs.Common.{◌≡◌, ◌≢◌, ℕ, suc, ◌+◌, ◌*◌, ◌/◌, ◌≤◌, ◌<◌, List, [], ◌∷◌, length, drop, slice_get, slice_index, refl, sym, ◌∙◌, ap, subst, Option, Some, Bool, true, false, arith, inl, inr}
 use Rattle.std.specs.Prelude.{◌==◌, if◌then◌else◌, option_and_then, option_map, slice_set}
-use Rattle.std.proofs.lemmas.Option.{same_Some}
+use Rattle.std.proofs.lemmas.Option.{none-some, same_Some}
 use Rattle.std.proofs.lemmas.Bool.Decides.{eqb_tells, leb_tells}
 use Rattle.dvg_mem.specs.declared.half.Half.{Half}
 use Rattle.dvg_mem.specs.declared.half.Half.TheVariants.{H0, H1}
@@ -153,7 +153,7 @@ no_write (Writing vs) (Wrote a b) ws n e = n a b refl
 no_write (Waiting first) (Read true) ws n e = cc
 no_write (Waiting first) (Read false) ws n e = cc
 no_write (Sending first) Sent ws n e = cc
-no_write _ _ ws n e = cc
+no_write _ _ ws n e = none-some (Writing ws) e
 
 -- after such an action no frame is being written
 pub idle_lays : (image : List ℕ) (log : Log) (action : Action) → ((a b : ℕ) → action ≡ Wrote a b → ⊥) → (ws : List (ℕ × ℕ)) → place_of_life (Did action ∷ life image log) ≡ Some (Writing ws) → ⊥
@@ -173,8 +173,8 @@ apart h F R a c n k l e =
 
 -- a publication is older than the log in which it is found
 publication_before : (log : Log) (n : ℕ) → publication log ≡ Some n → n < length log
-publication_before [] n e = absurd (cc)
-publication_before ((ResetAll bytes ⟼ entry) ∷ log) n e = absurd (cc)
+publication_before [] n e = absurd (none-some n e)
+publication_before ((ResetAll bytes ⟼ entry) ∷ log) n e = absurd (none-some n e)
 publication_before ((event ⟼ Acted (Wrote a b)) ∷ log) n e = both (a == 1) e (publication_before log n)
   where
     both : (t : Bool) → option_map length (if t then Some log else before_flip log) ≡ Some n → (publication log ≡ Some n → n < length log) → n < suc (length log)

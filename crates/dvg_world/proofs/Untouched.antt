@@ -1,7 +1,7 @@
 -- The law of undisturbed runs, of the runs of a log.
 use Rattle.std.proofs.Common.{◌≡◌, ℕ, suc, List, [], ◌∷◌, length, Option, Some, None, refl, sym, ap, ◌∙◌, subst}
 use Rattle.std.specs.Prelude.{option_map}
-use Rattle.std.proofs.lemmas.Option.{same_Some}
+use Rattle.std.proofs.lemmas.Option.{none-some, same_Some}
 use Rattle.dvg_mem.specs.Memory.{fetched, IsRom}
 use Rattle.dvg_gen.specs.Run.{wanted, fate, strokes, Runs, begins, fetches}
 use Rattle.dvg_gen.specs.Told.{Newest, Leaves, starts, takes, More, Drew, reply}
@@ -28,17 +28,17 @@ rom_of R image ((event ⟼ entry) ∷ log) legal = rom_of R image log legal.2
 
 -- a run with one more fetch had the others
 before_fetch : (fetch : ℕ × ℕ) (run : Option (List (ℕ × ℕ))) (met : List (ℕ × ℕ)) → option_map (λ older. fetch ∷ older) run ≡ Some met → (older : List (ℕ × ℕ)) × (run ≡ Some older) × (fetch ∷ older ≡ met)
-before_fetch fetch None met e = absurd (cc)
+before_fetch fetch None met e = absurd (none-some met e)
 before_fetch fetch (Some older) met e = (older, refl, same_Some _ _ e)
 
 -- the open run is one over the RAM, to which nothing was written
 runs_over : (R image : List ℕ) (log : Log) {run : Newest} → IsLegal R image log → IsUntouched log → Leaves (history R image log) run → (met : List (ℕ × ℕ)) → open_run log ≡ Some met
     → Runs (fetched (ram image log) R) (length met) run.visits run.held
-runs_over R image [] legal same leaves met is_open = absurd (cc)
+runs_over R image [] legal same leaves met is_open = absurd (none-some met is_open)
 runs_over R image ((event ⟼ Started) ∷ log) legal same (starts leaves) met is_open =
     subst (λ some. Runs (fetched (ram image ((event ⟼ Started) ∷ log)) R) (length some) [] None) (same_Some _ _ is_open) begins
-runs_over R image ((ResetGen ⟼ entry) ∷ log) legal same leaves met is_open = absurd (cc)
-runs_over R image ((ResetAll bytes ⟼ entry) ∷ log) legal same leaves met is_open = absurd (cc)
+runs_over R image ((ResetGen ⟼ entry) ∷ log) legal same leaves met is_open = absurd (none-some met is_open)
+runs_over R image ((ResetAll bytes ⟼ entry) ∷ log) legal same leaves met is_open = absurd (none-some met is_open)
 runs_over R image ((Fetch ⟼ Fetched a word) ∷ log) legal same (takes {run = run} {visits = visits} {held = held} leaves is_running adds) met is_open =
     let older = before_fetch (a, word) (open_run log) met is_open in
     let fetch = legal.0.1 in
@@ -48,8 +48,8 @@ runs_over R image ((Fetch ⟼ Fetched a word) ∷ log) legal same (takes {run = 
     subst (λ some. Runs (fetched (ram image log) R) (length some) visits held) older.2
     (fetches (runs_over R image log legal.2 same leaves older.0 older.1) (open_goes leaves is_running) there adds)
 runs_over R image ((event ⟼ Fetched a word) ∷ log) legal same leaves met is_open = absurd legal.0
-runs_over R image ((event ⟼ Done a word drew) ∷ log) legal same leaves met is_open = absurd (cc)
-runs_over R image ((event ⟼ Broke a fault) ∷ log) legal same leaves met is_open = absurd (cc)
+runs_over R image ((event ⟼ Done a word drew) ∷ log) legal same leaves met is_open = absurd (none-some met is_open)
+runs_over R image ((event ⟼ Broke a fault) ∷ log) legal same leaves met is_open = absurd (none-some met is_open)
 runs_over R image ((event ⟼ Acted (Wrote a byte)) ∷ log) legal same leaves met is_open = absurd same
 runs_over R image (line ∷ log) legal same leaves met is_open = runs_over R image log legal.2 same leaves met is_open
 

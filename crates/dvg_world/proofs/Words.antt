@@ -1,7 +1,7 @@
 -- Words are whole: what a run fetches next stays as it is, so a word is the one that memory has when its high byte is fetched.
 use Rattle.std.proofs.Common.{◌≡◌, ◌≢◌, ℕ, ◌+◌, ◌*◌, ◌%◌, true, false, List, [], ◌∷◌, refl, sym, ◌∙◌, ap, subst, Option, Some, None, arith}
 use Rattle.std.specs.Prelude.{option_map}
-use Rattle.std.proofs.lemmas.Option.{same_Some}
+use Rattle.std.proofs.lemmas.Option.{none-some, same_Some}
 use Rattle.dvg_mem.specs.Memory.{fetched, fetched_byte}
 use Rattle.dvg_gen.specs.Bytes.{Whole}
 use Rattle.dvg_gen.specs.Run.{fate, wanted}
@@ -85,10 +85,10 @@ module _ (R image : List ℕ) where
 
   -- the low byte that waits is the one that memory has
   low_now : (log : Log) → IsLegal R image log → Throughout (IsInMemory R image) log → (a b : ℕ) → waiting log ≡ Some (a, b) → IsWanted (history R image log) a × (fetched_byte (ram image log) R a false ≡ Some b)
-  low_now [] l m a b e = absurd (cc)
-  low_now ((event ⟼ Started) ∷ log) l m a b e = absurd (cc)
-  low_now ((ResetGen ⟼ entry) ∷ log) l m a b e = absurd (cc)
-  low_now ((ResetAll bytes ⟼ entry) ∷ log) l m a b e = absurd (cc)
+  low_now [] l m a b e = absurd (none-some (a, b) e)
+  low_now ((event ⟼ Started) ∷ log) l m a b e = absurd (none-some (a, b) e)
+  low_now ((ResetGen ⟼ entry) ∷ log) l m a b e = absurd (none-some (a, b) e)
+  low_now ((ResetAll bytes ⟼ entry) ∷ log) l m a b e = absurd (none-some (a, b) e)
   low_now ((Fetch ⟼ Low x y) ∷ log) l m a b e =
       let same = same_Some _ _ e in
       let at : x ≡ a = ap (λ low. low.0) same in
@@ -96,9 +96,9 @@ module _ (R image : List ℕ) where
       let met = low_met (ram image log) R (low_byte log) x y l.0.0 in
       (subst (IsWanted (history R image log)) at l.0.1, subst (λ u. fetched_byte (ram image log) R u false ≡ Some b) at (met.1 ∙ ap Some is))
   low_now ((event ⟼ Low x y) ∷ log) l m a b e = absurd l.0
-  low_now ((event ⟼ Fetched x w) ∷ log) l m a b e = absurd (cc)
-  low_now ((event ⟼ Done x w drew) ∷ log) l m a b e = absurd (cc)
-  low_now ((event ⟼ Broke x fault) ∷ log) l m a b e = absurd (cc)
+  low_now ((event ⟼ Fetched x w) ∷ log) l m a b e = absurd (none-some (a, b) e)
+  low_now ((event ⟼ Done x w drew) ∷ log) l m a b e = absurd (none-some (a, b) e)
+  low_now ((event ⟼ Broke x fault) ∷ log) l m a b e = absurd (none-some (a, b) e)
   low_now ((Tick ⟼ Acted action) ∷ log) l m a b e =
       let now = low_now log l.2 m.1 a b e in
       (now.0, (action_keeps log action l m.1 a now.0).0 ∙ now.1)
@@ -106,7 +106,7 @@ module _ (R image : List ℕ) where
   low_now (line ∷ log) l m a b e = low_now log l.2 m.1 a b e
 
   low_of : (low : Option (ℕ × ℕ)) (l : ℕ) → option_map (λ w. w.1) low ≡ Some l → (a : ℕ) × (low ≡ Some (a, l))
-  low_of None l e = absurd (cc)
+  low_of None l e = absurd (none-some l e)
   low_of (Some low) l e = (low.0, ap (λ b. Some (low.0, b)) (same_Some _ _ e))
 
   -- a word that is met is the one that memory has, right after its low byte
