@@ -48,7 +48,7 @@ none_there (suc size) zero = refl
 none_there (suc size) (suc byte) = none_there size byte
 
 get_front : {X : Type 0} (xs ys : List X) (n : ℕ) (x : X) → slice_get xs n ≡ Some x → slice_get (xs ++ ys) n ≡ Some x
-get_front [] ys n x at = absurd (cc)
+get_front [] ys n x at = absurd (none-some x at)
 get_front (y ∷ xs) ys zero x at = at
 get_front (y ∷ xs) ys (suc n) x at = get_front xs ys n x at
 
@@ -161,8 +161,8 @@ nothing_outside : {rom now : RomText} {old new : List Happening} {opened left : 
 nothing_outside e no_offer no_events no_rom (tells h) = no_rom refl h
 nothing_outside e no_offer no_events no_rom (events {more = more} p) = no_events more p
 nothing_outside e no_offer no_events no_rom opens = no_offer refl
-nothing_outside e no_offer no_events no_rom (does op h) = absurd (cc)
-nothing_outside e no_offer no_events no_rom ends = absurd (cc)
+nothing_outside e no_offer no_events no_rom (does op h) = none-some _ (sym e)
+nothing_outside e no_offer no_events no_rom ends = none-some _ (sym e)
 
 pub outside_stops : (old : List Happening) (opened : Option (List OpKind)) (l : List ℕ) (held : RomReading) → opened ≡ None → (l ≡ codes "offer" → ⊥) → ((more : List Happening) → EventParts more (parts l) → ⊥)
     → (old ≡ [] → (rom now : RomText) → HoldsRom rom held → ¬ TellsRom rom l now) → StopsLine Syntax old opened held l
@@ -177,9 +177,9 @@ op_taken (Err x) old F G opened left l held e f h = tt
 
 nothing_inside : {rom now : RomText} {old new : List Happening} {opened left : Option (List OpKind)} {l : List ℕ} (F : List OpKind) → opened ≡ Some F → (l ≡ codes "end" → ⊥) → ((op : OpKind) → IsOpLine op l → ⊥)
     → Takes rom old opened l now new left → ⊥
-nothing_inside F e no_end no_op (tells h) = absurd (cc)
-nothing_inside F e no_end no_op (events p) = absurd (cc)
-nothing_inside F e no_end no_op opens = absurd (cc)
+nothing_inside F e no_end no_op (tells h) = none-some F e
+nothing_inside F e no_end no_op (events p) = none-some F e
+nothing_inside F e no_end no_op opens = none-some F e
 nothing_inside F e no_end no_op (does op h) = no_op op h
 nothing_inside F e no_end no_op ends = no_end refl
 

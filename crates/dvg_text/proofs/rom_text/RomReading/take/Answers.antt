@@ -1,4 +1,5 @@
-use Rattle.std.proofs.Common.{rules, refl}
+use Rattle.std.proofs.Common.{◌∙◌, rules, refl, sym}
+use Rattle.std.proofs.lemmas.Option.{none-some}
 use Rattle.dvg_text.proofs.HeldRom.{map_told, nothing_told, words_told}
 use Rattle.dvg_text.proofs.rom_text.RomReading.take.Goals as goal
 
@@ -8,8 +9,8 @@ returns-in-Some-clause-took c told rom holds = map_told rom c.args.line.now c.ar
 pub returns-in_default-read_rom_line-clause-refused : goal.returns-in_default-read_rom_line-clause-refused
 returns-in_default-read_rom_line-clause-refused c told rom now holds =
     nothing_told rom now c.args.line.now c.args.self.now c.first-first.result holds c.first-first.ensures
-    (λ first m. let answered = c.read_map_line.ensures.only first m in let none = c.in_default.is in absurd cc)
-    (λ given h. let answered = c.read_rom_line.ensures.only given h in let none = c.in_default-read_rom_line.is in absurd cc)
+    (λ first m. none-some first (sym c.in_default.is ∙ c.read_map_line.ensures.only first m))
+    (λ given h. none-some given (sym c.in_default-read_rom_line.is ∙ c.read_rom_line.ensures.only given h))
 
 pub returns-clause-took : goal.returns-clause-took
 returns-clause-took c told rom holds =
