@@ -2,7 +2,7 @@
 ghost use Rattle.std.specs.Prelude.{◌≡◌, IsTrue, Some};
 ghost use Rattle.std.specs.Io.KnownBytes.{Appends};
 ghost use Rattle.dvg_clients.specs.Facts.{peek_line, tick_text};
-ghost use Rattle.dvg_tool.specs.Watching.{device_of, failures_of};
+ghost use Rattle.dvg_io.specs.Watching.{device_of, failures_of};
 
 use dvg_tool::{Watched, play};
 use std::alloc::Global;

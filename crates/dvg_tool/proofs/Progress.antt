@@ -15,8 +15,8 @@ use Rattle.dvg_code.proofs.Unique.{cut_is_rest, spelling_length}
 use Rattle.dvg_code.proofs.Listings.{goes_on, only_rest}
 use Rattle.dvg_text.specs.Lines.{line_of, line_text, list_text}
 use Rattle.dvg_tool.specs.Lists.{line_at}
-use Rattle.dvg_tool.specs.Watching.{BeginsToWrite}
-use Rattle.dvg_tool.proofs.Known.{Appends-nil, Appends-trans}
+use Rattle.dvg_io.specs.Watching.{BeginsToWrite}
+use Rattle.dvg_io.proofs.Known.{Appends-nil, Appends-trans}
 
 -- the words that are left stand at this place of all words
 pub record Stands (words left : List ℕ) (place : ℕ) : Type 0 where

@@ -5,12 +5,13 @@ use Rattle.std.specs.Io.KnownBytes.{Appends}
 use Rattle.dvg_code.specs.Words.{words_of}
 use Rattle.dvg_mem.proofs.Roms.{large_first, small_first}
 use Rattle.dvg_text.specs.Lines.{map_text, rom_line, rom_lines, rom_text}
-use Rattle.dvg_tool.specs.Roms.{HasRomSize, WritesText}
-use Rattle.dvg_tool.specs.declared.fault.ToolFault.{ToolFault}
-use Rattle.dvg_tool.specs.declared.fault.ToolFault.TheVariants.{Writer}
-use Rattle.dvg_tool.specs.Watching.{BeginsToWrite}
-use Rattle.dvg_tool.proofs.Whole.{length-words_of}
-use Rattle.dvg_tool.proofs.Went.{Went, all_of_it, both, nothing, piece_begun, piece_more, second_begun}
+use Rattle.dvg_io.specs.Faults.{WritesText}
+use Rattle.dvg_tool.specs.Roms.{HasRomSize}
+use Rattle.dvg_io.specs.declared.fault.ToolFault.{ToolFault}
+use Rattle.dvg_io.specs.declared.fault.ToolFault.TheVariants.{Writer}
+use Rattle.dvg_io.specs.Watching.{BeginsToWrite}
+use Rattle.dvg_io.proofs.Inputs.{length-words_of}
+use Rattle.dvg_io.proofs.Went.{Went, all_of_it, both, nothing, piece_begun, piece_more, second_begun}
 
 -- the text of either size
 pub small_text : (R : List ℕ) → length R ≡ 2048 → [] ++ rom_lines 0x800 (words_of R) ≡ rom_text R

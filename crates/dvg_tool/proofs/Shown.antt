@@ -19,15 +19,6 @@ pub no_strokes : {A : Type 0} (entry : Entry A) → IsNoPicture entry → [] ≡
 no_strokes (Done address word strokes) none = absurd (none address word strokes refl)
 no_strokes _ none = refl
 
--- the stroke that stands for one behind the end of a list
-abbrev pub no_stroke : Stroke
-no_stroke = record { x0 = 0; y0 = 0; x1 = 0; y1 = 0; z = 0 }
-
--- the next stroke is that at this index
-pub next_stroke : (strokes : List Stroke) (i : ℕ) → i < length strokes
-    → flat_map stroke_line (drop i strokes) ≡ stroke_line (get_or strokes i no_stroke) ++ flat_map stroke_line (drop (i + 1) strokes)
-next_stroke strokes i low = ap (flat_map stroke_line) (drop_more strokes i no_stroke low)
-
 -- the next entry is that at this index
 pub next_entry : {A : Type 0} (all : Bool) (entries : List (Entry A)) (i : ℕ) (entry : Entry A) → i < length entries → entry ≡ get_or entries i entry
     → shown all i (map shown_of (drop i entries)) ≡ shown_entry all i (shown_of entry) ++ shown all (i + 1) (map shown_of (drop (i + 1) entries))

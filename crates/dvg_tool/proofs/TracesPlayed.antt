@@ -5,18 +5,19 @@ use Rattle.dvg_world.specs.Events.{Happening}
 use Rattle.dvg_world.specs.Log.{Log}
 use Rattle.dvg_text.specs.declared.fault.TextFault.{TextFault}
 use Rattle.dvg_text.specs.declared.fault.TextFault.TheVariants.{TooLong, Syntax, Full, Many, Unended}
-use Rattle.dvg_tool.specs.declared.fault.ToolFault.{ToolFault}
-use Rattle.dvg_tool.specs.declared.fault.ToolFault.TheVariants.{Text, Reader, Writer, Memory}
+use Rattle.dvg_io.specs.declared.fault.ToolFault.{ToolFault}
+use Rattle.dvg_io.specs.declared.fault.ToolFault.TheVariants.{Text, Reader, Writer, Memory}
 use Rattle.dvg_text.specs.declared.fault.TraceFault.{TraceFault}
 use Rattle.dvg_text.specs.declared.fault.TraceFault.TheVariants as of_trace
-use Rattle.dvg_tool.specs.Plays.{IsPlayed, Plays, called, log_text}
-use Rattle.dvg_tool.specs.Roms.{StopsWriting, WritesText}
+use Rattle.dvg_io.specs.Faults.{called}
+use Rattle.dvg_tool.specs.Plays.{IsPlayed, Plays, log_text}
+use Rattle.dvg_io.specs.Faults.{StopsWriting, WritesText}
 use Rattle.dvg_text.specs.TraceGives.{StopsReading}
 use Rattle.dvg_text.specs.TraceTexts.{HasTraceFault, TraceMeetsSyntax, TraceMeetsFull, MeetsMany, EndsInside}
-use Rattle.dvg_tool.specs.Watching.{BeginsToWrite}
-use Rattle.dvg_tool.proofs.Known.{Appends-nil}
+use Rattle.dvg_io.specs.Watching.{BeginsToWrite}
+use Rattle.dvg_io.proofs.Known.{Appends-nil}
 use Rattle.dvg_tool.proofs.Played.{PlayedPart}
-use Rattle.dvg_tool.proofs.Whole.{Read, whole}
+use Rattle.dvg_io.proofs.Inputs.{Read, whole}
 
 -- what is answered at a fault, whatever else could have been
 abbrev pub Stops : Bool → ToolFault → (input : List ℕ) → Option (List ℕ) → Option (List ℕ) → Type 0

@@ -1,4 +1,4 @@
--- From what was read to what the reader had.
+-- From what was read to what an engine says of the input.
 use Rattle.std.proofs.Common.{◌≡◌, ℕ, ◌+◌, ◌*◌, [], ◌∷◌, refl, sym, ◌%◌, ◌<◌, ◌≤◌, List, Bool, Option, None, Some, Result, Ok, Err, IfSome, length, take, length-take, take_all, ap, subst, ◌∙◌, arith, ◌⊎◌, inl, inr, ⊎_elim}
 use Rattle.std.proofs.lemmas.Bool.{cases_lt}
 use Rattle.std.specs.Io.KnownBytes.{Appends}
@@ -8,26 +8,15 @@ use Rattle.dvg_text.specs.declared.verdict.Verdict.{Verdict}
 use Rattle.dvg_tool.specs.Checks.{Checks, IsJudgingFault}
 use Rattle.dvg_text.specs.DraftTexts.{HasDraftFault}
 use Rattle.dvg_text.specs.Verdicts.{Judges, verdict_line}
-use Rattle.dvg_tool.specs.Watching.{BeginsToWrite}
+use Rattle.dvg_io.specs.Watching.{BeginsToWrite}
+use Rattle.dvg_io.proofs.Inputs.{Read, whole, whole_or_long}
 use Rattle.dvg_text.specs.Lines.{rom_text}
-use Rattle.dvg_tool.specs.Roms.{HasRomSize, WritesRom, WritesText}
+use Rattle.dvg_io.specs.Faults.{WritesText}
+use Rattle.dvg_tool.specs.Roms.{HasRomSize, WritesRom}
 use Rattle.dvg_tool.specs.Lists.{IsListable, Lists, ListsWords}
 use Rattle.dvg_text.specs.declared.fault.TextFault.TheVariants.{TooLong, Cut, Syntax, Full}
-use Rattle.dvg_tool.specs.declared.fault.ToolFault.{ToolFault}
-use Rattle.dvg_tool.specs.declared.fault.ToolFault.TheVariants.{Text, Reader, Writer, Memory}
-
--- what was read is the input, or a front of it that is one byte too long
-abbrev pub Read : ℕ → Option (List ℕ) → List ℕ → Type 0
-Read most known read = IfSome known (λ input. read ≡ take (most + 1) input)
-
-pub whole : (most : ℕ) (read input : List ℕ) → read ≡ take (most + 1) input → length read ≤ most → read ≡ input
-whole most read input e h =
-    let short : length input ≤ most + 1 = omega (arith, ap length e, length-take (most + 1) input) in
-    e ∙ take_all (most + 1) input short
-
-pub too_long : (most : ℕ) (known : Option (List ℕ)) (read : List ℕ) → Read most known read → most < length read → IfSome known (λ input. most < length input)
-too_long most None read e h = tt
-too_long most (Some input) read e h = omega (arith, ap length e, length-take (most + 1) input)
+use Rattle.dvg_io.specs.declared.fault.ToolFault.{ToolFault}
+use Rattle.dvg_io.specs.declared.fault.ToolFault.TheVariants.{Text, Reader, Writer, Memory}
 
 pub odd : (known : Option (List ℕ)) (read : List ℕ) → Read 8192 known read → length read ≤ 8192 → length read % 2 ≡ 1
     → IfSome known (λ input. (length input ≤ 8192) × (length input % 2 ≡ 1))
@@ -50,12 +39,6 @@ lists answer (Some input) old new read e h o w =
     let n = ap length same in
     listed answer input old new (omega arith, omega arith) (subst (λ l. ListsWords answer (words_of l) old new) same w)
 
--- each word is two bytes
-pub length-words_of : (bytes : List ℕ) → length bytes % 2 ≡ 0 → 2 * length (words_of bytes) ≡ length bytes
-length-words_of [] even = refl
-length-words_of (low ∷ []) even = absurd (omega arith)
-length-words_of (low ∷ high ∷ bytes) even = let rest = length-words_of bytes (omega arith) in omega arith
-
 -- of another size than a ROM has, so is what was read
 pub wrong_size : (known : Option (List ℕ)) (read : List ℕ) → Read 4096 known read → ¬ HasRomSize read → IfSome known (λ input. ¬ HasRomSize input)
 wrong_size None read e h = tt
@@ -77,13 +60,6 @@ writes_rom answer None old new read e few h w = tt
 writes_rom answer (Some input) old new read e few h w =
     let same = whole 4096 read input e few in
     rom_written answer input old new (subst HasRomSize same h) (subst (λ l. WritesText answer (rom_text l) old new) same w)
-
--- what was read is the whole input, or both are too long
-whole_or_long : (most : ℕ) (read input : List ℕ) → read ≡ take (most + 1) input → (read ≡ input) ⊎ ((most < length read) × (most < length input))
-whole_or_long most read input e = ⊎_elim
-    (λ fits. inl (whole most read input e (omega arith)))
-    (λ over. inr (omega arith, omega (arith, ap length e, length-take (most + 1) input)))
-    (cases_lt (length read) (most + 1))
 
 -- what is said of what was read is said of the input
 pub judged : (verdict : Verdict) (input read : List ℕ) → read ≡ take 1048577 input → Judges read verdict → Judges input verdict

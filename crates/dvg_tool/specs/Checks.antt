@@ -1,12 +1,12 @@
 -- What `check_text` and `check_bound` answer and write.
 use Rattle.std.specs.Prelude.{ℕ, List, Bool, Option, Result, Ok, Err}
 use Rattle.std.specs.Io.KnownBytes.{Appends}
-use Rattle.dvg_tool.specs.declared.fault.ToolFault.{ToolFault}
-use Rattle.dvg_tool.specs.declared.fault.ToolFault.TheVariants.{Text, Writer, Memory}
+use Rattle.dvg_io.specs.declared.fault.ToolFault.{ToolFault}
+use Rattle.dvg_io.specs.declared.fault.ToolFault.TheVariants.{Text, Writer, Memory}
 use Rattle.dvg_text.specs.declared.verdict.Verdict.{Verdict}
 use Rattle.dvg_text.specs.DraftTexts.{HasDraftFault}
 use Rattle.dvg_text.specs.Verdicts.{Judges, verdict_line}
-use Rattle.dvg_tool.specs.Watching.{BeginsToWrite}
+use Rattle.dvg_io.specs.Watching.{BeginsToWrite}
 
 -- a fault at which nothing is said of a text: its own, or want of memory (for a private contract)
 abbrev pub IsJudgingFault : List ℕ → ToolFault → Type 0

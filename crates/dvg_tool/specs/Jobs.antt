@@ -3,9 +3,9 @@ use Rattle.std.specs.Prelude.{ℕ, List, Option, Result, Ok, Err}
 use Rattle.dvg_tool.specs.Lists.{Lists}
 use Rattle.dvg_tool.specs.Roms.{WritesRom}
 use Rattle.dvg_tool.specs.Checks.{Checks}
-use Rattle.dvg_tool.specs.Outcomes.{StopsBeforeWriting}
+use Rattle.dvg_io.specs.Faults.{StopsBeforeWriting}
 use Rattle.dvg_tool.specs.Plays.{Plays, StopsBeforeShowing}
-use Rattle.dvg_tool.specs.declared.fault.ToolFault.{ToolFault}
+use Rattle.dvg_io.specs.declared.fault.ToolFault.{ToolFault}
 use Rattle.dvg_tool.specs.declared.outcome.Done.{Done}
 use Rattle.dvg_tool.specs.declared.outcome.Done.TheVariants.{Written, Judged}
 use Rattle.dvg_words.specs.declared.task.Job.{Job}

@@ -1,4 +1,3 @@
-pub mod Watching
 pub mod Lists
 pub mod Roms
 pub mod Jobs

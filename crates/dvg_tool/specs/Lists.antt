@@ -7,10 +7,10 @@ use Rattle.dvg_code.specs.Spelling.{canon}
 use Rattle.dvg_code.specs.Words.{words_of}
 use Rattle.dvg_code.specs.Cutting.{Cutting}
 use Rattle.dvg_text.specs.Lines.{line_text, list_text}
-use Rattle.dvg_tool.specs.Watching.{BeginsToWrite}
+use Rattle.dvg_io.specs.Watching.{BeginsToWrite}
 use Rattle.dvg_text.specs.declared.fault.TextFault.TheVariants.{TooLong, Odd, Cut}
-use Rattle.dvg_tool.specs.declared.fault.ToolFault.{ToolFault}
-use Rattle.dvg_tool.specs.declared.fault.ToolFault.TheVariants.{Text, Writer}
+use Rattle.dvg_io.specs.declared.fault.ToolFault.{ToolFault}
+use Rattle.dvg_io.specs.declared.fault.ToolFault.TheVariants.{Text, Writer}
 
 -- the line of the instruction that stands at a place of the words (for a private contract)
 abbrev pub line_at : List ℕ → ℕ → Instr → List ℕ

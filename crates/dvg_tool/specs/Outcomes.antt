@@ -1,18 +1,11 @@
 -- How an engine stops, and how the program ends.
 use Rattle.std.specs.Prelude.{◌≡◌, ℕ, ◌⊎◌, Result, Ok, Err}
-use Rattle.dvg_text.specs.declared.fault.TextFault.TheVariants.{Cut}
-use Rattle.dvg_tool.specs.declared.fault.ToolFault.{ToolFault}
-use Rattle.dvg_tool.specs.declared.fault.ToolFault.TheVariants.{Text, Writer}
+use Rattle.dvg_io.specs.declared.fault.ToolFault.{ToolFault}
+use Rattle.dvg_io.specs.declared.fault.ToolFault.TheVariants.{Text, Writer}
 use Rattle.dvg_tool.specs.declared.outcome.Done.{Done}
 use Rattle.dvg_tool.specs.declared.outcome.Done.TheVariants.{Written, Judged}
 use Rattle.dvg_text.specs.declared.verdict.Verdict.TheVariants.{Good, Refused}
-use Rattle.dvg_tool.specs.Watching.{one_more}
-
--- the faults that come before the first write
-abbrev pub StopsBeforeWriting : ToolFault → Type 0
-StopsBeforeWriting (Text (Cut place)) = ⊥
-StopsBeforeWriting Writer = ⊥
-StopsBeforeWriting _ = Unit {0}
+use Rattle.dvg_io.specs.Watching.{one_more}
 
 -- the answer stays and no failure was counted, or one was counted and the answer is `Writer`
 abbrev pub FinishesAs : {T : Type 0} → Result T ToolFault → Result T ToolFault → ℕ → ℕ → Type 0

@@ -7,20 +7,13 @@ use Rattle.dvg_world.specs.Headline.{KeepsHeadline}
 use Rattle.dvg_world.specs.Legal.{IsLegal}
 use Rattle.dvg_world.specs.Log.{Line, Log, Throughout, ◌⟼◌}
 use Rattle.dvg_world.specs.Wanting.{TakesMemory}
-use Rattle.dvg_text.specs.declared.fault.TraceFault.{TraceFault}
-use Rattle.dvg_text.specs.declared.fault.TraceFault.TheVariants as of_trace
-use Rattle.dvg_tool.specs.declared.fault.ToolFault.{ToolFault}
-use Rattle.dvg_tool.specs.declared.fault.ToolFault.TheVariants.{Text, Reader, Writer, Memory}
-use Rattle.dvg_tool.specs.Outcomes.{StopsBeforeWriting}
+use Rattle.dvg_io.specs.declared.fault.ToolFault.{ToolFault}
+use Rattle.dvg_io.specs.declared.fault.ToolFault.TheVariants.{Text, Reader, Writer, Memory}
+use Rattle.dvg_io.specs.Faults.{StopsBeforeWriting}
 use Rattle.dvg_text.specs.Shows.{shown}
 use Rattle.dvg_text.specs.TraceGives.{GivesTrace}
 use Rattle.dvg_text.specs.TraceTexts.{HasTraceFault}
-use Rattle.dvg_tool.specs.Watching.{BeginsToWrite}
-
--- what the reader of traces answers, as an engine calls it
-abbrev pub called : TraceFault → ToolFault
-called (of_trace.Text fault) = Text fault
-called of_trace.Memory = Memory
+use Rattle.dvg_io.specs.Watching.{BeginsToWrite}
 
 -- the bytes of a memory of zeros
 abbrev pub zeros : List ℕ

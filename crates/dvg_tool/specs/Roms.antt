@@ -1,20 +1,11 @@
 -- What `rom_text` answers and writes.
-use Rattle.std.specs.Prelude.{◌≡◌, ◌⊎◌, ℕ, List, length, Option, Result, Ok, Err, MatchResult}
+use Rattle.std.specs.Prelude.{◌≡◌, ◌⊎◌, ℕ, List, length, Option, Result, Ok, Err}
 use Rattle.std.specs.Io.KnownBytes.{Appends}
 use Rattle.dvg_text.specs.Lines.{rom_text}
-use Rattle.dvg_tool.specs.Watching.{BeginsToWrite}
+use Rattle.dvg_io.specs.Watching.{BeginsToWrite}
 use Rattle.dvg_text.specs.declared.fault.TextFault.TheVariants.{RomSize}
-use Rattle.dvg_tool.specs.declared.fault.ToolFault.{ToolFault}
-use Rattle.dvg_tool.specs.declared.fault.ToolFault.TheVariants.{Text, Writer}
-
--- where the writer failed, a beginning of the text went out
-abbrev pub StopsWriting : ToolFault → (text : List ℕ) → Option (List ℕ) → Option (List ℕ) → Type 0
-StopsWriting Writer text old new = BeginsToWrite text old new
-StopsWriting _ text old new = ⊥
-
--- the text went out, or the writer failed
-abbrev pub WritesText : {T : Type 0} → Result T ToolFault → (text : List ℕ) → Option (List ℕ) → Option (List ℕ) → Type 0
-WritesText answer text old new = MatchResult answer (λ _. Appends old new text) (λ fault. StopsWriting fault text old new)
+use Rattle.dvg_io.specs.declared.fault.ToolFault.{ToolFault}
+use Rattle.dvg_io.specs.declared.fault.ToolFault.TheVariants.{Text, Writer}
 
 -- an input of as many bytes as a ROM has
 abbrev pub HasRomSize : List ℕ → Type 0

@@ -2,13 +2,11 @@
 ghost use Rattle.std.specs.Prelude.{◌≡◌, ◌↔◌, ◌≤◌, IfErr, IfOk, IfSome, IsErrOf, false, true};
 ghost use Rattle.dvg_tool.specs.Checks.{Checks, IsJudgingFault};
 ghost use Rattle.dvg_text.specs.Verdicts.{Judges};
-ghost use Rattle.dvg_tool.specs.Outcomes.{StopsBeforeWriting};
-ghost use Rattle.dvg_tool.specs.Watching.{TakesAtMost, device_of, failures_of};
+ghost use Rattle.dvg_io.specs.Faults.{StopsBeforeWriting};
+ghost use Rattle.dvg_io.specs.Watching.{TakesAtMost, device_of, failures_of};
 
-use crate::fault::ToolFault;
-use crate::transfer::{read_up_to, write_whole};
-use crate::watched::Watched;
 use dvg_frame::check;
+use dvg_io::{ToolFault, Watched, read_up_to, write_whole};
 use dvg_mem::Rom;
 use dvg_text::{Line, MOST_TEXT_BYTES, Verdict, read_draft};
 use std::alloc::Allocator;

@@ -1,15 +1,14 @@
 //! Which engine does which job.
 ghost use Rattle.std.specs.Prelude.{◌≡◌, ◌↔◌, ◌≤◌, IfErr, IfSome, IsErrOf};
 ghost use Rattle.dvg_tool.specs.Jobs.{Performs, StaysUnwritten, most_taken};
-ghost use Rattle.dvg_tool.specs.Watching.{TakesAtMost, device_of, failures_of};
+ghost use Rattle.dvg_io.specs.Watching.{TakesAtMost, device_of, failures_of};
 
 use crate::checks::{check_bound, check_text};
-use crate::fault::ToolFault;
 use crate::lists::list;
 use crate::outcome::Done;
 use crate::plays::{play, play_in};
 use crate::roms::rom_text;
-use crate::watched::Watched;
+use dvg_io::{ToolFault, Watched};
 use dvg_mem::Banked;
 use dvg_words::Job;
 use std::alloc::Allocator;

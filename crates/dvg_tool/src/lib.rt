@@ -7,23 +7,19 @@
 #![tactic(auto)]
 
 mod checks;
-mod fault;
 mod jobs;
 mod lists;
 mod outcome;
 mod plays;
 mod roms;
 mod shows;
-mod transfer;
-mod watched;
 
 pub use checks::{check_bound, check_text};
+pub use dvg_io::{DeviceFailed, ToolFault, Watched};
 pub use dvg_text::{MOST_TEXT_BYTES, TextFault, Verdict};
 pub use dvg_words::{Job, job, words_status};
-pub use fault::ToolFault;
 pub use jobs::perform;
 pub use lists::{MOST_LIST_BYTES, list};
 pub use outcome::{Done, finish, status};
 pub use plays::{play, play_in};
 pub use roms::rom_text;
-pub use watched::{DeviceFailed, Watched};

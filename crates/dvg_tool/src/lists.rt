@@ -3,13 +3,11 @@ ghost use Rattle.std.specs.Prelude.{◌≡◌, ◌↔◌, ◌≤◌, ◌%◌, le
 ghost use Rattle.std.specs.Io.KnownBytes.{Appends};
 ghost use Rattle.dvg_code.specs.Words.{words_of};
 ghost use Rattle.dvg_tool.specs.Lists.{Lists, ListsWords, line_at};
-ghost use Rattle.dvg_tool.specs.Outcomes.{StopsBeforeWriting};
-ghost use Rattle.dvg_tool.specs.Watching.{BeginsToWrite, CountsErrors, TakesAtMost, device_of, failures_of};
+ghost use Rattle.dvg_io.specs.Faults.{StopsBeforeWriting};
+ghost use Rattle.dvg_io.specs.Watching.{BeginsToWrite, CountsErrors, TakesAtMost, device_of, failures_of};
 
-use crate::fault::ToolFault;
-use crate::transfer::{collect_words, read_up_to, write_whole};
-use crate::watched::{DeviceFailed, Watched};
 use dvg_code::{Code, Listed, Listing, encode};
+use dvg_io::{DeviceFailed, ToolFault, Watched, collect_words, read_up_to, write_whole};
 use dvg_text::{Line, TextFault};
 use std::alloc::Allocator;
 use std::io::{Read, Write};

@@ -2,10 +2,9 @@
 ghost use Rattle.std.specs.Prelude.{◌≡◌};
 ghost use Rattle.std.specs.Io.KnownBytes.{Keeps};
 ghost use Rattle.dvg_tool.specs.Outcomes.{FinishesAs, status_of};
-ghost use Rattle.dvg_tool.specs.Watching.{device_of, failures_of};
+ghost use Rattle.dvg_io.specs.Watching.{device_of, failures_of};
 
-use crate::fault::ToolFault;
-use crate::watched::Watched;
+use dvg_io::{ToolFault, Watched};
 use dvg_text::Verdict;
 use std::io::Write;
 

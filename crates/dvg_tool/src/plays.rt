@@ -5,12 +5,10 @@ ghost use Rattle.dvg_world.specs.Legal.{IsLegal};
 ghost use Rattle.dvg_world.specs.Runs.{IsStop, log_by};
 ghost use Rattle.dvg_tool.specs.Plays.{Plays, StopsBeforeShowing, zeros};
 ghost use Rattle.dvg_text.specs.TraceGives.{GivesTrace, StopsReading};
-ghost use Rattle.dvg_tool.specs.Watching.{TakesAtMost, device_of, failures_of};
+ghost use Rattle.dvg_io.specs.Watching.{TakesAtMost, device_of, failures_of};
 
-use crate::fault::ToolFault;
 use crate::shows::write_entries;
-use crate::transfer::read_up_to;
-use crate::watched::Watched;
+use dvg_io::{ToolFault, Watched, read_up_to};
 use dvg_mem::{Flat, Image, MEMORY_BYTES, Rom, Store};
 use dvg_text::{MOST_TEXT_BYTES, TraceText, read_trace};
 use dvg_world::{Entry, Stopped, run_trace};

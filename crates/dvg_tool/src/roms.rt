@@ -1,13 +1,12 @@
 //! The engine `rom_text`.
 ghost use Rattle.std.specs.Prelude.{◌≡◌, ◌↔◌, ◌≤◌, ◌%◌, ◌++◌, length, IfErr, IfSome, IsErrOf};
 ghost use Rattle.dvg_text.specs.Lines.{rom_lines};
-ghost use Rattle.dvg_tool.specs.Outcomes.{StopsBeforeWriting};
-ghost use Rattle.dvg_tool.specs.Roms.{WritesRom, WritesText};
-ghost use Rattle.dvg_tool.specs.Watching.{TakesAtMost, device_of, failures_of};
+ghost use Rattle.dvg_io.specs.Faults.{StopsBeforeWriting};
+ghost use Rattle.dvg_tool.specs.Roms.{WritesRom};
+ghost use Rattle.dvg_io.specs.Faults.{WritesText};
+ghost use Rattle.dvg_io.specs.Watching.{TakesAtMost, device_of, failures_of};
 
-use crate::fault::ToolFault;
-use crate::transfer::{collect_words, read_up_to, write_whole};
-use crate::watched::Watched;
+use dvg_io::{ToolFault, Watched, collect_words, read_up_to, write_whole};
 use dvg_mem::{FIRST_LARGE_ROM_WORD, FIRST_ROM_WORD, LARGE_ROM_BYTES, MEMORY_BYTES};
 use dvg_text::{Line, TextFault};
 use std::alloc::Allocator;

@@ -2,35 +2,15 @@
 ghost use Rattle.std.specs.Prelude.{◌≡◌, ◌↔◌, ◌≤◌, flat_map, map, IsErrOf, OnErr, OnOk};
 ghost use Rattle.std.specs.Io.KnownBytes.{Appends};
 ghost use Rattle.dvg_world.specs.Entries.{shown_of};
-ghost use Rattle.dvg_tool.specs.Roms.{WritesText};
+ghost use Rattle.dvg_io.specs.Faults.{WritesText};
 ghost use Rattle.dvg_text.specs.Shows.{head_line, shown, shown_entry, stroke_line, strokes_of};
-ghost use Rattle.dvg_tool.specs.Watching.{BeginsToWrite, CountsErrors, device_of, failures_of};
+ghost use Rattle.dvg_io.specs.Watching.{BeginsToWrite, CountsErrors, device_of, failures_of};
 
-use crate::fault::ToolFault;
-use crate::transfer::write_whole;
-use crate::watched::{DeviceFailed, Watched};
-use dvg_gen::Stroke;
+use dvg_io::{DeviceFailed, ToolFault, Watched, write_strokes, write_whole};
 use dvg_text::Line;
 use dvg_world::Entry;
 use std::alloc::Allocator;
 use std::io::Write;
-
-// Writes the line of each stroke. The lines are made in `line`.
-fn write_strokes<W: Write>(
-    line: &mut Line,
-    strokes: &[Stroke],
-    writer: &mut Watched<W>,
-) -> Result<(), DeviceFailed>
-    ensures ok { OnOk result (Appends (W.contents (device_of writer.old)) (W.contents (device_of writer.new)) (flat_map stroke_line strokes.now)) }
-    ensures err { OnErr result (BeginsToWrite (flat_map stroke_line strokes.now) (W.contents (device_of writer.old)) (W.contents (device_of writer.new))) }
-    ensures counts { CountsErrors result (failures_of writer.old) (failures_of writer.new) }
-{
-    for stroke in strokes {
-        line.become_stroke(*stroke);
-        write_whole(writer, line.as_bytes())?;
-    }
-    Ok(())
-}
 
 // Writes the line of an entry, or with its pictures alone that of a picture, if it is one. The line is made
 // in `line`.

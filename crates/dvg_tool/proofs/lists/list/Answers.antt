@@ -1,5 +1,6 @@
 use Rattle.std.proofs.Common.{rules}
-use Rattle.dvg_tool.proofs.Whole.{too_long, odd, lists}
+use Rattle.dvg_io.proofs.Inputs.{too_long}
+use Rattle.dvg_tool.proofs.Whole.{odd, lists}
 use Rattle.dvg_tool.proofs.lists.list.Goals as goal
 
 pub returns-then-len-gt-MOST_LIST_BYTES-clause-lists : goal.returns-then-len-gt-MOST_LIST_BYTES-clause-lists

@@ -1,7 +1,7 @@
 use Rattle.std.proofs.Common.{◌≡◌}
 use Rattle.dvg_code.specs.Cutting.{Cutting}
 use Rattle.dvg_code.specs.Listing.{place_of, words_left}
-use Rattle.dvg_tool.specs.Watching.{device_of, failures_of}
+use Rattle.dvg_io.specs.Watching.{device_of, failures_of}
 use Rattle.dvg_tool.proofs.Progress.{Progress, Stands}
 use Rattle.dvg_tool.proofs.lists.list_words.Given as goal
 

@@ -1,7 +1,7 @@
 use Rattle.std.proofs.Common.{◌≡◌, inl, inr, length, arith, rules, subst}
 use Rattle.dvg_text.specs.Lines.{rom_text}
-use Rattle.dvg_tool.specs.Roms.{WritesText}
-use Rattle.dvg_tool.specs.Watching.{device_of}
+use Rattle.dvg_io.specs.Faults.{WritesText}
+use Rattle.dvg_io.specs.Watching.{device_of}
 use Rattle.dvg_tool.proofs.RomLines.{large_text, small_text, whole_rows}
 use Rattle.dvg_tool.proofs.Whole.{wrong_size, writes_rom}
 use Rattle.dvg_tool.proofs.roms.rom_text.Goals as goal

@@ -1,5 +1,5 @@
 use Rattle.std.proofs.Common.{◌≡◌}
-use Rattle.dvg_tool.specs.Watching.{device_of, failures_of}
+use Rattle.dvg_io.specs.Watching.{device_of, failures_of}
 use Rattle.dvg_tool.proofs.RomLines.{RowsWritten}
 use Rattle.dvg_tool.proofs.roms.write_rows.Given as goal
 

@@ -1,7 +1,7 @@
 use Rattle.std.proofs.Common.{refl, subst}
 use Rattle.std.specs.Io.KnownBytes.{Appends}
-use Rattle.dvg_tool.specs.Watching.{device_of}
-use Rattle.dvg_tool.proofs.Known.{Appends-nil}
+use Rattle.dvg_io.specs.Watching.{device_of}
+use Rattle.dvg_io.proofs.Known.{Appends-nil}
 use Rattle.dvg_tool.proofs.Shown.{no_strokes}
 use Rattle.dvg_tool.proofs.shows.write_drawn.Goals as goal
 

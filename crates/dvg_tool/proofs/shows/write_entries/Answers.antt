@@ -1,9 +1,9 @@
 use Rattle.std.proofs.Common.{rules, ◌+◌, drop, map}
 use Rattle.dvg_world.specs.Entries.{shown_of}
 use Rattle.dvg_text.specs.Shows.{shown, shown_entry}
-use Rattle.dvg_tool.specs.Watching.{BeginsToWrite, device_of}
+use Rattle.dvg_io.specs.Watching.{BeginsToWrite, device_of}
 use Rattle.dvg_tool.proofs.Shown.{next_entry}
-use Rattle.dvg_tool.proofs.Went.{piece_begun, piece_more}
+use Rattle.dvg_io.proofs.Went.{piece_begun, piece_more}
 use Rattle.dvg_tool.proofs.shows.write_entries.Goals as goal
 
 pub returns-then-is_err-clause-writes : goal.returns-then-is_err-clause-writes

@@ -1,8 +1,8 @@
 use Rattle.std.proofs.Common.{◌≡◌, drop, flat_map}
 use Rattle.dvg_text.specs.Shows.{stroke_line}
-use Rattle.dvg_tool.specs.Watching.{device_of, failures_of}
-use Rattle.dvg_tool.proofs.Went.{Went}
-use Rattle.dvg_tool.proofs.shows.write_strokes.Given as goal
+use Rattle.dvg_io.specs.Watching.{device_of, failures_of}
+use Rattle.dvg_io.proofs.Went.{Went}
+use Rattle.dvg_io.proofs.strokes.write_strokes.Given as goal
 
 abbrev pub invariant-loop-stroke : goal.invariant-loop-stroke
 invariant-loop-stroke g l = record {

@@ -1,7 +1,7 @@
 //! Why an engine stops.
 ghost use Rattle.std.specs.Prelude.{◌≡◌};
-ghost use Rattle.dvg_tool.specs.Plays.{called};
-ghost use Rattle.dvg_tool.specs.declared.fault.ToolFault.TheVariants.{Memory};
+ghost use Rattle.dvg_io.specs.Faults.{called};
+ghost use Rattle.dvg_io.specs.declared.fault.ToolFault.TheVariants.{Memory};
 
 use dvg_code::OutOfMemory;
 use dvg_text::{TextFault, TraceFault};

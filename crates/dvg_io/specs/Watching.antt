@@ -1,7 +1,7 @@
 -- Readers and writers whose failures are counted, and what goes through them.
 use Rattle.std.specs.Prelude.{◌≡◌, ℕ, ◌+◌, ◌-◌, ◌^◌, ◌≤◌, min, List, length, ◌++◌, Option, Result, MatchResult}
 use Rattle.std.specs.Io.KnownBytes.{Appends, Consumes}
-use Rattle.dvg_tool.specs.declared.watched.Watched.{Watched}
+use Rattle.dvg_io.specs.declared.watched.Watched.{Watched}
 
 -- the reader or writer that is watched
 abbrev pub device_of : {T : Type 0} → Watched T → T

@@ -1,6 +1,6 @@
 use Rattle.std.proofs.Common.{◌++◌, ◌∙◌, take}
-use Rattle.dvg_tool.proofs.Known.{Appends-trans, Appends-kept, moves_front}
-use Rattle.dvg_tool.proofs.transfer.write_whole.Goals as goal
+use Rattle.dvg_io.proofs.Known.{Appends-trans, Appends-kept, moves_front}
+use Rattle.dvg_io.proofs.transfer.write_whole.Goals as goal
 
 pub loop-rest-preserved : goal.loop-rest-preserved
 loop-rest-preserved g c =

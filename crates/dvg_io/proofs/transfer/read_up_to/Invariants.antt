@@ -1,7 +1,7 @@
 use Rattle.std.proofs.Common.{◌≡◌, ◌≤◌, ◌+◌, ◌-◌, vec_len}
 use Rattle.std.specs.Io.KnownBytes.{Consumes}
-use Rattle.dvg_tool.specs.Watching.{device_of, failures_of}
-use Rattle.dvg_tool.proofs.transfer.read_up_to.Given as goal
+use Rattle.dvg_io.specs.Watching.{device_of, failures_of}
+use Rattle.dvg_io.proofs.transfer.read_up_to.Given as goal
 
 abbrev pub invariant-loop-piece : goal.invariant-loop-piece
 invariant-loop-piece g l = record {

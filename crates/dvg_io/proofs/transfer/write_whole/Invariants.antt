@@ -1,7 +1,7 @@
 use Rattle.std.proofs.Common.{◌≡◌, ℕ, List, ◌++◌, length}
 use Rattle.std.specs.Io.KnownBytes.{Appends}
-use Rattle.dvg_tool.specs.Watching.{device_of, failures_of}
-use Rattle.dvg_tool.proofs.transfer.write_whole.Given as goal
+use Rattle.dvg_io.specs.Watching.{device_of, failures_of}
+use Rattle.dvg_io.proofs.transfer.write_whole.Given as goal
 
 abbrev pub invariant-loop-rest : goal.invariant-loop-rest
 invariant-loop-rest g l = record {

@@ -2,7 +2,7 @@
 ghost use Rattle.std.specs.Prelude.{◌≡◌, ◌<◌, IfOk, length};
 ghost use Rattle.std.specs.Io.{ReadsAtMost, WritesAtMost};
 ghost use Rattle.std.specs.Io.KnownBytes.{Keeps, ReadConsumes, WriteAppends};
-ghost use Rattle.dvg_tool.specs.Watching.{CountsErrors, device_of, failures_of, one_more};
+ghost use Rattle.dvg_io.specs.Watching.{CountsErrors, device_of, failures_of, one_more};
 
 use std::io::{Read, Write};
 use thiserror::Error;

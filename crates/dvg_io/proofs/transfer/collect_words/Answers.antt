@@ -2,8 +2,8 @@ use Rattle.std.proofs.Common.{◌<◌, ◌∷◌, [], ◌++◌, length, take, sy
 use Rattle.std.proofs.lemmas.List.{take_all, take_more}
 use Rattle.dvg_code.specs.Words.{words_of}
 use Rattle.dvg_code.proofs.BytesOfWords.{word_k}
-use Rattle.dvg_tool.proofs.Whole.{length-words_of}
-use Rattle.dvg_tool.proofs.transfer.collect_words.Goals as goal
+use Rattle.dvg_io.proofs.Inputs.{length-words_of}
+use Rattle.dvg_io.proofs.transfer.collect_words.Goals as goal
 
 pub loop-k-init : goal.loop-k-init
 loop-k-init g c = record { so_far = c.new-words.ensures.items }

@@ -1,8 +1,8 @@
 -- How far a text has gone out.
 use Rattle.std.proofs.Common.{◌≡◌, ℕ, List, [], ◌++◌, Option, OnErr, Result, Ok, Err, refl, sym, ap, ◌∙◌, subst, append_assoc, append-nil}
 use Rattle.std.specs.Io.KnownBytes.{Appends}
-use Rattle.dvg_tool.specs.Watching.{BeginsToWrite}
-use Rattle.dvg_tool.proofs.Known.{Appends-nil, Appends-trans}
+use Rattle.dvg_io.specs.Watching.{BeginsToWrite}
+use Rattle.dvg_io.proofs.Known.{Appends-nil, Appends-trans}
 
 -- the text went out but for this rest
 pub record Went (text rest : List ℕ) (old now : Option (List ℕ)) : Type 0 where

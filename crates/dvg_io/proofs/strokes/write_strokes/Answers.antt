@@ -1,9 +1,9 @@
 use Rattle.std.proofs.Common.{rules, flat_map, drop, get_or, ◌+◌}
 use Rattle.dvg_text.specs.Shows.{stroke_line}
-use Rattle.dvg_tool.specs.Watching.{BeginsToWrite, device_of}
-use Rattle.dvg_tool.proofs.Shown.{next_stroke, no_stroke}
-use Rattle.dvg_tool.proofs.Went.{piece_begun, piece_more}
-use Rattle.dvg_tool.proofs.shows.write_strokes.Goals as goal
+use Rattle.dvg_io.specs.Watching.{BeginsToWrite, device_of}
+use Rattle.dvg_io.proofs.Strokes.{next_stroke, no_stroke}
+use Rattle.dvg_io.proofs.Went.{piece_begun, piece_more}
+use Rattle.dvg_io.proofs.strokes.write_strokes.Goals as goal
 
 pub returns-in_err-write_whole-clause-err : goal.returns-in_err-write_whole-clause-err
 returns-in_err-write_whole-clause-err g c =

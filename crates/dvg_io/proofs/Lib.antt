@@ -1,0 +1,4 @@
+pub mod Known
+pub mod Inputs
+pub mod Went
+pub mod Strokes

@@ -1,0 +1,28 @@
+//! Strokes that are written.
+ghost use Rattle.std.specs.Prelude.{flat_map, OnErr, OnOk};
+ghost use Rattle.std.specs.Io.KnownBytes.{Appends};
+ghost use Rattle.dvg_text.specs.Shows.{stroke_line};
+ghost use Rattle.dvg_io.specs.Watching.{BeginsToWrite, CountsErrors, device_of, failures_of};
+
+use crate::transfer::write_whole;
+use crate::watched::{DeviceFailed, Watched};
+use dvg_gen::Stroke;
+use dvg_text::Line;
+use std::io::Write;
+
+/// Writes the line of each stroke, `x0 y0 x1 y1 z`. The lines are made in `line`.
+pub fn write_strokes<W: Write>(
+    line: &mut Line,
+    strokes: &[Stroke],
+    writer: &mut Watched<W>,
+) -> Result<(), DeviceFailed>
+    ensures ok { OnOk result (Appends (W.contents (device_of writer.old)) (W.contents (device_of writer.new)) (flat_map stroke_line strokes.now)) }
+    ensures err { OnErr result (BeginsToWrite (flat_map stroke_line strokes.now) (W.contents (device_of writer.old)) (W.contents (device_of writer.new))) }
+    ensures counts { CountsErrors result (failures_of writer.old) (failures_of writer.new) }
+{
+    for stroke in strokes {
+        line.become_stroke(*stroke);
+        write_whole(writer, line.as_bytes())?;
+    }
+    Ok(())
+}
