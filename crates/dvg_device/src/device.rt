@@ -294,7 +294,7 @@ fn new_desk(alloc: Global, rom: &[u8]) -> Option<Box<Desk>>
     let Ok(rom) = Rom::new(alloc, rom) else {
         return None;
     };
-    match Box::new(alloc, Desk::new(alloc, rom)?) {
+    match Box::new(alloc, Desk::new(alloc, rom)) {
         Ok(desk) => Some(desk),
         Err(_) => None,
     }

@@ -35,8 +35,8 @@ pub struct World<S: Store> {
     generator: Generator<S::Alloc>,
     driver: Driver,
     strobe_sent: bool,
-    /// The tables by which drafts are checked.
-    checker: Box<Checker, S::Alloc>,
+    /// What drafts are checked by. It takes the memory of its tables at the first offer.
+    checker: Checker<S::Alloc>,
 }
 
 /// Contracts see a `State`.
@@ -69,14 +69,13 @@ impl<S: Store> World<S> {
         // An image is one of 2,048 bytes, as its type says.
         let _ = image.bytes();
         let store = S::make(alloc, image)?;
-        let checker = Checker::boxed(alloc)?;
         Ok(World {
             rom,
             store,
             generator: Generator::new(alloc),
             driver: Driver::new(),
             strobe_sent: false,
-            checker,
+            checker: Checker::new(alloc),
         })
     }
 
