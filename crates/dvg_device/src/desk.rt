@@ -41,6 +41,15 @@ impl Desk {
         }
     }
 
+    // The driver is just reset, over another ROM.
+    pub(crate) fn begin_anew(&mut self, rom: Rom)
+        ensures rom { self.new.rom ≡ rom }
+        ensures stands { (peeked : ℕ) → StandsAfter self.new.stage peeked [] }
+    {
+        self.rom = rom;
+        self.driver.reset();
+    }
+
     // Asks it, with this draft.
     #[inline(always)]
     pub(crate) fn ask(&mut self, request: Request, draft: &Draft) -> Reply

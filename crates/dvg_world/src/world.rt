@@ -79,6 +79,21 @@ impl<S: Store> World<S> {
         })
     }
 
+    /// Makes this world one over another ROM after a reset of the whole system, as `new` makes one, in the memory that
+    /// it has: for callers that open one world after another.
+    pub fn begin_anew(&mut self, alloc: S::Alloc, rom: Rom<S::Alloc>, image: &Image<S::Alloc>)
+        ensures { WorldAfter rom image.now [] self.new }
+    {
+        // An image is one of 2,048 bytes, and a ROM has 2,048 or 4,096, as their types say.
+        let _ = image.bytes();
+        let _ = rom.len_words();
+        self.store.load(image);
+        self.rom = rom;
+        self.generator = Generator::new(alloc);
+        self.driver.reset();
+        self.strobe_sent = false;
+    }
+
     /// Lets an event happen, by the call that does it, and answers its entry.
     ///
     /// An error is want of memory, and then the world is as it was. It comes only for a fetch that completes
@@ -210,7 +225,7 @@ impl<S: Store> World<S> {
         self.store.load(image);
         self.generator.reset();
         self.driver.reset();
-        self.strobe_sent = false;
+        self.strobe_sent = false; // No strobe is under way any more.
         Entry::Cleared
     }
 }
