@@ -1,6 +1,6 @@
 //! A driver alone.
-ghost use Rattle.std.specs.Prelude.{◌≡◌, ℕ, []};
-ghost use Rattle.dvg_driver.specs.Stands.{StandsAfter};
+ghost use Rattle.std.specs.Prelude.{◌≡◌};
+ghost use Rattle.dvg_device.specs.Devices.{Driver as open_driver, IsNewDriver};
 ghost use Rattle.dvg_device.specs.Drivers.{DriverAnswers, OfferAnswers, RedrawAnswers};
 
 use crate::reply::Reply;
@@ -31,8 +31,7 @@ impl Model for Desk {
 impl Desk {
     // A driver that was just reset, over this ROM.
     pub(crate) fn new(alloc: Global, rom: Rom) -> Desk
-        ensures rom { result.rom ≡ rom }
-        ensures stands { (peeked : ℕ) → StandsAfter result.stage peeked [] }
+        ensures { IsNewDriver rom (open_driver result) }
     {
         Desk {
             rom,
@@ -43,8 +42,7 @@ impl Desk {
 
     // The driver is just reset, over another ROM.
     pub(crate) fn begin_anew(&mut self, rom: Rom)
-        ensures rom { self.new.rom ≡ rom }
-        ensures stands { (peeked : ℕ) → StandsAfter self.new.stage peeked [] }
+        ensures { IsNewDriver rom (open_driver self.new) }
     {
         self.rom = rom;
         self.driver.reset();

@@ -158,6 +158,20 @@ impl Device {
         Reply::Cleared
     }
 
+    // The memory of a world that was open before, if there is some.
+    fn take_spare_world(&mut self) -> Option<Box<World<Flat>>>
+        ensures { self.new ≡ self.old }
+    {
+        self.spare_world.take()
+    }
+
+    // The memory of a driver that was open before, if there is some.
+    fn take_spare_desk(&mut self) -> Option<Box<Desk>>
+        ensures { self.new ≡ self.old }
+    {
+        self.spare_desk.take()
+    }
+
     // Opens a world.
     #[inline(never)]
     fn open_world(&mut self) -> Reply
@@ -166,7 +180,7 @@ impl Device {
         if !is_one_of(self.staged.len(), 4096, 6144) {
             return Reply::WrongSize;
         }
-        let spare = self.spare_world.take();
+        let spare = self.take_spare_world();
         match new_world(self.alloc, self.staged.as_slice(), spare) {
             Some(world) => self.open(Part::World(world)),
             None => Reply::NoMemory,
@@ -181,7 +195,7 @@ impl Device {
         if !is_one_of(self.staged.len(), 2048, 4096) {
             return Reply::WrongSize;
         }
-        let spare = self.spare_desk.take();
+        let spare = self.take_spare_desk();
         match new_desk(self.alloc, self.staged.as_slice(), spare) {
             Some(desk) => self.open(Part::Driver(desk)),
             None => Reply::NoMemory,
@@ -200,13 +214,21 @@ impl Device {
         ensures opened { result ≡ Reply.Opened }
         ensures device { self.new ≡ record self.old { picture = []; open_part = open_of part } }
     {
-        match mem::replace(&mut self.part, part) {
+        let before = mem::replace(&mut self.part, part);
+        self.keep(before);
+        self.picture = Vec::new(self.alloc);
+        Reply::Opened
+    }
+
+    // Keeps the memory of what was open.
+    fn keep(&mut self, before: Part)
+        ensures { self.new ≡ self.old }
+    {
+        match before {
             Part::World(world) => self.spare_world = Some(world),
             Part::Driver(desk) => self.spare_desk = Some(desk),
             Part::Nothing | Part::Generator(_) => {}
         }
-        self.picture = Vec::new(self.alloc);
-        Reply::Opened
     }
 
     // Ends what is open, and gives its memory back.
@@ -315,8 +337,18 @@ fn new_desk(alloc: Global, rom: &[u8], spare: Option<Box<Desk>>) -> Option<Box<D
         return None;
     };
     let Some(mut desk) = spare else {
-        return Box::new(alloc, Desk::new(alloc, rom)).ok();
+        return boxed_desk(alloc, rom);
     };
     desk.begin_anew(rom);
     Some(desk)
+}
+
+// A driver alone over this ROM, in new memory. None for want of it.
+fn boxed_desk(alloc: Global, rom: Rom) -> Option<Box<Desk>>
+    ensures { IfSome result (λ desk. IsNewDriver rom (Driver desk.value)) }
+{
+    match Box::new(alloc, Desk::new(alloc, rom)) {
+        Ok(desk) => Some(desk),
+        Err(_) => None,
+    }
 }
