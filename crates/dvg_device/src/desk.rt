@@ -1,5 +1,5 @@
 //! A driver alone.
-ghost use Rattle.std.specs.Prelude.{◌≡◌};
+ghost use Rattle.std.specs.Prelude.{◌≡◌, OnOk};
 ghost use Rattle.dvg_device.specs.Devices.{Driver as open_driver, IsNewDriver};
 ghost use Rattle.dvg_device.specs.Drivers.{DriverAnswers, OfferAnswers, RedrawAnswers};
 
@@ -7,7 +7,7 @@ use crate::reply::Reply;
 use crate::request::Request;
 use dvg_driver::{Driver, DriverFault};
 use dvg_frame::{Checker, Draft};
-use dvg_mem::Rom;
+use dvg_mem::{MemFault, Rom};
 use std::alloc::Global;
 use std::marker::Model;
 
@@ -40,12 +40,17 @@ impl Desk {
         }
     }
 
-    // The driver is just reset, over another ROM.
-    pub(crate) fn begin_anew(&mut self, rom: Rom)
-        ensures { IsNewDriver rom (open_driver self.new) }
+    // The driver is just reset, over a ROM of these bytes.
+    pub(crate) fn begin_anew(&mut self, alloc: Global, rom: &[u8]) -> Result<(), MemFault>
+        ensures { OnOk result (IsNewDriver rom.now (open_driver self.new)) }
     {
-        self.rom = rom;
-        self.driver.reset();
+        match self.rom.copy_from(alloc, rom) {
+            Ok(()) => {
+                self.driver.reset();
+                Ok(())
+            }
+            Err(fault) => Err(fault),
+        }
     }
 
     // Asks it, with this draft.

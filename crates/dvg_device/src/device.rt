@@ -45,6 +45,7 @@ pub struct Device {
     picture: Vec<Stroke>,
     part: Part,
     // Blocks of memory of what was open before, for what is opened next.
+    spare_image: Option<Image>,
     spare_world: Option<Box<World<Flat>>>,
     spare_desk: Option<Box<Desk>>,
 }
@@ -75,6 +76,7 @@ impl Device {
             draft: Draft::new(),
             picture: Vec::new(alloc),
             part: Part::Nothing,
+            spare_image: None,
             spare_world: None,
             spare_desk: None,
         }
@@ -158,6 +160,20 @@ impl Device {
         Reply::Cleared
     }
 
+    // The memory of an image that was made before, if there is some.
+    fn take_spare_image(&mut self) -> Option<Image>
+        ensures { self.new ≡ self.old }
+    {
+        self.spare_image.take()
+    }
+
+    // Keeps the memory of an image.
+    fn keep_image(&mut self, image: Image)
+        ensures { self.new ≡ self.old }
+    {
+        self.spare_image = Some(image);
+    }
+
     // The memory of a world that was open before, if there is some.
     fn take_spare_world(&mut self) -> Option<Box<World<Flat>>>
         ensures { self.new ≡ self.old }
@@ -180,9 +196,16 @@ impl Device {
         if !is_one_of(self.staged.len(), 4096, 6144) {
             return Reply::WrongSize;
         }
+        let spare = self.take_spare_image();
+        let Some(image) = new_image(self.alloc, &self.staged[..RAM_BYTES], spare) else {
+            return Reply::NoMemory;
+        };
         let spare = self.take_spare_world();
-        match new_world(self.alloc, self.staged.as_slice(), spare) {
-            Some(world) => self.open(Part::World(world)),
+        match new_world(self.alloc, self.staged.as_slice(), &image, spare) {
+            Some(world) => {
+                self.keep_image(image);
+                self.open(Part::World(world))
+            }
             None => Reply::NoMemory,
         }
     }
@@ -309,23 +332,23 @@ fn is_one_of(n: usize, small: usize, large: usize) -> bool
     n == small || n == large
 }
 
-// A world over the ROM of the bytes behind the first 2,048, with those as the first image of its RAM, in this memory where
-// there is some. None for want of memory.
+// A world over the ROM of the bytes behind the first 2,048, with this first image of its RAM, in this memory where there is
+// some. None for want of memory.
 fn new_world(
     alloc: Global,
     staged: &[u8],
+    image: &Image,
     spare: Option<Box<World<Flat>>>,
 ) -> Option<Box<World<Flat>>>
-    ensures { IfSome result (λ world. WorldAfter (drop 2048 staged.now) (take 2048 staged.now) [] world.value) }
+    ensures { IfSome result (λ world. WorldAfter (drop 2048 staged.now) image.now [] world.value) }
 {
-    let (image, rom) = staged.split_at_checked(RAM_BYTES)?;
-    let rom = Rom::new(alloc, rom).ok()?;
-    let image = Image::new(alloc, image).ok()?;
+    let (_, rom) = staged.split_at_checked(RAM_BYTES)?;
     let Some(mut world) = spare else {
-        let world = World::<Flat>::new(alloc, rom, &image).ok()?;
+        let rom = Rom::new(alloc, rom).ok()?;
+        let world = World::<Flat>::new(alloc, rom, image).ok()?;
         return Box::new(alloc, world).ok();
     };
-    world.begin_anew(alloc, rom, &image);
+    world.begin_anew(alloc, rom, image).ok()?;
     Some(world)
 }
 
@@ -333,13 +356,11 @@ fn new_world(
 fn new_desk(alloc: Global, rom: &[u8], spare: Option<Box<Desk>>) -> Option<Box<Desk>>
     ensures { IfSome result (λ desk. IsNewDriver rom.now (Driver desk.value)) }
 {
-    let Ok(rom) = Rom::new(alloc, rom) else {
-        return None;
-    };
     let Some(mut desk) = spare else {
+        let rom = Rom::new(alloc, rom).ok()?;
         return boxed_desk(alloc, rom);
     };
-    desk.begin_anew(rom);
+    desk.begin_anew(alloc, rom).ok()?;
     Some(desk)
 }
 
@@ -351,4 +372,16 @@ fn boxed_desk(alloc: Global, rom: Rom) -> Option<Box<Desk>>
         Ok(desk) => Some(desk),
         Err(_) => None,
     }
+}
+
+// An image of these bytes, in the memory of another where there is one. None for want of memory.
+fn new_image(alloc: Global, bytes: &[u8], spare: Option<Image>) -> Option<Image>
+    requires { length bytes.now ≡ 2048 }
+    ensures { IfSome result (λ image. image ≡ bytes.now) }
+{
+    let Some(mut image) = spare else {
+        return Image::new(alloc, bytes).ok();
+    };
+    image.copy_from(bytes);
+    Some(image)
 }

@@ -88,6 +88,14 @@ impl<A: Allocator> Image<A> {
         }
     }
 
+    /// Takes other bytes in place of its own, in the memory that it has.
+    pub fn copy_from(&mut self, bytes: &[u8])
+        requires { length bytes.now ≡ 2048 }
+        ensures { self.new ≡ bytes.now }
+    {
+        self.bytes.copy_from_slice(bytes);
+    }
+
     /// The bytes, from address 000 on.
     pub fn bytes(&self) -> &[u8]
         ensures bytes { result.now ≡ self.now }

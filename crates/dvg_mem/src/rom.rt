@@ -1,5 +1,5 @@
 //! The vector ROM.
-ghost use Rattle.std.specs.Prelude.{◌≡◌, ◌≢◌, ◌*◌, ◌≤◌, ◌⊎◌, ◌↔◌, ◌++◌, length, IfErr, IfOk, IsErrOf, Some};
+ghost use Rattle.std.specs.Prelude.{◌≡◌, ◌≢◌, ◌*◌, ◌≤◌, ◌⊎◌, ◌↔◌, ◌++◌, length, IfErr, IfOk, IsErrOf, OnErr, OnOk, Some};
 ghost use Rattle.dvg_mem.specs.Areas.{IsInMap};
 ghost use Rattle.dvg_mem.specs.Memory.{IsGrown, IsRom, first_word, rom_word};
 ghost use Rattle.dvg_mem.specs.Grown.{ArePushedBack};
@@ -45,6 +45,26 @@ impl<A: Allocator> Rom<A> {
         match copy.extend_from_slice(bytes) {
             Ok(()) => Ok(Rom { bytes: copy }),
             Err(_) => Err(MemFault::OutOfMemory),
+        }
+    }
+
+    /// Takes other bytes in place of its own, in the memory that it has where they are as many. They are refused as
+    /// `Size` exactly where they are neither 2,048 nor 4,096, and nothing has changed after an error.
+    pub fn copy_from(&mut self, alloc: A, bytes: &[u8]) -> Result<(), MemFault>
+        ensures bytes { OnOk result (self.new ≡ bytes.now) }
+        ensures size { IsErrOf result MemFault.Size ↔ ((length bytes.now ≢ 2048) × (length bytes.now ≢ 4096)) }
+        ensures refused { OnErr result (self.new ≡ self.old) }
+    {
+        if bytes.len() == self.bytes.len() {
+            self.bytes.as_mut_slice().copy_from_slice(bytes);
+            return Ok(());
+        }
+        match Rom::new(alloc, bytes) {
+            Ok(rom) => {
+                *self = rom;
+                Ok(())
+            }
+            Err(fault) => Err(fault),
         }
     }
 

@@ -1,5 +1,5 @@
 //! The world: both ends of the vector RAM, one event at a time.
-ghost use Rattle.std.specs.Prelude.{◌≡◌, ℕ, List, [], IfOk, OnErr};
+ghost use Rattle.std.specs.Prelude.{◌≡◌, ◌≢◌, ◌↔◌, ℕ, List, [], length, IfOk, IsErrOf, OnErr, OnOk};
 ghost use Rattle.dvg_driver.specs.Stands.{IsInRam};
 ghost use Rattle.dvg_world.specs.Entries.{shown_of};
 ghost use Rattle.dvg_world.specs.Events.{Offer, Redraw, Tick, Strobe, Fetch, ResetGen, ResetCpu, ResetAll, happening_of};
@@ -15,7 +15,7 @@ use dvg_code::OutOfMemory;
 use dvg_driver::{Action, Driver, DriverFault};
 use dvg_frame::{Checker, Draft};
 use dvg_gen::Generator;
-use dvg_mem::{Image, Rom, Store, fetch_byte};
+use dvg_mem::{Image, MemFault, Rom, Store, fetch_byte};
 use std::marker::Model;
 
 /// Both ends of the vector RAM: the driver that writes frames into it, and the generator that draws out of
@@ -79,16 +79,36 @@ impl<S: Store> World<S> {
         })
     }
 
-    /// Makes this world one over another ROM after a reset of the whole system, as `new` makes one, in the memory that
-    /// it has: for callers that open one world after another.
-    pub fn begin_anew(&mut self, alloc: S::Alloc, rom: Rom<S::Alloc>, image: &Image<S::Alloc>)
-        ensures { WorldAfter rom image.now [] self.new }
+    /// Makes this world one over a ROM of these bytes after a reset of the whole system, as `new` makes one, in the
+    /// memory that it has: for callers that open one world after another. Memory is taken, and may be refused, only for a
+    /// ROM of another size. The world is as it was after an error, which is `Size` exactly where a ROM has another number of bytes.
+    pub fn begin_anew(
+        &mut self,
+        alloc: S::Alloc,
+        rom: &[u8],
+        image: &Image<S::Alloc>,
+    ) -> Result<(), MemFault>
+        ensures stands { OnOk result (WorldAfter rom.now image.now [] self.new) }
+        ensures size { IsErrOf result MemFault.Size ↔ ((length rom.now ≢ 2048) × (length rom.now ≢ 4096)) }
+        ensures refused { OnErr result (self.new ≡ self.old) }
+    {
+        match self.rom.copy_from(alloc, rom) {
+            Ok(()) => {
+                self.power_up(alloc, image);
+                Ok(())
+            }
+            Err(fault) => Err(fault),
+        }
+    }
+
+    // All but the ROM is as in a new world, whose RAM holds this image.
+    fn power_up(&mut self, alloc: S::Alloc, image: &Image<S::Alloc>)
+        ensures { WorldAfter self.old.rom image.now [] self.new }
     {
         // An image is one of 2,048 bytes, and a ROM has 2,048 or 4,096, as their types say.
         let _ = image.bytes();
-        let _ = rom.len_words();
+        let _ = self.rom.len_words();
         self.store.load(image);
-        self.rom = rom;
         self.generator = Generator::new(alloc);
         self.driver.reset();
         self.strobe_sent = false;
