@@ -1,4 +1,4 @@
 pub mod Known
 pub mod Inputs
 pub mod Went
-pub mod Strokes
+pub mod StrokeLines
