@@ -1,4 +1,4 @@
--- An image of vector memory.
+-- A dump of vector memory.
 use Rattle.std.specs.Prelude.{◌≡◌, ◌⊎◌, ℕ, List, Option, drop, length, take}
 use Rattle.dvg_mem.specs.Memory.{fetched}
 

@@ -1,5 +1,5 @@
-//! Images of vector memory.
-ghost use Rattle.std.specs.Prelude.{◌≡◌, ◌↔◌, IfOk, IsErrOf};
+//! Dumps of vector memory.
+ghost use Rattle.std.specs.Prelude.{◌≡◌, ◌↔◌, IfOk, IsErrOf, OnOk};
 ghost use Rattle.dvg_dump.specs.Memory.{HasDumpSize, parts_of};
 
 use dvg_mem::{Flat, Image, LARGE_ROM_BYTES, MEMORY_BYTES, Rom, Store};
@@ -7,13 +7,13 @@ use std::alloc::{Allocator, Global};
 use std::marker::Model;
 use thiserror::Error;
 
-/// The bytes of an image with the smaller ROM.
+/// The bytes of a dump with the smaller ROM.
 pub const SMALL_DUMP_BYTES: usize = 2 * MEMORY_BYTES;
 
-/// The bytes of an image with the larger ROM.
+/// The bytes of a dump with the larger ROM.
 pub const LARGE_DUMP_BYTES: usize = MEMORY_BYTES + LARGE_ROM_BYTES;
 
-/// Why an image was not taken.
+/// Why a dump was not taken.
 #[derive(Clone, Copy, Debug, PartialEq, Eq, Error)]
 pub enum DumpFault {
     /// There are neither 4,096 bytes nor 6,144.
@@ -24,7 +24,7 @@ pub enum DumpFault {
     OutOfMemory,
 }
 
-/// An image of vector memory: the 2,048 bytes of the RAM, and behind them the 2,048 or 4,096 bytes of the ROM.
+/// A dump of vector memory: the 2,048 bytes of the RAM, and behind them the 2,048 or 4,096 bytes of the ROM.
 #[derive(Drop)]
 pub struct Dump<A: Allocator = Global> {
     pub(crate) alloc: A,
@@ -42,10 +42,11 @@ impl<A: Allocator> Model for Dump<A> {
 }
 
 impl<A: Allocator + Copy> Dump<A> {
-    /// The image of these bytes: the RAM's from address 000 on, and then the ROM's. It is refused as `Size` exactly where
+    /// The dump of these bytes: the RAM's from address 000 on, and then the ROM's. It is refused as `Size` exactly where
     /// they are neither 4,096 nor 6,144. What a run takes later is of this allocator, too.
     pub fn new(alloc: A, bytes: &[u8]) -> Result<Dump<A>, DumpFault>
         ensures bytes { IfOk result (λ dump. dump ≡ parts_of bytes.now) }
+        ensures taken { OnOk result (HasDumpSize bytes.now) }
         ensures size { IsErrOf result DumpFault.Size ↔ ¬ HasDumpSize bytes.now }
     {
         if bytes.len() != SMALL_DUMP_BYTES && bytes.len() != LARGE_DUMP_BYTES {

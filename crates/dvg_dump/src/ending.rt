@@ -5,7 +5,7 @@ ghost use Rattle.dvg_dump.specs.Endings.{end_of, outcome_of};
 use dvg_gen::{GenFault, Stroke};
 use std::alloc::{Allocator, Global};
 
-/// How the run over an image ends.
+/// How the run over a dump ends.
 #[derive(Debug, Drop)]
 pub enum Ending<A: Allocator = Global> {
     /// A HALT ended it.

@@ -1,4 +1,4 @@
-//! What an image of vector memory draws, or why that has no end: the run of the generator over a RAM and a ROM that don't
+//! What a dump of vector memory draws, or why that has no end: the run of the generator over a RAM and a ROM that don't
 //! change.
 //!
 //! The run is that of a new generator, which is started once. It ends at HALT or at a fault, and isn't followed past 65,536

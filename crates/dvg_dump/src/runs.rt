@@ -1,4 +1,4 @@
-//! Runs over images.
+//! Runs over dumps.
 ghost use Rattle.std.specs.Prelude.{◌≡◌, ◌<◌, List, IfOk, None, true};
 ghost use Rattle.dvg_gen.specs.Machine.{HasTaken};
 ghost use Rattle.dvg_gen.specs.Run.{Visit};
