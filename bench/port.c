@@ -18,6 +18,7 @@ static const struct {
     [PORT_OFFER] = {"offer of 250 operations", 1.1},
     [PORT_OPEN_WORLD] = {"opening of a world", 1.1},
     [PORT_OPEN_DRIVER] = {"opening of a driver alone", 1.1},
+    [PORT_FIRST_OFFER] = {"opening of a world, first offer", 0},
     [PORT_DRIVER_TICK] = {"tick of a driver alone", 1.1},
     [PORT_GENERATOR_FETCH] = {"byte of a generator alone", 1.1},
     [PORT_PUSH] = {"push of an operation", 0},

@@ -159,6 +159,24 @@ static void open_often(struct port_round *round, dvg *device)
     }
 }
 
+/* Opens a world and makes it its first offer, often: the draft is checked, though the driver isn't idle yet. */
+static void offer_first(struct port_round *round, dvg *device)
+{
+    dvg_clear(device);
+    dvg_labs(device, 512, 400, 0);
+    dvg_vctr(device, 9, -100, 100, 7);
+    dvg_halt(device);
+    dvg_unstage(device);
+    want(dvg_stage_byte(device, 0, DVG_RAM_BYTES), DVG_STAGED);
+    want(dvg_stage_bytes(device, rom, sizeof rom), DVG_STAGED);
+    for (int i = 0; i < OPENINGS; i++) {
+        double start = now();
+        want(dvg_ask(device, DVG_REQUEST_OPEN_WORLD), DVG_OPENED);
+        want(dvg_offer(device), DVG_BUSY);
+        count(round, PORT_FIRST_OFFER, start, 1);
+    }
+}
+
 void ROUND(struct port_round *round)
 {
     static uint8_t ram[DVG_RAM_BYTES];
@@ -175,5 +193,6 @@ void ROUND(struct port_round *round)
     write_frames(round, device, ram);
     fetch_frames(round, device, ram);
     open_often(round, device);
+    offer_first(round, device);
     dvg_free(device);
 }

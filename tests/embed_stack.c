@@ -1,10 +1,50 @@
-/* Has a device do what takes most of the stack, on a thread with so many KB of stack: as many as the header says, or by the first word. */
+/* Has a device do what takes most of the stack, on a thread with so many KB of stack: as many as the first word says, or the header where that is 0 or missing. The
+ * second word `refused` has each large block refused, so that a check lays its tables out on the stack. */
 #define _POSIX_C_SOURCE 200809L
 #include "dvg.h"
+#include "dvg_heap.h"
 
 #include <pthread.h>
 #include <stdio.h>
 #include <stdlib.h>
+#include <string.h>
+
+/* --- A heap --- */
+
+/* The most bytes of a block, and whether a larger one was refused. */
+static size_t most = SIZE_MAX;
+static bool refused = false;
+
+static unsigned char nowhere;
+
+dvg_block rattle_alloc(size_t bytes, size_t align)
+{
+    dvg_block got = {false, &nowhere};
+    void *block = bytes > most ? NULL : malloc(bytes == 0 ? align : bytes);
+    refused = refused || bytes > most;
+    if (block != NULL) {
+        got.ok = true;
+        got.block = block;
+    }
+    return got;
+}
+
+dvg_block rattle_realloc(void *old, size_t kept, size_t bytes, size_t align)
+{
+    dvg_block got = rattle_alloc(bytes, align);
+    if (got.ok) {
+        memcpy(got.block, old, kept);
+        free(old);
+    }
+    return got;
+}
+
+void rattle_dealloc(void *old)
+{
+    free(old);
+}
+
+/* --- What is done --- */
 
 static uint8_t rom[DVG_LARGE_ROM_BYTES];
 
@@ -39,7 +79,9 @@ static void *use(void *nothing)
 
 int main(int count, char **words)
 {
-    size_t bytes = 1024 * (count > 1 ? (size_t)strtoul(words[1], NULL, 10) : DVG_STACK_KB);
+    size_t kilobytes = count > 1 ? (size_t)strtoul(words[1], NULL, 10) : 0;
+    size_t bytes = 1024 * (kilobytes == 0 ? DVG_STACK_KB : kilobytes);
+    bool refuses = count > 2 && strcmp(words[2], "refused") == 0;
     pthread_attr_t attributes;
     pthread_t thread;
     void *done = NULL;
@@ -48,10 +90,14 @@ int main(int count, char **words)
         rom[i] = 0xF0;
     }
     rom[sizeof rom - 1] = 0xB0;
+    most = refuses ? 100000 : SIZE_MAX;
     if (pthread_attr_init(&attributes) != 0 || pthread_attr_setstacksize(&attributes, bytes) != 0
         || pthread_create(&thread, &attributes, use, NULL) != 0 || pthread_join(thread, &done) != 0) {
         printf("no thread with %zu bytes of stack\n", bytes);
         return 2;
+    }
+    if (refused != refuses) {
+        done = NULL;
     }
     printf("%s\n", done == NULL ? "failed" : "done");
     return done == NULL ? 1 : 0;

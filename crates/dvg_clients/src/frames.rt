@@ -14,11 +14,11 @@ pub fn empty_draft_is_refused(rom: &Rom<Global>) -> Result<Frame, FrameFault>
 }
 
 /// A checker that has checked a draft answers as if the next one were its first.
-pub fn checker_answers_anew(draft: &Draft, rom: &Rom<Global>) -> bool
+pub fn checker_answers_anew(alloc: Global, draft: &Draft, rom: &Rom<Global>) -> bool
     requires { draft.now ≡ OpKind.Halt ∷ [] }
     ensures { result ≡ true }
 {
-    let mut checker = Checker::new();
+    let mut checker = Checker::new(alloc);
     let _ = checker.check(&Draft::new(), rom);
     match checker.check(draft, rom) {
         Ok(_) => false,

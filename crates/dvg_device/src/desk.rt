@@ -1,6 +1,6 @@
 //! A driver alone.
-ghost use Rattle.std.specs.Prelude.{◌≡◌, ℕ, [], IfSome};
-ghost use Rattle.dvg_driver.specs.Stands.{StandsAfter};
+ghost use Rattle.std.specs.Prelude.{◌≡◌};
+ghost use Rattle.dvg_device.specs.Devices.{Driver as open_driver, IsNewDriver};
 ghost use Rattle.dvg_device.specs.Drivers.{DriverAnswers, OfferAnswers, RedrawAnswers};
 
 use crate::reply::Reply;
@@ -11,12 +11,12 @@ use dvg_mem::Rom;
 use std::alloc::Global;
 use std::marker::Model;
 
-/// A driver alone, with the ROM over which its drafts are checked and the tables for that.
+/// A driver alone, with the ROM over which its drafts are checked and what they are checked by.
 #[derive(Drop)]
 pub(crate) struct Desk {
     rom: Rom,
     driver: Driver,
-    checker: Box<Checker>,
+    checker: Checker<Global>,
 }
 
 /// Contracts see the ROM and the driver's stage.
@@ -29,16 +29,23 @@ impl Model for Desk {
 }
 
 impl Desk {
-    // A driver that was just reset, over this ROM. None for want of memory.
-    pub(crate) fn new(alloc: Global, rom: Rom) -> Option<Desk>
-        ensures { IfSome result (λ desk. (desk.rom ≡ rom) × ((peeked : ℕ) → StandsAfter desk.stage peeked [])) }
+    // A driver that was just reset, over this ROM.
+    pub(crate) fn new(alloc: Global, rom: Rom) -> Desk
+        ensures { IsNewDriver rom (open_driver result) }
     {
-        let checker = Checker::boxed(alloc).ok()?;
-        Some(Desk {
+        Desk {
             rom,
             driver: Driver::new(),
-            checker,
-        })
+            checker: Checker::new(alloc),
+        }
+    }
+
+    // The driver is just reset, over another ROM.
+    pub(crate) fn begin_anew(&mut self, rom: Rom)
+        ensures { IsNewDriver rom (open_driver self.new) }
+    {
+        self.rom = rom;
+        self.driver.reset();
     }
 
     // Asks it, with this draft.

@@ -17,6 +17,7 @@ use dvg_mem::{Flat, Image, Rom};
 use dvg_world::World;
 use std::alloc::Global;
 use std::marker::Model;
+use std::mem;
 
 /// The most bytes that are staged: those of a RAM, and of the larger ROM.
 const MOST_STAGED: usize = 6144;
@@ -43,6 +44,9 @@ pub struct Device {
     draft: Draft,
     picture: Vec<Stroke>,
     part: Part,
+    // Blocks of memory of what was open before, for what is opened next.
+    spare_world: Option<Box<World<Flat>>>,
+    spare_desk: Option<Box<Desk>>,
 }
 
 /// Contracts see a `Held`.
@@ -71,6 +75,8 @@ impl Device {
             draft: Draft::new(),
             picture: Vec::new(alloc),
             part: Part::Nothing,
+            spare_world: None,
+            spare_desk: None,
         }
     }
 
@@ -152,6 +158,20 @@ impl Device {
         Reply::Cleared
     }
 
+    // The memory of a world that was open before, if there is some.
+    fn take_spare_world(&mut self) -> Option<Box<World<Flat>>>
+        ensures { self.new ≡ self.old }
+    {
+        self.spare_world.take()
+    }
+
+    // The memory of a driver that was open before, if there is some.
+    fn take_spare_desk(&mut self) -> Option<Box<Desk>>
+        ensures { self.new ≡ self.old }
+    {
+        self.spare_desk.take()
+    }
+
     // Opens a world.
     #[inline(never)]
     fn open_world(&mut self) -> Reply
@@ -160,7 +180,8 @@ impl Device {
         if !is_one_of(self.staged.len(), 4096, 6144) {
             return Reply::WrongSize;
         }
-        match new_world(self.alloc, self.staged.as_slice()) {
+        let spare = self.take_spare_world();
+        match new_world(self.alloc, self.staged.as_slice(), spare) {
             Some(world) => self.open(Part::World(world)),
             None => Reply::NoMemory,
         }
@@ -174,7 +195,8 @@ impl Device {
         if !is_one_of(self.staged.len(), 2048, 4096) {
             return Reply::WrongSize;
         }
-        match new_desk(self.alloc, self.staged.as_slice()) {
+        let spare = self.take_spare_desk();
+        match new_desk(self.alloc, self.staged.as_slice(), spare) {
             Some(desk) => self.open(Part::Driver(desk)),
             None => Reply::NoMemory,
         }
@@ -187,14 +209,26 @@ impl Device {
         self.open(Part::Generator(Generator::new(self.alloc)))
     }
 
-    // Opens this, in which nothing was drawn yet.
+    // Opens this, in which nothing was drawn yet. The memory of what was open stays, for the next one of its kind.
     fn open(&mut self, part: Part) -> Reply
         ensures opened { result ≡ Reply.Opened }
         ensures device { self.new ≡ record self.old { picture = []; open_part = open_of part } }
     {
-        self.part = part;
+        let before = mem::replace(&mut self.part, part);
+        self.keep(before);
         self.picture = Vec::new(self.alloc);
         Reply::Opened
+    }
+
+    // Keeps the memory of what was open.
+    fn keep(&mut self, before: Part)
+        ensures { self.new ≡ self.old }
+    {
+        match before {
+            Part::World(world) => self.spare_world = Some(world),
+            Part::Driver(desk) => self.spare_desk = Some(desk),
+            Part::Nothing | Part::Generator(_) => {}
+        }
     }
 
     // Ends what is open, and gives its memory back.
@@ -275,26 +309,45 @@ fn is_one_of(n: usize, small: usize, large: usize) -> bool
     n == small || n == large
 }
 
-// A world over the ROM of the bytes behind the first 2,048, with those as the first image of its RAM. None for want of
-// memory.
-fn new_world(alloc: Global, staged: &[u8]) -> Option<Box<World<Flat>>>
+// A world over the ROM of the bytes behind the first 2,048, with those as the first image of its RAM, in this memory where
+// there is some. None for want of memory.
+fn new_world(
+    alloc: Global,
+    staged: &[u8],
+    spare: Option<Box<World<Flat>>>,
+) -> Option<Box<World<Flat>>>
     ensures { IfSome result (λ world. WorldAfter (drop 2048 staged.now) (take 2048 staged.now) [] world.value) }
 {
     let (image, rom) = staged.split_at_checked(RAM_BYTES)?;
     let rom = Rom::new(alloc, rom).ok()?;
     let image = Image::new(alloc, image).ok()?;
-    let world = World::<Flat>::new(alloc, rom, &image).ok()?;
-    Box::new(alloc, world).ok()
+    let Some(mut world) = spare else {
+        let world = World::<Flat>::new(alloc, rom, &image).ok()?;
+        return Box::new(alloc, world).ok();
+    };
+    world.begin_anew(alloc, rom, &image);
+    Some(world)
 }
 
-// A driver alone over the ROM of these bytes. None for want of memory.
-fn new_desk(alloc: Global, rom: &[u8]) -> Option<Box<Desk>>
+// A driver alone over the ROM of these bytes, in this memory where there is some. None for want of memory.
+fn new_desk(alloc: Global, rom: &[u8], spare: Option<Box<Desk>>) -> Option<Box<Desk>>
     ensures { IfSome result (λ desk. IsNewDriver rom.now (Driver desk.value)) }
 {
     let Ok(rom) = Rom::new(alloc, rom) else {
         return None;
     };
-    match Box::new(alloc, Desk::new(alloc, rom)?) {
+    let Some(mut desk) = spare else {
+        return boxed_desk(alloc, rom);
+    };
+    desk.begin_anew(rom);
+    Some(desk)
+}
+
+// A driver alone over this ROM, in new memory. None for want of it.
+fn boxed_desk(alloc: Global, rom: Rom) -> Option<Box<Desk>>
+    ensures { IfSome result (λ desk. IsNewDriver rom (Driver desk.value)) }
+{
+    match Box::new(alloc, Desk::new(alloc, rom)) {
         Ok(desk) => Some(desk),
         Err(_) => None,
     }

@@ -6,7 +6,7 @@ ghost use Rattle.dvg_frame.specs.Firsts.{DrawsLabs, NamesNone};
 ghost use Rattle.dvg_frame.specs.Frames.{IsFrame};
 ghost use Rattle.dvg_frame.specs.Layout.{size};
 ghost use Rattle.dvg_frame.specs.Picture.{IsBound};
-ghost use Rattle.dvg_frame.specs.Tables.{HasNone, IsRefused};
+ghost use Rattle.dvg_frame.specs.Tables.{BoundOrFault, HasNone, IsRefused};
 
 use crate::bounds::bound_of;
 use crate::chain::Chain;
@@ -18,7 +18,7 @@ use crate::place::FrameFault;
 use crate::sweep::sweep;
 use crate::table::Table;
 use crate::worklist::Worklist;
-use dvg_code::{Instr, OutOfMemory};
+use dvg_code::Instr;
 use dvg_mem::Rom;
 use std::alloc::Allocator;
 use std::marker::Model;
@@ -90,38 +90,76 @@ fn words_or_fault(draft: &Draft) -> Result<u16, FrameFault>
     }
 }
 
-/// The tables of the check, kept from one check to the next: a check takes time for the operations and for
-/// the places and pairs that it reaches, and none for the size of the tables. They are about 208 KB.
+// The tables of a check that are kept from one check to the next, about 208 KB.
 #[derive(Drop)]
-pub struct Checker {
+struct Tables {
     reached: Worklist,
     table: Table,
     chain: Chain,
 }
 
-/// Contracts see nothing of it: between checks nothing is known of a place, and no pair is reached.
-impl Model for Checker {
+// Contracts see nothing of them: between checks nothing is known of a place, and no pair is reached.
+impl Model for Tables {
     ghost Value = { Unit {0} };
 
-    ghost view = { λ checker. tt };
+    ghost view = { λ tables. tt };
 
-    ghost invariant = { λ checker. (checker.reached ≡ []) × HasNone checker.table };
+    ghost invariant = { λ tables. (tables.reached ≡ []) × HasNone tables.table };
 }
 
-impl Checker {
-    /// A checker. What it answers doesn't depend on what it checked before.
-    pub fn new() -> Checker {
-        Checker {
+impl Tables {
+    // Tables in memory of this allocator. None for want of it. While they are made, they take room on the stack once.
+    #[inline(never)]
+    fn boxed<A: Allocator>(alloc: A) -> Option<Box<Tables, A>> {
+        let tables = Tables {
             reached: Worklist::new(),
             table: Table::new(),
             chain: Chain::new(),
-        }
+        };
+        Box::new(alloc, tables).ok()
     }
 
-    /// A checker in memory of this allocator. While it is made, it takes room on the stack once.
-    #[inline(never)]
-    pub fn boxed<A: Allocator>(alloc: A) -> Result<Box<Checker, A>, OutOfMemory> {
-        Ok(Box::new(alloc, Checker::new())?)
+    // The bound of a draft without the faults 1 to 4, or the fault that is picked.
+    fn bound_or_fault<A: Allocator>(
+        &mut self,
+        draft: &Draft,
+        rom: &Rom<A>,
+    ) -> Result<u64, FrameFault>
+        requires rom { IsRom rom.now }
+        requires begins { Begins draft.now }
+        ensures { BoundOrFault draft.now rom.now result }
+    {
+        let bound = bound_of(draft, rom, &mut self.table, &mut self.chain);
+        self.table.clear();
+        match bound {
+            Some(bound) => Ok(bound),
+            None => {
+                let fault = fault_of(draft, rom, &mut self.reached);
+                self.reached.clear();
+                Err(fault)
+            }
+        }
+    }
+}
+
+/// The check with tables that are kept from one check to the next: a check takes time for the operations and for
+/// the places and pairs that it reaches, and none for the size of the tables. They are about 208 KB, which the first check that
+/// needs them takes from the allocator. Where that is refused, a check lays its tables out on the stack, as `check` does, and the
+/// next one asks again: so want of memory costs time alone.
+#[derive(Drop)]
+pub struct Checker<A: Allocator> {
+    alloc: A,
+    tables: Option<Box<Tables, A>>,
+}
+
+impl<A: Allocator + Copy> Checker<A> {
+    /// A checker that will take the memory of its tables from this allocator. What it answers doesn't depend on what it
+    /// checked before.
+    pub fn new(alloc: A) -> Checker<A> {
+        Checker {
+            alloc,
+            tables: None,
+        }
     }
 
     /// The draft, checked, where it has no fault over the ROM, and else the fault that is picked: faults 1 to
@@ -135,10 +173,10 @@ impl Checker {
     ///
     /// Exactly one answer holds of each draft and ROM. The time is linear in the draft's operations and the
     /// places and pairs that are reached, but that a loop is followed for as many steps as there are places.
-    pub fn check<'a, A: Allocator>(
+    pub fn check<'a, B: Allocator>(
         &mut self,
         draft: &'a Draft,
-        rom: &Rom<A>,
+        rom: &Rom<B>,
     ) -> Result<Checked<'a>, FrameFault>
         ensures { IsChecked draft.now rom.now result }
     {
@@ -148,15 +186,29 @@ impl Checker {
         };
         // A ROM has 2,048 or 4,096 bytes, as its type says.
         let _ = rom.len_words();
-        let bound = bound_of(draft, rom, &mut self.table, &mut self.chain);
-        self.table.clear();
-        match bound {
-            Some(bound) => Ok(Checked::of(draft, words, bound)),
-            None => {
-                let fault = fault_of(draft, rom, &mut self.reached);
-                self.reached.clear();
-                Err(fault)
-            }
+        match self.bound_or_fault(draft, rom) {
+            Ok(bound) => Ok(Checked::of(draft, words, bound)),
+            Err(fault) => Err(fault),
+        }
+    }
+
+    // The bound of a draft without the faults 1 to 4, or the fault that is picked: by the kept tables, where there is memory
+    // for them.
+    fn bound_or_fault<B: Allocator>(
+        &mut self,
+        draft: &Draft,
+        rom: &Rom<B>,
+    ) -> Result<u64, FrameFault>
+        requires rom { IsRom rom.now }
+        requires begins { Begins draft.now }
+        ensures { BoundOrFault draft.now rom.now result }
+    {
+        if self.tables.is_none() {
+            self.tables = Tables::boxed(self.alloc);
+        }
+        match &mut self.tables {
+            Some(tables) => tables.bound_or_fault(draft, rom),
+            None => anew(draft, rom),
         }
     }
 }
@@ -186,8 +238,20 @@ pub fn check<A: Allocator>(draft: &Draft, rom: &Rom<A>) -> Result<Frame, FrameFa
     }
     // A ROM has 2,048 or 4,096 bytes, as its type says.
     let _ = rom.len_words();
+    match anew(draft, rom) {
+        Ok(bound) => Ok(Frame::of(draft, bound)),
+        Err(fault) => Err(fault),
+    }
+}
+
+// The bound of a draft without the faults 1 to 4, or the fault that is picked, with new tables.
+fn anew<A: Allocator>(draft: &Draft, rom: &Rom<A>) -> Result<u64, FrameFault>
+    requires rom { IsRom rom.now }
+    requires begins { Begins draft.now }
+    ensures { BoundOrFault draft.now rom.now result }
+{
     match bound_anew(draft, rom) {
-        Some(bound) => Ok(Frame::of(draft, bound)),
+        Some(bound) => Ok(bound),
         None => Err(fault_anew(draft, rom)),
     }
 }

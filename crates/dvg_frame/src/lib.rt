@@ -8,7 +8,7 @@
 //!
 //! Drafts and their check are this project's own; the words are those of Atari's DVG documentation and
 //! of Margolin's *The Secret Life of Vector Generators*. No call of this crate takes memory but
-//! `Checker::boxed`.
+//! `Checker::check`, which does without where it is refused.
 #![tactic(auto)]
 
 mod bounds;

@@ -40,8 +40,10 @@ impl<A: Allocator> Rom<A> {
         if bytes.len() != MEMORY_BYTES && bytes.len() != LARGE_ROM_BYTES {
             return Err(MemFault::Size);
         }
-        match bytes.to_vec(alloc) {
-            Ok(bytes) => Ok(Rom { bytes }),
+        // As one block: `to_vec` would copy each byte by itself.
+        let mut copy = Vec::new(alloc);
+        match copy.extend_from_slice(bytes) {
+            Ok(()) => Ok(Rom { bytes: copy }),
             Err(_) => Err(MemFault::OutOfMemory),
         }
     }

@@ -153,7 +153,10 @@ not_met name false e differs = refl
 
 has_names : (name : Text) → IsNoHelp name → HasNames (λ s. answers_to name (label_of s)) (built dvg_app).subs
 unfolding dvg_app clap_on_literals
-has_names name differs = (inl (inl refl), (inl (inr (inl refl)), (inl (inr (inr (inl refl))), (inl (inr (inr (inr refl))), (inr (not_met name _ refl differs), tt)))))
+has_names name differs = (
+  inl (inl refl),
+  (inl (inr (inl refl)), (inl (inr (inr (inl refl))), (inl (inr (inr (inr (inl refl)))), (inl (inr (inr (inr (inr (inl refl))))), (inl (inr (inr (inr (inr (inr refl))))), (inr (not_met name _ refl differs), tt)))))),
+)
 
 named_in : (stop : Option (Text × List Text)) → StopsAtNoHelp stop → (p : Text × List Row) → entered (built dvg_app) stop ≡ Some p → IsJobName p.0
 named_in None stop_is p e = cc

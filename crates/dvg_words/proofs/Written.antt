@@ -15,11 +15,14 @@ job_words = (
   λ name. (refl, refl, refl),
   λ name. (refl, refl, refl),
   λ name. (refl, refl, refl),
+  λ name. (refl, refl, refl),
+  λ name. (refl, refl, refl),
+  λ name. (refl, refl, refl),
 )
 
 pub help_words : HelpWords
 unfolding dvg_app clap_on_literals
-help_words = (λ name. refl, λ name. refl, λ name. refl, λ name. refl, λ name. refl)
+help_words = (λ name. refl, λ name. refl, λ name. refl, λ name. refl, λ name. refl, λ name. refl, λ name. refl)
 
 pub other_words : OtherWords
 unfolding dvg_app clap_on_literals

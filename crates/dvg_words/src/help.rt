@@ -1,4 +1,7 @@
-//! The help texts.
+//! The help texts, and the version.
+
+/// The program's version.
+pub(crate) const VERSION: &str = "0.9.0";
 
 /// What the program's help says behind its commands.
 pub(crate) const PROGRAM: &str =
@@ -7,10 +10,12 @@ tells what a command reads and writes, with its limits and an example.
 A fault of the input is printed on standard error, behind `dvg: `.
 
 Exit status:
-   0  done, or a help text that was asked for
-   1  a fault of the input, or a draft that `check` refuses
-   2  a failing read or write, or want of memory
-  64  words that ask for nothing the program can do
+   0  done, or a help text or the version that was asked for
+   1  a fault of the input, or what was asked about isn't good: a draft that may
+      not be drawn, a dump that draws no picture, a log with a torn picture
+   2  a failing read or write, or out of memory
+  64  arguments that ask for nothing the program can do: a file is no argument,
+      it is read by `<`
 
 Example:
   $ printf 'labs 512 400 0\\nvctr 9 -100 100 7\\nhalt\\n' | dvg check
@@ -20,16 +25,16 @@ Example:
 pub(crate) const LIST: &str =
     "Standard input: words, the low byte of each first, at most 8,192 bytes.
 
-Standard output: a line an instruction: the place of its first word, counted in
-words from 000, its name and its numbers. Places and addresses are hexadecimal,
-other numbers decimal. A `*` ends the line of words that aren't the canonical
-spelling.
+Standard output: one line per instruction: the place of its first word, counted
+in words from 000, its name and its numbers. Places and addresses are
+hexadecimal, other numbers decimal. A `*` ends the line of words that aren't the
+canonical spelling.
 
-Faults: `too long`, `odd length`, and `cut at HHH` where the last word begins an
-instruction of two words.
+Faults: `too long` for more than 8,192 bytes, `odd length` for an odd number of
+them, and `cut at HHH` where the last word begins an instruction of two words.
 
 Example:
-  $ printf '\\x64\\x90\\x64\\x74' | dvg list
+  $ printf '\\144\\220\\144\\164' | dvg list
   000 VCTR 9 -100 100 7";
 
 /// The input and output of `rom`.
@@ -47,6 +52,36 @@ Fault: `rom size` for any other number of bytes.
 Example:
   $ head -c 2048 /dev/zero | dvg rom | tail -n 1
   rom BF8 0000 0000 0000 0000 0000 0000 0000 0000";
+
+/// The input and output of `picture`.
+pub(crate) const PICTURE: &str =
+    "Standard input: a dump of the vector memory, the low byte of each word first: the
+2,048 bytes of its RAM (words 000 to 3FF), and then the 2,048 bytes of a ROM
+(800 to BFF) or the 4,096 of the larger one (400 to BFF).
+
+The generator is started once over this memory, which doesn't change, with the
+beam at 0 0 and scale 0. Standard output is one of these:
+
+  picture W N       W words were fetched up to the HALT. N lines `x0 y0 x1 y1 z`
+                    follow, one per stroke: from where to where, in 1/512 of a
+                    screen unit, and the intensity
+  broke HHH F       the run broke at the word fetched from HHH, where F is
+                    1 for a call inside of four calls, 2 for a return outside of
+                    any call, 3 for an address where there is no memory
+  endless           neither happened within 65,536 words
+
+With `--all` there is first one line per instruction that is run, in order: its
+address, its name and its numbers as `dvg list` writes them, and behind `at` the
+beam after it: x, y and scale. Where it draws a stroke, its line follows.
+
+Fault: `dump size` for any other number of bytes.
+
+Example:
+  $ printf '\\001\\340\\220\\241\\000\\002\\144\\220\\144\\164\\000\\260' >dump
+  $ head -c 4084 /dev/zero >>dump
+  $ dvg picture <dump
+  picture 6 1
+  262144 204800 210944 256000 7";
 
 /// The input and output of `check`.
 pub(crate) const CHECK: &str =
@@ -94,8 +129,9 @@ PLACE is `op I` or `word HHH`:
   fault 9 loops              a place leads back to itself, with as many calls
                              open, so the picture may have no end
 
-Faults of the text: `too long`, `syntax at line N`, and `full at line N` for
-operation 512. Lines are numbered from 1.
+Faults of the text: `too long` for more than 1,048,576 bytes, `syntax at line N`
+for a line that is none of these or stands where it may not, and `full at line N`
+for operation 512. Lines are numbered from 1.
 
 Example:
   $ printf 'labs 512 400 0\\nvctr 9 -100 100 7\\nhalt\\n' | dvg check
@@ -136,9 +172,10 @@ With `--banked` the RAM is kept in banks, of which none has bytes of both
 halves. The same is written, so one sees that no picture depends on how the RAM
 is kept.
 
-Faults: `too long`, `syntax at line N`, `full at line N` for operation 512 of a
-frame, `too many events at line N`, `offer without end`. Lines are numbered from
-1.
+Faults: `too long` for more than 1,048,576 bytes, `syntax at line N` for a line
+that is none of these or stands where it may not, `full at line N` for operation
+512 of a frame, `too many events at line N` for event 65,537, and
+`offer without end`. Lines are numbered from 1.
 
 Example:
   $ printf 'tick 2\\noffer\\nlabs 512 400 0\\nvctr 9 -100 100 7\\nhalt\\nend\\n' >trace
@@ -146,3 +183,32 @@ Example:
   $ dvg play <trace
   picture 29 1
   262144 204800 210944 256000 7";
+
+/// The input and output of `torn`.
+pub(crate) const TORN: &str =
+    "Standard input: a log of what a system of any kind did, as text of any length, one
+line per event:
+
+  started           a strobe began a run of the generator
+  low HHH HH        the generator fetched the low byte of the word at HHH
+  fetched HHH HHHH  it fetched the word at HHH, or the high byte of it
+  halted            the run ended
+  reset             the generator was reset, so the run is over
+  wrote HHH HH      a byte was written in the RAM, at this byte address
+
+A line has at most 64 bytes. Numbers are hexadecimal, with as many digits as
+here. An empty line and a line that begins with `#` are passed over.
+
+A half of the RAM is being drawn from the first word that a run fetched on, if
+that is word 000, a jump to the half, until the run ends. Half 0 is bytes 002 to
+3FF, half 1 is bytes 402 to 7FF.
+
+Standard output: `torn at line N: wrote HHH HH` for the first byte that is
+written in the half being drawn, else `not torn`. Lines are numbered from 1.
+Nothing is judged behind the first line that is torn or at fault.
+
+Fault: `syntax at line N`.
+
+Example:
+  $ printf 'started\\nfetched 000 E201\\nwrote 402 90\\n' | dvg torn
+  torn at line 3: wrote 402 90";

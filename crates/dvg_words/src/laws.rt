@@ -6,7 +6,7 @@ pub fn job_words()
     ensures { JobWords }
 {}
 
-/// Words that ask for help.
+/// Words that ask for help, or for the version.
 pub fn help_words()
     ensures { HelpWords }
 {}

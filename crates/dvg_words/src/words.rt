@@ -18,6 +18,10 @@ fn named(name: &str, found: &ArgMatches) -> Option<Job>
         Some(Job::List)
     } else if name == "rom" {
         Some(Job::Rom)
+    } else if name == "picture" {
+        Some(Job::Picture {
+            all: is_set(found, "all"),
+        })
     } else if name == "check" {
         Some(Job::Check {
             bound: is_set(found, "bound"),
@@ -27,6 +31,8 @@ fn named(name: &str, found: &ArgMatches) -> Option<Job>
             all: is_set(found, "all"),
             banked: is_set(found, "banked"),
         })
+    } else if name == "torn" {
+        Some(Job::Torn)
     } else {
         None
     }
@@ -70,7 +76,7 @@ fn matched<'a>(alloc: Global, words: &'a [&'a str]) -> Result<ArgMatches<'a>, Er
 /// What the words ask for: the subcommand and the options that they match. The first word is the
 /// program's name, and may be anything.
 ///
-/// An error is help that the words ask for (`DisplayHelp`), a refusal of words that ask for nothing the
+/// An error is help or the version that the words ask for (`DisplayHelp`, `DisplayVersion`), a refusal of words that ask for nothing the
 /// program can do, or want of memory (`OutOfMemory`). Its text is its `Display`.
 pub fn job<'a>(alloc: Global, words: &'a [&'a str]) -> Result<Job, Error>
     ensures ok { IfOk result (λ j. IsJob j (subcommand_of dvg_app (map (λ w. w.now) words.entry.now))) }

@@ -35,8 +35,8 @@ pub struct World<S: Store> {
     generator: Generator<S::Alloc>,
     driver: Driver,
     strobe_sent: bool,
-    /// The tables by which drafts are checked.
-    checker: Box<Checker, S::Alloc>,
+    /// What drafts are checked by. It takes the memory of its tables at the first offer.
+    checker: Checker<S::Alloc>,
 }
 
 /// Contracts see a `State`.
@@ -69,15 +69,29 @@ impl<S: Store> World<S> {
         // An image is one of 2,048 bytes, as its type says.
         let _ = image.bytes();
         let store = S::make(alloc, image)?;
-        let checker = Checker::boxed(alloc)?;
         Ok(World {
             rom,
             store,
             generator: Generator::new(alloc),
             driver: Driver::new(),
             strobe_sent: false,
-            checker,
+            checker: Checker::new(alloc),
         })
+    }
+
+    /// Makes this world one over another ROM after a reset of the whole system, as `new` makes one, in the memory that
+    /// it has: for callers that open one world after another.
+    pub fn begin_anew(&mut self, alloc: S::Alloc, rom: Rom<S::Alloc>, image: &Image<S::Alloc>)
+        ensures { WorldAfter rom image.now [] self.new }
+    {
+        // An image is one of 2,048 bytes, and a ROM has 2,048 or 4,096, as their types say.
+        let _ = image.bytes();
+        let _ = rom.len_words();
+        self.store.load(image);
+        self.rom = rom;
+        self.generator = Generator::new(alloc);
+        self.driver.reset();
+        self.strobe_sent = false;
     }
 
     /// Lets an event happen, by the call that does it, and answers its entry.
@@ -211,7 +225,7 @@ impl<S: Store> World<S> {
         self.store.load(image);
         self.generator.reset();
         self.driver.reset();
-        self.strobe_sent = false;
+        self.strobe_sent = false; // No strobe is under way any more.
         Entry::Cleared
     }
 }

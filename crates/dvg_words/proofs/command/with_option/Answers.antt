@@ -1,10 +1,8 @@
 use Rattle.std.proofs.Common.{◌∙◌, ◌||◌, ap, ap₂}
 use Rattle.std.proofs.lemmas.Result.{IfOk-weaker}
-use Rattle.clap.specs.Words.{AddsSubcommand, App, Shape, app_of, with_subcommand}
+use Rattle.clap.specs.Words.{AddsSubcommand, app_of, with_subcommand}
+use Rattle.dvg_words.proofs.Parts.{top_of}
 use Rattle.dvg_words.proofs.command.with_option.Goals as goal
-
-abbrev top_of : App → Shape
-top_of a = a.top
 
 pub returns-clause-app : goal.returns-clause-app
 returns-clause-app c =
