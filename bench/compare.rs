@@ -1,8 +1,8 @@
 //! Compares the proved program with its plain twin: the same inputs, many times, one program after the other.
 //!
 //! `compare ROWS PROVED PLAIN FOLDER` runs both programs on each row's input, checks that they write the same and end
-//! with the row's status each time, and prints a table. ROWS is `dvg`, `play` or `parts`. It makes the inputs itself and
-//! keeps its files in FOLDER.
+//! with the row's status each time, and prints a table. ROWS is `dvg`, `play`, `picture` or `parts`. It makes the inputs
+//! itself and keeps its files in FOLDER.
 //! It is made for 64-bit Linux, whose `wait4` tells what a single process used.
 
 use std::fs::{self, File};
@@ -40,6 +40,28 @@ const DVG_ROWS: &[Row] = &[
         &["check", "--bound"],
         || operations(510),
     ),
+];
+
+/// What is compared of the command `picture`.
+const PICTURE_ROWS: &[Row] = &[
+    row("picture, 254 strokes", &["picture"], image_of_a_picture),
+    row(
+        "picture --all, 254 strokes",
+        &["picture", "--all"],
+        image_of_a_picture,
+    ),
+    Row {
+        status: 1,
+        ..row("picture, endless", &["picture"], image_without_end)
+    },
+    Row {
+        status: 1,
+        ..row(
+            "picture --all, endless",
+            &["picture", "--all"],
+            image_without_end,
+        )
+    },
 ];
 
 /// What is compared of the command `play`.
@@ -339,6 +361,40 @@ fn pictures() -> Vec<u8> {
     text.into_bytes()
 }
 
+/// An image of vector memory whose RAM begins with these words and has zeros behind them, with a ROM of returns.
+fn image(words: &[u16]) -> Vec<u8> {
+    let zeros = [0; 0x400];
+    let ram = words.iter().chain(&zeros[words.len()..]);
+    ram.chain(&[0xD000; 0x400])
+        .flat_map(|word| word.to_le_bytes())
+        .collect()
+}
+
+/// The words of a LABS and of vectors that are seen, behind a jump to it.
+fn drawing(vectors: usize) -> Vec<u16> {
+    let mut random = Random(1979);
+    let mut words = vec![0xE001, 0xA190, 0x0200];
+    for _ in 0..vectors {
+        words.push((random.below(10) as u16) << 12 | 0x400 | (1 + random.below(1023)) as u16);
+        words.push((1 + random.below(15) as u16) << 12 | random.below(1024) as u16);
+    }
+    words
+}
+
+/// An image of a frame of 254 vectors that are seen.
+fn image_of_a_picture() -> Vec<u8> {
+    let mut words = drawing(254);
+    words.push(0xB000);
+    image(&words)
+}
+
+/// An image of 63 vectors that are seen, which jumps back to the first: its run has no end.
+fn image_without_end() -> Vec<u8> {
+    let mut words = drawing(63);
+    words.push(0xE003);
+    image(&words)
+}
+
 /// As many offers of a draft as a text of 1,048,576 bytes has room for.
 fn offers(draft: &[u8]) -> Vec<u8> {
     let offer = [b"offer\n", draft, b"end\n"].concat();
@@ -618,7 +674,7 @@ fn compare(rows: &[Row], proved: &Path, plain: &Path, folder: &Path) -> io::Resu
 
 /// Says how the program is called.
 fn misuse() -> ExitCode {
-    eprintln!("usage: compare dvg|play|parts PROVED PLAIN FOLDER");
+    eprintln!("usage: compare dvg|play|picture|parts PROVED PLAIN FOLDER");
     ExitCode::from(64)
 }
 
@@ -630,6 +686,7 @@ fn main() -> ExitCode {
     let rows = match rows.as_str() {
         "dvg" => DVG_ROWS,
         "play" => PLAY_ROWS,
+        "picture" => PICTURE_ROWS,
         "parts" => PART_ROWS,
         _ => return misuse(),
     };

@@ -9,6 +9,7 @@ mod plain_frames;
 mod plain_generator;
 mod plain_lines;
 mod plain_memory;
+mod plain_picture;
 mod plain_shows;
 mod plain_texts;
 mod plain_traces;
@@ -17,6 +18,7 @@ mod plain_world;
 use plain_frames::check;
 use plain_lines::Line;
 use plain_memory::{BYTES, Banked, Flat};
+use plain_picture::{is_image, write_picture};
 use plain_shows::write_entries;
 use plain_texts::{MOST_TEXT_BYTES, TextFault, read_draft};
 use plain_traces::read_trace;
@@ -37,6 +39,9 @@ const ROM_BYTES: usize = 2048;
 /// The bytes of the larger ROM.
 const LARGE_ROM_BYTES: usize = 4096;
 
+/// The bytes of an image of vector memory with the larger ROM, the most that `picture` takes as its input.
+const MOST_IMAGE_BYTES: usize = 6144;
+
 /// The word address behind a ROM's last word.
 const ROM_END: usize = 0xC00;
 
@@ -52,6 +57,7 @@ enum Fault {
     OddLength,
     Cut(usize),
     RomSize,
+    DumpSize,
     Syntax(usize),
     Full(usize),
     Many(usize),
@@ -89,6 +95,7 @@ impl fmt::Display for Fault {
             Fault::OddLength => write!(f, "odd length"),
             Fault::Cut(place) => write!(f, "cut at {place:03X}"),
             Fault::RomSize => write!(f, "rom size"),
+            Fault::DumpSize => write!(f, "dump size"),
             Fault::Syntax(line) => write!(f, "syntax at line {line}"),
             Fault::Full(line) => write!(f, "full at line {line}"),
             Fault::Many(line) => write!(f, "too many events at line {line}"),
@@ -192,23 +199,35 @@ impl Line {
     }
 }
 
+impl Line {
+    /// Writes a place and the instruction there, with a star where its words aren't canonical.
+    fn listed(&mut self, place: usize, first: u16, second: u16) {
+        self.hex::<3>(place);
+        let canonical = if is_first_of_two(first) {
+            self.two_words(first, second)
+        } else {
+            self.one_word(first)
+        };
+        if !canonical {
+            self.text(b" *");
+        }
+    }
+}
+
 /// Writes a line for each instruction of the words.
 fn list_words(bytes: &[u8], writer: &mut impl Write) -> Result<(), Fault> {
     let (words, _) = bytes.as_chunks();
     let mut place = 0;
     while place < words.len() {
         let mut line = Line::new();
-        line.hex::<3>(place);
         let first = u16::from_le_bytes(words[place]);
-        let (length, canonical) = if is_first_of_two(first) {
+        let (length, second) = if is_first_of_two(first) {
             let second = words.get(place + 1).ok_or(Fault::Cut(place))?;
-            (2, line.two_words(first, u16::from_le_bytes(*second)))
+            (2, u16::from_le_bytes(*second))
         } else {
-            (1, line.one_word(first))
+            (1, 0)
         };
-        if !canonical {
-            line.text(b" *");
-        }
+        line.listed(place, first, second);
         line.push(b'\n');
         line.write(writer).map_err(|_| Fault::Writer)?;
         place += length;
@@ -283,6 +302,24 @@ fn rom() -> Result<(), Fault> {
     let mut writer = output()?;
     write_rom(&buffer[..length], &mut writer)?;
     writer.flush().map_err(|_| Fault::Writer)
+}
+
+/// Writes what the image of vector memory that standard input holds draws, or why that has no end.
+fn picture(all: bool) -> Result<ExitCode, Fault> {
+    let mut buffer = [0; MOST_IMAGE_BYTES + 1];
+    let length = read_input(&mut buffer)?;
+    if !is_image(length) {
+        return Err(Fault::DumpSize);
+    }
+    let mut writer = output()?;
+    let drew = write_picture(&buffer[..length], all, &mut writer)
+        .and_then(|drew| writer.flush().map(|()| drew))
+        .map_err(|_| Fault::Writer)?;
+    Ok(if drew {
+        ExitCode::SUCCESS
+    } else {
+        ExitCode::from(1)
+    })
 }
 
 /// The text that standard input holds, or a beginning that is one byte too long.
@@ -370,6 +407,8 @@ fn do_job(words: &[String]) -> Option<Result<ExitCode, Fault>> {
         "rom" if options.is_empty() => Some(rom().map(|()| ExitCode::SUCCESS)),
         "check" if options.is_empty() => Some(check_text(false)),
         "check" if options == ["--bound"] => Some(check_text(true)),
+        "picture" if options.is_empty() => Some(picture(false)),
+        "picture" if options == ["--all"] => Some(picture(true)),
         "play" => Some(play(play_options(options)?).map(|()| ExitCode::SUCCESS)),
         _ => None,
     }
@@ -386,7 +425,7 @@ fn main() -> ExitCode {
     };
     let Some(done) = do_job(&words) else {
         complain(format_args!(
-            "usage: dvg list|rom|check [--bound]|play [--all] [--banked]"
+            "usage: dvg list|rom|check [--bound]|play [--all] [--banked]|picture [--all]"
         ));
         return ExitCode::from(MISUSE);
     };

@@ -2,10 +2,10 @@
 
 /// Where the beam is, and the global scale.
 #[derive(Clone, Copy)]
-struct Beam {
-    x: u32,
-    y: u32,
-    scale: u8,
+pub struct Beam {
+    pub x: u32,
+    pub y: u32,
+    pub scale: u8,
 }
 
 /// A line that was drawn.
@@ -26,6 +26,18 @@ pub enum GenFault {
     StackOver,
     StackUnder,
     Hole,
+}
+
+impl GenFault {
+    /// The number by which texts tell the fault.
+    #[allow(dead_code)]
+    pub fn number(self) -> u32 {
+        match self {
+            GenFault::StackOver => 1,
+            GenFault::StackUnder => 2,
+            GenFault::Hole => 3,
+        }
+    }
 }
 
 /// What a byte led to.
@@ -99,6 +111,18 @@ impl Generator {
             None => self.place,
             Some(_) => (self.place + 1) % 4096,
         })
+    }
+
+    /// Where the beam is.
+    #[allow(dead_code)]
+    pub fn beam(&self) -> Beam {
+        self.beam
+    }
+
+    /// The open run's strokes so far.
+    #[allow(dead_code)]
+    pub fn strokes(&self) -> &[Stroke] {
+        &self.strokes
     }
 
     /// Whether the next byte is the high one of its word.

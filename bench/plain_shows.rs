@@ -1,7 +1,7 @@
 //! What is written of a log in plain Rust, for the plain twin.
 
 use crate::plain_driver::Action;
-use crate::plain_generator::{GenFault, Stroke};
+use crate::plain_generator::Stroke;
 use crate::plain_lines::Line;
 use crate::plain_world::Entry;
 use std::io::{self, Write};
@@ -72,11 +72,7 @@ impl Line {
             }
             Entry::Broke(address, fault) => {
                 self.at(b"broke", *address);
-                self.natural(match fault {
-                    GenFault::StackOver => 1,
-                    GenFault::StackUnder => 2,
-                    GenFault::Hole => 3,
-                });
+                self.natural(fault.number());
             }
             Entry::Still => self.part(b"still"),
             Entry::Cleared => self.part(b"cleared"),
@@ -85,7 +81,7 @@ impl Line {
 }
 
 /// Writes the line of each stroke.
-fn write_strokes(strokes: &[Stroke], writer: &mut impl Write) -> io::Result<()> {
+pub fn write_strokes(strokes: &[Stroke], writer: &mut impl Write) -> io::Result<()> {
     for stroke in strokes {
         let mut line = Line::new();
         line.decimal(stroke.x0);

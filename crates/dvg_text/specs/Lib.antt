@@ -16,3 +16,4 @@ pub mod EventLines
 pub mod TraceReading
 pub mod TraceGives
 pub mod TraceLaws
+pub mod RunLines

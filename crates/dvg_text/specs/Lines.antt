@@ -39,9 +39,13 @@ instr_parts Rtsl = codes "RTSL" ∷ []
 instr_parts (Jmpl address) = codes "JMPL" ∷ hex_3 address ∷ []
 instr_parts (Svec scale dx dy z) = vector_parts (codes "SVEC") scale dx dy z
 
+-- an instruction's name and operands, and a star where its words aren't canonical
+abbrev pub listed_parts : Instr → Bool → List (List ℕ)
+listed_parts instr canonical = instr_parts instr ++ cond canonical [] (codes "*" ∷ [])
+
 -- the line of an instruction at a place, whose words are canonical, or else marked by a star; 10 is LF
 abbrev pub line_text : ℕ → Instr → Bool → List ℕ
-line_text place instr canonical = hex_3 place ++ spaced (instr_parts instr ++ cond canonical [] (codes "*" ∷ [])) ++ 10 ∷ []
+line_text place instr canonical = hex_3 place ++ spaced (listed_parts instr canonical) ++ 10 ∷ []
 
 -- the line of an instruction at its place, with the words that spell it
 abbrev pub line_of : Placed → List ℕ

@@ -16,6 +16,9 @@ pub enum TextFault {
     /// A ROM has neither 2,048 nor 4,096 bytes.
     #[error("rom size")]
     RomSize,
+    /// A dump of vector memory has neither 4,096 nor 6,144 bytes.
+    #[error("dump size")]
+    DumpSize,
     /// The line of this number, counted from 1, spells nothing that may stand at its place.
     #[error("syntax at line {0}")]
     Syntax(usize),

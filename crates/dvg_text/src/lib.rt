@@ -1,5 +1,5 @@
 //! Texts in memory, both ways: the lines of numbers, drafts, ROMs and traces that the program `dvg` reads, and the
-//! lines that it writes of instructions, ROMs, verdicts, entries and strokes (all formats are this project's own
+//! lines that it writes of instructions, ROMs, verdicts, entries, runs and strokes (all formats are this project's own
 //! choice). A line is written without taking memory.
 #![tactic(auto)]
 
@@ -14,6 +14,7 @@ mod number;
 mod op_line;
 mod rom_line;
 mod rom_text;
+mod run_line;
 mod text_lines;
 mod trace_text;
 mod verdict;

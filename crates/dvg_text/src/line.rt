@@ -1,7 +1,7 @@
 //! Lines of output, made without taking memory.
 ghost use Rattle.std.specs.Prelude.{◌≡◌, ◌≤◌, ◌<◌, ◌+◌, ◌++◌, ◌∷◌, [], List, ℕ, length, codes, decimal, true};
 ghost use Rattle.std.specs.Fmt.{digit_glyph};
-ghost use Rattle.dvg_text.specs.Lines.{hex_2, hex_3, hex_4, instr_parts, line_text, rom_line, spaced, vector_parts};
+ghost use Rattle.dvg_text.specs.Lines.{hex_2, hex_3, hex_4, instr_parts, line_text, listed_parts, rom_line, spaced, vector_parts};
 ghost use Rattle.dvg_text.specs.Verdicts.{fault_parts, place_parts, verdict_line};
 
 use crate::verdict::Verdict;
@@ -242,10 +242,10 @@ impl Line {
         }
     }
 
-    /// Becomes the line that `list` writes of an instruction at a place, of words that are canonical or
-    /// not.
-    pub fn become_listed(&mut self, place: usize, code: &Code, canonical: bool)
-        ensures { self.new ≡ line_text place code.now canonical }
+    // Becomes the place of an instruction, its name and operands, and a star where its words aren't canonical.
+    pub(crate) fn become_placed(&mut self, place: usize, code: &Code, canonical: bool)
+        ensures text { self.new ≡ hex_3 place ++ spaced (listed_parts code.now canonical) }
+        ensures short { length self.new ≤ 32 }
     {
         self.bytes.clear();
         self.hex_3(place);
@@ -253,6 +253,14 @@ impl Line {
         if !canonical {
             self.part(b"*");
         }
+    }
+
+    /// Becomes the line that `list` writes of an instruction at a place, of words that are canonical or
+    /// not.
+    pub fn become_listed(&mut self, place: usize, code: &Code, canonical: bool)
+        ensures { self.new ≡ line_text place code.now canonical }
+    {
+        self.become_placed(place, code, canonical);
         self.text(b"\n");
     }
 

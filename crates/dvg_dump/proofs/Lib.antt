@@ -1,0 +1,4 @@
+pub mod OneEnd
+pub mod Drawing
+pub mod Stepping
+pub mod Telling

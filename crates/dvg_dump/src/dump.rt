@@ -1,0 +1,67 @@
+//! Dumps of vector memory.
+ghost use Rattle.std.specs.Prelude.{◌≡◌, ◌↔◌, IfOk, IsErrOf, OnOk};
+ghost use Rattle.dvg_dump.specs.Memory.{HasDumpSize, parts_of};
+
+use dvg_mem::{Flat, Image, LARGE_ROM_BYTES, MEMORY_BYTES, Rom, Store};
+use std::alloc::{Allocator, Global};
+use std::marker::Model;
+use thiserror::Error;
+
+/// The bytes of a dump with the smaller ROM.
+pub const SMALL_DUMP_BYTES: usize = 2 * MEMORY_BYTES;
+
+/// The bytes of a dump with the larger ROM.
+pub const LARGE_DUMP_BYTES: usize = MEMORY_BYTES + LARGE_ROM_BYTES;
+
+/// Why a dump was not taken.
+#[derive(Clone, Copy, Debug, PartialEq, Eq, Error)]
+pub enum DumpFault {
+    /// There are neither 4,096 bytes nor 6,144.
+    #[error("there are neither 4,096 bytes nor 6,144")]
+    Size,
+    /// A growth was refused for want of memory.
+    #[error("out of memory")]
+    OutOfMemory,
+}
+
+/// A dump of vector memory: the 2,048 bytes of the RAM, and behind them the 2,048 or 4,096 bytes of the ROM.
+#[derive(Drop)]
+pub struct Dump<A: Allocator = Global> {
+    pub(crate) alloc: A,
+    pub(crate) ram: Flat<A>,
+    pub(crate) rom: Rom<A>,
+}
+
+/// Contracts see the bytes of both.
+impl<A: Allocator> Model for Dump<A> {
+    ghost use Rattle.dvg_dump.specs.Memory.{DumpBytes};
+
+    ghost Value = { DumpBytes };
+
+    ghost view = { λ dump. record { ram = dump.ram; rom = dump.rom } };
+}
+
+impl<A: Allocator + Copy> Dump<A> {
+    /// The dump of these bytes: the RAM's from address 000 on, and then the ROM's. It is refused as `Size` exactly where
+    /// they are neither 4,096 nor 6,144. What a run takes later is of this allocator, too.
+    pub fn new(alloc: A, bytes: &[u8]) -> Result<Dump<A>, DumpFault>
+        ensures bytes { IfOk result (λ dump. dump ≡ parts_of bytes.now) }
+        ensures taken { OnOk result (HasDumpSize bytes.now) }
+        ensures size { IsErrOf result DumpFault.Size ↔ ¬ HasDumpSize bytes.now }
+    {
+        if bytes.len() != SMALL_DUMP_BYTES && bytes.len() != LARGE_DUMP_BYTES {
+            return Err(DumpFault::Size);
+        }
+        let (ram, rom) = bytes.split_at(MEMORY_BYTES);
+        let Ok(image) = Image::new(alloc, ram) else {
+            return Err(DumpFault::OutOfMemory);
+        };
+        let Ok(ram) = Flat::make(alloc, &image) else {
+            return Err(DumpFault::OutOfMemory);
+        };
+        let Ok(rom) = Rom::new(alloc, rom) else {
+            return Err(DumpFault::OutOfMemory);
+        };
+        Ok(Dump { alloc, ram, rom })
+    }
+}

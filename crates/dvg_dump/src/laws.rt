@@ -1,0 +1,13 @@
+//! Laws of the definitions alone. Each is the contract of a function that does nothing.
+ghost use Rattle.dvg_dump.specs.Laws.{OneEnd, StrokesOfTrace};
+
+/// The run over a memory of words ends in exactly one way within 65,536 words, of which not ending is one, and after exactly
+/// one list of instructions.
+pub fn one_end()
+    ensures { OneEnd }
+{}
+
+/// The strokes of a run are those that are told of its instructions, in order.
+pub fn strokes_of_trace()
+    ensures { StrokesOfTrace }
+{}
