@@ -5,8 +5,8 @@ mod plain_driver;
 mod plain_frames;
 mod plain_generator;
 mod plain_judge;
-mod plain_run;
 mod plain_memory;
+mod plain_run;
 mod plain_world;
 
 use plain_driver::{Action, Driver};

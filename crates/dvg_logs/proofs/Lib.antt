@@ -1,1 +1,2 @@
 pub mod LogRows
+pub mod LogReads

@@ -14,6 +14,7 @@ use Rattle.dvg_text.proofs.LineEnds.{line_at, line_last}
 use Rattle.dvg_text.proofs.Zips.{zip_length, zip_push}
 use Rattle.dvg_logs.specs.LogLines.{IsLogOf, Tells, passed, told}
 use Rattle.dvg_logs.specs.LogTexts.{IsTornAt, IsUntornLog, MeetsSyntax, MeetsTooMany}
+use Rattle.dvg_logs.specs.declared.log_reading.JudgedLines.{JudgedLines}
 use Rattle.dvg_logs.specs.LogReading.{IsOpen, IsRead, IsTornLine, HasJudged, StopsAt}
 use Rattle.dvg_logs.specs.Tears.{ended}
 
@@ -67,7 +68,7 @@ begins_onto byte (text ∷ texts) = record { tail = text; after = texts; is = re
 begins_more : (byte : ℕ) (bytes : List ℕ) (texts : List (List ℕ)) → Begins bytes texts → Begins (byte ∷ bytes) (onto_first byte texts)
 begins_more byte bytes texts begins = record { tail = begins.tail; after = begins.after; is = ap (onto_first byte) begins.is }
 
-pub begins : (byte : ℕ) (bytes more : List ℕ) → IsOpen (byte ∷ bytes) → Begins (byte ∷ bytes) (lines ((byte ∷ bytes) ++ more))
+begins : (byte : ℕ) (bytes more : List ℕ) → IsOpen (byte ∷ bytes) → Begins (byte ∷ bytes) (lines ((byte ∷ bytes) ++ more))
 begins byte [] more open =
     let other : eqb byte 10 ≡ false = All-head (λ b. eqb b 10 ≡ false) byte [] open in rw other (begins_onto byte (lines more))
 begins byte (next ∷ bytes) more open =
@@ -75,8 +76,77 @@ begins byte (next ∷ bytes) more open =
     let rest = begins next bytes more (All-tail (λ b. eqb b 10 ≡ false) byte (next ∷ bytes) open) in
     rw other (begins_more byte (next ∷ bytes) (lines ((next ∷ bytes) ++ more)) rest)
 
+pub begins_of : (bytes more : List ℕ) → IsOpen bytes → 0 < length bytes → Begins bytes (lines (bytes ++ more))
+begins_of [] more open some = absurd (omega arith)
+begins_of (byte ∷ bytes) more open some = begins byte bytes more open
+
+-- a line that is too long tells nothing
+pub too_long : (text : List ℕ) → 64 < length text → (line : Line) → ¬ Tells line text
+too_long text over line (passed short is) = absurd (omega arith)
+too_long text over line (told short is row) = absurd (omega arith)
+
 -- ---- bytes more
 
 length_ended-append : (texts : List (List ℕ)) (text : List ℕ) → length (ended (texts ++ text ∷ [])) ≡ length (ended texts) + (length text + 1)
 length_ended-append texts text = ap length (flat_map-append (λ line. line ++ 10 ∷ []) texts (text ∷ []))
     ∙ (length-append (ended texts) ((text ++ 10 ∷ []) ++ []) ∙ ap (λ n. length (ended texts) + n) (ap length (append-nil (text ++ 10 ∷ [])) ∙ length-append text (10 ∷ [])))
+
+-- before the first piece
+pub nothing_read : (judged : JudgedLines) → HasJudged judged [] → IsRead judged [] []
+nothing_read judged fine = record { texts = []; fine = fine; open = λ k d inside. absurd (omega arith); cut = λ more. refl; size = refl }
+
+-- what bytes of a line make of what was read
+module _ {judged : JudgedLines} {unfinished text : List ℕ} (bytes : List ℕ) (read : IsRead judged unfinished text) (open : IsOpen bytes) where
+  both_open : IsOpen (unfinished ++ bytes)
+  both_open = All-append (λ b. eqb b 10 ≡ false) unfinished bytes read.open open
+
+  -- it has not ended
+  pub bytes_read : IsRead judged (unfinished ++ bytes) (text ++ bytes)
+  bytes_read = record {
+    texts = read.texts;
+    fine = read.fine;
+    open = both_open;
+    cut = λ more. ap lines (append_assoc text bytes more) ∙ (read.cut (bytes ++ more) ∙ ap (λ l. read.texts ++ lines l) (sym (append_assoc unfinished bytes more)));
+    size = omega (arith, read.size, length-append text bytes, length-append unfinished bytes);
+  }
+
+  -- it ends
+  ended_line : (more : List ℕ) → lines (text ++ (bytes ++ 10 ∷ more)) ≡ read.texts ++ (unfinished ++ bytes) ∷ lines more
+  ended_line more =
+      read.cut (bytes ++ 10 ∷ more)
+      ∙ ap (λ ls. read.texts ++ ls) (ap lines (sym (append_assoc unfinished bytes (10 ∷ more))) ∙ line_then (unfinished ++ bytes) more both_open)
+
+  pub line_stops : (P : List (List ℕ) → Type 0) → ((after : List (List ℕ)) → P (read.texts ++ (unfinished ++ bytes) ∷ after)) → (more : List ℕ) → P (lines (text ++ (bytes ++ 10 ∷ more)))
+  line_stops P stops more = subst P (sym (ended_line more)) (stops (lines more))
+
+  pub line_read : (new : JudgedLines) → HasJudged new (read.texts ++ (unfinished ++ bytes) ∷ []) → IsRead new [] (text ++ (bytes ++ 10 ∷ []))
+  line_read new fine = record {
+    texts = read.texts ++ (unfinished ++ bytes) ∷ [];
+    fine = fine;
+    open = λ k d inside. absurd (omega arith);
+    cut = λ more. ap lines (append_assoc text (bytes ++ 10 ∷ []) more ∙ ap (λ l. text ++ l) (append_assoc bytes (10 ∷ []) more))
+        ∙ (ended_line more ∙ sym (append_assoc read.texts ((unfinished ++ bytes) ∷ []) (lines more)));
+    size = omega (arith, read.size, length-append text (bytes ++ 10 ∷ []), length-append bytes (10 ∷ []), length-append unfinished bytes, length_ended-append read.texts (unfinished ++ bytes));
+  }
+
+  -- it is too long
+  pub overlong_stops : (P : List (List ℕ) → Type 0) → 64 < length (unfinished ++ bytes) → ((line : List ℕ) (after : List (List ℕ)) → ((told : Line) → ¬ Tells told line) → P (read.texts ++ line ∷ after))
+      → (more : List ℕ) → P (lines (text ++ (bytes ++ more)))
+  overlong_stops P over stops more =
+      let starts = begins_of (unfinished ++ bytes) more both_open (omega arith) in
+      let is = read.cut (bytes ++ more) ∙ ap (λ ls. read.texts ++ ls) (ap lines (sym (append_assoc unfinished bytes more)) ∙ starts.is) in
+      subst P (sym is) (stops ((unfinished ++ bytes) ++ starts.tail) starts.after (λ line tells. too_long ((unfinished ++ bytes) ++ starts.tail) (omega (arith, length-append (unfinished ++ bytes) starts.tail)) line tells))
+
+-- the end of a text, where no line has begun
+pub all_ended : {judged : JudgedLines} {unfinished text : List ℕ} (read : IsRead judged unfinished text) → unfinished ≡ [] → lines text ≡ read.texts
+all_ended {unfinished = unfinished} {text = text} read none =
+    ap lines (sym (append-nil text)) ∙ (read.cut [] ∙ (ap (λ l. read.texts ++ lines (l ++ [])) none ∙ append-nil read.texts))
+
+-- where one has
+last_alone : (bytes : List ℕ) → IsOpen bytes → 0 < length bytes → lines bytes ≡ bytes ∷ []
+last_alone [] open some = absurd (omega arith)
+last_alone (byte ∷ bytes) open some = line_last byte bytes open
+
+pub last_ended : {judged : JudgedLines} {unfinished text : List ℕ} (read : IsRead judged unfinished text) → 0 < length unfinished → lines text ≡ read.texts ++ unfinished ∷ []
+last_ended {unfinished = unfinished} {text = text} read some =
+    ap lines (sym (append-nil text)) ∙ (read.cut [] ∙ ap (λ ls. read.texts ++ ls) (ap lines (append-nil unfinished) ∙ last_alone unfinished read.open some))

@@ -53,7 +53,7 @@ fn tell(judge: &mut Judge, told: LogLine) -> Option<(u16, u8)>
 }
 
 // The lines that have ended. None of them is torn or at fault.
-#[derive(Drop)]
+#[derive(Clone, Copy, Debug, PartialEq, Eq)]
 struct JudgedLines {
     judge: Judge,
     count: usize,
