@@ -53,7 +53,7 @@ torn_at log before line a byte text after is fine tells torn n number =
 
 -- a line that ends
 pub line_then : (line more : List ℕ) → IsOpen line → lines (line ++ 10 ∷ more) ≡ line ∷ lines more
-line_then line more open = line_at line 10 more open refl
+line_then line more unended = line_at line 10 more unended refl
 
 -- a text begins with a line that begins with these bytes
 pub record Begins (bytes : List ℕ) (texts : List (List ℕ)) : Type 0 where
@@ -69,16 +69,16 @@ begins_more : (byte : ℕ) (bytes : List ℕ) (texts : List (List ℕ)) → Begi
 begins_more byte bytes texts begins = record { tail = begins.tail; after = begins.after; is = ap (onto_first byte) begins.is }
 
 begins : (byte : ℕ) (bytes more : List ℕ) → IsOpen (byte ∷ bytes) → Begins (byte ∷ bytes) (lines ((byte ∷ bytes) ++ more))
-begins byte [] more open =
-    let other : eqb byte 10 ≡ false = All-head (λ b. eqb b 10 ≡ false) byte [] open in rw other (begins_onto byte (lines more))
-begins byte (next ∷ bytes) more open =
-    let other : eqb byte 10 ≡ false = All-head (λ b. eqb b 10 ≡ false) byte (next ∷ bytes) open in
-    let rest = begins next bytes more (All-tail (λ b. eqb b 10 ≡ false) byte (next ∷ bytes) open) in
+begins byte [] more unended =
+    let other : eqb byte 10 ≡ false = All-head (λ b. eqb b 10 ≡ false) byte [] unended in rw other (begins_onto byte (lines more))
+begins byte (next ∷ bytes) more unended =
+    let other : eqb byte 10 ≡ false = All-head (λ b. eqb b 10 ≡ false) byte (next ∷ bytes) unended in
+    let rest = begins next bytes more (All-tail (λ b. eqb b 10 ≡ false) byte (next ∷ bytes) unended) in
     rw other (begins_more byte (next ∷ bytes) (lines ((next ∷ bytes) ++ more)) rest)
 
 pub begins_of : (bytes more : List ℕ) → IsOpen bytes → 0 < length bytes → Begins bytes (lines (bytes ++ more))
-begins_of [] more open some = absurd (omega arith)
-begins_of (byte ∷ bytes) more open some = begins byte bytes more open
+begins_of [] more unended some = absurd (omega arith)
+begins_of (byte ∷ bytes) more unended some = begins byte bytes more unended
 
 -- a line that is too long tells nothing
 pub too_long : (text : List ℕ) → 64 < length text → (line : Line) → ¬ Tells line text
@@ -93,19 +93,19 @@ length_ended-append texts text = ap length (flat_map-append (λ line. line ++ 10
 
 -- before the first piece
 pub nothing_read : (judged : JudgedLines) → HasJudged judged [] → IsRead judged [] []
-nothing_read judged fine = record { texts = []; fine = fine; open = λ k d inside. absurd (omega arith); cut = λ more. refl; size = refl }
+nothing_read judged fine = record { texts = []; fine = fine; unended = λ k d inside. absurd (omega arith); cut = λ more. refl; size = refl }
 
 -- what bytes of a line make of what was read
-module _ {judged : JudgedLines} {unfinished text : List ℕ} (bytes : List ℕ) (read : IsRead judged unfinished text) (open : IsOpen bytes) where
+module _ {judged : JudgedLines} {unfinished text : List ℕ} (bytes : List ℕ) (read : IsRead judged unfinished text) (unended : IsOpen bytes) where
   both_open : IsOpen (unfinished ++ bytes)
-  both_open = All-append (λ b. eqb b 10 ≡ false) unfinished bytes read.open open
+  both_open = All-append (λ b. eqb b 10 ≡ false) unfinished bytes read.unended unended
 
   -- it has not ended
   pub bytes_read : IsRead judged (unfinished ++ bytes) (text ++ bytes)
   bytes_read = record {
     texts = read.texts;
     fine = read.fine;
-    open = both_open;
+    unended = both_open;
     cut = λ more. ap lines (append_assoc text bytes more) ∙ (read.cut (bytes ++ more) ∙ ap (λ l. read.texts ++ lines l) (sym (append_assoc unfinished bytes more)));
     size = omega (arith, read.size, length-append text bytes, length-append unfinished bytes);
   }
@@ -123,7 +123,7 @@ module _ {judged : JudgedLines} {unfinished text : List ℕ} (bytes : List ℕ) 
   line_read new fine = record {
     texts = read.texts ++ (unfinished ++ bytes) ∷ [];
     fine = fine;
-    open = λ k d inside. absurd (omega arith);
+    unended = λ k d inside. absurd (omega arith);
     cut = λ more. ap lines (append_assoc text (bytes ++ 10 ∷ []) more ∙ ap (λ l. text ++ l) (append_assoc bytes (10 ∷ []) more))
         ∙ (ended_line more ∙ sym (append_assoc read.texts ((unfinished ++ bytes) ∷ []) (lines more)));
     size = omega (arith, read.size, length-append text (bytes ++ 10 ∷ []), length-append bytes (10 ∷ []), length-append unfinished bytes, length_ended-append read.texts (unfinished ++ bytes));
@@ -144,9 +144,9 @@ all_ended {unfinished = unfinished} {text = text} read none =
 
 -- where one has
 last_alone : (bytes : List ℕ) → IsOpen bytes → 0 < length bytes → lines bytes ≡ bytes ∷ []
-last_alone [] open some = absurd (omega arith)
-last_alone (byte ∷ bytes) open some = line_last byte bytes open
+last_alone [] unended some = absurd (omega arith)
+last_alone (byte ∷ bytes) unended some = line_last byte bytes unended
 
 pub last_ended : {judged : JudgedLines} {unfinished text : List ℕ} (read : IsRead judged unfinished text) → 0 < length unfinished → lines text ≡ read.texts ++ unfinished ∷ []
 last_ended {unfinished = unfinished} {text = text} read some =
-    ap lines (sym (append-nil text)) ∙ (read.cut [] ∙ ap (λ ls. read.texts ++ ls) (ap lines (append-nil unfinished) ∙ last_alone unfinished read.open some))
+    ap lines (sym (append-nil text)) ∙ (read.cut [] ∙ ap (λ ls. read.texts ++ ls) (ap lines (append-nil unfinished) ∙ last_alone unfinished read.unended some))

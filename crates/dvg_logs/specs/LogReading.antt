@@ -43,7 +43,7 @@ IsOpen = All (λ byte. (byte == 10) ≡ false)
 pub record IsRead (judged : JudgedLines) (unfinished text : List ℕ) : Type 0 where
   pub texts : List (List ℕ)
   pub fine : HasJudged judged texts
-  pub open : IsOpen unfinished
+  pub unended : IsOpen unfinished
   pub cut : (more : List ℕ) → lines (text ++ more) ≡ texts ++ lines (unfinished ++ more)
   pub size : length text ≡ length (ended texts) + length unfinished
 

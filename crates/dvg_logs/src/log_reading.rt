@@ -20,11 +20,7 @@ use memchr::memchr;
 #[derive(Clone, Copy, Debug, PartialEq, Eq)]
 pub enum LogStop {
     /// The line of this number, counted from 1, writes a byte, at a byte address, in the half that the open run draws.
-    Torn {
-        line: usize,
-        address: u16,
-        byte: u8,
-    },
+    Torn { line: usize, address: u16, byte: u8 },
     /// The line of this number, counted from 1, tells nothing that a line may.
     Syntax(usize),
     /// There are more lines than are counted.

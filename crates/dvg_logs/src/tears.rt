@@ -70,6 +70,7 @@ fn judge_text<R: Read>(reader: &mut Watched<R>) -> Result<LogVerdict, ToolFault>
 /// - `Reader`, `Writer`: that device failed. After `Writer` a beginning of the text went out.
 ///
 /// `Memory` never comes. Where it stops before it writes, which is at any fault but `Writer`, the writer is as it was.
+#[inline(never)]
 pub fn torn<R: Read, W: Write>(
     reader: &mut Watched<R>,
     writer: &mut Watched<W>,
