@@ -19,9 +19,9 @@ line_of code.Halted = Fetch ⟼ Done 0 0 []
 line_of code.Reset = ResetGen ⟼ Cleared
 
 -- an address of three hexadecimal digits and a number of so many, with one space between them; 32 is the space
-pub record AreNumbers (count address number : ℕ) (bytes : List ℕ) : Type 0 where
+pub record AreNumbers (count a n : ℕ) (bytes : List ℕ) : Type 0 where
   pub front : List ℕ
   pub back : List ℕ
   pub split : bytes ≡ front ++ 32 ∷ back
-  pub address : IsHex 3 address front
-  pub number : IsHex count number back
+  pub address : IsHex 3 a front
+  pub number : IsHex count n back

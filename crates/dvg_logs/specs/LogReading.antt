@@ -1,5 +1,5 @@
 -- How a log's text is read (for private contracts).
-use Rattle.std.specs.Prelude.{◌≡◌, ◌==◌, ◌+◌, ◌*◌, ◌^◌, ℕ, List, [], ◌∷◌, ◌++◌, length, false, All}
+use Rattle.std.specs.Prelude.{◌≡◌, ◌==◌, ◌+◌, ◌*◌, ◌^◌, ◌<◌, ◌≤◌, ℕ, List, [], ◌∷◌, ◌++◌, length, false, All}
 use Rattle.dvg_world.specs.Judging.{StandsAfter}
 use Rattle.dvg_world.specs.Log.{◌⟼◌, Line, Log}
 use Rattle.dvg_world.specs.Torn.{IsTorn}
@@ -34,6 +34,7 @@ pub record HasJudged (judged : JudgedLines) (texts : List (List ℕ)) : Type 0 w
   pub fine : IsUntornLog log texts
   pub stands : StandsAfter judged.judge log
   pub count : judged.count ≡ length texts
+  pub fits : judged.count < 2 ^ 64
 
 -- no line ends among these bytes; 10 is LF
 abbrev pub IsOpen : List ℕ → Type 0
@@ -44,6 +45,7 @@ pub record IsRead (judged : JudgedLines) (unfinished text : List ℕ) : Type 0 w
   pub texts : List (List ℕ)
   pub fine : HasJudged judged texts
   pub unended : IsOpen unfinished
+  pub short : length unfinished ≤ 64
   pub cut : (more : List ℕ) → lines (text ++ more) ≡ texts ++ lines (unfinished ++ more)
   pub size : length text ≡ length (ended texts) + length unfinished
 

@@ -106,7 +106,7 @@ pub struct LogReading {
 impl LogReading {
     /// Before the first piece.
     pub fn new() -> LogReading
-        ensures read { HasRead result [] }
+        ensures { HasRead result [] }
     {
         LogReading {
             judged: JudgedLines {
@@ -135,9 +135,10 @@ impl LogReading {
     // Takes the last bytes of a line, and its end.
     fn end_line(&mut self, bytes: &[u8]) -> Result<(), LogStop>
         requires { IsOpen bytes.now }
-        ensures read { (text : List ℕ) → HasRead self.old text → OnOk result (HasRead self.new (text ++ bytes.now ++ 10 ∷ [])) }
+        ensures read { (text : List ℕ) → HasRead self.old text → OnOk result (HasRead self.new (text ++ (bytes.now ++ 10 ∷ []))) }
         ensures stop { IfErr result (λ stop. (text more : List ℕ) → HasRead self.old text → StopsAt stop (lines (text ++ (bytes.now ++ 10 ∷ more)))) }
         ensures next { IfErr result (λ stop. number_of stop ≡ self.old.judged.count + 1) }
+        ensures count { OnOk result (self.new.judged.count ≡ self.old.judged.count + 1) }
         ensures farther { OnOk result (place_of self.old < place_of self.new) }
     {
         if self.unfinished.is_empty() {
