@@ -40,6 +40,10 @@ const DVG_ROWS: &[Row] = &[
         &["check", "--bound"],
         || operations(510),
     ),
+    row("torn, a log of 100 MB", &["torn"], || game_log(100_000_000)),
+    row("torn, 100 MB of comments", &["torn"], || {
+        comments(100_000_000)
+    }),
 ];
 
 /// What is compared of the command `picture`.
@@ -399,6 +403,43 @@ fn image_without_end() -> Vec<u8> {
 fn offers(draft: &[u8]) -> Vec<u8> {
     let offer = [b"offer\n", draft, b"end\n"].concat();
     offer.repeat(1_048_576 / offer.len())
+}
+
+/// The log of a game that draws frames of 300 words in turns from both halves, while it writes the other half: of so many
+/// bytes, and up to a frame's end. Nothing is torn.
+fn game_log(bytes: usize) -> Vec<u8> {
+    let mut random = Random(1979);
+    let mut text = String::new();
+    let mut half = 0;
+    while text.len() < bytes {
+        let (drawn, written) = (0x201 * half + 1 - half, 0x402 - 0x400 * half);
+        let jump = 0xE000 + drawn;
+        text += &format!(
+            "started\nlow 000 {:02X}\nfetched 000 {jump:04X}\n",
+            jump % 256
+        );
+        for k in 0..300 {
+            let (address, word) = (drawn + k, random.below(0xB000));
+            text += &format!("low {address:03X} {:02X}\n", word % 256);
+            text += &format!("wrote {:03X} {:02X}\n", written + 2 * k, random.below(256));
+            text += &format!("fetched {address:03X} {word:04X}\n");
+            text += &format!(
+                "wrote {:03X} {:02X}\n",
+                written + 2 * k + 1,
+                random.below(256)
+            );
+        }
+        text += &format!("halted\nwrote 001 {:02X}\n", 0xE2 - 2 * half);
+        half = 1 - half;
+    }
+    text.into_bytes()
+}
+
+/// Comments of 63 bytes, each with its line end, of so many bytes in all.
+fn comments(bytes: usize) -> Vec<u8> {
+    let mut line = vec![b'#'; 63];
+    line.push(b'\n');
+    line.repeat(bytes / line.len())
 }
 
 /// So many random bytes.

@@ -10,8 +10,10 @@ mod plain_generator;
 mod plain_lines;
 mod plain_memory;
 mod plain_picture;
+mod plain_run;
 mod plain_shows;
 mod plain_texts;
+mod plain_torn;
 mod plain_traces;
 mod plain_world;
 
@@ -21,6 +23,7 @@ use plain_memory::{BYTES, Banked, Flat};
 use plain_picture::{is_image, write_picture};
 use plain_shows::write_entries;
 use plain_texts::{MOST_TEXT_BYTES, TextFault, read_draft};
+use plain_torn::{LogFault, Verdict, judge_text};
 use plain_traces::read_trace;
 use plain_world::run;
 use std::ffi::OsString;
@@ -74,6 +77,15 @@ impl From<TextFault> for Fault {
             TextFault::Full(line) => Fault::Full(line),
             TextFault::Many(line) => Fault::Many(line),
             TextFault::Unended => Fault::Unended,
+        }
+    }
+}
+
+impl From<LogFault> for Fault {
+    fn from(fault: LogFault) -> Fault {
+        match fault {
+            LogFault::Syntax(line) => Fault::Syntax(line),
+            LogFault::Reader => Fault::Reader,
         }
     }
 }
@@ -258,13 +270,18 @@ fn write_rom(bytes: &[u8], writer: &mut impl Write) -> Result<(), Fault> {
 // Standard input and standard output are used as files: the handles of `std::io` have buffers of their own, which
 // would only copy once more.
 
-/// Reads what standard input has, up to the buffer's length, and answers how many bytes that was.
-fn read_input(buffer: &mut [u8]) -> Result<usize, Fault> {
+/// Standard input.
+fn input() -> Result<File, Fault> {
     let input = io::stdin()
         .as_fd()
         .try_clone_to_owned()
         .map_err(|_| Fault::Reader)?;
-    read_up_to(&mut File::from(input), buffer).map_err(|_| Fault::Reader)
+    Ok(File::from(input))
+}
+
+/// Reads what standard input has, up to the buffer's length, and answers how many bytes that was.
+fn read_input(buffer: &mut [u8]) -> Result<usize, Fault> {
+    read_up_to(&mut input()?, buffer).map_err(|_| Fault::Reader)
 }
 
 /// Standard output.
@@ -325,11 +342,7 @@ fn picture(all: bool) -> Result<ExitCode, Fault> {
 /// The text that standard input holds, or a beginning that is one byte too long.
 fn read_text() -> Result<Vec<u8>, Fault> {
     let mut text = Vec::new();
-    let input = io::stdin()
-        .as_fd()
-        .try_clone_to_owned()
-        .map_err(|_| Fault::Reader)?;
-    File::from(input)
+    input()?
         .take(MOST_TEXT_BYTES as u64 + 1)
         .read_to_end(&mut text)
         .map_err(|_| Fault::Reader)?;
@@ -394,6 +407,27 @@ fn play(options: PlayOptions) -> Result<(), Fault> {
         .map_err(|_| Fault::Writer)
 }
 
+/// Judges the log that standard input holds as text, and writes what is said of it on standard output.
+fn torn() -> Result<ExitCode, Fault> {
+    let (line, status) = match judge_text(&mut input()?)? {
+        Verdict::NotTorn => ("not torn\n".to_string(), ExitCode::SUCCESS),
+        Verdict::Torn {
+            line,
+            address,
+            byte,
+        } => (
+            format!("torn at line {line}: wrote {address:03X} {byte:02X}\n"),
+            ExitCode::from(1),
+        ),
+    };
+    let mut writer = output()?;
+    writer
+        .write_all(line.as_bytes())
+        .and_then(|()| writer.flush())
+        .map_err(|_| Fault::Writer)?;
+    Ok(status)
+}
+
 /// Writes a line on standard error. The status is the same where it can't be written, and `eprintln!` would panic.
 fn complain(line: fmt::Arguments) {
     let _ = writeln!(io::stderr(), "{line}");
@@ -409,6 +443,7 @@ fn do_job(words: &[String]) -> Option<Result<ExitCode, Fault>> {
         "check" if options == ["--bound"] => Some(check_text(true)),
         "picture" if options.is_empty() => Some(picture(false)),
         "picture" if options == ["--all"] => Some(picture(true)),
+        "torn" if options.is_empty() => Some(torn()),
         "play" => Some(play(play_options(options)?).map(|()| ExitCode::SUCCESS)),
         _ => None,
     }

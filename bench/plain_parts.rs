@@ -6,6 +6,7 @@ mod plain_frames;
 mod plain_generator;
 mod plain_judge;
 mod plain_memory;
+mod plain_run;
 mod plain_world;
 
 use plain_driver::{Action, Driver};

@@ -5,13 +5,13 @@ use Rattle.std.proofs.lemmas.List.Elements.{All-head, All-tail}
 use Rattle.dvg_text.specs.Texts.{lines}
 use Rattle.dvg_text.proofs.FirstBytes.{HasNone, IsCutAt, behind}
 
-line_at : (line : List ℕ) (end : ℕ) (rest : List ℕ) → HasNone 10 line → eqb end 10 ≡ true → lines (line ++ end ∷ rest) ≡ line ∷ lines rest
+pub line_at : (line : List ℕ) (end : ℕ) (rest : List ℕ) → HasNone 10 line → eqb end 10 ≡ true → lines (line ++ end ∷ rest) ≡ line ∷ lines rest
 line_at [] end rest h e = rw e
 line_at (byte ∷ line) end rest h e =
     let other : eqb byte 10 ≡ false = All-head (λ b. eqb b 10 ≡ false) byte line h in
     rw other (ap (onto_first byte) (line_at line end rest (All-tail (λ b. eqb b 10 ≡ false) byte line h) e))
 
-line_last : (byte : ℕ) (line : List ℕ) → HasNone 10 (byte ∷ line) → lines (byte ∷ line) ≡ (byte ∷ line) ∷ []
+pub line_last : (byte : ℕ) (line : List ℕ) → HasNone 10 (byte ∷ line) → lines (byte ∷ line) ≡ (byte ∷ line) ∷ []
 line_last byte [] h = let other : eqb byte 10 ≡ false = All-head (λ b. eqb b 10 ≡ false) byte [] h in rw other
 line_last byte (next ∷ line) h =
     let other : eqb byte 10 ≡ false = All-head (λ b. eqb b 10 ≡ false) byte (next ∷ line) h in

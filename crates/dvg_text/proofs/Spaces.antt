@@ -24,7 +24,7 @@ pub part_unended : (line : List ℕ) → IsCutAt 32 line None → parts line ≡
 part_unended line h = slice_split_none (λ byte. eqb byte 32) line h
 
 -- a space is no digit
-no_space : (radix : ℕ) (digits : List ℕ) → radix ≤ 16 → AllDigits radix digits → HasNone 32 digits
+pub no_space : (radix : ℕ) (digits : List ℕ) → radix ≤ 16 → AllDigits radix digits → HasNone 32 digits
 no_space radix digits most h k d inside = false_from_ne_true (eqb (get_or digits k d) 32) (λ is.
     absurd (omega (arith, most, digit_below radix digits k h inside, ap digit_value (get_or_default digits k 0 d inside ∙ eqb-true _ 32 is))))
 

@@ -12,6 +12,7 @@ pub mod DraftReading
 pub mod TextLaws
 pub mod TraceTexts
 pub mod Shows
+pub mod LogVerdicts
 pub mod EventLines
 pub mod TraceReading
 pub mod TraceGives

@@ -4,7 +4,7 @@ use thiserror::Error;
 /// A fault of what was read. Its text is what `dvg` prints of it (this project's own choice).
 #[derive(Clone, Copy, Debug, PartialEq, Eq, Error)]
 pub enum TextFault {
-    /// The input has more bytes than are allowed.
+    /// The input has more bytes, or a log more lines, than are allowed.
     #[error("too long")]
     TooLong,
     /// The input has an odd number of bytes.

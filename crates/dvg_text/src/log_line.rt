@@ -12,7 +12,7 @@ use std::alloc::Allocator;
 
 impl Line {
     // Appends what an action did.
-    fn action(&mut self, action: Action)
+    pub(crate) fn action(&mut self, action: Action)
         requires { length self.old + 13 ≤ 64 }
         ensures text { self.new ≡ self.old ++ spaced (action_parts action) }
         ensures grew { length self.new ≤ length self.old + 13 }

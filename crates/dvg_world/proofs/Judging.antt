@@ -12,6 +12,7 @@ use Rattle.dvg_driver.specs.declared.action.Action.TheVariants.{Wrote}
 use Rattle.dvg_world.specs.declared.entry.Entry.{Entry}
 use Rattle.dvg_world.specs.declared.judge.Drawing.{Drawing}
 use Rattle.dvg_world.specs.declared.judge.Drawing.TheVariants.{Nothing, Begun, Within}
+use Rattle.dvg_world.specs.declared.judge.Judge.{Judge}
 use Rattle.dvg_world.specs.declared.event.Event.{Event}
 use Rattle.dvg_world.specs.Events.{Happening, happening_of, ResetGen, ResetAll}
 use Rattle.dvg_world.specs.Entries.{Shown, shown_of, Acted, Started}
@@ -20,7 +21,7 @@ use Rattle.dvg_world.specs.Log.{◌⟼◌, Line, Log, Throughout, open_run, IsBe
 use Rattle.dvg_world.specs.Legal.{IsLegal}
 use Rattle.dvg_world.specs.Runs.{log_of}
 use Rattle.dvg_world.specs.Torn.{IsFirstTorn, IsTorn, IsUntorn}
-use Rattle.dvg_world.specs.Judging.{FitsRun, IsRunIn, behind, left_by}
+use Rattle.dvg_world.specs.Judging.{FitsRun, IsRunIn, StandsAfter, behind, left_by}
 use Rattle.dvg_world.proofs.Headline.{never_torn}
 use Rattle.dvg_world.proofs.WholeRuns.{log_of-more, log_of-none}
 
@@ -92,6 +93,12 @@ open_behind log ResetGen entry = refl
 open_behind log (ResetAll bytes) entry = refl
 open_behind log event entry = refl
 
+-- what is drawn behind a line
+pub drawn_behind : (old left new : Drawing) (log : Log) (event : Happening) (entry : Shown) → FitsRun old (open_run log) → ((run : Run) → FitsRun old run → FitsRun left (left_by event run))
+    → ((run : Run) → FitsRun left run → FitsRun new (behind entry run)) → FitsRun new (open_run ((event ⟼ entry) ∷ log))
+drawn_behind old left new log event entry draws leaves goes =
+    subst (FitsRun new) (open_behind log event entry) (goes (left_by event (open_run log)) (leaves (open_run log) draws))
+
 -- ---- the log of a part of the entries
 
 zip-append : {A B : Type 0} (xs : List A) (ys zs : List B) → zip xs (ys ++ zs) ≡ zip xs ys ++ zip (drop (length ys) xs) zs
@@ -112,14 +119,18 @@ log_of-append events entries more =
     ∙ reverse-append (map line_of (zip events entries)) (map line_of (zip (drop (length entries) events) more)))
 
 -- what holds behind as many lines: what is drawn, and that none is torn
-pub record IsJudged {A : Type 0} (events : List Happening) (entries : List (Entry A)) (n : ℕ) (drawing : Drawing) : Type 0 where
-  pub draws : FitsRun drawing (open_run (log_of events (take n entries)))
+pub record IsJudged {A : Type 0} (events : List Happening) (entries : List (Entry A)) (n : ℕ) (judge : Judge) : Type 0 where
+  pub stands : StandsAfter judge (log_of events (take n entries))
   pub whole : Throughout IsUntorn (log_of events (take n entries))
   pub count : length (log_of events (take n entries)) ≡ n
 
-pub none_judged : {A : Type 0} (events : List Happening) (entries : List (Entry A)) → IsJudged events entries 0 Nothing
-none_judged {A} events entries = record {
-  draws = subst (λ log. FitsRun Nothing (open_run log)) (sym (log_of-none A events)) (λ e. cc, λ half within. let e = within.fetches in absurd (cc));
+-- nothing is drawn before the first line
+pub nothing_open : FitsRun Nothing None
+nothing_open = (λ e. cc, λ half within. let e = within.fetches in absurd (cc))
+
+pub none_judged : {A : Type 0} (events : List Happening) (entries : List (Entry A)) (judge : Judge) → StandsAfter judge [] → IsJudged events entries 0 judge
+none_judged {A} events entries judge stands = record {
+  stands = subst (StandsAfter judge) (sym (log_of-none A events)) stands;
   whole = subst (Throughout IsUntorn) (sym (log_of-none A events)) tt;
   count = ap length (log_of-none A events);
 }
@@ -152,21 +163,15 @@ module _ {A : Type 0} (events : List (Event A)) (entries : List (Entry A)) (n : 
   one_line : line ∷ before ≡ log_of happenings (take (n + 1) entries)
   one_line = log_of-more happenings (take n entries) (happening_of event) entry in_events is_happening ∙ ap (log_of happenings) (sym more)
 
-  -- what is drawn behind it
-  pub drawn_on : (old left new : Drawing) → IsJudged happenings entries n old → ((run : Run) → FitsRun old run → FitsRun left (left_by (happening_of event) run))
-      → ((run : Run) → FitsRun left run → FitsRun new (behind (shown_of entry) run)) → FitsRun new (open_run (line ∷ before))
-  drawn_on old left new judged leaves goes =
-      subst (FitsRun new) (open_behind before (happening_of event) (shown_of entry)) (goes (left_by (happening_of event) (open_run before)) (leaves (open_run before) judged.draws))
-
-  pub judged_more : (old new : Drawing) → IsJudged happenings entries n old → FitsRun new (open_run (line ∷ before)) → IsUntorn before (happening_of event) (shown_of entry)
+  pub judged_more : (old new : Judge) → IsJudged happenings entries n old → StandsAfter new (line ∷ before) → IsUntorn before (happening_of event) (shown_of entry)
       → IsJudged happenings entries (n + 1) new
-  judged_more old new judged draws whole = record {
-    draws = subst (λ log. FitsRun new (open_run log)) one_line draws;
+  judged_more old new judged stands whole = record {
+    stands = subst (StandsAfter new) one_line stands;
     whole = subst (Throughout IsUntorn) one_line (whole, judged.whole);
     count = let longer = ap length one_line in let count = judged.count in omega (arith, longer, count);
   }
 
-  pub torn_here : (old : Drawing) → IsJudged happenings entries n old → IsTorn before (happening_of event) (shown_of entry) → IsFirstTorn (log_of happenings entries) n
+  pub torn_here : (old : Judge) → IsJudged happenings entries n old → IsTorn before (happening_of event) (shown_of entry) → IsFirstTorn (log_of happenings entries) n
   torn_here old judged torn =
       let rest = drop (n + 1) entries in
       let later = reverse (map line_of (zip (drop (length (take (n + 1) entries)) happenings) rest)) in
@@ -186,7 +191,7 @@ no_zip : {A B : Type 0} (xs : List A) → zip {X = B} xs [] ≡ []
 no_zip [] = refl
 no_zip (x ∷ xs) = refl
 
-pub all_judged : {A : Type 0} (given : List (Event A)) (entries : List (Entry A)) {n : ℕ} {drawing : Drawing} → n ≡ min (length given) (length entries) → IsJudged (map happening_of given) entries n drawing
+pub all_judged : {A : Type 0} (given : List (Event A)) (entries : List (Entry A)) {n : ℕ} {judge : Judge} → n ≡ min (length given) (length entries) → IsJudged (map happening_of given) entries n judge
     → Throughout IsUntorn (log_of (map happening_of given) entries)
 all_judged given entries {n} is_least judged =
     let events = map happening_of given in

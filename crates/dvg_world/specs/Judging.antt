@@ -1,12 +1,14 @@
--- What a judge keeps of a log's open run: the words of private contracts.
+-- What a judge keeps of a log's open run.
 use Rattle.std.specs.Prelude.{◌≡◌, ◌≢◌, ◌+◌, ◌++◌, ◌∷◌, [], ℕ, List, Option, Some, None, option_map}
 use Rattle.dvg_mem.specs.declared.half.Half.{Half}
 use Rattle.dvg_mem.specs.declared.areas.Area.TheVariants.{Frame}
 use Rattle.dvg_mem.specs.Areas.{IsIn}
 use Rattle.dvg_world.specs.declared.judge.Drawing.{Drawing}
+use Rattle.dvg_world.specs.declared.judge.Judge.{Judge}
 use Rattle.dvg_world.specs.declared.judge.Drawing.TheVariants.{Nothing, Begun, Within}
 use Rattle.dvg_world.specs.Entries.{Shown, Started, Fetched, Done, Broke}
 use Rattle.dvg_world.specs.Events.{Happening, ResetGen, ResetAll}
+use Rattle.dvg_world.specs.Log.{Log, open_run}
 
 -- the run's first word is that at 000, a jump to an address in the half
 pub record IsRunIn (run : Option (List (ℕ × ℕ))) (half : Half) : Type 0 where
@@ -34,3 +36,7 @@ behind (Fetched address word) run = option_map (λ fetches. (address, word) ∷ 
 behind (Done address word strokes) run = None
 behind (Broke address fault) run = None
 behind entry run = run
+
+-- the judge was told this log: it knows what the open run draws
+abbrev pub StandsAfter : Judge → Log → Type 0
+StandsAfter judge log = FitsRun judge.drawing (open_run log)

@@ -1,12 +1,14 @@
 //! A judge of logs, whoever made them.
-ghost use Rattle.std.specs.Prelude.{◌≡◌, ◌↔◌, ◌∷◌, [], List, ℕ, map, true, IfSome, IsNone, None, Option, Some};
-ghost use Rattle.dvg_world.specs.Entries.{shown_of};
-ghost use Rattle.dvg_world.specs.Events.{Happening, happening_of};
+ghost use Rattle.std.specs.Prelude.{◌≡◌, ◌↔◌, ◌∷◌, [], List, ℕ, map, IfSome, IsNone, IsTrue, None, Option, Some};
+ghost use Rattle.dvg_driver.specs.declared.action.Action.TheVariants.{Wrote};
+ghost use Rattle.dvg_gen.specs.declared.stroke.Stroke.{Stroke};
+ghost use Rattle.dvg_world.specs.Entries.{Acted, Cleared, Done, Fetched, Started, shown_of};
+ghost use Rattle.dvg_world.specs.Events.{Fetch, Happening, ResetGen, Strobe, Tick, happening_of};
 ghost use Rattle.dvg_world.specs.Legal.{IsLegal};
 ghost use Rattle.dvg_world.specs.Log.{Log, Throughout, open_run, ◌⟼◌};
 ghost use Rattle.dvg_world.specs.Runs.{log_of};
 ghost use Rattle.dvg_world.specs.Torn.{IsFirstTorn, IsTorn, IsUntorn};
-ghost use Rattle.dvg_world.specs.Judging.{FitsRun, behind, left_by};
+ghost use Rattle.dvg_world.specs.Judging.{FitsRun, StandsAfter, behind, left_by};
 
 use crate::entry::Entry;
 use crate::event::Event;
@@ -15,7 +17,7 @@ use dvg_mem::Half;
 use std::alloc::Allocator;
 
 // What the open run of a log draws.
-#[derive(Clone, Copy)]
+#[derive(Clone, Copy, Debug, PartialEq, Eq)]
 enum Drawing {
     // No half: there is no open run, or it began with no jump to one.
     Nothing,
@@ -49,32 +51,109 @@ impl Drawing {
         }
     }
 
+    // What is drawn behind the fetch of a word at this address.
+    fn after_fetch(self, address: u16, word: u16) -> Drawing
+        ensures { (run : Option (List (ℕ × ℕ))) → FitsRun self run → FitsRun result (behind (Fetched address word) run) }
+    {
+        match self {
+            Drawing::Begun => Drawing::from_first(address, word),
+            _ => self,
+        }
+    }
+
     // What is drawn behind an entry.
     fn after_entry<A: Allocator>(self, entry: &Entry<A>) -> Drawing
         ensures { (run : Option (List (ℕ × ℕ))) → FitsRun self run → FitsRun result (behind (shown_of entry.now) run) }
     {
         match entry {
             Entry::Started => Drawing::Begun,
-            Entry::Fetched(address, word) => match self {
-                Drawing::Begun => Drawing::from_first(*address, *word),
-                _ => self,
-            },
+            Entry::Fetched(address, word) => self.after_fetch(*address, *word),
             Entry::Done(..) | Entry::Broke(..) => Drawing::Nothing,
             _ => self,
         }
     }
 
-    // Whether this entry, behind which that is drawn, tears the picture.
-    fn is_torn_by<A: Allocator>(self, entry: &Entry<A>) -> bool
-        ensures { (log : Log) (event : Happening) → FitsRun self (open_run ((event ⟼ shown_of entry.now) ∷ log)) → (result ≡ true) ↔ IsTorn log event (shown_of entry.now) }
+    // Whether this is drawn with the byte at this address of the RAM, so that to write it tears the picture.
+    fn is_torn_at(self, address: u16) -> bool
+        ensures { (log : Log) (event : Happening) (byte : ℕ) → FitsRun self (open_run ((event ⟼ Acted (Wrote address byte)) ∷ log)) → IsTrue result ↔ IsTorn log event (Acted (Wrote address byte)) }
     {
         let Drawing::Within(half) = self else {
             return false;
         };
+        Half::of_word(address / 2) == Some(half)
+    }
+
+    // Whether this entry, behind which that is drawn, tears the picture.
+    fn is_torn_by<A: Allocator>(self, entry: &Entry<A>) -> bool
+        ensures { (log : Log) (event : Happening) → FitsRun self (open_run ((event ⟼ shown_of entry.now) ∷ log)) → IsTrue result ↔ IsTorn log event (shown_of entry.now) }
+    {
         match entry {
-            Entry::Acted(Action::Wrote(a, _)) => Half::of_word(a / 2) == Some(half),
+            Entry::Acted(Action::Wrote(address, _)) => self.is_torn_at(*address),
             _ => false,
         }
+    }
+}
+
+/// A judge of one log, whoever made it, that is told its lines in order: each by its event and its entry, or by what it
+/// shows. It keeps no more than which half the open run draws, and takes no memory.
+#[derive(Clone, Copy, Debug, PartialEq, Eq)]
+pub struct Judge {
+    drawing: Drawing,
+}
+
+impl Judge {
+    /// Before the first line.
+    pub fn new() -> Judge
+        ensures { StandsAfter result [] }
+    {
+        Judge {
+            drawing: Drawing::Nothing,
+        }
+    }
+
+    /// Is told a line more. Whether that tears a picture.
+    pub fn take<A: Allocator>(&mut self, event: &Event<A>, entry: &Entry<A>) -> bool
+        ensures stands { (log : Log) → StandsAfter self.old log → StandsAfter self.new ((happening_of event.now ⟼ shown_of entry.now) ∷ log) }
+        ensures torn { (log : Log) → StandsAfter self.old log → IsTrue result ↔ IsTorn log (happening_of event.now) (shown_of entry.now) }
+    {
+        self.drawing = self.drawing.after_event(event).after_entry(entry);
+        self.drawing.is_torn_by(entry)
+    }
+
+    /// Is told that a strobe began a run.
+    pub fn started(&mut self)
+        ensures { (log : Log) → StandsAfter self.old log → StandsAfter self.new ((Strobe ⟼ Started) ∷ log) }
+    {
+        self.drawing = Drawing::Begun;
+    }
+
+    /// Is told that a fetch completed this word at this word address, and the run goes on.
+    pub fn fetched(&mut self, address: u16, word: u16)
+        ensures { (log : Log) → StandsAfter self.old log → StandsAfter self.new ((Fetch ⟼ Fetched address word) ∷ log) }
+    {
+        self.drawing = self.drawing.after_fetch(address, word);
+    }
+
+    /// Is told that a fetch ended the run by a HALT, whatever its word address, its word and what it drew.
+    pub fn halted(&mut self)
+        ensures { (address word : ℕ) (strokes : List Stroke) (log : Log) → StandsAfter self.old log → StandsAfter self.new ((Fetch ⟼ Done address word strokes) ∷ log) }
+    {
+        self.drawing = Drawing::Nothing;
+    }
+
+    /// Is told of a reset of the generator.
+    pub fn reset(&mut self)
+        ensures { (log : Log) → StandsAfter self.old log → StandsAfter self.new ((ResetGen ⟼ Cleared) ∷ log) }
+    {
+        self.drawing = Drawing::Nothing;
+    }
+
+    /// Is told that the driver wrote a byte at this byte address of the RAM. Whether that tears a picture.
+    pub fn wrote(&self, address: u16) -> bool
+        ensures stands { (byte : ℕ) (log : Log) → StandsAfter self.now log → StandsAfter self.now ((Tick ⟼ Acted (Wrote address byte)) ∷ log) }
+        ensures torn { (byte : ℕ) (log : Log) → StandsAfter self.now log → IsTrue result ↔ IsTorn log Tick (Acted (Wrote address byte)) }
+    {
+        self.drawing.is_torn_at(address)
     }
 }
 
@@ -93,11 +172,9 @@ pub fn first_torn<A: Allocator>(events: &[Event<A>], entries: &[Entry<A>]) -> Op
     // No legal log is torn.
     ensures legal { (R image : List ℕ) → IsLegal R image (log_of (map happening_of events.now) entries.now) → result ≡ None }
 {
-    let mut drawing = Drawing::Nothing;
+    let mut judge = Judge::new();
     for number in 0..events.len().min(entries.len()) {
-        let entry = &entries[number];
-        drawing = drawing.after_event(&events[number]).after_entry(entry);
-        if drawing.is_torn_by(entry) {
+        if judge.take(&events[number], &entries[number]) {
             return Some(number);
         }
     }

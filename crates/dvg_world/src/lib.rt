@@ -17,7 +17,7 @@ mod world;
 
 pub use entry::Entry;
 pub use event::Event;
-pub use judge::first_torn;
+pub use judge::{Judge, first_torn};
 pub use runs::{run, run_trace};
 pub use stopped::Stopped;
 pub use trace::{MOST_EVENTS, Trace, TraceEvent};

@@ -1,0 +1,3 @@
+pub mod LogRows
+pub mod LogReads
+pub mod Inputs

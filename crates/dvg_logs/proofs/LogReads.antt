@@ -1,0 +1,224 @@
+-- How a log's text is read, line by line.
+use Rattle.std.proofs.Common.{◌≡◌, ◌<◌, ◌≤◌, ◌+◌, ℕ, suc, List, [], ◌∷◌, ◌++◌, All, Option, reverse, length, flat_map, refl, sym, ap, ◌∙◌, subst, arith, eqb, false, append_assoc, append-nil, length-append}
+use Rattle.std.specs.List.{AllZip, onto_first}
+use Rattle.std.proofs.lemmas.List.{reverse-append, length-reverse}
+use Rattle.std.proofs.lemmas.List.Elements.{All-head, All-tail, All-append}
+use Rattle.std.proofs.lemmas.Grind.{flat_map-append}
+use Rattle.dvg_driver.specs.declared.action.Action.TheVariants.{Wrote}
+use Rattle.dvg_world.specs.Entries.{Acted}
+use Rattle.dvg_world.specs.Events.{Tick}
+use Rattle.dvg_world.specs.Log.{◌⟼◌, Line, Log, Throughout}
+use Rattle.dvg_world.specs.Judging.{StandsAfter}
+use Rattle.dvg_world.specs.Torn.{IsFirstTorn, IsUntorn}
+use Rattle.std.proofs.Common.{Bool, Result, Ok, Err, IfErr, OnOk, ◌^◌, true, true≢false, ⊎_elim}
+use Rattle.std.proofs.lemmas.Bool.{cases_lt, eqb-true}
+use Rattle.dvg_text.specs.Texts.{lines}
+use Rattle.dvg_text.proofs.LineEnds.{line_at, line_last}
+use Rattle.std.proofs.Common.{None, Some, take}
+use Rattle.dvg_text.proofs.FirstBytes.{IsCutAt, behind}
+use Rattle.dvg_text.proofs.Zips.{zip_length, zip_push}
+use Rattle.dvg_logs.specs.LogLines.{IsLogOf, Tells, passed, told}
+use Rattle.dvg_logs.specs.LogTexts.{IsTornAt, IsUntornLog, MeetsSyntax, MeetsTooMany}
+use Rattle.dvg_logs.specs.declared.log_reading.JudgedLines.{JudgedLines}
+use Rattle.dvg_logs.specs.LogReading.{IsOpen, IsRead, IsTornLine, HasJudged, StopsAt}
+use Rattle.dvg_logs.specs.Tears.{ended}
+
+-- ---- one line more
+
+tells_more : (log : Log) (before : List (List ℕ)) (line : Line) (text : List ℕ) → IsLogOf log before → Tells line text → IsLogOf (line ∷ log) (before ++ text ∷ [])
+tells_more log before line text log_of tells =
+    subst (λ l. AllZip Tells l (before ++ text ∷ [])) (sym (reverse-append (line ∷ []) log)) (zip_push Tells (reverse log) before line text log_of tells)
+
+untorn_more : (log : Log) (line : Line) → Throughout IsUntorn log → ¬ IsTornLine log line → Throughout IsUntorn (line ∷ log)
+untorn_more log (event ⟼ entry) whole untorn = (untorn, whole)
+
+-- the log is as long as its text has lines
+log_length : (log : Log) (texts : List (List ℕ)) → IsLogOf log texts → length log ≡ length texts
+log_length log texts log_of = sym (length-reverse log) ∙ zip_length Tells (reverse log) texts log_of
+
+pub fine_more : (log : Log) (before : List (List ℕ)) (line : Line) (text : List ℕ) → IsUntornLog log before → Tells line text → ¬ IsTornLine log line → IsUntornLog (line ∷ log) (before ++ text ∷ [])
+fine_more log before line text fine tells untorn = record { tells = tells_more log before line text fine.tells tells; untorn = untorn_more log line fine.untorn untorn }
+
+pub torn_at : (log : Log) (before : List (List ℕ)) (line : Line) (a byte : ℕ) (text : List ℕ) (after : List (List ℕ)) → line ≡ Tick ⟼ Acted (Wrote a byte) → IsUntornLog log before → Tells line text → IsTornLine log line
+    → (n : ℕ) → n ≡ length before + 1 → IsTornAt (before ++ text ∷ after) n a byte
+torn_at log before line a byte text after is fine tells torn n number =
+    let wrote = subst (λ line. Tells line text) is tells in
+    record {
+      before = before;
+      line = text;
+      after = after;
+      cut = refl;
+      number = number;
+      log = (Tick ⟼ Acted (Wrote a byte)) ∷ log;
+      tells = tells_more log before (Tick ⟼ Acted (Wrote a byte)) text fine.tells wrote;
+      torn = record { later = []; event = Tick; entry = Acted (Wrote a byte); before = log; split = refl; at = log_length log before fine.tells; torn = subst (IsTornLine log) is torn; untorn = fine.untorn };
+      wrote = wrote;
+    }
+
+-- ---- lines of a text
+
+-- a line that ends
+pub line_then : (line more : List ℕ) → IsOpen line → lines (line ++ 10 ∷ more) ≡ line ∷ lines more
+line_then line more unended = line_at line 10 more unended refl
+
+-- a text begins with a line that begins with these bytes
+pub record Begins (bytes : List ℕ) (texts : List (List ℕ)) : Type 0 where
+  pub tail : List ℕ
+  pub after : List (List ℕ)
+  pub is : texts ≡ (bytes ++ tail) ∷ after
+
+begins_onto : (byte : ℕ) (texts : List (List ℕ)) → Begins (byte ∷ []) (onto_first byte texts)
+begins_onto byte [] = record { tail = []; after = []; is = refl }
+begins_onto byte (text ∷ texts) = record { tail = text; after = texts; is = refl }
+
+begins_more : (byte : ℕ) (bytes : List ℕ) (texts : List (List ℕ)) → Begins bytes texts → Begins (byte ∷ bytes) (onto_first byte texts)
+begins_more byte bytes texts begins = record { tail = begins.tail; after = begins.after; is = ap (onto_first byte) begins.is }
+
+begins : (byte : ℕ) (bytes more : List ℕ) → IsOpen (byte ∷ bytes) → Begins (byte ∷ bytes) (lines ((byte ∷ bytes) ++ more))
+begins byte [] more unended =
+    let other : eqb byte 10 ≡ false = All-head (λ b. eqb b 10 ≡ false) byte [] unended in rw other (begins_onto byte (lines more))
+begins byte (next ∷ bytes) more unended =
+    let other : eqb byte 10 ≡ false = All-head (λ b. eqb b 10 ≡ false) byte (next ∷ bytes) unended in
+    let rest = begins next bytes more (All-tail (λ b. eqb b 10 ≡ false) byte (next ∷ bytes) unended) in
+    rw other (begins_more byte (next ∷ bytes) (lines ((next ∷ bytes) ++ more)) rest)
+
+pub begins_of : (bytes more : List ℕ) → IsOpen bytes → 0 < length bytes → Begins bytes (lines (bytes ++ more))
+begins_of [] more unended some = absurd (omega arith)
+begins_of (byte ∷ bytes) more unended some = begins byte bytes more unended
+
+-- a line that is too long tells nothing
+pub too_long : (text : List ℕ) → 64 < length text → (line : Line) → ¬ Tells line text
+too_long text over line (passed short is) = absurd (omega arith)
+too_long text over line (told short is row) = absurd (omega arith)
+
+-- ---- bytes more
+
+length_ended-append : (texts : List (List ℕ)) (text : List ℕ) → length (ended (texts ++ text ∷ [])) ≡ length (ended texts) + (length text + 1)
+length_ended-append texts text = ap length (flat_map-append (λ line. line ++ 10 ∷ []) texts (text ∷ []))
+    ∙ (length-append (ended texts) ((text ++ 10 ∷ []) ++ []) ∙ ap (λ n. length (ended texts) + n) (ap length (append-nil (text ++ 10 ∷ [])) ∙ length-append text (10 ∷ [])))
+
+-- before the first piece
+pub nothing_read : (judged : JudgedLines) → HasJudged judged [] → IsRead judged [] []
+nothing_read judged fine = record { texts = []; fine = fine; unended = λ k d inside. absurd (omega arith); short = omega arith; cut = λ more. refl; size = refl }
+
+-- what bytes of a line make of what was read
+module _ {judged : JudgedLines} {unfinished text : List ℕ} (bytes : List ℕ) (read : IsRead judged unfinished text) (unended : IsOpen bytes) where
+  both_open : IsOpen (unfinished ++ bytes)
+  both_open = All-append (λ b. eqb b 10 ≡ false) unfinished bytes read.unended unended
+
+  -- it has not ended
+  pub bytes_read : length (unfinished ++ bytes) ≤ 64 → IsRead judged (unfinished ++ bytes) (text ++ bytes)
+  bytes_read short = record {
+    texts = read.texts;
+    fine = read.fine;
+    unended = both_open;
+    short = short;
+    cut = λ more. ap lines (append_assoc text bytes more) ∙ (read.cut (bytes ++ more) ∙ ap (λ l. read.texts ++ lines l) (sym (append_assoc unfinished bytes more)));
+    size = omega (arith, read.size, length-append text bytes, length-append unfinished bytes);
+  }
+
+  -- it ends
+  ended_line : (more : List ℕ) → lines (text ++ (bytes ++ 10 ∷ more)) ≡ read.texts ++ (unfinished ++ bytes) ∷ lines more
+  ended_line more =
+      read.cut (bytes ++ 10 ∷ more)
+      ∙ ap (λ ls. read.texts ++ ls) (ap lines (sym (append_assoc unfinished bytes (10 ∷ more))) ∙ line_then (unfinished ++ bytes) more both_open)
+
+  pub line_stops : (P : List (List ℕ) → Type 0) → ((after : List (List ℕ)) → P (read.texts ++ (unfinished ++ bytes) ∷ after)) → (more : List ℕ) → P (lines (text ++ (bytes ++ 10 ∷ more)))
+  line_stops P stops more = subst P (sym (ended_line more)) (stops (lines more))
+
+  pub line_read : (new : JudgedLines) → HasJudged new (read.texts ++ (unfinished ++ bytes) ∷ []) → IsRead new [] (text ++ (bytes ++ 10 ∷ []))
+  line_read new fine = record {
+    texts = read.texts ++ (unfinished ++ bytes) ∷ [];
+    fine = fine;
+    unended = λ k d inside. absurd (omega arith);
+    short = omega arith;
+    cut = λ more. ap lines (append_assoc text (bytes ++ 10 ∷ []) more ∙ ap (λ l. text ++ l) (append_assoc bytes (10 ∷ []) more))
+        ∙ (ended_line more ∙ sym (append_assoc read.texts ((unfinished ++ bytes) ∷ []) (lines more)));
+    size = omega (arith, read.size, length-append text (bytes ++ 10 ∷ []), length-append bytes (10 ∷ []), length-append unfinished bytes, length_ended-append read.texts (unfinished ++ bytes));
+  }
+
+  -- it is too long
+  pub overlong_stops : (P : List (List ℕ) → Type 0) → 64 < length (unfinished ++ bytes) → ((line : List ℕ) (after : List (List ℕ)) → ((told : Line) → ¬ Tells told line) → P (read.texts ++ line ∷ after))
+      → (more : List ℕ) → P (lines (text ++ (bytes ++ more)))
+  overlong_stops P over stops more =
+      let starts = begins_of (unfinished ++ bytes) more both_open (omega arith) in
+      let is = read.cut (bytes ++ more) ∙ ap (λ ls. read.texts ++ ls) (ap lines (sym (append_assoc unfinished bytes more)) ∙ starts.is) in
+      subst P (sym is) (stops ((unfinished ++ bytes) ++ starts.tail) starts.after (λ line tells. too_long ((unfinished ++ bytes) ++ starts.tail) (omega (arith, length-append (unfinished ++ bytes) starts.tail)) line tells))
+
+-- the end of a text, where no line has begun
+pub all_ended : {judged : JudgedLines} {unfinished text : List ℕ} (read : IsRead judged unfinished text) → unfinished ≡ [] → lines text ≡ read.texts
+all_ended {unfinished = unfinished} {text = text} read none =
+    ap lines (sym (append-nil text)) ∙ (read.cut [] ∙ (ap (λ l. read.texts ++ lines (l ++ [])) none ∙ append-nil read.texts))
+
+-- where one has
+last_alone : (bytes : List ℕ) → IsOpen bytes → 0 < length bytes → lines bytes ≡ bytes ∷ []
+last_alone [] unended some = absurd (omega arith)
+last_alone (byte ∷ bytes) unended some = line_last byte bytes unended
+
+pub last_ended : {judged : JudgedLines} {unfinished text : List ℕ} (read : IsRead judged unfinished text) → 0 < length unfinished → lines text ≡ read.texts ++ unfinished ∷ []
+last_ended {unfinished = unfinished} {text = text} read some =
+    ap lines (sym (append-nil text)) ∙ (read.cut [] ∙ ap (λ ls. read.texts ++ ls) (ap lines (append-nil unfinished) ∙ last_alone unfinished read.unended some))
+
+-- where nothing of the line has come before
+module _ {judged : JudgedLines} {unfinished text : List ℕ} (bytes : List ℕ) (read : IsRead judged unfinished text) (unended : IsOpen bytes) (none : unfinished ≡ []) where
+  alone : unfinished ++ bytes ≡ bytes
+  alone = ap (λ l. l ++ bytes) none
+
+  pub first_stops : (P : List (List ℕ) → Type 0) → ((after : List (List ℕ)) → P (read.texts ++ bytes ∷ after)) → (more : List ℕ) → P (lines (text ++ (bytes ++ 10 ∷ more)))
+  first_stops P stops more = line_stops bytes read unended P (λ after. subst (λ line. P (read.texts ++ line ∷ after)) (sym alone) (stops after)) more
+
+  pub first_read : (new : JudgedLines) → HasJudged new (read.texts ++ bytes ∷ []) → IsRead new unfinished (text ++ (bytes ++ 10 ∷ []))
+  first_read new fine = subst (λ l. IsRead new l (text ++ (bytes ++ 10 ∷ []))) (sym none)
+      (line_read bytes read unended new (subst (λ line. HasJudged new (read.texts ++ line ∷ [])) (sym alone) fine))
+
+-- all lines of a text
+pub all_judged : (judged : JudgedLines) (text : List ℕ) (texts : List (List ℕ)) → lines text ≡ texts → HasJudged judged texts → (log : Log) × IsUntornLog log (lines text) × (length (lines text) < 2 ^ 64)
+all_judged judged text texts is fine =
+    (fine.log, subst (IsUntornLog fine.log) (sym is) fine.fine, omega (arith, ap length is, fine.count, fine.fits))
+
+-- what is said of an error
+pub if_err_weaker : {T E : Type 0} {P Q : E → Type 0} (answer : Result T E) → ((e : E) → P e → Q e) → IfErr answer P → IfErr answer Q
+if_err_weaker (Ok done) f p = tt
+if_err_weaker (Err e) f p = f e p
+
+pub begun : (judged : JudgedLines) → StandsAfter judged.judge [] → judged.count ≡ 0 → HasJudged judged []
+begun judged stands none = record { log = []; fine = record { tells = tt; untorn = tt }; stands = stands; count = none; fits = omega arith }
+
+-- what is said of each, where it is done
+pub on_ok_all : {T E X : Type 0} (H Q : X → Type 0) (answer : Result T E) → ((x : X) → H x → OnOk answer (Q x)) → OnOk answer ((x : X) → H x → Q x)
+on_ok_all H Q (Ok done) f = f
+on_ok_all H Q (Err e) f = tt
+
+-- no byte is left, or some are
+pub none_left : (bytes : List ℕ) → eqb (length bytes) 0 ≡ true → bytes ≡ []
+none_left [] is = refl
+none_left (byte ∷ bytes) is = let none = eqb-true (length (byte ∷ bytes)) 0 is in absurd (omega arith)
+
+pub some_left : (bytes : List ℕ) → eqb (length bytes) 0 ≡ false → 0 < length bytes
+some_left [] is = absurd (true≢false is)
+some_left (byte ∷ bytes) is = omega arith
+
+-- what fits doesn't, so there are more
+pub over : (n most : ℕ) (fits : Bool) → fits ≡ false → (n ≤ most → fits ≡ true) → most < n
+over n most fits unfit fit = ⊎_elim (λ more. more) (λ few. absurd (true≢false (sym (fit (omega arith)) ∙ unfit))) (cases_lt most n)
+
+-- ---- a piece, of which this front was read
+
+pub behind_front : (text front rest more piece : List ℕ) → piece ≡ front ++ rest → text ++ (piece ++ more) ≡ (text ++ front) ++ (rest ++ more)
+behind_front text front rest more piece split =
+    ap (λ l. text ++ (l ++ more)) split ∙ (ap (λ l. text ++ l) (append_assoc front rest more) ∙ sym (append_assoc text front (rest ++ more)))
+
+-- a line of the rest
+pub cut_line : (rest : List ℕ) (end : ℕ) → IsCutAt 10 rest (Some end) → rest ≡ take end rest ++ 10 ∷ behind end rest
+cut_line rest end (byte, halves, before, is) = halves ∙ ap (λ b. take end rest ++ b ∷ behind end rest) (eqb-true byte 10 is)
+
+pub no_line : (rest : List ℕ) (place : Option ℕ) → IsCutAt 10 rest place → ((end : ℕ) → place ≡ Some end → ⊥) → IsOpen rest
+no_line rest None cut not = cut
+no_line rest (Some end) cut not = absurd (not end refl)
+
+pub at_line : (line back more rest : List ℕ) → rest ≡ line ++ 10 ∷ back → rest ++ more ≡ line ++ 10 ∷ (back ++ more)
+at_line line back more rest is = ap (λ l. l ++ more) is ∙ append_assoc line (10 ∷ back) more
+
+pub line_off : (front line back rest piece : List ℕ) → piece ≡ front ++ rest → rest ≡ line ++ 10 ∷ back → piece ≡ (front ++ (line ++ 10 ∷ [])) ++ back
+line_off front line back rest piece split is =
+    split ∙ (ap (λ l. front ++ l) (is ∙ sym (append_assoc line (10 ∷ []) back)) ∙ sym (append_assoc front (line ++ 10 ∷ []) back))

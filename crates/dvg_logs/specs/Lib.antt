@@ -1,0 +1,6 @@
+pub mod LogLines
+pub mod LogTexts
+pub mod Tears
+pub mod LogLineTells
+pub mod LogReading
+pub mod Judging

@@ -1,0 +1,27 @@
+-- What a line tells, as a reader has it (for private contracts).
+use Rattle.std.specs.Prelude.{◌≡◌, ℕ, List, [], ◌∷◌, ◌++◌}
+use Rattle.dvg_driver.specs.declared.action.Action.TheVariants.{Wrote, Idle}
+use Rattle.dvg_world.specs.Entries.{Acted, Started, Low, Fetched, Done, Cleared}
+use Rattle.dvg_world.specs.Events.{Tick, Strobe, Fetch, ResetGen}
+use Rattle.dvg_world.specs.Log.{◌⟼◌, Line}
+use Rattle.dvg_text.specs.Texts.{IsHex}
+use Rattle.dvg_logs.specs.declared.log_line.LogLine.{LogLine}
+use Rattle.dvg_logs.specs.declared.log_line.LogLine.TheVariants as code
+
+-- the line of a log that a line of text tells
+abbrev pub line_of : LogLine → Line
+line_of code.Passed = Tick ⟼ Acted Idle
+line_of code.Started = Strobe ⟼ Started
+line_of (code.Fetched address word) = Fetch ⟼ Fetched address word
+line_of (code.Low address byte) = Fetch ⟼ Low address byte
+line_of (code.Wrote address byte) = Tick ⟼ Acted (Wrote address byte)
+line_of code.Halted = Fetch ⟼ Done 0 0 []
+line_of code.Reset = ResetGen ⟼ Cleared
+
+-- an address of three hexadecimal digits and a number of so many, with one space between them; 32 is the space
+pub record AreNumbers (count a n : ℕ) (bytes : List ℕ) : Type 0 where
+  pub front : List ℕ
+  pub back : List ℕ
+  pub split : bytes ≡ front ++ 32 ∷ back
+  pub address : IsHex 3 a front
+  pub number : IsHex count n back

@@ -1,0 +1,58 @@
+-- How a log's text is read (for private contracts).
+use Rattle.std.specs.Prelude.{◌≡◌, ◌==◌, ◌+◌, ◌*◌, ◌^◌, ◌<◌, ◌≤◌, ℕ, List, [], ◌∷◌, ◌++◌, length, false, All}
+use Rattle.dvg_world.specs.Judging.{StandsAfter}
+use Rattle.dvg_world.specs.Log.{◌⟼◌, Line, Log}
+use Rattle.dvg_world.specs.Torn.{IsTorn}
+use Rattle.dvg_text.specs.Texts.{lines}
+use Rattle.dvg_logs.specs.declared.log_reading.JudgedLines.{JudgedLines}
+use Rattle.dvg_logs.specs.declared.log_reading.LogReading.{LogReading}
+use Rattle.dvg_logs.specs.declared.log_reading.LogStop.{LogStop}
+use Rattle.dvg_logs.specs.declared.log_reading.LogStop.TheVariants.{Torn, Syntax, TooLong}
+use Rattle.dvg_logs.specs.LogLines.{Tells}
+use Rattle.dvg_logs.specs.LogTexts.{IsTornAt, IsUntornLog, MeetsSyntax, MeetsTooMany}
+use Rattle.dvg_logs.specs.Tears.{ended}
+
+-- the line is torn
+abbrev pub IsTornLine : Log → Line → Type 0
+IsTornLine log (event ⟼ entry) = IsTorn log event entry
+
+-- why the reading of lines stops
+abbrev pub StopsAt : LogStop → List (List ℕ) → Type 0
+StopsAt (Torn n address byte) texts = IsTornAt texts n address byte
+StopsAt (Syntax n) texts = MeetsSyntax texts n
+StopsAt TooLong texts = MeetsTooMany texts
+
+-- the number of the line that stops it
+abbrev pub number_of : LogStop → ℕ
+number_of (Torn n address byte) = n
+number_of (Syntax n) = n
+number_of TooLong = 2 ^ 64
+
+-- these lines were judged
+pub record HasJudged (judged : JudgedLines) (texts : List (List ℕ)) : Type 0 where
+  pub log : Log
+  pub fine : IsUntornLog log texts
+  pub stands : StandsAfter judged.judge log
+  pub count : judged.count ≡ length texts
+  pub fits : judged.count < 2 ^ 64
+
+-- no line ends among these bytes; 10 is LF
+abbrev pub IsOpen : List ℕ → Type 0
+IsOpen = All (λ byte. (byte == 10) ≡ false)
+
+-- this text was read: lines that were judged, and then the bytes of one that has not ended
+pub record IsRead (judged : JudgedLines) (unfinished text : List ℕ) : Type 0 where
+  pub texts : List (List ℕ)
+  pub fine : HasJudged judged texts
+  pub unended : IsOpen unfinished
+  pub short : length unfinished ≤ 64
+  pub cut : (more : List ℕ) → lines (text ++ more) ≡ texts ++ lines (unfinished ++ more)
+  pub size : length text ≡ length (ended texts) + length unfinished
+
+-- the same, of a reader
+abbrev pub HasRead : LogReading → List ℕ → Type 0
+HasRead reading text = IsRead reading.judged reading.unfinished.items text
+
+-- how far it has read: it gets farther with each line, and with each byte of a line that has not ended
+abbrev pub place_of : LogReading → ℕ
+place_of reading = 65 * reading.judged.count + length reading.unfinished.items

@@ -1,0 +1,186 @@
+//! The text of a log, as it is read in pieces.
+ghost use Rattle.std.specs.Prelude.{◌≡◌, ◌+◌, ◌^◌, ◌<◌, [], ◌∷◌, ◌++◌, ℕ, List, length, IfErr, IfSome, IsNone, OnOk};
+ghost use Rattle.dvg_driver.specs.declared.action.Action.TheVariants.{Wrote};
+ghost use Rattle.dvg_world.specs.Entries.{Acted};
+ghost use Rattle.dvg_world.specs.Events.{Tick};
+ghost use Rattle.dvg_world.specs.Judging.{StandsAfter};
+ghost use Rattle.dvg_world.specs.Log.{Line, Log, ◌⟼◌};
+ghost use Rattle.dvg_text.specs.Texts.{lines};
+ghost use Rattle.dvg_logs.specs.LogLines.{Tells};
+ghost use Rattle.dvg_logs.specs.LogTexts.{IsUntornLog};
+ghost use Rattle.dvg_logs.specs.LogLineTells.{line_of};
+ghost use Rattle.dvg_logs.specs.LogReading.{HasJudged, HasRead, IsOpen, IsTornLine, StopsAt, number_of, place_of};
+
+use crate::log_line::{LogLine, MOST_LINE_BYTES, read_log_line};
+use arrayvec::ArrayVec;
+use dvg_world::Judge;
+use memchr::memchr;
+
+/// Why the reading of a log stops before its text ends.
+#[derive(Clone, Copy, Debug, PartialEq, Eq)]
+pub enum LogStop {
+    /// The line of this number, counted from 1, writes a byte, at a byte address, in the half that the open run draws.
+    Torn { line: usize, address: u16, byte: u8 },
+    /// The line of this number, counted from 1, tells nothing that a line may.
+    Syntax(usize),
+    /// There are more lines than are counted.
+    TooLong,
+}
+
+// Tells the judge what a line tells. The byte address and the byte of the write that tears a picture, where it does.
+fn tell(judge: &mut Judge, told: LogLine) -> Option<(u16, u8)>
+    ensures stands { (log : Log) → StandsAfter judge.old log → StandsAfter judge.new (line_of told ∷ log) }
+    ensures torn { (log : Log) → StandsAfter judge.old log → IfSome result (λ wrote. (line_of told ≡ Tick ⟼ Acted (Wrote wrote.0 wrote.1)) × IsTornLine log (line_of told)) }
+    ensures untorn { (log : Log) → StandsAfter judge.old log → IsNone result → ¬ IsTornLine log (line_of told) }
+{
+    match told {
+        LogLine::Started => judge.started(),
+        LogLine::Fetched(address, word) => judge.fetched(address, word),
+        LogLine::Wrote(address, byte) => {
+            if judge.wrote(address) {
+                return Some((address, byte));
+            }
+        }
+        LogLine::Halted => judge.halted(),
+        LogLine::Reset => judge.reset(),
+        LogLine::Passed | LogLine::Low(..) => {}
+    }
+    None
+}
+
+// The lines that have ended. None of them is torn or at fault.
+#[derive(Clone, Copy, Debug, PartialEq, Eq)]
+struct JudgedLines {
+    judge: Judge,
+    count: usize,
+}
+
+impl JudgedLines {
+    // Why the next line stops the reading, where it tells nothing that a line may.
+    fn wrong(&self) -> LogStop
+        ensures stop { (before : List (List ℕ)) (line : List ℕ) (after : List (List ℕ)) → HasJudged self.now before → ((told : Line) → ¬ Tells told line) → StopsAt result (before ++ line ∷ after) }
+        ensures next { number_of result ≡ self.now.count + 1 }
+    {
+        if self.count == usize::MAX {
+            return LogStop::TooLong;
+        }
+        LogStop::Syntax(self.count + 1)
+    }
+
+    // Takes the next line.
+    fn take(&mut self, line: &[u8]) -> Result<(), LogStop>
+        ensures taken { (before : List (List ℕ)) → HasJudged self.old before → OnOk result (HasJudged self.new (before ++ line.now ∷ [])) }
+        ensures stop { IfErr result (λ stop. (before after : List (List ℕ)) → HasJudged self.old before → StopsAt stop (before ++ line.now ∷ after)) }
+        ensures next { IfErr result (λ stop. number_of stop ≡ self.old.count + 1) }
+        ensures count { OnOk result (self.new.count ≡ self.old.count + 1) }
+    {
+        if self.count == usize::MAX {
+            return Err(LogStop::TooLong);
+        }
+        let number = self.count + 1;
+        let Some(told) = read_log_line(line) else {
+            return Err(LogStop::Syntax(number));
+        };
+        match tell(&mut self.judge, told) {
+            Some((address, byte)) => Err(LogStop::Torn {
+                line: number,
+                address,
+                byte,
+            }),
+            None => {
+                self.count = number;
+                Ok(())
+            }
+        }
+    }
+}
+
+/// What was read of a log's text.
+#[derive(Drop)]
+pub struct LogReading {
+    judged: JudgedLines,
+    // The bytes of a line that has not ended.
+    unfinished: ArrayVec<u8, MOST_LINE_BYTES>,
+}
+
+impl LogReading {
+    /// Before the first piece.
+    pub fn new() -> LogReading
+        ensures { HasRead result [] }
+    {
+        LogReading {
+            judged: JudgedLines {
+                judge: Judge::new(),
+                count: 0,
+            },
+            unfinished: ArrayVec::new(),
+        }
+    }
+
+    // Takes bytes of a line, of which it is not the end.
+    fn begin_line(&mut self, bytes: &[u8]) -> Result<(), LogStop>
+        requires { IsOpen bytes.now }
+        ensures read { (text : List ℕ) → HasRead self.old text → OnOk result (HasRead self.new (text ++ bytes.now)) }
+        ensures stop { IfErr result (λ stop. (text more : List ℕ) → HasRead self.old text → StopsAt stop (lines (text ++ (bytes.now ++ more)))) }
+        ensures next { IfErr result (λ stop. number_of stop ≡ self.old.judged.count + 1) }
+        ensures bytes { OnOk result (self.new.unfinished.items ≡ self.old.unfinished.items ++ bytes.now) }
+        ensures judged { OnOk result (self.new.judged ≡ self.old.judged) }
+    {
+        match self.unfinished.try_extend_from_slice(bytes) {
+            Ok(()) => Ok(()),
+            Err(_) => Err(self.judged.wrong()),
+        }
+    }
+
+    // Takes the last bytes of a line, and its end.
+    fn end_line(&mut self, bytes: &[u8]) -> Result<(), LogStop>
+        requires { IsOpen bytes.now }
+        ensures read { (text : List ℕ) → HasRead self.old text → OnOk result (HasRead self.new (text ++ (bytes.now ++ 10 ∷ []))) }
+        ensures stop { IfErr result (λ stop. (text more : List ℕ) → HasRead self.old text → StopsAt stop (lines (text ++ (bytes.now ++ 10 ∷ more)))) }
+        ensures next { IfErr result (λ stop. number_of stop ≡ self.old.judged.count + 1) }
+        ensures count { OnOk result (self.new.judged.count ≡ self.old.judged.count + 1) }
+        ensures farther { OnOk result (place_of self.old < place_of self.new) }
+    {
+        if self.unfinished.is_empty() {
+            return self.judged.take(bytes);
+        }
+        match self.begin_line(bytes) {
+            Ok(()) => {}
+            Err(stop) => return Err(stop),
+        }
+        let taken = self.judged.take(self.unfinished.as_slice());
+        self.unfinished.clear();
+        taken
+    }
+
+    /// Takes a piece more of the text.
+    pub fn take_piece(&mut self, piece: &[u8]) -> Result<(), LogStop>
+        ensures read { (text : List ℕ) → HasRead self.old text → OnOk result (HasRead self.new (text ++ piece.now)) }
+        ensures stop { IfErr result (λ stop. (text more : List ℕ) → HasRead self.old text → StopsAt stop (lines (text ++ (piece.now ++ more)))) }
+        ensures later { IfErr result (λ stop. self.old.judged.count < number_of stop) }
+        ensures farther { 0 < length piece.now → OnOk result (place_of self.old < place_of self.new) }
+    {
+        let mut rest = piece;
+        while let Some(end) = memchr(b'\n', rest) {
+            match self.end_line(&rest[..end]) {
+                Ok(()) => {}
+                Err(stop) => return Err(stop),
+            }
+            rest = &rest[end + 1..];
+        }
+        self.begin_line(rest)
+    }
+
+    /// Takes the end of the text, which ends a line that has begun.
+    pub fn finish(self) -> Result<(), LogStop>
+        ensures read { OnOk result ((text : List ℕ) → HasRead self text → (log : Log) × IsUntornLog log (lines text) × (length (lines text) < 2 ^ 64)) }
+        ensures stop { IfErr result (λ stop. (text : List ℕ) → HasRead self text → StopsAt stop (lines text)) }
+        ensures next { IfErr result (λ stop. number_of stop ≡ self.judged.count + 1) }
+    {
+        let mut judged = self.judged;
+        if self.unfinished.is_empty() {
+            return Ok(());
+        }
+        judged.take(self.unfinished.as_slice())
+    }
+}
