@@ -1,5 +1,5 @@
 -- The draft of a sketch.
-use Rattle.std.specs.Prelude.{◌≡◌, ◌<◌, ◌≤◌, ℕ, List, [], ◌∷◌, ◌++◌, length, filter}
+use Rattle.std.specs.Prelude.{◌≡◌, ◌<◌, ◌≤◌, ℕ, List, filter, slice_get, Some, take}
 use Rattle.std.specs.List.{AllZip}
 use Rattle.dvg_frame.specs.declared.op.OpKind.{OpKind}
 use Rattle.dvg_frame.specs.declared.op.OpKind.TheVariants as kinds
@@ -20,32 +20,24 @@ IsDrafted steps (Name name) kind = ⊥
 abbrev pub IsDraftOf : List Step → List OpKind → Type 0
 IsDraftOf steps draft = AllZip (IsDrafted steps) (filter is_operation steps) draft
 
--- at this step, and what stands before it
-pub record IsAt (steps : List Step) (place : ℕ) (step : Step) (before : List Step) : Type 0 where
-  pub after : List Step
-  pub cut : steps ≡ before ++ step ∷ after
-  pub count : place ≡ length before
+-- this step gives a name that one before it gives
+abbrev pub GivesAgain : List Step → ℕ → Type 0
+GivesAgain steps place = (step : Step) × (name : List ℕ) × (slice_get steps place ≡ Some step) × Names step name × ((number : ℕ) × IsNumberOf (take place steps) name number)
 
--- a step gives a name that one before it gives
-abbrev pub GivesAgain : List Step → Step → Type 0
-GivesAgain before step = (name : List ℕ) × Names step name × ((number : ℕ) × IsNumberOf before name number)
-
--- no step gives a name again
-abbrev pub GivesOnce : List Step → Type 0
-GivesOnce steps = (place : ℕ) (step : Step) (before : List Step) → IsAt steps place step before → ¬ GivesAgain before step
-
--- this step is the first that gives a name again
-abbrev pub IsGivenAgain : List Step → ℕ → Type 0
-IsGivenAgain steps place = (step : Step) × (before : List Step) × IsAt steps place step before × GivesAgain before step × GivesOnce before
-
--- a step calls or jumps to a name that no step gives
+-- this step calls or jumps to a name that no step gives
 abbrev pub WantsUnknown : List Step → Step → Type 0
 WantsUnknown steps step = (name : List ℕ) × Wants step name × ((number : ℕ) → ¬ IsNumberOf steps name number)
 
--- the fault of a sketch: too many operations, else the first name that is given again, else the first one that is wanted and not given
+-- so does the step at this place
+abbrev pub IsUnknown : List Step → ℕ → Type 0
+IsUnknown steps place = (step : Step) × (slice_get steps place ≡ Some step) × WantsUnknown steps step
+
+-- it is so at this place, and at none before it
+abbrev pub IsFirst : (ℕ → Type 0) → ℕ → Type 0
+IsFirst P place = P place × ((earlier : ℕ) → earlier < place → ¬ P earlier)
+
+-- the fault of a sketch: too many operations, else the first name that is given again, else the first that is wanted and not given
 abbrev pub HasFault : List Step → SketchFault → Type 0
 HasFault steps Full = 511 < op_count steps
-HasFault steps (Twice place) = (op_count steps ≤ 511) × IsGivenAgain steps place
-HasFault steps (Unknown place) = (op_count steps ≤ 511) × GivesOnce steps
-    × ((step : Step) × (before : List Step) × IsAt steps place step before × WantsUnknown steps step
-    × ((earlier : ℕ) (other : Step) (front : List Step) → IsAt before earlier other front → ¬ WantsUnknown steps other))
+HasFault steps (Twice place) = (op_count steps ≤ 511) × IsFirst (GivesAgain steps) place
+HasFault steps (Unknown place) = (op_count steps ≤ 511) × ((again : ℕ) → ¬ GivesAgain steps again) × IsFirst (IsUnknown steps) place

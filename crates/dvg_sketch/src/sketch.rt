@@ -1,6 +1,6 @@
 //! The draft of a sketch.
-ghost use Rattle.std.specs.Prelude.{◌≡◌, ◌<◌, ◌≤◌, ℕ, IfErr, IfOk, MatchOption, OnSome};
-ghost use Rattle.dvg_sketch.specs.Sketches.{GivesOnce, HasFault, IsDraftOf, IsDrafted, IsGivenAgain, WantsUnknown};
+ghost use Rattle.std.specs.Prelude.{◌≡◌, ◌≤◌, ℕ, IfErr, IfOk, MatchOption, true};
+ghost use Rattle.dvg_sketch.specs.Sketches.{GivesAgain, HasFault, IsDraftOf, IsDrafted, IsFirst, WantsUnknown};
 ghost use Rattle.dvg_sketch.specs.Steps.{IsNumberOf, is_operation, op_count};
 
 use crate::fault::SketchFault;
@@ -30,7 +30,7 @@ fn number_of(steps: &[Step], name: &str) -> Option<u16>
 // The first step that gives a name which one before it gives.
 fn given_again(steps: &[Step]) -> Option<usize>
     requires { op_count steps.now ≤ 511 }
-    ensures { MatchOption result (GivesOnce steps.now) (IsGivenAgain steps.now) }
+    ensures { MatchOption result ((place : ℕ) → ¬ GivesAgain steps.now place) (IsFirst (GivesAgain steps.now)) }
 {
     for (place, step) in steps.iter().enumerate() {
         if let Step::Name(name) = step {
@@ -50,8 +50,14 @@ fn operation(steps: &[Step], step: &Step) -> Option<Op>
 {
     match step {
         Step::Op(op) => Some(*op),
-        Step::Call(name) => Op::new(OpKind::Call(number_of(steps, name)?)),
-        Step::Jump(name) => Op::new(OpKind::Jump(number_of(steps, name)?)),
+        Step::Call(name) => match number_of(steps, name) {
+            Some(number) => Op::new(OpKind::Call(number)),
+            None => None,
+        },
+        Step::Jump(name) => match number_of(steps, name) {
+            Some(number) => Op::new(OpKind::Jump(number)),
+            None => None,
+        },
         Step::Name(_) => unreachable!(),
     }
 }
@@ -76,13 +82,12 @@ pub fn draft_of(steps: &[Step]) -> Result<Draft, SketchFault>
     }
     let mut draft = Draft::new();
     for (place, step) in steps.iter().enumerate() {
-        if !step.is_operation() {
-            continue;
+        if step.is_operation() {
+            let Some(op) = operation(steps, step) else {
+                return Err(SketchFault::Unknown(place));
+            };
+            draft.push(op).unwrap();
         }
-        let Some(op) = operation(steps, step) else {
-            return Err(SketchFault::Unknown(place));
-        };
-        draft.push(op).unwrap();
     }
     Ok(draft)
 }
