@@ -40,7 +40,7 @@ fn complain(rt: &HostRuntime, fault: ToolFault) {
 /// Writes the help that was asked for, or why the words ask for nothing. Answers the exit status.
 fn answer_words(rt: &HostRuntime, error: &Error) -> u8 {
     match error.kind() {
-        ErrorKind::DisplayHelp => {
+        ErrorKind::DisplayHelp | ErrorKind::DisplayVersion => {
             if help(rt, error).is_err() {
                 complain(rt, ToolFault::Writer);
                 return status(&Err(ToolFault::Writer));

@@ -1,33 +1,47 @@
 -- What is done for a job.
-use Rattle.std.specs.Prelude.{ℕ, List, Option, Result, Ok, Err}
+use Rattle.std.specs.Prelude.{ℕ, List, Option, Result, Ok, Err, IfSome}
+use Rattle.dvg_io.specs.Faults.{StopsBeforeWriting}
+use Rattle.dvg_io.specs.Watching.{TakesAtMost}
+use Rattle.dvg_io.specs.declared.fault.ToolFault.{ToolFault}
+use Rattle.dvg_logs.specs.Tears.{Takes, Tears}
+use Rattle.dvg_picture.specs.Pictures.{Pictures}
 use Rattle.dvg_tool.specs.Lists.{Lists}
 use Rattle.dvg_tool.specs.Roms.{WritesRom}
 use Rattle.dvg_tool.specs.Checks.{Checks}
-use Rattle.dvg_io.specs.Faults.{StopsBeforeWriting}
 use Rattle.dvg_tool.specs.Plays.{Plays, StopsBeforeShowing}
-use Rattle.dvg_io.specs.declared.fault.ToolFault.{ToolFault}
 use Rattle.dvg_tool.specs.declared.outcome.Done.{Done}
-use Rattle.dvg_tool.specs.declared.outcome.Done.TheVariants.{Written, Judged}
+use Rattle.dvg_tool.specs.declared.outcome.Done.TheVariants.{Written, Judged, Drew, Searched}
 use Rattle.dvg_words.specs.declared.task.Job.{Job}
-use Rattle.dvg_words.specs.declared.task.Job.TheVariants.{List as list_job, Rom, Check, Play}
+use Rattle.dvg_words.specs.declared.task.Job.TheVariants.{List as list_job, Rom, Picture, Check, Play, Torn}
 
--- what is answered of an input, and what went out: `check` tells its verdict, and no other job tells one
+-- what is answered of an input, and what went out: a check tells its verdict, `picture` what the run came to, `torn` what is said of the log, and no other job tells anything
 abbrev pub Performs : Job → Result Done ToolFault → (input : List ℕ) → Option (List ℕ) → Option (List ℕ) → Type 0
-Performs (Check bound) (Ok Written) input old new = ⊥
+Performs list_job (Ok Written) input old new = Lists (Ok Written) input old new
+Performs list_job (Err fault) input old new = Lists {T = Done} (Err fault) input old new
+Performs Rom (Ok Written) input old new = WritesRom (Ok Written) input old new
+Performs Rom (Err fault) input old new = WritesRom {T = Done} (Err fault) input old new
+Performs (Picture all) (Ok (Drew outcome)) input old new = Pictures all (Ok outcome) input old new
+Performs (Picture all) (Err fault) input old new = Pictures all (Err fault) input old new
 Performs (Check bound) (Ok (Judged verdict)) input old new = Checks bound (Ok verdict) input old new
 Performs (Check bound) (Err fault) input old new = Checks bound (Err fault) input old new
-Performs _ (Ok (Judged verdict)) input old new = ⊥
-Performs list_job answer input old new = Lists answer input old new
-Performs Rom answer input old new = WritesRom answer input old new
-Performs (Play all banked) answer input old new = Plays all answer input old new
+Performs (Play all banked) (Ok Written) input old new = Plays all (Ok Written) input old new
+Performs (Play all banked) (Err fault) input old new = Plays {T = Done} all (Err fault) input old new
+Performs Torn (Ok (Searched verdict)) input old new = Tears (Ok verdict) input old new
+Performs Torn (Err fault) input old new = Tears (Err fault) input old new
+Performs _ (Ok _) input old new = ⊥
 
 -- the faults before which a job writes nothing
 abbrev pub StaysUnwritten : Job → ToolFault → Type 0
 StaysUnwritten (Play all banked) fault = StopsBeforeShowing fault
 StaysUnwritten _ fault = StopsBeforeWriting fault
 
--- the most bytes that are taken of the input
-abbrev pub most_taken : Job → ℕ
-most_taken list_job = 8193
-most_taken Rom = 4097
-most_taken _ = 1048577
+-- what is taken of the input: so many bytes at most, and of a log no more than a piece behind the line that decides
+abbrev pub TakesBy : Job → Result Done ToolFault → Option (List ℕ) → Option (List ℕ) → Type 0
+TakesBy list_job answer old new = TakesAtMost 8193 old new
+TakesBy Rom answer old new = TakesAtMost 4097 old new
+TakesBy (Picture all) answer old new = TakesAtMost 6145 old new
+TakesBy (Check bound) answer old new = TakesAtMost 1048577 old new
+TakesBy (Play all banked) answer old new = TakesAtMost 1048577 old new
+TakesBy Torn (Ok (Searched verdict)) old new = IfSome old (λ input. Takes (Ok verdict) input old new)
+TakesBy Torn (Ok _) old new = ⊥
+TakesBy Torn (Err fault) old new = IfSome old (λ input. Takes (Err fault) input old new)

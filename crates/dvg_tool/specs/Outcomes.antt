@@ -3,7 +3,9 @@ use Rattle.std.specs.Prelude.{◌≡◌, ℕ, ◌⊎◌, Result, Ok, Err}
 use Rattle.dvg_io.specs.declared.fault.ToolFault.{ToolFault}
 use Rattle.dvg_io.specs.declared.fault.ToolFault.TheVariants.{Text, Writer}
 use Rattle.dvg_tool.specs.declared.outcome.Done.{Done}
-use Rattle.dvg_tool.specs.declared.outcome.Done.TheVariants.{Written, Judged}
+use Rattle.dvg_tool.specs.declared.outcome.Done.TheVariants.{Written, Judged, Drew, Searched}
+use Rattle.dvg_dump.specs.declared.ending.Outcome.TheVariants as outcomes
+use Rattle.dvg_text.specs.declared.log_verdict.LogVerdict.TheVariants.{NotTorn, Torn}
 use Rattle.dvg_text.specs.declared.verdict.Verdict.TheVariants.{Good, Refused}
 use Rattle.dvg_io.specs.Watching.{one_more}
 
@@ -16,5 +18,9 @@ abbrev pub status_of : Result Done ToolFault → ℕ
 status_of (Ok Written) = 0
 status_of (Ok (Judged (Good words bound))) = 0
 status_of (Ok (Judged (Refused fault))) = 1
+status_of (Ok (Drew outcomes.Picture)) = 0
+status_of (Ok (Drew _)) = 1
+status_of (Ok (Searched NotTorn)) = 0
+status_of (Ok (Searched (Torn line address byte))) = 1
 status_of (Err (Text fault)) = 1
 status_of (Err _) = 2

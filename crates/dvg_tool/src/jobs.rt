@@ -1,7 +1,7 @@
 //! Which engine does which job.
 ghost use Rattle.std.specs.Prelude.{◌≡◌, ◌↔◌, ◌≤◌, IfErr, IfSome, IsErrOf};
-ghost use Rattle.dvg_tool.specs.Jobs.{Performs, StaysUnwritten, most_taken};
-ghost use Rattle.dvg_io.specs.Watching.{TakesAtMost, device_of, failures_of};
+ghost use Rattle.dvg_tool.specs.Jobs.{Performs, StaysUnwritten, TakesBy};
+ghost use Rattle.dvg_io.specs.Watching.{device_of, failures_of};
 
 use crate::checks::{check_bound, check_text};
 use crate::lists::list;
@@ -9,13 +9,15 @@ use crate::outcome::Done;
 use crate::plays::{play, play_in};
 use crate::roms::rom_text;
 use dvg_io::{ToolFault, Watched};
+use dvg_logs::torn;
 use dvg_mem::Banked;
+use dvg_picture::picture;
 use dvg_words::Job;
 use std::alloc::Allocator;
 use std::io::{Read, Write};
 
-/// Does a job by its engine: `list`, `rom_text`, `check_text` or `check_bound`, whose verdict it tells, `play`, or `play_in` over
-/// the store `Banked`.
+/// Does a job by its engine: `list`, `rom_text`, `picture`, `check_text` or `check_bound`, `play`, or `play_in` over
+/// the store `Banked`, or `torn`; and tells what `picture`, a check and `torn` have to tell.
 pub fn perform<A: Allocator + Copy, R: Read, W: Write>(
     alloc: A,
     job: Job,
@@ -28,7 +30,7 @@ pub fn perform<A: Allocator + Copy, R: Read, W: Write>(
     // Of a reader that tells its bytes.
     ensures performs { IfSome (R.remaining (device_of reader.old)) (λ input.
         Performs job result input (W.contents (device_of writer.old)) (W.contents (device_of writer.new))) }
-    ensures took { TakesAtMost (most_taken job) (R.remaining (device_of reader.old)) (R.remaining (device_of reader.new)) }
+    ensures took { TakesBy job result (R.remaining (device_of reader.old)) (R.remaining (device_of reader.new)) }
 
     // Whatever the reader and the writer are.
     ensures unwritten { IfErr result (λ fault. StaysUnwritten job fault → writer.new ≡ writer.old) }
@@ -39,6 +41,7 @@ pub fn perform<A: Allocator + Copy, R: Read, W: Write>(
     match job {
         Job::List => list(alloc, reader, writer).map(|()| Done::Written),
         Job::Rom => rom_text(alloc, reader, writer).map(|()| Done::Written),
+        Job::Picture { all } => picture(alloc, reader, writer, all).map(Done::Drew),
         Job::Check { bound: false } => check_text(alloc, reader, writer).map(Done::Judged),
         Job::Check { bound: true } => check_bound(alloc, reader, writer).map(Done::Judged),
         Job::Play { all, banked: false } => play(alloc, reader, writer, all).map(
@@ -47,5 +50,6 @@ pub fn perform<A: Allocator + Copy, R: Read, W: Write>(
         Job::Play { all, banked: true } => {
             play_in::<Banked<A>, R, W>(alloc, reader, writer, all).map(|()| Done::Written)
         }
+        Job::Torn => torn(reader, writer).map(Done::Searched),
     }
 }

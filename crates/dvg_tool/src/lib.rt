@@ -1,4 +1,4 @@
-//! The engines of the program `dvg`, over any watched reader and writer; the jobs that its words ask for, which
+//! The engines of the program `dvg` but `picture` and `torn`, over any watched reader and writer; the jobs that its words ask for, which
 //! are those of `dvg_words`. What it reads and writes are the texts of `dvg_text`.
 //!
 //! An engine reads its whole input before it writes, and takes no memory after its first write: its lines are
@@ -16,6 +16,8 @@ mod shows;
 
 pub use checks::{check_bound, check_text};
 pub use dvg_io::{DeviceFailed, ToolFault, Watched};
+pub use dvg_logs::{LogVerdict, torn};
+pub use dvg_picture::{Outcome, picture};
 pub use dvg_text::{MOST_TEXT_BYTES, TextFault, Verdict};
 pub use dvg_words::{Job, job, words_status};
 pub use jobs::perform;

@@ -5,6 +5,8 @@ ghost use Rattle.dvg_tool.specs.Outcomes.{FinishesAs, status_of};
 ghost use Rattle.dvg_io.specs.Watching.{device_of, failures_of};
 
 use dvg_io::{ToolFault, Watched};
+use dvg_logs::LogVerdict;
+use dvg_picture::Outcome;
 use dvg_text::Verdict;
 use std::io::Write;
 
@@ -15,6 +17,10 @@ pub enum Done {
     Written,
     /// This was said of a draft, and the line of it was written.
     Judged(Verdict),
+    /// The run over a dump came to this, and its text was written.
+    Drew(Outcome),
+    /// This was said of a log, and the line of it was written.
+    Searched(LogVerdict),
 }
 
 /// Flushes the writer of an engine that is done. A flush that fails is `Writer`, whatever the engine
@@ -32,15 +38,25 @@ pub fn finish<W: Write>(
     }
 }
 
-/// The program's exit status: 0 where the job is done, 1 for a fault of the text and for a draft that
-/// `check` refuses, 2 for a device that failed or want of memory; words that ask for no job are 64, which
+/// The program's exit status: 0 where the job is done, 1 for a fault of the text, and where what was asked about isn't
+/// good: a draft that `check` refuses, a dump that draws no picture, a log with a torn picture; 2 for a device that failed or want of memory; words that ask for no job are 64, which
 /// is not an answer of an engine (this project's own choice).
 pub fn status(answer: &Result<Done, ToolFault>) -> u8
     ensures { result ≡ status_of answer.now }
 {
     match answer {
-        Ok(Done::Written | Done::Judged(Verdict::Good { .. })) => 0,
-        Ok(Done::Judged(Verdict::Refused(_))) | Err(ToolFault::Text(_)) => 1,
+        Ok(
+            Done::Written
+            | Done::Judged(Verdict::Good { .. })
+            | Done::Drew(Outcome::Picture)
+            | Done::Searched(LogVerdict::NotTorn),
+        ) => 0,
+        Ok(
+            Done::Judged(Verdict::Refused(_))
+            | Done::Drew(Outcome::Broke | Outcome::Endless)
+            | Done::Searched(LogVerdict::Torn { .. }),
+        )
+        | Err(ToolFault::Text(_)) => 1,
         Err(ToolFault::Reader | ToolFault::Writer | ToolFault::Memory) => 2,
     }
 }
