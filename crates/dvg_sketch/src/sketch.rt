@@ -1,5 +1,5 @@
 //! The draft of a sketch.
-ghost use Rattle.std.specs.Prelude.{◌≡◌, ◌≤◌, ℕ, IfErr, IfOk, MatchOption, true};
+ghost use Rattle.std.specs.Prelude.{◌≡◌, ◌≤◌, ℕ, IfErr, IfOk, IsOk, MatchOption, true};
 ghost use Rattle.dvg_sketch.specs.Sketches.{GivesAgain, HasFault, IsDraftOf, IsDrafted, IsFirst, WantsUnknown};
 ghost use Rattle.dvg_sketch.specs.Steps.{IsNumberOf, is_operation, op_count};
 
@@ -72,6 +72,7 @@ fn operation(steps: &[Step], step: &Step) -> Option<Op>
 /// A name behind the last operation names one that isn't there, which the check of a draft refuses where it is used.
 pub fn draft_of(steps: &[Step]) -> Result<Draft, SketchFault>
     ensures draft { IfOk result (IsDraftOf steps.now) }
+    ensures once { IsOk result → (place : ℕ) → ¬ GivesAgain steps.now place }
     ensures fault { IfErr result (HasFault steps.now) }
 {
     if steps.iter().filter(|step| step.is_operation()).count() > MOST_OPS {
