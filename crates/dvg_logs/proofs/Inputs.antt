@@ -1,5 +1,5 @@
 -- From what was read of a log to what the reader had.
-use Rattle.std.proofs.Common.{◌≡◌, ◌<◌, ◌≤◌, ◌+◌, ◌-◌, ◌*◌, ◌^◌, ℕ, List, [], ◌∷◌, ◌++◌, Option, Some, None, IfSome, length, take, flat_map, refl, sym, ap, ◌∙◌, subst, arith, append_assoc, append-nil, length-append}
+use Rattle.std.proofs.Common.{◌≡◌, ◌<◌, ◌≤◌, ◌+◌, ◌-◌, ◌^◌, ℕ, List, [], ◌∷◌, ◌++◌, Option, Some, None, IfSome, length, take, sym, ap, ◌∙◌, subst, arith, append_assoc, append-nil, length-append}
 use Rattle.std.proofs.Math.Seq.{take-append-add}
 use Rattle.std.proofs.lemmas.Grind.{flat_map-append}
 use Rattle.std.specs.Io.KnownBytes.{Consumes, IsAtEnd}
@@ -7,12 +7,11 @@ use Rattle.dvg_world.specs.Log.{Log}
 use Rattle.dvg_text.specs.Texts.{lines}
 use Rattle.dvg_text.specs.declared.log_verdict.LogVerdict.TheVariants.{NotTorn}
 use Rattle.std.specs.Prelude.{Ok}
-use Rattle.dvg_io.specs.Watching.{TakesAtMost}
 use Rattle.dvg_logs.specs.declared.log_reading.LogStop.{LogStop}
 use Rattle.dvg_logs.specs.declared.log_reading.LogStop.TheVariants.{Torn, Syntax, TooLong}
 use Rattle.dvg_logs.specs.declared.log_reading.LogReading.{LogReading}
 use Rattle.dvg_logs.specs.Judging.{Answers, JudgesInput, answer_of}
-use Rattle.dvg_logs.specs.LogReading.{HasRead, IsRead, StopsAt, number_of}
+use Rattle.dvg_logs.specs.LogReading.{HasRead, StopsAt, number_of}
 use Rattle.dvg_logs.specs.LogTexts.{IsUntornLog}
 use Rattle.dvg_logs.specs.Tears.{Takes, TakesUpTo, ended}
 

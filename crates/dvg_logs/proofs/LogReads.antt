@@ -1,5 +1,5 @@
 -- How a log's text is read, line by line.
-use Rattle.std.proofs.Common.{◌≡◌, ◌<◌, ◌≤◌, ◌+◌, ℕ, suc, List, [], ◌∷◌, ◌++◌, All, Option, reverse, length, flat_map, refl, sym, ap, ◌∙◌, subst, arith, eqb, false, append_assoc, append-nil, length-append}
+use Rattle.std.proofs.Common.{◌≡◌, ◌<◌, ◌≤◌, ◌+◌, ℕ, List, [], ◌∷◌, ◌++◌, Option, reverse, length, refl, sym, ap, ◌∙◌, subst, arith, eqb, false, append_assoc, append-nil, length-append, Bool, Result, Ok, Err, IfErr, OnOk, ◌^◌, true, true≢false, ⊎_elim, None, Some, take}
 use Rattle.std.specs.List.{AllZip, onto_first}
 use Rattle.std.proofs.lemmas.List.{reverse-append, length-reverse}
 use Rattle.std.proofs.lemmas.List.Elements.{All-head, All-tail, All-append}
@@ -9,18 +9,16 @@ use Rattle.dvg_world.specs.Entries.{Acted}
 use Rattle.dvg_world.specs.Events.{Tick}
 use Rattle.dvg_world.specs.Log.{◌⟼◌, Line, Log, Throughout}
 use Rattle.dvg_world.specs.Judging.{StandsAfter}
-use Rattle.dvg_world.specs.Torn.{IsFirstTorn, IsUntorn}
-use Rattle.std.proofs.Common.{Bool, Result, Ok, Err, IfErr, OnOk, ◌^◌, true, true≢false, ⊎_elim}
+use Rattle.dvg_world.specs.Torn.{IsUntorn}
 use Rattle.std.proofs.lemmas.Bool.{cases_lt, eqb-true}
 use Rattle.dvg_text.specs.Texts.{lines}
 use Rattle.dvg_text.proofs.LineEnds.{line_at, line_last}
-use Rattle.std.proofs.Common.{None, Some, take}
 use Rattle.dvg_text.proofs.FirstBytes.{IsCutAt, behind}
 use Rattle.dvg_text.proofs.Zips.{zip_length, zip_push}
 use Rattle.dvg_logs.specs.LogLines.{IsLogOf, Tells, passed, told}
-use Rattle.dvg_logs.specs.LogTexts.{IsTornAt, IsUntornLog, MeetsSyntax, MeetsTooMany}
+use Rattle.dvg_logs.specs.LogTexts.{IsTornAt, IsUntornLog}
 use Rattle.dvg_logs.specs.declared.log_reading.JudgedLines.{JudgedLines}
-use Rattle.dvg_logs.specs.LogReading.{IsOpen, IsRead, IsTornLine, HasJudged, StopsAt}
+use Rattle.dvg_logs.specs.LogReading.{IsOpen, IsRead, IsTornLine, HasJudged}
 use Rattle.dvg_logs.specs.Tears.{ended}
 
 -- ---- one line more

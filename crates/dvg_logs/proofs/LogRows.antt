@@ -1,26 +1,21 @@
 -- The rows of a log, by what a reader knows of a line.
-use Rattle.std.proofs.Common.{◌≡◌, ◌≢◌, ◌≤◌, ◌<◌, ◌+◌, ℕ, List, [], ◌∷◌, ◌++◌, Option, Some, None, codes, length, take, drop, get_or, refl, sym, ap, ◌∙◌, subst, arith, eqb, true}
+use Rattle.std.proofs.Common.{◌≡◌, ◌≢◌, ◌≤◌, ◌+◌, ℕ, List, [], ◌∷◌, ◌++◌, Option, Some, None, codes, length, take, drop, refl, sym, ap, ◌∙◌, subst, arith, eqb, true, MatchOption, false, true≢false, IfSome}
 use Rattle.std.specs.Prelude.{◌-◌, unwrap_or}
 use Rattle.std.specs.Borrow.{Bor}
 use Rattle.std.specs.Cmp.Lexicographic.{pointwise}
-use Rattle.std.proofs.Common.{MatchOption}
 use Rattle.std.proofs.lemmas.Bool.Decides.{Decides-eqb}
 use Rattle.std.proofs.lemmas.Slice.Eq.{strip_prefix_is}
 use Rattle.std.specs.List.{join_with_byte}
 use Rattle.std.proofs.Math.Seq.{take-append_seam, drop-append-add}
 use Rattle.std.proofs.lemmas.List.{take_rest}
-use Rattle.std.specs.Str.Parse.{AllDigits}
 use Rattle.std.proofs.lemmas.List.Splits.{slice_split_none, slice_split_at, join_with_byte-slice_split}
-use Rattle.dvg_driver.specs.declared.action.Action.TheVariants.{Wrote}
+use Rattle.dvg_driver.specs.declared.action.Action.TheVariants.{Wrote, Idle}
 use Rattle.dvg_world.specs.Entries.{Acted, Fetched, Low}
 use Rattle.dvg_world.specs.Events.{Tick, Fetch}
 use Rattle.dvg_world.specs.Log.{◌⟼◌, Line}
-use Rattle.dvg_text.specs.Texts.{IsHex, parts}
+use Rattle.dvg_text.specs.Texts.{IsHex, parts, is_passed}
 use Rattle.dvg_text.proofs.FirstBytes.{HasNone}
 use Rattle.dvg_text.proofs.Spaces.{no_space}
-use Rattle.dvg_driver.specs.declared.action.Action.TheVariants.{Idle}
-use Rattle.std.proofs.Common.{false, true≢false, IfSome}
-use Rattle.dvg_text.specs.Texts.{is_passed}
 use Rattle.dvg_logs.specs.declared.log_line.LogLine.{LogLine}
 use Rattle.dvg_logs.specs.LogLines.{LogRow, Tells, started, fetched, low, wrote, halted, reset, passed, told}
 use Rattle.dvg_logs.specs.LogLineTells.{AreNumbers, line_of}

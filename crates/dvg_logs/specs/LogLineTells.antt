@@ -1,4 +1,4 @@
--- What a line tells, as a reader has it (for private contracts).
+-- What a line tells, as a reader has it.
 use Rattle.std.specs.Prelude.{◌≡◌, ℕ, List, [], ◌∷◌, ◌++◌}
 use Rattle.dvg_driver.specs.declared.action.Action.TheVariants.{Wrote, Idle}
 use Rattle.dvg_world.specs.Entries.{Acted, Started, Low, Fetched, Done, Cleared}

@@ -1,5 +1,5 @@
 -- How a log's text is read (for private contracts).
-use Rattle.std.specs.Prelude.{◌≡◌, ◌==◌, ◌+◌, ◌*◌, ◌^◌, ◌<◌, ◌≤◌, ℕ, List, [], ◌∷◌, ◌++◌, length, false, All}
+use Rattle.std.specs.Prelude.{◌≡◌, ◌==◌, ◌+◌, ◌*◌, ◌^◌, ◌<◌, ◌≤◌, ℕ, List, ◌++◌, length, false, All}
 use Rattle.dvg_world.specs.Judging.{StandsAfter}
 use Rattle.dvg_world.specs.Log.{◌⟼◌, Line, Log}
 use Rattle.dvg_world.specs.Torn.{IsTorn}
@@ -8,7 +8,6 @@ use Rattle.dvg_logs.specs.declared.log_reading.JudgedLines.{JudgedLines}
 use Rattle.dvg_logs.specs.declared.log_reading.LogReading.{LogReading}
 use Rattle.dvg_logs.specs.declared.log_reading.LogStop.{LogStop}
 use Rattle.dvg_logs.specs.declared.log_reading.LogStop.TheVariants.{Torn, Syntax, TooLong}
-use Rattle.dvg_logs.specs.LogLines.{Tells}
 use Rattle.dvg_logs.specs.LogTexts.{IsTornAt, IsUntornLog, MeetsSyntax, MeetsTooMany}
 use Rattle.dvg_logs.specs.Tears.{ended}
 

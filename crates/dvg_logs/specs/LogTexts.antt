@@ -1,5 +1,5 @@
 -- What is said of the text of a log.
-use Rattle.std.specs.Prelude.{◌≡◌, ◌+◌, ◌-◌, ◌^◌, ◌<◌, ◌≤◌, ℕ, List, [], ◌∷◌, ◌++◌, length}
+use Rattle.std.specs.Prelude.{◌≡◌, ◌+◌, ◌-◌, ◌^◌, ◌<◌, ℕ, List, [], ◌∷◌, ◌++◌, length}
 use Rattle.dvg_driver.specs.declared.action.Action.TheVariants.{Wrote}
 use Rattle.dvg_world.specs.Entries.{Acted}
 use Rattle.dvg_world.specs.Events.{Tick}

@@ -1,9 +1,9 @@
 -- What `torn` answers, writes and takes.
-use Rattle.std.specs.Prelude.{◌≡◌, ◌+◌, ◌-◌, ◌^◌, ◌≤◌, ℕ, List, [], ◌∷◌, ◌++◌, flat_map, length, take, Option, Result, Ok, Err}
+use Rattle.std.specs.Prelude.{◌+◌, ◌-◌, ◌^◌, ℕ, List, [], ◌∷◌, ◌++◌, flat_map, length, take, Option, Result, Ok, Err}
 use Rattle.std.specs.Io.KnownBytes.{Appends, Consumes, IsAtEnd}
 use Rattle.dvg_text.specs.Texts.{lines}
 use Rattle.dvg_text.specs.LogVerdicts.{log_verdict_line}
-use Rattle.dvg_text.specs.declared.fault.TextFault.TheVariants.{TooLong, Syntax}
+use Rattle.dvg_text.specs.declared.fault.TextFault.TheVariants.{Syntax}
 use Rattle.dvg_text.specs.declared.log_verdict.LogVerdict.{LogVerdict}
 use Rattle.dvg_text.specs.declared.log_verdict.LogVerdict.TheVariants.{NotTorn, Torn}
 use Rattle.dvg_io.specs.declared.fault.ToolFault.{ToolFault}

@@ -1,5 +1,4 @@
 use Rattle.std.proofs.Common.{[], ◌∷◌, codes, arith, rules}
-use Rattle.dvg_world.specs.Log.{Line}
 use Rattle.dvg_text.proofs.OpRows.{named}
 use Rattle.dvg_logs.specs.LogLines.{LogRow, started, halted, reset}
 use Rattle.dvg_logs.specs.LogLineTells.{line_of}

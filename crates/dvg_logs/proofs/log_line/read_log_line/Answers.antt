@@ -1,5 +1,4 @@
-use Rattle.std.proofs.Common.{◌≡◌, ◌≤◌, ◌∙◌, sym, length, arith, rules, true, false}
-use Rattle.dvg_text.specs.Texts.{is_passed}
+use Rattle.std.proofs.Common.{◌∙◌, sym, arith}
 use Rattle.dvg_logs.specs.LogLines.{passed}
 use Rattle.dvg_logs.proofs.LogRows.{passed_alone, row_of, told_by}
 use Rattle.dvg_logs.proofs.log_line.read_log_line.Goals as goal

@@ -1,4 +1,4 @@
-use Rattle.std.proofs.Common.{◌≡◌, ◌++◌, ◌<◌, ℕ, codes, arith}
+use Rattle.std.proofs.Common.{◌<◌, codes, arith}
 use Rattle.dvg_text.proofs.EventRows.{byte_fits}
 use Rattle.dvg_logs.proofs.LogRows.{bare_parts, bare_row, behind_name, fetched_line, fetched_made, fetched_numbers, low_line, low_made, low_numbers, same_line, without, wrote_line, wrote_made, wrote_numbers}
 use Rattle.dvg_logs.proofs.log_line.row.Goals as goal

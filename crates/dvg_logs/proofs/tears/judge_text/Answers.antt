@@ -1,4 +1,4 @@
-use Rattle.std.proofs.Common.{◌≡◌, ◌≤◌, ◌<◌, ◌++◌, [], ◌∙◌, length, take, length-take, sym, subst, arith, IfSome}
+use Rattle.std.proofs.Common.{◌≤◌, ◌<◌, ◌++◌, ◌∙◌, length, take, length-take, sym, subst, arith, IfSome}
 use Rattle.std.specs.Io.KnownBytes.{Consumes}
 use Rattle.dvg_io.specs.Watching.{device_of}
 use Rattle.dvg_io.proofs.Known.{Consumes-trans}

@@ -1,4 +1,4 @@
-use Rattle.std.proofs.Common.{◌≡◌, ◌∷◌, [], ◌++◌, ◌+◌, ap, arith, refl, length-append, List, ℕ}
+use Rattle.std.proofs.Common.{◌∷◌, [], ◌+◌, ap, arith, refl, length-append}
 use Rattle.dvg_logs.specs.LogLineTells.{line_of}
 use Rattle.dvg_logs.proofs.LogReads.{fine_more, torn_at}
 use Rattle.dvg_logs.proofs.log_reading.JudgedLines.take.Goals as goal

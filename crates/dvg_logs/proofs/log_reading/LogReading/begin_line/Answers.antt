@@ -1,4 +1,4 @@
-use Rattle.std.proofs.Common.{◌<◌, ◌≤◌, ◌++◌, length, arith, length-append, false, refl, sym, subst}
+use Rattle.std.proofs.Common.{◌<◌, ◌++◌, length, arith, length-append, false, refl, sym, subst}
 use Rattle.dvg_logs.specs.LogReading.{IsRead, StopsAt}
 use Rattle.dvg_logs.proofs.LogReads.{bytes_read, over, overlong_stops}
 use Rattle.dvg_logs.proofs.log_reading.LogReading.begin_line.Goals as goal
