@@ -2,3 +2,4 @@ pub mod OneEnd
 pub mod Drawing
 pub mod Stepping
 pub mod Telling
+pub mod Rows

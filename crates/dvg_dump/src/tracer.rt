@@ -42,6 +42,7 @@ struct Spelled {
 }
 
 // What words spell; None where they are one that wants a second one.
+#[inline(always)]
 fn read(words: &[u16]) -> Option<Spelled>
     ensures found { (code : Instr) → Fronts words.now code (length words.now)
         → result ≡ Some (record { code = code; canonical = pointwise nat_eq (canon code) words.now }) }
@@ -57,6 +58,7 @@ fn read(words: &[u16]) -> Option<Spelled>
 }
 
 // What a word completes, behind the first word that is held; None where it wants a second one.
+#[inline(always)]
 fn completed(held: Option<u16>, word: u16) -> Option<Spelled>
     ensures found { (code : Instr) → Completes held word code
         → result ≡ Some (record { code = code; canonical = pointwise nat_eq (canon code) (words_by held word) }) }
@@ -103,6 +105,7 @@ impl<A: Allocator> Tracer<A> {
     }
 
     // The run fetched a word at an address.
+    #[inline(always)]
     fn take_word(&mut self, address: u16, word: u16) -> Result<(), OutOfMemory>
         requires { self.old.traces ≡ true }
         ensures { IfOk result (λ _. TracesWord address (Some word) self.old self.new) }
@@ -128,6 +131,7 @@ impl<A: Allocator> Tracer<A> {
     }
 
     // The instruction that was read was run.
+    #[inline(always)]
     fn tell(&mut self, read: Spelled) -> Result<(), OutOfMemory>
         ensures { IfOk result (λ _. self.new ≡ told self.old (ran_by self.old read)) }
     {
