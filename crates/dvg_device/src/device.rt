@@ -197,7 +197,7 @@ impl Device {
             return Reply::WrongSize;
         }
         let spare = self.take_spare_image();
-        let Some(image) = new_image(self.alloc, &self.staged[..RAM_BYTES], spare) else {
+        let Some(image) = new_image(self.alloc, self.staged.as_slice(), spare) else {
             return Reply::NoMemory;
         };
         let spare = self.take_spare_world();
@@ -356,29 +356,40 @@ fn new_world(
 fn new_desk(alloc: Global, rom: &[u8], spare: Option<Box<Desk>>) -> Option<Box<Desk>>
     ensures { IfSome result (λ desk. IsNewDriver rom.now (Driver desk.value)) }
 {
-    let Some(mut desk) = spare else {
-        let rom = Rom::new(alloc, rom).ok()?;
-        return boxed_desk(alloc, rom);
-    };
-    desk.begin_anew(alloc, rom).ok()?;
-    Some(desk)
+    match spare {
+        Some(desk) => renewed_desk(alloc, rom, desk),
+        None => boxed_desk(alloc, rom),
+    }
 }
 
-// A driver alone over this ROM, in new memory. None for want of it.
-fn boxed_desk(alloc: Global, rom: Rom) -> Option<Box<Desk>>
-    ensures { IfSome result (λ desk. IsNewDriver rom (Driver desk.value)) }
+// The same in the memory of this one.
+fn renewed_desk(alloc: Global, rom: &[u8], mut desk: Box<Desk>) -> Option<Box<Desk>>
+    ensures { IfSome result (λ desk. IsNewDriver rom.now (Driver desk.value)) }
 {
+    match desk.begin_anew(alloc, rom) {
+        Ok(()) => Some(desk),
+        Err(_) => None,
+    }
+}
+
+// The same in new memory.
+fn boxed_desk(alloc: Global, rom: &[u8]) -> Option<Box<Desk>>
+    ensures { IfSome result (λ desk. IsNewDriver rom.now (Driver desk.value)) }
+{
+    let Ok(rom) = Rom::new(alloc, rom) else {
+        return None;
+    };
     match Box::new(alloc, Desk::new(alloc, rom)) {
         Ok(desk) => Some(desk),
         Err(_) => None,
     }
 }
 
-// An image of these bytes, in the memory of another where there is one. None for want of memory.
-fn new_image(alloc: Global, bytes: &[u8], spare: Option<Image>) -> Option<Image>
-    requires { length bytes.now ≡ 2048 }
-    ensures { IfSome result (λ image. image ≡ bytes.now) }
+// An image of the first 2,048 of these bytes, in the memory of another where there is one. None for want of memory.
+fn new_image(alloc: Global, staged: &[u8], spare: Option<Image>) -> Option<Image>
+    ensures { IfSome result (λ image. image ≡ take 2048 staged.now) }
 {
+    let (bytes, _) = staged.split_at_checked(RAM_BYTES)?;
     let Some(mut image) = spare else {
         return Image::new(alloc, bytes).ok();
     };
