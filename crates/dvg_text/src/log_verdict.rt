@@ -11,11 +11,7 @@ pub enum LogVerdict {
     /// No byte was written in the half that the open run draws.
     NotTorn,
     /// The first write in such a half: the number of its line, counted from 1, its byte address and its byte.
-    Torn {
-        line: usize,
-        address: u16,
-        byte: u8,
-    },
+    Torn { line: usize, address: u16, byte: u8 },
 }
 
 impl Line {

@@ -15,20 +15,20 @@ loop-place-preserved c =
     let before = c.loop-place.invariant in
     elim c.if-is_operation.branch [
       | then-is_operation+in-Some-operation w ↦
-        let operation = sym c.is_operation.ensures ∙ w.if-is_operation.true in
-        let op = w.in-Some-operation.op in
-        let pushed : w.push.new.self ≡ c.loop-place.draft ++ op ∷ [] = search rules in
-        let new = w.draft-is ∙ pushed in
-        record {
-          drafted = drafted_more steps place step low is c.loop-place.draft _ op operation new before.drafted w.in-Some-operation.ensures;
-          count = ap length new ∙ length-append c.loop-place.draft (op ∷ []) ∙ count_more steps place (length c.loop-place.draft) step low is before.count operation;
-          known = below_more _ _ before.known (not_unknown steps place step here (wants_known steps step op w.in-Some-operation.ensures));
-        }
+          let operation = sym c.is_operation.ensures ∙ w.if-is_operation.true in
+          let op = w.in-Some-operation.op in
+          let pushed : w.push.new.self ≡ c.loop-place.draft ++ op ∷ [] = search rules in
+          let new = w.draft-is ∙ pushed in
+          record {
+            drafted = drafted_more steps place step low is c.loop-place.draft _ op operation new before.drafted w.in-Some-operation.ensures;
+            count = ap length new ∙ length-append c.loop-place.draft (op ∷ []) ∙ count_more steps place (length c.loop-place.draft) step low is before.count operation;
+            known = below_more _ _ before.known (not_unknown steps place step here (wants_known steps step op w.in-Some-operation.ensures));
+          }
       | else-is_operation w ↦
-        let other = sym c.is_operation.ensures ∙ w.if-is_operation.false in
-        record {
-          drafted = drafted_same steps place step low is c.loop-place.draft _ other w.draft-is before.drafted;
-          count = ap length w.draft-is ∙ count_same steps place (length c.loop-place.draft) step low is before.count other;
-          known = below_more _ _ before.known (not_unknown steps place step here (wants_none steps step other));
-        }
+          let other = sym c.is_operation.ensures ∙ w.if-is_operation.false in
+          record {
+            drafted = drafted_same steps place step low is c.loop-place.draft _ other w.draft-is before.drafted;
+            count = ap length w.draft-is ∙ count_same steps place (length c.loop-place.draft) step low is before.count other;
+            known = below_more _ _ before.known (not_unknown steps place step here (wants_none steps step other));
+          }
     ]
