@@ -5,9 +5,10 @@ use dvg_tool::{Done, Job, TextFault, ToolFault, Watched, perform};
 use std::alloc::Global;
 
 /// Each job, the most bytes of its input, and the fault of a longer one.
-const LIMITS: [(Job, usize, TextFault); 7] = [
+const LIMITS: [(Job, usize, TextFault); 8] = [
     (Job::List, 8192, TextFault::TooLong),
     (Job::Rom, 4096, TextFault::RomSize),
+    (Job::Picture { all: true }, 6144, TextFault::DumpSize),
     (Job::Check { bound: false }, 1_048_576, TextFault::TooLong),
     (Job::Check { bound: true }, 1_048_576, TextFault::TooLong),
     (PICTURES, 1_048_576, TextFault::TooLong),

@@ -4,7 +4,9 @@ use crate::devices::{Failing, Mishap};
 use crate::tasks::{Task, tasks, written};
 use dvg_frame::FrameFault;
 use dvg_mem::MEMORY_BYTES;
-use dvg_tool::{Done, TextFault, ToolFault, Verdict, Watched, finish, perform};
+use dvg_tool::{
+    Done, LogVerdict, Outcome, TextFault, ToolFault, Verdict, Watched, finish, perform,
+};
 use std::alloc::Global;
 use std::test::Fail;
 
@@ -105,7 +107,8 @@ fn each_read_fails(alloc: Global, task: Task) -> Result<bool, Fail> {
 #[test]
 fn each_read_fails_in_turn(rt: HostRuntime) -> Result<(), Fail> {
     let rom = vec![in rt.alloc(); 0xD0u8; MEMORY_BYTES]?;
-    for task in tasks(rom.as_slice()) {
+    let dump = vec![in rt.alloc(); 0xD0u8; 2 * MEMORY_BYTES]?;
+    for task in tasks(rom.as_slice(), dump.as_slice()) {
         assert!(rt; each_read_fails(rt.alloc(), task)?);
         assert!(rt; does_well(rt.alloc(), task)?);
     }
@@ -159,7 +162,8 @@ fn each_write_fails(alloc: Global, task: Task) -> Result<bool, Fail> {
 #[test]
 fn each_write_fails_in_turn(rt: HostRuntime) -> Result<(), Fail> {
     let rom = vec![in rt.alloc(); 0xD0u8; MEMORY_BYTES]?;
-    for task in tasks(rom.as_slice()) {
+    let dump = vec![in rt.alloc(); 0xD0u8; 2 * MEMORY_BYTES]?;
+    for task in tasks(rom.as_slice(), dump.as_slice()) {
         assert!(rt; each_write_fails(rt.alloc(), task)?);
     }
     Ok(())
@@ -179,6 +183,8 @@ fn a_failing_flush_is_the_writers_fault(rt: HostRuntime) {
         Ok(Done::Written),
         Ok(Done::Judged(Verdict::Good { words: 3, bound: 4 })),
         Ok(Done::Judged(Verdict::Refused(FrameFault::Empty))),
+        Ok(Done::Drew(Outcome::Endless)),
+        Ok(Done::Searched(LogVerdict::NotTorn)),
         Err(ToolFault::Text(TextFault::Cut(4))),
         Err(ToolFault::Reader),
     ] {

@@ -10,7 +10,7 @@ use std::io::Write;
 use std::test::Fail;
 
 /// The most times 16 bytes of a heap.
-const MOST_SLOTS: usize = 512;
+const MOST_SLOTS: usize = 1024;
 
 /// In how many heaps of rising sizes this task is refused memory. Then nothing is written, and else all.
 fn refusals(alloc: Global, task: Task) -> Result<usize, Fail> {
@@ -34,17 +34,23 @@ fn refusals(alloc: Global, task: Task) -> Result<usize, Fail> {
     Ok(refused)
 }
 
-/// A heap refuses what does not fit it, so each size of heap refuses some growth, or none. All but `list` want room for a
-/// ROM, which is 128 times 16 bytes. What `play` does is told by tests of its own.
+/// A heap refuses what does not fit it, so each size of heap refuses some growth, or none. All but `list` and `torn` want room for a
+/// ROM, which is 128 times 16 bytes, and `picture` for a dump. `torn` wants none. What `play` does is told by tests of its own.
 #[test]
 fn each_growth_is_refused_in_turn(rt: HostRuntime) -> Result<(), Fail> {
     let rom = vec![in rt.alloc(); 0xD0u8; MEMORY_BYTES]?;
-    for task in tasks(rom.as_slice()) {
+    let dump = vec![in rt.alloc(); 0xD0u8; 2 * MEMORY_BYTES]?;
+    for task in tasks(rom.as_slice(), dump.as_slice()) {
         let (least, most) = match task.job {
             Job::List => (0, 64),
             Job::Rom => (128, MOST_SLOTS),
+            Job::Picture { .. } => (256, MOST_SLOTS),
             Job::Check { .. } => (128, 192),
             Job::Play { .. } => continue,
+            Job::Torn => {
+                assert_eq!(rt; refusals(rt.alloc(), task)?, 0);
+                continue;
+            }
         };
         let refused = refusals(rt.alloc(), task)?;
         assert!(rt; least < refused && refused < most, "refused {refused}");
@@ -93,7 +99,8 @@ fn asks_before_it_writes(alloc: Global, task: Task) -> bool {
 #[test]
 fn nothing_is_asked_for_after_the_first_write(rt: HostRuntime) -> Result<(), Fail> {
     let rom = vec![in rt.alloc(); 0xD0u8; MEMORY_BYTES]?;
-    for task in tasks(rom.as_slice()) {
+    let dump = vec![in rt.alloc(); 0xD0u8; 2 * MEMORY_BYTES]?;
+    for task in tasks(rom.as_slice(), dump.as_slice()) {
         assert!(rt; asks_before_it_writes(rt.alloc(), task));
     }
     Ok(())

@@ -1,7 +1,7 @@
 //! A task for each job, and what comes of it where nothing fails.
 use crate::traces::FIRST_PICTURE;
 use dvg_frame::{FrameFault, Place};
-use dvg_tool::{Done, Job, TextFault, ToolFault, Verdict, Watched, perform};
+use dvg_tool::{Done, Job, LogVerdict, Outcome, TextFault, ToolFault, Verdict, Watched, perform};
 use std::alloc::Global;
 use std::test::Fail;
 
@@ -54,8 +54,17 @@ const GOOD: &str = "labs 0 0 0\nhalt\n";
 
 const SHORT: Verdict = Verdict::Good { words: 3, bound: 4 };
 
-/// The tasks, of which one reads this ROM.
-pub fn tasks(rom: &[u8]) -> [Task; 8] {
+/// A log that tears, and what is answered of it.
+const LOG: &str = "started\n\nfetched 000 E201\nwrote 402 90\nhalted\n";
+
+const TORN: LogVerdict = LogVerdict::Torn {
+    line: 4,
+    address: 0x402,
+    byte: 0x90,
+};
+
+/// The tasks, of which one reads this ROM, and two this dump, whose first word is a return.
+pub fn tasks<'a>(rom: &'a [u8], dump: &'a [u8]) -> [Task<'a>; 11] {
     let task = |job, input, step, answer| Task {
         job,
         input,
@@ -72,6 +81,18 @@ pub fn tasks(rom: &[u8]) -> [Task; 8] {
         ),
         task(Job::Rom, rom, 64, Ok(Done::Written)),
         task(
+            Job::Picture { all: false },
+            dump,
+            64,
+            Ok(Done::Drew(Outcome::Broke)),
+        ),
+        task(
+            Job::Picture { all: true },
+            dump,
+            64,
+            Ok(Done::Drew(Outcome::Broke)),
+        ),
+        task(
             Job::Check { bound: false },
             REFUSED.as_bytes(),
             1,
@@ -87,6 +108,7 @@ pub fn tasks(rom: &[u8]) -> [Task; 8] {
         task(ENTRIES, picture, 64, Ok(Done::Written)),
         task(BANKED_PICTURES, picture, 1, Ok(Done::Written)),
         task(BANKED_ENTRIES, picture, 64, Ok(Done::Written)),
+        task(Job::Torn, LOG.as_bytes(), 1, Ok(Done::Searched(TORN))),
     ]
 }
 
