@@ -5,9 +5,6 @@ use linked_list_allocator::LocalHeap;
 use std::alloc::Global;
 use std::test::Fail;
 
-/// Fewer bytes than the tables of the check take, with which each heap begins.
-const TABLES: usize = 200_000;
-
 /// A trace, how it is played, what is written of it in ample memory, and the events that complete a vector.
 #[derive(Clone, Copy)]
 struct Wanted<'a> {
@@ -84,7 +81,7 @@ fn led_to(alloc: Global, wanted: Wanted, bytes: usize) -> Result<Led, Fail> {
 fn refusals(alloc: Global, wanted: Wanted) -> Result<(u32, u32), Fail> {
     let (mut silent, mut begun) = (0u32, 0u32);
     for slots in 0..4096usize {
-        match led_to(alloc, wanted, TABLES + slots * 16)? {
+        match led_to(alloc, wanted, slots * 16)? {
             Led::Nothing => silent = silent.saturating_add(1),
             Led::Beginning => begun = begun.saturating_add(1),
             Led::Whole => return Ok((silent, begun)),

@@ -8,11 +8,8 @@ use linked_list_allocator::LocalHeap;
 use std::alloc::Global;
 use std::test::Fail;
 
-/// Fewer bytes than the tables of the check take.
-const TABLES: usize = 200_000;
-
-/// The bytes of a heap that has room for everything.
-const AMPLE: usize = TABLES + 65_536;
+/// The bytes of a heap that has room for everything but the tables of the check, which does without them.
+const AMPLE: usize = 65_536;
 
 /// The first picture.
 const STEPS: [Step; 5] = [Tick(2), Offer(F1), Tick(14), Strobe, Fetch(12)];
@@ -81,12 +78,7 @@ fn places_of_stops(alloc: Global, banked: bool) -> Result<(bool, bool), Fail> {
     let wanted = transcript::<Flat>(alloc, &[], &STEPS)?;
     let (mut at_once, mut at_the_vector) = (false, false);
     for slots in 0..4096usize {
-        match place_of_stop(
-            alloc,
-            wanted.as_slice(),
-            AMPLE - TABLES - 16 * slots,
-            banked,
-        )? {
+        match place_of_stop(alloc, wanted.as_slice(), AMPLE - 16 * slots, banked)? {
             Stop::Before => {}
             Stop::At(0) => at_once = true,
             Stop::At(27) => at_the_vector = true,
@@ -108,7 +100,7 @@ fn runs_stop_where_a_growth_is_refused(rt: HostRuntime) -> Result<(), Fail> {
 fn fillers(alloc: Global, heap: &LocalHeap) -> Result<Vec<Vec<u8, &LocalHeap>>, Fail> {
     let mut fillers = Vec::new(alloc);
     for slots in 0..4096usize {
-        if let Ok(filler) = Vec::with_capacity(heap, AMPLE - TABLES - 16 * slots) {
+        if let Ok(filler) = Vec::with_capacity(heap, AMPLE - 16 * slots) {
             fillers.push(filler)?;
         }
     }

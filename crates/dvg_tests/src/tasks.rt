@@ -54,14 +54,8 @@ const GOOD: &str = "labs 0 0 0\nhalt\n";
 
 const SHORT: Verdict = Verdict::Good { words: 3, bound: 4 };
 
-/// A log that tears, and what is answered of it.
-const LOG: &str = "started\n\nfetched 000 E201\nwrote 402 90\nhalted\n";
-
-const TORN: LogVerdict = LogVerdict::Torn {
-    line: 4,
-    address: 0x402,
-    byte: 0x90,
-};
+/// A log that isn't torn, so that it is read to its end.
+const LOG: &str = "started\n\nfetched 000 E201\nhalted\nwrote 402 90\n";
 
 /// The tasks, of which one reads this ROM, and two this dump, whose first word is a return.
 pub fn tasks<'a>(rom: &'a [u8], dump: &'a [u8]) -> [Task<'a>; 11] {
@@ -108,7 +102,12 @@ pub fn tasks<'a>(rom: &'a [u8], dump: &'a [u8]) -> [Task<'a>; 11] {
         task(ENTRIES, picture, 64, Ok(Done::Written)),
         task(BANKED_PICTURES, picture, 1, Ok(Done::Written)),
         task(BANKED_ENTRIES, picture, 64, Ok(Done::Written)),
-        task(Job::Torn, LOG.as_bytes(), 1, Ok(Done::Searched(TORN))),
+        task(
+            Job::Torn,
+            LOG.as_bytes(),
+            1,
+            Ok(Done::Searched(LogVerdict::NotTorn)),
+        ),
     ]
 }
 
