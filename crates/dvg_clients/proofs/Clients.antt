@@ -26,7 +26,7 @@ use Rattle.dvg_text.proofs.OneTrace.{one_trace_meaning, no_fault_beside_trace}
 use Rattle.clap.specs.Words.{Row, Text as WordText}
 use Rattle.dvg_words.specs.Words.{IsJob}
 use Rattle.dvg_words.specs.declared.task.Job.{Job}
-use Rattle.dvg_words.specs.declared.task.Job.TheVariants.{List as list_job, Rom, Check, Play}
+use Rattle.dvg_words.specs.declared.task.Job.TheVariants.{List as list_job, Rom, Picture, Check, Play, Torn}
 use Rattle.dvg_driver.specs.declared.action.Action.{Action}
 use Rattle.dvg_driver.specs.declared.action.Action.TheVariants.{Peek, Wrote, Read}
 use Rattle.dvg_driver.specs.Script.{Item, Did, Offered, IsLife, IsWhole}
@@ -159,6 +159,10 @@ play_only list_job None x y = absurd (cc)
 play_only list_job (Some p) x y = let c = sym (same_Some _ _ x) ∙ ap (λ q. q.0) (same_Some _ _ y) in let d : 108 ≡ 112 = ap first_of c in absurd (omega (arith, d))
 play_only Rom None x y = absurd (cc)
 play_only Rom (Some p) x y = let c = sym (same_Some _ _ x) ∙ ap (λ q. q.0) (same_Some _ _ y) in let d : 114 ≡ 112 = ap first_of c in absurd (omega (arith, d))
+play_only (Picture all) None x y = absurd (cc)
+play_only (Picture all) (Some p) x y = let c = sym (ap (λ q. q.0) (same_Some _ _ x)) ∙ ap (λ q. q.0) (same_Some _ _ y) in let d : 7 ≡ 4 = ap length c in absurd (omega (arith, d))
+play_only Torn None x y = absurd (cc)
+play_only Torn (Some p) x y = let c = sym (same_Some _ _ x) ∙ ap (λ q. q.0) (same_Some _ _ y) in let d : 116 ≡ 112 = ap first_of c in absurd (omega (arith, d))
 play_only (Check bound) None x y = absurd (cc)
 play_only (Check bound) (Some p) x y = let c = sym (ap (λ q. q.0) (same_Some _ _ x)) ∙ ap (λ q. q.0) (same_Some _ _ y) in let d : 99 ≡ 112 = ap first_of c in absurd (omega (arith, d))
 play_only (Play all banked) None x y = absurd (cc)
