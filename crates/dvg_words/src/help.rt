@@ -211,4 +211,6 @@ Fault: `syntax at line N`.
 
 Example:
   $ printf 'started\\nfetched 000 E201\\nwrote 402 90\\n' | dvg torn
-  torn at line 3: wrote 402 90";
+  torn at line 3: wrote 402 90
+  $ printf 'started\\nfetched 000 E201\\nhalted\\nwrote 402 90\\n' | dvg torn
+  not torn";
