@@ -22,3 +22,4 @@ pub mod HeldRom
 pub mod ReadTo
 pub mod Spaced
 pub mod Spaces
+pub mod HexDigits

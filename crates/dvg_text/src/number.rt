@@ -1,11 +1,41 @@
 //! Numbers in a line of a text.
-ghost use Rattle.std.specs.Prelude.{◌≡◌, ◌<◌, ◌≤◌, ◌^◌, ℕ, ℤ, IfSome, Some, length, decimal, unsigned_abs};
+ghost use Rattle.std.specs.Prelude.{◌≡◌, ◌<◌, ◌≤◌, ◌^◌, ℕ, ℤ, IfSome, Some, length, min, decimal, unsigned_abs};
+ghost use Rattle.std.specs.Char.{digit_value};
 ghost use Rattle.std.specs.Fmt.{signed_decimal};
 ghost use Rattle.std.specs.Str.Parse.{AllDigits, digits_value};
 ghost use Rattle.dvg_text.specs.Texts.{IsHex};
 
 /// The most decimal digits of a number of 16 bits.
 const MAX_DIGITS: usize = 5;
+
+/// The value of each byte as a hexadecimal digit of either case. 16 for a byte that is none.
+#[rattlefmt::skip]
+const HEX_DIGITS: [u8; 256] = [
+    16, 16, 16, 16, 16, 16, 16, 16, 16, 16, 16, 16, 16, 16, 16, 16,
+    16, 16, 16, 16, 16, 16, 16, 16, 16, 16, 16, 16, 16, 16, 16, 16,
+    16, 16, 16, 16, 16, 16, 16, 16, 16, 16, 16, 16, 16, 16, 16, 16,
+    0, 1, 2, 3, 4, 5, 6, 7, 8, 9, 16, 16, 16, 16, 16, 16,
+    16, 10, 11, 12, 13, 14, 15, 16, 16, 16, 16, 16, 16, 16, 16, 16,
+    16, 16, 16, 16, 16, 16, 16, 16, 16, 16, 16, 16, 16, 16, 16, 16,
+    16, 10, 11, 12, 13, 14, 15, 16, 16, 16, 16, 16, 16, 16, 16, 16,
+    16, 16, 16, 16, 16, 16, 16, 16, 16, 16, 16, 16, 16, 16, 16, 16,
+    16, 16, 16, 16, 16, 16, 16, 16, 16, 16, 16, 16, 16, 16, 16, 16,
+    16, 16, 16, 16, 16, 16, 16, 16, 16, 16, 16, 16, 16, 16, 16, 16,
+    16, 16, 16, 16, 16, 16, 16, 16, 16, 16, 16, 16, 16, 16, 16, 16,
+    16, 16, 16, 16, 16, 16, 16, 16, 16, 16, 16, 16, 16, 16, 16, 16,
+    16, 16, 16, 16, 16, 16, 16, 16, 16, 16, 16, 16, 16, 16, 16, 16,
+    16, 16, 16, 16, 16, 16, 16, 16, 16, 16, 16, 16, 16, 16, 16, 16,
+    16, 16, 16, 16, 16, 16, 16, 16, 16, 16, 16, 16, 16, 16, 16, 16,
+    16, 16, 16, 16, 16, 16, 16, 16, 16, 16, 16, 16, 16, 16, 16, 16,
+];
+
+// The value of a hexadecimal digit of either case. 16 for any other byte.
+#[inline(always)]
+fn digit_of(byte: u8) -> u8
+    ensures { result ≡ min 16 (digit_value byte) }
+{
+    HEX_DIGITS[usize::from(byte)]
+}
 
 // The number that digits of this radix spell. None where another byte is among them.
 #[inline(always)]
@@ -18,7 +48,11 @@ fn value_of(digits: &[u8], radix: u32) -> Option<u32>
 {
     let mut number = 0;
     for byte in digits {
-        number = number * radix + char::from(*byte).to_digit(radix)?;
+        let digit = u32::from(digit_of(*byte));
+        if digit >= radix {
+            return None;
+        }
+        number = number * radix + digit;
     }
     Some(number)
 }
@@ -66,6 +100,7 @@ pub fn small_integer(part: &[u8]) -> Option<i8>
 }
 
 /// A number of exactly so many hexadecimal digits, at most four, of either case.
+#[inline]
 pub fn hex(part: &[u8], count: usize) -> Option<u16>
     requires { count ≤ 4 }
     ensures found { IfSome result (λ n. IsHex count n part.now) }
