@@ -24,4 +24,6 @@ mod log_lines;
 #[cfg(test)]
 mod numbered;
 #[cfg(test)]
+mod sketches;
+#[cfg(test)]
 mod traces;
