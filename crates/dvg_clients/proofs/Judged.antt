@@ -9,14 +9,14 @@ use Rattle.dvg_world.specs.Log.{◌⟼◌, Line, Log, Throughout}
 use Rattle.dvg_world.specs.Torn.{IsFirstTorn, IsTorn, IsUntorn}
 
 -- the run began, and fetched a jump to half 1
-abbrev begun : Log
+abbrev pub begun : Log
 begun = (Fetch ⟼ Fetched 0x000 0xE201) ∷ (Strobe ⟼ Started) ∷ []
 
 -- then byte 402 was written
 abbrev torn_log : Log
 torn_log = (Tick ⟼ Acted (Wrote 0x402 0x00)) ∷ begun
 
-torn_there : IsTorn begun Tick (Acted (Wrote 0x402 0x00))
+pub torn_there : IsTorn begun Tick (Acted (Wrote 0x402 0x00))
 torn_there = (H1, record { later = []; target = 0x201; fetches = refl; in_half = (omega arith, omega arith) }, (omega arith, omega arith))
 
 abbrev entry_of : Line → Shown

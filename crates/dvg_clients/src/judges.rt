@@ -1,9 +1,9 @@
-//! What follows from the contract of `first_torn`.
+//! What follows from the contracts of `first_torn` and of a judge that is told a log line by line.
 ghost use Rattle.std.specs.Prelude.{◌≡◌, IsTrue, Some, true};
 
 use dvg_driver::Action;
 use dvg_mem::{Image, Rom, Store};
-use dvg_world::{Entry, Event, first_torn, run};
+use dvg_world::{Entry, Event, Judge, first_torn, run};
 use std::alloc::Global;
 
 /// The judge finds nothing in the log of any run, whatever happens, over whichever store.
@@ -32,4 +32,14 @@ pub fn finds_a_torn_write() -> Option<usize>
         Entry::Acted(Action::Wrote(0x402, 0x00)),
     ];
     first_torn(&events, &entries)
+}
+
+/// A judge that is told the same line by line learns at once that the write tears.
+pub fn tells_a_torn_write() -> bool
+    ensures { IsTrue result }
+{
+    let mut judge = Judge::new();
+    judge.started();
+    judge.fetched(0x000, 0xE201);
+    judge.wrote(0x402)
 }

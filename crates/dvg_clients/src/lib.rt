@@ -5,11 +5,13 @@
 
 pub mod command_line;
 pub mod driver;
+pub mod dumps;
 pub mod engines;
 pub mod frames;
 pub mod generator;
 pub mod instructions;
 pub mod judges;
 pub mod numbered;
+pub mod sketches;
 pub mod texts;
 pub mod worlds;
