@@ -16,6 +16,10 @@
  *   2. A device stays on its thread, is given to one call at a time, and to none in a signal handler or in the forked child of a process with threads.
  *   3. malloc, realloc and free are those of one allocator, which aligns a block to each power of two up to 16 that divides its size; or the caller has the three functions of dvg_heap.h.
  *   4. A call finds DVG_STACK_KB KB of room on the stack.
+ *
+ * On the heap a device takes 5.3 KB, a world 12.5 KB more, a driver alone 8.3 KB, each with a ROM of 2,048 bytes, and a generator alone nothing; 207 KB
+ * for the tables of the check at the first offer, which does without them where they are refused; and 20 bytes or so for each
+ * stroke. What was open leaves its memory to what is opened next, until dvg_shut or dvg_free.
  */
 #ifndef DVG_H
 #define DVG_H
