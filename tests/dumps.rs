@@ -4,57 +4,22 @@
 
 #[allow(dead_code)]
 mod storm_drafts;
+mod storm_programs;
 
 use std::fmt;
 use std::io::{self, Write};
-use std::num::NonZero;
 use std::ops::AddAssign;
 use std::path::Path;
-use std::process::{Command, ExitCode, Stdio};
-use std::sync::atomic::{AtomicU64, Ordering};
+use std::process::ExitCode;
 use std::sync::{Mutex, PoisonError};
-use std::thread;
 use storm_drafts::Random;
+use storm_programs::{Answer, ask, for_each_seed};
 
 /// The words of the RAM.
 const RAM_WORDS: usize = 0x400;
 
 /// The word address behind a ROM's last word.
 const ROM_END: usize = 0xC00;
-
-/// How many seconds a program has. One that takes longer ends with the status of `timeout`, which is 124.
-const SECONDS: &str = "10";
-
-/// What a program answered.
-#[derive(PartialEq)]
-struct Answer {
-    status: Option<i32>,
-    output: Vec<u8>,
-    error: Vec<u8>,
-}
-
-/// Asks a program with these words, and this on standard input.
-fn ask(program: &Path, words: &[&str], input: &[u8]) -> io::Result<Answer> {
-    let mut child = Command::new("timeout")
-        .arg(SECONDS)
-        .arg(program)
-        .args(words)
-        .stdin(Stdio::piped())
-        .stdout(Stdio::piped())
-        .stderr(Stdio::piped())
-        .spawn()?;
-    let pipe = child.stdin.take();
-    thread::scope(|scope| {
-        // A program that ends before it has read all is judged by what it answers.
-        scope.spawn(move || pipe.map(|mut pipe| pipe.write_all(input)));
-        let ended = child.wait_with_output()?;
-        Ok(Answer {
-            status: ended.status.code(),
-            output: ended.stdout,
-            error: ended.stderr,
-        })
-    })
-}
 
 /// A random image: words at the addresses 000 to BFF, of which the ROM has the last.
 struct Image {
@@ -290,28 +255,13 @@ impl Report {
 
 /// Runs images on all processors, each as soon as one is free.
 fn run(images: u64, seed: u64, program: &Path, twin: &Path) -> io::Result<Report> {
-    let next = AtomicU64::new(0);
     let report = Mutex::new(Report::default());
-    let run_all = || -> io::Result<()> {
-        loop {
-            let number = next.fetch_add(1, Ordering::Relaxed);
-            if number >= images {
-                return Ok(());
-            }
-            let seed = seed.wrapping_add(number);
-            let image = Image::random(seed).bytes(seed);
-            let (counts, faults) = compare(program, twin, &image)?;
-            let mut report = report.lock().unwrap_or_else(PoisonError::into_inner);
-            report.add(seed, counts, &faults);
-        }
-    };
-    let threads = thread::available_parallelism().map_or(1, NonZero::get);
-    thread::scope(|scope| {
-        let running: Vec<_> = (0..threads).map(|_| scope.spawn(run_all)).collect();
-        running.into_iter().try_for_each(|thread| {
-            let ended = thread.join();
-            ended.unwrap_or_else(|_| Err(io::Error::other("a thread panicked")))
-        })
+    for_each_seed(images, seed, |seed| {
+        let image = Image::random(seed).bytes(seed);
+        let (counts, faults) = compare(program, twin, &image)?;
+        let mut report = report.lock().unwrap_or_else(PoisonError::into_inner);
+        report.add(seed, counts, &faults);
+        Ok(())
     })?;
     Ok(report.into_inner().unwrap_or_else(PoisonError::into_inner))
 }

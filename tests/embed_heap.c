@@ -5,7 +5,7 @@
  * for nothing.
  */
 #include "dvg.h"
-#include "dvg_heap.h"
+#include "embed_refusing.h"
 
 #include <stdio.h>
 #include <stdlib.h>
@@ -13,50 +13,14 @@
 
 /* --- The heap --- */
 
-/* How many blocks were asked for, which of these is refused, how many were refused, and how many live. */
+/* How many blocks were asked for, and which of these is refused. */
 static long asked = 0;
 static long refused_one = 0;
-static long refused = 0;
-static long living = 0;
 
-static unsigned char nowhere;
-
-/* Whether the next block is refused. */
-static bool is_refused(void)
+static bool is_refused(size_t bytes)
 {
-    if (asked++ != refused_one) {
-        return false;
-    }
-    refused++;
-    return true;
-}
-
-dvg_block rattle_alloc(size_t bytes, size_t align)
-{
-    dvg_block got = {false, &nowhere};
-    void *block = is_refused() ? NULL : malloc(bytes == 0 ? align : bytes);
-    if (block != NULL) {
-        living++;
-        got.ok = true;
-        got.block = block;
-    }
-    return got;
-}
-
-dvg_block rattle_realloc(void *old, size_t kept, size_t bytes, size_t align)
-{
-    dvg_block got = rattle_alloc(bytes, align);
-    if (got.ok) {
-        memcpy(got.block, old, kept);
-        rattle_dealloc(old);
-    }
-    return got;
-}
-
-void rattle_dealloc(void *old)
-{
-    living--;
-    free(old);
+    (void)bytes;
+    return asked++ == refused_one;
 }
 
 /* --- A life --- */

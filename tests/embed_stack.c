@@ -2,7 +2,7 @@
  * second word `refused` has each large block refused, so that a check lays its tables out on the stack. */
 #define _POSIX_C_SOURCE 200809L
 #include "dvg.h"
-#include "dvg_heap.h"
+#include "embed_refusing.h"
 
 #include <pthread.h>
 #include <stdio.h>
@@ -11,37 +11,12 @@
 
 /* --- A heap --- */
 
-/* The most bytes of a block, and whether a larger one was refused. */
+/* The most bytes of a block. */
 static size_t most = SIZE_MAX;
-static bool refused = false;
 
-static unsigned char nowhere;
-
-dvg_block rattle_alloc(size_t bytes, size_t align)
+static bool is_refused(size_t bytes)
 {
-    dvg_block got = {false, &nowhere};
-    void *block = bytes > most ? NULL : malloc(bytes == 0 ? align : bytes);
-    refused = refused || bytes > most;
-    if (block != NULL) {
-        got.ok = true;
-        got.block = block;
-    }
-    return got;
-}
-
-dvg_block rattle_realloc(void *old, size_t kept, size_t bytes, size_t align)
-{
-    dvg_block got = rattle_alloc(bytes, align);
-    if (got.ok) {
-        memcpy(got.block, old, kept);
-        free(old);
-    }
-    return got;
-}
-
-void rattle_dealloc(void *old)
-{
-    free(old);
+    return bytes > most;
 }
 
 /* --- What is done --- */
@@ -96,7 +71,7 @@ int main(int count, char **words)
         printf("no thread with %zu bytes of stack\n", bytes);
         return 2;
     }
-    if (refused != refuses) {
+    if ((refused > 0) != refuses) {
         done = NULL;
     }
     printf("%s\n", done == NULL ? "failed" : "done");

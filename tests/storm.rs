@@ -4,55 +4,20 @@
 
 mod storm_drafts;
 mod storm_pictures;
+mod storm_programs;
 mod storm_recount;
 mod storm_schedules;
 
-use std::io::{self, Write};
-use std::num::NonZero;
+use std::io;
 use std::path::Path;
-use std::process::{Command, ExitCode, Stdio};
-use std::sync::atomic::{AtomicU64, Ordering};
+use std::process::ExitCode;
 use std::sync::{Mutex, PoisonError};
-use std::thread;
+use storm_programs::{Answer, ask, for_each_seed};
 use storm_recount::{Counts, recount};
 use storm_schedules::Schedule;
 
 /// How many failures are told with their traces. Of the others the seed is told.
 const TOLD_WHOLE: u64 = 5;
-
-/// What a program answered.
-#[derive(PartialEq)]
-struct Answer {
-    status: Option<i32>,
-    output: Vec<u8>,
-    error: Vec<u8>,
-}
-
-/// How many seconds a program has. One that takes longer ends with the status of `timeout`, which is 124.
-const SECONDS: &str = "10";
-
-/// Asks a program with these words, and this on standard input.
-fn ask(program: &Path, words: &[&str], input: &[u8]) -> io::Result<Answer> {
-    let mut child = Command::new("timeout")
-        .arg(SECONDS)
-        .arg(program)
-        .args(words)
-        .stdin(Stdio::piped())
-        .stdout(Stdio::piped())
-        .stderr(Stdio::piped())
-        .spawn()?;
-    let pipe = child.stdin.take();
-    thread::scope(|scope| {
-        // A program that ends before it has read all is judged by what it answers.
-        scope.spawn(move || pipe.map(|mut pipe| pipe.write_all(input)));
-        let ended = child.wait_with_output()?;
-        Ok(Answer {
-            status: ended.status.code(),
-            output: ended.stdout,
-            error: ended.stderr,
-        })
-    })
-}
 
 /// The programs that play and judge.
 struct Players<'a> {
@@ -170,32 +135,13 @@ impl Report {
 
 /// Plays schedules on all processors, each as soon as one is free.
 fn storm(count: u64, seed: u64, players: &Players) -> io::Result<Report> {
-    let next = AtomicU64::new(0);
     let report = Mutex::new(Report::default());
-    let play_all = || -> io::Result<()> {
-        loop {
-            let number = next.fetch_add(1, Ordering::Relaxed);
-            if number >= count {
-                return Ok(());
-            }
-            let seed = seed.wrapping_add(number);
-            let schedule = Schedule::random(seed);
-            let (counts, faults) = players.play(&schedule)?;
-            report.lock().unwrap_or_else(PoisonError::into_inner).add(
-                seed,
-                &schedule.text,
-                counts,
-                &faults,
-            );
-        }
-    };
-    let threads = thread::available_parallelism().map_or(1, NonZero::get);
-    thread::scope(|scope| {
-        let running: Vec<_> = (0..threads).map(|_| scope.spawn(play_all)).collect();
-        running.into_iter().try_for_each(|thread| {
-            let ended = thread.join();
-            ended.unwrap_or_else(|_| Err(io::Error::other("a thread panicked")))
-        })
+    for_each_seed(count, seed, |seed| {
+        let schedule = Schedule::random(seed);
+        let (counts, faults) = players.play(&schedule)?;
+        let mut report = report.lock().unwrap_or_else(PoisonError::into_inner);
+        report.add(seed, &schedule.text, counts, &faults);
+        Ok(())
     })?;
     Ok(report.into_inner().unwrap_or_else(PoisonError::into_inner))
 }

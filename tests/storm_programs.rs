@@ -1,0 +1,68 @@
+//! Asks programs, and has work done on all processors. For tests/storm.rs and tests/dumps.rs.
+
+use std::io::{self, Write};
+use std::num::NonZero;
+use std::path::Path;
+use std::process::{Command, Stdio};
+use std::sync::atomic::{AtomicU64, Ordering};
+use std::thread;
+
+/// How many seconds a program has. One that takes longer ends with the status of `timeout`, which is 124.
+const SECONDS: &str = "10";
+
+/// What a program answered.
+#[derive(PartialEq)]
+pub struct Answer {
+    pub status: Option<i32>,
+    pub output: Vec<u8>,
+    pub error: Vec<u8>,
+}
+
+/// Asks a program with these words, and this on standard input.
+pub fn ask(program: &Path, words: &[&str], input: &[u8]) -> io::Result<Answer> {
+    let mut child = Command::new("timeout")
+        .arg(SECONDS)
+        .arg(program)
+        .args(words)
+        .stdin(Stdio::piped())
+        .stdout(Stdio::piped())
+        .stderr(Stdio::piped())
+        .spawn()?;
+    let pipe = child.stdin.take();
+    thread::scope(|scope| {
+        // A program that ends before it has read all is judged by what it answers.
+        scope.spawn(move || pipe.map(|mut pipe| pipe.write_all(input)));
+        let ended = child.wait_with_output()?;
+        Ok(Answer {
+            status: ended.status.code(),
+            output: ended.stdout,
+            error: ended.stderr,
+        })
+    })
+}
+
+/// Does something for each of so many seeds, from the first on, on all processors: each as soon as one is free.
+pub fn for_each_seed(
+    count: u64,
+    first: u64,
+    work: impl Fn(u64) -> io::Result<()> + Sync,
+) -> io::Result<()> {
+    let next = AtomicU64::new(0);
+    let work_all = || -> io::Result<()> {
+        loop {
+            let number = next.fetch_add(1, Ordering::Relaxed);
+            if number >= count {
+                return Ok(());
+            }
+            work(first.wrapping_add(number))?;
+        }
+    };
+    let threads = thread::available_parallelism().map_or(1, NonZero::get);
+    thread::scope(|scope| {
+        let running: Vec<_> = (0..threads).map(|_| scope.spawn(work_all)).collect();
+        running.into_iter().try_for_each(|thread| {
+            let ended = thread.join();
+            ended.unwrap_or_else(|_| Err(io::Error::other("a thread panicked")))
+        })
+    })
+}
