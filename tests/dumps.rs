@@ -13,7 +13,7 @@ use std::path::Path;
 use std::process::ExitCode;
 use std::sync::{Mutex, PoisonError};
 use storm_drafts::Random;
-use storm_programs::{Answer, ask, for_each_seed};
+use storm_programs::{Answer, Report, ask, for_each_seed};
 
 /// The words of the RAM.
 const RAM_WORDS: usize = 0x400;
@@ -231,36 +231,14 @@ fn compare(program: &Path, twin: &Path, image: &[u8]) -> io::Result<(Counts, Vec
     Ok((count(&long), faults))
 }
 
-/// What came of all images.
-#[derive(Default)]
-struct Report {
-    counts: Counts,
-    passed: u64,
-    failed: u64,
-}
-
-impl Report {
-    fn add(&mut self, seed: u64, counts: Counts, faults: &[String]) {
-        self.counts += counts;
-        if faults.is_empty() {
-            self.passed += 1;
-            return;
-        }
-        self.failed += 1;
-        for fault in faults {
-            println!("FAILED: the image of seed {seed}: {fault}");
-        }
-    }
-}
-
 /// Runs images on all processors, each as soon as one is free.
-fn run(images: u64, seed: u64, program: &Path, twin: &Path) -> io::Result<Report> {
+fn run(images: u64, seed: u64, program: &Path, twin: &Path) -> io::Result<Report<Counts>> {
     let report = Mutex::new(Report::default());
     for_each_seed(images, seed, |seed| {
         let image = Image::random(seed).bytes(seed);
         let (counts, faults) = compare(program, twin, &image)?;
         let mut report = report.lock().unwrap_or_else(PoisonError::into_inner);
-        report.add(seed, counts, &faults);
+        report.add(&format!("the image of seed {seed}"), counts, &faults);
         Ok(())
     })?;
     Ok(report.into_inner().unwrap_or_else(PoisonError::into_inner))

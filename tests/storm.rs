@@ -12,7 +12,7 @@ use std::io;
 use std::path::Path;
 use std::process::ExitCode;
 use std::sync::{Mutex, PoisonError};
-use storm_programs::{Answer, ask, for_each_seed};
+use storm_programs::{Answer, Report, ask, for_each_seed};
 use storm_recount::{Counts, recount};
 use storm_schedules::Schedule;
 
@@ -86,61 +86,38 @@ fn first_difference<'a>(one: &'a str, other: &'a str) -> (&'a str, &'a str) {
     }
 }
 
-/// What came of all schedules.
-#[derive(Default)]
-struct Report {
-    counts: Counts,
-    passed: u64,
-    failed: u64,
-}
-
-impl Report {
-    /// Adds what came of a schedule, and tells what is wrong.
-    fn add(&mut self, seed: u64, trace: &str, counts: Counts, faults: &[String]) {
-        self.counts += counts;
-        if faults.is_empty() {
-            self.passed += 1;
-            return;
-        }
-        self.failed += 1;
-        for fault in faults {
-            println!("FAILED: the schedule of seed {seed}: {fault}");
-        }
-        if self.failed <= TOLD_WHOLE {
-            println!("its trace:\n{trace}");
-        }
-    }
-
-    fn print_totals(&self) {
-        let counts = &self.counts;
-        println!(
-            "{} events; {} schedules finish {} pictures of {} frames; of the offers {} accepted, {} refused, {} busy; \
-             {} writes amid runs; strobes and resets: {} amid runs, {} between a flip and its strobe; \
-             {} events between the two bytes of a word, {} of them flips amid word zero",
-            counts.events,
-            counts.showing,
-            counts.pictures,
-            counts.frames_shown,
-            counts.accepted,
-            counts.refused,
-            counts.busy,
-            counts.writes_amid_runs,
-            counts.blows_amid_runs,
-            counts.blows_behind_flips,
-            counts.between_bytes,
-            counts.flips_amid_word_zero
-        );
-    }
+/// Writes what all schedules came to.
+fn print_totals(counts: &Counts) {
+    println!(
+        "{} events; {} schedules finish {} pictures of {} frames; of the offers {} accepted, {} refused, {} busy; \
+         {} writes amid runs; strobes and resets: {} amid runs, {} between a flip and its strobe; \
+         {} events between the two bytes of a word, {} of them flips amid word zero",
+        counts.events,
+        counts.showing,
+        counts.pictures,
+        counts.frames_shown,
+        counts.accepted,
+        counts.refused,
+        counts.busy,
+        counts.writes_amid_runs,
+        counts.blows_amid_runs,
+        counts.blows_behind_flips,
+        counts.between_bytes,
+        counts.flips_amid_word_zero
+    );
 }
 
 /// Plays schedules on all processors, each as soon as one is free.
-fn storm(count: u64, seed: u64, players: &Players) -> io::Result<Report> {
+fn storm(count: u64, seed: u64, players: &Players) -> io::Result<Report<Counts>> {
     let report = Mutex::new(Report::default());
     for_each_seed(count, seed, |seed| {
         let schedule = Schedule::random(seed);
         let (counts, faults) = players.play(&schedule)?;
         let mut report = report.lock().unwrap_or_else(PoisonError::into_inner);
-        report.add(seed, &schedule.text, counts, &faults);
+        report.add(&format!("the schedule of seed {seed}"), counts, &faults);
+        if !faults.is_empty() && report.failed <= TOLD_WHOLE {
+            println!("its trace:\n{}", schedule.text);
+        }
         Ok(())
     })?;
     Ok(report.into_inner().unwrap_or_else(PoisonError::into_inner))
@@ -192,7 +169,7 @@ fn main() -> ExitCode {
             return ExitCode::FAILURE;
         }
     };
-    report.print_totals();
+    print_totals(&report.counts);
     println!("{} passed, {} failed", report.passed, report.failed);
     if report.failed == 0 {
         ExitCode::SUCCESS

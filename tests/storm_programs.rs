@@ -1,7 +1,8 @@
-//! Asks programs, and has work done on all processors. For tests/storm.rs and tests/dumps.rs.
+//! Asks programs, has work done on all processors, and counts what came of it. For tests/storm.rs and tests/dumps.rs.
 
 use std::io::{self, Write};
 use std::num::NonZero;
+use std::ops::AddAssign;
 use std::path::Path;
 use std::process::{Command, Stdio};
 use std::sync::atomic::{AtomicU64, Ordering};
@@ -65,4 +66,27 @@ pub fn for_each_seed(
             ended.unwrap_or_else(|_| Err(io::Error::other("a thread panicked")))
         })
     })
+}
+
+/// What came of all: what was counted, and how many passed and failed.
+#[derive(Default)]
+pub struct Report<Counts> {
+    pub counts: Counts,
+    pub passed: u64,
+    pub failed: u64,
+}
+
+impl<Counts: AddAssign> Report<Counts> {
+    /// Adds what came of the one of this name, and tells what is wrong.
+    pub fn add(&mut self, name: &str, counts: Counts, faults: &[String]) {
+        self.counts += counts;
+        if faults.is_empty() {
+            self.passed += 1;
+            return;
+        }
+        self.failed += 1;
+        for fault in faults {
+            println!("FAILED: {name}: {fault}");
+        }
+    }
 }
