@@ -31,7 +31,7 @@ untorn_more : (log : Log) (line : Line) → Throughout IsUntorn log → ¬ IsTor
 untorn_more log (event ⟼ entry) whole untorn = (untorn, whole)
 
 -- the log is as long as its text has lines
-log_length : (log : Log) (texts : List (List ℕ)) → IsLogOf log texts → length log ≡ length texts
+pub log_length : (log : Log) (texts : List (List ℕ)) → IsLogOf log texts → length log ≡ length texts
 log_length log texts log_of = sym (length-reverse log) ∙ zip_length Tells (reverse log) texts log_of
 
 pub fine_more : (log : Log) (before : List (List ℕ)) (line : Line) (text : List ℕ) → IsUntornLog log before → Tells line text → ¬ IsTornLine log line → IsUntornLog (line ∷ log) (before ++ text ∷ [])

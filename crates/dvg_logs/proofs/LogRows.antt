@@ -34,7 +34,7 @@ number_parts numbers =
     ∙ ap (λ ps. numbers.front ∷ ps) (slice_split_none (λ byte. eqb byte 32) numbers.back (hex_part numbers.number)))
 
 -- the address and the number of a row, as parts
-record NumberRow (count : ℕ) (made : ℕ → ℕ → Line) (line : Line) (ps : List (List ℕ)) : Type 0 where
+pub record NumberRow (count : ℕ) (made : ℕ → ℕ → Line) (line : Line) (ps : List (List ℕ)) : Type 0 where
   pub a : ℕ
   pub n : ℕ
   pub front : List ℕ
@@ -56,13 +56,13 @@ fetched_line a word = Fetch ⟼ Fetched a word
 abbrev pub low_line : ℕ → ℕ → Line
 low_line a byte = Fetch ⟼ Low a byte
 
-wrote_row : {line : Line} {ps : List (List ℕ)} → LogRow line (codes "wrote" ∷ ps) → NumberRow 2 wrote_line line ps
+pub wrote_row : {line : Line} {ps : List (List ℕ)} → LogRow line (codes "wrote" ∷ ps) → NumberRow 2 wrote_line line ps
 wrote_row (wrote {a = a} {byte = n} {address = front} {digits = back} h k) = record { a = a; n = n; front = front; back = back; is = refl; split = refl; address = h; number = k }
 
-fetched_row : {line : Line} {ps : List (List ℕ)} → LogRow line (codes "fetched" ∷ ps) → NumberRow 4 fetched_line line ps
+pub fetched_row : {line : Line} {ps : List (List ℕ)} → LogRow line (codes "fetched" ∷ ps) → NumberRow 4 fetched_line line ps
 fetched_row (fetched {a = a} {word = n} {address = front} {digits = back} h k) = record { a = a; n = n; front = front; back = back; is = refl; split = refl; address = h; number = k }
 
-low_row : {line : Line} {ps : List (List ℕ)} → LogRow line (codes "low" ∷ ps) → NumberRow 2 low_line line ps
+pub low_row : {line : Line} {ps : List (List ℕ)} → LogRow line (codes "low" ∷ ps) → NumberRow 2 low_line line ps
 low_row (low {a = a} {byte = n} {address = front} {digits = back} h k) = record { a = a; n = n; front = front; back = back; is = refl; split = refl; address = h; number = k }
 
 -- a name alone is one part

@@ -4,3 +4,4 @@ pub mod Tears
 pub mod LogLineTells
 pub mod LogReading
 pub mod Judging
+pub mod LogLaws

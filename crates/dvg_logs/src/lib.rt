@@ -2,6 +2,7 @@
 //! tears a picture (the format is this project's own choice). A log is read in pieces and takes no memory.
 #![tactic(auto)]
 
+pub mod laws;
 mod log_line;
 mod log_reading;
 mod tears;

@@ -31,12 +31,12 @@ entry_of (event ⟼ entry) = entry
 abbrev pub log_text : Bool → Log → List ℕ
 log_text all log = shown all 0 (map entry_of (reverse log))
 
--- memory was refused at the next event, which takes memory
+-- the next event is one that takes memory
 abbrev pub StopsNext : (R : List ℕ) → Log → (later : List Happening) → Type 0
 StopsNext R log [] = ⊥
 StopsNext R log (event ∷ later) = TakesMemory R zeros log event
 
--- no event comes later, or memory was refused before the first one, or at the next one
+-- no event comes later, or none came before, or the next one takes memory
 abbrev pub IsEnd : (R : List ℕ) → Log → (later : List Happening) → Type 0
 IsEnd R log later = (later ≡ []) ⊎ ((log ≡ []) ⊎ StopsNext R log later)
 

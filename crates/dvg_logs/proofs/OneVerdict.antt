@@ -1,0 +1,234 @@
+-- Of the text of a log one verdict is given at most, and none where a line tells nothing.
+use Rattle.std.proofs.Common.{◌≡◌, ◌<◌, ◌+◌, ◌-◌, ℕ, suc, List, [], ◌∷◌, ◌++◌, codes, length, take, drop, reverse, refl, sym, ap, ◌∙◌, subst, arith, append_assoc, length-append, ⊎_elim, inl, inr, Result, Ok, Err, IfErr, OnOk}
+use Rattle.std.specs.List.{AllZip}
+use Rattle.std.proofs.lemmas.Bool.{cases_lt}
+use Rattle.std.proofs.lemmas.List.{reverse-append, reverse-reverse}
+use Rattle.std.proofs.Math.Seq.{take-append_seam, take-append-add, drop-append_seam}
+use Rattle.dvg_driver.specs.declared.action.Action.TheVariants.{Wrote}
+use Rattle.dvg_world.specs.Entries.{Acted, Started, Done, Cleared}
+use Rattle.dvg_world.specs.Events.{Tick, Strobe, Fetch, ResetGen}
+use Rattle.dvg_world.specs.Log.{◌⟼◌, Line, Log, Throughout}
+use Rattle.dvg_world.specs.Torn.{IsUntorn}
+use Rattle.dvg_text.specs.Texts.{IsHex, lines}
+use Rattle.dvg_text.specs.declared.fault.TextFault.TheVariants.{Syntax, TooLong}
+use Rattle.dvg_text.specs.declared.log_verdict.LogVerdict.{LogVerdict}
+use Rattle.dvg_text.specs.declared.log_verdict.LogVerdict.TheVariants.{NotTorn, Torn}
+use Rattle.dvg_text.proofs.Zips.{zip_same}
+use Rattle.dvg_logs.specs.LogLines.{IsLogOf, LogRow, Tells, started, fetched, low, wrote, halted, reset, passed, told}
+use Rattle.dvg_logs.specs.declared.log_reading.LogStop.{LogStop}
+use Rattle.dvg_logs.specs.declared.log_reading.LogStop.TheVariants as stop
+use Rattle.dvg_logs.specs.LogLaws.{IsJudged}
+use Rattle.dvg_logs.specs.LogReading.{IsTornLine}
+use Rattle.dvg_logs.specs.LogReading as reading
+use Rattle.dvg_logs.specs.LogTexts.{HasLogFault, IsTornAt, IsUntornLog, JudgesLog, MeetsSyntax}
+use Rattle.dvg_logs.proofs.LogReads.{log_length}
+use Rattle.dvg_logs.proofs.LogRows.{NumberRow, fetched_line, fetched_row, low_line, low_row, passed_alone, row_of, wrote_line, wrote_row}
+
+-- ---- a line tells one thing at most
+
+numbers_once : (made : ℕ → ℕ → Line) {count a n : ℕ} {front back : List ℕ} {line : Line} → IsHex 3 a front → IsHex count n back → NumberRow count made line (front ∷ back ∷ []) → made a n ≡ line
+numbers_once made {count = count} {a = a} {n = n} {front = front} {back = back} address number row =
+    let split = row.split in
+    let one : front ≡ row.front = cc in
+    let two : back ≡ row.back = cc in
+    let first = subst (λ part. IsHex 3 a part) one address in
+    let second = subst (λ part. IsHex count n part) two number in
+    ap (λ k. made k n) (sym first.value ∙ row.address.value) ∙ (ap (λ k. made row.a k) (sym second.value ∙ row.number.value) ∙ sym row.is)
+
+started_once : {line : Line} → LogRow line (codes "started" ∷ []) → Strobe ⟼ Started ≡ line
+started_once started = refl
+
+halted_once : {line : Line} → LogRow line (codes "halted" ∷ []) → Fetch ⟼ Done 0 0 [] ≡ line
+halted_once halted = refl
+
+reset_once : {line : Line} → LogRow line (codes "reset" ∷ []) → ResetGen ⟼ Cleared ≡ line
+reset_once reset = refl
+
+row_once : {line other : Line} {ps : List (List ℕ)} → LogRow line ps → LogRow other ps → line ≡ other
+row_once started row = started_once row
+row_once halted row = halted_once row
+row_once reset row = reset_once row
+row_once (wrote h k) row = numbers_once wrote_line h k (wrote_row row)
+row_once (fetched h k) row = numbers_once fetched_line h k (fetched_row row)
+row_once (low h k) row = numbers_once low_line h k (low_row row)
+
+tells_once : (line other : Line) (text : List ℕ) → Tells line text → Tells other text → line ≡ other
+tells_once line other text (passed short is) also = passed_alone text is also
+tells_once line other text (told short not row) also = row_once row (row_of text not also)
+
+-- lines tell one log at most
+log_once : (log other : Log) (texts : List (List ℕ)) → IsLogOf log texts → IsLogOf other texts → log ≡ other
+log_once log other texts one two =
+    sym (reverse-reverse log) ∙ (ap reverse (zip_same Tells tells_once (reverse log) (reverse other) texts one two) ∙ reverse-reverse other)
+
+-- ---- the lines before a line, and what they tell
+
+-- the lines before one tell a log, and the line goes on with it
+record Front (log : Log) (before : List (List ℕ)) (text : List ℕ) : Type 0 where
+  pub later : Log
+  pub line : Line
+  pub older : Log
+  pub split : log ≡ later ++ line ∷ older
+  pub tells_older : IsLogOf older before
+  pub tells : Tells line text
+
+record Cut (all : List Line) (before : List (List ℕ)) (text : List ℕ) : Type 0 where
+  pub front : List Line
+  pub line : Line
+  pub back : List Line
+  pub split : all ≡ front ++ line ∷ back
+  pub tells_front : AllZip Tells front before
+  pub tells : Tells line text
+
+cut_of : (all : List Line) (before : List (List ℕ)) (text : List ℕ) (after : List (List ℕ)) → AllZip Tells all (before ++ text ∷ after) → Cut all before text
+cut_of [] [] text after zip = absurd zip
+cut_of [] (t ∷ before) text after zip = absurd zip
+cut_of (line ∷ all) [] text after zip = record { front = []; line = line; back = all; split = refl; tells_front = tt; tells = zip.0 }
+cut_of (line ∷ all) (t ∷ before) text after zip =
+    let rest = cut_of all before text after zip.1 in
+    record { front = line ∷ rest.front; line = rest.line; back = rest.back; split = ap (λ ls. line ∷ ls) rest.split; tells_front = (zip.0, rest.tells_front); tells = rest.tells }
+
+front_of : (log : Log) (before : List (List ℕ)) (text : List ℕ) (after : List (List ℕ)) → IsLogOf log (before ++ text ∷ after) → Front log before text
+front_of log before text after log_of =
+    let cut = cut_of (reverse log) before text after log_of in
+    let turned : reverse (cut.front ++ cut.line ∷ cut.back) ≡ (reverse cut.back ++ cut.line ∷ []) ++ reverse cut.front
+    = reverse-append cut.front (cut.line ∷ cut.back) ∙ ap (λ ls. ls ++ reverse cut.front) (reverse-append (cut.line ∷ []) cut.back) in
+    record {
+      later = reverse cut.back;
+      line = cut.line;
+      older = reverse cut.front;
+      split = sym (reverse-reverse log) ∙ (ap reverse cut.split ∙ (turned ∙ append_assoc (reverse cut.back) (cut.line ∷ []) (reverse cut.front)));
+      tells_older = subst (λ ls. AllZip Tells ls before) (sym (reverse-reverse cut.front)) cut.tells_front;
+      tells = cut.tells;
+    }
+
+-- ---- the line at which a text stops
+
+-- line number k, counted from 0, is torn or tells nothing, and none before it
+record StopsAt (texts : List (List ℕ)) (k : ℕ) : Type 0 where
+  pub before : List (List ℕ)
+  pub line : List ℕ
+  pub after : List (List ℕ)
+  pub cut : texts ≡ before ++ line ∷ after
+  pub at : length before ≡ k
+  pub log : Log
+  pub fine : IsUntornLog log before
+  pub stops : (told : Line) → Tells told line → IsTornLine log told
+
+behind_all : (P : Log → _ → _ → Type 0) (later log : Log) → Throughout P (later ++ log) → Throughout P log
+behind_all P [] log all = all
+behind_all P ((event ⟼ entry) ∷ later) log all = behind_all P later log all.1
+
+first_untorn : (log : Log) (line : Line) → Throughout IsUntorn (line ∷ log) → ¬ IsTornLine log line
+first_untorn log (event ⟼ entry) all = all.0
+
+-- no line among untorn ones stops a text
+stops_none : {texts : List (List ℕ)} {k : ℕ} (log : Log) (more : List (List ℕ)) (stop : StopsAt texts k) → IsUntornLog log (stop.before ++ stop.line ∷ more) → ⊥
+stops_none log more stop fine =
+    let front = front_of log stop.before stop.line more fine.tells in
+    let all = behind_all IsUntorn front.later (front.line ∷ front.older) (subst (Throughout IsUntorn) front.split fine.untorn) in
+    let same = log_once front.older stop.log stop.before front.tells_older stop.fine.tells in
+    first_untorn front.older front.line all (subst (λ log. IsTornLine log front.line) (sym same) (stop.stops front.line front.tells))
+
+-- a text that stops at a line stops at no later one
+stops_sooner : {texts : List (List ℕ)} {k j : ℕ} → StopsAt texts k → StopsAt texts j → k < j → ⊥
+stops_sooner {texts} {k} {j} one two sooner =
+    let m = j - suc k in
+    let p = one.at in
+    let q = two.at in
+    let far : length two.before ≡ length one.before + suc m = omega arith in
+    let is : two.before ≡ one.before ++ one.line ∷ take m one.after
+    = sym (take-append_seam two.before (two.line ∷ two.after)) ∙ (ap (take (length two.before)) (sym two.cut ∙ one.cut)
+    ∙ (ap (λ n. take n (one.before ++ one.line ∷ one.after)) far ∙ take-append-add one.before (one.line ∷ one.after) (suc m))) in
+    stops_none two.log (take m one.after) one (subst (IsUntornLog two.log) is two.fine)
+
+one_stop : {texts : List (List ℕ)} {k j : ℕ} → StopsAt texts k → StopsAt texts j → k ≡ j
+one_stop {texts} {k} {j} one two =
+    ⊎_elim (λ less. absurd (stops_sooner one two less)) (λ not_less. ⊎_elim (λ less. absurd (stops_sooner two one less)) (λ also. omega arith) (cases_lt j k)) (cases_lt k j)
+
+syntax_stops : {texts : List (List ℕ)} {n : ℕ} (at_fault : MeetsSyntax texts n) → StopsAt texts (length at_fault.before)
+syntax_stops at_fault = record { before = at_fault.before; line = at_fault.line; after = at_fault.after; cut = at_fault.cut; at = refl; log = at_fault.log; fine = at_fault.fine; stops = λ told tells. absurd (at_fault.wrong told tells) }
+
+none_later : {X : Type 0} (later : List X) → length later ≡ 0 → later ≡ []
+none_later [] e = refl
+none_later (x ∷ later) e = absurd (omega arith)
+
+torn_stops : {texts : List (List ℕ)} {n address byte : ℕ} (torn : IsTornAt texts n address byte) → StopsAt texts (length torn.before)
+torn_stops torn =
+    let front = front_of torn.log torn.before torn.line [] torn.tells in
+    let first = torn.torn in
+    let whole : length torn.log ≡ length torn.before + 1 = log_length torn.log (torn.before ++ torn.line ∷ []) torn.tells ∙ length-append torn.before (torn.line ∷ []) in
+    let one = ap length front.split ∙ length-append front.later (front.line ∷ front.older) in
+    let two = ap length first.split ∙ length-append first.later ((first.event ⟼ first.entry) ∷ first.before) in
+    let older = log_length front.older torn.before front.tells_older in
+    let at = first.at in
+    let none = none_later front.later (omega arith) in
+    let no_more = none_later first.later (omega arith) in
+    let same : front.line ∷ front.older ≡ (first.event ⟼ first.entry) ∷ first.before
+    = sym (front.split ∙ ap (λ later. later ++ front.line ∷ front.older) none) ∙ (first.split ∙ ap (λ later. later ++ (first.event ⟼ first.entry) ∷ first.before) no_more) in
+    let line : first.event ⟼ first.entry ≡ front.line = cc in
+    let log : first.before ≡ front.older = cc in
+    let is_torn = subst (λ log. IsTornLine log front.line) log (subst (IsTornLine first.before) line first.torn) in
+    record {
+      before = torn.before;
+      line = torn.line;
+      after = torn.after;
+      cut = torn.cut;
+      at = refl;
+      log = front.older;
+      fine = record { tells = front.tells_older; untorn = subst (Throughout IsUntorn) log first.untorn };
+      stops = λ told tells. subst (IsTornLine front.older) (tells_once front.line told torn.line front.tells tells) is_torn;
+    }
+
+never_stops : {texts : List (List ℕ)} {k : ℕ} (log : Log) → IsUntornLog log texts → StopsAt texts k → ⊥
+never_stops log fine stop = stops_none log stop.after stop (subst (IsUntornLog log) stop.cut fine)
+
+-- ---- each text
+
+-- why the reading of a text stops is its verdict or its fault
+pub judged_at : (text : List ℕ) (stop : LogStop) → reading.StopsAt stop (lines text) → IsJudged text
+judged_at text (stop.Torn n address byte) stops = inl (Torn n address byte, stops)
+judged_at text (stop.Syntax n) stops = inr (Syntax n, stops)
+judged_at text stop.TooLong stops = inr (TooLong, stops)
+
+-- so it is at the end of a text that was read
+pub judged_by : {T : Type 0} (HasRead : List ℕ → Type 0) (text : List ℕ) (answer : Result T LogStop) → HasRead text → IfErr answer (λ stop. (text : List ℕ) → HasRead text → reading.StopsAt stop (lines text))
+    → OnOk answer ((text : List ℕ) → HasRead text → JudgesLog text NotTorn) → IsJudged text
+judged_by HasRead text (Ok value) read stops judged = inl (NotTorn, judged text read)
+judged_by HasRead text (Err why) read stops judged = judged_at text why (stops text read)
+
+-- ---- the laws
+
+-- two lines at one place are one
+same_lines : {texts : List (List ℕ)} (before other : List (List ℕ)) (x y : List ℕ) (after rest : List (List ℕ)) → texts ≡ before ++ x ∷ after → texts ≡ other ++ y ∷ rest → length before ≡ length other → x ≡ y
+same_lines before other x y after rest one two e =
+    let behind : x ∷ after ≡ y ∷ rest = sym (drop-append_seam before (x ∷ after)) ∙ (ap (drop (length before)) (sym one ∙ two) ∙ (ap (λ n. drop n (other ++ y ∷ rest)) e ∙ drop-append_seam other (y ∷ rest))) in
+    cc
+
+same_torn : (n m a b x y : ℕ) → n ≡ m → Tick ⟼ Acted (Wrote a b) ≡ Tick ⟼ Acted (Wrote x y) → Torn n a b ≡ Torn m x y
+same_torn n m a b x y e f = let one : a ≡ x = cc in let two : b ≡ y = cc in rw (e, one, two)
+
+pub one_verdict : (text : List ℕ) (one other : LogVerdict) → JudgesLog text one → JudgesLog text other → other ≡ one
+one_verdict text NotTorn NotTorn a b = refl
+one_verdict text NotTorn (Torn n x y) a b = absurd (never_stops a.0 a.1 (torn_stops b))
+one_verdict text (Torn n x y) NotTorn a b = absurd (never_stops b.0 b.1 (torn_stops a))
+one_verdict text (Torn n x y) (Torn m v w) a b =
+    let at = one_stop (torn_stops b) (torn_stops a) in
+    let p = a.number in
+    let q = b.number in
+    let line = same_lines b.before a.before b.line a.line b.after a.after b.cut a.cut at in
+    same_torn m n v w x y (omega arith) (tells_once (Tick ⟼ Acted (Wrote v w)) (Tick ⟼ Acted (Wrote x y)) a.line (subst (Tells (Tick ⟼ Acted (Wrote v w))) line b.wrote) a.wrote)
+
+pub one_fault : (text : List ℕ) (n m : ℕ) → HasLogFault text (Syntax n) → HasLogFault text (Syntax m) → m ≡ n
+one_fault text n m a b =
+    let at = one_stop (syntax_stops a) (syntax_stops b) in
+    let p = a.number in
+    let q = b.number in
+    omega arith
+
+pub no_verdict_beside_fault : (text : List ℕ) (verdict : LogVerdict) (n : ℕ) → JudgesLog text verdict → ¬ HasLogFault text (Syntax n)
+no_verdict_beside_fault text NotTorn n judged at_fault = never_stops judged.0 judged.1 (syntax_stops at_fault)
+no_verdict_beside_fault text (Torn m x y) n judged at_fault =
+    let at = one_stop (torn_stops judged) (syntax_stops at_fault) in
+    let line = same_lines judged.before at_fault.before judged.line at_fault.line judged.after at_fault.after judged.cut at_fault.cut at in
+    at_fault.wrong (Tick ⟼ Acted (Wrote x y)) (subst (Tells (Tick ⟼ Acted (Wrote x y))) line judged.wrote)
