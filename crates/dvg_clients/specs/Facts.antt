@@ -5,7 +5,7 @@ use Rattle.dvg_code.specs.declared.instr.Instr.TheVariants.{Vctr, Labs}
 use Rattle.dvg_frame.specs.declared.op.OpKind.{OpKind}
 use Rattle.dvg_frame.specs.declared.op.OpKind.TheVariants.{Draw, Halt}
 use Rattle.dvg_driver.specs.declared.action.Action.TheVariants.{Peek, Read, Wrote, Sent}
-use Rattle.dvg_text.specs.Lines.{spaced}
+use Rattle.dvg_lines.specs.Lines.{spaced}
 use Rattle.dvg_world.specs.Events.{Happening, Tick, Offer, Strobe, Fetch}
 use Rattle.dvg_world.specs.Entries.{Shown, Acted, Offered, Started, Low, Fetched, Done}
 

@@ -1,6 +1,6 @@
 //! The line of an entry that no legal log has, and of the last event.
 use dvg_gen::GenFault;
-use dvg_text::Line;
+use dvg_lines::Line;
 use dvg_world::Entry;
 use std::alloc::Global;
 

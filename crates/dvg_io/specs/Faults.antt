@@ -1,5 +1,5 @@
 -- Why an engine stops, and what went out then.
-use Rattle.std.specs.Prelude.{◌≡◌, ℕ, List, Option, Result, MatchResult}
+use Rattle.std.specs.Prelude.{ℕ, List, Option, Result, MatchResult}
 use Rattle.std.specs.Io.KnownBytes.{Appends}
 use Rattle.dvg_text.specs.declared.fault.TextFault.TheVariants.{Cut}
 use Rattle.dvg_text.specs.declared.fault.TraceFault.{TraceFault}

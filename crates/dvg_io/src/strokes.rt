@@ -1,13 +1,13 @@
 //! Strokes that are written.
 ghost use Rattle.std.specs.Prelude.{flat_map, OnErr, OnOk};
 ghost use Rattle.std.specs.Io.KnownBytes.{Appends};
-ghost use Rattle.dvg_text.specs.Shows.{stroke_line};
+ghost use Rattle.dvg_lines.specs.Shows.{stroke_line};
 ghost use Rattle.dvg_io.specs.Watching.{BeginsToWrite, CountsErrors, device_of, failures_of};
 
 use crate::transfer::write_whole;
 use crate::watched::{DeviceFailed, Watched};
 use dvg_gen::Stroke;
-use dvg_text::Line;
+use dvg_lines::Line;
 use std::io::Write;
 
 /// Writes the line of each stroke, `x0 y0 x1 y1 z`. The lines are made in `line`.

@@ -5,7 +5,7 @@ use Rattle.std.proofs.lemmas.Grind.{flat_map-append}
 use Rattle.std.specs.Io.KnownBytes.{Consumes, IsAtEnd}
 use Rattle.dvg_world.specs.Log.{Log}
 use Rattle.dvg_text.specs.Texts.{lines}
-use Rattle.dvg_text.specs.declared.log_verdict.LogVerdict.TheVariants.{NotTorn}
+use Rattle.dvg_lines.specs.declared.log_verdict.LogVerdict.TheVariants.{NotTorn}
 use Rattle.std.specs.Prelude.{Ok}
 use Rattle.dvg_logs.specs.declared.log_reading.LogStop.{LogStop}
 use Rattle.dvg_logs.specs.declared.log_reading.LogStop.TheVariants.{Torn, Syntax, TooLong}

@@ -11,8 +11,8 @@ use Rattle.dvg_world.specs.Log.{◌⟼◌, Line, Log, Throughout}
 use Rattle.dvg_world.specs.Torn.{IsUntorn}
 use Rattle.dvg_text.specs.Texts.{IsHex, lines}
 use Rattle.dvg_text.specs.declared.fault.TextFault.TheVariants.{Syntax, TooLong}
-use Rattle.dvg_text.specs.declared.log_verdict.LogVerdict.{LogVerdict}
-use Rattle.dvg_text.specs.declared.log_verdict.LogVerdict.TheVariants.{NotTorn, Torn}
+use Rattle.dvg_lines.specs.declared.log_verdict.LogVerdict.{LogVerdict}
+use Rattle.dvg_lines.specs.declared.log_verdict.LogVerdict.TheVariants.{NotTorn, Torn}
 use Rattle.dvg_text.proofs.Zips.{zip_same}
 use Rattle.dvg_logs.specs.LogLines.{IsLogOf, LogRow, Tells, started, fetched, low, wrote, halted, reset, passed, told}
 use Rattle.dvg_logs.specs.declared.log_reading.LogStop.{LogStop}

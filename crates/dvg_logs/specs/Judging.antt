@@ -1,8 +1,8 @@
 -- What is said of a log before that is written (for private contracts).
 use Rattle.std.specs.Prelude.{ℕ, List, Option, Result, Ok, Err}
 use Rattle.dvg_text.specs.declared.fault.TextFault.TheVariants as of_text
-use Rattle.dvg_text.specs.declared.log_verdict.LogVerdict.{LogVerdict}
-use Rattle.dvg_text.specs.declared.log_verdict.LogVerdict.TheVariants as said
+use Rattle.dvg_lines.specs.declared.log_verdict.LogVerdict.{LogVerdict}
+use Rattle.dvg_lines.specs.declared.log_verdict.LogVerdict.TheVariants as said
 use Rattle.dvg_io.specs.declared.fault.ToolFault.{ToolFault}
 use Rattle.dvg_io.specs.declared.fault.ToolFault.TheVariants.{Text, Reader}
 use Rattle.dvg_logs.specs.declared.log_reading.LogStop.{LogStop}

@@ -2,7 +2,7 @@
 use Rattle.std.specs.Prelude.{◌≡◌, ◌⊎◌, ℕ, List}
 use Rattle.dvg_text.specs.declared.fault.TextFault.{TextFault}
 use Rattle.dvg_text.specs.declared.fault.TextFault.TheVariants.{Syntax}
-use Rattle.dvg_text.specs.declared.log_verdict.LogVerdict.{LogVerdict}
+use Rattle.dvg_lines.specs.declared.log_verdict.LogVerdict.{LogVerdict}
 use Rattle.dvg_logs.specs.LogTexts.{HasLogFault, JudgesLog}
 
 -- of the text of a log one verdict is given at most

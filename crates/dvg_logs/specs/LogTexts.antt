@@ -8,8 +8,8 @@ use Rattle.dvg_world.specs.Torn.{IsFirstTorn, IsUntorn}
 use Rattle.dvg_text.specs.Texts.{lines}
 use Rattle.dvg_text.specs.declared.fault.TextFault.{TextFault}
 use Rattle.dvg_text.specs.declared.fault.TextFault.TheVariants.{TooLong, Syntax}
-use Rattle.dvg_text.specs.declared.log_verdict.LogVerdict.{LogVerdict}
-use Rattle.dvg_text.specs.declared.log_verdict.LogVerdict.TheVariants.{NotTorn, Torn}
+use Rattle.dvg_lines.specs.declared.log_verdict.LogVerdict.{LogVerdict}
+use Rattle.dvg_lines.specs.declared.log_verdict.LogVerdict.TheVariants.{NotTorn, Torn}
 use Rattle.dvg_logs.specs.LogLines.{IsLogOf, Tells}
 
 -- the lines tell this log, and none of it is torn

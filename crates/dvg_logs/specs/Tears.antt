@@ -2,10 +2,10 @@
 use Rattle.std.specs.Prelude.{◌+◌, ◌-◌, ◌^◌, ℕ, List, [], ◌∷◌, ◌++◌, flat_map, length, take, Option, Result, Ok, Err}
 use Rattle.std.specs.Io.KnownBytes.{Appends, Consumes, IsAtEnd}
 use Rattle.dvg_text.specs.Texts.{lines}
-use Rattle.dvg_text.specs.LogVerdicts.{log_verdict_line}
+use Rattle.dvg_lines.specs.LogVerdicts.{log_verdict_line}
 use Rattle.dvg_text.specs.declared.fault.TextFault.TheVariants.{Syntax}
-use Rattle.dvg_text.specs.declared.log_verdict.LogVerdict.{LogVerdict}
-use Rattle.dvg_text.specs.declared.log_verdict.LogVerdict.TheVariants.{NotTorn, Torn}
+use Rattle.dvg_lines.specs.declared.log_verdict.LogVerdict.{LogVerdict}
+use Rattle.dvg_lines.specs.declared.log_verdict.LogVerdict.TheVariants.{NotTorn, Torn}
 use Rattle.dvg_io.specs.declared.fault.ToolFault.{ToolFault}
 use Rattle.dvg_io.specs.declared.fault.ToolFault.TheVariants.{Text, Reader, Writer, Memory}
 use Rattle.dvg_io.specs.Watching.{BeginsToWrite, TakesAtMost}

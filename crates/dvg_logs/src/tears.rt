@@ -7,7 +7,8 @@ ghost use Rattle.dvg_logs.specs.Judging.{IsReadingFault, JudgesInput, answer_of}
 
 use crate::log_reading::{LogReading, LogStop};
 use dvg_io::{ToolFault, Watched, write_whole};
-use dvg_text::{Line, LogVerdict, TextFault};
+use dvg_lines::{Line, LogVerdict};
+use dvg_text::TextFault;
 use std::io::{Read, Write};
 
 /// The most bytes that one read takes.

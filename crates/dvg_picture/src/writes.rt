@@ -3,13 +3,13 @@ ghost use Rattle.std.specs.Prelude.{◌++◌, flat_map, OnErr, OnOk};
 ghost use Rattle.std.specs.Io.KnownBytes.{Appends};
 ghost use Rattle.dvg_dump.specs.Endings.{end_of};
 ghost use Rattle.dvg_io.specs.Watching.{BeginsToWrite, CountsErrors, device_of, failures_of};
-ghost use Rattle.dvg_text.specs.Shows.{stroke_line};
+ghost use Rattle.dvg_lines.specs.Shows.{stroke_line};
 ghost use Rattle.dvg_picture.specs.Texts.{end_text, ran_text};
 
 use dvg_dump::{Ending, Ran, Traced};
 use dvg_gen::Stroke;
 use dvg_io::{DeviceFailed, Watched, write_strokes, write_whole};
-use dvg_text::Line;
+use dvg_lines::Line;
 use std::alloc::Allocator;
 use std::io::Write;
 

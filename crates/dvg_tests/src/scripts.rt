@@ -2,7 +2,7 @@
 use dvg_code::{Code, Instr};
 use dvg_frame::{Draft, Op, OpKind};
 use dvg_mem::{Image, Rom, Store};
-use dvg_text::Line;
+use dvg_lines::Line;
 use dvg_world::{Entry, Event, MOST_EVENTS, Trace, run, run_trace};
 use std::alloc::{Allocator, Global};
 use std::test::Fail;

@@ -5,7 +5,6 @@ pub mod DraftSteps
 pub mod FirstStop
 pub mod OneStop
 pub mod OneRom
-pub mod OneVerdict
 pub mod Decimals
 pub mod Cuts
 pub mod OpRows
@@ -20,6 +19,5 @@ pub mod LineEnds
 pub mod GivenWords
 pub mod HeldRom
 pub mod ReadTo
-pub mod Spaced
 pub mod Spaces
 pub mod HexDigits

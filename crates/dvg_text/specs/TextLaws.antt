@@ -2,11 +2,9 @@
 use Rattle.std.specs.Prelude.{◌≡◌, ◌⊎◌, ℕ, List}
 use Rattle.dvg_frame.specs.declared.op.OpKind.{OpKind}
 use Rattle.dvg_text.specs.declared.fault.TextFault.{TextFault}
-use Rattle.dvg_text.specs.declared.verdict.Verdict.{Verdict}
 use Rattle.dvg_text.specs.DraftReading.{Gives}
 use Rattle.dvg_text.specs.DraftTexts.{Denotes, HasDraftFault}
 use Rattle.dvg_text.specs.RomTexts.{IsRomOf, RomText}
-use Rattle.dvg_text.specs.Verdicts.{Judges}
 
 -- a text denotes one draft, and tells one thing of the ROM, at most
 abbrev pub OneMeaning : Type 0
@@ -27,7 +25,3 @@ IsRead text = ((F : List OpKind) × (R : List ℕ) × Gives text F R) ⊎ ((faul
 -- a text that denotes something has no fault
 abbrev pub NoFaultBeside : Type 0
 NoFaultBeside = (text : List ℕ) (rom : RomText) (F : List OpKind) → Denotes text rom F → (fault : TextFault) → ¬ HasDraftFault text fault
-
--- of a text one verdict is given at most
-abbrev pub OneVerdict : Type 0
-OneVerdict = (text : List ℕ) (one other : Verdict) → Judges text one → Judges text other → other ≡ one

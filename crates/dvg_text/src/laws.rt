@@ -1,7 +1,7 @@
 //! Laws of the texts of drafts and of traces. Each is the contract of a function that does nothing, but one, which
 //! reads the text.
 ghost use Rattle.dvg_text.specs.TraceLaws.{NoFaultBesideTrace, OneTraceFault, OneTraceMeaning};
-ghost use Rattle.dvg_text.specs.TextLaws.{IsRead, NoFaultBeside, OneMeaning, OneRom, OneTextFault, OneVerdict};
+ghost use Rattle.dvg_text.specs.TextLaws.{IsRead, NoFaultBeside, OneMeaning, OneRom, OneTextFault};
 
 use crate::draft_text::read_draft;
 
@@ -31,11 +31,6 @@ pub fn each_is_read(text: &[u8])
 /// A text that denotes a draft has no fault.
 pub fn no_fault_beside()
     ensures { NoFaultBeside }
-{}
-
-/// Of a text one verdict is given at most.
-pub fn one_verdict()
-    ensures { OneVerdict }
 {}
 
 /// The text of a trace denotes one list of events, and tells one thing of the ROM, at most.

@@ -4,3 +4,4 @@ pub mod RomLines
 pub mod Shown
 pub mod Played
 pub mod TracesPlayed
+pub mod OneVerdict

@@ -15,7 +15,7 @@ use Rattle.dvg_world.specs.Runs.{IsStop, log_of}
 use Rattle.dvg_world.proofs.Headline.{headline}
 use Rattle.dvg_world.proofs.WholeRuns.{log_of-none}
 use Rattle.dvg_tool.specs.Plays.{IsPlayed, StopsNext, entry_of, event_of, log_text, zeros}
-use Rattle.dvg_text.specs.Shows.{shown}
+use Rattle.dvg_lines.specs.Shows.{shown}
 use Rattle.dvg_text.specs.TraceGives.{GivesTrace}
 
 -- the lines of events and entries, oldest first

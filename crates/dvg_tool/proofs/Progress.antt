@@ -13,7 +13,7 @@ use Rattle.dvg_code.specs.Cutting.{Cuts, Cutting, Placed}
 use Rattle.dvg_code.specs.Listing.{NextListed, place_of, words_left}
 use Rattle.dvg_code.proofs.Unique.{cut_is_rest, spelling_length}
 use Rattle.dvg_code.proofs.Listings.{goes_on, only_rest}
-use Rattle.dvg_text.specs.Lines.{line_of, line_text, list_text}
+use Rattle.dvg_lines.specs.Lines.{line_of, line_text, list_text}
 use Rattle.dvg_tool.specs.Lists.{line_at}
 use Rattle.dvg_io.specs.Watching.{BeginsToWrite}
 use Rattle.dvg_io.proofs.Known.{Appends-nil, Appends-trans}

@@ -4,7 +4,7 @@ use Rattle.std.proofs.lemmas.List.{drop-drop, drop_all}
 use Rattle.std.specs.Io.KnownBytes.{Appends}
 use Rattle.dvg_code.specs.Words.{words_of}
 use Rattle.dvg_mem.proofs.Roms.{large_first, small_first}
-use Rattle.dvg_text.specs.Lines.{map_text, rom_line, rom_lines, rom_text}
+use Rattle.dvg_lines.specs.Lines.{map_text, rom_line, rom_lines, rom_text}
 use Rattle.dvg_io.specs.Faults.{WritesText}
 use Rattle.dvg_tool.specs.Roms.{HasRomSize}
 use Rattle.dvg_io.specs.declared.fault.ToolFault.{ToolFault}

@@ -1,16 +1,16 @@
 -- From what was read to what an engine says of the input.
-use Rattle.std.proofs.Common.{◌≡◌, ℕ, ◌+◌, ◌*◌, [], ◌∷◌, refl, sym, ◌%◌, ◌<◌, ◌≤◌, List, Bool, Option, None, Some, Result, Ok, Err, IfSome, length, take, length-take, take_all, ap, subst, ◌∙◌, arith, ◌⊎◌, inl, inr, ⊎_elim}
-use Rattle.std.proofs.lemmas.Bool.{cases_lt}
+use Rattle.std.proofs.Common.{◌≡◌, ℕ, refl, sym, ◌%◌, ◌≤◌, List, Bool, Option, None, Some, Result, Ok, Err, IfSome, length, take, take_all, ap, subst, ◌∙◌, arith, ◌⊎◌, inl, inr, ⊎_elim}
 use Rattle.std.specs.Io.KnownBytes.{Appends}
 use Rattle.dvg_code.specs.Words.{words_of}
 use Rattle.dvg_text.specs.declared.fault.TextFault.{TextFault}
-use Rattle.dvg_text.specs.declared.verdict.Verdict.{Verdict}
+use Rattle.dvg_lines.specs.declared.verdict.Verdict.{Verdict}
 use Rattle.dvg_tool.specs.Checks.{Checks, IsJudgingFault}
 use Rattle.dvg_text.specs.DraftTexts.{HasDraftFault}
-use Rattle.dvg_text.specs.Verdicts.{Judges, verdict_line}
+use Rattle.dvg_lines.specs.Verdicts.{verdict_line}
+use Rattle.dvg_tool.specs.Checks.{Judges}
 use Rattle.dvg_io.specs.Watching.{BeginsToWrite}
 use Rattle.dvg_io.proofs.Inputs.{Read, whole, whole_or_long}
-use Rattle.dvg_text.specs.Lines.{rom_text}
+use Rattle.dvg_lines.specs.Lines.{rom_text}
 use Rattle.dvg_io.specs.Faults.{WritesText}
 use Rattle.dvg_tool.specs.Roms.{HasRomSize, WritesRom}
 use Rattle.dvg_tool.specs.Lists.{IsListable, Lists, ListsWords}

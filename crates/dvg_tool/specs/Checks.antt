@@ -1,12 +1,21 @@
 -- What `check_text` and `check_bound` answer and write.
 use Rattle.std.specs.Prelude.{ℕ, List, Bool, Option, Result, Ok, Err}
 use Rattle.std.specs.Io.KnownBytes.{Appends}
+use Rattle.dvg_frame.specs.declared.op.OpKind.{OpKind}
 use Rattle.dvg_io.specs.declared.fault.ToolFault.{ToolFault}
 use Rattle.dvg_io.specs.declared.fault.ToolFault.TheVariants.{Text, Writer, Memory}
-use Rattle.dvg_text.specs.declared.verdict.Verdict.{Verdict}
+use Rattle.dvg_lines.specs.declared.verdict.Verdict.{Verdict}
+use Rattle.dvg_text.specs.DraftReading.{Gives}
 use Rattle.dvg_text.specs.DraftTexts.{HasDraftFault}
-use Rattle.dvg_text.specs.Verdicts.{Judges, verdict_line}
+use Rattle.dvg_lines.specs.Verdicts.{IsVerdict, verdict_line}
 use Rattle.dvg_io.specs.Watching.{BeginsToWrite}
+
+-- the text denotes a draft and a ROM, over which the check says this of the draft
+pub record Judges (text : List ℕ) (verdict : Verdict) : Type 0 where
+  pub F : List OpKind
+  pub R : List ℕ
+  pub gives : Gives text F R
+  pub said : IsVerdict F R verdict
 
 -- a fault at which nothing is said of a text: its own, or want of memory (for a private contract)
 abbrev pub IsJudgingFault : List ℕ → ToolFault → Type 0

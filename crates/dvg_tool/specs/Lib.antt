@@ -4,3 +4,4 @@ pub mod Jobs
 pub mod Outcomes
 pub mod Checks
 pub mod Plays
+pub mod CheckLaws

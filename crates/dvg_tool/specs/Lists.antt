@@ -6,7 +6,7 @@ use Rattle.dvg_code.specs.declared.instr.Instr.{Instr}
 use Rattle.dvg_code.specs.Spelling.{canon}
 use Rattle.dvg_code.specs.Words.{words_of}
 use Rattle.dvg_code.specs.Cutting.{Cutting}
-use Rattle.dvg_text.specs.Lines.{line_text, list_text}
+use Rattle.dvg_lines.specs.Lines.{line_text, list_text}
 use Rattle.dvg_io.specs.Watching.{BeginsToWrite}
 use Rattle.dvg_text.specs.declared.fault.TextFault.TheVariants.{TooLong, Odd, Cut}
 use Rattle.dvg_io.specs.declared.fault.ToolFault.{ToolFault}

@@ -5,8 +5,8 @@ use Rattle.dvg_io.specs.declared.fault.ToolFault.TheVariants.{Text, Writer}
 use Rattle.dvg_tool.specs.declared.outcome.Done.{Done}
 use Rattle.dvg_tool.specs.declared.outcome.Done.TheVariants.{Written, Judged, Drew, Searched}
 use Rattle.dvg_dump.specs.declared.ending.Outcome.TheVariants as outcomes
-use Rattle.dvg_text.specs.declared.log_verdict.LogVerdict.TheVariants.{NotTorn, Torn}
-use Rattle.dvg_text.specs.declared.verdict.Verdict.TheVariants.{Good, Refused}
+use Rattle.dvg_lines.specs.declared.log_verdict.LogVerdict.TheVariants.{NotTorn, Torn}
+use Rattle.dvg_lines.specs.declared.verdict.Verdict.TheVariants.{Good, Refused}
 use Rattle.dvg_io.specs.Watching.{one_more}
 
 -- the answer stays and no failure was counted, or one was counted and the answer is `Writer`

@@ -10,7 +10,7 @@ use Rattle.dvg_world.specs.Wanting.{TakesMemory}
 use Rattle.dvg_io.specs.declared.fault.ToolFault.{ToolFault}
 use Rattle.dvg_io.specs.declared.fault.ToolFault.TheVariants.{Text, Reader, Writer, Memory}
 use Rattle.dvg_io.specs.Faults.{StopsBeforeWriting}
-use Rattle.dvg_text.specs.Shows.{shown}
+use Rattle.dvg_lines.specs.Shows.{shown}
 use Rattle.dvg_text.specs.TraceGives.{GivesTrace}
 use Rattle.dvg_text.specs.TraceTexts.{HasTraceFault}
 use Rattle.dvg_io.specs.Watching.{BeginsToWrite}

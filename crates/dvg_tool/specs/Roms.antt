@@ -1,7 +1,7 @@
 -- What `rom_text` answers and writes.
 use Rattle.std.specs.Prelude.{◌≡◌, ◌⊎◌, ℕ, List, length, Option, Result, Ok, Err}
 use Rattle.std.specs.Io.KnownBytes.{Appends}
-use Rattle.dvg_text.specs.Lines.{rom_text}
+use Rattle.dvg_lines.specs.Lines.{rom_text}
 use Rattle.dvg_io.specs.Watching.{BeginsToWrite}
 use Rattle.dvg_text.specs.declared.fault.TextFault.TheVariants.{RomSize}
 use Rattle.dvg_io.specs.declared.fault.ToolFault.{ToolFault}

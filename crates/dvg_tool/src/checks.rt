@@ -1,14 +1,14 @@
 //! The engines `check_text` and `check_bound`.
 ghost use Rattle.std.specs.Prelude.{◌≡◌, ◌↔◌, ◌≤◌, IfErr, IfOk, IfSome, IsErrOf, false, true};
-ghost use Rattle.dvg_tool.specs.Checks.{Checks, IsJudgingFault};
-ghost use Rattle.dvg_text.specs.Verdicts.{Judges};
+ghost use Rattle.dvg_tool.specs.Checks.{Checks, IsJudgingFault, Judges};
 ghost use Rattle.dvg_io.specs.Faults.{StopsBeforeWriting};
 ghost use Rattle.dvg_io.specs.Watching.{TakesAtMost, device_of, failures_of};
 
 use dvg_frame::check;
 use dvg_io::{ToolFault, Watched, read_up_to, write_whole};
+use dvg_lines::{Line, Verdict};
 use dvg_mem::Rom;
-use dvg_text::{Line, MOST_TEXT_BYTES, Verdict, read_draft};
+use dvg_text::{MOST_TEXT_BYTES, read_draft};
 use std::alloc::Allocator;
 use std::io::{Read, Write};
 

@@ -1,5 +1,5 @@
 //! The engines of the program `dvg` but `picture` and `torn`, over any watched reader and writer; the jobs that its words ask for, which
-//! are those of `dvg_words`. What it reads and writes are the texts of `dvg_text`.
+//! are those of `dvg_words`. What it reads are the texts of `dvg_text`, and what it writes the lines of `dvg_lines`.
 //!
 //! An engine reads its whole input before it writes, and takes no memory after its first write: its lines are
 //! made in an array of fixed size (that what writes is handed no allocator is seen by reading). It stops at the
@@ -8,6 +8,7 @@
 
 mod checks;
 mod jobs;
+pub mod laws;
 mod lists;
 mod outcome;
 mod plays;
@@ -16,9 +17,10 @@ mod shows;
 
 pub use checks::{check_bound, check_text};
 pub use dvg_io::{DeviceFailed, ToolFault, Watched};
+pub use dvg_lines::Verdict;
 pub use dvg_logs::{LogVerdict, torn};
 pub use dvg_picture::{Outcome, picture};
-pub use dvg_text::{MOST_TEXT_BYTES, TextFault, Verdict};
+pub use dvg_text::{MOST_TEXT_BYTES, TextFault};
 pub use dvg_words::{Job, job, words_status};
 pub use jobs::perform;
 pub use lists::{MOST_LIST_BYTES, list};

@@ -8,7 +8,8 @@ ghost use Rattle.dvg_io.specs.Watching.{BeginsToWrite, CountsErrors, TakesAtMost
 
 use dvg_code::{Code, Listed, Listing, encode};
 use dvg_io::{DeviceFailed, ToolFault, Watched, collect_words, read_up_to, write_whole};
-use dvg_text::{Line, TextFault};
+use dvg_lines::Line;
+use dvg_text::TextFault;
 use std::alloc::Allocator;
 use std::io::{Read, Write};
 

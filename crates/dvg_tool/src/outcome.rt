@@ -5,9 +5,9 @@ ghost use Rattle.dvg_tool.specs.Outcomes.{FinishesAs, status_of};
 ghost use Rattle.dvg_io.specs.Watching.{device_of, failures_of};
 
 use dvg_io::{ToolFault, Watched};
+use dvg_lines::Verdict;
 use dvg_logs::LogVerdict;
 use dvg_picture::Outcome;
-use dvg_text::Verdict;
 use std::io::Write;
 
 /// What an engine that is done has to tell.

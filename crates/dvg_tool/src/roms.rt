@@ -1,14 +1,15 @@
 //! The engine `rom_text`.
 ghost use Rattle.std.specs.Prelude.{◌≡◌, ◌↔◌, ◌≤◌, ◌%◌, ◌++◌, length, IfErr, IfSome, IsErrOf};
-ghost use Rattle.dvg_text.specs.Lines.{rom_lines};
+ghost use Rattle.dvg_lines.specs.Lines.{rom_lines};
 ghost use Rattle.dvg_io.specs.Faults.{StopsBeforeWriting};
 ghost use Rattle.dvg_tool.specs.Roms.{WritesRom};
 ghost use Rattle.dvg_io.specs.Faults.{WritesText};
 ghost use Rattle.dvg_io.specs.Watching.{TakesAtMost, device_of, failures_of};
 
 use dvg_io::{ToolFault, Watched, collect_words, read_up_to, write_whole};
+use dvg_lines::Line;
 use dvg_mem::{FIRST_LARGE_ROM_WORD, FIRST_ROM_WORD, LARGE_ROM_BYTES, MEMORY_BYTES};
-use dvg_text::{Line, TextFault};
+use dvg_text::TextFault;
 use std::alloc::Allocator;
 use std::io::{Read, Write};
 

@@ -3,11 +3,11 @@ ghost use Rattle.std.specs.Prelude.{◌≡◌, ◌↔◌, ◌≤◌, flat_map, m
 ghost use Rattle.std.specs.Io.KnownBytes.{Appends};
 ghost use Rattle.dvg_world.specs.Entries.{shown_of};
 ghost use Rattle.dvg_io.specs.Faults.{WritesText};
-ghost use Rattle.dvg_text.specs.Shows.{head_line, shown, shown_entry, stroke_line, strokes_of};
+ghost use Rattle.dvg_lines.specs.Shows.{head_line, shown, shown_entry, stroke_line, strokes_of};
 ghost use Rattle.dvg_io.specs.Watching.{BeginsToWrite, CountsErrors, device_of, failures_of};
 
 use dvg_io::{DeviceFailed, ToolFault, Watched, write_strokes, write_whole};
-use dvg_text::Line;
+use dvg_lines::Line;
 use dvg_world::Entry;
 use std::alloc::Allocator;
 use std::io::Write;

@@ -1,6 +1,6 @@
 use Rattle.std.proofs.Common.{rules, flat_map}
 use Rattle.std.specs.Io.KnownBytes.{Appends}
-use Rattle.dvg_text.specs.Shows.{stroke_line}
+use Rattle.dvg_lines.specs.Shows.{stroke_line}
 use Rattle.dvg_io.specs.Watching.{BeginsToWrite, device_of}
 use Rattle.dvg_io.proofs.Went.{first_begun, or_second_begun}
 use Rattle.dvg_picture.proofs.writes.write_with_strokes.Goals as goal

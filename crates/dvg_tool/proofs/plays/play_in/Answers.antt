@@ -3,7 +3,7 @@ use Rattle.std.proofs.lemmas.Result.{err_from_is_err_and}
 use Rattle.dvg_world.specs.Entries.{shown_of}
 use Rattle.dvg_io.specs.Faults.{called}
 use Rattle.dvg_io.specs.Faults.{StopsWriting, WritesText}
-use Rattle.dvg_text.specs.Shows.{shown}
+use Rattle.dvg_lines.specs.Shows.{shown}
 use Rattle.dvg_text.specs.TraceGives.{GivesTrace, StopsReading}
 use Rattle.dvg_io.specs.Watching.{device_of}
 use Rattle.dvg_tool.proofs.Played.{few, log_shown, played_part, played_whole}

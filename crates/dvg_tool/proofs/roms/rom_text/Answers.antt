@@ -1,5 +1,5 @@
 use Rattle.std.proofs.Common.{◌≡◌, inl, inr, length, arith, rules, subst}
-use Rattle.dvg_text.specs.Lines.{rom_text}
+use Rattle.dvg_lines.specs.Lines.{rom_text}
 use Rattle.dvg_io.specs.Faults.{WritesText}
 use Rattle.dvg_io.specs.Watching.{device_of}
 use Rattle.dvg_tool.proofs.RomLines.{large_text, small_text, whole_rows}

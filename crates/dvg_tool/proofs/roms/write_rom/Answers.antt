@@ -1,5 +1,5 @@
 use Rattle.std.proofs.Common.{rules}
-use Rattle.dvg_text.specs.Lines.{rom_lines}
+use Rattle.dvg_lines.specs.Lines.{rom_lines}
 use Rattle.dvg_io.proofs.Went.{first_begun}
 use Rattle.dvg_tool.proofs.RomLines.{text_more}
 use Rattle.dvg_tool.proofs.roms.write_rom.Goals as goal

@@ -8,10 +8,9 @@ use Rattle.dvg_frame.specs.declared.place.FrameFault.TheVariants.{Empty, NoLabs,
 use Rattle.dvg_frame.specs.Layout.{size}
 use Rattle.dvg_frame.specs.Faults.{Accepts, Refuses}
 use Rattle.dvg_frame.specs.Picture.{IsBound}
-use Rattle.dvg_text.specs.DraftReading.{Gives}
-use Rattle.dvg_text.specs.Lines.{hex_3, spaced}
-use Rattle.dvg_text.specs.declared.verdict.Verdict.{Verdict}
-use Rattle.dvg_text.specs.declared.verdict.Verdict.TheVariants.{Good, Refused}
+use Rattle.dvg_lines.specs.Lines.{hex_3, spaced}
+use Rattle.dvg_lines.specs.declared.verdict.Verdict.{Verdict}
+use Rattle.dvg_lines.specs.declared.verdict.Verdict.TheVariants.{Good, Refused}
 
 -- what is said of a draft over a ROM: its number of words and its bound, where it is accepted, or the fault that is picked
 abbrev pub IsVerdict : List OpKind → List ℕ → Verdict → Type 0
@@ -40,10 +39,3 @@ abbrev pub verdict_line : Bool → Verdict → List ℕ
 verdict_line tells_bound (Good words bound) =
     codes "ok" ++ spaced (decimal words ∷ codes "words" ∷ cond tells_bound (decimal bound ∷ codes "fetches" ∷ []) []) ++ 10 ∷ []
 verdict_line tells_bound (Refused fault) = codes "fault" ++ spaced (fault_parts fault) ++ 10 ∷ []
-
--- the text denotes a draft and a ROM, over which the check says this of the draft
-pub record Judges (text : List ℕ) (verdict : Verdict) : Type 0 where
-  pub F : List OpKind
-  pub R : List ℕ
-  pub gives : Gives text F R
-  pub said : IsVerdict F R verdict

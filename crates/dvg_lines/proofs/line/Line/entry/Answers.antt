@@ -1,7 +1,7 @@
 use Rattle.std.proofs.Common.{◌∷◌, ◌++◌, [], codes, decimal, length, ap, ◌∙◌}
-use Rattle.dvg_text.specs.Lines.{hex_3, hex_4, spaced}
-use Rattle.dvg_text.proofs.Spaced.{spaced_more}
-use Rattle.dvg_text.proofs.line.Line.entry.Goals as goal
+use Rattle.dvg_lines.specs.Lines.{hex_3, hex_4, spaced}
+use Rattle.dvg_lines.proofs.Spaced.{spaced_more}
+use Rattle.dvg_lines.proofs.line.Line.entry.Goals as goal
 
 pub returns-in-Fetched-clause-text : goal.returns-in-Fetched-clause-text
 returns-in-Fetched-clause-text g c = rw c.in-Fetched.is c.fetched.ensures.text

@@ -1,6 +1,6 @@
 use Rattle.std.proofs.Common.{◌≡◌, ◌+◌, ◌*◌, ◌++◌, codes, length, map, take}
-use Rattle.dvg_text.specs.Lines.{hex_3, hex_4, spaced}
-use Rattle.dvg_text.proofs.line.Line.become_rom.Given as goal
+use Rattle.dvg_lines.specs.Lines.{hex_3, hex_4, spaced}
+use Rattle.dvg_lines.proofs.line.Line.become_rom.Given as goal
 
 abbrev pub invariant-loop-word : goal.invariant-loop-word
 invariant-loop-word l = record {

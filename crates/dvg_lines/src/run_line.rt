@@ -1,7 +1,7 @@
 //! Lines of what one run of the generator does.
 ghost use Rattle.std.specs.Prelude.{◌≡◌, ◌≤◌, ◌+◌, ◌++◌, length};
-ghost use Rattle.dvg_text.specs.Lines.{spaced};
-ghost use Rattle.dvg_text.specs.RunLines.{beam_parts, broke_line, endless_line, instruction_line};
+ghost use Rattle.dvg_lines.specs.Lines.{spaced};
+ghost use Rattle.dvg_lines.specs.RunLines.{beam_parts, broke_line, endless_line, instruction_line};
 
 use crate::line::Line;
 use dvg_code::Code;

@@ -1,7 +1,7 @@
 -- Parts of a line, one after the other.
 use Rattle.std.proofs.Common.{◌≡◌, ℕ, List, ◌∷◌, ◌++◌, ap, sym, ◌∙◌, append_assoc}
 use Rattle.std.proofs.lemmas.Grind.{flat_map-append}
-use Rattle.dvg_text.specs.Lines.{spaced}
+use Rattle.dvg_lines.specs.Lines.{spaced}
 
 -- a line with parts behind it, and then more
 pub spaced_more : (line middle last : List ℕ) (first more : List (List ℕ)) → middle ≡ line ++ spaced first → last ≡ middle ++ spaced more → last ≡ line ++ spaced (first ++ more)

@@ -1,10 +1,10 @@
 -- How what is said of a log is written.
 use Rattle.std.specs.Prelude.{ℕ, List, [], ◌∷◌, ◌++◌, codes, decimal}
 use Rattle.dvg_driver.specs.declared.action.Action.TheVariants.{Wrote}
-use Rattle.dvg_text.specs.Lines.{spaced}
-use Rattle.dvg_text.specs.Shows.{action_parts}
-use Rattle.dvg_text.specs.declared.log_verdict.LogVerdict.{LogVerdict}
-use Rattle.dvg_text.specs.declared.log_verdict.LogVerdict.TheVariants.{NotTorn, Torn}
+use Rattle.dvg_lines.specs.Lines.{spaced}
+use Rattle.dvg_lines.specs.Shows.{action_parts}
+use Rattle.dvg_lines.specs.declared.log_verdict.LogVerdict.{LogVerdict}
+use Rattle.dvg_lines.specs.declared.log_verdict.LogVerdict.TheVariants.{NotTorn, Torn}
 
 -- the line of what is said of a log; 10 is LF
 abbrev pub log_verdict_line : LogVerdict → List ℕ

@@ -1,8 +1,8 @@
 //! Lines of output, made without taking memory.
 ghost use Rattle.std.specs.Prelude.{◌≡◌, ◌≤◌, ◌<◌, ◌+◌, ◌++◌, ◌∷◌, [], List, ℕ, length, codes, decimal, true};
 ghost use Rattle.std.specs.Fmt.{digit_glyph};
-ghost use Rattle.dvg_text.specs.Lines.{hex_2, hex_3, hex_4, instr_parts, line_text, listed_parts, rom_line, spaced, vector_parts};
-ghost use Rattle.dvg_text.specs.Verdicts.{fault_parts, place_parts, verdict_line};
+ghost use Rattle.dvg_lines.specs.Lines.{hex_2, hex_3, hex_4, instr_parts, line_text, listed_parts, rom_line, spaced, vector_parts};
+ghost use Rattle.dvg_lines.specs.Verdicts.{fault_parts, place_parts, verdict_line};
 
 use crate::verdict::Verdict;
 use arrayvec::ArrayVec;

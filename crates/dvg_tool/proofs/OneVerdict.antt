@@ -3,11 +3,11 @@ use Rattle.std.proofs.Common.{◌≡◌, ℕ, List, ap, ap₂, subst, sym, ◌�
 use Rattle.dvg_frame.specs.declared.op.OpKind.{OpKind}
 use Rattle.dvg_frame.proofs.OneFault.{accepted_stays, one_fault}
 use Rattle.dvg_frame.proofs.Pictures.{one_picture}
-use Rattle.dvg_text.specs.declared.verdict.Verdict.{Verdict}
-use Rattle.dvg_text.specs.declared.verdict.Verdict.TheVariants.{Good, Refused}
+use Rattle.dvg_lines.specs.declared.verdict.Verdict.{Verdict}
+use Rattle.dvg_lines.specs.declared.verdict.Verdict.TheVariants.{Good, Refused}
 use Rattle.dvg_text.specs.RomTexts.{IsRomOf}
-use Rattle.dvg_text.specs.Verdicts.{IsVerdict}
-use Rattle.dvg_text.specs.Verdicts.{Judges}
+use Rattle.dvg_lines.specs.Verdicts.{IsVerdict}
+use Rattle.dvg_tool.specs.Checks.{Judges}
 use Rattle.dvg_text.proofs.DraftSteps.{one_meaning}
 use Rattle.dvg_text.proofs.OneRom.{one_rom}
 

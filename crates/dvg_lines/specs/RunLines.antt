@@ -4,7 +4,7 @@ use Rattle.dvg_code.specs.declared.instr.Instr.{Instr}
 use Rattle.dvg_gen.specs.declared.beam.Beam.{Beam}
 use Rattle.dvg_gen.specs.declared.taken.GenFault.{GenFault}
 use Rattle.dvg_gen.specs.Numbers.{fault_number}
-use Rattle.dvg_text.specs.Lines.{hex_3, listed_parts, spaced}
+use Rattle.dvg_lines.specs.Lines.{hex_3, listed_parts, spaced}
 
 -- where the beam is: its position in 1/512 units, and the global scale
 abbrev pub beam_parts : Beam → List (List ℕ)

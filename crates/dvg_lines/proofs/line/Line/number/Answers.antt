@@ -1,6 +1,6 @@
 use Rattle.std.proofs.Common.{◌≡◌, ◌∷◌, [], ◌++◌, length, ap, ◌∙◌, arith}
-use Rattle.dvg_text.specs.Lines.{spaced}
-use Rattle.dvg_text.proofs.line.Line.number.Goals as goal
+use Rattle.dvg_lines.specs.Lines.{spaced}
+use Rattle.dvg_lines.proofs.line.Line.number.Goals as goal
 
 pub part-requires : goal.part-requires
 part-requires g c = let same : length c.as_bytes.result.now ≡ length c.format.result.now = ap length c.as_bytes.ensures.value in omega arith

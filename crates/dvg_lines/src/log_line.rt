@@ -1,8 +1,8 @@
 //! Lines of what a log shows.
 ghost use Rattle.std.specs.Prelude.{◌≡◌, ◌≤◌, ◌+◌, ◌++◌, ◌∷◌, [], ℕ, length, codes, decimal};
 ghost use Rattle.dvg_world.specs.Entries.{shown_of};
-ghost use Rattle.dvg_text.specs.Lines.{hex_3, hex_4, spaced};
-ghost use Rattle.dvg_text.specs.Shows.{action_parts, entry_line, entry_parts, stroke_line};
+ghost use Rattle.dvg_lines.specs.Lines.{hex_3, hex_4, spaced};
+ghost use Rattle.dvg_lines.specs.Shows.{action_parts, entry_line, entry_parts, stroke_line};
 
 use crate::line::Line;
 use dvg_driver::Action;

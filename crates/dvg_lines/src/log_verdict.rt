@@ -1,6 +1,6 @@
 //! What `torn` says of a log.
 ghost use Rattle.std.specs.Prelude.{◌≡◌};
-ghost use Rattle.dvg_text.specs.LogVerdicts.{log_verdict_line};
+ghost use Rattle.dvg_lines.specs.LogVerdicts.{log_verdict_line};
 
 use crate::line::Line;
 use dvg_driver::Action;

@@ -1,0 +1,5 @@
+pub mod Lines
+pub mod Verdicts
+pub mod Shows
+pub mod LogVerdicts
+pub mod RunLines

@@ -1,5 +1,0 @@
-use Rattle.dvg_text.proofs.OneVerdict.{one_verdict}
-use Rattle.dvg_text.proofs.laws.one_verdict.Goals as goal
-
-pub returns : goal.returns
-returns c = one_verdict

@@ -1,0 +1,8 @@
+-- The law of what is said of drafts.
+use Rattle.std.specs.Prelude.{◌≡◌, ℕ, List}
+use Rattle.dvg_lines.specs.declared.verdict.Verdict.{Verdict}
+use Rattle.dvg_tool.specs.Checks.{Judges}
+
+-- of a text one verdict is given at most
+abbrev pub OneVerdict : Type 0
+OneVerdict = (text : List ℕ) (one other : Verdict) → Judges text one → Judges text other → other ≡ one
