@@ -1,8 +1,8 @@
 //! Events in a compact notation, and the entries that they lead to as text.
 use dvg_code::{Code, Instr};
 use dvg_frame::{Draft, Op, OpKind};
-use dvg_mem::{Image, Rom, Store};
 use dvg_lines::Line;
+use dvg_mem::{Image, Rom, Store};
 use dvg_world::{Entry, Event, MOST_EVENTS, Trace, run, run_trace};
 use std::alloc::{Allocator, Global};
 use std::test::Fail;
