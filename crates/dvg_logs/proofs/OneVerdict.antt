@@ -2,7 +2,7 @@
 use Rattle.std.proofs.Common.{◌≡◌, ◌<◌, ◌+◌, ◌-◌, ℕ, suc, List, [], ◌∷◌, ◌++◌, codes, length, take, drop, reverse, refl, sym, ap, ◌∙◌, subst, arith, append_assoc, length-append, ⊎_elim, inl, inr, Result, Ok, Err, IfErr, OnOk}
 use Rattle.std.specs.List.{AllZip}
 use Rattle.std.proofs.lemmas.Bool.{cases_lt}
-use Rattle.std.proofs.lemmas.List.{reverse-append, reverse-reverse}
+use Rattle.std.proofs.lemmas.List.{nil_from_length, reverse-append, reverse-reverse}
 use Rattle.std.proofs.Math.Seq.{take-append_seam, take-append-add, drop-append_seam}
 use Rattle.dvg_driver.specs.declared.action.Action.TheVariants.{Wrote}
 use Rattle.dvg_world.specs.Entries.{Acted, Started, Done, Cleared}
@@ -72,6 +72,7 @@ record Front (log : Log) (before : List (List ℕ)) (text : List ℕ) : Type 0 w
   pub tells_older : IsLogOf older before
   pub tells : Tells line text
 
+-- the same of what lines tell, the oldest first
 record Cut (all : List Line) (before : List (List ℕ)) (text : List ℕ) : Type 0 where
   pub front : List Line
   pub line : Line
@@ -115,6 +116,7 @@ record StopsAt (texts : List (List ℕ)) (k : ℕ) : Type 0 where
   pub fine : IsUntornLog log before
   pub stops : (told : Line) → Tells told line → IsTornLine log told
 
+-- what holds throughout a log holds throughout an older part of it
 behind_all : (P : Log → _ → _ → Type 0) (later log : Log) → Throughout P (later ++ log) → Throughout P log
 behind_all P [] log all = all
 behind_all P ((event ⟼ entry) ∷ later) log all = behind_all P later log all.1
@@ -149,10 +151,6 @@ one_stop {texts} {k} {j} one two =
 syntax_stops : {texts : List (List ℕ)} {n : ℕ} (at_fault : MeetsSyntax texts n) → StopsAt texts (length at_fault.before)
 syntax_stops at_fault = record { before = at_fault.before; line = at_fault.line; after = at_fault.after; cut = at_fault.cut; at = refl; log = at_fault.log; fine = at_fault.fine; stops = λ told tells. absurd (at_fault.wrong told tells) }
 
-none_later : {X : Type 0} (later : List X) → length later ≡ 0 → later ≡ []
-none_later [] e = refl
-none_later (x ∷ later) e = absurd (omega arith)
-
 torn_stops : {texts : List (List ℕ)} {n address byte : ℕ} (torn : IsTornAt texts n address byte) → StopsAt texts (length torn.before)
 torn_stops torn =
     let front = front_of torn.log torn.before torn.line [] torn.tells in
@@ -162,8 +160,8 @@ torn_stops torn =
     let two = ap length first.split ∙ length-append first.later ((first.event ⟼ first.entry) ∷ first.before) in
     let older = log_length front.older torn.before front.tells_older in
     let at = first.at in
-    let none = none_later front.later (omega arith) in
-    let no_more = none_later first.later (omega arith) in
+    let none = nil_from_length front.later (omega arith) in
+    let no_more = nil_from_length first.later (omega arith) in
     let same : front.line ∷ front.older ≡ (first.event ⟼ first.entry) ∷ first.before
     = sym (front.split ∙ ap (λ later. later ++ front.line ∷ front.older) none) ∙ (first.split ∙ ap (λ later. later ++ (first.event ⟼ first.entry) ∷ first.before) no_more) in
     let line : first.event ⟼ first.entry ≡ front.line = cc in
