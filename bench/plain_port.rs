@@ -21,6 +21,9 @@ use plain_world::{Entry, World};
 /// The most bytes that are staged.
 const MOST_STAGED: usize = 6144;
 
+/// The greatest number of a request.
+const LAST_REQUEST: u8 = 20;
+
 /// The word address behind a ROM's last word.
 const ROM_END: usize = 0xC00;
 
@@ -371,6 +374,7 @@ impl Device {
             }),
             20 => self.stroke(request).map_or(0, |stroke| u64::from(stroke.z)),
             _ => match &mut self.part {
+                Part::Nothing if request as u8 > LAST_REQUEST => UNKNOWN,
                 Part::Nothing => CLOSED,
                 Part::World(world) => {
                     ask_world(world, request, &self.draft, &self.staged, &mut self.picture)

@@ -1,26 +1,37 @@
-/* Gerbilargent's device, for C99 and C++: both ends of the vector RAM of Atari's Digital Vector Generator, and each end
- * alone. `./lib` builds the archive build/libdvg.a, which is all that is linked beside this header.
+/* Gerbilargent's device, for C99 and C++: both ends of the vector RAM of Atari's Digital Vector
+ * Generator, and each end alone. `./lib` builds the archive build/libdvg.a, which is all that is
+ * linked beside this header.
  *
- * A device is asked by a number of 64 bits, and answers one (dvg_turn). Each number is a request, in each order, and each
- * has an answer: no request can do harm. The functions below it only put requests together and take answers apart.
+ * A device is asked by a number of 64 bits, and answers one (dvg_turn). Each number is a request,
+ * in each order, and each has an answer: no request can do harm. The functions below it only put
+ * requests together and take answers apart.
  *
  * What opens in a device is one of three:
  *
  *   a world             both ends, over a RAM and a ROM that it holds
- *   a driver alone      it is handed the HALT flag and byte 001 of a RAM, and answers what is to be written there
- *   a generator alone   it says which byte it wants, is handed that byte, and answers the strokes of a whole run
+ *   a driver alone      it is handed the HALT flag and byte 001 of a RAM, and answers what is to
+ *                       be written there
+ *   a generator alone   it says which byte it wants, is handed that byte, and answers the strokes
+ *                       of a whole run
  *
  * What the caller owes. Nothing checks these four lines, and nothing else is trusted of a caller:
  *
- *   1. A dvg * is one that dvg_new wrote and dvg_free didn't get, and nothing but these functions touches what it points to; before dvg_new, *out holds some pointer, as NULL.
- *   2. A device stays on its thread, is given to one call at a time, and to none in a signal handler or in the forked child of a process with threads.
- *   3. malloc, realloc and free are those of one allocator, which aligns a block to each power of two up to 16 that divides its size; or the caller has the three functions of dvg_heap.h.
- *   4. A call finds DVG_STACK_KB KB of room on the stack.
+ *   1. Initialise the pointer before the call: `dvg *device = NULL;`, then `dvg_new(&device)`. Hand
+ *      the other functions only a pointer that dvg_new wrote and dvg_free didn't get yet, and touch
+ *      what it points to by these functions alone.
+ *   2. Use a device on the thread that made it, in one call at a time, and never in a signal
+ *      handler, or in the forked child of a process with threads.
+ *   3. Link the C library's malloc, realloc and free: those of glibc, musl, macOS or Windows are
+ *      fine. An allocator of your own must align a block to each power of two up to 16 that divides
+ *      its size. Or define the three functions of dvg_heap.h.
+ *   4. Call with DVG_STACK_KB KB of room on the stack.
  *
- * On the heap a device takes 5.3 KB, a world 12.5 KB more, a driver alone 8.3 KB, each with a ROM of 2,048 bytes, and a generator alone nothing; 207 KB
- * for the tables of the check at the first offer, which does without them where they are refused; and 20 bytes or so for each
- * stroke. What was open leaves its memory to what is opened next, until dvg_shut or dvg_free.
- */
+ * On the heap a device takes at most DVG_HEAP_KB KB, and besides these what is staged, and 20 bytes
+ * for each stroke of the run that is open and of the newest finished one; the room for strokes
+ * doubles as it grows. Memory is taken by dvg_new, by what stages bytes or opens something, and by
+ * a fetch that completes a stroke; an offer, a tick and a strobe take none, nor does a reset, but
+ * for the bytes that dvg_reset_all stages. What was open leaves its memory to what is opened next,
+ * until dvg_shut or dvg_free. */
 #ifndef DVG_H
 #define DVG_H
 
@@ -35,6 +46,9 @@ extern "C" {
 /* The room on the stack that a call needs at most, in KB of 1,024 bytes. */
 #define DVG_STACK_KB 256
 
+/* What a device takes of the heap at most, in KB, besides its strokes and what is staged. */
+#define DVG_HEAP_KB 256
+
 /* The bytes of a RAM, of the smaller ROM and of the larger one. */
 #define DVG_RAM_BYTES 2048
 #define DVG_ROM_BYTES 2048
@@ -46,13 +60,21 @@ extern "C" {
 /* The most operations of a draft. */
 #define DVG_MOST_OPERATIONS 511
 
+/* Within how many words `dvg picture` looks for the end of a run: a cap for dvg_draw. */
+#define DVG_MOST_WORDS 65536
+
 /* A device. Only pointers to it are of use. */
 typedef struct dvg dvg;
 
 /* --- What is linked --- */
 
-/* Makes a device in which nothing is open, and writes it to *out, which holds a pointer before, as NULL. 0: it did. 2: there was no
- * memory, and *out is as it was. */
+/* Makes a device in which nothing is open, and writes it to *out. Initialise the pointer before the
+ * call:
+ *
+ *     dvg *device = NULL;
+ *     if (dvg_new(&device) != 0) { .. }
+ *
+ * 0: it did. 2: there was no memory, and *out is as it was. */
 uint32_t dvg_new(dvg **out);
 
 /* One request, and its answer. */
@@ -63,8 +85,9 @@ void dvg_free(dvg *device);
 
 /* --- Requests and answers --- */
 
-/* The lowest byte of a request says which it is. What it brings stands above: a flag in bit 8, a byte in bits 16 to 23, a
- * count in bits 24 to 39, the number of a stroke from bit 8 on; and the fields of DVG_REQUEST_PUSH, as dvg_push has them. */
+/* The lowest byte of a request says which it is. What it brings stands above: a flag in bit 8, a
+ * byte in bits 16 to 23, a count in bits 24 to 39, the number of a stroke from bit 8 on; and the
+ * fields of DVG_REQUEST_PUSH, as dvg_push has them. */
 enum dvg_request {
     DVG_REQUEST_OFFER = 0,
     DVG_REQUEST_REDRAW = 1,
@@ -89,37 +112,50 @@ enum dvg_request {
     DVG_REQUEST_STROKE_INTENSITY = 20
 };
 
-/* The kind of an answer, with what its address and its value are; both are 0 where nothing is said of them. A word
- * address is 000 to FFF (hexadecimal), and a byte address 0 to 2,047. After a kind marked = nothing has changed. */
+/* The kind of an answer, with what its address and its value are; both are 0 where nothing is said
+ * of them. A word address is 0x000 to 0xFFF, and a byte address 0 to 2,047.
+ *
+ * A request that is answered with a kind marked = has changed nothing. This is said of one request:
+ * a function below that stages bytes and then asks makes several, and says itself what is left
+ * after a refusal. */
 typedef enum dvg_kind {
-    DVG_OFFERED = 0,            /*   the draft was checked, and the driver took its frame */
-    DVG_REFUSED = 1,            /* = the check refused the draft: dvg_fault_of, dvg_in_rom; address: where */
-    DVG_BUSY = 2,               /* = the driver isn't idle */
-    DVG_ASKED = 3,              /*   the driver took the redraw */
-    DVG_NOTHING_PUBLISHED = 4,  /* = the driver has published no frame since its reset */
-    DVG_PEEK = 5,               /*   the driver looked at byte 001 */
-    DVG_WROTE = 6,              /*   the driver wrote the byte `value` at the byte address `address` */
-    DVG_READ = 7,               /*   the driver read the HALT flag; value: 1 where the generator is halted, else 0 */
-    DVG_SENT = 8,               /*   the driver sent a start strobe */
-    DVG_IDLE = 9,               /*   the driver did nothing */
-    DVG_STARTED = 10,           /*   a run began at word zero */
-    DVG_NO_STROBE = 11,         /* = the strobe had no effect, as the driver has sent none */
-    DVG_LOW = 12,               /*   the low byte `value` of the word at the word address `address` was fetched */
-    DVG_FETCHED = 13,           /*   the word `value` at the word address `address` was fetched, and the run goes on */
-    DVG_DONE = 14,              /*   the same, and the word is a HALT: the run's strokes can be asked for */
-    DVG_BROKE = 15,             /*   the fetch at the word address `address` broke the run: dvg_break_of */
-    DVG_STILL = 16,             /* = no run is open */
-    DVG_CLEARED = 17,           /*   it was done */
-    DVG_PUSHED = 18,            /*   value: the operation's number in the draft, from 0 */
-    DVG_NO_OPERATION = 19,      /* = a field is out of its range */
-    DVG_FULL = 20,              /* = the draft has 511 operations, or more than 6,144 bytes would be staged */
-    DVG_STAGED = 21,            /*   value: how many bytes are staged */
-    DVG_OPENED = 22,            /*   it is open, in place of what was */
-    DVG_WRONG_SIZE = 23,        /* = other than as many bytes are staged as it takes */
-    DVG_CLOSED = 24,            /*   nothing is open */
-    DVG_WANTED = 25,            /* = a byte of the word at the word address `address` is wanted; value: 1 the high one, 0 the low one */
-    DVG_UNKNOWN = 254,          /* = there is no such request, or none of what is open */
-    DVG_NO_MEMORY = 255         /* = there was no memory for it */
+    DVG_OFFERED = 0,           /*   the draft was checked, and the driver took its frame */
+    DVG_REFUSED = 1,           /* = the check refused the draft; address: where; value: the
+                                    fault's number, and 0x100 more where its place is in the
+                                    ROM: dvg_fault_of, dvg_in_rom */
+    DVG_BUSY = 2,              /* = the driver isn't idle */
+    DVG_ASKED = 3,             /*   the driver took the redraw */
+    DVG_NOTHING_PUBLISHED = 4, /* = the driver has published no frame since its reset */
+    DVG_PEEK = 5,              /*   the driver looked at byte 001 */
+    DVG_WROTE = 6,             /*   the driver wrote the byte `value` at this byte address */
+    DVG_READ = 7,              /*   the driver read the HALT flag; value: 1 where the generator
+                                    is halted, else 0 */
+    DVG_SENT = 8,              /*   the driver sent a start strobe */
+    DVG_IDLE = 9,              /*   the driver did nothing */
+    DVG_STARTED = 10,          /*   a run began at word zero */
+    DVG_NO_STROBE = 11,        /* = the strobe had no effect, as the driver has sent none */
+    DVG_LOW = 12,              /*   the low byte `value` of the word at this word address was
+                                    fetched */
+    DVG_FETCHED = 13,          /*   the word `value` at this word address was fetched, and the
+                                    run goes on */
+    DVG_DONE = 14,             /*   the same, and the word is a HALT: the run's strokes can be
+                                    asked for */
+    DVG_BROKE = 15,            /*   the fetch at this word address broke the run: dvg_break_of */
+    DVG_STILL = 16,            /* = no run is open */
+    DVG_CLEARED = 17,          /*   it was done */
+    DVG_PUSHED = 18,           /*   value: the operation's number in the draft, from 0 */
+    DVG_NO_OPERATION = 19,     /* = a field is out of its range */
+    DVG_FULL = 20,             /* = the draft has 511 operations, or more than 6,144 bytes
+                                    would be staged */
+    DVG_STAGED = 21,           /*   value: how many bytes are staged */
+    DVG_OPENED = 22,           /*   it is open, in place of what was */
+    DVG_WRONG_SIZE = 23,       /* = other than as many bytes are staged as it takes */
+    DVG_CLOSED = 24,           /*   nothing is open */
+    DVG_WANTED = 25,           /* = a byte of the word at this word address is wanted; value:
+                                    1 the high one, 0 the low one */
+    DVG_UNKNOWN = 254,         /* = there is no such request, whatever is open, or none of
+                                    what is open */
+    DVG_NO_MEMORY = 255        /* = there was no memory for it */
 } dvg_kind;
 
 /* An answer, but for those that are a number, a place or an intensity. */
@@ -129,8 +165,9 @@ typedef struct dvg_answer {
     uint16_t value;
 } dvg_answer;
 
-/* Why the check refuses a draft: the numbers of `dvg check`. The address of the answer is the number of an operation where
- * the fault has a place there, or a word address where dvg_in_rom says so. */
+/* Why the check refuses a draft: the numbers of `dvg check`. The address of the answer is the
+ * number of an operation where the fault has a place there, or a word address where dvg_in_rom says
+ * so. */
 typedef enum dvg_fault {
     DVG_FAULT_NONE = 0,         /* the answer is no refusal */
     DVG_FAULT_EMPTY = 1,        /* no operation */
@@ -152,7 +189,8 @@ typedef enum dvg_break {
     DVG_BREAK_HOLE = 3          /* no memory answers */
 } dvg_break;
 
-/* A line that was drawn: from x0, y0 to x1, y1, in 1/512 of a screen unit, 0 to 2,097,151 each, with intensity z, 1 to 15. */
+/* A line that was drawn: from x0, y0 to x1, y1, in 1/512 of a screen unit, 0 to 2,097,151 each,
+ * with intensity z, 1 to 15. */
 typedef struct dvg_stroke {
     uint32_t x0;
     uint32_t y0;
@@ -195,27 +233,97 @@ static inline dvg_break dvg_break_of(dvg_answer answer)
     return answer.kind == DVG_BROKE ? (dvg_break)(answer.value & 0x3) : DVG_BREAK_NONE;
 }
 
+/* --- Texts --- */
+
+/* The name of a kind, a fault or a break, in English and lower case, as the program `dvg` has it
+ * where it has it. A number that is none has a text, too: none of these answers a null pointer. The
+ * texts stay as long as the program runs. */
+
+static inline const char *dvg_kind_text(dvg_kind kind)
+{
+    switch (kind) {
+    case DVG_OFFERED: return "offered";
+    case DVG_REFUSED: return "refused";
+    case DVG_BUSY: return "busy";
+    case DVG_ASKED: return "asked";
+    case DVG_NOTHING_PUBLISHED: return "nothing published";
+    case DVG_PEEK: return "peek";
+    case DVG_WROTE: return "wrote";
+    case DVG_READ: return "read";
+    case DVG_SENT: return "sent";
+    case DVG_IDLE: return "idle";
+    case DVG_STARTED: return "started";
+    case DVG_NO_STROBE: return "no strobe";
+    case DVG_LOW: return "low";
+    case DVG_FETCHED: return "fetched";
+    case DVG_DONE: return "done";
+    case DVG_BROKE: return "broke";
+    case DVG_STILL: return "still";
+    case DVG_CLEARED: return "cleared";
+    case DVG_PUSHED: return "pushed";
+    case DVG_NO_OPERATION: return "no operation";
+    case DVG_FULL: return "full";
+    case DVG_STAGED: return "staged";
+    case DVG_OPENED: return "opened";
+    case DVG_WRONG_SIZE: return "wrong size";
+    case DVG_CLOSED: return "closed";
+    case DVG_WANTED: return "wanted";
+    case DVG_UNKNOWN: return "unknown";
+    case DVG_NO_MEMORY: return "no memory";
+    }
+    return "no kind";
+}
+
+static inline const char *dvg_fault_text(dvg_fault fault)
+{
+    switch (fault) {
+    case DVG_FAULT_NONE: return "none";
+    case DVG_FAULT_EMPTY: return "empty";
+    case DVG_FAULT_NO_LABS: return "no labs";
+    case DVG_FAULT_TOO_LONG: return "too long";
+    case DVG_FAULT_TARGET: return "target";
+    case DVG_FAULT_RUNS_OFF: return "runs off";
+    case DVG_FAULT_OUT_OF_ROM: return "out of rom";
+    case DVG_FAULT_TOO_DEEP: return "too deep";
+    case DVG_FAULT_NO_CALLER: return "no caller";
+    case DVG_FAULT_LOOPS: return "loops";
+    }
+    return "no fault";
+}
+
+static inline const char *dvg_break_text(dvg_break why)
+{
+    switch (why) {
+    case DVG_BREAK_NONE: return "none";
+    case DVG_BREAK_STACK_OVER: return "fifth call";
+    case DVG_BREAK_STACK_UNDER: return "return without a call";
+    case DVG_BREAK_HOLE: return "no memory there";
+    }
+    return "no break";
+}
+
 /* --- Staged bytes --- */
 
-/* Stages a byte so often, behind the bytes that are staged. DVG_STAGED; DVG_FULL; DVG_NO_MEMORY. */
+/* Stages a byte so often, after the bytes that are staged. DVG_STAGED; DVG_FULL; DVG_NO_MEMORY. */
 static inline dvg_answer dvg_stage_byte(dvg *device, uint8_t byte, uint16_t count)
 {
     return dvg_ask(device, DVG_REQUEST_STAGE | (uint64_t)byte << 16 | (uint64_t)count << 24);
 }
 
-/* Stages bytes, by one request for each run of equal ones. `bytes` may be null where there are none. DVG_STAGED; DVG_FULL or
- * DVG_NO_MEMORY, and then some of the first bytes may be staged. */
+/* Stages bytes, by one request for each run of equal ones. `bytes` may be null where there are
+ * none. DVG_STAGED. DVG_FULL or DVG_NO_MEMORY: what was staged before is still staged, and some of
+ * the first of these bytes may be, too. */
 static inline dvg_answer dvg_stage_bytes(dvg *device, const uint8_t *bytes, size_t count)
 {
     dvg_answer answer = dvg_stage_byte(device, 0, 0);
     size_t first = 0;
     while (first < count && answer.kind == DVG_STAGED) {
-        size_t behind = first + 1;
-        while (behind < count && behind - first < 0xFFFF && bytes[behind] == bytes[first]) {
-            behind++;
+        size_t after = first + 1;
+        while (after < count && after - first < 0xFFFF && bytes[after] == bytes[first]) {
+            after++;
         }
-        answer = dvg_stage_byte(device, bytes[first], (uint16_t)(behind - first));
-        first = behind;
+        answer = dvg_stage_byte(device, bytes[first], (uint16_t)(after - first));
+        first = after;
     }
     return answer;
 }
@@ -226,15 +334,20 @@ static inline dvg_answer dvg_unstage(dvg *device)
     return dvg_ask(device, DVG_REQUEST_UNSTAGE);
 }
 
-/* Stages the 2,048 bytes of a RAM, or as many zeros where `ram` is null, in place of what is staged. */
+/* Stages the 2,048 bytes of a RAM, or as many zeros where `ram` is null, in place of what is
+ * staged. DVG_STAGED. DVG_NO_MEMORY: what was staged before is gone, and some of the first of these
+ * bytes may be staged. */
 static inline dvg_answer dvg_stage_ram(dvg *device, const uint8_t *ram)
 {
     dvg_unstage(device);
-    return ram == NULL ? dvg_stage_byte(device, 0, DVG_RAM_BYTES) : dvg_stage_bytes(device, ram, DVG_RAM_BYTES);
+    if (ram == NULL) {
+        return dvg_stage_byte(device, 0, DVG_RAM_BYTES);
+    }
+    return dvg_stage_bytes(device, ram, DVG_RAM_BYTES);
 }
 
-/* Asks for this, for which bytes were staged with this answer, and takes them away: more bytes than can be staged are the wrong
- * size for each request. */
+/* Asks for this, for which bytes were staged with this answer, and takes them away: more bytes than
+ * can be staged are the wrong size for each request. */
 static inline dvg_answer dvg_ask_staged(dvg *device, dvg_answer staged, uint64_t request)
 {
     if (staged.kind == DVG_STAGED) {
@@ -248,13 +361,17 @@ static inline dvg_answer dvg_ask_staged(dvg *device, dvg_answer staged, uint64_t
 
 /* --- Opening and shutting --- */
 
-/* Each opens something in place of what is open, keeps the draft, forgets the strokes, and leaves no byte staged. Where the
- * answer isn't DVG_OPENED, what was open is as it was. */
+/* Each opens something in place of what is open, keeps the draft, and forgets the strokes. Where
+ * the answer isn't DVG_OPENED, what was open, the draft and the strokes are as they were. The first
+ * two stage bytes for it: whatever the answer, no byte is staged then, also none that was before.
+ */
 
-/* Opens a world, over a RAM that holds the 2,048 bytes at `ram`, or zeros where that is null, and a ROM of the 2,048 or 4,096
- * bytes at `rom`. Nothing is copied but here: the caller keeps both. `rom` may be null where the length is 0.
- * DVG_OPENED; DVG_WRONG_SIZE: that is no length of a ROM; DVG_NO_MEMORY. */
-static inline dvg_answer dvg_open_world(dvg *device, const uint8_t *ram, const uint8_t *rom, size_t rom_length)
+/* Opens a world, over a RAM that holds the 2,048 bytes at `ram`, or zeros where that is null, and a
+ * ROM of the 2,048 or 4,096 bytes at `rom`. Nothing is copied but here: the caller keeps both.
+ * `rom` may be null where the length is 0. DVG_OPENED; DVG_WRONG_SIZE: that is no length of a ROM;
+ * DVG_NO_MEMORY. */
+static inline dvg_answer dvg_open_world(dvg *device, const uint8_t *ram, const uint8_t *rom,
+                                        size_t rom_length)
 {
     dvg_answer staged = dvg_stage_ram(device, ram);
     if (staged.kind == DVG_STAGED) {
@@ -263,12 +380,14 @@ static inline dvg_answer dvg_open_world(dvg *device, const uint8_t *ram, const u
     return dvg_ask_staged(device, staged, DVG_REQUEST_OPEN_WORLD);
 }
 
-/* Opens a driver alone, just reset. Its drafts are checked over a ROM of the 2,048 or 4,096 bytes at `rom`. Answers as
- * dvg_open_world. */
+/* Opens a driver alone, just reset. Its drafts are checked over a ROM of the 2,048 or 4,096 bytes
+ * at `rom`. Answers as dvg_open_world. */
 static inline dvg_answer dvg_open_driver(dvg *device, const uint8_t *rom, size_t rom_length)
 {
+    dvg_answer staged;
     dvg_unstage(device);
-    return dvg_ask_staged(device, dvg_stage_bytes(device, rom, rom_length), DVG_REQUEST_OPEN_DRIVER);
+    staged = dvg_stage_bytes(device, rom, rom_length);
+    return dvg_ask_staged(device, staged, DVG_REQUEST_OPEN_DRIVER);
 }
 
 /* Opens a generator alone, halted, with the beam at 0, 0 and scale 0. DVG_OPENED. */
@@ -277,8 +396,8 @@ static inline dvg_answer dvg_open_generator(dvg *device)
     return dvg_ask(device, DVG_REQUEST_OPEN_GENERATOR);
 }
 
-/* Shuts what is open, and gives its memory back, with the draft, the staged bytes and the strokes: the device is as dvg_new
- * made it. DVG_CLOSED. */
+/* Shuts what is open, and gives its memory back, with the draft, the staged bytes and the strokes:
+ * the device is as dvg_new made it. DVG_CLOSED. */
 static inline dvg_answer dvg_shut(dvg *device)
 {
     return dvg_ask(device, DVG_REQUEST_SHUT);
@@ -286,15 +405,23 @@ static inline dvg_answer dvg_shut(dvg *device)
 
 /* --- Drafts --- */
 
-/* A device has one draft, whatever is open, and an offer hands it to the driver. Each of these adds one operation to it:
- * DVG_PUSHED with its number; DVG_NO_OPERATION where a field is out of its range, whatever int it is; DVG_FULL. */
+/* A device has one draft, whatever is open, and an offer hands it to the driver. Each of these adds
+ * one operation to it: DVG_PUSHED with its number; DVG_NO_OPERATION where a field is out of its
+ * range, whatever int it is; DVG_FULL. */
 
-/* An operation by its number and fields. Fields that don't fit into their bits are those of no operation. */
-static inline dvg_answer dvg_push(dvg *device, bool fits, uint8_t kind, int scale, int z, int x, int y)
+/* An operation by its number and fields. Fields that don't fit into their bits are those of no
+ * operation. */
+static inline dvg_answer dvg_push(dvg *device, bool fits, uint8_t kind, int scale, int z, int x,
+                                  int y)
 {
-    uint64_t known = fits && scale >= 0 && scale <= 0xFF && z >= 0 && z <= 0xFF ? kind : 0xFF;
-    return dvg_ask(device, DVG_REQUEST_PUSH | known << 8 | (uint64_t)(scale & 0xFF) << 16 | (uint64_t)(z & 0xFF) << 24
-                               | (uint64_t)(x & 0xFFFF) << 32 | (uint64_t)(y & 0xFFFF) << 48);
+    bool known = fits && scale >= 0 && scale <= 0xFF && z >= 0 && z <= 0xFF;
+    uint64_t request = DVG_REQUEST_PUSH;
+    request |= (uint64_t)(known ? kind : 0xFF) << 8;
+    request |= (uint64_t)(scale & 0xFF) << 16;
+    request |= (uint64_t)(z & 0xFF) << 24;
+    request |= (uint64_t)(x & 0xFFFF) << 32;
+    request |= (uint64_t)(y & 0xFFFF) << 48;
+    return dvg_ask(device, request);
 }
 
 /* Whether a number fits into 16 bits, with a sign or without one. */
@@ -313,27 +440,30 @@ static inline dvg_answer dvg_clear(dvg *device)
     return dvg_ask(device, DVG_REQUEST_CLEAR);
 }
 
-/* A VCTR, two words: moves the beam by dx and dy, -1,023 to 1,023, times two to the power of s, in 1/512 of a screen unit, and draws
- * with intensity z, 1 to 15, or nothing, 0. Here s is the sum of this scale, 0 to 9, and the global one, modulo 16; where it is over
- * 9, nothing moves. */
+/* A VCTR, two words: moves the beam by dx and dy, -1,023 to 1,023, times two to the power of s, in
+ * 1/512 of a screen unit, and draws with intensity z, 1 to 15, or nothing, 0. Here s is the sum of
+ * this scale, 0 to 9, and the global one, modulo 16; where it is over 9, nothing moves. */
 static inline dvg_answer dvg_vctr(dvg *device, int scale, int dx, int dy, int z)
 {
     return dvg_push(device, dvg_fits_signed(dx) && dvg_fits_signed(dy), 0, scale, z, dx, dy);
 }
 
-/* An SVEC, one word: the same, but dx and dy are -3 to 3 and count 256 times as much, and this scale is 2 to 5. */
+/* An SVEC, one word: the same, but dx and dy are -3 to 3 and count 256 times as much, and this
+ * scale is 2 to 5. */
 static inline dvg_answer dvg_svec(dvg *device, int scale, int dx, int dy, int z)
 {
     return dvg_push(device, dvg_fits_signed(dx) && dvg_fits_signed(dy), 1, scale, z, dx, dy);
 }
 
-/* A LABS, two words: puts the beam at x, y, 0 to 4,095 screen units, and sets the global scale, 0 to 15. */
+/* A LABS, two words: puts the beam at x, y, 0 to 4,095 screen units, and sets the global scale, 0
+ * to 15. */
 static inline dvg_answer dvg_labs(dvg *device, int x, int y, int scale)
 {
     return dvg_push(device, dvg_fits(x) && dvg_fits(y), 2, scale, 0, x, y);
 }
 
-/* A call of, and a jump to, the operation of this number, 0 to 65,535, which may be added later; one word. */
+/* A call of, and a jump to, the operation of this number, 0 to 65,535, which may be added later;
+ * one word. */
 static inline dvg_answer dvg_call(dvg *device, int operation)
 {
     return dvg_push(device, dvg_fits(operation), 3, 0, 0, operation, 0);
@@ -343,7 +473,8 @@ static inline dvg_answer dvg_jump(dvg *device, int operation)
     return dvg_push(device, dvg_fits(operation), 4, 0, 0, operation, 0);
 }
 
-/* A call of, and a jump to, a word of the ROM, by its word address, 000 to FFF (hexadecimal); one word. */
+/* A call of, and a jump to, a word of the ROM, by its word address, 000 to FFF (hexadecimal); one
+ * word. */
 static inline dvg_answer dvg_call_rom(dvg *device, int address)
 {
     return dvg_push(device, dvg_fits(address), 5, 0, 0, address, 0);
@@ -367,7 +498,8 @@ static inline dvg_answer dvg_halt(dvg *device)
 
 /* --- Events --- */
 
-/* Each answers DVG_CLOSED where nothing is open, and DVG_UNKNOWN where it is none of what is open. */
+/* Each answers DVG_CLOSED where nothing is open, and DVG_UNKNOWN where it is none of what is open.
+ * (By dvg_turn, a number that is no request is answered DVG_UNKNOWN also while nothing is open.) */
 
 /* Of a world or a driver: offers the draft. DVG_OFFERED; DVG_REFUSED; DVG_BUSY. */
 static inline dvg_answer dvg_offer(dvg *device)
@@ -375,7 +507,8 @@ static inline dvg_answer dvg_offer(dvg *device)
     return dvg_ask(device, DVG_REQUEST_OFFER);
 }
 
-/* Of a world or a driver: asks to have the published frame drawn again. DVG_ASKED; DVG_NOTHING_PUBLISHED; DVG_BUSY. */
+/* Of a world or a driver: asks to have the published frame drawn again. DVG_ASKED;
+ * DVG_NOTHING_PUBLISHED; DVG_BUSY. */
 static inline dvg_answer dvg_redraw(dvg *device)
 {
     return dvg_ask(device, DVG_REQUEST_REDRAW);
@@ -387,8 +520,9 @@ static inline dvg_answer dvg_tick(dvg *device)
     return dvg_ask(device, DVG_REQUEST_TICK);
 }
 
-/* Of a driver: the same, where `halted` is the HALT flag, and byte1 byte 001 of the RAM. What DVG_WROTE says is to be written
- * by the caller, before the next tick and the next fetch, and what DVG_SENT says is the caller's to send. */
+/* Of a driver: the same, where `halted` is the HALT flag, and byte1 byte 001 of the RAM. What
+ * DVG_WROTE says is to be written by the caller, before the next tick and the next fetch, and what
+ * DVG_SENT says is the caller's to send. */
 static inline dvg_answer dvg_driver_tick(dvg *device, bool halted, uint8_t byte1)
 {
     return dvg_ask(device, DVG_REQUEST_TICK | (uint64_t)halted << 8 | (uint64_t)byte1 << 16);
@@ -400,20 +534,22 @@ static inline dvg_answer dvg_strobe(dvg *device)
     return dvg_ask(device, DVG_REQUEST_STROBE);
 }
 
-/* Of a world: the generator fetches a byte, the low byte of a word and then its high byte. DVG_LOW; DVG_FETCHED; DVG_DONE;
- * DVG_BROKE, which no world shows; DVG_STILL; DVG_NO_MEMORY. */
+/* Of a world: the generator fetches a byte, the low byte of a word and then its high byte. DVG_LOW;
+ * DVG_FETCHED; DVG_DONE; DVG_BROKE, which no world shows; DVG_STILL; DVG_NO_MEMORY. */
 static inline dvg_answer dvg_fetch(dvg *device)
 {
     return dvg_ask(device, DVG_REQUEST_FETCH);
 }
 
-/* Of a generator: which byte it wants. DVG_WANTED; DVG_STILL: it is halted, which is the HALT flag. */
+/* Of a generator: which byte it wants. DVG_WANTED; DVG_STILL: it is halted, which is the HALT flag.
+ */
 static inline dvg_answer dvg_wants(dvg *device)
 {
     return dvg_ask(device, DVG_REQUEST_WANTS);
 }
 
-/* Of a generator: it is handed the byte that it wants. Answers as dvg_fetch. */
+/* Of a generator: it is handed the byte that it wants. Answers as dvg_fetch, and DVG_BROKE where
+ * the byte ends a word that breaks the run. */
 static inline dvg_answer dvg_generator_fetch(dvg *device, uint8_t byte)
 {
     return dvg_ask(device, DVG_REQUEST_FETCH | (uint64_t)byte << 16);
@@ -431,14 +567,16 @@ static inline dvg_answer dvg_reset_generator(dvg *device)
     return dvg_ask(device, DVG_REQUEST_RESET_GENERATOR);
 }
 
-/* Of a world or a driver: a reset of the processor alone, which is one of the driver. DVG_CLEARED. */
+/* Of a world or a driver: a reset of the processor alone, which is one of the driver. DVG_CLEARED.
+ */
 static inline dvg_answer dvg_reset_processor(dvg *device)
 {
     return dvg_ask(device, DVG_REQUEST_RESET_PROCESSOR);
 }
 
-/* Of a world: a reset of the whole system, after which the RAM holds the 2,048 bytes at `ram`, or zeros where that is null.
- * It leaves no byte staged. DVG_CLEARED; DVG_NO_MEMORY. */
+/* Of a world: a reset of the whole system, after which the RAM holds the 2,048 bytes at `ram`, or
+ * zeros where that is null. DVG_CLEARED. DVG_NO_MEMORY: the bytes could not be staged, and the
+ * world is as it was. Whatever the answer, no byte is staged then, also none that was before. */
 static inline dvg_answer dvg_reset_all(dvg *device, const uint8_t *ram)
 {
     return dvg_ask_staged(device, dvg_stage_ram(device, ram), DVG_REQUEST_RESET_ALL);
@@ -465,6 +603,94 @@ static inline dvg_stroke dvg_stroke_at(dvg *device, uint64_t number)
     stroke.y1 = (uint32_t)(to >> 32);
     stroke.z = (uint8_t)(dvg_turn(device, DVG_REQUEST_STROKE_INTENSITY | place) & 0xFF);
     return stroke;
+}
+
+/* --- A memory, drawn once --- */
+
+/* Of a generator: it fetches the byte that it wants from this memory, which the caller keeps. Word
+ * addresses 0x000 to 0x3FF are those of the 2,048 bytes at `ram`. Those of the ROM end with 0xBFF:
+ * they begin at 0x800 where it has 2,048 bytes, and at 0x400 where it has 4,096. Elsewhere no
+ * memory answers. Answers as dvg_generator_fetch; DVG_WRONG_SIZE: that is no length of a ROM, and
+ * nothing was asked. */
+static inline dvg_answer dvg_generator_fetch_from(dvg *device, const uint8_t *ram,
+                                                  const uint8_t *rom, size_t rom_length)
+{
+    dvg_answer wanted;
+    size_t byte;
+    if (rom_length != DVG_ROM_BYTES && rom_length != DVG_LARGE_ROM_BYTES) {
+        return dvg_answer_of(DVG_WRONG_SIZE);
+    }
+    wanted = dvg_wants(device);
+    if (wanted.kind != DVG_WANTED) {
+        return wanted;
+    }
+    byte = 2 * (size_t)wanted.address + wanted.value;
+    if (byte < DVG_RAM_BYTES) {
+        return dvg_generator_fetch(device, ram[byte]);
+    }
+    if (byte >= 0x1800 - rom_length && byte < 0x1800) {
+        return dvg_generator_fetch(device, rom[byte - (0x1800 - rom_length)]);
+    }
+    return dvg_generator_hole(device);
+}
+
+/* How dvg_draw ended. */
+typedef struct dvg_drawn {
+    dvg_answer last;            /* the last answer: its kind tells how the run ended */
+    uint32_t words;             /* how many words were fetched, with the last one */
+    uint64_t strokes;           /* how many strokes were drawn; 0 where there was no HALT */
+} dvg_drawn;
+
+/* What dvg_draw calls for each stroke, in the order drawn. `context` is what was handed to
+ * dvg_draw. It must not use the device. */
+typedef void (*dvg_stroke_function)(void *context, dvg_stroke stroke);
+
+/* Starts a generator once over a RAM of 2,048 bytes and a ROM of 2,048 or 4,096, from the beam at
+ * 0, 0 and scale 0, and lets it run until it halts, at most `most_words` words: what `dvg picture`
+ * does, with DVG_MOST_WORDS. The memory is the caller's, and isn't changed. A generator alone is
+ * opened for this in place of what was open, and stays open.
+ *
+ * The kind of `last` tells how it ended:
+ *
+ *   DVG_DONE         by a HALT. The strokes are handed to `on_stroke`, unless that is null;
+ *                    dvg_stroke_at has them, too
+ *   DVG_BROKE        the run broke, at last.address: dvg_break_of(last). No stroke is told
+ *   DVG_FETCHED      neither within `most_words` words, as of an endless list. No stroke is told
+ *   DVG_STARTED      the same, where `most_words` is 0
+ *   DVG_NO_MEMORY    there was no memory for a stroke. No stroke is told
+ *   DVG_WRONG_SIZE   that is no length of a ROM. Nothing was asked, and what was open stays
+ */
+static inline dvg_drawn dvg_draw(dvg *device, const uint8_t *ram, const uint8_t *rom,
+                                 size_t rom_length, uint32_t most_words,
+                                 dvg_stroke_function on_stroke, void *context)
+{
+    dvg_drawn drawn;
+    uint64_t number;
+    drawn.words = 0;
+    drawn.strokes = 0;
+    if (rom_length != DVG_ROM_BYTES && rom_length != DVG_LARGE_ROM_BYTES) {
+        drawn.last = dvg_answer_of(DVG_WRONG_SIZE);
+        return drawn;
+    }
+    dvg_open_generator(device);
+    drawn.last = dvg_strobe(device);
+    while (drawn.words < most_words
+           && (drawn.last.kind == DVG_STARTED || drawn.last.kind == DVG_FETCHED)) {
+        drawn.last = dvg_generator_fetch_from(device, ram, rom, rom_length);
+        if (drawn.last.kind == DVG_LOW) {
+            drawn.last = dvg_generator_fetch_from(device, ram, rom, rom_length);
+        }
+        if (drawn.last.kind == DVG_FETCHED || drawn.last.kind == DVG_DONE) {
+            drawn.words++;
+        }
+    }
+    if (drawn.last.kind == DVG_DONE) {
+        drawn.strokes = dvg_strokes(device);
+        for (number = 0; number < drawn.strokes && on_stroke != NULL; number++) {
+            on_stroke(context, dvg_stroke_at(device, number));
+        }
+    }
+    return drawn;
 }
 
 #ifdef __cplusplus

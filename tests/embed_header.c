@@ -1,5 +1,5 @@
-/* Tests the functions of include/dvg.h alone: which numbers each asks for, and how answers are taken apart. The numbers stand here once
- * more, by hand: a field in the wrong place compiles, too.
+/* Tests the functions of include/dvg.h alone: which numbers each asks for, and how answers are
+ * taken apart. The numbers stand here once more, by hand: a field in the wrong place compiles, too.
  *
  * It is linked with nothing. The last line of what is written is 'N passed, M failed'.
  */
@@ -15,7 +15,7 @@
 #include <string.h>
 
 /* The most requests of a call. */
-#define MOST 16
+#define MOST 64
 
 /* The requests since the last test, in order, and what each is answered. */
 static uint64_t noted[MOST];
@@ -123,9 +123,12 @@ static void answer(int number, const int *kinds)
 }
 
 /* Whether these were the requests of the last call, and this the kind of its answer. */
-static void expect_all(dvg_answer got, dvg_kind kind, int number, const uint64_t *wanted, const char *what)
+static void expect_all(dvg_answer got, dvg_kind kind, int number, const uint64_t *wanted,
+                       const char *what)
 {
-    expect(got.kind == kind && count == number && memcmp(noted, wanted, (size_t)number * sizeof *wanted) == 0, what);
+    expect(got.kind == kind && count == number
+               && memcmp(noted, wanted, (size_t)number * sizeof *wanted) == 0,
+           what);
 }
 
 static void test_staging(dvg *none)
@@ -134,7 +137,8 @@ static void test_staging(dvg *none)
     static const uint8_t ram[DVG_RAM_BYTES] = {0};
     static const int staged[] = {DVG_STAGED, DVG_STAGED, DVG_STAGED, DVG_STAGED};
     static const int full[] = {DVG_STAGED, DVG_STAGED, DVG_FULL};
-    static const int opened[] = {DVG_CLEARED, DVG_STAGED, DVG_STAGED, DVG_STAGED, DVG_OPENED, DVG_CLEARED};
+    static const int opened[] = {DVG_CLEARED, DVG_STAGED, DVG_STAGED,
+                                 DVG_STAGED,  DVG_OPENED, DVG_CLEARED};
     static const int wrong[] = {DVG_CLEARED, DVG_STAGED, DVG_STAGED, DVG_FULL, DVG_CLEARED};
     static const int none_left[] = {DVG_CLEARED, DVG_NO_MEMORY, DVG_CLEARED};
     static const int driver[] = {DVG_CLEARED, DVG_STAGED, DVG_STAGED, DVG_WRONG_SIZE, DVG_CLEARED};
@@ -149,47 +153,253 @@ static void test_staging(dvg *none)
     ASKS(11, dvg_unstage(none));
     ASKS(0xFFFFAB000A, dvg_stage_byte(none, 0xAB, 0xFFFF));
     answer(1, staged);
-    expect_all(dvg_stage_bytes(none, NULL, 0), DVG_STAGED, 1, empty, "no bytes are staged from a null pointer");
+    expect_all(dvg_stage_bytes(none, NULL, 0), DVG_STAGED, 1, empty,
+               "no bytes are staged from a null pointer");
     answer(4, staged);
-    expect_all(dvg_stage_bytes(none, bytes, 5), DVG_STAGED, 4, runs, "bytes are staged by their runs");
+    expect_all(dvg_stage_bytes(none, bytes, 5), DVG_STAGED, 4, runs,
+               "bytes are staged by their runs");
     answer(3, full);
-    expect_all(dvg_stage_bytes(none, bytes, 5), DVG_FULL, 3, runs, "staging stops where it is refused");
+    expect_all(dvg_stage_bytes(none, bytes, 5), DVG_FULL, 3, runs,
+               "staging stops where it is refused");
     answer(6, opened);
-    expect_all(dvg_open_world(none, NULL, ram, 2048), DVG_OPENED, 6, world, "a world is opened by RAM and then ROM");
+    expect_all(dvg_open_world(none, NULL, ram, 2048), DVG_OPENED, 6, world,
+               "a world is opened by RAM and then ROM");
     answer(5, wrong);
-    expect_all(dvg_open_world(none, NULL, ram, 2048), DVG_WRONG_SIZE, 5, too_long, "what can't be staged has the wrong size");
+    expect_all(dvg_open_world(none, NULL, ram, 2048), DVG_WRONG_SIZE, 5, too_long,
+               "what can't be staged has the wrong size");
     answer(3, none_left);
-    expect_all(dvg_open_world(none, NULL, ram, 2048), DVG_NO_MEMORY, 3, refused, "refused memory ends an opening");
+    expect_all(dvg_open_world(none, NULL, ram, 2048), DVG_NO_MEMORY, 3, refused,
+               "refused memory ends an opening");
     answer(5, driver);
-    expect_all(dvg_open_driver(none, ram, 2048), DVG_WRONG_SIZE, 5, driver_alone, "a driver is opened by its ROM");
+    expect_all(dvg_open_driver(none, ram, 2048), DVG_WRONG_SIZE, 5, driver_alone,
+               "a driver is opened by its ROM");
     answer(5, reset);
-    expect_all(dvg_reset_all(none, ram), DVG_CLEARED, 5, all, "a reset of the whole system stages its RAM");
+    expect_all(dvg_reset_all(none, ram), DVG_CLEARED, 5, all,
+               "a reset of the whole system stages its RAM");
 }
 
 static void test_answers(dvg *none)
 {
     dvg_answer got = dvg_answer_of(0xB000020E00 + DVG_DONE);
     dvg_stroke stroke;
-    expect(got.kind == DVG_DONE && got.address == 0x20E && got.value == 0xB000, "an answer is taken apart");
+    expect(got.kind == DVG_DONE && got.address == 0x20E && got.value == 0xB000,
+           "an answer is taken apart");
     got = dvg_answer_of(0x0106080101);
-    expect(got.kind == DVG_REFUSED && dvg_fault_of(got) == DVG_FAULT_OUT_OF_ROM && dvg_in_rom(got) && got.address == 0x801, "a refusal at a ROM word");
+    expect(got.kind == DVG_REFUSED && dvg_fault_of(got) == DVG_FAULT_OUT_OF_ROM && dvg_in_rom(got)
+               && got.address == 0x801,
+           "a refusal at a ROM word");
     got = dvg_answer_of(0x0008000301);
-    expect(dvg_fault_of(got) == DVG_FAULT_NO_CALLER && !dvg_in_rom(got) && got.address == 3, "a refusal at an operation");
+    expect(dvg_fault_of(got) == DVG_FAULT_NO_CALLER && !dvg_in_rom(got) && got.address == 3,
+           "a refusal at an operation");
     got = dvg_answer_of(0x0003FFF00F);
-    expect(dvg_break_of(got) == DVG_BREAK_HOLE && dvg_fault_of(got) == DVG_FAULT_NONE && got.address == 0xFFF0, "a broken run");
-    expect(dvg_break_of(dvg_answer_of(0x0009000001)) == DVG_BREAK_NONE, "a refusal is no broken run");
-    expect(dvg_answer_of(0xFF).kind == DVG_NO_MEMORY && dvg_answer_of(0xFE).kind == DVG_UNKNOWN, "the last kinds");
+    expect(dvg_break_of(got) == DVG_BREAK_HOLE && dvg_fault_of(got) == DVG_FAULT_NONE
+               && got.address == 0xFFF0,
+           "a broken run");
+    expect(dvg_break_of(dvg_answer_of(0x0009000001)) == DVG_BREAK_NONE,
+           "a refusal is no broken run");
+    expect(dvg_answer_of(0xFF).kind == DVG_NO_MEMORY && dvg_answer_of(0xFE).kind == DVG_UNKNOWN,
+           "the last kinds");
     answers[0] = 0x123456789;
     expect(dvg_strokes(none) == 0x123456789 && noted[0] == 17, "the number of strokes");
     answers[0] = 0x0003200000040000;
     answers[1] = 0x001FFFFF00000001;
     answers[2] = 15;
     stroke = dvg_stroke_at(none, 0x102);
-    expect(stroke.x0 == 0x40000 && stroke.y0 == 0x32000 && stroke.x1 == 1 && stroke.y1 == 0x1FFFFF && stroke.z == 15
-               && count == 3 && noted[0] == 0x10212 && noted[1] == 0x10213 && noted[2] == 0x10214,
+    expect(stroke.x0 == 0x40000 && stroke.y0 == 0x32000 && stroke.x1 == 1 && stroke.y1 == 0x1FFFFF
+               && stroke.z == 15 && count == 3 && noted[0] == 0x10212 && noted[1] == 0x10213
+               && noted[2] == 0x10214,
            "a stroke");
     dvg_stroke_at(none, (uint64_t)1 << 56);
-    expect(noted[0] == 0xFFFFFFFFFFFFFF12, "a stroke of a number above 56 bits is one that isn't there");
+    expect(noted[0] == 0xFFFFFFFFFFFFFF12,
+           "a stroke of a number above 56 bits is one that isn't there");
+}
+
+/* --- Texts --- */
+
+#define TEXT(function, number, wanted)                                                             \
+    expect(strcmp(function(number), wanted) == 0, #number " is " wanted)
+
+static void test_kind_texts(void)
+{
+    TEXT(dvg_kind_text, DVG_OFFERED, "offered");
+    TEXT(dvg_kind_text, DVG_REFUSED, "refused");
+    TEXT(dvg_kind_text, DVG_BUSY, "busy");
+    TEXT(dvg_kind_text, DVG_ASKED, "asked");
+    TEXT(dvg_kind_text, DVG_NOTHING_PUBLISHED, "nothing published");
+    TEXT(dvg_kind_text, DVG_PEEK, "peek");
+    TEXT(dvg_kind_text, DVG_WROTE, "wrote");
+    TEXT(dvg_kind_text, DVG_READ, "read");
+    TEXT(dvg_kind_text, DVG_SENT, "sent");
+    TEXT(dvg_kind_text, DVG_IDLE, "idle");
+    TEXT(dvg_kind_text, DVG_STARTED, "started");
+    TEXT(dvg_kind_text, DVG_NO_STROBE, "no strobe");
+    TEXT(dvg_kind_text, DVG_LOW, "low");
+    TEXT(dvg_kind_text, DVG_FETCHED, "fetched");
+    TEXT(dvg_kind_text, DVG_DONE, "done");
+    TEXT(dvg_kind_text, DVG_BROKE, "broke");
+    TEXT(dvg_kind_text, DVG_STILL, "still");
+    TEXT(dvg_kind_text, DVG_CLEARED, "cleared");
+    TEXT(dvg_kind_text, DVG_PUSHED, "pushed");
+    TEXT(dvg_kind_text, DVG_NO_OPERATION, "no operation");
+    TEXT(dvg_kind_text, DVG_FULL, "full");
+    TEXT(dvg_kind_text, DVG_STAGED, "staged");
+    TEXT(dvg_kind_text, DVG_OPENED, "opened");
+    TEXT(dvg_kind_text, DVG_WRONG_SIZE, "wrong size");
+    TEXT(dvg_kind_text, DVG_CLOSED, "closed");
+    TEXT(dvg_kind_text, DVG_WANTED, "wanted");
+    TEXT(dvg_kind_text, DVG_UNKNOWN, "unknown");
+    TEXT(dvg_kind_text, DVG_NO_MEMORY, "no memory");
+}
+
+static void test_other_texts(void)
+{
+    TEXT(dvg_fault_text, DVG_FAULT_NONE, "none");
+    TEXT(dvg_fault_text, DVG_FAULT_EMPTY, "empty");
+    TEXT(dvg_fault_text, DVG_FAULT_NO_LABS, "no labs");
+    TEXT(dvg_fault_text, DVG_FAULT_TOO_LONG, "too long");
+    TEXT(dvg_fault_text, DVG_FAULT_TARGET, "target");
+    TEXT(dvg_fault_text, DVG_FAULT_RUNS_OFF, "runs off");
+    TEXT(dvg_fault_text, DVG_FAULT_OUT_OF_ROM, "out of rom");
+    TEXT(dvg_fault_text, DVG_FAULT_TOO_DEEP, "too deep");
+    TEXT(dvg_fault_text, DVG_FAULT_NO_CALLER, "no caller");
+    TEXT(dvg_fault_text, DVG_FAULT_LOOPS, "loops");
+    TEXT(dvg_break_text, DVG_BREAK_NONE, "none");
+    TEXT(dvg_break_text, DVG_BREAK_STACK_OVER, "fifth call");
+    TEXT(dvg_break_text, DVG_BREAK_STACK_UNDER, "return without a call");
+    TEXT(dvg_break_text, DVG_BREAK_HOLE, "no memory there");
+    /* Whatever number a kind of an answer has, it has a text. */
+    bool all = true;
+    for (uint64_t number = 0; number < 256; number++) {
+        const char *text = dvg_kind_text(dvg_answer_of(number).kind);
+        bool named = number <= DVG_WANTED || number >= DVG_UNKNOWN;
+        all = all && text != NULL && (strcmp(text, "no kind") == 0) != named;
+    }
+    expect(all, "each kind has a text, and a number that is none has 'no kind'");
+    all = true;
+    for (uint64_t number = 0; number < 16; number++) {
+        const char *text = dvg_fault_text(dvg_fault_of(dvg_answer_of(number << 24 | DVG_REFUSED)));
+        all = all && text != NULL && (strcmp(text, "no fault") == 0) == (number > DVG_FAULT_LOOPS);
+    }
+    expect(all, "each fault has a text, and a number that is none has 'no fault'");
+}
+
+/* --- A memory, drawn once --- */
+
+static uint64_t told_number = 0;
+
+static void tell(void *context, dvg_stroke stroke)
+{
+    told_number = told_number * 100 + *(const uint64_t *)context + stroke.z;
+}
+
+/* Answers that a generator gives, in their order. */
+static void answer_all(int number, const uint64_t *wanted)
+{
+    memcpy(answers, wanted, (size_t)number * sizeof *wanted);
+}
+
+#define WANTS_BYTE(address, high) (DVG_WANTED | (uint64_t)(address) << 8 | (uint64_t)(high) << 24)
+
+static uint8_t ram[DVG_RAM_BYTES];
+static uint8_t rom[DVG_LARGE_ROM_BYTES];
+
+/* Of the byte that is wanted at this address, the request must be this one. */
+static void expect_byte(dvg *none, uint64_t wanted, size_t length, uint64_t request,
+                        const char *what)
+{
+    answers[0] = wanted;
+    answers[1] = DVG_LOW;
+    dvg_answer got = dvg_generator_fetch_from(none, ram, rom, length);
+    expect(got.kind == DVG_LOW && count == 2 && noted[0] == 16 && noted[1] == request, what);
+}
+
+static void test_fetching(dvg *none)
+{
+    ram[0] = 0x11;
+    ram[2047] = 0x22;
+    rom[0] = 0x33;
+    rom[1] = 0x44;
+    rom[2047] = 0x55;
+    rom[4095] = 0x66;
+    expect_byte(none, WANTS_BYTE(0x000, 0), 2048, 0x110004, "the first byte of the RAM");
+    expect_byte(none, WANTS_BYTE(0x3FF, 1), 2048, 0x220004, "the last byte of the RAM");
+    expect_byte(none, WANTS_BYTE(0x400, 0), 2048, 0x000104,
+                "no memory after the RAM, with a small ROM");
+    expect_byte(none, WANTS_BYTE(0x7FF, 1), 2048, 0x000104, "no memory before a small ROM");
+    expect_byte(none, WANTS_BYTE(0x800, 0), 2048, 0x330004, "the first byte of a small ROM");
+    expect_byte(none, WANTS_BYTE(0x800, 1), 2048, 0x440004, "its second byte");
+    expect_byte(none, WANTS_BYTE(0xBFF, 1), 2048, 0x550004, "the last byte of a small ROM");
+    expect_byte(none, WANTS_BYTE(0xC00, 0), 2048, 0x000104, "no memory after a small ROM");
+    expect_byte(none, WANTS_BYTE(0x400, 0), 4096, 0x330004, "the first byte of a large ROM");
+    expect_byte(none, WANTS_BYTE(0xBFF, 1), 4096, 0x660004, "the last byte of a large ROM");
+    expect_byte(none, WANTS_BYTE(0xC00, 0), 4096, 0x000104, "no memory after a large ROM");
+    expect_byte(none, WANTS_BYTE(0xFFF, 1), 4096, 0x000104, "nor at the last address");
+    expect(dvg_generator_fetch_from(none, ram, rom, 4095).kind == DVG_WRONG_SIZE && count == 0,
+           "a ROM of a wrong size asks nothing");
+    answers[0] = DVG_STILL;
+    expect(dvg_generator_fetch_from(none, ram, rom, 2048).kind == DVG_STILL && count == 1,
+           "a halted generator is handed nothing");
+}
+
+static void test_drawing(dvg *none)
+{
+    static const uint64_t done[] = {DVG_OPENED,
+                                    DVG_STARTED,
+                                    WANTS_BYTE(0, 0),
+                                    DVG_LOW,
+                                    WANTS_BYTE(0, 1),
+                                    DVG_FETCHED,
+                                    WANTS_BYTE(1, 0),
+                                    DVG_LOW,
+                                    WANTS_BYTE(1, 1),
+                                    DVG_DONE,
+                                    2,
+                                    1,
+                                    2,
+                                    7,
+                                    3,
+                                    4,
+                                    8};
+    static const uint64_t hole[] = {DVG_OPENED, DVG_STARTED, WANTS_BYTE(0x400, 0),
+                                    0x0003040000 | DVG_BROKE};
+    static const uint64_t refused[] = {DVG_OPENED, DVG_STARTED,      WANTS_BYTE(0, 0),
+                                       DVG_LOW,    WANTS_BYTE(0, 1), DVG_NO_MEMORY};
+    static const uint64_t asked[] = {14,   3,        16,    0x110004, 16,   0x000004,
+                                     16,   0x000004, 16,    0x000004, 17,   0x12,
+                                     0x13, 0x14,     0x112, 0x113,    0x114};
+    uint64_t context = 1;
+    dvg_drawn drawn;
+    answer_all(17, done);
+    told_number = 0;
+    drawn = dvg_draw(none, ram, rom, 2048, 10, tell, &context);
+    expect(drawn.last.kind == DVG_DONE && drawn.words == 2 && drawn.strokes == 2
+               && told_number == 809 && count == 17 && memcmp(noted, asked, sizeof asked) == 0,
+           "a run is drawn, and its strokes are told in order");
+    answer_all(17, done);
+    told_number = 0;
+    drawn = dvg_draw(none, ram, rom, 2048, 2, NULL, NULL);
+    expect(drawn.last.kind == DVG_DONE && drawn.strokes == 2 && told_number == 0 && count == 11,
+           "without a function they are counted");
+    answer_all(17, done);
+    drawn = dvg_draw(none, ram, rom, 2048, 1, tell, &context);
+    expect(drawn.last.kind == DVG_FETCHED && drawn.words == 1 && drawn.strokes == 0 && count == 6,
+           "a run is cut off at the cap");
+    answer_all(17, done);
+    drawn = dvg_draw(none, ram, rom, 2048, 0, tell, &context);
+    expect(drawn.last.kind == DVG_STARTED && drawn.words == 0 && count == 2, "and begun at least");
+    answer_all(4, hole);
+    drawn = dvg_draw(none, ram, rom, 2048, 10, tell, &context);
+    expect(drawn.last.kind == DVG_BROKE && drawn.last.address == 0x400 && drawn.words == 0
+               && count == 4 && dvg_break_of(drawn.last) == DVG_BREAK_HOLE,
+           "a run that breaks");
+    answer_all(6, refused);
+    drawn = dvg_draw(none, ram, rom, 2048, 10, tell, &context);
+    expect(drawn.last.kind == DVG_NO_MEMORY && drawn.words == 0 && drawn.strokes == 0 && count == 6,
+           "refused memory ends it");
+    drawn = dvg_draw(none, ram, rom, 0, 10, tell, &context);
+    expect(drawn.last.kind == DVG_WRONG_SIZE && drawn.words == 0 && drawn.strokes == 0
+               && count == 0,
+           "no ROM is the wrong size");
 }
 
 int main(void)
@@ -199,6 +409,10 @@ int main(void)
     test_operations(none);
     test_staging(none);
     test_answers(none);
+    test_kind_texts();
+    test_other_texts();
+    test_fetching(none);
+    test_drawing(none);
     printf("%d passed, %d failed\n", passed, failed);
     return failed == 0 ? 0 : 1;
 }

@@ -1,8 +1,9 @@
-/* Refuses each allocation of a device's life in turn, with a heap of its own: what was refused must have changed nothing, the
- * same request must then do what it does, and at the end nothing may be left on the heap.
+/* Refuses each allocation of a device's life in turn, with a heap of its own: what was refused must
+ * have changed nothing, the same request must then do what it does, and at the end nothing may be
+ * left on the heap.
  *
- * The last line of what is written is 'N passed, M failed', where each life counts; or 'skipped: ..' where the archive asks this heap
- * for nothing.
+ * The last line of what is written is 'N passed, M failed', where each life counts; or 'skipped:
+ * ..' where the archive asks this heap for nothing.
  */
 #include "dvg.h"
 #include "embed_refusing.h"
@@ -36,16 +37,17 @@ static void expect(bool holds, const char *what)
     }
 }
 
-/* An answer, and where there was no memory for it that of the same request again, of which none is refused. What is open must
- * answer this to that request in between, as before. */
-#define TWICE(request, same, kind_before)                                                                              \
-    do {                                                                                                               \
-        dvg_answer answer = (request);                                                                                 \
-        if (answer.kind == DVG_NO_MEMORY) {                                                                            \
-            expect((same).kind == (kind_before), #request " is refused, and has changed what is open");                \
-            answer = (request);                                                                                        \
-        }                                                                                                              \
-        last = answer;                                                                                                 \
+/* An answer, and where there was no memory for it that of the same request again, of which none is
+ * refused. What is open must answer this to that request in between, as before. */
+#define TWICE(request, same, kind_before)                                                          \
+    do {                                                                                           \
+        dvg_answer answer = (request);                                                             \
+        if (answer.kind == DVG_NO_MEMORY) {                                                        \
+            expect((same).kind == (kind_before),                                                   \
+                   #request " is refused, and has changed what is open");                          \
+            answer = (request);                                                                    \
+        }                                                                                          \
+        last = answer;                                                                             \
     } while (false)
 
 /* The newest answer of TWICE. */
@@ -79,7 +81,8 @@ static void draw(dvg *device, int vectors)
     do {
         uint64_t strokes = dvg_strokes(device);
         TWICE(dvg_fetch(device), dvg_wants(device), DVG_UNKNOWN);
-        expect(last.kind == DVG_DONE || dvg_strokes(device) == strokes, "a fetch changed the old picture");
+        expect(last.kind == DVG_DONE || dvg_strokes(device) == strokes,
+               "a fetch changed the old picture");
     } while (last.kind == DVG_LOW || last.kind == DVG_FETCHED);
     expect(last.kind == DVG_DONE, "the frame isn't drawn");
     expect(dvg_strokes(device) == (uint64_t)vectors, "a stroke is lost");
@@ -93,7 +96,8 @@ static void use_world(dvg *device)
     expect(last.kind == DVG_OPENED, "no world is open");
     draw(device, 1);
     TWICE(dvg_reset_all(device, ram), dvg_strobe(device), DVG_STARTED);
-    expect(last.kind == DVG_CLEARED && dvg_strobe(device).kind == DVG_NO_STROBE, "the system isn't reset");
+    expect(last.kind == DVG_CLEARED && dvg_strobe(device).kind == DVG_NO_STROBE,
+           "the system isn't reset");
     draw(device, 200);
 }
 

@@ -2,9 +2,10 @@
  *
  *   embed_play whole|apart < TRACE
  *
- * `whole` plays it on a world. `apart` plays it on a driver alone and a generator alone, with a RAM and a ROM of this
- * program's own between them; what comes of it must be the same. The trace's text is one without a fault: 1 is the status where
- * this program can't read it, and 2 where memory is refused.
+ * `whole` plays it on a world. `apart` plays it on a driver alone and a generator alone, with a RAM
+ * and a ROM of this program's own between them; what comes of it must be the same. The trace's text
+ * is one without a fault: 1 is the status where this program can't read it, and 2 where memory is
+ * refused.
  */
 #include "dvg.h"
 
@@ -100,18 +101,16 @@ static void write_strokes(dvg *device)
     printf(" %" PRIu64 "\n", count);
     for (uint64_t i = 0; i < count; i++) {
         dvg_stroke stroke = dvg_stroke_at(device, i);
-        printf("%" PRIu32 " %" PRIu32 " %" PRIu32 " %" PRIu32 " %d\n", stroke.x0, stroke.y0, stroke.x1, stroke.y1,
-               stroke.z);
+        printf("%" PRIu32 " %" PRIu32 " %" PRIu32 " %" PRIu32 " %d\n", stroke.x0, stroke.y0,
+               stroke.x1, stroke.y1, stroke.z);
     }
 }
 
 /* Writes why a draft was refused. */
 static void write_refusal(dvg_answer answer)
 {
-    static const char *const texts[] = {"0", "1 empty", "2 no labs", "3 too long", "4 target", "5 runs off",
-                                        "6 out of rom", "7 too deep", "8 no caller", "9 loops"};
     dvg_fault fault = dvg_fault_of(answer);
-    printf(" refused %s", fault <= DVG_FAULT_LOOPS ? texts[fault] : "?");
+    printf(" refused %d %s", (int)fault, dvg_fault_text(fault));
     if (fault == DVG_FAULT_TARGET || fault == DVG_FAULT_RUNS_OFF) {
         printf(" %d", answer.address);
     } else if (dvg_in_rom(answer)) {
@@ -218,7 +217,8 @@ static void reset_all(struct player *player, uint8_t byte)
     uint8_t ram[DVG_RAM_BYTES];
     memset(ram, byte, sizeof ram);
     open_player(player);
-    write_entry(player, player->apart ? reset_all_apart(player, ram) : dvg_reset_all(player->device, ram));
+    write_entry(player,
+                player->apart ? reset_all_apart(player, ram) : dvg_reset_all(player->device, ram));
 }
 
 /* --- Lines --- */
@@ -300,7 +300,8 @@ static bool read_operation(dvg *device, const char *line)
 /* Lets the events of a line happen, or puts its words into the ROM. */
 static bool read_line(struct player *player, char *line)
 {
-    static const char *const names[] = {"tick", "strobe", "fetch", "redraw", "resetgen", "resetcpu"};
+    static const char *const names[] = {"tick",   "strobe",   "fetch",
+                                        "redraw", "resetgen", "resetcpu"};
     int count;
     for (int i = TICK; i <= RESET_PROCESSOR; i++) {
         if (strcmp(line, names[i]) == 0) {
@@ -316,7 +317,8 @@ static bool read_line(struct player *player, char *line)
         reset_all(player, (uint8_t)(strtoul(line + 9, NULL, 16) & 0xFF));
         return true;
     }
-    if (is_named(line, "map", 1, &count) && (count == DVG_ROM_BYTES || count == DVG_LARGE_ROM_BYTES)) {
+    if (is_named(line, "map", 1, &count)
+        && (count == DVG_ROM_BYTES || count == DVG_LARGE_ROM_BYTES)) {
         set_rom(player, (size_t)count);
         return true;
     }

@@ -1,4 +1,5 @@
-/* A heap that lies on the C library's, and of which the file that includes this says which blocks it refuses. */
+/* A heap that lies on the C library's, and of which the file that includes this says which blocks
+ * it refuses. */
 #ifndef EMBED_REFUSING_H
 #define EMBED_REFUSING_H
 

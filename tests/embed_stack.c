@@ -1,29 +1,19 @@
-/* Has a device do what takes most of the stack, on a thread with so many KB of stack: as many as the first word says, or the header where that is 0 or missing. The
- * second word `refused` has each large block refused, so that a check lays its tables out on the stack. */
+/* Has a device do what takes most of the stack, on a thread with so many KB of stack: as many as
+ * the first word says, or the header where that is missing. */
 #define _POSIX_C_SOURCE 200809L
 #include "dvg.h"
-#include "embed_refusing.h"
 
 #include <pthread.h>
 #include <stdio.h>
 #include <stdlib.h>
 #include <string.h>
 
-/* --- A heap --- */
-
-/* The most bytes of a block. */
-static size_t most = SIZE_MAX;
-
-static bool is_refused(size_t bytes)
-{
-    return bytes > most;
-}
-
 /* --- What is done --- */
 
 static uint8_t rom[DVG_LARGE_ROM_BYTES];
 
-/* Opens all, and offers the longest draft, one that is refused and one that comes to every word of the ROM. */
+/* Opens all, and offers the longest draft, one that is refused and one that comes to every word of
+ * the ROM. */
 static void *use(void *nothing)
 {
     dvg *device = NULL;
@@ -47,6 +37,7 @@ static void *use(void *nothing)
         dvg_halt(device);
     }
     done = dvg_offer(device).kind == DVG_OFFERED && done;
+    done = dvg_draw(device, rom, rom, sizeof rom, 4096, NULL, NULL).words > 0 && done;
     done = dvg_shut(device).kind == DVG_CLOSED && done;
     dvg_free(device);
     return done ? rom : nothing;
@@ -56,7 +47,6 @@ int main(int count, char **words)
 {
     size_t kilobytes = count > 1 ? (size_t)strtoul(words[1], NULL, 10) : 0;
     size_t bytes = 1024 * (kilobytes == 0 ? DVG_STACK_KB : kilobytes);
-    bool refuses = count > 2 && strcmp(words[2], "refused") == 0;
     pthread_attr_t attributes;
     pthread_t thread;
     void *done = NULL;
@@ -65,14 +55,11 @@ int main(int count, char **words)
         rom[i] = 0xF0;
     }
     rom[sizeof rom - 1] = 0xB0;
-    most = refuses ? 100000 : SIZE_MAX;
     if (pthread_attr_init(&attributes) != 0 || pthread_attr_setstacksize(&attributes, bytes) != 0
-        || pthread_create(&thread, &attributes, use, NULL) != 0 || pthread_join(thread, &done) != 0) {
+        || pthread_create(&thread, &attributes, use, NULL) != 0
+        || pthread_join(thread, &done) != 0) {
         printf("no thread with %zu bytes of stack\n", bytes);
         return 2;
-    }
-    if ((refused > 0) != refuses) {
-        done = NULL;
     }
     printf("%s\n", done == NULL ? "failed" : "done");
     return done == NULL ? 1 : 0;

@@ -1,12 +1,14 @@
-/* Asks a device random requests, sensible ones and others, and its plain twin the same ones: each answer must be equal.
+/* Asks a device random requests, sensible ones and others, and its plain twin the same ones: each
+ * answer must be equal.
  *
  *   embed_storm COUNT SEED
  *
- * Storm number i, from 0, comes from SEED + i alone. A storm begins with nothing open, with a world, with a driver or with a generator,
- * by turns. The first line of what is written tells how often each kind of answer came, and the last is 'N passed, M failed'.
+ * Storm number i, from 0, comes from SEED + i alone. A storm begins with nothing open, with a
+ * world, with a driver or with a generator, by turns. The first line of what is written tells how
+ * often each kind of answer came, and the last is 'N passed, M failed'.
  *
- * It is linked with the archive of the port and with the twin, bench/plain_port.rs, and compiled with a sanitizer: then what a device
- * does with memory is watched, too.
+ * It is linked with the archive of the port and with the twin, bench/plain_port.rs, and compiled
+ * with a sanitizer: then what a device does with memory is watched, too.
  */
 
 /* Here a dvg is a pair, and what the header calls dvg_turn asks both of it. */
@@ -49,8 +51,8 @@ uint64_t pair_turn(dvg *pair, uint64_t request)
     }
     if (proved != plain && equal) {
         equal = false;
-        printf("FAILED: request %" PRIx64 " is answered %" PRIx64 ", and by the twin %" PRIx64 "\n", request, proved,
-               plain);
+        printf("FAILED: request %" PRIx64 " is answered %" PRIx64 ", and by the twin %" PRIx64 "\n",
+               request, proved, plain);
     }
     return proved;
 }
@@ -90,10 +92,12 @@ static uint8_t random_byte(void)
 
 /* --- What a storm is over --- */
 
-/* A memory of 4,096 words, of which a world or a driver gets the RAM and the ROM, and a generator all. */
+/* A memory of 4,096 words, of which a world or a driver gets the RAM and the ROM, and a generator
+ * all. */
 static uint8_t memory[8192];
 
-/* A random instruction's first word, and its second one. Jumps and calls go anywhere; HALT and RTSL are often. */
+/* A random instruction's first word, and its second one. Jumps and calls go anywhere; HALT and RTSL
+ * are often. */
 static uint32_t random_words(void)
 {
     uint32_t words = random_word();
@@ -141,7 +145,9 @@ static void open_part(dvg *pair, int part)
     }
     switch (part) {
     case 0: answer = dvg_shut(pair); break;
-    case 1: answer = dvg_open_world(pair, below(2) == 0 ? NULL : memory + below(6144), rom, length); break;
+    case 1:
+        answer = dvg_open_world(pair, below(2) == 0 ? NULL : memory + below(6144), rom, length);
+        break;
     case 2: answer = dvg_open_driver(pair, rom, length); break;
     default: answer = dvg_open_generator(pair); break;
     }
@@ -166,7 +172,9 @@ static void push_random(dvg *pair, int count)
     case 9:
     case 10:
     case 11:
-    case 12: dvg_vctr(pair, about(0, 9), about(-1023, 1023), about(-1023, 1023), about(0, 15)); break;
+    case 12:
+        dvg_vctr(pair, about(0, 9), about(-1023, 1023), about(-1023, 1023), about(0, 15));
+        break;
     default: dvg_svec(pair, about(2, 5), about(-3, 3), about(-3, 3), about(0, 15)); break;
     }
 }
@@ -283,7 +291,10 @@ static void blow(dvg *pair)
     case 10: ask_strokes(pair); break;
     case 11:
     case 12: pair_turn(pair, (uint64_t)random_word() << 32 | random_word()); break;
-    case 13: pair_turn(pair, (uint64_t)random_word() << 32 | (random_word() & 0xFFFFFF00) | (uint64_t)below(24)); break;
+    case 13:
+        pair_turn(pair, (uint64_t)random_word() << 32 | (random_word() & 0xFFFFFF00)
+                            | (uint64_t)below(24));
+        break;
     default: blow_as_usual(pair); break;
     }
 }

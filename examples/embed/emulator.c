@@ -1,6 +1,8 @@
-/* How an emulator uses a driver alone and a generator alone: the RAM and the ROM are arrays of its own, the driver's writes
- * go into the RAM, and the generator is fed from both. Prints each picture as `dvg play` does, with the step that
- * finished it.
+/* How an emulator uses a driver alone and a generator alone: the RAM and the ROM are arrays of its
+ * own, the driver's writes go into the RAM, and the generator is fed from both. Prints each picture
+ * as `dvg play` does, with the step that finished it.
+ *
+ * To see what a RAM and a ROM draw, without a driver, dvg_draw is enough.
  *
  *   ./lib && cc -O2 -I include examples/embed/emulator.c build/libdvg.a -o emulator && ./emulator
  */
@@ -17,7 +19,7 @@ struct machine {
     dvg *generator;
 };
 
-/* Word 800, the ROM's first, and what stands there: a subroutine of three short vectors and a return. */
+/* Word 800, the first of the ROM, and what stands there: a subroutine of three vectors. */
 #define SHAPE 0x800
 static const uint16_t shape_words[] = {0xF9F3, 0xFDF8, 0xF8F7, 0xD000};
 
@@ -40,21 +42,12 @@ static dvg_answer tick(struct machine *machine)
     return did;
 }
 
-/* The generator fetches one byte: of words 000 to 3FF from the RAM, of 800 to BFF from the ROM, and elsewhere nothing answers. */
+/* The generator fetches one byte. An emulator with another map of memory asks dvg_wants which byte
+ * is wanted, and hands it over by dvg_generator_fetch, or says dvg_generator_hole. */
 static dvg_answer fetch(struct machine *machine)
 {
-    dvg_answer wanted = dvg_wants(machine->generator);
-    size_t at = 2 * (size_t)wanted.address + wanted.value;
-    if (wanted.kind != DVG_WANTED) {
-        return wanted;
-    }
-    if (wanted.address < 0x400) {
-        return dvg_generator_fetch(machine->generator, machine->ram[at]);
-    }
-    if (wanted.address >= 0x800 && wanted.address < 0xC00) {
-        return dvg_generator_fetch(machine->generator, machine->rom[at - 0x1000]);
-    }
-    return dvg_generator_hole(machine->generator);
+    return dvg_generator_fetch_from(machine->generator, machine->ram, machine->rom,
+                                    sizeof machine->rom);
 }
 
 /* Offers a frame of the shape at a place. Whether the driver took it. */
@@ -75,12 +68,13 @@ static void print_picture(dvg *generator, int step)
     printf("picture %d %" PRIu64 "\n", step, count);
     for (uint64_t i = 0; i < count; i++) {
         dvg_stroke stroke = dvg_stroke_at(generator, i);
-        printf("%" PRIu32 " %" PRIu32 " %" PRIu32 " %" PRIu32 " %d\n", stroke.x0, stroke.y0, stroke.x1, stroke.y1,
-               stroke.z);
+        printf("%" PRIu32 " %" PRIu32 " ", stroke.x0, stroke.y0);
+        printf("%" PRIu32 " %" PRIu32 " %d\n", stroke.x1, stroke.y1, stroke.z);
     }
 }
 
-/* Lets the machine run until so many pictures are drawn: a step is an action of the driver and two fetches. */
+/* Lets the machine run until so many pictures are drawn: a step is an action of the driver and two
+ * fetches. */
 static bool run(struct machine *machine, int pictures)
 {
     int frames = 0;
@@ -91,6 +85,8 @@ static bool run(struct machine *machine, int pictures)
         for (int i = 0; i < 2; i++) {
             dvg_answer fetched = fetch(machine);
             if (fetched.kind == DVG_BROKE || fetched.kind == DVG_NO_MEMORY) {
+                fprintf(stderr, "emulator: %s %s\n", dvg_kind_text(fetched.kind),
+                        dvg_break_text(dvg_break_of(fetched)));
                 return false;
             }
             if (fetched.kind == DVG_DONE) {

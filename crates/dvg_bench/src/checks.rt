@@ -111,7 +111,7 @@ pub fn check_often(alloc: Global, words: usize) -> Option<Passed> {
 pub fn check_short(alloc: Global) -> Option<Passed> {
     let rom = rom(alloc, 1)?;
     let draft = short()?;
-    let mut checker = Checker::new(alloc);
+    let mut checker = Checker::new();
     let mut passed = Passed::none();
     for _ in 0..SHORT_CHECKS {
         if let Ok(checked) = checker.check(&draft, &rom) {

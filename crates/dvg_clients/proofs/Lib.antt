@@ -1,3 +1,7 @@
 pub mod Clients
 pub mod FirstPicture
 pub mod Judged
+pub mod Refused
+pub mod Jumping
+pub mod Halted
+pub mod Peeking

@@ -3,7 +3,11 @@ use Rattle.std.specs.Prelude.{ℕ, List, [], ◌∷◌, ◌++◌, true, pos, neg
 use Rattle.dvg_code.specs.declared.instr.Instr.{Instr}
 use Rattle.dvg_code.specs.declared.instr.Instr.TheVariants.{Vctr, Labs}
 use Rattle.dvg_frame.specs.declared.op.OpKind.{OpKind}
-use Rattle.dvg_frame.specs.declared.op.OpKind.TheVariants.{Draw, Halt}
+use Rattle.dvg_mem.specs.declared.areas.Area.{Area}
+use Rattle.dvg_mem.specs.declared.areas.Area.TheVariants.{Zero, Frame, Unused, Rom, Hole}
+use Rattle.dvg_mem.specs.declared.half.Half.{Half}
+use Rattle.dvg_mem.specs.declared.half.Half.TheVariants.{H0, H1}
+use Rattle.dvg_frame.specs.declared.op.OpKind.TheVariants.{Draw, Jump, Halt}
 use Rattle.dvg_driver.specs.declared.action.Action.TheVariants.{Peek, Read, Wrote, Sent}
 use Rattle.dvg_lines.specs.Lines.{spaced}
 use Rattle.dvg_world.specs.Events.{Happening, Tick, Offer, Strobe, Fetch}
@@ -52,3 +56,16 @@ first_picture = Acted Peek ∷ Acted (Read true) ∷ Offered
     ∷ Low 0x000 0x01 ∷ Fetched 0x000 0xE201 ∷ Low 0x201 0x90 ∷ Fetched 0x201 0xA190 ∷ Low 0x202 0x00 ∷ Fetched 0x202 0x0200
     ∷ Low 0x203 0x64 ∷ Fetched 0x203 0x9064 ∷ Low 0x204 0x64 ∷ Fetched 0x204 0x7464
     ∷ Low 0x205 0x00 ∷ Done 0x205 0xB000 (record { x0 = 262144; y0 = 204800; x1 = 210944; y1 = 256000; z = 7 } ∷ []) ∷ []
+
+-- the areas of 000, 001, 1FF, 200, 201, 3FF, 400, 7FF, 800, BFF, C00 and FFF
+abbrev pub areas_in_turn : List Area
+areas_in_turn = Zero ∷ Frame H0 ∷ Frame H0 ∷ Unused ∷ Frame H1 ∷ Frame H1 ∷ Hole ∷ Hole ∷ Rom ∷ Rom ∷ Hole ∷ Hole ∷ []
+
+-- labs 0 0 0; jump 2; halt
+abbrev pub jump_frame : List OpKind
+jump_frame = Draw (Labs 0 0 0) ∷ Jump 2 ∷ Halt ∷ []
+
+-- its bytes in a half: the jump is to the word of the halt there
+abbrev pub jump_bytes : Half → List ℕ
+jump_bytes H0 = 0x00 ∷ 0xA0 ∷ 0x00 ∷ 0x00 ∷ 0x04 ∷ 0xE0 ∷ 0x00 ∷ 0xB0 ∷ []
+jump_bytes H1 = 0x00 ∷ 0xA0 ∷ 0x00 ∷ 0x00 ∷ 0x04 ∷ 0xE2 ∷ 0x00 ∷ 0xB0 ∷ []

@@ -1,7 +1,12 @@
-//! What follows from the contract of `Dump::new`.
-ghost use Rattle.std.specs.Prelude.{◌≡◌, length, IsErrOf};
+//! What follows from the contracts of dumps.
+ghost use Rattle.std.specs.Prelude.{◌≡◌, [], length, IfOk, IsErrOf, IsOk, Some};
+ghost use Rattle.dvg_dump.specs.Endings.{end_of};
+ghost use Rattle.dvg_dump.specs.Ends.{Complete};
+ghost use Rattle.dvg_dump.specs.Memory.{memory_of};
 
-use dvg_dump::{Dump, DumpFault};
+use dvg_code::OutOfMemory;
+use dvg_dump::laws::one_end;
+use dvg_dump::{Dump, DumpFault, Ending};
 use std::alloc::Global;
 
 /// A dump that lacks a byte is refused for its size.
@@ -10,4 +15,14 @@ pub fn short_dump_is_refused(alloc: Global, bytes: &[u8]) -> Result<Dump, DumpFa
     ensures { IsErrOf result DumpFault.Size }
 {
     Dump::new(alloc, bytes)
+}
+
+/// A dump of which word zero is a HALT has a picture without strokes, after one word, and no memory is refused for it.
+pub fn halts_at_once(dump: &Dump) -> Result<Ending, OutOfMemory>
+    requires { memory_of dump.now 0 ≡ Some 0xB000 }
+    ensures ends { IfOk result (λ ending. end_of ending ≡ Complete 1 []) }
+    ensures room { IsOk result }
+{
+    one_end();
+    dump.run()
 }

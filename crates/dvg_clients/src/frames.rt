@@ -1,6 +1,8 @@
 //! What follows from the contracts of the check and of cursors.
-ghost use Rattle.std.specs.Prelude.{◌≡◌, ◌∷◌, [], Err, Some, true};
-ghost use Rattle.dvg_clients.specs.Facts.{blank_frame};
+ghost use Rattle.std.specs.Prelude.{◌≡◌, ◌*◌, ◌<◌, ◌∷◌, [], Err, Some, slice_get, true};
+ghost use Rattle.dvg_mem.specs.Areas.{base};
+ghost use Rattle.dvg_frame.specs.Bytes.{addressed};
+ghost use Rattle.dvg_clients.specs.Facts.{blank_frame, jump_bytes, jump_frame};
 
 use dvg_frame::{Checker, Cursor, Draft, Frame, FrameFault, OpKind, check};
 use dvg_mem::{Half, Rom};
@@ -14,11 +16,11 @@ pub fn empty_draft_is_refused(rom: &Rom<Global>) -> Result<Frame, FrameFault>
 }
 
 /// A checker that has checked a draft answers as if the next one were its first.
-pub fn checker_answers_anew(alloc: Global, draft: &Draft, rom: &Rom<Global>) -> bool
+pub fn checker_answers_anew(draft: &Draft, rom: &Rom<Global>) -> bool
     requires { draft.now ≡ OpKind.Halt ∷ [] }
     ensures { result ≡ true }
 {
-    let mut checker = Checker::new(alloc);
+    let mut checker = Checker::new();
     let _ = checker.check(&Draft::new(), rom);
     match checker.check(draft, rom) {
         Ok(_) => false,
@@ -34,4 +36,29 @@ pub fn second_byte(frame: Frame) -> Option<(u16, u8)>
     let mut cursor = Cursor::new(frame, Half::H1);
     let _ = cursor.next();
     cursor.next()
+}
+
+/// A byte of `labs 0 0 0; jump 2; halt` in either half, by its number.
+pub fn byte_of_a_jump(frame: &Frame, half: Half, k: u16) -> u8
+    requires frame { frame.now.operations ≡ jump_frame }
+    requires number { k < 8 }
+    ensures { slice_get (jump_bytes half) k ≡ Some result }
+{
+    frame.byte(half, k)
+}
+
+/// A cursor over that frame gives all of them, each with its address.
+pub fn bytes_of_a_jump(frame: Frame, half: Half) -> Cursor
+    requires { frame.operations ≡ jump_frame }
+    ensures { result ≡ addressed (2 * base half) (jump_bytes half) }
+{
+    Cursor::new(frame, half)
+}
+
+/// Eight are left before the first is given.
+pub fn left_of_a_jump(frame: Frame, half: Half) -> u16
+    requires { frame.operations ≡ jump_frame }
+    ensures { result ≡ 8 }
+{
+    Cursor::new(frame, half).left()
 }

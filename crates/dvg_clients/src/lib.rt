@@ -11,6 +11,7 @@ pub mod frames;
 pub mod generator;
 pub mod instructions;
 pub mod judges;
+pub mod memories;
 pub mod numbered;
 pub mod sketches;
 pub mod texts;

@@ -1,7 +1,9 @@
-//! What follows from the contract of a device's one call.
-ghost use Rattle.std.specs.Prelude.{◌≡◌};
+//! What follows from the contracts of a device's calls.
+ghost use Rattle.std.specs.Prelude.{◌≡◌, IfSome};
+ghost use Rattle.dvg_device.specs.declared.reply.Reply.TheVariants.{Acted};
 
-use dvg_device::Device;
+use dvg_device::{Device, Reply, Request};
+use dvg_driver::Action;
 use std::alloc::Global;
 
 /// A generator alone opens (22), begins a run (10), and wants the low byte of word zero (25).
@@ -12,4 +14,22 @@ pub fn wants_word_zero(alloc: Global) -> (u64, u64, u64)
     let opened = device.turn(14);
     let started = device.turn(3);
     (opened, started, device.turn(16))
+}
+
+/// A world that opens in a device, over a RAM and a ROM of zeros, peeks at its first tick. None where memory was refused.
+pub fn peeks_in_a_world(alloc: Global) -> Option<Reply>
+    ensures { IfSome result (λ reply. reply ≡ Acted Action.Peek) }
+{
+    let mut device = Device::new(alloc);
+    let _ = device.answer(Request::Stage {
+        byte: 0,
+        count: 4096,
+    });
+    match device.answer(Request::OpenWorld) {
+        Reply::Opened => Some(device.answer(Request::Tick {
+            halted: false,
+            byte1: 0,
+        })),
+        _ => None,
+    }
 }

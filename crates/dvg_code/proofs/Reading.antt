@@ -6,7 +6,7 @@ use mir.Syntax.{w8}
 use Rattle.dvg_code.specs.declared.instr.Instr.{Instr}
 use Rattle.dvg_code.specs.declared.instr.Instr.TheVariants.{Vctr, Labs, Halt, Jsrl, Rtsl, Jmpl, Svec}
 use Rattle.dvg_code.specs.Fields.{signed}
-use Rattle.dvg_code.specs.Ranges.{InRange, IsVector}
+use Rattle.dvg_code.specs.Ranges.{InRange}
 use Rattle.dvg_code.specs.Spelling.{IsSignOf, LongWord, Spells, vctr, labs, halt, jsrl, rtsl, jmpl, svec, sign_bit, canon}
 
 -- the magnitude that was read
@@ -83,7 +83,7 @@ pub vctr_read : (instr : Instr) (v w s e m f k z : ℕ) (dx dy : ℤ) → v < 40
 vctr_read instr v w s e m f k z dx dy hv hw hs he hm hf hk hz y_is x_is is =
     let y = read_size e m dy y_is in
     let x = read_size f k dx x_is in
-    let r : IsVector 0 9 1023 s dx dy z = record { scale_low = omega arith; scale_high = omega arith; dx_size = omega arith; dy_size = omega arith; z_size = omega arith } in
+    let r : InRange (Vctr s dx dy z) = (omega arith, omega arith, omega arith, omega arith) in
     subst (λ i. Spells i (v ∷ w ∷ [])) (sym is)
     (vctr r (long_word_read v s e m dy (omega arith) hs he hm y_is) (long_word_read w z f k dx hw hz hf hk x_is))
 
@@ -126,7 +126,7 @@ pub svec_read : (instr : Instr) (w b e y z t f x : ℕ) (dx dy : ℤ) → 61440 
 svec_read instr w b e y z t f x dx dy low fits hb he hy hz ht hf hx y_is x_is is =
     let y_size = read_size e y dy y_is in
     let x_size = read_size f x dx x_is in
-    let r : IsVector 2 5 3 (2 + 2 * t + b) dx dy z = record { scale_low = omega arith; scale_high = omega arith; dx_size = omega arith; dy_size = omega arith; z_size = omega arith } in
+    let r : InRange (Svec (2 + 2 * t + b) dx dy z) = (omega arith, omega arith, omega arith, omega arith, omega arith) in
     subst (λ i. Spells i (w ∷ [])) (sym is) (svec r (record {
       bit_11 = b;
       bit_3 = t;

@@ -12,7 +12,7 @@ low_byte_first = refl
 -- these spell VCTR 9 -100 100 7
 pub long_vector : Spells (Vctr 9 (negsuc 99) (pos 100) 7) (0x9064 ∷ 0x7464 ∷ [])
 long_vector =
-    vctr (record { scale_low = lit≤ tt; scale_high = lit≤ tt; dx_size = lit≤ tt; dy_size = lit≤ tt; z_size = lit≤ tt })
+    vctr (lit≤ tt, lit≤ tt, lit≤ tt, lit≤ tt)
     (record { free = 0; sign = 0; free_is_bit = lit< tt; sign_is = refl; sum = refl })
     (record { free = 0; sign = 1; free_is_bit = lit< tt; sign_is = refl; sum = refl })
 
@@ -23,7 +23,7 @@ long_vector_canonical = refl
 -- FE37 spells SVEC 3 -3 -2 3
 pub short_vector : Spells (Svec 3 (negsuc 2) (negsuc 1) 3) (0xFE37 ∷ [])
 short_vector =
-    svec (record { scale_low = lit≤ tt; scale_high = lit≤ tt; dx_size = lit≤ tt; dy_size = lit≤ tt; z_size = lit≤ tt })
+    svec (lit≤ tt, lit≤ tt, lit≤ tt, lit≤ tt, lit≤ tt)
     (record { bit_11 = 1; bit_3 = 0; dy_sign = 1; dx_sign = 1; bit_11_is_bit = lit< tt; bit_3_is_bit = lit< tt; dy_sign_is = refl; dx_sign_is = refl; weights = refl; sum = refl })
 
 -- and is its canonical word
@@ -33,7 +33,7 @@ short_vector_canonical = refl
 -- 9400 0800 spell VCTR 9 0 0 0, though with the sign 1 on the y of zero, and with bit 11 set in the second word
 pub not_canonical : Spells (Vctr 9 (pos 0) (pos 0) 0) (0x9400 ∷ 0x0800 ∷ [])
 not_canonical =
-    vctr (record { scale_low = lit≤ tt; scale_high = lit≤ tt; dx_size = lit≤ tt; dy_size = lit≤ tt; z_size = lit≤ tt })
+    vctr (lit≤ tt, lit≤ tt, lit≤ tt, lit≤ tt)
     (record { free = 0; sign = 1; free_is_bit = lit< tt; sign_is = lit< tt; sum = refl })
     (record { free = 1; sign = 0; free_is_bit = lit< tt; sign_is = lit< tt; sum = refl })
 

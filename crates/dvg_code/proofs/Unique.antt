@@ -3,7 +3,7 @@ use Rattle.std.proofs.Common.{◌≡◌, ℕ, zero, suc, ◌<◌, ◌≤◌, ℤ
 use Rattle.std.specs.Prelude.{unsigned_abs}
 use Rattle.dvg_code.specs.declared.instr.Instr.{Instr}
 use Rattle.dvg_code.specs.declared.instr.Instr.TheVariants.{Jsrl, Jmpl, Svec}
-use Rattle.dvg_code.specs.Ranges.{InRange, IsVector}
+use Rattle.dvg_code.specs.Ranges.{InRange}
 use Rattle.dvg_code.specs.Spelling.{IsFirst, IsSignOf, LongWord, ShortWord, Spells, vctr, labs, halt, jsrl, rtsl, jmpl, svec, canon, word_count}
 use Rattle.dvg_code.specs.Cutting.{Fronts, IsCut, IsRest}
 use Rattle.dvg_code.proofs.Reading.{canon_spells}
@@ -38,7 +38,7 @@ same_long s t a b word a_size b_size p q =
     (omega arith, same_signed a b p.sign q.sign p.sign_is q.sign_is (omega arith) (omega arith))
 
 -- a short word has one scale, two moves and one intensity
-same_short : (s t : ℕ) (dx dy dx' dy' : ℤ) (z z' word : ℕ) → IsVector 2 5 3 s dx dy z → IsVector 2 5 3 t dx' dy' z' → ShortWord s dx dy z word → ShortWord t dx' dy' z' word
+same_short : (s t : ℕ) (dx dy dx' dy' : ℤ) (z z' word : ℕ) → InRange (Svec s dx dy z) → InRange (Svec t dx' dy' z') → ShortWord s dx dy z word → ShortWord t dx' dy' z' word
     → Svec s dx dy z ≡ Svec t dx' dy' z'
 same_short s t dx dy dx' dy' z z' word r r' p q =
     let y = sign_is_bit dy p.dy_sign p.dy_sign_is in
@@ -58,8 +58,8 @@ same_short s t dx dy dx' dy' z z' word r r' p q =
     cc
 
 -- the first word of a VCTR has an opcode below 10
-vctr_first : (scale : ℕ) (dx dy : ℤ) (z word : ℕ) → IsVector 0 9 1023 scale dx dy z → LongWord scale dy word → word < 40960
-vctr_first scale dx dy z word r p = let y = sign_is_bit dy p.sign p.sign_is in omega arith
+vctr_first : (scale : ℕ) (dy : ℤ) (word : ℕ) → scale ≤ 9 → unsigned_abs dy ≤ 1023 → LongWord scale dy word → word < 40960
+vctr_first scale dy word scale_size dy_size p = let y = sign_is_bit dy p.sign p.sign_is in omega arith
 
 -- the word of an SVEC has the opcode 15
 svec_word : (scale : ℕ) (dx dy : ℤ) (z word : ℕ) → ShortWord scale dx dy z word → 61440 ≤ word
@@ -68,11 +68,11 @@ svec_word scale dx dy z word p = let sum = p.sum in omega arith
 -- words spell one instruction at most
 pub same_spelling : (a b : Instr) (words : List ℕ) → Spells a words → Spells b words → a ≡ b
 same_spelling a b words (vctr {scale = s} {dx = dx} {dy = dy} {z = z} r first second) (vctr {scale = s'} {dx = dx'} {dy = dy'} {z = z'} r' first' second') =
-    let one = same_long s s' dy dy' _ r.dy_size r'.dy_size first first' in
-    let two = same_long z z' dx dx' _ r.dx_size r'.dx_size second second' in
+    let one = same_long s s' dy dy' _ r.2 r'.2 first first' in
+    let two = same_long z z' dx dx' _ r.1 r'.1 second second' in
     cc (one.0, one.1, two.0, two.1)
-same_spelling a b words (vctr r p q) (labs r' p' q') = let low = vctr_first _ _ _ _ _ r p in absurd (omega arith)
-same_spelling a b words (labs r p q) (vctr r' p' q') = let low = vctr_first _ _ _ _ _ r' p' in absurd (omega arith)
+same_spelling a b words (vctr r p q) (labs r' p' q') = let low = vctr_first _ _ _ r.0 r.2 p in absurd (omega arith)
+same_spelling a b words (labs r p q) (vctr r' p' q') = let low = vctr_first _ _ _ r'.0 r'.2 p' in absurd (omega arith)
 same_spelling a b words (labs {x = x} {y = y} {scale = s} r p q) (labs {x = x'} {y = y'} {scale = s'} r' p' q') =
     let scales : s ≡ s' = omega arith in
     let xs : x ≡ x' = omega arith in
@@ -111,7 +111,7 @@ data Shape : List ℕ → Type 0 where
 
 -- a spelling has one of the two shapes
 shape : (a : Instr) (words : List ℕ) → Spells a words → Shape words
-shape a words (vctr r p q) = let low = vctr_first _ _ _ _ _ r p in two (omega arith)
+shape a words (vctr r p q) = let low = vctr_first _ _ _ r.0 r.2 p in two (omega arith)
 shape a words (labs r p q) = two (omega arith)
 shape a words (halt p q) = one p
 shape a words (jsrl r p) = one (omega arith)

@@ -1,6 +1,6 @@
 //! Instructions in range.
-ghost use Rattle.std.specs.Prelude.{◌≡◌, ◌↔◌, IfSome, IsSome, IsTrue};
-ghost use Rattle.dvg_code.specs.Ranges.{InRange, IsVector};
+ghost use Rattle.std.specs.Prelude.{◌≡◌, ◌≤◌, ◌↔◌, IfSome, IsSome, IsTrue, unsigned_abs};
+ghost use Rattle.dvg_code.specs.Ranges.{InRange};
 ghost use Rattle.dvg_code.specs.declared.instr.Instr.{Instr};
 
 use crate::instr::Instr;
@@ -58,25 +58,19 @@ fn is_in_range(instr: Instr) -> bool
     ensures { IsTrue result ↔ InRange instr }
 {
     match instr {
-        Instr::Vctr { scale, dx, dy, z } => is_vector(0, 9, 1023, scale, dx, dy, z),
+        Instr::Vctr { scale, dx, dy, z } => scale <= 9 && is_move(1023, dx, dy, z),
         Instr::Labs { x, y, scale } => x <= 4095 && y <= 4095 && scale <= 15,
         Instr::Jsrl(address) | Instr::Jmpl(address) => address <= 4095,
         Instr::Halt | Instr::Rtsl => true,
         Instr::Svec { scale, dx, dy, z } => {
-            is_vector(2, 5, 3, scale, i16::from(dx), i16::from(dy), z)
+            2 <= scale && scale <= 5 && is_move(3, i16::from(dx), i16::from(dy), z)
         }
     }
 }
 
-// Whether a vector's fields are within these bounds.
-fn is_vector(low: u8, high: u8, most: u16, scale: u8, dx: i16, dy: i16, z: u8) -> bool
-    ensures { IsTrue result ↔ IsVector low high most scale dx dy z }
+// Whether a vector's moves are at most so large, and its intensity has four bits.
+fn is_move(most: u16, dx: i16, dy: i16, z: u8) -> bool
+    ensures { IsTrue result ↔ ((unsigned_abs dx ≤ most) × (unsigned_abs dy ≤ most) × (z ≤ 15)) }
 {
-    if scale < low || high < scale {
-        return false;
-    }
-    if most < dx.unsigned_abs() || most < dy.unsigned_abs() {
-        return false;
-    }
-    z <= 15
+    dx.unsigned_abs() <= most && dy.unsigned_abs() <= most && z <= 15
 }

@@ -1,6 +1,6 @@
 //! From instructions to words.
 ghost use Rattle.std.specs.Prelude.{◌≡◌, ◌↔◌, ◌+◌, ◌*◌, ◌<◌, ◌≤◌, unsigned_abs, IsTrue, [], ◌∷◌};
-ghost use Rattle.dvg_code.specs.Ranges.{IsVector};
+ghost use Rattle.dvg_code.specs.Ranges.{InRange};
 ghost use Rattle.dvg_code.specs.Spelling.{IsCanonical, Spells, canon, sign_bit};
 
 use crate::code::Code;
@@ -30,7 +30,7 @@ fn long_word(top: u8, n: i16) -> u16
 
 // The word of a short vector.
 fn short_word(scale: u8, dx: i8, dy: i8, z: u8) -> u16
-    requires in_range { IsVector 2 5 3 scale dx dy z }
+    requires in_range { InRange (Instr.Svec scale dx dy z) }
     ensures { canon (Instr.Svec scale dx dy z) ≡ result ∷ [] }
 {
     let weights = u16::from(scale) - 2;

@@ -70,9 +70,14 @@ abbrev pub IsNewDriver : List ℕ → Open → Type 0
 IsNewDriver staged (Driver driven) = (driven.rom ≡ staged) × ((peeked : ℕ) → StandsAfter driven.stage peeked [])
 IsNewDriver staged part = ⊥
 
+-- what is answered where nothing is open
+abbrev pub unopened : Request → Reply
+unopened requests.Unknown = replies.Unknown
+unopened asked = replies.Closed
+
 -- what is open comes to this by a request, beside the draft and the staged bytes
 abbrev pub PartAnswers : Open → Request → Held → Held → Reply → Type 0
-PartAnswers Nothing asked old new answer = (new ≡ old) × (answer ≡ replies.Closed)
+PartAnswers Nothing asked old new answer = (new ≡ old) × (answer ≡ unopened asked)
 PartAnswers (World world) asked old new answer = (later : State) × (left : List Stroke) × (new ≡ record old { picture = left; open_part = World later }) × WorldAnswers old.draft old.staged asked world later old.picture left answer
 PartAnswers (Driver driven) asked old new answer = (later : Driven) × (new ≡ record old { open_part = Driver later }) × (later.rom ≡ driven.rom) × DriverAnswers driven.rom old.draft asked driven.stage later.stage answer
 PartAnswers (Generator machine) asked old new answer = (later : Machine) × (left : List Stroke) × (new ≡ record old { picture = left; open_part = Generator later }) × GeneratorAnswers asked machine later old.picture left answer

@@ -7,3 +7,4 @@ pub mod Drivers
 pub mod Generators
 pub mod Devices
 pub mod Parts
+pub mod Laws

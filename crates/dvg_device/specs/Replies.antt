@@ -17,7 +17,7 @@ use Rattle.dvg_device.specs.declared.reply.Reply.TheVariants.{Offered, Refused, 
 abbrev pub packed : ℕ → ℕ → ℕ → ℕ
 packed kind address value = kind + 0x100 * address + 0x100_0000 * value
 
--- a fault at a place: the operation's number or the ROM word's address, and the fault's number, with 100 where it is in the ROM
+-- a fault at a place: the operation's number or the ROM word's address, and the fault's number, with 0x100 more where it is in the ROM
 abbrev pub placed : ℕ → Place → ℕ
 placed fault (InFrame i) = packed 1 i fault
 placed fault (InRom a) = packed 1 a (0x100 + fault)

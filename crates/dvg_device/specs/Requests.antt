@@ -9,7 +9,7 @@ use Rattle.dvg_device.specs.declared.request.Request.TheVariants.{Offer, Redraw,
 abbrev pub operation_of : ℕ → Operation
 operation_of n = record { kind = n / 0x100 % 0x100; scale = n / 0x1_0000 % 0x100; z = n / 0x100_0000 % 0x100; x = n / 0x1_0000_0000 % 0x1_0000; y = n / 0x1_0000_0000_0000 % 0x1_0000 }
 
--- a flag is the bit of weight 100
+-- a flag is the bit of weight 0x100
 abbrev pub flag_of : ℕ → Bool
 flag_of n = n / 0x100 % 2 == 1
 

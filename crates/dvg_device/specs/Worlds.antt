@@ -32,10 +32,9 @@ pub record Happens (event : Happening) (world later : State) (drawn left : List 
   pub told : reply ≡ told_by entry
   pub picture : left ≡ picture_by entry drawn
 
--- an event that there may be no memory for: a fetch that completes a vector that is seen, and a reset of the whole system
+-- an event that there may be no memory for: a fetch that completes a vector that is seen
 abbrev pub TakesRoom : Happening → State → Type 0
 TakesRoom events.Fetch world = DrawsNow world
-TakesRoom (events.ResetAll bytes) world = Unit {0}
 TakesRoom event world = ⊥
 
 -- there was no memory for the event, and nothing has changed

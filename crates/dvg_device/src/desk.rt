@@ -1,5 +1,5 @@
 //! A driver alone.
-ghost use Rattle.std.specs.Prelude.{◌≡◌, OnOk};
+ghost use Rattle.std.specs.Prelude.{◌≡◌, IfOk, OnOk};
 ghost use Rattle.dvg_device.specs.Devices.{Driver as open_driver, IsNewDriver};
 ghost use Rattle.dvg_device.specs.Drivers.{DriverAnswers, OfferAnswers, RedrawAnswers};
 
@@ -8,7 +8,7 @@ use crate::request::Request;
 use dvg_driver::{Driver, DriverFault};
 use dvg_frame::{Checker, Draft};
 use dvg_mem::{MemFault, Rom};
-use std::alloc::Global;
+use std::alloc::{AllocError, Global};
 use std::marker::Model;
 
 /// A driver alone, with the ROM over which its drafts are checked and what they are checked by.
@@ -16,7 +16,7 @@ use std::marker::Model;
 pub(crate) struct Desk {
     rom: Rom,
     driver: Driver,
-    checker: Checker<Global>,
+    checker: Box<Checker>,
 }
 
 /// Contracts see the ROM and the driver's stage.
@@ -29,15 +29,15 @@ impl Model for Desk {
 }
 
 impl Desk {
-    // A driver that was just reset, over this ROM.
-    pub(crate) fn new(alloc: Global, rom: Rom) -> Desk
-        ensures { IsNewDriver rom (open_driver result) }
+    // A driver that was just reset, over this ROM. It takes the room of a checker.
+    pub(crate) fn new(alloc: Global, rom: Rom) -> Result<Desk, AllocError>
+        ensures { IfOk result (λ desk. IsNewDriver rom (open_driver desk)) }
     {
-        Desk {
+        Ok(Desk {
             rom,
             driver: Driver::new(),
-            checker: Checker::new(alloc),
-        }
+            checker: Box::new(alloc, Checker::new())?,
+        })
     }
 
     // The driver is just reset, over a ROM of these bytes.

@@ -1,20 +1,19 @@
 //! The device.
 ghost use Rattle.std.specs.Prelude.{◌≡◌, ◌↔◌, [], length, drop, take, slice_get, IfSome, IsTrue};
 ghost use Rattle.dvg_world.specs.Standing.{WorldAfter};
-ghost use Rattle.dvg_device.specs.Devices.{Answered, Driver, IsNewDriver, IsOneOf, PartAnswers, PushAnswers, StageAnswers, Turned, closed};
+ghost use Rattle.dvg_device.specs.Devices.{Answered, Driver, IsNewDriver, IsOneOf, PartAnswers, PushAnswers, StageAnswers, Turned, closed, unopened};
 ghost use Rattle.dvg_device.specs.Parts.{open_of};
 ghost use Rattle.dvg_device.specs.Replies.{begins, ends, shines};
 
+use crate::cabinet::Cabinet;
 use crate::desk::Desk;
-use crate::happening::ask_world;
 use crate::lone::ask_generator;
 use crate::operation::Operation;
 use crate::reply::Reply;
 use crate::request::Request;
 use dvg_frame::Draft;
 use dvg_gen::{Generator, Stroke};
-use dvg_mem::{Flat, Image, Rom};
-use dvg_world::World;
+use dvg_mem::{MEMORY_BYTES, Rom};
 use std::alloc::Global;
 use std::marker::Model;
 use std::mem;
@@ -22,14 +21,11 @@ use std::mem;
 /// The most bytes that are staged: those of a RAM, and of the larger ROM.
 const MOST_STAGED: usize = 6144;
 
-/// How many bytes a RAM has.
-const RAM_BYTES: usize = 2048;
-
 /// What is open.
 #[derive(Drop)]
 pub(crate) enum Part {
     Nothing,
-    World(Box<World<Flat>>),
+    World(Box<Cabinet>),
     Driver(Box<Desk>),
     Generator(Generator<Global>),
 }
@@ -45,8 +41,7 @@ pub struct Device {
     picture: Vec<Stroke>,
     part: Part,
     // Blocks of memory of what was open before, for what is opened next.
-    spare_image: Option<Image>,
-    spare_world: Option<Box<World<Flat>>>,
+    spare_world: Option<Box<Cabinet>>,
     spare_desk: Option<Box<Desk>>,
 }
 
@@ -76,7 +71,6 @@ impl Device {
             draft: Draft::new(),
             picture: Vec::new(alloc),
             part: Part::Nothing,
-            spare_image: None,
             spare_world: None,
             spare_desk: None,
         }
@@ -160,22 +154,8 @@ impl Device {
         Reply::Cleared
     }
 
-    // The memory of an image that was made before, if there is some.
-    fn take_spare_image(&mut self) -> Option<Image>
-        ensures { self.new ≡ self.old }
-    {
-        self.spare_image.take()
-    }
-
-    // Keeps the memory of an image.
-    fn keep_image(&mut self, image: Image)
-        ensures { self.new ≡ self.old }
-    {
-        self.spare_image = Some(image);
-    }
-
     // The memory of a world that was open before, if there is some.
-    fn take_spare_world(&mut self) -> Option<Box<World<Flat>>>
+    fn take_spare_world(&mut self) -> Option<Box<Cabinet>>
         ensures { self.new ≡ self.old }
     {
         self.spare_world.take()
@@ -196,16 +176,9 @@ impl Device {
         if !is_one_of(self.staged.len(), 4096, 6144) {
             return Reply::WrongSize;
         }
-        let spare = self.take_spare_image();
-        let Some(image) = new_image(self.alloc, self.staged.as_slice(), spare) else {
-            return Reply::NoMemory;
-        };
         let spare = self.take_spare_world();
-        match new_world(self.alloc, self.staged.as_slice(), &image, spare) {
-            Some(world) => {
-                self.keep_image(image);
-                self.open(Part::World(world))
-            }
+        match new_world(self.alloc, self.staged.as_slice(), spare) {
+            Some(world) => self.open(Part::World(world)),
             None => Reply::NoMemory,
         }
     }
@@ -310,18 +283,24 @@ impl Device {
         ensures { PartAnswers self.old.open_part request self.old self.new result }
     {
         match &mut self.part {
-            Part::Nothing => Reply::Closed,
-            Part::World(world) => ask_world(
-                self.alloc,
-                world,
-                request,
-                &self.draft,
-                self.staged.as_slice(),
-                &mut self.picture,
-            ),
+            Part::Nothing => unopened(request),
+            Part::World(world) => {
+                let staged = self.staged.as_slice();
+                world.ask(request, &self.draft, staged, &mut self.picture)
+            }
             Part::Driver(desk) => desk.ask(request, &self.draft),
             Part::Generator(generator) => ask_generator(generator, request, &mut self.picture),
         }
+    }
+}
+
+// What is answered where nothing is open.
+fn unopened(request: Request) -> Reply
+    ensures { result ≡ unopened request }
+{
+    match request {
+        Request::Unknown => Reply::Unknown,
+        _ => Reply::Closed,
     }
 }
 
@@ -332,24 +311,20 @@ fn is_one_of(n: usize, small: usize, large: usize) -> bool
     n == small || n == large
 }
 
-// A world over the ROM of the bytes behind the first 2,048, with this first image of its RAM, in this memory where there is
-// some. None for want of memory.
-fn new_world(
-    alloc: Global,
-    staged: &[u8],
-    image: &Image,
-    spare: Option<Box<World<Flat>>>,
-) -> Option<Box<World<Flat>>>
-    ensures { IfSome result (λ world. WorldAfter (drop 2048 staged.now) image.now [] world.value) }
+// A world over the ROM of the bytes after the first 2,048, with those as the first image of its RAM, in this memory where
+// there is some. None for want of memory.
+fn new_world(alloc: Global, staged: &[u8], spare: Option<Box<Cabinet>>) -> Option<Box<Cabinet>>
+    ensures { IfSome result (λ world. WorldAfter (drop 2048 staged.now) (take 2048 staged.now) [] world.value) }
 {
-    let (_, rom) = staged.split_at_checked(RAM_BYTES)?;
+    let (image, rom) = staged.split_at_checked(MEMORY_BYTES)?;
     let Some(mut world) = spare else {
-        let rom = Rom::new(alloc, rom).ok()?;
-        let world = World::<Flat>::new(alloc, rom, image).ok()?;
-        return Box::new(alloc, world).ok();
+        return Box::new(alloc, Cabinet::new(alloc, image, rom)?).ok();
     };
-    world.begin_anew(alloc, rom, image).ok()?;
-    Some(world)
+    if world.begin_anew(alloc, image, rom) {
+        Some(world)
+    } else {
+        None
+    }
 }
 
 // A driver alone over the ROM of these bytes, in this memory where there is some. None for want of memory.
@@ -376,23 +351,7 @@ fn renewed_desk(alloc: Global, rom: &[u8], mut desk: Box<Desk>) -> Option<Box<De
 fn boxed_desk(alloc: Global, rom: &[u8]) -> Option<Box<Desk>>
     ensures { IfSome result (λ desk. IsNewDriver rom.now (Driver desk.value)) }
 {
-    let Ok(rom) = Rom::new(alloc, rom) else {
-        return None;
-    };
-    match Box::new(alloc, Desk::new(alloc, rom)) {
-        Ok(desk) => Some(desk),
-        Err(_) => None,
-    }
-}
-
-// An image of the first 2,048 of these bytes, in the memory of another where there is one. None for want of memory.
-fn new_image(alloc: Global, staged: &[u8], spare: Option<Image>) -> Option<Image>
-    ensures { IfSome result (λ image. image ≡ take 2048 staged.now) }
-{
-    let (bytes, _) = staged.split_at_checked(RAM_BYTES)?;
-    let Some(mut image) = spare else {
-        return Image::new(alloc, bytes).ok();
-    };
-    image.copy_from(bytes);
-    Some(image)
+    let rom = Rom::new(alloc, rom).ok()?;
+    let desk = Desk::new(alloc, rom).ok()?;
+    Box::new(alloc, desk).ok()
 }

@@ -1,19 +1,20 @@
 //! What happens in a world.
+ghost use Rattle.std.specs.Prelude.{[]};
 ghost use Rattle.dvg_device.specs.Worlds.{WorldAnswers};
 
 use crate::reply::{Reply, told};
 use crate::request::Request;
 use dvg_frame::Draft;
 use dvg_gen::Stroke;
-use dvg_mem::{Flat, Image, MemFault};
+use dvg_mem::{Flat, Image, MEMORY_BYTES};
 use dvg_world::World;
-use std::alloc::Global;
 
-// Asks a world, with this draft and these staged bytes. The strokes are those of the newest run that came to a HALT.
+// Asks a world, with this draft and these staged bytes. The strokes are those of the newest run that came to a HALT. The
+// image is the room for that of a reset of the whole system.
 #[inline(always)]
 pub(crate) fn ask_world(
-    alloc: Global,
     world: &mut World<Flat>,
+    image: &mut Image,
     request: Request,
     draft: &Draft,
     staged: &[u8],
@@ -32,11 +33,23 @@ pub(crate) fn ask_world(
         },
         Request::ResetGenerator => told(world.reset_generator(), picture),
         Request::ResetProcessor => told(world.reset_processor(), picture),
-        Request::ResetAll => match Image::new(alloc, staged) {
-            Ok(image) => told(world.reset_all(&image), picture),
-            Err(MemFault::Size) => Reply::WrongSize,
-            Err(MemFault::OutOfMemory) => Reply::NoMemory,
-        },
+        Request::ResetAll => reset_all(world, image, staged, picture),
         _ => Reply::Unknown,
     }
+}
+
+// Resets the whole system, where the staged bytes are those of an image.
+fn reset_all(
+    world: &mut World<Flat>,
+    image: &mut Image,
+    staged: &[u8],
+    picture: &mut Vec<Stroke>,
+) -> Reply
+    ensures { WorldAnswers [] staged.now Request.ResetAll world.old world.new picture.old.items picture.new.items result }
+{
+    if staged.len() != MEMORY_BYTES {
+        return Reply::WrongSize;
+    }
+    image.copy_from(staged);
+    told(world.reset_all(image), picture)
 }

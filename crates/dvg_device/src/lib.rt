@@ -12,9 +12,11 @@
 //! requests and replies are numbers, and which, is this project's own choice.
 #![tactic(auto)]
 
+mod cabinet;
 mod desk;
 mod device;
 mod happening;
+pub mod laws;
 mod lone;
 mod operation;
 mod reply;

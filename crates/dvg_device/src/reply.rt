@@ -14,8 +14,8 @@ use dvg_world::Entry;
 pub enum Reply {
     /// 0: the draft was checked, and the driver took its frame.
     Offered,
-    /// 1: the check refused the draft. The value is the fault's number, 1 to 9, as `dvg check` has it, and 100 more where
-    /// its place is in the ROM; the address is the number of an operation, or there a word address.
+    /// 1: the check refused the draft. The value is the fault's number, 1 to 9, as `dvg check` has it, and 0x100 more
+    /// where its place is in the ROM; the address is the number of an operation, or there a word address.
     Refused(FrameFault),
     /// 2: the driver isn't idle, and nothing has changed.
     Busy,
@@ -54,7 +54,7 @@ pub enum Reply {
     Opened,
     /// 23: other than as many bytes are staged as it takes, and nothing has changed.
     WrongSize,
-    /// 24: nothing is open.
+    /// 24: nothing is open, or not any more.
     Closed,
     /// 25: a generator wants a byte of the word at this address, the high one (1) or the low one (0).
     Wants(u16, bool),
@@ -64,7 +64,7 @@ pub enum Reply {
     Point(u32, u32),
     /// An intensity, 1 to 15, and 0 where there is no such stroke.
     Intensity(u8),
-    /// 254: there is no such request, or none of what is open. Nothing has changed.
+    /// 254: there is no such request, or what is open has no such request. Nothing has changed.
     Unknown,
     /// 255: there was no memory for it, and nothing has changed.
     NoMemory,

@@ -30,7 +30,7 @@ pub enum Request {
     ResetGenerator,
     /// 6: a reset of the processor alone, which is one of the driver.
     ResetProcessor,
-    /// 7: a reset of the whole system. The RAM holds the 2,048 bytes that were staged.
+    /// 7: a reset of the whole system, which takes no memory. The RAM holds the 2,048 bytes that were staged.
     ResetAll,
     /// 8: one operation more for the draft. The kind stands in bits 8 to 15, the scale in 16 to 23, the intensity in 24
     /// to 31, x in 32 to 47, and y in 48 to 63.
@@ -54,7 +54,8 @@ pub enum Request {
     OpenDriver,
     /// 14: a generator alone begins, halted, with the beam at 0, 0 and scale 0.
     OpenGenerator,
-    /// 15: what is open ends, and its memory is given back, with that of the staged bytes and of the strokes.
+    /// 15: what is open ends, and its memory is given back, with that of the staged bytes and of the strokes. The draft
+    /// is empty again.
     Close,
     /// 16: which byte does a generator alone want?
     Wants,

@@ -3,3 +3,4 @@ pub mod Drawing
 pub mod Stepping
 pub mod Telling
 pub mod Rows
+pub mod Silent

@@ -99,6 +99,14 @@ final (goes_on {visits = visits} {held = held} r g) = record {
   is = sym (ap (λ x. end_by x 65536 visits held) g);
 }
 
+-- the run that has come to an end is as long as each run of as many words as are followed
+pub as_far : {memory : ℕ → Option ℕ} {n : ℕ} {vs us : List Visit} {k : Option ℕ} {end : End} → Ends memory vs end → Runs memory n us k → n ≤ 65536
+    → (m : ℕ) × (held : Option ℕ) × Runs memory m vs held × (n ≤ m)
+as_far ends r few =
+    let p = final ends in
+    let short = p.few in
+    (p.words, p.held, p.runs, ⊎_elim (λ low. no_longer p.runs (p.over low) r) (λ high. omega arith) (cases_lt p.words 65536))
+
 -- two are one
 one_final : {memory : ℕ → Option ℕ} {vs us : List Visit} {a b : End} → Final memory vs a → Final memory us b → (vs ≡ us) × (a ≡ b)
 one_final {memory} {vs} {us} {a} {b} p q =

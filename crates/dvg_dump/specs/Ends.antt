@@ -1,5 +1,5 @@
 -- How a run over a memory that does not change ends within 65,536 words.
-use Rattle.std.specs.Prelude.{◌≡◌, ◌<◌, ◌≤◌, ℕ, List, ◌∷◌, Option, None}
+use Rattle.std.specs.Prelude.{◌≡◌, ◌<◌, ◌≤◌, ℕ, List, [], ◌∷◌, Option, None}
 use Rattle.dvg_gen.specs.declared.stroke.Stroke.{Stroke}
 use Rattle.dvg_gen.specs.declared.taken.GenFault.{GenFault}
 use Rattle.dvg_gen.specs.declared.taken.GenFault.TheVariants.{Hole}
@@ -25,3 +25,7 @@ pub data Ends (memory : ℕ → Option ℕ) : List Visit → End → Type 0 wher
   meets_hole : {words : ℕ} {visits : List Visit} {held : Option ℕ} → Runs memory words visits held → words < 65536 → fate visits ≡ Goes
       → memory (wanted visits held) ≡ None → Ends memory visits (Broken (wanted visits held) Hole)
   goes_on : {visits : List Visit} {held : Option ℕ} → Runs memory 65536 visits held → fate visits ≡ Goes → Ends memory visits Endless
+
+-- the run over a memory draws no stroke
+abbrev pub DrawsNoStroke : (ℕ → Option ℕ) → Type 0
+DrawsNoStroke memory = (visits : List Visit) (end : End) → Ends memory visits end → drawn_by visits ≡ []

@@ -34,11 +34,15 @@ pub struct Dump<A: Allocator = Global> {
 
 /// Contracts see the bytes of both.
 impl<A: Allocator> Model for Dump<A> {
+    ghost use Rattle.std.specs.Prelude.{◌*◌};
+    ghost use Rattle.dvg_mem.specs.Memory.{IsImage, IsRom};
     ghost use Rattle.dvg_dump.specs.Memory.{DumpBytes};
 
     ghost Value = { DumpBytes };
 
     ghost view = { λ dump. record { ram = dump.ram; rom = dump.rom } };
+
+    ghost invariant = { λ dump. IsImage dump.ram × IsRom dump.rom };
 }
 
 impl<A: Allocator + Copy> Dump<A> {
@@ -62,6 +66,9 @@ impl<A: Allocator + Copy> Dump<A> {
         let Ok(rom) = Rom::new(alloc, rom) else {
             return Err(DumpFault::OutOfMemory);
         };
+        // An image is one of 2,048 bytes, and a ROM has 2,048 or 4,096, as their types say.
+        let _ = image.bytes();
+        let _ = rom.len_words();
         Ok(Dump { alloc, ram, rom })
     }
 }

@@ -1,10 +1,12 @@
 //! Runs over dumps.
-ghost use Rattle.std.specs.Prelude.{◌≡◌, ◌<◌, List, IfOk, None, true};
+ghost use Rattle.std.specs.Prelude.{◌≡◌, ◌<◌, List, IfOk, IsOk, None, false, true};
+ghost use Rattle.dvg_gen.specs.Bytes.{Whole};
+ghost use Rattle.dvg_gen.specs.Completing.{DrawsNothing};
 ghost use Rattle.dvg_gen.specs.Machine.{HasTaken};
 ghost use Rattle.dvg_gen.specs.Run.{Visit};
 ghost use Rattle.dvg_gen.specs.Told.{Told};
 ghost use Rattle.dvg_dump.specs.Endings.{end_of};
-ghost use Rattle.dvg_dump.specs.Ends.{Ends};
+ghost use Rattle.dvg_dump.specs.Ends.{DrawsNoStroke, Ends};
 ghost use Rattle.dvg_dump.specs.Following.{TakesWord, TellsRun};
 ghost use Rattle.dvg_dump.specs.Memory.{memory_of};
 ghost use Rattle.dvg_dump.specs.Tracing.{Steps, fresh};
@@ -37,7 +39,8 @@ fn take_word<A: Allocator + Copy>(
 ) -> Result<Taken<A>, OutOfMemory>
     requires open { generator.old.is_open ≡ true }
     requires stands { (history : List Told) × HasTaken generator.old history None }
-    ensures { IfOk result (TakesWord generator.old word generator.new) }
+    ensures takes { IfOk result (TakesWord generator.old word generator.new) }
+    ensures room { DrawsNothing generator.old.held (Whole word) → IsOk result }
 {
     let Some(word) = word else {
         return generator.take_byte(None);
@@ -52,9 +55,10 @@ fn take_word<A: Allocator + Copy>(
 impl<A: Allocator + Copy> Dump<A> {
     /// The run of a new generator over this memory, and how it ends.
     ///
-    /// An error is want of memory, of which the strokes take some, one by one.
+    /// An error is want of memory, of which the strokes take some, one by one. A run that draws none is never refused.
     pub fn run(&self) -> Result<Ending<A>, OutOfMemory>
-        ensures { IfOk result (λ ending. (visits : List Visit) × Ends (memory_of self.now) visits (end_of ending)) }
+        ensures ends { IfOk result (λ ending. (visits : List Visit) × Ends (memory_of self.now) visits (end_of ending)) }
+        ensures room { DrawsNoStroke (memory_of self.now) → IsOk result }
     {
         Ok(self.run_telling(false)?.ending)
     }
@@ -68,7 +72,8 @@ impl<A: Allocator + Copy> Dump<A> {
 
     /// The same run, with the instructions that were run where that is asked for, and else with none.
     pub fn run_telling(&self, traces: bool) -> Result<Traced<A>, OutOfMemory>
-        ensures { IfOk result (λ traced. TellsRun traces (memory_of self.now) traced.ran.items (end_of traced.ending)) }
+        ensures tells { IfOk result (λ traced. TellsRun traces (memory_of self.now) traced.ran.items (end_of traced.ending)) }
+        ensures room { traces ≡ false → DrawsNoStroke (memory_of self.now) → IsOk result }
     {
         let mut tracer = Tracer::new(self.alloc, traces);
         let ending = self.run_beside(&mut tracer)?;
@@ -81,7 +86,8 @@ impl<A: Allocator + Copy> Dump<A> {
     // How the run ends, of which the tracer is told.
     fn run_beside(&self, tracer: &mut Tracer<A>) -> Result<Ending<A>, OutOfMemory>
         requires { tracer.old ≡ fresh tracer.old.traces }
-        ensures { IfOk result (λ ending. TellsRun tracer.old.traces (memory_of self.now) tracer.new.ran (end_of ending)) }
+        ensures tells { IfOk result (λ ending. TellsRun tracer.old.traces (memory_of self.now) tracer.new.ran (end_of ending)) }
+        ensures room { tracer.old.traces ≡ false → DrawsNoStroke (memory_of self.now) → IsOk result }
     {
         let mut generator = Generator::new(self.alloc);
         generator.start();
@@ -113,7 +119,8 @@ impl<A: Allocator + Copy> Dump<A> {
         requires address { address < 4096 }
         requires open { generator.old.is_open ≡ true }
         requires stands { (history : List Told) × HasTaken generator.old history None }
-        ensures { IfOk result (Steps (memory_of self.now) address generator.old tracer.old generator.new tracer.new) }
+        ensures steps { IfOk result (Steps (memory_of self.now) address generator.old tracer.old generator.new tracer.new) }
+        ensures room { tracer.old.traces ≡ false → DrawsNothing generator.old.held (Whole (memory_of self.now address)) → IsOk result }
     {
         let word = fetch(&self.ram, &self.rom, address);
         tracer.take(address, word)?;

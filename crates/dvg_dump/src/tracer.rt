@@ -1,5 +1,5 @@
 //! What follows a generator from word to word and tells its instructions.
-ghost use Rattle.std.specs.Prelude.{◌≡◌, IfOk, None, Some, length, nat_eq, true};
+ghost use Rattle.std.specs.Prelude.{◌≡◌, IfOk, IsOk, None, Some, false, length, nat_eq, true};
 ghost use Rattle.std.specs.Cmp.Lexicographic.{pointwise};
 ghost use Rattle.dvg_code.specs.Cutting.{Fronts, IsCut};
 ghost use Rattle.dvg_code.specs.Spelling.{IsFirst, canon};
@@ -93,7 +93,8 @@ impl<A: Allocator> Tracer<A> {
 
     /// The run fetched a word at an address, or met a hole there.
     pub(crate) fn take(&mut self, address: u16, word: Option<u16>) -> Result<(), OutOfMemory>
-        ensures { IfOk result (λ _. TracesWord address word self.old self.new) }
+        ensures traces { IfOk result (λ _. TracesWord address word self.old self.new) }
+        ensures room { self.old.traces ≡ false → IsOk result }
     {
         let Some(word) = word else {
             return Ok(());

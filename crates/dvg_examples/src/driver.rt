@@ -58,7 +58,7 @@ fn a_frame_is_written_and_published(rt: HostRuntime) -> Result<(), Fail> {
 fn a_checked_draft_is_taken_where_the_driver_is_idle(rt: HostRuntime) -> Result<(), Fail> {
     let rom = rom(rt.alloc(), &[])?;
     let draft = first_draft()?;
-    let mut checker = Checker::new(rt.alloc());
+    let mut checker = Checker::new();
     let Ok(checked) = checker.check(&draft, &rom) else {
         return Err("refused".into());
     };

@@ -63,7 +63,7 @@ fn a_cursor_that_begins_anew_gives_the_new_frame(rt: HostRuntime) -> Result<(), 
     let mut cursor = Cursor::new(each_operation(&rom)?, Half::H1);
     assert_eq!(rt; cursor.next(), Some((0x402, 0x00)));
     let short = behind_labs(0, 0, &[OpKind::Halt])?;
-    let mut checker = Checker::new(rt.alloc());
+    let mut checker = Checker::new();
     let Ok(checked) = checker.check(&short, &rom) else {
         return Err("refused".into());
     };
@@ -78,7 +78,7 @@ fn sizes(draft: &Draft, rom: &Rom) -> Result<(u16, u64), FrameFault> {
 }
 
 /// The next check by the checker answers what `check` answers.
-fn agrees(checker: &mut Checker<Global>, draft: &Draft, rom: &Rom) -> bool {
+fn agrees(checker: &mut Checker, draft: &Draft, rom: &Rom) -> bool {
     let answer = checker.check(draft, rom).map(|checked| {
         let frame = checked.to_frame();
         (frame.len_words(), checked.bound())
@@ -106,7 +106,7 @@ fn some_drafts() -> Result<[Draft; 6], Fail> {
 fn a_checker_answers_as_if_each_check_were_its_first(rt: HostRuntime) -> Result<(), Fail> {
     let rom = rom(rt.alloc(), &[0xF000, 0xB000])?;
     let drafts = some_drafts()?;
-    let mut checker = Checker::new(rt.alloc());
+    let mut checker = Checker::new();
     for at in [0, 1, 2, 3, 0, 4, 5, 1, 1, 3, 2, 0, 0] {
         let Some(draft) = drafts.get(at) else {
             return Err("no such draft".into());

@@ -10,7 +10,7 @@ use Rattle.dvg_code.specs.Words.{IsWord, word_in}
 use Rattle.dvg_code.specs.Acts.{Act, Moves, Jumps, Calls, Returns, Halts}
 use Rattle.dvg_code.proofs.Beginnings.{one_word, two_words}
 use Rattle.dvg_mem.specs.Memory.{IsRom, first_word}
-use Rattle.dvg_mem.proofs.Roms.{behind_ram, rom_there, word_fits, words_from_first}
+use Rattle.dvg_mem.proofs.Roms.{behind_ram, rom_there, word_fits, words_from_first, none_there}
 use Rattle.dvg_gen.specs.declared.beam.Beam.{Beam}
 use Rattle.dvg_gen.specs.declared.stroke.Stroke.{Stroke}
 use Rattle.dvg_gen.specs.Drawing.{moved, drawn}
@@ -19,14 +19,13 @@ use Rattle.dvg_frame.specs.declared.op.OpKind.TheVariants.{Return}
 use Rattle.dvg_frame.specs.declared.place.Place.{Place}
 use Rattle.dvg_frame.specs.declared.place.Place.TheVariants.{InFrame, InRom}
 use Rattle.dvg_frame.specs.declared.place.FrameFault.TheVariants.{OutOfRom, NoCaller}
-use Rattle.dvg_frame.specs.Steps.{one, two, Stands, in_frame, in_rom, second, bare, IsFine, Leads, on, jump, call, back, Reached, begin, step, Closed}
-use Rattle.dvg_frame.specs.Faults.{Begins}
+use Rattle.dvg_frame.specs.Steps.{one, two, Stands, in_frame, in_rom, second, bare, IsFine, Leads, on, jump, call, back, Reached, begin, step, Closed, Begins}
 use Rattle.dvg_frame.specs.Pairs.{pair_of}
 use Rattle.dvg_frame.specs.Ways.{IsPlaceOf}
 use Rattle.dvg_frame.specs.Picture.{End, AtHalt, AtReturn, Draws, halts, returns, moves, jumps, call_halts, calls, IsPicture, IsBound}
-use Rattle.dvg_frame.specs.Loops.{Walks, none, more, places, HasLoop}
+use Rattle.dvg_frame.specs.Tables.{places}
+use Rattle.dvg_frame.specs.Loops.{Walks, none, more, HasLoop}
 use Rattle.dvg_frame.proofs.Swept.{few_ops, pair_in, reached_pair}
-use Rattle.dvg_frame.proofs.OneFault.{closed_misses}
 use Rattle.dvg_frame.proofs.Pictures.{one_picture}
 
 few_words : (instr : Instr) → word_count instr ≤ 2
@@ -40,9 +39,6 @@ few_words (Svec scale dx dy z) = omega arith
 
 suc_times : (k cost : ℕ) → suc k * cost ≡ cost + k * cost
 suc_times k cost = let is = suc-mul k cost in omega arith
-
-pub begins_of : (F : List OpKind) (R : List ℕ) → Closed F R → Begins F
-begins_of F R closed = record { begins = closed.begins; fits = closed.fits; targets = λ i miss. closed_misses F R closed miss }
 
 module _ (F : List OpKind) (R : List ℕ) where
   -- from a place, whatever the beam, something is drawn to this end in so many fetches
@@ -87,7 +83,7 @@ module _ (F : List OpKind) (R : List ℕ) (image : IsRom R) (closed : Closed F R
       let fits : IsWord first = word_fits R a image low high in
       ⊎_elim
       (λ is_first.
-      let next_in : a + 1 < 0xC00 = ⊎_elim (λ less. less) (λ far. absurd (fine (OutOfRom (InRom a)) (second there is_first (inr far)))) (cases_lt (a + 1) 0xC00) in
+      let next_in : a + 1 < 0xC00 = ⊎_elim (λ less. less) (λ far. absurd (fine (OutOfRom (InRom a)) (second there is_first (none_there R (a + 1) (inr far))))) (cases_lt (a + 1) 0xC00) in
       let next_there = rom_there R (a + 1) (omega arith) next_in in
       let spelled = two_words first (word_in R (a + 1 - first_word R)) is_first (word_fits R (a + 1) image (omega arith) next_in) in
       record { act = _; after = _; stands = in_rom (two there next_there spelled.1) refl })
@@ -102,7 +98,7 @@ module _ (F : List OpKind) (R : List ℕ) (image : IsRom R) (closed : Closed F R
   stands_in (InRom a) d inside fine = in_rom_stands a d inside fine
 
   begins : Begins F
-  begins = begins_of F R closed
+  begins = closed.begins
 
   pub something : (p : Place) (d : ℕ) → Reached F R p d → Something p
   something p d reached = stands_in p d (pair_in F R (few_ops F begins) begins (pair_of p d) reached) (closed.fine p d reached)

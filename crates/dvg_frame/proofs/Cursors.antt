@@ -8,8 +8,10 @@ use Rattle.dvg_mem.specs.declared.half.Half.{Half}
 use Rattle.dvg_mem.specs.Areas.{base}
 use Rattle.dvg_frame.specs.declared.op.OpKind.{OpKind}
 use Rattle.dvg_frame.specs.Bytes.{IsBehindWordZero, addressed, bytes}
-use Rattle.dvg_frame.specs.Layout.{op_code, laid, laid_ops, IsSpelling}
+use Rattle.dvg_frame.specs.Frames.{IsSpelling}
+use Rattle.dvg_frame.specs.Layout.{op_code, laid, laid_ops}
 use Rattle.dvg_frame.specs.declared.cursor.Cursor.TheInside.{Inside}
+use Rattle.dvg_frame.specs.Counting.{IsCounted}
 use Rattle.dvg_frame.specs.Cursors.{bytes_from, bytes_left, items_left, IsCursor}
 use Rattle.dvg_frame.proofs.Bytes.{addressed_in_ram, bytes-append, bytes-length, byte_in_word}
 use Rattle.dvg_frame.proofs.Sizes.{base_high, base_low, canon_length, some_words}
@@ -73,6 +75,7 @@ pub record GoesOn (old new : Inside) : Type 0 where
   pub ready : IsReady (bytes_left old) new.half new.frame.operations new.words.items new.given new.op
   pub address : new.address ≡ old.address
   pub left : new.left ≡ old.left
+  pub counted : IsCounted new.frame.operations new.words_before.items
 
 -- the cursor after its first item
 pub record IsNext (old new : Inside) (address byte : ℕ) : Type 0 where
@@ -81,6 +84,7 @@ pub record IsNext (old new : Inside) (address byte : ℕ) : Type 0 where
   pub given : new.given ≤ 2 * length new.words.items
   pub rises : new.address ≡ suc old.address
   pub left : suc new.left ≡ old.left
+  pub counted : IsCounted new.frame.operations new.words_before.items
 
 pub next_items : (old new : Inside) (items : List (ℕ × ℕ)) (address byte : ℕ) → items_left old ≡ items → IsNext old new address byte → items ≡ (address, byte) ∷ items_left new
 next_items old new items address byte items_is next =
@@ -88,6 +92,7 @@ next_items old new items address byte items_is next =
 
 pub next_kept : (old new : Inside) (address byte : ℕ) → IsCursor old → IsNext old new address byte → IsCursor new
 next_kept old new address byte kept next = record {
+  counted = next.counted;
   given = next.given;
   left = let count : length (bytes_left old) ≡ suc (length (bytes_left new)) = ap length next.bytes in let before = kept.left in let less = next.left in omega arith;
   in_ram = let before = kept.in_ram in let more = next.rises in let less = next.left in omega arith;

@@ -1,10 +1,10 @@
 -- The faults that are looked for first.
-use Rattle.std.proofs.Common.{◌≡◌, ℕ, ◌<◌, ◌≤◌, ⊎_elim, List, [], ◌∷◌, length, Some, refl, sym, ◌∙◌, subst, arith}
+use Rattle.std.proofs.Common.{◌≡◌, ℕ, ◌<◌, ◌≤◌, List, [], ◌∷◌, length, Some, refl, sym, ◌∙◌, subst, arith}
 use Rattle.std.specs.Prelude.{slice_get}
-use Rattle.std.proofs.lemmas.Bool.{cases_lt}
 use Rattle.std.proofs.lemmas.Option.{slice_get_within}
 use Rattle.dvg_code.specs.declared.instr.Instr.{Instr}
 use Rattle.dvg_code.specs.declared.instr.Instr.TheVariants.{Labs}
+use Rattle.dvg_gen.specs.Obeyed.{IsLabs}
 use Rattle.dvg_frame.specs.declared.op.OpKind.{OpKind}
 use Rattle.dvg_frame.specs.declared.op.OpKind.TheVariants.{Draw, CallRom, JumpRom, Call, Jump, Return, Halt as Stop}
 use Rattle.dvg_frame.specs.declared.place.Place.TheVariants.{InFrame, InRom}
@@ -12,14 +12,14 @@ use Rattle.dvg_frame.specs.declared.place.Place.{Place}
 use Rattle.dvg_frame.specs.declared.place.FrameFault.{FrameFault}
 use Rattle.dvg_frame.specs.declared.place.FrameFault.TheVariants.{Empty, NoLabs, TooLong, Target, RunsOff, OutOfRom, TooDeep, NoCaller, Loops}
 use Rattle.dvg_frame.specs.Layout.{size}
-use Rattle.dvg_frame.specs.Steps.{op_act, Names, Bad, last, target, second, past, deep, bare, IsFine, Reached, BeginsWithLabs, labs, Closed}
-use Rattle.dvg_frame.specs.Faults.{Misses, misses, number, Begins, Least, Refuses}
-use Rattle.dvg_frame.specs.Firsts.{IsLabsCode, DrawsLabs, NamesNone}
+use Rattle.dvg_frame.specs.Steps.{op_act, Names, Bad, last, target, second, past, deep, bare, IsFine, Reached, BeginsWithLabs, labs, Closed, Misses, misses, Begins}
+use Rattle.dvg_frame.specs.Faults.{Least, Refuses}
+use Rattle.dvg_frame.specs.Firsts.{DrawsLabs, NamesNone, number}
 use Rattle.dvg_frame.specs.Frames.{IsFrame}
 use Rattle.dvg_frame.specs.Ops.{IsDraft}
 
 -- operation 0 is a LABS exactly where the draft begins with one
-labs_by_code : (instr : Instr) (ops : List OpKind) → IsLabsCode instr → BeginsWithLabs (Draw instr ∷ ops)
+labs_by_code : (instr : Instr) (ops : List OpKind) → IsLabs instr → BeginsWithLabs (Draw instr ∷ ops)
 labs_by_code (Labs x y scale) ops is = labs
 labs_by_code _ ops is = absurd is
 
@@ -99,7 +99,7 @@ frame_by F op kind words draft is kind_is labs_is words_is fits none =
 -- the faults 1 to 4 hold at no pair
 late_bad : {F : List OpKind} {R : List ℕ} {p : Place} {d : ℕ} {fault : FrameFault} → Bad F R p d fault → 4 < number fault
 late_bad (last stands goes end) = omega arith
-late_bad (target stands named outside) = omega arith
+late_bad (target a stands named outside) = omega arith
 late_bad (second is first outside) = omega arith
 late_bad (past stands goes outside) = omega arith
 late_bad (deep stands depth) = omega arith
@@ -108,7 +108,7 @@ late_bad (bare stands depth) = omega arith
 -- and neither does a loop
 early_bad : {F : List OpKind} {R : List ℕ} {p : Place} {d : ℕ} {fault : FrameFault} → Bad F R p d fault → number fault < 9
 early_bad (last stands goes end) = omega arith
-early_bad (target stands named outside) = omega arith
+early_bad (target a stands named outside) = omega arith
 early_bad (second is first outside) = omega arith
 early_bad (past stands goes outside) = omega arith
 early_bad (deep stands depth) = omega arith
@@ -128,10 +128,4 @@ refuses_by F R Loops begins found = let early = early_bad found.bad in absurd (o
 
 -- where each reached pair is fine, the draft has no fault
 pub closed_by : (F : List OpKind) (R : List ℕ) → Begins F → ((p : Place) → (d : ℕ) → Reached F R p d → IsFine F R p d) → Closed F R
-closed_by F R begins fine =
-    record {
-      begins = begins.begins;
-      fits = begins.fits;
-      targets = λ i j op is named. ⊎_elim (λ below. below) (λ far. absurd (begins.targets i (misses is named far))) (cases_lt j (length F));
-      fine = fine;
-    }
+closed_by F R begins fine = record { begins = begins; fine = fine }

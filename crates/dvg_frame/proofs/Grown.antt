@@ -1,23 +1,21 @@
 -- A draft over a ROM that has grown: what was reached, and what stands there, is as before.
-use Rattle.std.proofs.Common.{◌≡◌, ◌∙◌, ℕ, suc, ◌+◌, ◌≤◌, inl, inr, ⊎_elim, List, Some, sym, arith}
+use Rattle.std.proofs.Common.{◌≡◌, ◌∙◌, ℕ, suc, ◌+◌, ◌≤◌, inl, inr, ⊎_elim, List, Some, None, sym, arith}
 use Rattle.std.specs.Prelude.{◌↔◌}
 use Rattle.dvg_code.specs.declared.instr.Instr.{Instr}
 use Rattle.dvg_code.specs.Acts.{Act}
 use Rattle.dvg_gen.specs.declared.beam.Beam.{Beam}
 use Rattle.dvg_gen.specs.declared.stroke.Stroke.{Stroke}
 use Rattle.dvg_mem.specs.Memory.{IsGrown, first_word, rom_word}
-use Rattle.dvg_mem.proofs.Roms.{large_first, rom_some}
+use Rattle.dvg_mem.proofs.Roms.{large_first, none_there, rom_none, rom_some}
 use Rattle.dvg_frame.specs.declared.op.OpKind.{OpKind}
 use Rattle.dvg_frame.specs.declared.place.Place.{Place}
 use Rattle.dvg_frame.specs.declared.place.Place.TheVariants.{InFrame, InRom}
 use Rattle.dvg_frame.specs.declared.place.FrameFault.{FrameFault}
-use Rattle.dvg_frame.specs.Faults.{Begins}
 use Rattle.dvg_frame.specs.Pairs.{pair_of}
-use Rattle.dvg_frame.specs.Steps.{SpelledAt, one, two, Stands, in_frame, in_rom, IsOutside, Bad, last, target, second, past, deep, bare, Leads, on, jump, call, back, Reached, begin, step, Closed}
+use Rattle.dvg_frame.specs.Steps.{SpelledAt, one, two, Stands, in_frame, in_rom, Bad, last, target, second, past, deep, bare, Leads, on, jump, call, back, Reached, begin, step, Closed}
 use Rattle.dvg_frame.specs.Picture.{End, Draws, halts, returns, moves, jumps, call_halts, calls, IsPicture}
 use Rattle.dvg_frame.specs.Ways.{IsPlaceOf}
 use Rattle.dvg_frame.proofs.Swept.{few_ops, pair_in}
-use Rattle.dvg_frame.proofs.Bounded.{begins_of}
 
 module _ (F : List OpKind) (R S : List ℕ) (grown : IsGrown R S) (small : first_word R ≡ 0x800) where
   word_stays : (a word : ℕ) → rom_word R a ≡ Some word → rom_word S a ≡ Some word
@@ -44,12 +42,14 @@ module _ (F : List OpKind) (R S : List ℕ) (grown : IsGrown R S) (small : first
   stands_before (InFrame i) old (in_frame is act) = in_frame is act
   stands_before (InRom a) old (in_rom spelled act) = in_rom (spelled_before a old spelled) act
 
-  outside_before : (a : ℕ) → IsOutside S a → IsOutside R a
-  outside_before a = let large = large_first S grown.count in ⊎_elim (λ below. inl (omega arith)) (λ past. inr past)
+  outside_before : (a : ℕ) → rom_word S a ≡ None → rom_word R a ≡ None
+  outside_before a none =
+      let large = large_first S grown.count in
+      none_there R a (⊎_elim (λ below. inl (omega arith)) (λ past. inr past) (rom_none S a none))
 
   bad_before : (p : Place) (d : ℕ) (fault : FrameFault) → IsOld p → Bad F S p d fault → Bad F R p d fault
   bad_before p d fault old (last stands goes is) = last (stands_before p old stands) goes is
-  bad_before p d fault old (target {a = a} stands named outside) = target (stands_before p old stands) named (outside_before a outside)
+  bad_before p d fault old (target a stands named outside) = target a (stands_before p old stands) named (outside_before a outside)
   bad_before p d fault old (second {a = a} is first outside) = second (sym (grown.words a old) ∙ is) first (outside_before (a + 1) outside)
   bad_before p d fault old (past {b = b} stands goes outside) = past (stands_before p old stands) goes (outside_before b outside)
   bad_before p d fault old (deep stands is) = deep (stands_before p old stands) is
@@ -62,15 +62,12 @@ module _ (F : List OpKind) (R S : List ℕ) (grown : IsGrown R S) (small : first
   leads_before p old (back stands) = back (stands_before p old stands)
 
   module _ (closed : Closed F R) where
-    begins : Begins F
-    begins = begins_of F R closed
-
     old_by : (p : Place) → IsPlaceOf F R p → IsOld p
     old_by (InFrame i) inside = tt
     old_by (InRom a) inside = let low = inside.0 in omega arith
 
     is_old : (p : Place) (d : ℕ) → Reached F R p d → IsOld p
-    is_old p d reached = old_by p (pair_in F R (few_ops F begins) begins (pair_of p d) reached)
+    is_old p d reached = old_by p (pair_in F R (few_ops F closed.begins) closed.begins (pair_of p d) reached)
 
     reached_before : {p : Place} {d : ℕ} → Reached F S p d → Reached F R p d
     reached_before begin = begin
@@ -80,8 +77,6 @@ module _ (F : List OpKind) (R S : List ℕ) (grown : IsGrown R S) (small : first
     pub stays_closed : Closed F S
     stays_closed = record {
       begins = closed.begins;
-      fits = closed.fits;
-      targets = closed.targets;
       fine = λ p d reached fault bad. let before = reached_before reached in closed.fine p d before fault (bad_before p d fault (is_old p d before) bad);
     }
 

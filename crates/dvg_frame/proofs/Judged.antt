@@ -1,12 +1,12 @@
 -- What stands at a place is one thing, and what is wrong there shows by how it leads on.
-use Rattle.std.proofs.Common.{◌≡◌, ℕ, ◌+◌, ◌≤◌, inl, inr, ⊎_elim, List, [], ◌∷◌, length, Option, Some, refl, sym, ap, ◌∙◌, subst, arith}
+use Rattle.std.proofs.Common.{◌≡◌, ℕ, ◌+◌, ◌≤◌, inl, inr, ⊎_elim, List, [], ◌∷◌, length, Option, Some, None, refl, sym, ap, ◌∙◌, subst, arith}
 use Rattle.std.specs.Prelude.{slice_get}
 use Rattle.dvg_code.specs.declared.instr.Instr.{Instr}
 use Rattle.dvg_code.specs.Spelling.{Spells, IsFirst, word_count}
 use Rattle.dvg_code.specs.Acts.{Act, Moves, Jumps, Calls, Returns, Halts, act_by}
 use Rattle.dvg_code.proofs.Unique.{same_spelling, same_front, rest_begins_none}
 use Rattle.dvg_mem.specs.Memory.{rom_word}
-use Rattle.dvg_mem.proofs.Roms.{rom_some}
+use Rattle.dvg_mem.proofs.Roms.{none_there}
 use Rattle.dvg_frame.specs.declared.op.OpKind.{OpKind}
 use Rattle.dvg_frame.specs.declared.place.Place.{Place}
 use Rattle.dvg_frame.specs.declared.place.Place.TheVariants.{InFrame, InRom}
@@ -15,8 +15,8 @@ use Rattle.dvg_frame.specs.declared.place.FrameFault.TheVariants.{RunsOff, OutOf
 use Rattle.dvg_frame.specs.declared.pair.TheConstants.{DEEPEST}
 use Rattle.dvg_frame.specs.declared.pair.Pair.{Pair}
 use Rattle.dvg_frame.specs.declared.way.Way.{Way}
-use Rattle.dvg_frame.specs.Steps.{SpelledAt, one, two, op_act, Stands, in_frame, in_rom, GoesPast, Names, IsOutside, Bad, last, target, second, past, deep, bare, IsFine}
-use Rattle.dvg_frame.specs.Faults.{number}
+use Rattle.dvg_frame.specs.Steps.{SpelledAt, one, two, op_act, Stands, in_frame, in_rom, GoesPast, Names, Bad, last, target, second, past, deep, bare, IsFine}
+use Rattle.dvg_frame.specs.Faults.{rank}
 use Rattle.dvg_frame.specs.Ways.{way, EndsWithin, StandsSo, GoesOn, Outside, LeadsOutside, IsCall, IsReturn, HasFaultAt, IsLeast}
 
 -- one instruction at most is spelled at an address
@@ -44,12 +44,11 @@ same_standing {F} {R} (in_rom {a = a} {instr = instr} spelled act_is) (in_rom {i
     (act_is ∙ ap (act_by InRom) same ∙ sym act_is', ap (λ x. InRom (a + word_count x)) same)
 
 -- no ROM word has an address outside the ROM
-outside_none : (R : List ℕ) (a word : ℕ) → IsOutside R a → rom_word R a ≡ Some word → ⊥
-outside_none R a word outside is =
-    let inside = rom_some R a word is in ⊎_elim (λ below. let low = inside.0 in omega arith) (λ past. let high = inside.1 in omega arith) outside
+outside_none : (R : List ℕ) (a word : ℕ) → rom_word R a ≡ None → rom_word R a ≡ Some word → ⊥
+outside_none R a word outside is = let none : ◌≡◌ {A = Option ℕ} None (Some word) = sym outside ∙ is in cc
 
 -- nothing is spelled where a second word lies outside the ROM
-cut_none : (R : List ℕ) (a word : ℕ) (instr : Instr) → SpelledAt (rom_word R) a instr → rom_word R a ≡ Some word → IsFirst word → IsOutside R (a + 1) → ⊥
+cut_none : (R : List ℕ) (a word : ℕ) (instr : Instr) → SpelledAt (rom_word R) a instr → rom_word R a ≡ Some word → IsFirst word → rom_word R (a + 1) ≡ None → ⊥
 cut_none R a word instr (one {word = v} v_is spells) is first outside =
     let same : word ≡ v = cc in
     rest_begins_none (v ∷ []) (subst IsFirst same first) instr 1 (record { front = v ∷ []; after = []; parts = refl; spells = spells; counted = refl })
@@ -70,7 +69,7 @@ goes_past (Calls q) after goes = goes
 goes_past Returns after goes = goes
 goes_past Halts after goes = goes
 
-names_outside : (R : List ℕ) (act : Act Place) (after : Place) (a : ℕ) → Names act (InRom a) → IsOutside R a → LeadsOutside R (way act after)
+names_outside : (R : List ℕ) (act : Act Place) (after : Place) (a : ℕ) → Names act (InRom a) → rom_word R a ≡ None → LeadsOutside R (way act after)
 names_outside R (Moves instr) after a named outside = absurd named
 names_outside R (Jumps q) after a named outside = subst (Outside R) (sym named) outside
 names_outside R (Calls q) after a named outside = inl (subst (Outside R) (sym named) outside)
@@ -88,7 +87,7 @@ module _ (F : List OpKind) (R : List ℕ) where
   -- what is wrong by the way is wrong on paper
   bad_target : {p after : Place} {act : Act Place} (q : Place) (d : ℕ) → Stands F R p act after → Names act q → Outside R q → Bad F R p d (OutOfRom p)
   bad_target (InFrame j) d stands named outside = absurd outside
-  bad_target (InRom a) d stands named outside = target stands named outside
+  bad_target (InRom a) d stands named outside = target a stands named outside
 
   bad_past : {p after : Place} {act : Act Place} (d : ℕ) → Stands F R p act after → GoesPast act → Outside R after → Bad F R p d (OutOfRom p)
   bad_past d (in_frame is act_is) goes outside = absurd outside
@@ -124,14 +123,14 @@ module _ (F : List OpKind) (R : List ℕ) where
   bad_by p d act after _ stands has = absurd has
 
   -- and what is wrong on paper is wrong by the way
-  cut_stands : {a word : ℕ} {act : Act Place} {after : Place} → Stands F R (InRom a) act after → rom_word R a ≡ Some word → IsFirst word → IsOutside R (a + 1) → ⊥
+  cut_stands : {a word : ℕ} {act : Act Place} {after : Place} → Stands F R (InRom a) act after → rom_word R a ≡ Some word → IsFirst word → rom_word R (a + 1) ≡ None → ⊥
   cut_stands {a} {word} (in_rom {instr = instr} spelled act_is) is first outside = cut_none R a word instr spelled is first outside
 
   by_bad : {p : Place} {d : ℕ} {fault : FrameFault} (act : Act Place) (after : Place) → Stands F R p act after → Bad F R p d fault → HasFaultAt R (length F) (record { place = p; depth = d }) (way act after) fault
   by_bad act after stands (last {act = b} {after = q} stood goes end) =
       let same = same_standing stood stands in
       (refl, end, subst (λ x. GoesOn (way act x)) same.1 (subst (λ x. GoesOn (way x q)) same.0 (past_goes b q goes)))
-  by_bad act after stands (target {after = q} {a = a} {act = b} stood named outside) =
+  by_bad act after stands (target {after = q} {act = b} a stood named outside) =
       let same = same_standing stood stands in
       (refl, subst (λ x. LeadsOutside R (way act x)) same.1 (subst (λ x. LeadsOutside R (way x q)) same.0 (names_outside R b q a named outside)))
   by_bad act after stands (second is first outside) = absurd (cut_stands stands is first outside)
@@ -166,9 +165,9 @@ module _ (F : List OpKind) (R : List ℕ) where
       none fault (subst (λ n. HasFaultAt R n pair seen fault) (sym count_is) (subst (λ x. HasFaultAt R (length F) pair x fault) (sym so.is) here))
 
   -- where the ROM ends within an instruction, its second word lies outside
-  cut_least : {p : Place} {d : ℕ} {fault : FrameFault} → EndsWithin R p → Bad F R p d fault → 6 ≤ number fault
+  cut_least : {p : Place} {d : ℕ} {fault : FrameFault} → EndsWithin R p → Bad F R p d fault → 6 ≤ rank fault
   cut_least ends (last stands goes end) = absurd ends
-  cut_least ends (target stands named outside) = omega arith
+  cut_least ends (target a stands named outside) = omega arith
   cut_least ends (second is first outside) = omega arith
   cut_least ends (past stands goes outside) = omega arith
   cut_least ends (deep stands depth) = omega arith
@@ -176,7 +175,7 @@ module _ (F : List OpKind) (R : List ℕ) where
 
   cut_bad : (p : Place) (d : ℕ) → EndsWithin R p → Bad F R p d (OutOfRom p)
   cut_bad (InFrame i) d ends = absurd ends
-  cut_bad (InRom a) d ends = let (word, is, first, end) = ends in second is first (inr (omega arith))
+  cut_bad (InRom a) d ends = let (word, is, first, end) = ends in second is first (none_there R (a + 1) (inr (omega arith)))
 
   pub cut_there : (pair : Pair) → EndsWithin R pair.place → IsLeast (Bad F R pair.place pair.depth) (OutOfRom pair.place)
   cut_there pair ends = record { holds = cut_bad pair.place pair.depth ends; least = λ other bad. cut_least ends bad }

@@ -17,3 +17,4 @@ pub mod Turns
 pub mod Tabled
 pub mod Notes
 pub mod Settled
+pub mod Numbered

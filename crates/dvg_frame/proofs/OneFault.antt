@@ -7,8 +7,9 @@ use Rattle.dvg_frame.specs.declared.place.Place.TheVariants.{InFrame, InRom}
 use Rattle.dvg_frame.specs.declared.place.FrameFault.{FrameFault}
 use Rattle.dvg_frame.specs.declared.place.FrameFault.TheVariants.{Empty, NoLabs, TooLong, Target, RunsOff, OutOfRom, TooDeep, NoCaller, Loops}
 use Rattle.dvg_frame.specs.Layout.{size}
-use Rattle.dvg_frame.specs.Steps.{Bad, last, target, second, past, deep, bare, BeginsWithLabs, Closed}
-use Rattle.dvg_frame.specs.Faults.{Misses, misses, number, Precedes, Least, Refuses, Accepts, FrameState, IsChecked}
+use Rattle.dvg_frame.specs.Steps.{Bad, last, target, second, past, deep, bare, BeginsWithLabs, Closed, Misses}
+use Rattle.dvg_frame.specs.Firsts.{number}
+use Rattle.dvg_frame.specs.Faults.{rank, Precedes, Least, Refuses, Accepts, FrameState, IsChecked}
 use Rattle.dvg_frame.specs.Laws.{OneAnswer}
 use Rattle.dvg_frame.proofs.Pictures.{one_picture}
 
@@ -39,9 +40,9 @@ module _ (F : List OpKind) (R : List ℕ) where
   numbered n p (NoCaller q) = (n ≡ 8) × (p ≡ q)
   numbered n p Loops = ⊥
 
-  bad_numbered : {p : Place} {d : ℕ} {fault : FrameFault} → Bad F R p d fault → numbered (number fault) p fault
+  bad_numbered : {p : Place} {d : ℕ} {fault : FrameFault} → Bad F R p d fault → numbered (rank fault) p fault
   bad_numbered (last s on l) = (refl, refl)
-  bad_numbered (target s named o) = (refl, refl)
+  bad_numbered (target a s named o) = (refl, refl)
   bad_numbered (second is first o) = (refl, refl)
   bad_numbered (past s on o) = (refl, refl)
   bad_numbered (deep s is) = (refl, refl)
@@ -71,12 +72,8 @@ module _ (F : List OpKind) (R : List ℕ) where
       let one_there : Bad F R b.place b.depth one = subst (λ d. Bad F R b.place d one) same.1 (subst (λ p. Bad F R p a.depth one) same.0 a.bad) in
       let below = a.least other other_here in
       let above = b.least one one_there in
-      let numbers : number other ≡ number one = omega arith in
-      same_numbered (number one) a.place one other (bad_numbered a.bad) (subst (λ n. numbered n a.place other) numbers (bad_numbered other_here))
-
-  -- each operation that is named is one of a draft that has no fault
-  pub closed_misses : {i : ℕ} → Closed F R → Misses F i → ⊥
-  closed_misses {i} closed (misses {j = j} {op = op} is named far) = let below = closed.targets i j op is named in omega arith
+      let ranks : rank other ≡ rank one = omega arith in
+      same_numbered (rank one) a.place one other (bad_numbered a.bad) (subst (λ n. numbered n a.place other) ranks (bad_numbered other_here))
 
   -- what holds where a fault of a greater number is picked
   begins_past : (fault : FrameFault) → 2 < number fault → Refuses F R fault → BeginsWithLabs F
@@ -88,7 +85,7 @@ module _ (F : List OpKind) (R : List ℕ) where
   begins_past (OutOfRom p) n picked = picked.0.begins
   begins_past (TooDeep p) n picked = picked.0.begins
   begins_past (NoCaller p) n picked = picked.0.begins
-  begins_past Loops n picked = picked.0.begins
+  begins_past Loops n picked = picked.0.begins.begins
 
   fits_past : (fault : FrameFault) → 3 < number fault → Refuses F R fault → size F ≤ 511
   fits_past (Target i) n picked = picked.1
@@ -96,7 +93,7 @@ module _ (F : List OpKind) (R : List ℕ) where
   fits_past (OutOfRom p) n picked = picked.0.fits
   fits_past (TooDeep p) n picked = picked.0.fits
   fits_past (NoCaller p) n picked = picked.0.fits
-  fits_past Loops n picked = picked.0.fits
+  fits_past Loops n picked = picked.0.begins.fits
   fits_past _ n picked = absurd (omega arith)
 
   targets_past : (fault : FrameFault) → 4 < number fault → Refuses F R fault → (i : ℕ) → ¬ Misses F i
@@ -104,7 +101,7 @@ module _ (F : List OpKind) (R : List ℕ) where
   targets_past (OutOfRom p) n picked = picked.0.targets
   targets_past (TooDeep p) n picked = picked.0.targets
   targets_past (NoCaller p) n picked = picked.0.targets
-  targets_past Loops n picked = λ i miss. closed_misses picked.0 miss
+  targets_past Loops n picked = picked.0.begins.targets
   targets_past _ n picked = absurd (omega arith)
 
   found_past : (fault : FrameFault) → 4 < number fault → number fault < 9 → Refuses F R fault → Least F R fault
@@ -163,10 +160,10 @@ module _ (F : List OpKind) (R : List ℕ) where
   closed_least fault closed found = closed.fine found.place found.depth found.reached fault found.bad
 
   only_loops : (fault : FrameFault) → Closed F R → Refuses F R fault → fault ≡ Loops
-  only_loops Empty closed picked = absurd (some_op closed.begins picked)
-  only_loops NoLabs closed picked = absurd (picked.1 closed.begins)
-  only_loops TooLong closed picked = let fits = closed.fits in let long = picked.1 in absurd (omega arith)
-  only_loops (Target i) closed picked = absurd (closed_misses closed picked.2)
+  only_loops Empty closed picked = absurd (some_op closed.begins.begins picked)
+  only_loops NoLabs closed picked = absurd (picked.1 closed.begins.begins)
+  only_loops TooLong closed picked = let fits = closed.begins.fits in let long = picked.1 in absurd (omega arith)
+  only_loops (Target i) closed picked = absurd (closed.begins.targets i picked.2)
   only_loops (RunsOff i) closed picked = absurd (closed_least (RunsOff i) closed picked.1)
   only_loops (OutOfRom p) closed picked = absurd (closed_least (OutOfRom p) closed picked.1)
   only_loops (TooDeep p) closed picked = absurd (closed_least (TooDeep p) closed picked.1)

@@ -7,11 +7,11 @@ use Rattle.dvg_frame.specs.declared.pair.TheConstants.{DEEPEST}
 use Rattle.dvg_frame.specs.declared.place.Place.{Place}
 use Rattle.dvg_frame.specs.declared.place.Place.TheVariants.{InFrame}
 use Rattle.dvg_frame.specs.declared.table.Drawn.{Drawn}
-use Rattle.dvg_frame.specs.Faults.{Accepts, Begins}
+use Rattle.dvg_frame.specs.Faults.{Accepts}
 use Rattle.dvg_frame.specs.Loops.{HasLoop}
 use Rattle.dvg_frame.specs.Pairs.{IsPlace}
 use Rattle.dvg_frame.specs.Picture.{AtHalt, Draws, IsBound}
-use Rattle.dvg_frame.specs.Steps.{Reached, begin, step, Closed}
+use Rattle.dvg_frame.specs.Steps.{Reached, begin, step, Closed, Begins}
 use Rattle.dvg_frame.specs.Tables.{IsRefused, known_at, HasNone, FitsAt, GoesTo, IsKnown, IsTable, end_of}
 use Rattle.dvg_frame.proofs.Firsts.{closed_by}
 use Rattle.dvg_frame.proofs.Bounded.{at_depth_0, bound_low}

@@ -13,7 +13,8 @@ use Rattle.dvg_mem.specs.declared.half.Half.TheVariants.{H0, H1}
 use Rattle.dvg_mem.specs.Areas.{base}
 use Rattle.dvg_frame.specs.declared.op.OpKind.{OpKind}
 use Rattle.dvg_frame.specs.declared.op.OpKind.TheVariants.{Draw, CallRom, JumpRom, Call, Jump, Return, Halt as Stop}
-use Rattle.dvg_frame.specs.Layout.{op_words, size, op_code, laid, laid_ops, IsSpelling}
+use Rattle.dvg_frame.specs.Frames.{IsSpelling}
+use Rattle.dvg_frame.specs.Layout.{op_words, size, op_code, laid, laid_ops}
 use Rattle.dvg_frame.specs.Steps.{Closed}
 
 -- each operation has a word
@@ -98,7 +99,7 @@ laid_length half F = words_length half F F
 
 -- a draft without faults has at most 511 words
 pub closed_fits : (half : Half) (F : List OpKind) (R : List ℕ) → Closed F R → length (laid half F) ≤ 511
-closed_fits half F R closed = let laid_is = laid_length half F in let fits = closed.fits in omega arith
+closed_fits half F R closed = let laid_is = laid_length half F in let fits = closed.begins.fits in omega arith
 
 get_front : (xs ys : List ℕ) (j x : ℕ) → slice_get xs j ≡ Some x → slice_get (xs ++ ys) j ≡ Some x
 get_front xs ys j x is =

@@ -15,14 +15,14 @@ use Rattle.dvg_frame.specs.declared.place.Place.TheVariants.{InFrame, InRom}
 use Rattle.dvg_frame.specs.declared.place.FrameFault.{FrameFault}
 use Rattle.dvg_frame.specs.declared.place.FrameFault.TheVariants.{RunsOff, OutOfRom, TooDeep}
 use Rattle.dvg_frame.specs.declared.pair.TheConstants.{DEEPEST, ROM_END}
-use Rattle.dvg_mem.specs.Memory.{first_word}
-use Rattle.dvg_mem.proofs.Roms.{behind_ram}
+use Rattle.dvg_mem.specs.Memory.{first_word, rom_word}
+use Rattle.dvg_mem.proofs.Roms.{behind_ram, none_there}
 use Rattle.dvg_frame.specs.declared.pair.Pair.{Pair}
 use Rattle.dvg_frame.specs.declared.way.Way.{Way}
 use Rattle.dvg_frame.specs.declared.way.Way.TheVariants.{Move, Jump, Call}
 use Rattle.dvg_frame.specs.declared.sweep.Found.{Found}
-use Rattle.dvg_frame.specs.Steps.{Stands, in_frame, in_rom, GoesPast, Names, IsOutside, last, target, past, deep, IsFine, Leads, on, jump, call, back, Reached, begin, step, BeginsWithLabs, labs}
-use Rattle.dvg_frame.specs.Faults.{misses, Precedes, Least, Begins}
+use Rattle.dvg_frame.specs.Steps.{Stands, in_frame, in_rom, GoesPast, Names, last, target, past, deep, IsFine, Leads, on, jump, call, back, Reached, begin, step, BeginsWithLabs, labs, misses, Begins}
+use Rattle.dvg_frame.specs.Faults.{Precedes, Least}
 use Rattle.dvg_frame.specs.Growth.{Grows}
 use Rattle.dvg_frame.specs.Layout.{size}
 use Rattle.dvg_frame.specs.Pairs.{IsPlace, IsPair, pair_of, first_pair, index}
@@ -68,10 +68,10 @@ rom_names Rtsl j named = named
 rom_names (Jmpl a) j named = let is : InRom a ≡ InFrame j = named in cc
 rom_names (Svec scale dx dy z) j named = named
 
-inside_rom : (F : List OpKind) (R : List ℕ) (a : ℕ) → ¬ IsOutside R a → IsPlaceOf F R (InRom a)
+inside_rom : (F : List OpKind) (R : List ℕ) (a : ℕ) → ¬ rom_word R a ≡ None → IsPlaceOf F R (InRom a)
 inside_rom F R a not_outside =
-    let low : first_word R ≤ a = ⊎_elim (λ below. absurd (not_outside (inl below))) (λ no_less. no_less) (cases_lt a (first_word R)) in
-    let high : a < ROM_END = ⊎_elim (λ below. below) (λ far. absurd (not_outside (inr far))) (cases_lt a ROM_END) in
+    let low : first_word R ≤ a = ⊎_elim (λ below. absurd (not_outside (none_there R a (inl below)))) (λ no_less. no_less) (cases_lt a (first_word R)) in
+    let high : a < ROM_END = ⊎_elim (λ below. below) (λ far. absurd (not_outside (none_there R a (inr far)))) (cases_lt a ROM_END) in
     (low, high)
 
 -- reads of lists of pairs
@@ -119,7 +119,7 @@ module _ (F : List OpKind) (R : List ℕ) (few : length F ≤ 511) (begins : Beg
       let below : j < length F = ⊎_elim (λ less. less) (λ far. absurd (begins.targets i (misses is (subst (λ x. Names x (InFrame j)) act_is named) far))) (cases_lt j (length F)) in
       (below, omega arith)
   target_in (InFrame j) d (in_rom {instr = instr} spelled act_is) named fine = absurd (rom_names instr j (subst (λ x. Names x (InFrame j)) act_is named))
-  target_in {p} (InRom a) d stands named fine = inside_rom F R a (λ outside. fine (OutOfRom p) (target stands named outside))
+  target_in {p} (InRom a) d stands named fine = inside_rom F R a (λ outside. fine (OutOfRom p) (target a stands named outside))
 
   reached_in : {p : Place} {d : ℕ} → Reached F R p d → IsPlaceOf F R p × (d ≤ DEEPEST)
   reached_in begin = let some = some_op F begins.begins in ((some, omega arith), omega arith)

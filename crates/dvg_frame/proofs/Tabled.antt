@@ -5,6 +5,7 @@ use Rattle.std.proofs.lemmas.Bool.{cases_lt, cases_eq}
 use Rattle.dvg_code.specs.Spelling.{word_count}
 use Rattle.dvg_code.specs.Acts.{Act, Moves, Jumps, Calls, Returns as GoesBack, Halts as Stops}
 use Rattle.dvg_code.specs.declared.instr.Instr.{Instr}
+use Rattle.dvg_mem.proofs.Roms.{none_there}
 use Rattle.dvg_frame.specs.declared.op.OpKind.{OpKind}
 use Rattle.dvg_frame.specs.declared.pair.TheConstants.{PLACES}
 use Rattle.dvg_frame.specs.declared.pair.Pair.{Pair}
@@ -17,12 +18,11 @@ use Rattle.dvg_frame.specs.declared.way.Way.{Way}
 use Rattle.dvg_frame.specs.declared.way.Way.TheVariants.{Move, Jump, Call, Return, Halt}
 use Rattle.dvg_frame.specs.declared.place.FrameFault.TheVariants.{RunsOff, OutOfRom, TooDeep, NoCaller}
 use Rattle.dvg_frame.specs.Pairs.{IsPlace, pair_of, place_index}
-use Rattle.dvg_frame.specs.Faults.{Begins}
-use Rattle.dvg_frame.specs.Steps.{Stands, last, target, second, past, deep, bare, IsFine, Leads, on, jump, call, back, Reached, step}
+use Rattle.dvg_frame.specs.Steps.{Stands, last, target, second, past, deep, bare, IsFine, Leads, on, jump, call, back, Reached, step, Begins}
 use Rattle.dvg_frame.specs.Picture.{End, AtHalt, AtReturn}
-use Rattle.dvg_frame.specs.Loops.{Walks, none, more, places, HasLoop}
+use Rattle.dvg_frame.specs.Loops.{Walks, none, more, HasLoop}
 use Rattle.dvg_frame.specs.Ways.{way, StandsSo, IsPlaceOf, EndsWithin}
-use Rattle.dvg_frame.specs.Tables.{AllFine, known_at, HasPlace, KeepsKnown, end_of, FitsAt, IsDrawnFrom, IsKnown, IsTable, Next, StepsOn, IsGood, IsReady, Linked, IsChain, HasChain, onward, IsLonger, IsCalled}
+use Rattle.dvg_frame.specs.Tables.{AllFine, known_at, HasPlace, KeepsKnown, end_of, FitsAt, IsDrawnFrom, IsKnown, IsTable, Next, StepsOn, IsGood, IsReady, Linked, IsChain, HasChain, onward, IsLonger, IsCalled, places}
 use Rattle.dvg_frame.proofs.Judged.{same_standing}
 use Rattle.dvg_frame.proofs.Marks.{same_place}
 use Rattle.dvg_frame.proofs.Knowing.{put_here, put_other}
@@ -86,7 +86,7 @@ module _ (F : List OpKind) (R : List ℕ) where
   -- a place that is fine at one depth, at another one
   fine_at : {p : Place} {act : Act Place} {after : Place} (d e : ℕ) → Stands F R p act after → IsFine F R p d → ((to : Place) → act ≡ Calls to → e ≡ 4 → ⊥) → (act ≡ GoesBack → e ≡ 0 → ⊥) → IsFine F R p e
   fine_at d e stands fine not_deep not_bare fault (last {i = i} stood goes end) = fine (RunsOff i) (last stood goes end)
-  fine_at {p} d e stands fine not_deep not_bare fault (target stood named outside) = fine (OutOfRom p) (target stood named outside)
+  fine_at {p} d e stands fine not_deep not_bare fault (target a stood named outside) = fine (OutOfRom p) (target a stood named outside)
   fine_at {p} d e stands fine not_deep not_bare fault (second is first outside) = fine (OutOfRom p) (second is first outside)
   fine_at {p} d e stands fine not_deep not_bare fault (past stood goes outside) = fine (OutOfRom p) (past stood goes outside)
   fine_at d e stands fine not_deep not_bare fault (deep {to = to} stood depth) = not_deep to (same_standing stands stood).0 depth
@@ -386,7 +386,7 @@ call_stands F R p to after seen so is = subst (StandsAs F R p) is (stands_as F R
 module _ (F : List OpKind) (R : List ℕ) (d : ℕ) where
   pub not_within : (p : Place) → IsFine F R p d → EndsWithin R p → ⊥
   not_within (InFrame i) fine never = never
-  not_within (InRom a) fine it = fine (OutOfRom (InRom a)) (second it.1 it.2 (inr (omega (arith, it.3))))
+  not_within (InRom a) fine it = fine (OutOfRom (InRom a)) (second it.1 it.2 (none_there R (a + 1) (inr (omega (arith, it.3)))))
 
   pub good_by : (p : Place) → IsPlaceOf F R p → IsFine F R p d → (AllFine F R → Reached F R p d) → IsGood F R d p
   good_by p inside fine reached = record { inside = inside; fine = fine; reached = reached }

@@ -14,10 +14,10 @@ use Rattle.dvg_frame.specs.declared.place.Place.TheVariants.{InFrame, InRom}
 use Rattle.dvg_frame.specs.Steps.{Reached, step, Closed}
 use Rattle.dvg_frame.specs.Pairs.{pair_of}
 use Rattle.dvg_frame.specs.Ways.{IsPlaceOf}
-use Rattle.dvg_frame.specs.Loops.{Walks, none, more, places, HasLoop, ComesBack}
+use Rattle.dvg_frame.specs.Tables.{places}
+use Rattle.dvg_frame.specs.Loops.{Walks, none, more, HasLoop, ComesBack}
 use Rattle.dvg_frame.proofs.Swept.{few_ops, pair_in}
 use Rattle.dvg_frame.proofs.Walks.{walked, turns, turns_from}
-use Rattle.dvg_frame.proofs.Bounded.{begins_of}
 
 none_equal : (x : ℕ) (ns : List ℕ) → list_any (eqb x) ns ≡ false → AllByRecursion (λ y. eqb x y ≡ false) ns
 none_equal x [] is = tt
@@ -33,7 +33,7 @@ one_distinct x = (tt, tt)
 
 module _ (F : List OpKind) (R : List ℕ) (image : IsRom R) (closed : Closed F R) where
   place_in : (p : Place) (d : ℕ) → Reached F R p d → IsPlaceOf F R p
-  place_in p d reached = let begins = begins_of F R closed in pair_in F R (few_ops F begins) begins (pair_of p d) reached
+  place_in p d reached = let begins = closed.begins in pair_in F R (few_ops F begins) begins (pair_of p d) reached
 
   -- the places are numbered, each once
   abbrev numbered : Place → ℕ

@@ -4,6 +4,7 @@ use Rattle.dvg_mem.specs.declared.half.Half.{Half}
 use Rattle.dvg_frame.specs.declared.op.OpKind.{OpKind}
 use Rattle.dvg_frame.specs.declared.cursor.Cursor.TheInside.{Inside}
 use Rattle.dvg_frame.specs.Bytes.{addressed, bytes}
+use Rattle.dvg_frame.specs.Counting.{IsCounted}
 use Rattle.dvg_frame.specs.Layout.{laid_ops}
 
 -- the bytes after the first so many of these words, and those of the operations from this number on
@@ -18,8 +19,9 @@ bytes_left cursor = bytes_from cursor.half cursor.frame.operations cursor.words.
 abbrev pub items_left : Inside → List (ℕ × ℕ)
 items_left cursor = addressed cursor.address (bytes_left cursor)
 
--- no more bytes of the words at hand were given than they have, the number of the bytes to come is known, and their addresses lie in the RAM
+-- the words before each operation are counted, no more bytes of the words at hand were given than they have, the number of the bytes to come is known, and their addresses lie in the RAM
 pub record IsCursor (cursor : Inside) : Type 0 where
+  pub counted : IsCounted cursor.frame.operations cursor.words_before.items
   pub given : cursor.given ≤ 2 * length cursor.words.items
   pub left : cursor.left ≡ length (bytes_left cursor)
   pub in_ram : cursor.address + cursor.left ≤ 0x800

@@ -1,37 +1,28 @@
 -- Which fault a draft is refused for.
-use Rattle.std.specs.Prelude.{◌≡◌, ℕ, ◌<◌, ◌≤◌, ◌⊎◌, List, [], length, Some, slice_get, Result, Ok, Err}
+use Rattle.std.specs.Prelude.{◌≡◌, ℕ, ◌<◌, ◌≤◌, ◌⊎◌, List, [], length, Result, Ok, Err}
 use Rattle.dvg_frame.specs.declared.op.OpKind.{OpKind}
 use Rattle.dvg_frame.specs.declared.place.Place.{Place}
 use Rattle.dvg_frame.specs.declared.place.Place.TheVariants.{InFrame, InRom}
 use Rattle.dvg_frame.specs.declared.place.FrameFault.{FrameFault}
-use Rattle.dvg_frame.specs.declared.place.FrameFault.TheVariants.{Empty, NoLabs, TooLong, Target, RunsOff, OutOfRom, TooDeep, NoCaller, Loops}
+use Rattle.dvg_frame.specs.declared.place.FrameFault.TheVariants.{Empty, NoLabs, TooLong, Target, RunsOff, OutOfRom, TooDeep, Loops}
 use Rattle.dvg_frame.specs.Layout.{size}
-use Rattle.dvg_frame.specs.Steps.{op_act, Names, Bad, Reached, BeginsWithLabs, Closed}
+use Rattle.dvg_frame.specs.Steps.{Bad, Reached, BeginsWithLabs, Misses, Begins, Closed}
 use Rattle.dvg_frame.specs.Loops.{HasLoop}
 use Rattle.dvg_frame.specs.Picture.{IsBound}
 
--- the numbers of the faults
-abbrev pub number : FrameFault → ℕ
-number Empty = 1
-number NoLabs = 2
-number TooLong = 3
-number (Target i) = 4
-number (RunsOff i) = 5
-number (OutOfRom p) = 6
-number (TooDeep p) = 7
-number (NoCaller p) = 8
-number Loops = 9
-
--- operation i names one that the draft doesn't have
-pub data Misses (F : List OpKind) : ℕ → Type 0 where
-  misses : {i j : ℕ} {op : OpKind} → slice_get F i ≡ Some op → Names (op_act op) (InFrame j) → length F ≤ j → Misses F i
+-- the order of the faults that can hold at one pair
+abbrev pub rank : FrameFault → ℕ
+rank (RunsOff i) = 5
+rank (OutOfRom p) = 6
+rank (TooDeep p) = 7
+rank fault = 8
 
 -- the order of pairs: operations before ROM words, each by number, and of one place the lesser depth first
 abbrev pub Precedes : Place → ℕ → Place → ℕ → Type 0
-Precedes (InFrame i) d (InFrame j) e = (i < j) ⊎ (i ≡ j) × (d ≤ e)
+Precedes (InFrame i) d (InFrame j) e = (i < j) ⊎ ((i ≡ j) × (d ≤ e))
 Precedes (InFrame i) d (InRom b) e = Unit {0}
 Precedes (InRom a) d (InFrame j) e = ⊥
-Precedes (InRom a) d (InRom b) e = (a < b) ⊎ (a ≡ b) × (d ≤ e)
+Precedes (InRom a) d (InRom b) e = (a < b) ⊎ ((a ≡ b) × (d ≤ e))
 
 -- the first reached pair at which a fault holds, and the fault of least number there
 pub record Least (F : List OpKind) (R : List ℕ) (fault : FrameFault) : Type 0 where
@@ -40,13 +31,7 @@ pub record Least (F : List OpKind) (R : List ℕ) (fault : FrameFault) : Type 0 
   pub reached : Reached F R place depth
   pub bad : Bad F R place depth fault
   pub first : (q : Place) (e : ℕ) (other : FrameFault) → Reached F R q e → Bad F R q e other → Precedes place depth q e
-  pub least : (other : FrameFault) → Bad F R place depth other → number fault ≤ number other
-
--- none of the faults 1 to 4
-pub record Begins (F : List OpKind) : Type 0 where
-  pub begins : BeginsWithLabs F
-  pub fits : size F ≤ 511
-  pub targets : (i : ℕ) → ¬ Misses F i
+  pub least : (other : FrameFault) → Bad F R place depth other → rank fault ≤ rank other
 
 -- the fault that is picked: faults 1 to 4 in their order, then that of the first reached pair, and last a loop
 abbrev pub Refuses : List OpKind → List ℕ → FrameFault → Type 0

@@ -1,23 +1,26 @@
 -- The faults that are looked for first, by one operation. Only private contracts cite this.
 use Rattle.std.specs.Prelude.{ℕ, ◌≤◌}
-use Rattle.dvg_code.specs.declared.instr.Instr.{Instr}
-use Rattle.dvg_code.specs.declared.instr.Instr.TheVariants.{Vctr, Labs, Halt, Jsrl, Rtsl, Jmpl, Svec}
+use Rattle.dvg_gen.specs.Obeyed.{IsLabs}
 use Rattle.dvg_frame.specs.declared.op.OpKind.{OpKind}
+use Rattle.dvg_frame.specs.declared.place.FrameFault.{FrameFault}
+use Rattle.dvg_frame.specs.declared.place.FrameFault.TheVariants.{Empty, NoLabs, TooLong, Target, RunsOff, OutOfRom, TooDeep, NoCaller, Loops}
 use Rattle.dvg_frame.specs.declared.op.OpKind.TheVariants.{Draw, CallRom, JumpRom, Call, Jump, Return, Halt as Stop}
 
--- the instruction is a LABS
-abbrev pub IsLabsCode : Instr → Type 0
-IsLabsCode (Vctr scale dx dy z) = ⊥
-IsLabsCode (Labs x y scale) = Unit {0}
-IsLabsCode Halt = ⊥
-IsLabsCode (Jsrl address) = ⊥
-IsLabsCode Rtsl = ⊥
-IsLabsCode (Jmpl address) = ⊥
-IsLabsCode (Svec scale dx dy z) = ⊥
+-- the numbers of the faults
+abbrev pub number : FrameFault → ℕ
+number Empty = 1
+number NoLabs = 2
+number TooLong = 3
+number (Target i) = 4
+number (RunsOff i) = 5
+number (OutOfRom p) = 6
+number (TooDeep p) = 7
+number (NoCaller p) = 8
+number Loops = 9
 
 -- the operation is a LABS
 abbrev pub DrawsLabs : OpKind → Type 0
-DrawsLabs (Draw instr) = IsLabsCode instr
+DrawsLabs (Draw instr) = IsLabs instr
 DrawsLabs (CallRom a) = ⊥
 DrawsLabs (JumpRom a) = ⊥
 DrawsLabs (Call j) = ⊥

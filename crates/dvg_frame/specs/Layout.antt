@@ -1,5 +1,5 @@
 -- The words of a draft, laid out for a half.
-use Rattle.std.specs.Prelude.{◌≡◌, ℕ, ◌+◌, List, [], ◌∷◌, Some, slice_get, take, flat_map}
+use Rattle.std.specs.Prelude.{ℕ, ◌+◌, List, [], ◌∷◌, take, flat_map}
 use Rattle.dvg_code.specs.declared.instr.Instr.{Instr}
 use Rattle.dvg_code.specs.declared.instr.Instr.TheVariants.{Halt, Jsrl, Rtsl, Jmpl}
 use Rattle.dvg_code.specs.Spelling.{canon, word_count}
@@ -39,7 +39,3 @@ laid_ops half F ops = flat_map (λ op. canon (op_code half F op)) ops
 -- the layout of a draft: the words of all its operations
 abbrev pub laid : Half → List OpKind → List ℕ
 laid half F = laid_ops half F F
-
--- these are the words of operation i
-abbrev pub IsSpelling : Half → List OpKind → ℕ → List ℕ → Type 0
-IsSpelling half F i words = (op : OpKind) → slice_get F i ≡ Some op → words ≡ canon (op_code half F op)

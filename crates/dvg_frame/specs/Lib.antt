@@ -4,14 +4,14 @@ pub mod Layout
 pub mod Bytes
 pub mod Steps
 pub mod Faults
-pub mod Frames
 pub mod Picture
 pub mod Loops
 pub mod Laws
 -- What a cursor keeps.
 pub mod Cursors
--- What a draft keeps.
+-- What a draft and a frame keep.
 pub mod Counting
+pub mod Frames
 -- What only the contracts of the check's own functions cite.
 pub mod Firsts
 pub mod Pairs

@@ -9,17 +9,13 @@ pub data Walks (F : List OpKind) (R : List ℕ) (d : ℕ) : Place → ℕ → Pl
   none : {p : Place} → Walks F R d p 0 p
   more : {p q end : Place} {n : ℕ} → Leads F R p d q d → Walks F R d q n end → Walks F R d p (suc n) end
 
--- how many places there are: the operations and the words of the ROM
-abbrev pub places : List OpKind → List ℕ → ℕ
-places F R = length F + length R / 2
-
--- a reached pair begins a list of more steps at its depth than there are places
+-- a reached pair begins a list of more steps at its depth than there are places, which are the operations and the words of the ROM
 pub record HasLoop (F : List OpKind) (R : List ℕ) : Type 0 where
   pub place : Place
   pub depth : ℕ
   pub end : Place
   pub reached : Reached F R place depth
-  pub walk : Walks F R depth place (1 + places F R) end
+  pub walk : Walks F R depth place (1 + (length F + length R / 2)) end
 
 -- a reached pair to which steps at its depth come back
 pub record ComesBack (F : List OpKind) (R : List ℕ) : Type 0 where

@@ -1,10 +1,10 @@
 -- Where a draft's run can go, and what is wrong there.
-use Rattle.std.specs.Prelude.{◌≡◌, ℕ, suc, ◌+◌, ◌<◌, ◌≤◌, ◌⊎◌, List, [], ◌∷◌, length, Option, Some, slice_get}
+use Rattle.std.specs.Prelude.{◌≡◌, ℕ, suc, ◌+◌, ◌≤◌, List, [], ◌∷◌, length, Option, Some, None, slice_get}
 use Rattle.dvg_code.specs.declared.instr.Instr.{Instr}
 use Rattle.dvg_code.specs.declared.instr.Instr.TheVariants.{Labs}
 use Rattle.dvg_code.specs.Spelling.{Spells, IsFirst, word_count}
 use Rattle.dvg_code.specs.Acts.{Act, Moves, Jumps, Calls, Returns, Halts, act_by}
-use Rattle.dvg_mem.specs.Memory.{first_word, rom_word}
+use Rattle.dvg_mem.specs.Memory.{rom_word}
 use Rattle.dvg_frame.specs.declared.op.OpKind.{OpKind}
 use Rattle.dvg_frame.specs.declared.op.OpKind.TheVariants.{Draw, CallRom, JumpRom, Call, Jump, Return, Halt as Stop}
 use Rattle.dvg_frame.specs.declared.place.Place.{Place}
@@ -46,20 +46,16 @@ Names (Jumps to) p = to ≡ p
 Names (Calls to) p = to ≡ p
 Names _ p = ⊥
 
--- this is no address of a word of the ROM
-abbrev pub IsOutside : List ℕ → ℕ → Type 0
-IsOutside R a = (a < first_word R) ⊎ (0xC00 ≤ a)
-
 -- this fault holds at a pair of place and depth
 pub data Bad (F : List OpKind) (R : List ℕ) : Place → ℕ → FrameFault → Type 0 where
   -- the last operation goes on at the place after it
   last : {i d : ℕ} {act : Act Place} {after : Place} → Stands F R (InFrame i) act after → GoesPast act → i + 1 ≡ length F → Bad F R (InFrame i) d (RunsOff i)
-  -- a jump or a call names an address outside the ROM
-  target : {p after : Place} {a d : ℕ} {act : Act Place} → Stands F R p act after → Names act (InRom a) → IsOutside R a → Bad F R p d (OutOfRom p)
+  -- a jump or a call names an address at which the ROM has no word
+  target : {p after : Place} {d : ℕ} {act : Act Place} (a : ℕ) → Stands F R p act after → Names act (InRom a) → rom_word R a ≡ None → Bad F R p d (OutOfRom p)
   -- a second word lies outside the ROM
-  second : {a d word : ℕ} → rom_word R a ≡ Some word → IsFirst word → IsOutside R (a + 1) → Bad F R (InRom a) d (OutOfRom (InRom a))
+  second : {a d word : ℕ} → rom_word R a ≡ Some word → IsFirst word → rom_word R (a + 1) ≡ None → Bad F R (InRom a) d (OutOfRom (InRom a))
   -- the place after, at which a ROM word goes on, lies outside the ROM
-  past : {a b d : ℕ} {act : Act Place} → Stands F R (InRom a) act (InRom b) → GoesPast act → IsOutside R b → Bad F R (InRom a) d (OutOfRom (InRom a))
+  past : {a b d : ℕ} {act : Act Place} → Stands F R (InRom a) act (InRom b) → GoesPast act → rom_word R b ≡ None → Bad F R (InRom a) d (OutOfRom (InRom a))
   -- a call while four are open
   deep : {p to after : Place} {d : ℕ} → Stands F R p (Calls to) after → d ≡ 4 → Bad F R p d (TooDeep p)
   -- a return while no call is open
@@ -87,9 +83,17 @@ pub data Reached (F : List OpKind) (R : List ℕ) : Place → ℕ → Type 0 whe
 pub data BeginsWithLabs : List OpKind → Type 0 where
   labs : {x y scale : ℕ} {ops : List OpKind} → BeginsWithLabs (Draw (Labs x y scale) ∷ ops)
 
--- the draft has none of the faults 1 to 8 over the ROM
-pub record Closed (F : List OpKind) (R : List ℕ) : Type 0 where
+-- operation i names one that the draft doesn't have
+pub data Misses (F : List OpKind) : ℕ → Type 0 where
+  misses : {i j : ℕ} {op : OpKind} → slice_get F i ≡ Some op → Names (op_act op) (InFrame j) → length F ≤ j → Misses F i
+
+-- the draft has none of the faults 1 to 4
+pub record Begins (F : List OpKind) : Type 0 where
   pub begins : BeginsWithLabs F
   pub fits : size F ≤ 511
-  pub targets : (i j : ℕ) (op : OpKind) → slice_get F i ≡ Some op → Names (op_act op) (InFrame j) → j < length F
+  pub targets : (i : ℕ) → ¬ Misses F i
+
+-- and none of the faults 5 to 8 over the ROM
+pub record Closed (F : List OpKind) (R : List ℕ) : Type 0 where
+  pub begins : Begins F
   pub fine : (p : Place) (d : ℕ) → Reached F R p d → IsFine F R p d

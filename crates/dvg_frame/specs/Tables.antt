@@ -1,5 +1,5 @@
 -- What is known of each place, and the table of it. Only the check's own functions cite this.
-use Rattle.std.specs.Prelude.{◌≡◌, ℕ, ◌+◌, ◌<◌, ◌≤◌, ◌^◌, ◌⊎◌, List, [], ◌∷◌, ◌++◌, length, true, Option, Some, None, slice_index_or, ◌==◌, if◌then◌else◌, All, Result, MatchResult}
+use Rattle.std.specs.Prelude.{◌≡◌, ℕ, ◌+◌, ◌/◌, ◌<◌, ◌≤◌, ◌^◌, ◌⊎◌, List, [], ◌∷◌, ◌++◌, length, true, Option, Some, None, slice_index_or, ◌==◌, if◌then◌else◌, All, Result, MatchResult}
 use Rattle.dvg_code.specs.Acts.{Act, Moves, Jumps, Calls, Returns as GoesBack, Halts as Stops}
 use Rattle.dvg_gen.specs.declared.beam.Beam.{Beam}
 use Rattle.dvg_gen.specs.declared.stroke.Stroke.{Stroke}
@@ -14,9 +14,9 @@ use Rattle.dvg_frame.specs.declared.table.Ending.TheVariants.{Halts, Returns}
 use Rattle.dvg_frame.specs.declared.way.Way.{Way}
 use Rattle.dvg_frame.specs.declared.way.Way.TheVariants.{Move, Jump, Call, Return, Halt}
 use Rattle.dvg_frame.specs.Pairs.{IsPlace, place_index}
-use Rattle.dvg_frame.specs.Steps.{Stands, Reached, IsFine, Leads}
+use Rattle.dvg_frame.specs.Steps.{Stands, Reached, IsFine, Leads, Begins}
 use Rattle.dvg_frame.specs.declared.place.FrameFault.{FrameFault}
-use Rattle.dvg_frame.specs.Faults.{Accepts, Begins, Refuses}
+use Rattle.dvg_frame.specs.Faults.{Accepts, Refuses}
 use Rattle.dvg_frame.specs.Picture.{End, AtHalt, AtReturn, IsBound, Draws as DrawsSo}
 use Rattle.dvg_frame.specs.Loops.{Walks, HasLoop}
 use Rattle.dvg_frame.specs.Ways.{IsPlaceOf}
@@ -32,6 +32,10 @@ IsRefused F R = AllFine F R → HasLoop F R
 -- the bound of a draft without the faults 1 to 4, which is accepted, or the fault that is picked of one that is refused
 abbrev pub BoundOrFault : List OpKind → List ℕ → Result ℕ FrameFault → Type 0
 BoundOrFault F R answer = MatchResult answer (λ n. Accepts F R × IsBound F R n × (n < 2 ^ 63)) (λ fault. Refuses F R fault)
+
+-- how many places there are: the operations and the words of the ROM
+abbrev pub places : List OpKind → List ℕ → ℕ
+places F R = length F + length R / 2
 
 -- what the table has at a place
 abbrev pub known_at : List (Option Drawn) → Place → Option Drawn

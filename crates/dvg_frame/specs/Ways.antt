@@ -1,5 +1,5 @@
 -- What stands at a place, as the check sees it. Only the check's own functions cite this.
-use Rattle.std.specs.Prelude.{◌≡◌, ℕ, ◌+◌, ◌<◌, ◌≤◌, ◌⊎◌, List, length, Some}
+use Rattle.std.specs.Prelude.{◌≡◌, ℕ, ◌+◌, ◌<◌, ◌≤◌, ◌⊎◌, List, length, Some, None}
 use Rattle.dvg_code.specs.Spelling.{IsFirst, word_count}
 use Rattle.dvg_code.specs.Acts.{Act, Moves, Jumps, Calls, Returns, Halts}
 use Rattle.dvg_mem.specs.Memory.{first_word, rom_word}
@@ -13,8 +13,8 @@ use Rattle.dvg_frame.specs.declared.pair.Pair.{Pair}
 use Rattle.dvg_frame.specs.declared.pair.TheConstants.{DEEPEST, ROM_END}
 use Rattle.dvg_frame.specs.declared.way.Way.{Way}
 use Rattle.dvg_frame.specs.declared.way.Way.TheVariants.{Move, Jump, Call, Return, Halt}
-use Rattle.dvg_frame.specs.Steps.{Stands, IsOutside}
-use Rattle.dvg_frame.specs.Faults.{number}
+use Rattle.dvg_frame.specs.Steps.{Stands}
+use Rattle.dvg_frame.specs.Faults.{rank}
 
 -- the way of an act with this place after it
 abbrev pub way : Act Place → Place → Way
@@ -49,10 +49,10 @@ GoesOn (Call to after) = Unit {0}
 GoesOn Return = ⊥
 GoesOn Halt = ⊥
 
--- a place at an address outside the ROM
+-- a place at an address at which the ROM has no word
 abbrev pub Outside : List ℕ → Place → Type 0
 Outside R (InFrame i) = ⊥
-Outside R (InRom a) = IsOutside R a
+Outside R (InRom a) = rom_word R a ≡ None
 
 -- it leads to such a place
 abbrev pub LeadsOutside : List ℕ → Way → Type 0
@@ -90,7 +90,7 @@ HasFaultAt R count pair seen (TooDeep p) = (pair.place ≡ p) × IsCall seen × 
 HasFaultAt R count pair seen (NoCaller p) = (pair.place ≡ p) × IsReturn seen × (pair.depth ≡ 0)
 HasFaultAt R count pair seen Loops = ⊥
 
--- this fault holds, and none of a lesser number does
+-- this fault holds, and none of a lesser rank does
 pub record IsLeast (Holds : FrameFault → Type 0) (fault : FrameFault) : Type 0 where
   pub holds : Holds fault
-  pub least : (other : FrameFault) → Holds other → number fault ≤ number other
+  pub least : (other : FrameFault) → Holds other → rank fault ≤ rank other

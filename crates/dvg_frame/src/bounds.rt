@@ -1,9 +1,9 @@
 //! What is drawn from each place, whether a run from it breaks, and whether steps at one depth come to no end.
 ghost use Rattle.std.specs.Prelude.{◌≡◌, ◌+◌, ◌*◌, ◌<◌, ◌≤◌, ◌^◌, ℕ, List, Some, None, length, Option, MatchOption, MatchBool};
 ghost use Rattle.dvg_mem.specs.Memory.{IsRom};
-ghost use Rattle.dvg_frame.specs.Faults.{Accepts, Begins};
+ghost use Rattle.dvg_frame.specs.Faults.{Accepts};
 ghost use Rattle.dvg_frame.specs.Picture.{IsBound};
-ghost use Rattle.dvg_frame.specs.Steps.{IsFine};
+ghost use Rattle.dvg_frame.specs.Steps.{IsFine, Begins};
 ghost use Rattle.dvg_frame.specs.Tables.{HasChain, HasNone, HasPlace, IsCalled, IsKnown, IsLonger, IsReady, IsRefused, IsTable, KeepsKnown, AllFine, known_at, onward};
 ghost use Rattle.dvg_frame.specs.Sweeps.{ReachedPair};
 ghost use Rattle.dvg_frame.specs.Ways.{IsPlaceOf, StandsSo};

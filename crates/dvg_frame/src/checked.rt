@@ -46,7 +46,7 @@ impl<'a> Checked<'a> {
         self.words
     }
 
-    /// How many words the whole run of its frame fetches at most, as `Frame::bound`.
+    /// How many words the whole run of its frame fetches, as `Frame::bound` tells.
     pub fn bound(&self) -> u64
         ensures value { result ≡ self.now.bound }
         ensures small { result < 2 ^ 63 }
@@ -58,13 +58,13 @@ impl<'a> Checked<'a> {
     pub fn to_frame(&self) -> Frame
         ensures { result ≡ self.now }
     {
-        Frame::of(self.draft, self.bound)
+        Frame::of(self.draft, self.words, self.bound)
     }
 
     // Makes a frame that is there the one of this draft, in the memory that it has.
     pub(crate) fn copy_to(&self, frame: &mut Frame)
         ensures { frame.new ≡ self.now }
     {
-        frame.copy_from(self.draft, self.bound);
+        frame.copy_from(self.draft, self.words, self.bound);
     }
 }

@@ -1,11 +1,11 @@
 //! The check of a draft.
-ghost use Rattle.std.specs.Prelude.{◌≡◌, ◌^◌, [], ℕ, ◌<◌, ◌↔◌, List, IsTrue, MatchOption, MatchResult};
+ghost use Rattle.std.specs.Prelude.{◌≡◌, [], ℕ, ◌<◌, ◌↔◌, List, IsTrue, MatchOption, MatchResult};
 ghost use Rattle.dvg_mem.specs.Memory.{IsRom};
-ghost use Rattle.dvg_frame.specs.Faults.{Accepts, Begins, IsChecked, Misses, Refuses};
+ghost use Rattle.dvg_frame.specs.Steps.{Begins, Misses};
+ghost use Rattle.dvg_frame.specs.Faults.{IsChecked, Refuses};
 ghost use Rattle.dvg_frame.specs.Firsts.{DrawsLabs, NamesNone};
 ghost use Rattle.dvg_frame.specs.Frames.{IsFrame};
 ghost use Rattle.dvg_frame.specs.Layout.{size};
-ghost use Rattle.dvg_frame.specs.Picture.{IsBound};
 ghost use Rattle.dvg_frame.specs.Tables.{BoundOrFault, HasNone, IsRefused};
 
 use crate::bounds::bound_of;
@@ -90,33 +90,63 @@ fn words_or_fault(draft: &Draft) -> Result<u16, FrameFault>
     }
 }
 
-// The tables of a check that are kept from one check to the next, about 208 KB.
+/// The check, with tables of a fixed size that are kept from one check to the next: a check takes time for the operations
+/// and for the places and pairs that it reaches, and none for the size of the tables, which is about 105 KB. What it
+/// answers doesn't depend on what it checked before. Whoever checks many drafts keeps one, on the heap.
 #[derive(Drop)]
-struct Tables {
+pub struct Checker {
     reached: Worklist,
     table: Table,
     chain: Chain,
 }
 
-// Contracts see nothing of them: between checks nothing is known of a place, and no pair is reached.
-impl Model for Tables {
+// Contracts see nothing of it: between checks nothing is known of a place, and no pair is reached.
+impl Model for Checker {
     ghost Value = { Unit {0} };
 
-    ghost view = { λ tables. tt };
+    ghost view = { λ checker. tt };
 
-    ghost invariant = { λ tables. (tables.reached ≡ []) × HasNone tables.table };
+    ghost invariant = { λ checker. (checker.reached ≡ []) × HasNone checker.table };
 }
 
-impl Tables {
-    // Tables in memory of this allocator. None for want of it. While they are made, they take room on the stack once.
-    #[inline(never)]
-    fn boxed<A: Allocator>(alloc: A) -> Option<Box<Tables, A>> {
-        let tables = Tables {
+impl Checker {
+    /// A checker.
+    pub fn new() -> Checker {
+        Checker {
             reached: Worklist::new(),
             table: Table::new(),
             chain: Chain::new(),
+        }
+    }
+
+    /// The draft, checked, where it has no fault over the ROM, and else the fault that is picked: faults 1 to
+    /// 4 in their order, then that of the first reached pair of place and depth that has one, then fault 9.
+    /// Operations come before ROM words, each by number, and of one place the lesser depth comes first; if
+    /// several faults hold at that pair, the least number is answered (this project's own choice).
+    ///
+    /// The pairs begin with operation 0 at depth 0. A vector or a LABS leads to the place after it, a jump
+    /// to its target, a call to its target one deeper and to the place after it at its own depth. A return,
+    /// a halt and a pair with a fault lead nowhere.
+    ///
+    /// Exactly one answer holds of each draft and ROM. The time is linear in the draft's operations and the
+    /// places and pairs that are reached, but that a loop is followed for as many steps as there are places.
+    pub fn check<'a, A: Allocator>(
+        &mut self,
+        draft: &'a Draft,
+        rom: &Rom<A>,
+    ) -> Result<Checked<'a>, FrameFault>
+        ensures { IsChecked draft.now rom.now result }
+    {
+        let words = match words_or_fault(draft) {
+            Ok(words) => words,
+            Err(fault) => return Err(fault),
         };
-        Box::new(alloc, tables).ok()
+        // A ROM has 2,048 or 4,096 bytes, as its type says.
+        let _ = rom.len_words();
+        match self.bound_or_fault(draft, rom) {
+            Ok(bound) => Ok(Checked::of(draft, words, bound)),
+            Err(fault) => Err(fault),
+        }
     }
 
     // The bound of a draft without the faults 1 to 4, or the fault that is picked.
@@ -142,78 +172,7 @@ impl Tables {
     }
 }
 
-/// The check with tables that are kept from one check to the next: a check takes time for the operations and for
-/// the places and pairs that it reaches, and none for the size of the tables. They are about 208 KB, which the first check that
-/// needs them takes from the allocator. Where that is refused, a check lays its tables out on the stack, as `check` does, and the
-/// next one asks again: so want of memory costs time alone.
-#[derive(Drop)]
-pub struct Checker<A: Allocator> {
-    alloc: A,
-    tables: Option<Box<Tables, A>>,
-}
-
-impl<A: Allocator + Copy> Checker<A> {
-    /// A checker that will take the memory of its tables from this allocator. What it answers doesn't depend on what it
-    /// checked before.
-    pub fn new(alloc: A) -> Checker<A> {
-        Checker {
-            alloc,
-            tables: None,
-        }
-    }
-
-    /// The draft, checked, where it has no fault over the ROM, and else the fault that is picked: faults 1 to
-    /// 4 in their order, then that of the first reached pair of place and depth that has one, then fault 9.
-    /// Operations come before ROM words, each by number, and of one place the lesser depth comes first; if
-    /// several faults hold at that pair, the least number is answered (this project's own choice).
-    ///
-    /// The pairs begin with operation 0 at depth 0. A vector or a LABS leads to the place after it, a jump
-    /// to its target, a call to its target one deeper and to the place after it at its own depth. A return,
-    /// a halt and a pair with a fault lead nowhere.
-    ///
-    /// Exactly one answer holds of each draft and ROM. The time is linear in the draft's operations and the
-    /// places and pairs that are reached, but that a loop is followed for as many steps as there are places.
-    pub fn check<'a, B: Allocator>(
-        &mut self,
-        draft: &'a Draft,
-        rom: &Rom<B>,
-    ) -> Result<Checked<'a>, FrameFault>
-        ensures { IsChecked draft.now rom.now result }
-    {
-        let words = match words_or_fault(draft) {
-            Ok(words) => words,
-            Err(fault) => return Err(fault),
-        };
-        // A ROM has 2,048 or 4,096 bytes, as its type says.
-        let _ = rom.len_words();
-        match self.bound_or_fault(draft, rom) {
-            Ok(bound) => Ok(Checked::of(draft, words, bound)),
-            Err(fault) => Err(fault),
-        }
-    }
-
-    // The bound of a draft without the faults 1 to 4, or the fault that is picked: by the kept tables, where there is memory
-    // for them.
-    fn bound_or_fault<B: Allocator>(
-        &mut self,
-        draft: &Draft,
-        rom: &Rom<B>,
-    ) -> Result<u64, FrameFault>
-        requires rom { IsRom rom.now }
-        requires begins { Begins draft.now }
-        ensures { BoundOrFault draft.now rom.now result }
-    {
-        if self.tables.is_none() {
-            self.tables = Tables::boxed(self.alloc);
-        }
-        match &mut self.tables {
-            Some(tables) => tables.bound_or_fault(draft, rom),
-            None => anew(draft, rom),
-        }
-    }
-}
-
-// The fault that is picked of a draft that has one behind the first four, or a loop. The list has no pair at first,
+// The fault that is picked of a draft that has one after the first four, or a loop. The list has no pair at first,
 // and the reached ones at the end.
 fn fault_of<A: Allocator>(draft: &Draft, rom: &Rom<A>, list: &mut Worklist) -> FrameFault
     requires rom { IsRom rom.now }
@@ -229,50 +188,12 @@ fn fault_of<A: Allocator>(draft: &Draft, rom: &Rom<A>, list: &mut Worklist) -> F
 }
 
 /// The frame of a draft that has no fault over the ROM, and else the fault that is picked, as by a
-/// `Checker`. Whoever checks many drafts keeps one of these, and saves the time to lay out its tables.
+/// `Checker`, which it lays out on the stack. Whoever checks many drafts keeps a `Checker`, and saves the time for that.
 pub fn check<A: Allocator>(draft: &Draft, rom: &Rom<A>) -> Result<Frame, FrameFault>
     ensures { IsChecked draft.now rom.now result }
 {
-    if let Err(fault) = words_or_fault(draft) {
-        return Err(fault);
-    }
-    // A ROM has 2,048 or 4,096 bytes, as its type says.
-    let _ = rom.len_words();
-    match anew(draft, rom) {
-        Ok(bound) => Ok(Frame::of(draft, bound)),
+    match Checker::new().check(draft, rom) {
+        Ok(checked) => Ok(checked.to_frame()),
         Err(fault) => Err(fault),
     }
-}
-
-// The bound of a draft without the faults 1 to 4, or the fault that is picked, with new tables.
-fn anew<A: Allocator>(draft: &Draft, rom: &Rom<A>) -> Result<u64, FrameFault>
-    requires rom { IsRom rom.now }
-    requires begins { Begins draft.now }
-    ensures { BoundOrFault draft.now rom.now result }
-{
-    match bound_anew(draft, rom) {
-        Some(bound) => Ok(bound),
-        None => Err(fault_anew(draft, rom)),
-    }
-}
-
-// As `bound_of`, with new tables. They lie in a call of their own: where none is wanted, no room is made for them.
-#[inline(never)]
-fn bound_anew<A: Allocator>(draft: &Draft, rom: &Rom<A>) -> Option<u64>
-    requires rom { IsRom rom.now }
-    requires begins { Begins draft.now }
-    ensures { MatchOption result (IsRefused draft.now rom.now) (λ n. Accepts draft.now rom.now × IsBound draft.now rom.now n × (n < 2 ^ 63)) }
-{
-    bound_of(draft, rom, &mut Table::new(), &mut Chain::new())
-}
-
-// As `fault_of`, with a new list, which lies in a call of its own.
-#[inline(never)]
-fn fault_anew<A: Allocator>(draft: &Draft, rom: &Rom<A>) -> FrameFault
-    requires rom { IsRom rom.now }
-    requires begins { Begins draft.now }
-    requires refused { IsRefused draft.now rom.now }
-    ensures { Refuses draft.now rom.now result }
-{
-    fault_of(draft, rom, &mut Worklist::new())
 }

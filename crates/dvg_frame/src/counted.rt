@@ -11,43 +11,36 @@ use arrayvec::ArrayVec;
 use std::marker::Model;
 
 /// One entry for each operation, and one for their end.
-const COUNTS: usize = MAX_OPS + 1;
+pub(crate) const COUNTS: usize = MAX_OPS + 1;
 
-/// A draft, with a table of how many words stand before each operation, and of how many there are in all, so that
-/// the place of an operation is found in constant time.
+/// A draft and a table of how many words stand before each operation, both borrowed, so that the place of an operation
+/// is found in constant time.
 #[derive(Drop)]
-pub(crate) struct Counted {
-    draft: Draft,
+pub(crate) struct Counted<'a> {
+    draft: &'a Draft,
     /// How many words the operations before each one have, and then how many all have.
-    words_before: ArrayVec<u16, COUNTS>,
+    words_before: &'a [u16],
 }
 
 /// Contracts see the list of the operations.
-impl Model for Counted {
+impl<'a> Model for Counted<'a> {
     ghost Value = { List OpKind };
 
-    ghost view = { λ counted. counted.draft };
+    ghost view = { λ counted. counted.draft.now };
 
-    ghost invariant = { λ counted. IsCounted counted.draft counted.words_before.items };
+    ghost invariant = { λ counted. IsCounted counted.draft.now counted.words_before.now };
 }
 
-impl Counted {
-    // The operations of a draft, which is copied.
-    pub(crate) fn of(draft: &Draft) -> Counted
+impl<'a> Counted<'a> {
+    // A draft with its table.
+    pub(crate) fn of(draft: &'a Draft, words_before: &'a [u16]) -> Counted<'a>
+        requires { IsCounted draft.now words_before.now }
         ensures { result ≡ draft.now }
     {
         Counted {
-            draft: draft.copy(),
-            words_before: words_before_each(draft),
+            draft,
+            words_before,
         }
-    }
-
-    // Takes the operations of a draft in place of its own, in the memory that it has.
-    pub(crate) fn copy_from(&mut self, draft: &Draft)
-        ensures { self.new ≡ draft.now }
-    {
-        self.draft.copy_from(draft);
-        self.words_before = words_before_each(draft);
     }
 
     // How many operations there are.
@@ -72,19 +65,13 @@ impl Counted {
         ensures value { result ≡ size (take i self.now) }
         ensures bound { result ≤ 1022 }
     {
+        let _ = self.draft.len();
         self.words_before[i]
-    }
-
-    // How many words all operations have.
-    pub(crate) fn words(&self) -> u16
-        ensures { result ≡ size self.now }
-    {
-        self.words_before[self.draft.len()]
     }
 }
 
 // How many words stand before each operation, and how many there are in all.
-fn words_before_each(draft: &Draft) -> ArrayVec<u16, COUNTS>
+pub(crate) fn words_before_each(draft: &Draft) -> ArrayVec<u16, COUNTS>
     ensures { IsCounted draft.now result.items }
 {
     let mut words_before = ArrayVec::new();

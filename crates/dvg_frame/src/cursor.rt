@@ -1,6 +1,8 @@
 //! Cursors: the bytes of a frame, one after the other.
 use crate::checked::Checked;
+use crate::counted::COUNTS;
 use crate::frame::{Frame, byte_of};
+use arrayvec::ArrayVec;
 use dvg_code::Words;
 use dvg_mem::Half;
 use std::iter::FusedIterator;
@@ -9,10 +11,13 @@ use std::marker::Model;
 /// An iterator over the bytes of a frame that is laid out for a half, each with its byte address in the
 /// RAM: from the low byte of the half's first word on, in rising order.
 ///
-/// A cursor keeps the frame and its place in it. An item takes constant time.
+/// A cursor keeps the frame, its place in it, and how many words stand before each operation, so that an item takes
+/// constant time.
 #[derive(Drop)]
 pub struct Cursor {
     frame: Frame,
+    /// How many words stand before each operation of the frame, and how many there are in all.
+    words_before: ArrayVec<u16, COUNTS>,
     half: Half,
     /// The words at hand: those of the operation before number `op`.
     words: Words,
@@ -51,8 +56,10 @@ impl Cursor {
         ensures in_ram { All IsBehindWordZero result }
     {
         let left = 2 * frame.len_words();
+        let words_before = frame.words_before_each();
         Cursor {
             frame,
+            words_before,
             half,
             words: Words::new(),
             given: 0,
@@ -70,6 +77,7 @@ impl Cursor {
         ensures in_ram { All IsBehindWordZero self.new }
     {
         checked.copy_to(&mut self.frame);
+        self.words_before = self.frame.words_before_each();
         self.half = half;
         self.words = Words::new();
         self.given = 0;
@@ -100,7 +108,8 @@ impl Iterator for Cursor {
             return None;
         }
         if usize::from(self.given) == 2 * self.words.len() {
-            self.words = self.frame.spelling(self.half, self.op);
+            let words_before = self.words_before.as_slice();
+            self.words = self.frame.spelling(words_before, self.half, self.op);
             self.given = 0;
             self.op += 1;
         }

@@ -2,18 +2,20 @@
 ghost use Rattle.std.specs.Prelude.{◌≡◌, ◌*◌, ◌%◌, ◌^◌, ◌<◌, ◌≤◌, [], ◌∷◌, Some, length, slice_get};
 ghost use Rattle.dvg_code.specs.Spelling.{canon};
 ghost use Rattle.dvg_frame.specs.Bytes.{bytes};
-ghost use Rattle.dvg_frame.specs.Faults.{Begins, FrameState};
+ghost use Rattle.dvg_frame.specs.Steps.{Begins};
+ghost use Rattle.dvg_frame.specs.Faults.{FrameState};
 ghost use Rattle.dvg_frame.specs.Firsts.{NamesNone};
-ghost use Rattle.dvg_frame.specs.Frames.{IsFrame};
+ghost use Rattle.dvg_frame.specs.Counting.{IsCounted};
+ghost use Rattle.dvg_frame.specs.Frames.{IsMeasured, IsSpelling};
 ghost use Rattle.dvg_frame.specs.Layout as layout;
-ghost use Rattle.dvg_frame.specs.Layout.{IsSpelling};
 ghost use Rattle.dvg_frame.specs.Ops.{IsDraft, IsOp};
 ghost use Rattle.dvg_frame.specs.declared.op.OpKind.{OpKind};
 ghost use Rattle.dvg_mem.specs.declared.half.Half.{Half};
 
-use crate::counted::Counted;
+use crate::counted::{COUNTS, Counted, words_before_each};
 use crate::draft::{Draft, words_of};
 use crate::op::OpKind;
+use arrayvec::ArrayVec;
 use dvg_code::{Code, Instr, Words, encode};
 use dvg_mem::Half;
 use std::marker::Model;
@@ -21,11 +23,11 @@ use std::marker::Model;
 /// The most words that a frame has: those of a half of the RAM.
 pub(crate) const MAX_WORDS: u16 = 511;
 
-/// A draft that was checked. It keeps the draft, the places of its operations and its bound, and no laid
-/// words.
+/// A draft that was checked. It keeps the draft, its number of words and its bound, and no laid words.
 #[derive(Drop)]
 pub struct Frame {
-    draft: Counted,
+    draft: Draft,
+    words: u16,
     bound: u64,
 }
 
@@ -35,29 +37,30 @@ impl Model for Frame {
 
     ghost view = { λ frame. record { operations = frame.draft; bound = frame.bound } };
 
-    ghost invariant = { λ frame. IsFrame frame.draft × (frame.bound < 2 ^ 63) };
+    ghost invariant = { λ frame. IsMeasured frame.draft frame.words frame.bound };
 }
 
 impl Frame {
-    // The frame of a draft without the faults 1 to 4, with its bound. The draft is copied.
-    pub(crate) fn of(draft: &Draft, bound: u64) -> Frame
-        requires frame { IsFrame draft.now }
-        requires small { bound < 2 ^ 63 }
+    // The frame of a draft without the faults 1 to 4, with its number of words and its bound. The draft is copied.
+    pub(crate) fn of(draft: &Draft, words: u16, bound: u64) -> Frame
+        requires { IsMeasured draft.now words bound }
         ensures { result ≡ record { operations = draft.now; bound = bound } }
     {
         Frame {
-            draft: Counted::of(draft),
+            draft: draft.copy(),
+            words,
             bound,
         }
     }
 
-    // Becomes the frame of a draft without the faults 1 to 4, with its bound, in the memory that it has.
-    pub(crate) fn copy_from(&mut self, draft: &Draft, bound: u64)
-        requires frame { IsFrame draft.now }
-        requires small { bound < 2 ^ 63 }
+    // Becomes the frame of a draft without the faults 1 to 4, with its number of words and its bound, in the memory that
+    // it has.
+    pub(crate) fn copy_from(&mut self, draft: &Draft, words: u16, bound: u64)
+        requires { IsMeasured draft.now words bound }
         ensures { self.new ≡ record { operations = draft.now; bound = bound } }
     {
         self.draft.copy_from(draft);
+        self.words = words;
         self.bound = bound;
     }
 
@@ -68,7 +71,8 @@ impl Frame {
         ensures bound { result ≤ 511 }
         ensures draft { IsDraft self.now.operations }
     {
-        self.draft.words()
+        let _ = self.draft.len();
+        self.words
     }
 
     /// How many words the whole run of the frame fetches, from word zero to its HALT: that of any run of it
@@ -81,21 +85,36 @@ impl Frame {
     }
 
     /// Byte `k` of the frame's words in this half, the low byte of each word first. Byte 0 stands at
-    /// twice the word address of the half's first word.
+    /// twice the word address of the half's first word. The time is linear in the operations; a `Cursor` gives all
+    /// bytes, each in constant time.
     pub fn byte(&self, half: Half, k: u16) -> u8
         requires { k < 2 * layout.size self.now.operations }
         ensures { slice_get (bytes (layout.laid half self.now.operations)) k ≡ Some result }
     {
-        byte_of(word_at(&self.draft, half, k / 2), k)
+        let words_before = words_before_each(&self.draft);
+        let counted = Counted::of(&self.draft, words_before.as_slice());
+        byte_of(word_at(&counted, half, k / 2), k)
     }
 
-    // The words of the operation of this number, laid out for a half.
-    pub(crate) fn spelling(&self, half: Half, i: u16) -> Words
-        requires { i < length self.now.operations }
+    // How many words stand before each of its operations, and how many there are in all.
+    pub(crate) fn words_before_each(&self) -> ArrayVec<u16, COUNTS>
+        ensures { IsCounted self.now.operations result.items }
+    {
+        words_before_each(&self.draft)
+    }
+
+    // The words of the operation of this number, laid out for a half, by how many words stand before each.
+    pub(crate) fn spelling(&self, words_before: &[u16], half: Half, i: u16) -> Words
+        requires counted { IsCounted self.now.operations words_before.now }
+        requires within { i < length self.now.operations }
         ensures words { IsSpelling half self.now.operations i result.items }
         ensures draft { IsDraft self.now.operations }
     {
-        spelling(&self.draft, half, usize::from(i))
+        spelling(
+            &Counted::of(&self.draft, words_before),
+            half,
+            usize::from(i),
+        )
     }
 }
 

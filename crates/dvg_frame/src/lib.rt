@@ -7,8 +7,7 @@
 //! opens more than four calls, and never returns without a call.
 //!
 //! Drafts and their check are this project's own; the words are those of Atari's DVG documentation and
-//! of Margolin's *The Secret Life of Vector Generators*. No call of this crate takes memory but
-//! `Checker::check`, which does without where it is refused.
+//! of Margolin's *The Secret Life of Vector Generators*. No call of this crate takes memory.
 #![tactic(auto)]
 
 mod bounds;
@@ -23,6 +22,7 @@ mod frame;
 pub mod laws;
 mod op;
 mod pair;
+mod pair_list;
 mod place;
 mod sweep;
 mod table;

@@ -1,6 +1,8 @@
 //! The operations of a draft.
 ghost use Rattle.std.specs.Prelude.{◌≡◌, ◌↔◌, IfSome, IsSome, IsTrue};
-ghost use Rattle.dvg_frame.specs.Ops.{IsDrawing, IsOp};
+ghost use Rattle.dvg_code.specs.Acts.{Moves, act_of};
+ghost use Rattle.dvg_code.specs.Ranges.{InRange};
+ghost use Rattle.dvg_frame.specs.Ops.{IsOp};
 ghost use Rattle.dvg_frame.specs.declared.op.OpKind.{OpKind};
 
 use dvg_code::{Code, Instr};
@@ -90,7 +92,7 @@ fn is_op(kind: &OpKind) -> bool
 
 // Whether it is a VCTR, an SVEC or a LABS.
 fn is_drawing(code: Code) -> bool
-    ensures { IsTrue result ↔ IsDrawing code }
+    ensures { IsTrue result ↔ (InRange code × (act_of code ≡ Moves code)) }
 {
     match code.instr() {
         Instr::Vctr { .. } | Instr::Svec { .. } | Instr::Labs { .. } => true,

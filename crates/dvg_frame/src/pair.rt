@@ -1,6 +1,6 @@
 //! Pairs of a place and a depth.
 ghost use Rattle.std.specs.Prelude.{◌≡◌, ◌<◌};
-ghost use Rattle.dvg_frame.specs.Pairs.{IsPair, index};
+ghost use Rattle.dvg_frame.specs.Pairs.{IsPair, index, pair_at};
 
 use crate::draft::MAX_OPS;
 use crate::place::Place;
@@ -19,6 +19,9 @@ pub(crate) const ROM_WORDS: usize = (ROM_END - ROM_FIRST) as usize;
 
 /// How many places there are: each operation and each word that a ROM can have.
 pub(crate) const PLACES: usize = MAX_OPS + ROM_WORDS;
+
+/// How many depths there are: none to four open calls.
+const DEPTHS: u16 = DEEPEST as u16 + 1;
 
 /// How many pairs there are: at each place one for each depth.
 pub(crate) const PAIRS: usize = PLACES * (DEEPEST as usize + 1);
@@ -56,4 +59,19 @@ pub(crate) fn index_of(pair: Pair) -> usize
         Place::InRom(a) => MAX_OPS + usize::from(a - ROM_FIRST),
     };
     (usize::from(DEEPEST) + 1) * place + usize::from(pair.depth)
+}
+
+// The pair of a number.
+pub(crate) fn pair_of(number: u16) -> Pair
+    ensures { result ≡ pair_at number }
+{
+    let place = number / DEPTHS;
+    let depth = (number % DEPTHS) as u8;
+    let ops = MAX_OPS as u16;
+    let place = if place < ops {
+        Place::InFrame(place)
+    } else {
+        Place::InRom(ROM_FIRST + (place - ops))
+    };
+    Pair { place, depth }
 }

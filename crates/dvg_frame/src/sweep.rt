@@ -1,7 +1,8 @@
 //! The sweep over all pairs that a draft's run can come to.
 ghost use Rattle.std.specs.Prelude.{◌≡◌, ◌≤◌, ◌⊎◌, [], IfSome, MatchOption, Some};
 ghost use Rattle.dvg_mem.specs.Memory.{IsRom};
-ghost use Rattle.dvg_frame.specs.Faults.{Begins, Least};
+ghost use Rattle.dvg_frame.specs.Steps.{Begins};
+ghost use Rattle.dvg_frame.specs.Faults.{Least};
 ghost use Rattle.dvg_frame.specs.Growth.{Grows};
 ghost use Rattle.dvg_frame.specs.Pairs.{IsPair, index};
 ghost use Rattle.dvg_frame.specs.Sweeps.{Follows, StaysIn};

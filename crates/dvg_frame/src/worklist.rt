@@ -5,23 +5,23 @@ ghost use Rattle.dvg_frame.specs.Pairs.{IsPair};
 ghost use Rattle.dvg_frame.specs.declared.pair.Pair.{Pair};
 
 use crate::pair::{PAIRS, Pair, index_of};
-use arrayvec::ArrayVec;
+use crate::pair_list::PairList;
 use std::marker::Model;
 
 /// Pairs, each once, in the order in which they came.
 #[derive(Drop)]
 pub(crate) struct Worklist {
     marks: [bool; PAIRS],
-    pairs: ArrayVec<Pair, PAIRS>,
+    pairs: PairList<PAIRS>,
 }
 
 /// Contracts see the list of the pairs.
 impl Model for Worklist {
     ghost Value = { List Pair };
 
-    ghost view = { λ list. list.pairs.items };
+    ghost view = { λ list. list.pairs };
 
-    ghost invariant = { λ list. AreMarked list.marks list.pairs.items };
+    ghost invariant = { λ list. AreMarked list.marks list.pairs };
 }
 
 impl Worklist {
@@ -31,7 +31,7 @@ impl Worklist {
     {
         Worklist {
             marks: no_marks(),
-            pairs: ArrayVec::new(),
+            pairs: PairList::new(),
         }
     }
 
@@ -49,14 +49,15 @@ impl Worklist {
         ensures value { slice_get self.now i ≡ Some result }
         ensures valid { IsPair result }
     {
-        self.pairs[i]
+        self.pairs.at(i)
     }
 
     // Takes all pairs out. Only their own marks are taken back, so the time is linear in their number.
     pub(crate) fn clear(&mut self)
         ensures { self.new ≡ [] }
     {
-        while let Some(pair) = self.pairs.pop() {
+        while self.pairs.len() > 0 {
+            let pair = self.pairs.pop();
             self.marks[index_of(pair)] = false;
         }
     }

@@ -8,3 +8,5 @@ pub mod Whole
 pub mod Residues
 pub mod Drawn
 pub mod Rows
+pub mod Inside
+pub mod Seen

@@ -32,7 +32,7 @@ leaves_same (takes {run = run} {word = word} {visits = visits} {held = held} l o
     ap (λ r. grown r visits held) e ∙ (ap (λ list. grown run' list held) same.0 ∙ ap (λ h. grown run' visits' h) same.1)
 
 -- what a run holds wants a second word
-held_first : {history : List Told} {run : Newest} → Leaves history run → IfSome run.held IsFirst
+pub held_first : {history : List Told} {run : Newest} → Leaves history run → IfSome run.held IsFirst
 held_first new = tt
 held_first (starts l) = tt
 held_first (resets l) = held_first l

@@ -1,7 +1,7 @@
 -- Which instruction a fetched word completes.
 use Rattle.std.specs.Prelude.{ℕ, ◌≤◌, [], ◌∷◌, Option, Some, None}
 use Rattle.dvg_code.specs.declared.instr.Instr.{Instr}
-use Rattle.dvg_code.specs.declared.instr.Instr.TheVariants.{Vctr, Labs, Halt, Jsrl, Rtsl, Jmpl, Svec}
+use Rattle.dvg_code.specs.declared.instr.Instr.TheVariants.{Vctr, Svec}
 use Rattle.dvg_code.specs.Spelling.{Spells}
 use Rattle.dvg_gen.specs.Bytes.{Met, Whole}
 
@@ -15,16 +15,6 @@ abbrev pub IsSeen : Instr → Type 0
 IsSeen (Vctr scale dx dy z) = 1 ≤ z
 IsSeen (Svec scale dx dy z) = 1 ≤ z
 IsSeen _ = ⊥
-
--- a LABS
-abbrev pub IsLabs : Instr → Type 0
-IsLabs (Vctr scale dx dy z) = ⊥
-IsLabs (Labs x y scale) = Unit {0}
-IsLabs Halt = ⊥
-IsLabs (Jsrl address) = ⊥
-IsLabs Rtsl = ⊥
-IsLabs (Jmpl address) = ⊥
-IsLabs (Svec scale dx dy z) = ⊥
 
 -- a fetch draws nothing: what it met completes no vector that is seen
 abbrev pub DrawsNothing : Option ℕ → Met → Type 0

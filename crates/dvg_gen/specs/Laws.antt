@@ -1,14 +1,16 @@
 -- Laws of the beam, of runs and of histories.
-use Rattle.std.specs.Prelude.{◌≡◌, ℕ, ◌<◌, ℤ, pos, ◌+ℤ◌, ◌*ℤ◌, List, [], ◌∷◌, Option, Some, None, true}
+use Rattle.std.specs.Prelude.{◌≡◌, ℕ, ◌<◌, ℤ, pos, ◌+ℤ◌, ◌*ℤ◌, List, [], ◌∷◌, All, Option, Some, None, true}
 use Rattle.dvg_code.specs.declared.instr.Instr.{Instr}
+use Rattle.dvg_code.specs.Ranges.{InRange}
 use Rattle.dvg_code.specs.Words.{IsWord}
 use Rattle.dvg_gen.specs.declared.beam.Beam.{Beam}
 use Rattle.dvg_gen.specs.declared.stroke.Stroke.{Stroke}
 use Rattle.dvg_gen.specs.Completing.{IsSeen}
-use Rattle.dvg_gen.specs.Drawing.{shifted, drawn}
+use Rattle.dvg_gen.specs.Drawing.{shifted, moved, drawn}
+use Rattle.dvg_gen.specs.Position.{IsBeam, IsStroke}
 use Rattle.dvg_gen.specs.Returning.{IsAnswered}
 use Rattle.dvg_code.specs.Acts.{Calls, Returns, act_of}
-use Rattle.dvg_gen.specs.Run.{Visit, on, next, calls, returns, beam_after, Runs}
+use Rattle.dvg_gen.specs.Run.{Visit, on, next, calls, returns, beam_after, strokes, Runs}
 use Rattle.dvg_gen.specs.Told.{Told, Start, Reset, Fed, Newest, nothing, Leaves}
 use Rattle.dvg_gen.specs.Whole.{Completed}
 
@@ -24,6 +26,15 @@ SeenDraws = (beam : Beam) (code : Instr) → IsSeen code → (stroke : Stroke) �
 -- nothing else draws
 abbrev pub UnseenDrawsNothing : Type 0
 UnseenDrawsNothing = (beam : Beam) (code : Instr) → (IsSeen code → ⊥) → drawn beam code ≡ []
+
+-- an instruction in range moves a beam to a beam, and what it draws is in range
+abbrev pub StaysInRange : Type 0
+StaysInRange = (beam : Beam) (code : Instr) → IsBeam beam.x beam.y beam.scale → InRange code
+    → IsBeam (moved beam code).x (moved beam code).y (moved beam code).scale × All IsStroke (drawn beam code)
+
+-- what the newest run of a history drew is in range
+abbrev pub RunInRange : Type 0
+RunInRange = (history : List Told) (run : Newest) → Leaves history run → All IsStroke (strokes run.first run.visits)
 
 -- what a generator can be told at a run: a start and a reset always, and a fetch while the run is open
 abbrev pub CanBeTold : Newest → Told → Type 0

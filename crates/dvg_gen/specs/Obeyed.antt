@@ -1,8 +1,7 @@
 -- How the generator's fields follow an instruction: the words of private contracts.
-use Rattle.std.specs.Prelude.{◌≡◌, ℕ, ◌<◌, List, [], ◌∷◌, ◌++◌, length, slice_index, None, true, false}
+use Rattle.std.specs.Prelude.{◌≡◌, ℕ, List, [], ◌++◌, length, slice_index, None, true, false}
 use Rattle.dvg_code.specs.declared.instr.Instr.{Instr}
-use Rattle.dvg_code.specs.declared.instr.Instr.TheVariants.{Halt, Jsrl, Rtsl}
-use Rattle.dvg_code.specs.Spelling.{word_count}
+use Rattle.dvg_code.specs.declared.instr.Instr.TheVariants.{Vctr, Labs, Halt, Jsrl, Rtsl, Jmpl, Svec}
 use Rattle.dvg_gen.specs.declared.taken.GenFault.TheVariants.{StackOver, StackUnder, Hole}
 use Rattle.dvg_gen.specs.declared.taken.Taken.{Taken}
 use Rattle.dvg_gen.specs.declared.taken.Taken.TheVariants.{Low, Word, Done, Broke}
@@ -10,7 +9,17 @@ use Rattle.dvg_gen.specs.Drawing.{moved, drawn}
 use Rattle.dvg_gen.specs.Machine.{Machine}
 use Rattle.dvg_code.specs.Acts.{Act, Moves, Jumps, Calls, Returns, Halts, act_of}
 use Rattle.dvg_gen.specs.Run.{on}
-use Rattle.dvg_gen.specs.Stacks.{stack_by, to_of, CanGo}
+use Rattle.dvg_gen.specs.Stacks.{stack_by, CanGo}
+
+-- a LABS
+abbrev pub IsLabs : Instr → Type 0
+IsLabs (Vctr scale dx dy z) = ⊥
+IsLabs (Labs x y scale) = Unit {0}
+IsLabs Halt = ⊥
+IsLabs (Jsrl address) = ⊥
+IsLabs Rtsl = ⊥
+IsLabs (Jmpl address) = ⊥
+IsLabs (Svec scale dx dy z) = ⊥
 
 -- where an instruction leads, by the address of its last word
 abbrev pub past : Act ℕ → ℕ → List ℕ → ℕ

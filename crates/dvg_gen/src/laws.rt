@@ -1,5 +1,5 @@
 //! Laws of the definitions alone. Each is the contract of a function that does nothing.
-ghost use Rattle.dvg_gen.specs.Laws.{AnswersACall, BeamOfAll, LeastResidue, OneCall, OneRun, OneRunOfMemory, PastTheCall, SeenDraws, UnseenDrawsNothing};
+ghost use Rattle.dvg_gen.specs.Laws.{AnswersACall, BeamOfAll, LeastResidue, OneCall, OneRun, OneRunOfMemory, PastTheCall, RunInRange, SeenDraws, StaysInRange, UnseenDrawsNothing};
 
 /// A moved position is exact: the least residue modulo 2,097,152 of the old one and the way.
 pub fn least_residue()
@@ -11,6 +11,13 @@ pub fn least_residue()
 pub fn what_draws()
     ensures seen { SeenDraws }
     ensures unseen { UnseenDrawsNothing }
+{}
+
+/// What is drawn is in range: positions are below 2,097,152, and the intensity is 1 to 15. It is so of an instruction in
+/// range, from each beam, and of the strokes of each history's newest run.
+pub fn strokes_in_range()
+    ensures step { StaysInRange }
+    ensures run { RunInRange }
 {}
 
 /// A return answers exactly one call, wherever there are more calls than returns: reading back from it,

@@ -10,4 +10,4 @@ mod verdict;
 
 pub use line::Line;
 pub use log_verdict::LogVerdict;
-pub use verdict::Verdict;
+pub use verdict::{BoundedVerdict, Verdict};

@@ -2,9 +2,9 @@
 ghost use Rattle.std.specs.Prelude.{◌≡◌, ◌≤◌, ◌<◌, ◌+◌, ◌++◌, ◌∷◌, [], List, ℕ, length, codes, decimal, true};
 ghost use Rattle.std.specs.Fmt.{digit_glyph};
 ghost use Rattle.dvg_lines.specs.Lines.{hex_2, hex_3, hex_4, instr_parts, line_text, listed_parts, rom_line, spaced, vector_parts};
-ghost use Rattle.dvg_lines.specs.Verdicts.{fault_parts, place_parts, verdict_line};
+ghost use Rattle.dvg_lines.specs.Verdicts.{bounded_line, fault_parts, place_parts, verdict_line};
 
-use crate::verdict::Verdict;
+use crate::verdict::{BoundedVerdict, Verdict};
 use arrayvec::ArrayVec;
 use dvg_code::{Code, Instr};
 use dvg_frame::{FrameFault, Place};
@@ -278,23 +278,39 @@ impl Line {
         self.text(b"\n");
     }
 
-    /// Becomes the line that `check` writes of a verdict, which tells the bound of a good draft or leaves it
-    /// out.
-    pub fn become_verdict(&mut self, verdict: Verdict, tells_bound: bool)
-        ensures { self.new ≡ verdict_line tells_bound verdict }
+    /// Becomes the line that `check` writes of a verdict.
+    pub fn become_verdict(&mut self, verdict: Verdict)
+        ensures { self.new ≡ verdict_line verdict }
     {
         self.bytes.clear();
         match verdict {
-            Verdict::Good { words, bound } => {
+            Verdict::Good(words) => {
                 self.text(b"ok");
                 self.number(words);
                 self.part(b"words");
-                if tells_bound {
-                    self.number(bound);
-                    self.part(b"fetches");
-                }
             }
             Verdict::Refused(fault) => {
+                self.text(b"fault");
+                self.fault(fault);
+            }
+        }
+        self.text(b"\n");
+    }
+
+    /// Becomes the line that `check` writes of a verdict, with the bound of a good draft.
+    pub fn become_bounded(&mut self, verdict: BoundedVerdict)
+        ensures { self.new ≡ bounded_line verdict }
+    {
+        self.bytes.clear();
+        match verdict {
+            BoundedVerdict::Good { words, bound } => {
+                self.text(b"ok");
+                self.number(words);
+                self.part(b"words");
+                self.number(bound);
+                self.part(b"fetches");
+            }
+            BoundedVerdict::Refused(fault) => {
                 self.text(b"fault");
                 self.fault(fault);
             }

@@ -1,7 +1,7 @@
 -- The words of a ROM, and the address of the first one.
-use Rattle.std.proofs.Common.{◌≡◌, ◌∙◌, ℕ, ◌+◌, ◌-◌, ◌*◌, ◌<◌, ◌≤◌, inl, ⊎_elim, Bool, true, false, List, length, Option, Some, None, refl, ap, arith, lit≤, nat_le, nat_lt}
+use Rattle.std.proofs.Common.{◌≡◌, ◌∙◌, ℕ, ◌+◌, ◌-◌, ◌*◌, ◌<◌, ◌≤◌, inl, inr, ◌⊎◌, ⊎_elim, Bool, true, false, List, length, Option, Some, None, refl, ap, arith, lit≤, nat_le, nat_lt}
 use Rattle.std.specs.Prelude.{◌==◌, ◌&&◌, if◌then◌else◌, slice_index}
-use Rattle.std.proofs.lemmas.Bool.{le-leb, lt-ltb}
+use Rattle.std.proofs.lemmas.Bool.{cases_lt, le-leb, lt-ltb}
 use Rattle.std.proofs.lemmas.Bool.Decides.{nat_tests}
 use Rattle.std.proofs.lemmas.List.Elements.{All-get_or}
 use Rattle.dvg_code.specs.Words.{IsWord, word_in}
@@ -60,3 +60,19 @@ pub rom_some : (R : List ℕ) (a w : ℕ) → rom_word R a ≡ Some w → (first
 rom_some R a w is =
     let inside = tested (nat_le (first_word R) a && nat_lt a 0xC00) _ w is in
     (grind (arith, nat_tests), grind (arith, nat_tests))
+
+-- where no word is, its address is none of those
+pub rom_none : (R : List ℕ) (a : ℕ) → rom_word R a ≡ None → (a < first_word R) ⊎ (0xC00 ≤ a)
+rom_none R a none =
+    ⊎_elim (λ below. inl below)
+    (λ low. ⊎_elim (λ high. let there = rom_there R a low high in absurd (cc)) (λ past. inr past) (cases_lt a 0xC00))
+    (cases_lt a (first_word R))
+
+none_found : (found : Option ℕ) → ((w : ℕ) → found ≡ Some w → ⊥) → found ≡ None
+none_found None never = refl
+none_found (Some w) never = absurd (never w refl)
+
+pub none_there : (R : List ℕ) (a : ℕ) → (a < first_word R) ⊎ (0xC00 ≤ a) → rom_word R a ≡ None
+none_there R a outside =
+    none_found (rom_word R a)
+    (λ w is. let inside = rom_some R a w is in ⊎_elim (λ below. let low = inside.0 in omega arith) (λ past. let high = inside.1 in omega arith) outside)

@@ -1,5 +1,5 @@
 -- The table of areas, and the two halves.
-use Rattle.std.specs.Prelude.{◌≡◌, ℕ, ◌<◌, ◌≤◌, ◌⊎◌, ◌/◌, ◌%◌, ◌==◌, if◌then◌else◌}
+use Rattle.std.specs.Prelude.{◌≡◌, ◌+◌, ℕ, ◌<◌, ◌≤◌, ◌⊎◌, ◌/◌, ◌%◌, ◌==◌, if◌then◌else◌}
 use Rattle.dvg_mem.specs.declared.half.Half.{Half}
 use Rattle.dvg_mem.specs.declared.half.Half.TheVariants.{H0, H1}
 use Rattle.dvg_mem.specs.declared.areas.Area.{Area}
@@ -14,14 +14,14 @@ IsInMap first (Frame H1) w = (0x201 ≤ w) × (w ≤ 0x3FF)
 IsInMap first Rom w = (first ≤ w) × (w ≤ 0xBFF)
 IsInMap first Hole w = ((0x400 ≤ w) × (w < first)) ⊎ ((0xC00 ≤ w) × (w ≤ 0xFFF))
 
--- the word addresses of each area with a ROM of 2,048 bytes
-abbrev pub IsIn : Area → ℕ → Type 0
-IsIn = IsInMap 0x800
-
 -- the word address of a half's first word
 abbrev pub base : Half → ℕ
 base H0 = 0x001
 base H1 = 0x201
+
+-- the word addresses of a half: 511 from its first word on
+abbrev pub IsInHalf : Half → ℕ → Type 0
+IsInHalf half w = (base half ≤ w) × (w ≤ base half + 510)
 
 -- the half that a half is not
 abbrev pub other : Half → Half

@@ -3,7 +3,7 @@ use Rattle.std.specs.Prelude.{◌≡◌, ◌≢◌, ◌<◌, ◌≤◌, ◌+◌,
 use Rattle.dvg_mem.specs.declared.half.Half.{Half}
 use Rattle.dvg_mem.specs.declared.areas.Area.{Area}
 use Rattle.dvg_mem.specs.declared.areas.Area.TheVariants.{Frame}
-use Rattle.dvg_mem.specs.Areas.{IsIn, IsInMap, base, half_of_high, high, other}
+use Rattle.dvg_mem.specs.Areas.{IsInHalf, IsInMap, base, half_of_high, high, other}
 use Rattle.dvg_mem.specs.Memory.{IsImage, IsRom, first_word, rom_word, fetched_byte}
 use Rattle.dvg_code.specs.Words.{words_of}
 
@@ -20,9 +20,9 @@ HighNamesHalf = (half : Half) → (0x01 + 256 * high half ≡ 0xE000 + base half
 abbrev pub HalvesDiffer : Type 0
 HalvesDiffer = (half : Half) → (other half ≢ half) × (other (other half) ≡ half)
 
--- a half is the 511 words from its first word on
+-- in each map the area of a half is the 511 words from its first word on
 abbrev pub HalfFromBase : Type 0
-HalfFromBase = (half : Half) (w : ℕ) → IsIn (Frame half) w ↔ ((base half ≤ w) × (w ≤ base half + 510))
+HalfFromBase = (first w : ℕ) (half : Half) → IsInMap first (Frame half) w ↔ IsInHalf half w
 
 -- the ROM's words, from its first address on, are the words of its bytes in order
 abbrev pub RomWordsInOrder : Type 0

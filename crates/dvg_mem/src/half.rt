@@ -1,8 +1,6 @@
 //! The two halves of the vector RAM.
 ghost use Rattle.std.specs.Prelude.{◌≡◌, ◌↔◌, Some};
-ghost use Rattle.dvg_mem.specs.Areas.{IsIn, base, half_of_high, high, other};
-
-use crate::areas::Area;
+ghost use Rattle.dvg_mem.specs.Areas.{IsInHalf, base, half_of_high, high, other};
 
 /// One half of the vector RAM. The processor writes a frame into one while the generator draws the
 /// other.
@@ -60,7 +58,7 @@ impl Half {
 
     /// The half in which a word of this number lies; none for word zero, word 200 and all from 400 on.
     pub fn of_word(w: u16) -> Option<Half>
-        ensures { (half : Half) → (result ≡ Some half) ↔ IsIn (Area.Frame half) w }
+        ensures { (half : Half) → (result ≡ Some half) ↔ IsInHalf half w }
     {
         match w {
             0x001..=0x1FF => Some(Half::H0),

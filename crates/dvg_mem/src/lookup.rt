@@ -1,6 +1,6 @@
 //! The area of an address.
 ghost use Rattle.std.specs.Prelude.{◌≤◌};
-ghost use Rattle.dvg_mem.specs.Areas.{IsIn, IsInMap};
+ghost use Rattle.dvg_mem.specs.Areas.{IsInMap};
 
 use crate::areas::Area;
 use crate::half::Half;
@@ -9,7 +9,7 @@ use crate::{FIRST_ROM_WORD, LAST_ROM_WORD};
 /// The area of a word address, which has 12 bits, with a ROM of 2,048 bytes. `Rom::area` tells it of any ROM.
 pub fn area(w: u16) -> Area
     requires { w ≤ 0xFFF }
-    ensures { IsIn result w }
+    ensures { IsInMap 0x800 result w }
 {
     area_in_map(FIRST_ROM_WORD, w)
 }

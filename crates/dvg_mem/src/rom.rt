@@ -1,5 +1,5 @@
 //! The vector ROM.
-ghost use Rattle.std.specs.Prelude.{◌≡◌, ◌≢◌, ◌*◌, ◌≤◌, ◌⊎◌, ◌↔◌, ◌++◌, length, IfErr, IfOk, IsErrOf, OnErr, OnOk, Some};
+ghost use Rattle.std.specs.Prelude.{◌≡◌, ◌≢◌, ◌*◌, ◌≤◌, ◌⊎◌, ◌↔◌, ◌++◌, length, IfErr, IfOk, IsErrOf, IsOk, OnErr, OnOk, Some};
 ghost use Rattle.dvg_mem.specs.Areas.{IsInMap};
 ghost use Rattle.dvg_mem.specs.Memory.{IsGrown, IsRom, first_word, rom_word};
 ghost use Rattle.dvg_mem.specs.Grown.{ArePushedBack};
@@ -49,10 +49,12 @@ impl<A: Allocator> Rom<A> {
     }
 
     /// Takes other bytes in place of its own, in the memory that it has where they are as many. They are refused as
-    /// `Size` exactly where they are neither 2,048 nor 4,096, and nothing has changed after an error.
+    /// `Size` exactly where they are neither 2,048 nor 4,096, and nothing has changed after an error. Memory is taken only
+    /// for a ROM of another size.
     pub fn copy_from(&mut self, alloc: A, bytes: &[u8]) -> Result<(), MemFault>
         ensures bytes { OnOk result (self.new ≡ bytes.now) }
         ensures size { IsErrOf result MemFault.Size ↔ ((length bytes.now ≢ 2048) × (length bytes.now ≢ 4096)) }
+        ensures room { length bytes.now ≡ length self.old → IsOk result }
         ensures refused { OnErr result (self.new ≡ self.old) }
     {
         if bytes.len() == self.bytes.len() {
@@ -97,18 +99,16 @@ impl<A: Allocator> Rom<A> {
         word_at(self.bytes.as_slice(), usize::from(a - self.first()))
     }
 
-    /// The ROM of 4,096 bytes that has this one's words from 800 on, and D000, a return, at 400 to 7FF. It is refused as
-    /// `OutOfMemory` alone.
+    /// The ROM of 4,096 bytes that has this one's words from 800 on, and D000, a return, at 400 to 7FF. It takes its memory
+    /// from this allocator, and is refused as `OutOfMemory` alone.
     #[tactic(auto, using(crate::proofs::Grown::is_rom, crate::proofs::Grown::grown))]
-    pub fn grow(&self) -> Result<Rom<A>, MemFault>
-    where
-        A: Clone,
+    pub fn grow(&self, alloc: A) -> Result<Rom<A>, MemFault>
         requires { first_word self.now ≡ 0x800 }
         ensures grown { IfOk result (λ rom. IsGrown self.now rom) }
         ensures refused { IfErr result (λ fault. fault ≡ MemFault.OutOfMemory) }
     {
         let _ = &self.bytes;
-        match self.grown_bytes() {
+        match self.grown_bytes(alloc) {
             Ok(bytes) => Ok(Rom { bytes }),
             Err(_) => Err(MemFault::OutOfMemory),
         }
@@ -116,12 +116,10 @@ impl<A: Allocator> Rom<A> {
 
     // The bytes of 1,024 returns, and this ROM's behind them.
     #[tactic(auto, using(crate::proofs::Grown::one_more, crate::proofs::Grown::no_return))]
-    fn grown_bytes(&self) -> Result<Vec<u8, A>, AllocError>
-    where
-        A: Clone,
+    fn grown_bytes(&self, alloc: A) -> Result<Vec<u8, A>, AllocError>
         ensures { IfOk result (λ bytes. ArePushedBack self.now bytes.items) }
     {
-        let mut bytes = Vec::with_capacity(self.bytes.allocator().clone()?, LARGE_ROM_BYTES)?;
+        let mut bytes = Vec::with_capacity(alloc, LARGE_ROM_BYTES)?;
         for _word in 0..1024u16 {
             bytes.extend_from_slice(&[0x00, 0xD0])?;
         }

@@ -34,8 +34,8 @@ Pictures all _ input old new = Unit {0}
 abbrev pub IsRunOf : Bool → List ℕ → List Ran → End → Type 0
 IsRunOf traces dump ran end = HasDumpSize dump × TellsRun traces (memory_of (parts_of dump)) ran end
 
--- a fault at which no run is told: that of the size, or want of memory (for a private contract)
+-- a fault at which no run is told: that of the size, or want of memory for a dump of a right size (for a private contract)
 abbrev pub IsDumpFault : List ℕ → ToolFault → Type 0
 IsDumpFault dump (Text DumpSize) = ¬ HasDumpSize dump
-IsDumpFault dump Memory = Unit {0}
+IsDumpFault dump Memory = HasDumpSize dump
 IsDumpFault dump _ = ⊥

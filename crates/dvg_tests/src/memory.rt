@@ -157,7 +157,7 @@ fn a_rom_grows(rt: HostRuntime) -> Result<(), Fail> {
     if small.first() != 0x800 {
         return Err("no small ROM".into());
     }
-    let grown = small.grow().map_err(|_| "not grown")?;
+    let grown = small.grow(rt.alloc()).map_err(|_| "not grown")?;
     let store = Flat::make(rt.alloc(), &marked_image(rt.alloc())?)?;
     assert!(rt; is_grown(&store, &grown));
     Ok(())

@@ -5,7 +5,7 @@ use crate::tasks::{Task, tasks, written};
 use dvg_frame::FrameFault;
 use dvg_mem::MEMORY_BYTES;
 use dvg_tool::{
-    Done, LogVerdict, Outcome, TextFault, ToolFault, Verdict, Watched, finish, perform,
+    BoundedVerdict, Done, LogVerdict, Outcome, TextFault, ToolFault, Verdict, Watched, finish, perform,
 };
 use std::alloc::Global;
 use std::test::Fail;
@@ -181,7 +181,8 @@ fn flush_fails(alloc: Global, answer: Result<Done, ToolFault>) -> bool {
 fn a_failing_flush_is_the_writers_fault(rt: HostRuntime) {
     for answer in [
         Ok(Done::Written),
-        Ok(Done::Judged(Verdict::Good { words: 3, bound: 4 })),
+        Ok(Done::Judged(Verdict::Good(3))),
+        Ok(Done::Bounded(BoundedVerdict::Good { words: 3, bound: 4 })),
         Ok(Done::Judged(Verdict::Refused(FrameFault::Empty))),
         Ok(Done::Drew(Outcome::Endless)),
         Ok(Done::Searched(LogVerdict::NotTorn)),

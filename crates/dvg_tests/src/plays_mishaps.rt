@@ -77,11 +77,23 @@ fn led_to(alloc: Global, wanted: Wanted, bytes: usize) -> Result<Led, Fail> {
     Err("another text".into())
 }
 
-/// How many heaps of rising sizes lead to nothing and to a beginning, up to the first that has room for everything.
-fn refusals(alloc: Global, wanted: Wanted) -> Result<(u32, u32), Fail> {
+/// The heaps of whole KB that lead to nothing: how many there are, up to the first that leads to more.
+fn silent_heaps(alloc: Global, wanted: Wanted) -> Result<usize, Fail> {
+    for kilobytes in 0..256usize {
+        if led_to(alloc, wanted, kilobytes * 1024)? != Led::Nothing {
+            return Ok(kilobytes);
+        }
+    }
+    Err("no heap has room".into())
+}
+
+/// How many heaps, each of 16 bytes more than the one before, lead to nothing and to a beginning, from the greatest of whole
+/// KB that leads to nothing up to the first that has room for everything.
+fn refusals(alloc: Global, wanted: Wanted, silent_heaps: usize) -> Result<(u32, u32), Fail> {
+    let least = silent_heaps.saturating_sub(1).saturating_mul(1024);
     let (mut silent, mut begun) = (0u32, 0u32);
-    for slots in 0..4096usize {
-        match led_to(alloc, wanted, slots * 16)? {
+    for slots in 0..1024usize {
+        match led_to(alloc, wanted, least.saturating_add(slots * 16))? {
             Led::Nothing => silent = silent.saturating_add(1),
             Led::Beginning => begun = begun.saturating_add(1),
             Led::Whole => return Ok((silent, begun)),
@@ -112,8 +124,9 @@ fn a_refusal_leaves_no_picture(rt: HostRuntime) -> Result<(), Fail> {
             first: 27,
             last: 27,
         };
-        let (silent, begun) = refusals(rt.alloc(), wanted)?;
-        assert!(rt; silent > 128 && begun == 0);
+        let silent_heaps = silent_heaps(rt.alloc(), wanted)?;
+        let (silent, begun) = refusals(rt.alloc(), wanted, silent_heaps)?;
+        assert!(rt; silent_heaps > 100 && silent > 0 && begun == 0);
     }
     Ok(())
 }
@@ -143,8 +156,9 @@ fn a_refusal_amid_a_picture_leaves_the_log_before(rt: HostRuntime) -> Result<(),
             first: 137,
             last: 251,
         };
-        let (silent, begun) = refusals(rt.alloc(), wanted)?;
-        assert!(rt; silent > 128 && begun > 0);
+        let silent_heaps = silent_heaps(rt.alloc(), wanted)?;
+        let (silent, begun) = refusals(rt.alloc(), wanted, silent_heaps)?;
+        assert!(rt; silent_heaps > 100 && silent > 0 && begun > 0);
     }
     Ok(())
 }

@@ -8,8 +8,11 @@ use linked_list_allocator::LocalHeap;
 use std::alloc::Global;
 use std::test::Fail;
 
-/// The bytes of a heap that has room for everything but the tables of the check, which does without them.
-const AMPLE: usize = 65_536;
+/// The KB of a heap that has room for everything: a store, the tables of the check, the log and the strokes.
+const AMPLE_KB: usize = 256;
+
+/// Its bytes.
+const AMPLE: usize = 1024 * AMPLE_KB;
 
 /// The first picture.
 const STEPS: [Step; 5] = [Tick(2), Offer(F1), Tick(14), Strobe, Fetch(12)];
@@ -72,13 +75,27 @@ fn place_of_stop(alloc: Global, wanted: &[u8], blocked: usize, banked: bool) -> 
     Ok(stopped)
 }
 
+/// The smallest of the blockers of whole KB that stop the run at once: with one less it goes on.
+fn least_blocker(alloc: Global, wanted: &[u8], banked: bool) -> Result<usize, Fail> {
+    for kilobytes in 0..AMPLE_KB {
+        let blocked = AMPLE - 1024 * kilobytes;
+        match place_of_stop(alloc, wanted, blocked, banked)? {
+            Stop::Before | Stop::At(0) => {}
+            _ => return Ok(blocked.saturating_add(1024)),
+        }
+    }
+    Err("no room".into())
+}
+
 /// Ever smaller blockers, down to the first that leaves room for the whole run: whether the run stopped at once, and
 /// at the vector.
 fn places_of_stops(alloc: Global, banked: bool) -> Result<(bool, bool), Fail> {
     let wanted = transcript::<Flat>(alloc, &[], &STEPS)?;
+    let most = least_blocker(alloc, wanted.as_slice(), banked)?;
     let (mut at_once, mut at_the_vector) = (false, false);
-    for slots in 0..4096usize {
-        match place_of_stop(alloc, wanted.as_slice(), AMPLE - 16 * slots, banked)? {
+    for slots in 0..1024usize {
+        let blocked = most.saturating_sub(16 * slots);
+        match place_of_stop(alloc, wanted.as_slice(), blocked, banked)? {
             Stop::Before => {}
             Stop::At(0) => at_once = true,
             Stop::At(27) => at_the_vector = true,
@@ -99,7 +116,7 @@ fn runs_stop_where_a_growth_is_refused(rt: HostRuntime) -> Result<(), Fail> {
 /// Vectors that take what is left of a heap, each with a smaller capacity than the one before.
 fn fillers(alloc: Global, heap: &LocalHeap) -> Result<Vec<Vec<u8, &LocalHeap>>, Fail> {
     let mut fillers = Vec::new(alloc);
-    for slots in 0..4096usize {
+    for slots in 0..AMPLE / 16 {
         if let Ok(filler) = Vec::with_capacity(heap, AMPLE - 16 * slots) {
             fillers.push(filler)?;
         }

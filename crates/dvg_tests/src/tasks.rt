@@ -1,7 +1,7 @@
 //! A task for each job, and what comes of it where nothing fails.
 use crate::traces::FIRST_PICTURE;
 use dvg_frame::{FrameFault, Place};
-use dvg_tool::{Done, Job, LogVerdict, Outcome, TextFault, ToolFault, Verdict, Watched, perform};
+use dvg_tool::{BoundedVerdict, Done, Job, LogVerdict, Outcome, TextFault, ToolFault, Verdict, Watched, perform};
 use std::alloc::Global;
 use std::test::Fail;
 
@@ -52,7 +52,7 @@ const OUT_OF_ROM: Verdict = Verdict::Refused(FrameFault::OutOfRom(Place::InRom(0
 /// A draft that is good, and what is answered of it.
 const GOOD: &str = "labs 0 0 0\nhalt\n";
 
-const SHORT: Verdict = Verdict::Good { words: 3, bound: 4 };
+const SHORT: BoundedVerdict = BoundedVerdict::Good { words: 3, bound: 4 };
 
 /// A log that isn't torn, so that it is read to its end.
 const LOG: &str = "started\n\nfetched 000 E201\nhalted\nwrote 402 90\n";
@@ -96,7 +96,7 @@ pub fn tasks<'a>(rom: &'a [u8], dump: &'a [u8]) -> [Task<'a>; 11] {
             Job::Check { bound: true },
             GOOD.as_bytes(),
             1,
-            Ok(Done::Judged(SHORT)),
+            Ok(Done::Bounded(SHORT)),
         ),
         task(PICTURES, picture, 1, Ok(Done::Written)),
         task(ENTRIES, picture, 64, Ok(Done::Written)),

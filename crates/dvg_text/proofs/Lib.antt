@@ -14,6 +14,7 @@ pub mod TraceSteps
 pub mod OneTrace
 pub mod TraceMoves
 pub mod ReadTrace
+pub mod TraceFollowed
 pub mod FirstBytes
 pub mod LineEnds
 pub mod GivenWords

@@ -3,7 +3,6 @@ use Rattle.std.proofs.Common.{◌≡◌, ◌<◌, ◌≤◌, ◌^◌, ℕ, ℤ, 
 use Rattle.std.specs.Fmt.{signed_decimal}
 use Rattle.std.proofs.lemmas.Fmt.{decimal_injective, signed_decimal_injective}
 use lib.Signed.{mag}
-use Rattle.dvg_code.specs.Ranges.{IsVector}
 use Rattle.dvg_code.specs.declared.instr.Instr.TheVariants.{Vctr, Svec, Labs}
 use Rattle.dvg_frame.specs.declared.op.OpKind.{OpKind}
 use Rattle.dvg_frame.specs.declared.op.OpKind.TheVariants.{Draw, CallRom, JumpRom, Call, Jump, Return, Halt}
@@ -11,12 +10,12 @@ use Rattle.dvg_text.specs.Texts.{IsHex}
 use Rattle.dvg_text.specs.OpLines.{OpParts, vctr, svec, labs, callrom, jumprom, call, jump, return, halt}
 
 -- what follows a vector's name
-record Vector (low high : ℕ) (most : ℕ) (ws : List (List ℕ)) : Type 0 where
+record Vector (high most : ℕ) (ws : List (List ℕ)) : Type 0 where
   scale : ℕ
   dx : ℤ
   dy : ℤ
   z : ℕ
-  fits : IsVector low high most scale dx dy z
+  fits : (scale ≤ high) × (unsigned_abs dx ≤ most) × (unsigned_abs dy ≤ most) × (z ≤ 15)
   rest : ws ≡ decimal scale ∷ signed_decimal dx ∷ signed_decimal dy ∷ decimal z ∷ []
 
 -- what follows the name of a LABS
@@ -40,11 +39,11 @@ record Address (ws : List (List ℕ)) : Type 0 where
   spelled : IsHex 3 a digits
   rest : ws ≡ digits ∷ []
 
-vctr_row : {op : OpKind} {ws : List (List ℕ)} → OpParts op (codes "vctr" ∷ ws) → (v : Vector 0 9 1023 ws) × (op ≡ Draw (Vctr v.scale v.dx v.dy v.z))
+vctr_row : {op : OpKind} {ws : List (List ℕ)} → OpParts op (codes "vctr" ∷ ws) → (v : Vector 9 1023 ws) × (op ≡ Draw (Vctr v.scale v.dx v.dy v.z))
 vctr_row (vctr {scale = s} {dx = x} {dy = y} {z = z} h) = (record { scale = s; dx = x; dy = y; z = z; fits = h; rest = refl }, refl)
 
-svec_row : {op : OpKind} {ws : List (List ℕ)} → OpParts op (codes "svec" ∷ ws) → (v : Vector 2 5 3 ws) × (op ≡ Draw (Svec v.scale v.dx v.dy v.z))
-svec_row (svec {scale = s} {dx = x} {dy = y} {z = z} h) = (record { scale = s; dx = x; dy = y; z = z; fits = h; rest = refl }, refl)
+svec_row : {op : OpKind} {ws : List (List ℕ)} → OpParts op (codes "svec" ∷ ws) → (v : Vector 5 3 ws) × (op ≡ Draw (Svec v.scale v.dx v.dy v.z))
+svec_row (svec {scale = s} {dx = x} {dy = y} {z = z} h) = (record { scale = s; dx = x; dy = y; z = z; fits = (h.1, h.2, h.3, h.4); rest = refl }, refl)
 
 labs_row : {op : OpKind} {ws : List (List ℕ)} → OpParts op (codes "labs" ∷ ws) → (p : Position ws) × (op ≡ Draw (Labs p.x p.y p.scale))
 labs_row (labs {x = x} {y = y} {scale = s} h) = (record { x = x; y = y; scale = s; fits = h; rest = refl }, refl)
@@ -78,23 +77,23 @@ small_move most (negsuc n) low h = omega arith
 one_move : (most : ℕ) (d e : ℤ) → most ≤ 1023 → unsigned_abs d ≤ most → unsigned_abs e ≤ most → signed_decimal d ≡ signed_decimal e → d ≡ e
 one_move most d e low p q same = signed_decimal_injective d e (small_move most d low p) (small_move most e low q) same
 
-record SameVector {low high most : ℕ} {ws : List (List ℕ)} (v w : Vector low high most ws) : Type 0 where
+record SameVector {high most : ℕ} {ws : List (List ℕ)} (v w : Vector high most ws) : Type 0 where
   scale : v.scale ≡ w.scale
   dx : v.dx ≡ w.dx
   dy : v.dy ≡ w.dy
   z : v.z ≡ w.z
 
-same_vector : {low high most : ℕ} {ws : List (List ℕ)} → (v w : Vector low high most ws) → high ≤ 9 → most ≤ 1023 → SameVector v w
+same_vector : {high most : ℕ} {ws : List (List ℕ)} → (v w : Vector high most ws) → high ≤ 9 → most ≤ 1023 → SameVector v w
 same_vector {most = most} v w small near =
     let f = v.fits in
     let g = w.fits in
     let r = v.rest in
     let s = w.rest in
     record {
-      scale = one_number v.scale w.scale (omega arith) (omega arith) cc;
-      dx = one_move most v.dx w.dx near f.dx_size g.dx_size cc;
-      dy = one_move most v.dy w.dy near f.dy_size g.dy_size cc;
-      z = one_number v.z w.z (omega arith) (omega arith) cc;
+      scale = let one = f.0 in let two = g.0 in one_number v.scale w.scale (omega arith) (omega arith) cc;
+      dx = one_move most v.dx w.dx near f.1 g.1 cc;
+      dy = one_move most v.dy w.dy near f.2 g.2 cc;
+      z = let one = f.3 in let two = g.3 in one_number v.z w.z (omega arith) (omega arith) cc;
     }
 
 same_number : {ws : List (List ℕ)} → (v w : Number ws) → v.n ≡ w.n
@@ -115,7 +114,7 @@ one_operation (vctr {scale = s} {dx = x} {dy = y} {z = z} h) q =
     cc
 one_operation (svec {scale = s} {dx = x} {dy = y} {z = z} h) q =
     let (w, is) = svec_row q in
-    let same = same_vector (record { scale = s; dx = x; dy = y; z = z; fits = h; rest = refl }) w (omega arith) (omega arith) in
+    let same = same_vector (record { scale = s; dx = x; dy = y; z = z; fits = (h.1, h.2, h.3, h.4); rest = refl }) w (omega arith) (omega arith) in
     let a = same.scale in
     let b = same.dx in
     let c = same.dy in

@@ -72,9 +72,9 @@ address_fits {n} {digits} h = let small = digits_value-lt 16 digits h.digits in 
 
 -- a draft may hold each operation that a line spells
 pub is_op : {op : OpKind} {parts : List (List ℕ)} → OpParts op parts → IsOp op
-is_op (vctr h) = h
-is_op (svec h) = h
-is_op (labs h) = h
+is_op (vctr h) = (h, refl)
+is_op (svec h) = (h, refl)
+is_op (labs h) = (h, refl)
 is_op (callrom h) = address_fits h
 is_op (jumprom h) = address_fits h
 is_op (call h) = tt

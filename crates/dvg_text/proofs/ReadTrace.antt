@@ -40,17 +40,18 @@ module _ (text : List ℕ) (left rest : List (List ℕ)) (n : ℕ) (old : List H
   }
 
   -- a line that goes on
+  pub one_more : (new : List Happening) (kept : Option (List OpKind)) (now : RomReading) → is_passed line ≡ false → TakesLine r.rom old opened line new kept now → ReadTrace text rest (n + 1) new kept now
+  one_more new kept now is t = record {
+    before = r.before ++ line ∷ [];
+    cut = cut_on text r.before left rest line r.cut next;
+    number = count_on n r.before line r.number;
+    rom = t.now;
+    spelled = subst (SpellsTrace t.now new kept) (sym (told_one r.before line is)) (says_more r.spelled t.takes);
+    holds = t.holds;
+  }
+
   pub takes : (new : List Happening) (kept : Option (List OpKind)) (now : RomReading) → is_passed line ≡ false → ((rom : RomText) → HoldsRom rom held → TakesLine rom old opened line new kept now) → ReadTrace text rest (n + 1) new kept now
-  takes new kept now is step =
-      let t = step r.rom r.holds in
-      record {
-        before = r.before ++ line ∷ [];
-        cut = cut_on text r.before left rest line r.cut next;
-        number = count_on n r.before line r.number;
-        rom = t.now;
-        spelled = subst (SpellsTrace t.now new kept) (sym (told_one r.before line is)) (says_more r.spelled t.takes);
-        holds = t.holds;
-      }
+  takes new kept now is step = one_more new kept now is (step r.rom r.holds)
 
   reaches : IsShort text → FitsTrace old opened → is_passed line ≡ false → Reaches IsFineTrace text (n + 1) r.before line
   reaches short fits is = record {
@@ -89,7 +90,17 @@ module _ (text : List ℕ) (left rest : List (List ℕ)) (n : ℕ) (old : List H
     right = says_more r.spelled (h.2 r.rom);
     over = h.1;
   }
-  stops Memory short fits is h = tt
+  stops Memory short fits is h = record {
+    n = n + 1;
+    before = r.before;
+    line = line;
+    reaches = reaches short fits is;
+    rom = r.rom;
+    events = h.0;
+    right = says_more r.spelled (h.3 r.rom);
+    some = h.1;
+    few = h.2;
+  }
 
 -- at the text's end
 

@@ -19,6 +19,7 @@ use Rattle.dvg_text.specs.TraceTexts.{EventParts, FitsTrace, FitsDraft, redraw, 
 use Rattle.dvg_text.specs.TraceReading.{Takes, does, ends, events, opens, tells}
 use Rattle.dvg_text.specs.declared.trace_text.Reading.{Reading}
 use Rattle.dvg_text.specs.TraceGives.{AreResets, IsHeld, StopsEvents, StopsLine, StopsOperation, TakesLine, events_read, opened_by, opened_of}
+use Rattle.dvg_text.proofs.EventRows.{some_events}
 
 all_one : {A : Type 0} (P : A → Type 0) (y : A) → P y → All P (y ∷ [])
 all_one P y h zero d l = h
@@ -113,6 +114,12 @@ end_fits old new opened left F e f g room fits =
 pub end_stops : (old : List Happening) (opened : Option (List OpKind)) (F : List OpKind) (held : RomReading) → opened ≡ Some F → length old ≡ 65536 → StopsLine Many old opened held (codes "end")
 end_stops old opened F held e full = rw e (old ++ Offer F ∷ [], omega (arith, length-append old (Offer F ∷ [])), λ rom. ends)
 
+-- memory is wanted for an offer that fits
+pub end_wants : (old : List Happening) (opened : Option (List OpKind)) (F : List OpKind) (held : RomReading) → opened ≡ Some F → length old < 65536 → StopsLine Memory old opened held (codes "end")
+end_wants old opened F held e room =
+    let count = length-append old (Offer F ∷ []) in
+    rw e (old ++ Offer F ∷ [], omega (arith, count), omega (arith, count, room), λ rom. ends)
+
 -- where no offer is open
 
 pub offer_taken : (old : List Happening) (opened left : Option (List OpKind)) (l : List ℕ) (held : RomReading) → opened ≡ None → l ≡ codes "offer" → left ≡ Some []
@@ -127,7 +134,7 @@ pub events_taken : {A E : Type 0} (answer : Result A E) (old more new : List Hap
 events_taken (Ok x) old more new opened l held e p g = λ rom holds. record { now = rom; takes = rw (e, g) (events p); holds = holds }
 events_taken (Err x) old more new opened l held e p g = tt
 
-fine_events : {more : List Happening} {ps : List (List ℕ)} → EventParts more ps → All FitsDraft more
+pub fine_events : {more : List Happening} {ps : List (List ℕ)} → EventParts more ps → All FitsDraft more
 fine_events redraw = all_one FitsDraft Redraw tt
 fine_events (tick {n = n} c) = All-replicate FitsDraft n Tick tt
 fine_events (strobe {n = n} c) = All-replicate FitsDraft n Strobe tt
@@ -143,7 +150,10 @@ events_fit (Err x) old more new opened ps p g room fits = tt
 
 many_events : (fault : LineFault) (old more : List Happening) (l : List ℕ) (held : RomReading) → EventParts more (parts l) → StopsEvents fault old more → StopsLine fault old None held l
 many_events Many old more l held p h = (old ++ more, omega (arith, length-append old more), λ rom. events p)
-many_events Memory old more l held p h = tt
+many_events Memory old more l held p h =
+    let count = length-append old more in
+    let some = some_events p in
+    (old ++ more, omega (arith, count, some), omega (arith, count, h), λ rom. events p)
 many_events Syntax old more l held p h = absurd h
 many_events Full old more l held p h = absurd h
 
@@ -183,7 +193,7 @@ nothing_inside F e no_end no_op opens = none-some F e
 nothing_inside F e no_end no_op (does op h) = no_op op h
 nothing_inside F e no_end no_op ends = no_end refl
 
-no_op_more : (fault : LineFault) (old : List Happening) (F : List OpKind) (l : List ℕ) (held : RomReading) → (l ≡ codes "end" → ⊥) → StopsOperation fault F l → StopsLine fault old (Some F) held l
+pub no_op_more : (fault : LineFault) (old : List Happening) (F : List OpKind) (l : List ℕ) (held : RomReading) → (l ≡ codes "end" → ⊥) → StopsOperation fault F l → StopsLine fault old (Some F) held l
 no_op_more Syntax old F l held no_end h = λ rom now new left holds t. nothing_inside F refl no_end h t
 no_op_more Full old F l held no_end h = let full = h.1 in (F ++ h.0 ∷ [], omega (arith, length-append F (h.0 ∷ [])), λ rom. does h.0 h.2)
 no_op_more Many old F l held no_end h = absurd h

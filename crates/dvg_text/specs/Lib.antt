@@ -13,3 +13,4 @@ pub mod EventLines
 pub mod TraceReading
 pub mod TraceGives
 pub mod TraceLaws
+pub mod TraceFollowing

@@ -1,5 +1,5 @@
 -- What the reader of traces answers.
-use Rattle.std.specs.Prelude.{ℕ, ◌+◌, ◌<◌, ◌≤◌, List, length, get_or, slice_get, replicate, ◌≡◌, Bool, true, false, Option, Some, None}
+use Rattle.std.specs.Prelude.{ℕ, ◌+◌, ◌<◌, ◌≤◌, List, ◌∷◌, [], ◌++◌, length, get_or, slice_get, replicate, ◌≡◌, Bool, true, false, Option, Some, None}
 use Rattle.dvg_frame.specs.declared.op.OpKind.{OpKind}
 use Rattle.dvg_world.specs.Events.{Happening, ResetAll}
 use Rattle.dvg_text.specs.declared.fault.TextFault.TheVariants.{Syntax, Full, Many}
@@ -13,7 +13,9 @@ use Rattle.dvg_text.specs.RomTexts.{IsRomOf, RomText}
 use Rattle.dvg_text.specs.declared.rom_text.RomReading.{RomReading}
 use Rattle.dvg_text.specs.RomReading.{HoldsRom}
 use Rattle.dvg_text.specs.TraceReading.{Takes}
-use Rattle.dvg_text.specs.TraceTexts.{DenotesTrace, FitsTrace, HasTraceFault}
+use Rattle.dvg_text.specs.FirstFaults.{Reaches}
+use Rattle.dvg_text.specs.Texts.{told}
+use Rattle.dvg_text.specs.TraceTexts.{DenotesTrace, FitsTrace, HasTraceFault, IsFineTrace, SpellsTrace}
 
 -- the text denotes these events and a ROM of these bytes
 pub record GivesTrace (text : List ℕ) (events : List Happening) (R : List ℕ) : Type 0 where
@@ -21,10 +23,23 @@ pub record GivesTrace (text : List ℕ) (events : List Happening) (R : List ℕ)
   pub denotes : DenotesTrace text rom events
   pub bytes : IsRomOf rom R
 
--- why a trace isn't read: the fault of its text, or want of memory
+-- a line brings events or ends an offer; no line before it is at fault, and the lines up to it spell
+-- 65,536 events at most
+pub record BringsEvents (text : List ℕ) : Type 0 where
+  pub n : ℕ
+  pub before : List (List ℕ)
+  pub line : List ℕ
+  pub reaches : Reaches IsFineTrace text n before line
+  pub rom : RomText
+  pub events : List Happening
+  pub right : SpellsTrace rom events None (told before ++ line ∷ [])
+  pub some : 1 ≤ length events
+  pub few : length events ≤ 65536
+
+-- why a trace isn't read: the fault of its text, or want of memory, where a line brings events
 abbrev pub StopsReading : TraceFault → List ℕ → Type 0
 StopsReading (Text fault) text = HasTraceFault text fault
-StopsReading Memory text = Unit {0}
+StopsReading Memory text = BringsEvents text
 
 -- what a fault of a line is called at the line of this number (this and what follows is for private contracts)
 abbrev pub fault_at : LineFault → ℕ → TraceFault
@@ -70,7 +85,8 @@ abbrev pub StopsLine : LineFault → List Happening → Option (List OpKind) →
 StopsLine line_fault.Syntax old opened held line = (rom now : RomText) (new : List Happening) (left : Option (List OpKind)) → HoldsRom rom held → ¬ Takes rom old opened line now new left
 StopsLine line_fault.Full old opened held line = (F : List OpKind) × (511 < length F) × ((rom : RomText) → Takes rom old opened line rom old (Some F))
 StopsLine line_fault.Many old opened held line = (new : List Happening) × (65536 < length new) × ((rom : RomText) → Takes rom old opened line rom new None)
-StopsLine line_fault.Memory old opened held line = Unit {0}
+StopsLine line_fault.Memory old opened held line =
+    (new : List Happening) × (1 ≤ length new) × (length new ≤ 65536) × ((rom : RomText) → Takes rom old opened line rom new None)
 
 -- why an operation more isn't read
 abbrev pub StopsOperation : LineFault → List OpKind → List ℕ → Type 0
@@ -81,5 +97,5 @@ StopsOperation _ F line = ⊥
 -- why these events more aren't held
 abbrev pub StopsEvents : LineFault → List Happening → List Happening → Type 0
 StopsEvents line_fault.Many old more = 65536 < length old + length more
-StopsEvents line_fault.Memory old more = Unit {0}
+StopsEvents line_fault.Memory old more = length old + length more ≤ 65536
 StopsEvents _ old more = ⊥

@@ -1,8 +1,9 @@
 -- Laws of the texts of traces.
-use Rattle.std.specs.Prelude.{◌≡◌, ℕ, List}
+use Rattle.std.specs.Prelude.{◌≡◌, ◌⊎◌, ℕ, List}
 use Rattle.dvg_world.specs.Events.{Happening}
 use Rattle.dvg_text.specs.declared.fault.TextFault.{TextFault}
 use Rattle.dvg_text.specs.RomTexts.{RomText}
+use Rattle.dvg_text.specs.TraceGives.{GivesTrace}
 use Rattle.dvg_text.specs.TraceTexts.{DenotesTrace, HasTraceFault}
 
 -- a text denotes one list of events, and tells one thing of the ROM, at most
@@ -12,6 +13,14 @@ OneTraceMeaning = (text : List ℕ) (rom also : RomText) (one other : List Happe
 -- a text of a trace has one fault at most
 abbrev pub OneTraceFault : Type 0
 OneTraceFault = (text : List ℕ) (one other : TextFault) → HasTraceFault text one → HasTraceFault text other → other ≡ one
+
+-- the text of a trace denotes events and a ROM
+abbrev pub HasMeaning : List ℕ → Type 0
+HasMeaning text = (events : List Happening) × (R : List ℕ) × GivesTrace text events R
+
+-- each text of a trace does, or has a fault
+abbrev pub IsTraceRead : List ℕ → Type 0
+IsTraceRead text = HasMeaning text ⊎ ((fault : TextFault) × HasTraceFault text fault)
 
 -- a text that denotes events has no fault
 abbrev pub NoFaultBesideTrace : Type 0

@@ -1,9 +1,10 @@
-//! Laws of the texts of drafts and of traces. Each is the contract of a function that does nothing, but one, which
-//! reads the text.
-ghost use Rattle.dvg_text.specs.TraceLaws.{NoFaultBesideTrace, OneTraceFault, OneTraceMeaning};
+//! Laws of the texts of drafts and of traces. Each is the contract of a function that does nothing, but
+//! two, which read the text.
+ghost use Rattle.dvg_text.specs.TraceLaws.{IsTraceRead, NoFaultBesideTrace, OneTraceFault, OneTraceMeaning};
 ghost use Rattle.dvg_text.specs.TextLaws.{IsRead, NoFaultBeside, OneMeaning, OneRom, OneTextFault};
 
 use crate::draft_text::read_draft;
+use crate::trace_following::follow;
 
 /// A text denotes one draft, and tells one thing of the ROM, at most.
 pub fn one_meaning()
@@ -42,6 +43,14 @@ pub fn one_trace_meaning()
 pub fn one_trace_fault()
     ensures { OneTraceFault }
 {}
+
+/// Each text of a trace denotes events and a ROM, or has a fault. That one of them holds shows by
+/// following its lines, for which no memory is wanted.
+pub fn each_trace_is_read(text: &[u8])
+    ensures { IsTraceRead text.now }
+{
+    let _answer = follow(text);
+}
 
 /// The text of a trace that denotes events has no fault.
 pub fn no_fault_beside_trace()

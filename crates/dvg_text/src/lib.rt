@@ -12,6 +12,7 @@ mod op_line;
 mod rom_line;
 mod rom_text;
 mod text_lines;
+mod trace_following;
 mod trace_text;
 
 pub use draft_text::{DraftText, MOST_TEXT_BYTES, read_draft};

@@ -36,7 +36,7 @@ pub struct TraceText<A: Allocator = Global> {
 /// - `Many`: this line brings the number of events above 65,536, the lines before it being without
 ///   fault. An offer is an event with its `end`.
 /// - `Unended`: no line is at fault, and the text ends inside an offer.
-/// - `Memory`: a growth was refused.
+/// - `Memory`: a growth was refused, at a line that brings events or ends an offer.
 pub fn read_trace<A: Allocator + Copy>(alloc: A, text: &[u8]) -> Result<TraceText<A>, TraceFault>
     ensures gives { IfOk result (λ told. GivesTrace text.now told.events told.rom.items) }
     ensures fault { IfErr result (λ fault. StopsReading fault text.now) }
@@ -74,7 +74,7 @@ pub fn read_trace<A: Allocator + Copy>(alloc: A, text: &[u8]) -> Result<TraceTex
 
 // Why a line was not taken.
 #[derive(Clone, Copy)]
-enum LineFault {
+pub(crate) enum LineFault {
     // It spells nothing that may stand at its place.
     Syntax,
     // The draft of the offer has its 511 operations already.
@@ -86,7 +86,7 @@ enum LineFault {
 }
 
 // The same, as the fault of the line of this number.
-fn at_line(fault: LineFault, number: usize) -> TraceFault
+pub(crate) fn at_line(fault: LineFault, number: usize) -> TraceFault
     ensures { result ≡ fault_at fault number }
 {
     match fault {
@@ -170,7 +170,7 @@ impl<A: Allocator + Copy> Reading<A> {
 }
 
 // Adds the operation that a line spells.
-fn add_op(draft: &mut Draft, line: &[u8]) -> Result<(), LineFault>
+pub(crate) fn add_op(draft: &mut Draft, line: &[u8]) -> Result<(), LineFault>
     ensures added { OnOk result ((op : OpKind) × IsOpLine op line.now × (draft.new ≡ draft.old ++ op ∷ [])) }
     ensures room { OnOk result (length draft.old < 511) }
     ensures fault { IfErr result (λ fault. StopsOperation fault draft.old line.now) }
@@ -212,7 +212,7 @@ fn add_events<A: Allocator>(
 }
 
 // How many events a line has.
-fn count<A: Allocator>(told: &EventLine<A>) -> usize
+pub(crate) fn count<A: Allocator>(told: &EventLine<A>) -> usize
     ensures value { result ≡ length (happenings told.now) }
     ensures bound { result < 2 ^ 16 }
 {

@@ -10,9 +10,9 @@ use Rattle.dvg_world.specs.declared.stopped.Stopped.{Stopped}
 use Rattle.dvg_world.specs.Events.{Happening}
 use Rattle.dvg_world.specs.Entries.{shown_of}
 use Rattle.dvg_world.specs.Legal.{IsLegal}
-use Rattle.dvg_world.specs.Log.{Line, Log, ◌⟼◌}
+use Rattle.dvg_world.specs.Log.{Line, Log, Throughout, ◌⟼◌}
 use Rattle.dvg_world.specs.Runs.{IsStop, log_of}
-use Rattle.dvg_world.proofs.Headline.{headline}
+use Rattle.dvg_world.specs.Headline.{KeepsHeadline}
 use Rattle.dvg_world.proofs.WholeRuns.{log_of-none}
 use Rattle.dvg_tool.specs.Plays.{IsPlayed, StopsNext, entry_of, event_of, log_text, zeros}
 use Rattle.dvg_lines.specs.Shows.{shown}
@@ -51,13 +51,13 @@ in_order events entries h =
 
 -- all events were played
 pub played_whole : {A : Type 0} (text R : List ℕ) (events : List Happening) (entries : List (Entry A)) → GivesTrace text (events) R → IsLegal R zeros (log_of events entries)
-    → length entries ≡ length events → IsPlayed text (log_of events entries) []
-played_whole text R events entries gives legal all = record {
+    → Throughout (KeepsHeadline R zeros) (log_of events entries) → length entries ≡ length events → IsPlayed text (log_of events entries) []
+played_whole text R events entries gives legal headline all = record {
   events = events;
   R = R;
   gives = gives;
   legal = legal;
-  headline = headline R zeros (log_of events entries) legal;
+  headline = headline;
   in_order = in_order events entries (omega arith)
       ∙ ap (λ l. map event_of (reverse (log_of events entries)) ++ l) (drop_all (length entries) events (omega arith));
 }
@@ -87,15 +87,15 @@ stopped_early R events stopped count stop = ⊎_elim
 
 -- the events before the one at which memory was refused were played
 pub played_part : {A : Type 0} (text R : List ℕ) (events : List Happening) (stopped : Stopped A) → GivesTrace text (events) R → IsLegal R zeros (log_of events stopped.entries.items)
-    → length stopped.entries.items ≡ stopped.event → IsStop R zeros events stopped
+    → Throughout (KeepsHeadline R zeros) (log_of events stopped.entries.items) → length stopped.entries.items ≡ stopped.event → IsStop R zeros events stopped
     → PlayedPart text (log_of events stopped.entries.items) (drop (length stopped.entries.items) events)
-played_part text R events stopped gives legal count stop = record {
+played_part text R events stopped gives legal headline count stop = record {
   played = record {
     events = events;
     R = R;
     gives = gives;
     legal = legal;
-    headline = headline R zeros (log_of events stopped.entries.items) legal;
+    headline = headline;
     in_order = in_order events stopped.entries.items (let h = within R events stopped stop in omega arith);
   };
   stops = stopped_early R events stopped count stop;
@@ -110,3 +110,7 @@ zeros_are_image = record { count = length-replicate {A = ℕ} 2048 0; bytes = Al
 -- before the first event there is a log, and it is legal
 pub legal_at_once : {A : Type 0} (R : List ℕ) (events : List Happening) (entries : List (Entry A)) → entries ≡ [] → IsRom R → IsLegal R zeros (log_of events entries)
 legal_at_once R events entries none rom = subst (IsLegal R zeros) (sym (ap (log_of events) none ∙ log_of-none _ events)) (rom, zeros_are_image)
+
+-- and it has no line
+pub headline_at_once : {A : Type 0} (R : List ℕ) (events : List Happening) (entries : List (Entry A)) → entries ≡ [] → Throughout (KeepsHeadline R zeros) (log_of events entries)
+headline_at_once R events entries none = subst (Throughout (KeepsHeadline R zeros)) (sym (ap (log_of events) none ∙ log_of-none _ events)) tt

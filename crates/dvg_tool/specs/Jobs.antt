@@ -1,5 +1,5 @@
 -- What is done for a job.
-use Rattle.std.specs.Prelude.{ℕ, List, Option, Result, Ok, Err, IfSome}
+use Rattle.std.specs.Prelude.{ℕ, List, Option, Result, Ok, Err, IfSome, false, true}
 use Rattle.dvg_io.specs.Faults.{StopsBeforeWriting}
 use Rattle.dvg_io.specs.Watching.{TakesAtMost}
 use Rattle.dvg_io.specs.declared.fault.ToolFault.{ToolFault}
@@ -7,10 +7,10 @@ use Rattle.dvg_logs.specs.Tears.{Takes, Tears}
 use Rattle.dvg_picture.specs.Pictures.{Pictures}
 use Rattle.dvg_tool.specs.Lists.{Lists}
 use Rattle.dvg_tool.specs.Roms.{WritesRom}
-use Rattle.dvg_tool.specs.Checks.{Checks}
+use Rattle.dvg_tool.specs.Checks.{Checks, ChecksBound}
 use Rattle.dvg_tool.specs.Plays.{Plays, StopsBeforeShowing}
 use Rattle.dvg_tool.specs.declared.outcome.Done.{Done}
-use Rattle.dvg_tool.specs.declared.outcome.Done.TheVariants.{Written, Judged, Drew, Searched}
+use Rattle.dvg_tool.specs.declared.outcome.Done.TheVariants.{Written, Judged, Bounded, Drew, Searched}
 use Rattle.dvg_words.specs.declared.task.Job.{Job}
 use Rattle.dvg_words.specs.declared.task.Job.TheVariants.{List as list_job, Rom, Picture, Check, Play, Torn}
 
@@ -22,8 +22,10 @@ Performs Rom (Ok Written) input old new = WritesRom (Ok Written) input old new
 Performs Rom (Err fault) input old new = WritesRom {T = Done} (Err fault) input old new
 Performs (Picture all) (Ok (Drew outcome)) input old new = Pictures all (Ok outcome) input old new
 Performs (Picture all) (Err fault) input old new = Pictures all (Err fault) input old new
-Performs (Check bound) (Ok (Judged verdict)) input old new = Checks bound (Ok verdict) input old new
-Performs (Check bound) (Err fault) input old new = Checks bound (Err fault) input old new
+Performs (Check false) (Ok (Judged verdict)) input old new = Checks (Ok verdict) input old new
+Performs (Check false) (Err fault) input old new = Checks (Err fault) input old new
+Performs (Check true) (Ok (Bounded verdict)) input old new = ChecksBound (Ok verdict) input old new
+Performs (Check true) (Err fault) input old new = ChecksBound (Err fault) input old new
 Performs (Play all banked) (Ok Written) input old new = Plays all (Ok Written) input old new
 Performs (Play all banked) (Err fault) input old new = Plays {T = Done} all (Err fault) input old new
 Performs Torn (Ok (Searched verdict)) input old new = Tears (Ok verdict) input old new

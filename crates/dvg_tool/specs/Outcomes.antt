@@ -3,9 +3,10 @@ use Rattle.std.specs.Prelude.{◌≡◌, ℕ, ◌⊎◌, Result, Ok, Err}
 use Rattle.dvg_io.specs.declared.fault.ToolFault.{ToolFault}
 use Rattle.dvg_io.specs.declared.fault.ToolFault.TheVariants.{Text, Writer}
 use Rattle.dvg_tool.specs.declared.outcome.Done.{Done}
-use Rattle.dvg_tool.specs.declared.outcome.Done.TheVariants.{Written, Judged, Drew, Searched}
+use Rattle.dvg_tool.specs.declared.outcome.Done.TheVariants.{Written, Judged, Bounded, Drew, Searched}
 use Rattle.dvg_dump.specs.declared.ending.Outcome.TheVariants as outcomes
 use Rattle.dvg_lines.specs.declared.log_verdict.LogVerdict.TheVariants.{NotTorn, Torn}
+use Rattle.dvg_lines.specs.declared.verdict.BoundedVerdict.TheVariants as bounded
 use Rattle.dvg_lines.specs.declared.verdict.Verdict.TheVariants.{Good, Refused}
 use Rattle.dvg_io.specs.Watching.{one_more}
 
@@ -16,8 +17,10 @@ FinishesAs answer result old new = ((result ≡ answer) × (new ≡ old)) ⊎ ((
 -- the exit status
 abbrev pub status_of : Result Done ToolFault → ℕ
 status_of (Ok Written) = 0
-status_of (Ok (Judged (Good words bound))) = 0
+status_of (Ok (Judged (Good words))) = 0
 status_of (Ok (Judged (Refused fault))) = 1
+status_of (Ok (Bounded (bounded.Good words bound))) = 0
+status_of (Ok (Bounded (bounded.Refused fault))) = 1
 status_of (Ok (Drew outcomes.Picture)) = 0
 status_of (Ok (Drew _)) = 1
 status_of (Ok (Searched NotTorn)) = 0

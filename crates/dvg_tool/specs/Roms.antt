@@ -5,11 +5,18 @@ use Rattle.dvg_lines.specs.Lines.{rom_text}
 use Rattle.dvg_io.specs.Watching.{BeginsToWrite}
 use Rattle.dvg_text.specs.declared.fault.TextFault.TheVariants.{RomSize}
 use Rattle.dvg_io.specs.declared.fault.ToolFault.{ToolFault}
-use Rattle.dvg_io.specs.declared.fault.ToolFault.TheVariants.{Text, Writer}
+use Rattle.dvg_io.specs.declared.fault.ToolFault.TheVariants.{Text, Writer, Memory}
 
 -- an input of as many bytes as a ROM has
 abbrev pub HasRomSize : List ℕ → Type 0
 HasRomSize input = (length input ≡ 2048) ⊎ (length input ≡ 4096)
+
+-- a fault at which no words are made of these bytes: that of the size, or want of memory, where they are a ROM
+-- (for a private contract)
+abbrev pub IsRomFault : List ℕ → ToolFault → Type 0
+IsRomFault bytes (Text RomSize) = ¬ HasRomSize bytes
+IsRomFault bytes Memory = HasRomSize bytes
+IsRomFault bytes _ = ⊥
 
 -- what `rom_text` answers of an input, and what went out: the text, or at `Writer` a beginning of it (that nothing went out at the other faults is a clause of its own)
 abbrev pub WritesRom : {T : Type 0} → Result T ToolFault → (input : List ℕ) → Option (List ℕ) → Option (List ℕ) → Type 0

@@ -43,7 +43,7 @@ pub fn perform<A: Allocator + Copy, R: Read, W: Write>(
         Job::Rom => rom_text(alloc, reader, writer).map(|()| Done::Written),
         Job::Picture { all } => picture(alloc, reader, writer, all).map(Done::Drew),
         Job::Check { bound: false } => check_text(alloc, reader, writer).map(Done::Judged),
-        Job::Check { bound: true } => check_bound(alloc, reader, writer).map(Done::Judged),
+        Job::Check { bound: true } => check_bound(alloc, reader, writer).map(Done::Bounded),
         Job::Play { all, banked: false } => play(alloc, reader, writer, all).map(
             |()| Done::Written,
         ),

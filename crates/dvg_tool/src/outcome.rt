@@ -5,7 +5,7 @@ ghost use Rattle.dvg_tool.specs.Outcomes.{FinishesAs, status_of};
 ghost use Rattle.dvg_io.specs.Watching.{device_of, failures_of};
 
 use dvg_io::{ToolFault, Watched};
-use dvg_lines::Verdict;
+use dvg_lines::{BoundedVerdict, Verdict};
 use dvg_logs::LogVerdict;
 use dvg_picture::Outcome;
 use std::io::Write;
@@ -17,6 +17,8 @@ pub enum Done {
     Written,
     /// This was said of a draft, and the line of it was written.
     Judged(Verdict),
+    /// This was said of a draft, with the bound of a good one, and the line of it was written.
+    Bounded(BoundedVerdict),
     /// The run over a dump came to this, and its text was written.
     Drew(Outcome),
     /// This was said of a log, and the line of it was written.
@@ -47,12 +49,14 @@ pub fn status(answer: &Result<Done, ToolFault>) -> u8
     match answer {
         Ok(
             Done::Written
-            | Done::Judged(Verdict::Good { .. })
+            | Done::Judged(Verdict::Good(_))
+            | Done::Bounded(BoundedVerdict::Good { .. })
             | Done::Drew(Outcome::Picture)
             | Done::Searched(LogVerdict::NotTorn),
         ) => 0,
         Ok(
             Done::Judged(Verdict::Refused(_))
+            | Done::Bounded(BoundedVerdict::Refused(_))
             | Done::Drew(Outcome::Broke | Outcome::Endless)
             | Done::Searched(LogVerdict::Torn { .. }),
         )

@@ -1,7 +1,9 @@
 //! The engine `play`.
 ghost use Rattle.std.specs.Prelude.{◌≡◌, ◌↔◌, ◌≤◌, [], length, IfErr, IfOk, IfSome, IsErrOf};
 ghost use Rattle.dvg_mem.specs.Memory.{IsRom};
+ghost use Rattle.dvg_world.specs.Headline.{KeepsHeadline};
 ghost use Rattle.dvg_world.specs.Legal.{IsLegal};
+ghost use Rattle.dvg_world.specs.Log.{Throughout};
 ghost use Rattle.dvg_world.specs.Runs.{IsStop, log_by};
 ghost use Rattle.dvg_tool.specs.Plays.{Plays, StopsBeforeShowing, zeros};
 ghost use Rattle.dvg_text.specs.TraceGives.{GivesTrace, StopsReading};
@@ -33,6 +35,7 @@ fn run_text<S: Store>(
 ) -> Result<Vec<Entry<S::Alloc>, S::Alloc>, Stopped<S::Alloc>>
     requires { IsRom told.now.rom.items }
     ensures legal { IsLegal told.now.rom.items zeros (log_by told.now.events result) }
+    ensures headline { Throughout (KeepsHeadline told.now.rom.items zeros) (log_by told.now.events result) }
     ensures whole { IfOk result (λ entries. length entries.items ≡ length told.now.events) }
     ensures stopped { IfErr result (λ stopped. length stopped.entries.items ≡ stopped.event) }
     ensures early { IfErr result (IsStop told.now.rom.items zeros told.now.events) }

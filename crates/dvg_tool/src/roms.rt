@@ -1,8 +1,9 @@
 //! The engine `rom_text`.
-ghost use Rattle.std.specs.Prelude.{◌≡◌, ◌↔◌, ◌≤◌, ◌%◌, ◌++◌, length, IfErr, IfSome, IsErrOf};
+ghost use Rattle.std.specs.Prelude.{◌≡◌, ◌↔◌, ◌≤◌, ◌%◌, ◌++◌, length, IfErr, IfOk, IfSome, IsErrOf};
+ghost use Rattle.dvg_code.specs.Words.{words_of};
 ghost use Rattle.dvg_lines.specs.Lines.{rom_lines};
 ghost use Rattle.dvg_io.specs.Faults.{StopsBeforeWriting};
-ghost use Rattle.dvg_tool.specs.Roms.{WritesRom};
+ghost use Rattle.dvg_tool.specs.Roms.{HasRomSize, IsRomFault, WritesRom};
 ghost use Rattle.dvg_io.specs.Faults.{WritesText};
 ghost use Rattle.dvg_io.specs.Watching.{TakesAtMost, device_of, failures_of};
 
@@ -60,6 +61,21 @@ fn write_rom<W: Write>(
     write_rows(first, words, writer)
 }
 
+// The words of the bytes of a ROM.
+fn words_of_rom<A: Allocator>(alloc: A, bytes: &[u8]) -> Result<Vec<u16, A>, ToolFault>
+    ensures size { IfOk result (λ _. HasRomSize bytes.now) }
+    ensures words { IfOk result (λ words. words.items ≡ words_of bytes.now) }
+    ensures fault { IfErr result (IsRomFault bytes.now) }
+{
+    if bytes.len() != MEMORY_BYTES && bytes.len() != LARGE_ROM_BYTES {
+        return Err(ToolFault::Text(TextFault::RomSize));
+    }
+    match collect_words(alloc, bytes) {
+        Ok(words) => Ok(words),
+        Err(_) => Err(ToolFault::Memory),
+    }
+}
+
 /// Reads the bytes of a ROM, 2,048 or 4,096, and writes them as ROM lines of eight words each: of 2,048 bytes 128 lines,
 /// from word address 800 on, and of 4,096 bytes the line `map 4096` and 256 lines, from word address 400 on (the text is
 /// this project's own choice).
@@ -89,10 +105,7 @@ pub fn rom_text<A: Allocator, R: Read, W: Write>(
     ensures stops { (failures_of reader.new ≤ 1) × (failures_of writer.new ≤ 1) }
 {
     let bytes = read_up_to(&alloc, reader, LARGE_ROM_BYTES)?;
-    if bytes.len() != MEMORY_BYTES && bytes.len() != LARGE_ROM_BYTES {
-        return Err(ToolFault::Text(TextFault::RomSize));
-    }
-    let words = collect_words(&alloc, bytes.as_slice())?;
+    let words = words_of_rom(&alloc, bytes.as_slice())?;
     if bytes.len() == MEMORY_BYTES {
         write_rom(b"", FIRST_ROM_WORD, words.as_slice(), writer)
     } else {

@@ -4,14 +4,16 @@ use Rattle.dvg_world.specs.Events.{Happening}
 use Rattle.dvg_world.specs.Entries.{Shown}
 use Rattle.dvg_world.specs.Log.{◌⟼◌, Log, Throughout, ram, open_run, has_fetched}
 use Rattle.dvg_world.specs.Legal.{Always, IsLegal}
-use Rattle.dvg_world.specs.Headline.{SparesDrawn, NoFault, DrewPublished, IsNoOlder, KeepsTime, WithinBound, DrewHeld, KeepsHeadline, DrawsAHalf}
+use Rattle.dvg_world.specs.Fetches.{WithinBound}
+use Rattle.dvg_world.specs.Headline.{SparesDrawn, NoFault, DrewPublished, IsNoOlder, KeepsTime, DrewHeld, KeepsHeadline, DrawsAHalf}
 use Rattle.dvg_world.proofs.Drawing.{drawing}
 use Rattle.dvg_world.proofs.Kept.{kept}
 use Rattle.dvg_world.proofs.Later.{IsRight, shows}
 use Rattle.dvg_world.proofs.Least.{lies_word}
 use Rattle.dvg_world.proofs.Untouched.{draws_held}
 use Rattle.dvg_world.proofs.Words.{words_are_whole}
-use Rattle.dvg_world.proofs.Within.{bounded}
+use Rattle.dvg_world.proofs.Paced.{KeepsPace}
+use Rattle.dvg_world.proofs.Within.{bounded, keeps_time}
 
 through : (P Q : Log → Happening → Shown → Type 0) → ((log : Log) (event : Happening) (entry : Shown) → P log event entry → Q log event entry) → (log : Log) → Throughout P log → Throughout Q log
 through P Q f [] t = tt
@@ -30,10 +32,11 @@ pub never_older : Always (λ R image. IsNoOlder)
 never_older R image log l = through (IsRight R image) IsNoOlder (λ log event entry t. t.2) log (shows R image log l (words_are_whole R image log l)).1
 
 pub always_in_time : Always (λ R image. KeepsTime R)
-always_in_time R image log l = through (IsRight R image) (KeepsTime R) (λ log event entry t. t.3) log (shows R image log l (words_are_whole R image log l)).1
+always_in_time R image log l =
+    keeps_time R image log l (through (IsRight R image) (KeepsPace R) (λ log event entry t. t.3) log (shows R image log l (words_are_whole R image log l)).1)
 
 pub always_bounded : Always (λ R image. WithinBound R)
-always_bounded R image log l = bounded R image log l (always_in_time R image log l)
+always_bounded R image log l = bounded R log (always_in_time R image log l)
 
 -- a run that has fetched a word, by that word
 fetched_one : (run : Option (List (ℕ × ℕ))) → has_fetched run ≡ true → (fetch : ℕ × ℕ) × (fetches : List (ℕ × ℕ)) × (run ≡ Some (fetch ∷ fetches))
@@ -56,23 +59,22 @@ draws_a_half R image log l has =
 
 -- the parts of each line make the line's headline
 together : (R image : List ℕ) (log : Log) → IsLegal R image log → Throughout SparesDrawn log → Throughout NoFault log → Throughout (DrewPublished R) log → Throughout IsNoOlder log → Throughout (KeepsTime R) log
-    → Throughout (WithinBound R) log → Throughout (DrewHeld R image) log → Throughout (KeepsHeadline R image) log
-together R image [] l torn faults drew older time bound held = tt
-together R image ((event ⟼ entry) ∷ log) l torn faults drew older time bound held = (
+    → Throughout (DrewHeld R image) log → Throughout (KeepsHeadline R image) log
+together R image [] l torn faults drew older time held = tt
+together R image ((event ⟼ entry) ∷ log) l torn faults drew older time held = (
   record {
     never_torn = torn.0;
     never_faults = faults.0;
     draws_published = drew.0;
     never_older = older.0;
     always_in_time = time.0;
-    always_bounded = bound.0;
     draws_undisturbed = held.0;
-    draws_a_half = draws_a_half R image log l.2;
+    draws_a_half = draws_a_half R image ((event ⟼ entry) ∷ log) l;
   },
-  together R image log l.2 torn.1 faults.1 drew.1 older.1 time.1 bound.1 held.1,
+  together R image log l.2 torn.1 faults.1 drew.1 older.1 time.1 held.1,
 )
 
 pub headline : Always KeepsHeadline
 headline R image log l =
-    together R image log l (never_torn R image log l) (never_faults R image log l) (draws_published R image log l) (never_older R image log l) (always_in_time R image log l) (always_bounded R image log l)
+    together R image log l (never_torn R image log l) (never_faults R image log l) (draws_published R image log l) (never_older R image log l) (always_in_time R image log l)
     (draws_held R image log l)

@@ -6,8 +6,7 @@ use Rattle.std.proofs.lemmas.List.{reverse-append, map-append, take-append-drop,
 use Rattle.std.proofs.lemmas.Bool.{cases_lt}
 use Rattle.std.proofs.Math.ListN.{drop_of_length-le, get_or-map}
 use Rattle.dvg_mem.specs.declared.half.Half.{Half}
-use Rattle.dvg_mem.specs.declared.areas.Area.TheVariants.{Frame}
-use Rattle.dvg_mem.specs.Areas.{IsIn}
+use Rattle.dvg_mem.specs.Areas.{IsInHalf}
 use Rattle.dvg_driver.specs.declared.action.Action.TheVariants.{Wrote}
 use Rattle.dvg_world.specs.declared.entry.Entry.{Entry}
 use Rattle.dvg_world.specs.declared.judge.Drawing.{Drawing}
@@ -33,7 +32,7 @@ within_of : (log : Log) {half : Half} → IsBeingDrawn log half → IsRunIn (ope
 within_of log drawn = record { later = drawn.later; target = drawn.target; fetches = drawn.fetches; in_half = drawn.in_half }
 
 -- a run whose first word is a jump to a half draws it
-pub first_within : {half : Half} (address word : ℕ) → address ≡ 0 → word / 4096 ≡ 14 → IsIn (Frame half) (word % 4096) → IsRunIn (Some ((address, word) ∷ [])) half
+pub first_within : {half : Half} (address word : ℕ) → address ≡ 0 → word / 4096 ≡ 14 → IsInHalf half (word % 4096) → IsRunIn (Some ((address, word) ∷ [])) half
 first_within address word zero jump in_half =
     let is : word ≡ 0xE000 + word % 4096 = omega arith in
     record {

@@ -6,8 +6,7 @@ use Rattle.std.proofs.lemmas.Option.{none-some, same_Some}
 use Rattle.std.proofs.lemmas.List.{length-set, get_or-set_same, get_or-set_other}
 use Rattle.std.proofs.lemmas.Bool.Decides.{eqb_tells}
 use Rattle.dvg_mem.specs.declared.half.Half.{Half}
-use Rattle.dvg_mem.specs.declared.areas.Area.TheVariants.{Frame}
-use Rattle.dvg_mem.specs.Areas.{IsIn, base, other, high, half_of_high}
+use Rattle.dvg_mem.specs.Areas.{IsInHalf, base, other, high, half_of_high}
 use Rattle.dvg_mem.specs.Memory.{fetched}
 use Rattle.dvg_frame.specs.declared.op.OpKind.{OpKind}
 use Rattle.dvg_frame.specs.Steps.{Closed}
@@ -175,7 +174,7 @@ below_two : (a n : ℕ) → a ≡ n → n < 2 → a < 2
 below_two a n e low = omega arith
 
 -- neither byte of the first word is in a half
-spared : (half : Half) (a : ℕ) → a < 2 → IsIn (Frame half) (a / 2) → ⊥
+spared : (half : Half) (a : ℕ) → a < 2 → IsInHalf half (a / 2) → ⊥
 spared half a low inside = let past = past_zero half (a / 2) inside in omega arith
 
 write_step : (image : List ℕ) (log : Log) (ws : List (ℕ × ℕ)) (a b : ℕ) (q : Place) → length (ram image log) ≡ 0x800 → KeptBy image log (Writing ws) → place_of_life (Did (Wrote a b) ∷ life image log) ≡ Some q →
@@ -186,7 +185,7 @@ write_step image log ws a b q size k d (to_half i vs e t) = (
   λ half drawn inside.
       let run = drawn_leads log half drawn in
       let current = k.here.0 run.0 half run.1 run.2 in
-      not_both half (a / 2) (subst (λ g. IsIn (Frame (other g)) (a / 2)) (sym current) i) inside,
+      not_both half (a / 2) (subst (λ g. IsInHalf (other g) (a / 2)) (sym current) i) inside,
 )
 write_step image log ws a b q size k d (to_zero ea eb vs e t) =
     (Writing vs, zero_written (ram image log) a b log (long_one (ram image log) 0 size zero_low) ea eb k (d ∙ ap Some e) (k.here.0, t), λ half drawn inside. spared half a (below_two a 0 ea zero_low) inside)

@@ -23,13 +23,14 @@ use Rattle.dvg_world.specs.Events.{Happening, Offer, Redraw, Tick, Strobe, Fetch
 use Rattle.dvg_world.specs.Entries.{Shown, Offered, Refused, Busy, Asked, NothingPublished, Acted, Started, NoStrobe, Low, Fetched, Done, Broke, Still, Cleared}
 use Rattle.dvg_world.specs.Log.{◌⟼◌, Log, Throughout, ram, low_byte, meets, history, open_run, free_half, life, published, publication, at_zero}
 use Rattle.dvg_world.specs.Legal.{IsWanted, IsFetch, Fits, IsLegal}
-use Rattle.dvg_world.specs.Headline.{IsShown, IsNoLater, NoFault, DrewPublished, IsNoOlder, KeepsTime, fetch_count}
+use Rattle.dvg_world.specs.Headline.{IsShown, IsNoLater, NoFault, DrewPublished, IsNoOlder, fetch_count}
 use Rattle.dvg_world.specs.Fetches.{IsInMemory}
 use Rattle.dvg_world.specs.Law.{IsDrawn}
 use Rattle.dvg_driver.proofs.Places.{whole_rests, life_place, place_before}
 use Rattle.dvg_world.proofs.Drawing.{LeadsTo, later, jump_there}
 use Rattle.dvg_world.proofs.Kept.{sized, KeptBy, kept, same_place, zero_jumps}
 use Rattle.dvg_world.proofs.Least.{Checked, fits, frame_memory, least_draws, least_once, goes_in_time, finished_in_time, finished_picture, Lies, agrees}
+use Rattle.dvg_world.proofs.Paced.{KeepsPace}
 use Rattle.dvg_world.proofs.Linked.{Cut, none, word, cut_same, wanting, fetching, added}
 use Rattle.dvg_world.proofs.Bytes.{same_Whole, low_met, word_met, byte}
 use Rattle.dvg_world.proofs.Shows.{current, Running, Shows, at_zero_fetched, at_zero_open, begun, idle_lays, write_shows, same_line, same_life}
@@ -204,7 +205,7 @@ module _ (R image : List ℕ) where
 
   -- what a line shows
   abbrev pub IsRight : Log → Happening → Shown → Type 0
-  IsRight log event entry = NoFault log event entry × DrewPublished R log event entry × IsNoOlder log event entry × KeepsTime R log event entry
+  IsRight log event entry = NoFault log event entry × DrewPublished R log event entry × IsNoOlder log event entry × KeepsPace R log event entry
 
   -- the number of the fetch, where a low byte waits, and where none does
   behind_low : (log : Log) (a w : ℕ) (words : List (ℕ × ℕ)) → meets R image log a ≡ Whole (Some w) → fetch_count words (low_byte log) ≡ 2 * length words + 1

@@ -249,7 +249,7 @@ module _ (F : List OpKind) (R : List ℕ) (mem : ℕ → Option ℕ) (ad : Place
 
   any_beam : (b b2 b' : Beam) (s : List Stroke) (e : End) (n : ℕ) → Drawing F R (InFrame 0) b s b' e n → Drawing F R (InFrame 0) b2 s b' e n
   any_beam b b2 b' s e n d =
-      let l = labs_first F closed.begins in
+      let l = labs_first F closed.begins.begins in
       let c : Instr = Labs l.0 l.1 l.2 in
       let w = faith.there (InFrame 0) 0 begin in
       let u = first_act c w.0 w.1 l.3 w.2 in

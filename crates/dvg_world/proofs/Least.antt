@@ -46,7 +46,7 @@ ram_low H1 = (omega arith, omega arith)
 above_le : (a b : ℕ) → b < a → nat_le a b ≡ false
 above_le a b h = elim (leb_tells a b) [ inl t ↦ absurd (omega (arith, t.1)) | inr t ↦ t.0 ]
 
-not_zero : (a : ℕ) → 1 ≤ a → nat_eq a 0 ≡ false
+pub not_zero : (a : ℕ) → 1 ≤ a → nat_eq a 0 ≡ false
 not_zero a l = elim (eqb_tells a 0) [ inl t ↦ absurd (let e = t.1 in omega arith) | inr t ↦ t.0 ]
 
 pub least_has : (half : Half) (F : List OpKind) (R : List ℕ) → length (laid half F) ≤ 511 → HasFrame (frame_memory half F R) half F R

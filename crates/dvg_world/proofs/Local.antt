@@ -1,5 +1,5 @@
 -- The memory of a laid-out draft holds its operations and the ROM's instructions.
-use Rattle.std.proofs.Common.{◌≡◌, ℕ, zero, suc, ◌+◌, ◌-◌, ◌<◌, ◌≤◌, inl, inr, ⊎_elim, List, [], ◌∷◌, ◌++◌, length, get_or, take, Option, Some, refl, sym, ap, ◌∙◌, subst, arith}
+use Rattle.std.proofs.Common.{◌≡◌, ℕ, zero, suc, ◌+◌, ◌-◌, ◌<◌, ◌≤◌, inl, inr, ⊎_elim, List, [], ◌∷◌, ◌++◌, length, get_or, take, Option, Some, None, refl, sym, ap, ◌∙◌, subst, arith}
 use Rattle.std.specs.Prelude.{slice_get, slice_index, flat_map}
 use Rattle.std.proofs.lemmas.Bool.{cases_lt}
 use Rattle.std.proofs.lemmas.Option.{slice_get_within, slice_get-get_or, get_or_from_slice_get}
@@ -16,17 +16,17 @@ use Rattle.dvg_mem.specs.declared.half.Half.TheVariants.{H0, H1}
 use Rattle.dvg_mem.specs.Areas.{base}
 use Rattle.dvg_code.specs.Words.{word_in}
 use Rattle.dvg_mem.specs.Memory.{first_word, rom_word}
-use Rattle.dvg_mem.proofs.Roms.{behind_ram, rom_some, rom_there, word_fits}
+use Rattle.dvg_mem.proofs.Roms.{behind_ram, none_there, rom_some, rom_there, word_fits}
 use Rattle.dvg_code.specs.Acts.{Act, Moves, Jumps, Calls, act_by, act_of}
 use Rattle.dvg_gen.specs.Run.{on}
 use Rattle.dvg_frame.specs.declared.op.OpKind.{OpKind}
 use Rattle.dvg_frame.specs.declared.op.OpKind.TheVariants.{Draw, CallRom, JumpRom, Call, Jump, Return, Halt as Stop}
 use Rattle.dvg_frame.specs.declared.place.Place.{Place}
 use Rattle.dvg_frame.specs.declared.place.Place.TheVariants.{InFrame, InRom}
-use Rattle.dvg_frame.specs.Ops.{IsOp, IsDrawing, IsDraft}
+use Rattle.dvg_frame.specs.Ops.{IsOp, IsDraft}
 use Rattle.dvg_frame.specs.Layout.{op_words, size, at, op_code, laid}
 use Rattle.dvg_frame.specs.declared.place.FrameFault.TheVariants.{RunsOff, OutOfRom}
-use Rattle.dvg_frame.specs.Steps.{SpelledAt, one, two, op_act, Stands, in_frame, in_rom, GoesPast, Names, IsOutside, IsFine, last, target, second, past, Leads, Reached, begin, step, Closed, BeginsWithLabs, labs}
+use Rattle.dvg_frame.specs.Steps.{SpelledAt, one, two, op_act, Stands, in_frame, in_rom, GoesPast, Names, misses, IsFine, last, target, second, past, Leads, Reached, begin, step, Closed, BeginsWithLabs, labs}
 use Rattle.dvg_frame.specs.Steps.{on as leads_on, jump as leads_jump, call as leads_call, back as leads_back}
 use Rattle.dvg_frame.proofs.Sizes.{canon_length}
 use Rattle.dvg_mem.specs.Memory.{IsRom}
@@ -108,26 +108,8 @@ base_size H1 = omega arith
 pub at_size : (h : Half) (F : List OpKind) (i : ℕ) → size F ≤ 511 → at h F i ≤ 1024
 at_size h F i s = let b = base_size h in let t = size_take F i in omega arith
 
-drawing_range : (c : Instr) → IsDrawing c → InRange c
-drawing_range (Vctr scale dx dy z) h = h
-drawing_range (Labs x y scale) h = h
-drawing_range Halt h = tt
-drawing_range (Jsrl to) h = absurd h
-drawing_range Rtsl h = tt
-drawing_range (Jmpl to) h = absurd h
-drawing_range (Svec scale dx dy z) h = h
-
-drawing_act : (c : Instr) → IsDrawing c → act_of c ≡ Moves c
-drawing_act (Vctr scale dx dy z) h = refl
-drawing_act (Labs x y scale) h = refl
-drawing_act Halt h = absurd h
-drawing_act (Jsrl to) h = absurd h
-drawing_act Rtsl h = absurd h
-drawing_act (Jmpl to) h = absurd h
-drawing_act (Svec scale dx dy z) h = refl
-
 code_range : (h : Half) (F : List OpKind) (op : OpKind) → size F ≤ 511 → IsOp op → InRange (op_code h F op)
-code_range h F (Draw c) s o = drawing_range c o
+code_range h F (Draw c) s o = o.0
 code_range h F (CallRom a) s o = o
 code_range h F (JumpRom a) s o = o
 code_range h F (Call j) s o = let k = at_size h F j s in omega arith
@@ -136,7 +118,7 @@ code_range h F Return s o = tt
 code_range h F Stop s o = tt
 
 op_acts : (h : Half) (F : List OpKind) (op : OpKind) → IsOp op → act_of (op_code h F op) ≡ at_addresses (addr h F) (op_act op)
-op_acts h F (Draw c) o = drawing_act c o
+op_acts h F (Draw c) o = o.1
 op_acts h F (CallRom a) o = refl
 op_acts h F (JumpRom a) o = refl
 op_acts h F (Call j) o = refl
@@ -200,10 +182,10 @@ module _ (h : Half) (F : List OpKind) (rom : List ℕ) (mem : ℕ → Option ℕ
   frame_found : (i : ℕ) (op : OpKind) → slice_get F i ≡ Some op → Found mem (addr h F) (InFrame i) (op_act op) (InFrame (i + 1))
   frame_found i op e =
       let o = op_of i op e in
-      let r = code_range h F op closed.fits o in
+      let r = code_range h F op closed.begins.fits o in
       let w = op_at mem h F F i (base h) op all_words e in
-      let k = at_size h F i closed.fits in
-      let k2 = at_size h F (suc i) closed.fits in
+      let k = at_size h F i closed.begins.fits in
+      let k2 = at_size h F (suc i) closed.begins.fits in
       let n = size_next F i op e in
       let ws = code_words h F op in
       let i1 : i + 1 ≡ suc i = omega arith in
@@ -232,9 +214,12 @@ module _ (h : Half) (F : List OpKind) (rom : List ℕ) (mem : ℕ → Option ℕ
   Inside (InFrame i) = i < length F
   Inside (InRom a) = (first_word rom ≤ a) × (a < 0xC00)
 
-  not_outside : (a : ℕ) → ¬ IsOutside rom a → (first_word rom ≤ a) × (a < 0xC00)
+  not_outside : (a : ℕ) → ¬ rom_word rom a ≡ None → (first_word rom ≤ a) × (a < 0xC00)
   not_outside a n =
-      ⊎_elim (λ lt. absurd (n (inl lt))) (λ ge. ⊎_elim (λ lt. (ge, lt)) (λ ge2. absurd (n (inr ge2))) (cases_lt a 0xC00)) (cases_lt a (first_word rom))
+      ⊎_elim
+      (λ lt. absurd (n (none_there rom a (inl lt))))
+      (λ ge. ⊎_elim (λ lt. (ge, lt)) (λ ge2. absurd (n (none_there rom a (inr ge2)))) (cases_lt a 0xC00))
+      (cases_lt a (first_word rom))
 
   after_inside : (p after : Place) (d : ℕ) (act : Act Place) → IsFine F rom p d → Stands F rom p act after → GoesPast act → Inside after
   after_inside p after d act f (in_frame {i = i} {op = op} e ea) g =
@@ -253,8 +238,9 @@ module _ (h : Half) (F : List OpKind) (rom : List ℕ) (mem : ℕ → Option ℕ
   rom_names (Svec scale dx dy z) j n = n
 
   named_inside : (p after q : Place) (d : ℕ) (act : Act Place) → IsFine F rom p d → Stands F rom p act after → Names act q → Inside q
-  named_inside p after (InRom b) d act f s n = not_outside b (λ o. f (OutOfRom p) (target s n o))
-  named_inside p after (InFrame j) d act f (in_frame {i = i} {op = op} e ea) n = closed.targets i j op e (subst (λ x. Names x (InFrame j)) ea n)
+  named_inside p after (InRom b) d act f s n = not_outside b (λ o. f (OutOfRom p) (target b s n o))
+  named_inside p after (InFrame j) d act f (in_frame {i = i} {op = op} e ea) n =
+      ⊎_elim (λ lt. lt) (λ far. absurd (closed.begins.targets i (misses e (subst (λ x. Names x (InFrame j)) ea n) far))) (cases_lt j (length F))
   named_inside p after (InFrame j) d act f (in_rom {a = a} {instr = c} s ea) n = absurd (rom_names c j (subst (λ x. Names x (InFrame j)) ea n))
 
   lead_inside : (p q : Place) (d e : ℕ) → IsFine F rom p d → Leads F rom p d q e → Inside q
@@ -267,7 +253,7 @@ module _ (h : Half) (F : List OpKind) (rom : List ℕ) (mem : ℕ → Option ℕ
   some_first G labs = omega arith
 
   inside : (p : Place) (d : ℕ) → Reached F rom p d → Inside p
-  inside p d begin = some_first F closed.begins
+  inside p d begin = some_first F closed.begins.begins
   inside p d (step {p = q} {d = e} r f l) = lead_inside q p e d f l
 
   stands_rom : (a d : ℕ) → first_word rom ≤ a → a < 0xC00 → IsFine F rom (InRom a) d → (act : Act Place) × (after : Place) × Stands F rom (InRom a) act after
@@ -315,5 +301,5 @@ module _ (h : Half) (F : List OpKind) (rom : List ℕ) (mem : ℕ → Option ℕ
       low H1 = omega arith
 
       behind_in : (q : Place) → Inside q → (1 ≤ addr h F q) × (addr h F q < 4095)
-      behind_in (InFrame i) n = let l = low h in let k = at_size h F i closed.fits in (omega arith, omega arith)
+      behind_in (InFrame i) n = let l = low h in let k = at_size h F i closed.begins.fits in (omega arith, omega arith)
       behind_in (InRom a) n = let l = n.0 in let u = n.1 in let past = behind_ram rom in (omega arith, omega arith)

@@ -1,5 +1,5 @@
 -- Worked examples of legal logs, over a RAM and a ROM of zeros.
-use Rattle.std.proofs.Common.{inl, ◌≡◌, ℕ, zero, suc, ◌+◌, ◌<◌, ◌≤◌, pos, negsuc, true, false, List, [], ◌∷◌, ◌++◌, length, Option, Some, None, refl, sym, ap, ◌∙◌, subst, lit<, lit≤, replicate, arith}
+use Rattle.std.proofs.Common.{inl, ◌≡◌, ℕ, zero, suc, ◌+◌, ◌<◌, ◌≤◌, pos, negsuc, true, false, List, [], ◌∷◌, ◌++◌, Option, Some, None, refl, sym, ap, ◌∙◌, subst, lit<, lit≤, replicate, arith}
 use Rattle.std.specs.Prelude.{slice_get, option_and_then, is_none}
 use Rattle.std.proofs.lemmas.Option.{same_Some}
 use Rattle.std.proofs.lemmas.List.Elements.{All-replicate, All-from_recursion}
@@ -22,7 +22,7 @@ use Rattle.dvg_frame.specs.declared.place.FrameFault.{FrameFault}
 use Rattle.dvg_frame.specs.declared.place.Place.{Place}
 use Rattle.dvg_frame.specs.declared.place.Place.TheVariants.{InFrame, InRom}
 use Rattle.dvg_frame.specs.Ops.{IsDraft, IsOp}
-use Rattle.dvg_frame.specs.Steps.{Stands, in_frame, op_act, GoesPast, Names, Bad, last, target, deep, bare, IsFine, Leads, on, jump, call, back, Reached, begin, step, Closed, labs as labs_first}
+use Rattle.dvg_frame.specs.Steps.{Stands, in_frame, op_act, GoesPast, Names, Bad, last, target, deep, bare, IsFine, Leads, on, jump, call, back, Reached, begin, step, Misses, misses, Closed, labs as labs_first}
 use Rattle.dvg_frame.specs.Loops.{Walks, none, more, HasLoop}
 use Rattle.dvg_frame.specs.Faults.{Accepts}
 use Rattle.dvg_driver.specs.declared.action.Action.{Action}
@@ -53,10 +53,10 @@ abbrev F1 : List OpKind
 F1 = Draw (Labs 512 400 0) ∷ Draw (Vctr 9 (negsuc 99) (pos 100) 7) ∷ Stop ∷ []
 
 vector_range : InRange (Vctr 9 (negsuc 99) (pos 100) 7)
-vector_range = record { scale_low = lit≤ tt; scale_high = lit≤ tt; dx_size = lit≤ tt; dy_size = lit≤ tt; z_size = lit≤ tt }
+vector_range = (lit≤ tt, lit≤ tt, lit≤ tt, lit≤ tt)
 
 is_draft : IsDraft F1
-is_draft = record { count = lit≤ tt; ops = All-from_recursion IsOp F1 ((lit≤ tt, lit≤ tt, lit≤ tt), (vector_range, (tt, tt))) }
+is_draft = record { count = lit≤ tt; ops = All-from_recursion IsOp F1 (((lit≤ tt, lit≤ tt, lit≤ tt), refl), ((vector_range, refl), (tt, tt))) }
 
 -- the pairs that F1 reaches
 data At : Place → ℕ → Type 0 where
@@ -104,19 +104,19 @@ module _ (R : List ℕ) where
 
   fine0 : (fault : FrameFault) → ¬ Bad F1 R (InFrame 0) 0 fault
   fine0 fault (last s g e) = omega arith
-  fine0 fault (target {a = a} s n o) = let k = (acts0 s).0 in subst (λ x. Names x (InRom a)) k n
+  fine0 fault (target a s n o) = let k = (acts0 s).0 in subst (λ x. Names x (InRom a)) k n
   fine0 fault (deep {to = to} s e) = let k = (acts0 s).0 in cc
   fine0 fault (bare s e) = let k = (acts0 s).0 in cc
 
   fine1 : (fault : FrameFault) → ¬ Bad F1 R (InFrame 1) 0 fault
   fine1 fault (last s g e) = omega arith
-  fine1 fault (target {a = a} s n o) = let k = (acts1 s).0 in subst (λ x. Names x (InRom a)) k n
+  fine1 fault (target a s n o) = let k = (acts1 s).0 in subst (λ x. Names x (InRom a)) k n
   fine1 fault (deep {to = to} s e) = let k = (acts1 s).0 in cc
   fine1 fault (bare s e) = let k = (acts1 s).0 in cc
 
   fine2 : (fault : FrameFault) → ¬ Bad F1 R (InFrame 2) 0 fault
   fine2 fault (last s g e) = let k = acts2 s in subst GoesPast k g
-  fine2 fault (target {a = a} s n o) = let k = acts2 s in subst (λ x. Names x (InRom a)) k n
+  fine2 fault (target a s n o) = let k = acts2 s in subst (λ x. Names x (InRom a)) k n
   fine2 fault (deep {to = to} s e) = let k = acts2 s in cc
   fine2 fault (bare s e) = let k = acts2 s in cc
 
@@ -125,14 +125,17 @@ module _ (R : List ℕ) where
   fine at1 = fine1
   fine at2 = fine2
 
-  no_target : (i j : ℕ) (op : OpKind) → slice_get F1 i ≡ Some op → Names (op_act op) (InFrame j) → j < length F1
-  no_target zero j op e n = absurd (subst (λ x. Names (op_act x) (InFrame j)) (sym (same_Some _ _ e)) n)
-  no_target (suc zero) j op e n = absurd (subst (λ x. Names (op_act x) (InFrame j)) (sym (same_Some _ _ e)) n)
-  no_target (suc (suc zero)) j op e n = absurd (subst (λ x. Names (op_act x) (InFrame j)) (sym (same_Some _ _ e)) n)
-  no_target (suc (suc (suc i))) j op e n = absurd (cc)
+  names_none : (i j : ℕ) (op : OpKind) → slice_get F1 i ≡ Some op → ¬ Names (op_act op) (InFrame j)
+  names_none zero j op e n = subst (λ x. Names (op_act x) (InFrame j)) (sym (same_Some _ _ e)) n
+  names_none (suc zero) j op e n = subst (λ x. Names (op_act x) (InFrame j)) (sym (same_Some _ _ e)) n
+  names_none (suc (suc zero)) j op e n = subst (λ x. Names (op_act x) (InFrame j)) (sym (same_Some _ _ e)) n
+  names_none (suc (suc (suc i))) j op e n = absurd (cc)
+
+  misses_none : (i : ℕ) → ¬ Misses F1 i
+  misses_none i (misses {j = j} {op = op} e n far) = names_none i j op e n
 
   closed : Closed F1 R
-  closed = record { begins = labs_first; fits = lit≤ tt; targets = no_target; fine = λ p d r. fine (reached r) }
+  closed = record { begins = record { begins = labs_first; fits = lit≤ tt; targets = misses_none }; fine = λ p d r. fine (reached r) }
 
   walks_up : {d n : ℕ} {p q : Place} → At p d → Walks F1 R d p n q → number p + n ≤ 2
   walks_up at none = let few = low at in omega arith

@@ -5,8 +5,7 @@ use Rattle.std.proofs.lemmas.Option.{none-some, same_Some}
 use Rattle.std.proofs.lemmas.Bool.Decides.{eqb_tells, leb_tells}
 use Rattle.dvg_mem.specs.declared.half.Half.{Half}
 use Rattle.dvg_mem.specs.declared.half.Half.TheVariants.{H0, H1}
-use Rattle.dvg_mem.specs.declared.areas.Area.TheVariants.{Frame}
-use Rattle.dvg_mem.specs.Areas.{IsIn, base, other, high, half_of_high}
+use Rattle.dvg_mem.specs.Areas.{IsInHalf, base, other, high, half_of_high}
 use Rattle.dvg_frame.specs.declared.op.OpKind.{OpKind}
 use Rattle.dvg_frame.specs.Bytes.{bytes}
 use Rattle.dvg_frame.specs.Layout.{laid}
@@ -166,7 +165,7 @@ frame_kept : (h : Half) (F : List OpKind) (a b : ℕ) (old : List ℕ) → ((k :
 frame_kept h F a b old n e k l = byte_other old a b (2 * base h + k) (n k l) ∙ e k l
 
 -- an address that is not in the half is no address of a frame there
-apart : (h : Half) (F : List OpKind) (R : List ℕ) (a : ℕ) → Checked F R → (IsIn (Frame h) (a / 2) → ⊥) → (k : ℕ) → k < 2 * length (laid h F) → a ≡ 2 * base h + k → ⊥
+apart : (h : Half) (F : List OpKind) (R : List ℕ) (a : ℕ) → Checked F R → (IsInHalf h (a / 2) → ⊥) → (k : ℕ) → k < 2 * length (laid h F) → a ≡ 2 * base h + k → ⊥
 apart h F R a c n k l e =
     let f = fits h F R c in
     n (in_half h a (omega arith) (omega arith))
@@ -270,12 +269,12 @@ flip_last R image log ws a b q g one e =
     ]
 
 plain_write : (R image : List ℕ) (log : Log) (ws : List (ℕ × ℕ)) (a b : ℕ) (q : Place) → length (ram image log) ≡ 0x800 → KeptBy image log (Writing ws) → Shows R image log → after_write ws a b ≡ Some q → place_of_life (Did (Wrote a b) ∷ life image log) ≡ Some q →
-    a ≢ 1 → (IsIn (Frame (current image log)) (a / 2) → ⊥) → Shows R image ((Tick ⟼ Acted (Wrote a b)) ∷ log)
+    a ≢ 1 → (IsInHalf (current image log) (a / 2) → ⊥) → Shows R image ((Tick ⟼ Acted (Wrote a b)) ∷ log)
 plain_write R image log ws a b q size k s e d n1 away =
     let c = current image log in
     carried R image log Tick (Acted (Wrote a b)) s (λ u us o. o) (rw (not_equal a 1 n1)) (λ n f. tt) (λ u us o m. tt) (byte_other (ram image log) a b 1 n1)
     (λ F cl h. frame_kept c F a b (ram image log) (apart c F R a cl away) h)
-    (λ h F cl words o x y. frame_kept h F a b (ram image log) (apart h F R a cl (λ i. away (subst (λ g. IsIn (Frame g) (a / 2)) (k.here.0 words h o x) i))) y)
+    (λ h F cl words o x y. frame_kept h F a b (ram image log) (apart h F R a cl (λ i. away (subst (λ g. IsInHalf g (a / 2)) (k.here.0 words h o x) i))) y)
     (λ us l. laid_more R image log ws us a b size n1 (s.laying ws k.stands) (e ∙ (sym d ∙ l)))
 
 flip_write : (R image : List ℕ) (log : Log) (ws : List (ℕ × ℕ)) (q : Place) → length (ram image log) ≡ 0x800 → Shows R image log → Laying R image log ws → after_write ws 1 (high (free_half image log)) ≡ Some q → place_of_life (Did (Wrote 1 (high (free_half image log))) ∷ life image log) ≡ Some q →

@@ -14,6 +14,8 @@ use Rattle.dvg_gen.specs.declared.taken.Taken.TheVariants as taken
 use Rattle.dvg_gen.specs.Machine as generator
 use Rattle.dvg_gen.specs.Machine.{Machine, Answers, IsReply}
 use Rattle.dvg_gen.specs.Told.{Told, Start, Reset, Fed, Reply, More, Drew, Fails, reply, wants}
+use Rattle.dvg_gen.proofs.Same.{held_first}
+use Rattle.dvg_gen.proofs.Seen.{draws_some}
 use Rattle.dvg_frame.specs.declared.op.OpKind.{OpKind}
 use Rattle.dvg_frame.specs.declared.place.FrameFault.{FrameFault}
 use Rattle.dvg_frame.specs.Ops.{IsDraft}
@@ -291,12 +293,19 @@ module _ {rom bytes : List ℕ} {machine : Machine} {stage : Stage} {sent : Bool
       let held = (m.stands.running (sym m.stands.is_open ∙ is_open)).held in
       let there = met_in address low byte high w kept second found in
       let same : met machine.low byte ≡ meets R image log address = ap (λ l. met l byte) m.low ∙ sym there.1 in
+      let some =
+      draws_some m.run.first m.run.visits m.run.held (meets R image log address) (held_first m.leaves)
+      (λ nothing. draws (subst (λ h. DrawsNothing h (met machine.low byte)) (sym held) (subst (λ o. DrawsNothing m.run.held o) (sym same) nothing))) in
       record {
         run = m.run;
         leaves = m.leaves;
         address = address;
         wanted = sym (wanted (history R image log) (low_byte log) m);
-        draws = λ nothing. draws (subst (λ h. DrawsNothing h (met machine.low byte)) (sym held) (subst (λ o. DrawsNothing m.run.held o) (sym same) nothing));
+        word = some.word;
+        met = some.met;
+        visits = some.more;
+        adds = some.adds;
+        draws = some.draws;
       }
 
 -- an address is wanted while a run is open

@@ -1,8 +1,7 @@
 -- The writes of a frame part that are still to come.
 use Rattle.std.proofs.Common.{◌≡◌, ℕ, suc, ◌+◌, ◌*◌, ◌/◌, ◌≤◌, List, [], ◌∷◌, ◌++◌, length, refl, sym, ◌∙◌, subst, Some, Bool, true, false, arith}
 use Rattle.dvg_mem.specs.declared.half.Half.{Half}
-use Rattle.dvg_mem.specs.declared.areas.Area.TheVariants.{Frame}
-use Rattle.dvg_mem.specs.Areas.{IsIn, base, high}
+use Rattle.dvg_mem.specs.Areas.{IsInHalf, base, high}
 use Rattle.dvg_frame.specs.declared.op.OpKind.{OpKind}
 use Rattle.dvg_frame.specs.Bytes.{addressed, bytes}
 use Rattle.dvg_frame.specs.Layout.{laid}
@@ -18,7 +17,7 @@ use Rattle.dvg_world.proofs.Writes.{written}
 pub data Todo (half : Half) : ℕ → List (ℕ × ℕ) → Type 0 where
   at_flip : Todo half 1 ((1, high half) ∷ [])
   at_first : {z : ℕ} {ws : List (ℕ × ℕ)} → Todo half 1 ws → Todo half z ((0, 1) ∷ ws)
-  at_half : {z a b : ℕ} {ws : List (ℕ × ℕ)} → IsIn (Frame half) (a / 2) → Todo half z ws → Todo half z ((a, b) ∷ ws)
+  at_half : {z a b : ℕ} {ws : List (ℕ × ℕ)} → IsInHalf half (a / 2) → Todo half z ws → Todo half z ((a, b) ∷ ws)
 
 todo_addressed : (half : Half) (z a : ℕ) (bs : List ℕ) (ws : List (ℕ × ℕ)) → 2 * base half ≤ a → a + length bs ≤ 2 * base half + 1022 → Todo half z ws → Todo half z (addressed a bs ++ ws)
 todo_addressed half z a [] ws l u t = t
@@ -37,7 +36,7 @@ todo_frame half z F R first c e =
 
 -- what a write of the script is
 pub data IsWrite (half : Half) (z a b : ℕ) (q : Place) : Type 0 where
-  to_half : IsIn (Frame half) (a / 2) → (ws : List (ℕ × ℕ)) → q ≡ Writing ws → Todo half z ws → IsWrite half z a b q
+  to_half : IsInHalf half (a / 2) → (ws : List (ℕ × ℕ)) → q ≡ Writing ws → Todo half z ws → IsWrite half z a b q
   to_zero : a ≡ 0 → b ≡ 1 → (ws : List (ℕ × ℕ)) → q ≡ Writing ws → Todo half 1 ws → IsWrite half z a b q
   to_one : a ≡ 1 → b ≡ high half → q ≡ Waiting false → z ≡ 1 → IsWrite half z a b q
 
@@ -55,4 +54,4 @@ is_write half z ws (at_first {ws = vs} t) a b q e =
     to_zero (sym w.0) (sym w.1) vs (sym w.2 ∙ not_done half 1 vs t) t
 is_write half z ws (at_half {a = c} {b = d} {ws = vs} i t) a b q e =
     let w = written c a d b vs q e in
-    to_half (subst (λ x. IsIn (Frame half) (x / 2)) w.0 i) vs (sym w.2 ∙ not_done half z vs t) t
+    to_half (subst (λ x. IsInHalf half (x / 2)) w.0 i) vs (sym w.2 ∙ not_done half z vs t) t

@@ -1,16 +1,17 @@
 -- What a run shows was accepted, so it has a bound, and the run stays within it.
-use Rattle.std.proofs.Common.{◌≡◌, ℕ, suc, ◌*◌, ◌^◌, ◌≤◌, ◌<◌, List, [], ◌∷◌, sym, ap, ◌∙◌, subst, Option, Some, None, arith}
+use Rattle.std.proofs.Common.{◌≡◌, ℕ, ◌*◌, ◌≤◌, ◌<◌, List, [], ◌∷◌, sym, ap, ◌∙◌, subst, Option, Some, None, arith}
 use Rattle.std.proofs.lemmas.Option.{same_Some}
 use Rattle.dvg_gen.specs.declared.stroke.Stroke.{Stroke}
 use Rattle.dvg_frame.specs.declared.op.OpKind.{OpKind}
-use Rattle.dvg_frame.specs.Picture.{IsBound}
 use Rattle.dvg_frame.proofs.Bounded.{some_picture}
 use Rattle.dvg_driver.specs.Place.{Place}
 use Rattle.dvg_world.specs.Events.{Happening, Fetch}
 use Rattle.dvg_world.specs.Entries.{Shown, Low, Fetched, Done, Broke, Still}
-use Rattle.dvg_world.specs.Log.{◌⟼◌, Log, Throughout, low_byte, open_run, published}
+use Rattle.dvg_world.specs.Log.{◌⟼◌, Log, Throughout, open_run, published}
 use Rattle.dvg_world.specs.Legal.{Fits, IsLegal}
-use Rattle.dvg_world.specs.Headline.{IsShown, ByPicture, KeepsTime, fetch_count, WithinBound}
+use Rattle.dvg_world.specs.Fetches.{WithinBound}
+use Rattle.dvg_world.specs.Headline.{IsShown, EndsAt, KeepsTime}
+use Rattle.dvg_world.proofs.Paced.{ByPicture, KeepsPace}
 use Rattle.dvg_world.proofs.Kept.{KeptBy, kept}
 use Rattle.dvg_world.proofs.Later.{shows}
 use Rattle.dvg_world.proofs.Least.{Checked}
@@ -33,35 +34,42 @@ module _ (R image : List ℕ) where
       let k = kept R image log legal whole in
       shown_by log k.0 words F k.1 (shows R image log legal whole).0 o shown
 
-  -- what the open run shows has a bound, and the run's next fetch stays within it
-  abbrev IsBounded : Log → Type 0
-  IsBounded log = (words : List (ℕ × ℕ)) (F : List OpKind) → open_run log ≡ Some words → IsShown log F → (n : ℕ) × IsBound F R n × (n < 2 ^ 63) × (suc (fetch_count words (low_byte log)) ≤ 2 * n)
-
-  -- where a fetch is in time for each picture of what the run shows, it is within the bound
-  in_time : (P : ℕ → List Stroke → ℕ → Type 0) → ((number : ℕ) (drew : List Stroke) (n : ℕ) → P number drew n → number ≤ 2 * n) → (log : Log) → IsLegal R image log → ByPicture R log P → IsBounded log
-  in_time P low log legal by words F o shown =
+  -- where each picture of what the open run shows says how its next fetch ends, there is one that does
+  in_time : (P : ℕ → List Stroke → ℕ → Type 0) (entry : Shown) → ((number : ℕ) (drew : List Stroke) (n : ℕ) → P number drew n → EndsAt number drew n entry) → (log : Log) → IsLegal R image log → ByPicture R log P
+      → KeepsTime R log Fetch entry
+  in_time P entry ends log legal by words F o shown =
       let checked = shown_checked log words F legal o shown in
       let it = some_picture F R checked.rom checked.accepts.closed checked.accepts.ends in
-      (it.1, (it.0, it.2), it.3, low _ it.0 it.1 (by words F it.0 it.1 o shown it.2))
-
-  goes_on : (log : Log) → IsLegal R image log → ByPicture R log (λ number drew n. number < 2 * n) → IsBounded log
-  goes_on = in_time (λ number drew n. number < 2 * n) (λ number drew n less. omega arith)
-
-  ends : (log : Log) (strokes : List Stroke) → IsLegal R image log → ByPicture R log (λ number drew n. (number ≡ 2 * n) × (strokes ≡ drew)) → IsBounded log
-  ends log strokes = in_time (λ number drew n. (number ≡ 2 * n) × (strokes ≡ drew)) (λ number drew n last. let count = last.0 in omega arith) log
+      (it.0, it.1, it.2, it.3, ends _ it.0 it.1 (by words F it.0 it.1 o shown it.2))
 
   none_open : {words : List (ℕ × ℕ)} (run : Option (List (ℕ × ℕ))) → run ≡ None → run ≡ Some words → ⊥
   none_open run none some = cc
 
-  within : (log : Log) (event : Happening) (entry : Shown) → Fits R image log event entry → IsLegal R image log → KeepsTime R log event entry → WithinBound R log event entry
-  within log Fetch (Low a b) fits legal keeps = goes_on log legal keeps
-  within log Fetch (Fetched a w) fits legal keeps = goes_on log legal keeps
-  within log Fetch (Broke a fault) fits legal keeps = absurd keeps
-  within log Fetch (Done a w drew) fits legal keeps = ends log drew legal keeps
-  within log Fetch Still fits legal keeps = λ words F o shown. absurd (none_open (open_run log) fits o)
-  within log Fetch _ fits legal keeps = absurd fits
-  within log _ entry fits legal keeps = tt
+  keeps : (log : Log) (event : Happening) (entry : Shown) → Fits R image log event entry → IsLegal R image log → KeepsPace R log event entry → KeepsTime R log event entry
+  keeps log Fetch (Low a b) fits legal pace = in_time (λ number drew n. number < 2 * n) (Low a b) (λ number drew n less. less) log legal pace
+  keeps log Fetch (Fetched a w) fits legal pace = in_time (λ number drew n. number < 2 * n) (Fetched a w) (λ number drew n less. less) log legal pace
+  keeps log Fetch (Broke a fault) fits legal pace = absurd pace
+  keeps log Fetch (Done a w drawn) fits legal pace = in_time (λ number drew n. (number ≡ 2 * n) × (drawn ≡ drew)) (Done a w drawn) (λ number drew n last. last) log legal pace
+  keeps log Fetch Still fits legal pace = λ words F o shown. absurd (none_open (open_run log) fits o)
+  keeps log Fetch _ fits legal pace = absurd fits
+  keeps log _ entry fits legal pace = tt
 
-  pub bounded : (log : Log) → IsLegal R image log → Throughout (KeepsTime R) log → Throughout (WithinBound R) log
-  bounded [] legal keeps = tt
-  bounded ((event ⟼ entry) ∷ log) legal keeps = (within log event entry legal.0 legal.2 keeps.0, bounded log legal.2 keeps.1)
+  pub keeps_time : (log : Log) → IsLegal R image log → Throughout (KeepsPace R) log → Throughout (KeepsTime R) log
+  keeps_time [] legal pace = tt
+  keeps_time ((event ⟼ entry) ∷ log) legal pace = (keeps log event entry legal.0 legal.2 pace.0, keeps_time log legal.2 pace.1)
+
+-- a fetch that ends so stays within the bound
+ends_within : (number n : ℕ) (drew : List Stroke) (entry : Shown) → EndsAt number drew n entry → number ≤ 2 * n
+ends_within number n drew (Done a w drawn) ends = let last = ends.0 in omega arith
+ends_within number n drew (Broke a fault) ends = absurd ends
+ends_within number n drew entry ends = omega arith
+
+within : (R : List ℕ) (log : Log) (event : Happening) (entry : Shown) → KeepsTime R log event entry → WithinBound R log event entry
+within R log Fetch entry time = λ words F o shown.
+    let it = time words F o shown in
+    (it.1, (it.0, it.2), it.3, ends_within _ it.1 it.0 entry it.4)
+within R log _ entry time = tt
+
+pub bounded : (R : List ℕ) (log : Log) → Throughout (KeepsTime R) log → Throughout (WithinBound R) log
+bounded R [] time = tt
+bounded R ((event ⟼ entry) ∷ log) time = (within R log event entry time.0, bounded R log time.1)

@@ -1,24 +1,23 @@
 -- What every legal log shows.
 use Rattle.std.specs.Prelude.{◌≡◌, ℕ, suc, ◌+◌, ◌*◌, ◌/◌, ◌^◌, ◌≤◌, ◌<◌, true, List, [], ◌∷◌, length, Option, Some, None}
 use Rattle.dvg_mem.specs.declared.half.Half.{Half}
-use Rattle.dvg_mem.specs.declared.areas.Area.TheVariants.{Frame}
-use Rattle.dvg_mem.specs.Areas.{IsIn}
+use Rattle.dvg_mem.specs.Areas.{IsInHalf}
 use Rattle.dvg_gen.specs.declared.stroke.Stroke.{Stroke}
 use Rattle.dvg_frame.specs.declared.op.OpKind.{OpKind}
 use Rattle.dvg_frame.specs.Ops.{IsDraft}
 use Rattle.dvg_frame.specs.Steps.{Closed}
 use Rattle.dvg_frame.specs.Faults.{Accepts}
-use Rattle.dvg_frame.specs.Picture.{IsPicture, IsBound}
+use Rattle.dvg_frame.specs.Picture.{IsPicture}
 use Rattle.dvg_driver.specs.declared.action.Action.TheVariants.{Wrote}
 use Rattle.dvg_world.specs.Events.{Happening, Fetch}
-use Rattle.dvg_world.specs.Entries.{Shown, Acted, Started, Low, Fetched, Done, Broke}
+use Rattle.dvg_world.specs.Entries.{Shown, Acted, Started, Done, Broke}
 use Rattle.dvg_world.specs.Law.{HoldsDraft, HoldsFrame}
 use Rattle.dvg_world.specs.Log.{◌⟼◌, Log, Throughout, ram, low_byte, open_run, IsBeingDrawn, published, publication, has_fetched, at_zero}
 use Rattle.dvg_world.specs.Legal.{IsLegal}
 
 -- a byte that is written isn't in a half being drawn
 abbrev pub SparesDrawn : Log → Happening → Shown → Type 0
-SparesDrawn log event (Acted (Wrote a byte)) = (half : Half) → IsBeingDrawn log half → ¬ IsIn (Frame half) (a / 2)
+SparesDrawn log event (Acted (Wrote a byte)) = (half : Half) → IsBeingDrawn log half → ¬ IsInHalf half (a / 2)
 SparesDrawn log event entry = Unit {0}
 
 -- the generator doesn't fault
@@ -59,24 +58,17 @@ abbrev pub fetch_count : List (ℕ × ℕ) → Option ℕ → ℕ
 fetch_count words None = 2 * length words
 fetch_count words (Some low) = 2 * length words + 1
 
--- this holds of the number of the open run's next fetch, for each picture of what it shows: its strokes, and its words
-abbrev pub ByPicture : List ℕ → Log → (ℕ → List Stroke → ℕ → Type 0) → Type 0
-ByPicture R log P = (words : List (ℕ × ℕ)) (F : List OpKind) (drew : List Stroke) (n : ℕ) → open_run log ≡ Some words → IsShown log F → IsPicture F R drew n
-    → P (suc (fetch_count words (low_byte log))) drew n
+-- a fetch of this number, in a run whose picture has n words: the run goes on, or it is the last one and drew the picture
+abbrev pub EndsAt : ℕ → List Stroke → ℕ → Shown → Type 0
+EndsAt number drew n (Done address word strokes) = (number ≡ 2 * n) × (strokes ≡ drew)
+EndsAt number drew n (Broke address fault) = ⊥
+EndsAt number drew n entry = number < 2 * n
 
--- where what a run shows has a picture of n words, its fetch number 2n is the one that finishes it, with the picture's strokes, and no fetch breaks it
+-- what the open run shows has a picture, of n words, and the run's fetch number 2n is the one that finishes it, with the picture's strokes
 abbrev pub KeepsTime : List ℕ → Log → Happening → Shown → Type 0
-KeepsTime R log event (Low address byte) = ByPicture R log (λ number drew n. number < 2 * n)
-KeepsTime R log event (Fetched address word) = ByPicture R log (λ number drew n. number < 2 * n)
-KeepsTime R log event (Broke address fault) = ⊥
-KeepsTime R log event (Done address word strokes) = ByPicture R log (λ number drew n. (number ≡ 2 * n) × (strokes ≡ drew))
+KeepsTime R log Fetch entry = (words : List (ℕ × ℕ)) (F : List OpKind) → open_run log ≡ Some words → IsShown log F
+    → (drew : List Stroke) × (n : ℕ) × IsPicture F R drew n × (n < 2 ^ 63) × EndsAt (suc (fetch_count words (low_byte log))) drew n entry
 KeepsTime R log event entry = Unit {0}
-
--- what the open run shows has a bound, and each fetch of the run stays within it: two bytes a word
-abbrev pub WithinBound : List ℕ → Log → Happening → Shown → Type 0
-WithinBound R log Fetch entry = (words : List (ℕ × ℕ)) (F : List OpKind) → open_run log ≡ Some words → IsShown log F
-    → (n : ℕ) × IsBound F R n × (n < 2 ^ 63) × (suc (fetch_count words (low_byte log)) ≤ 2 * n)
-WithinBound R log event entry = Unit {0}
 
 -- no byte was written since the newest run began
 abbrev pub IsUntouched : Log → Type 0
@@ -110,14 +102,12 @@ pub record KeepsHeadline (R image : List ℕ) (log : Log) (event : Happening) (e
   pub draws_published : DrewPublished R log event entry
   -- and shows no older publication than a run before it did
   pub never_older : IsNoOlder log event entry
-  -- a run of a frame that has a picture is finished at the picture's last fetch
+  -- what a run shows has a picture, at whose last fetch the run is finished: after two bytes for each of its words
   pub always_in_time : KeepsTime R log event entry
-  -- what a run shows has a bound, and the run fetches at most two bytes for each word of it
-  pub always_bounded : WithinBound R log event entry
   -- a run that reaches HALT, during which nothing was written and the RAM held a checked frame, drew that frame's picture
   pub draws_undisturbed : DrewHeld R image log event entry
-  -- before the line, an open run that has fetched word zero is drawing a half, which holds the draft that the run shows
-  pub draws_a_half : has_fetched (open_run log) ≡ true → DrawsHalf R image log
+  -- after the line, an open run that has fetched word zero is drawing a half, which holds the draft that the run shows
+  pub draws_a_half : has_fetched (open_run ((event ⟼ entry) ∷ log)) ≡ true → DrawsHalf R image ((event ⟼ entry) ∷ log)
 
 -- a run that has fetched word zero is drawing a half, which holds the draft that the run shows
 abbrev pub DrawsAHalf : Type 0

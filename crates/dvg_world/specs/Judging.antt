@@ -1,8 +1,7 @@
 -- What a judge keeps of a log's open run.
 use Rattle.std.specs.Prelude.{◌≡◌, ◌≢◌, ◌+◌, ◌++◌, ◌∷◌, [], ℕ, List, Option, Some, None, option_map}
 use Rattle.dvg_mem.specs.declared.half.Half.{Half}
-use Rattle.dvg_mem.specs.declared.areas.Area.TheVariants.{Frame}
-use Rattle.dvg_mem.specs.Areas.{IsIn}
+use Rattle.dvg_mem.specs.Areas.{IsInHalf}
 use Rattle.dvg_world.specs.declared.judge.Drawing.{Drawing}
 use Rattle.dvg_world.specs.declared.judge.Judge.{Judge}
 use Rattle.dvg_world.specs.declared.judge.Drawing.TheVariants.{Nothing, Begun, Within}
@@ -15,7 +14,7 @@ pub record IsRunIn (run : Option (List (ℕ × ℕ))) (half : Half) : Type 0 whe
   pub later : List (ℕ × ℕ)
   pub target : ℕ
   pub fetches : run ≡ Some (later ++ (0x000, 0xE000 + target) ∷ [])
-  pub in_half : IsIn (Frame half) target
+  pub in_half : IsInHalf half target
 
 -- what a run draws, where there is one
 abbrev pub FitsRun : Drawing → Option (List (ℕ × ℕ)) → Type 0

@@ -1,8 +1,7 @@
 -- Logs, and what they tell: memory, runs, lives of the driver, what is published and what is drawn.
 use Rattle.std.specs.Prelude.{◌≡◌, ◌+◌, ◌==◌, ℕ, Bool, true, false, List, [], ◌∷◌, ◌++◌, length, slice_index, slice_set, if◌then◌else◌, Option, Some, None, is_some, option_and_then, option_map}
 use Rattle.dvg_mem.specs.declared.half.Half.{Half}
-use Rattle.dvg_mem.specs.declared.areas.Area.TheVariants.{Frame}
-use Rattle.dvg_mem.specs.Areas.{IsIn, half_of_high, other}
+use Rattle.dvg_mem.specs.Areas.{IsInHalf, half_of_high, other}
 use Rattle.dvg_mem.specs.Memory.{fetched_byte}
 use Rattle.dvg_gen.specs.Told.{Told, Start, Reset, Fed}
 use Rattle.dvg_gen.specs.Bytes.{Met, met, word_of}
@@ -86,7 +85,7 @@ pub record IsBeingDrawn (log : Log) (half : Half) : Type 0 where
   pub later : List (ℕ × ℕ)
   pub target : ℕ
   pub fetches : open_run log ≡ Some (later ++ (0x000, 0xE000 + target) ∷ [])
-  pub in_half : IsIn (Frame half) target
+  pub in_half : IsInHalf half target
 
 -- the half that is free: the other one than byte 001 names
 abbrev pub free_half : List ℕ → Log → Half

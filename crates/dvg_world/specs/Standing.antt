@@ -44,6 +44,6 @@ AddsLine old event entry new = (R image : List ℕ) (log : Log) → WorldAfter R
 abbrev pub KeepsHeadlineAfter : State → Happening → Shown → Type 0
 KeepsHeadlineAfter world event entry = (R image : List ℕ) (log : Log) → WorldAfter R image log world → KeepsHeadline R image log event entry
 
--- after each log that the world stands after, the next fetch completes a vector that is seen
+-- after each log that the world stands after, the next fetch adds a stroke
 abbrev pub DrawsNow : State → Type 0
 DrawsNow world = (R image : List ℕ) (log : Log) → WorldAfter R image log world → DrawsNext R image log

@@ -1,8 +1,7 @@
 -- Lines of a log, legal or not, that tear a picture.
 use Rattle.std.specs.Prelude.{◌≡◌, ℕ, ◌/◌, ◌∷◌, ◌++◌, length}
 use Rattle.dvg_mem.specs.declared.half.Half.{Half}
-use Rattle.dvg_mem.specs.declared.areas.Area.TheVariants.{Frame}
-use Rattle.dvg_mem.specs.Areas.{IsIn}
+use Rattle.dvg_mem.specs.Areas.{IsInHalf}
 use Rattle.dvg_driver.specs.declared.action.Action.TheVariants.{Wrote}
 use Rattle.dvg_world.specs.Events.{Happening}
 use Rattle.dvg_world.specs.Entries.{Shown, Acted}
@@ -10,7 +9,7 @@ use Rattle.dvg_world.specs.Log.{◌⟼◌, Log, Throughout, IsBeingDrawn}
 
 -- a byte is written in the half that the open run draws; a reset of the generator, or of the whole system, has ended the run before its own entry counts
 abbrev pub IsTorn : Log → Happening → Shown → Type 0
-IsTorn log event (Acted (Wrote a byte)) = (half : Half) × IsBeingDrawn ((event ⟼ Acted (Wrote a byte)) ∷ log) half × IsIn (Frame half) (a / 2)
+IsTorn log event (Acted (Wrote a byte)) = (half : Half) × IsBeingDrawn ((event ⟼ Acted (Wrote a byte)) ∷ log) half × IsInHalf half (a / 2)
 IsTorn log event entry = ⊥
 
 -- the line isn't torn

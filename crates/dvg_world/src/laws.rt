@@ -1,6 +1,6 @@
 //! Laws of the definitions alone. Each is the contract of a function that does nothing.
-ghost use Rattle.dvg_world.specs.Fetches.{IsInMemory, IsPaired, KeepsNext};
-ghost use Rattle.dvg_world.specs.Headline.{DrawsAHalf, DrewHeld, DrewPublished, IsNoOlder, KeepsHeadline, KeepsTime, NoFault, SparesDrawn, WithinBound};
+ghost use Rattle.dvg_world.specs.Fetches.{DrewInRange, IsInMemory, IsPaired, KeepsNext, ReadsOneFrame, WithinBound};
+ghost use Rattle.dvg_world.specs.Headline.{DrawsAHalf, DrewHeld, DrewPublished, IsNoOlder, KeepsHeadline, KeepsTime, NoFault, SparesDrawn};
 ghost use Rattle.dvg_world.specs.Law.{AnyMemory, EndsInTime, OnlyFirst, Undisturbed};
 ghost use Rattle.dvg_world.specs.Legal.{Always, SameLog};
 
@@ -55,7 +55,7 @@ pub fn never_older()
     ensures { Always (λ R image. IsNoOlder) }
 {}
 
-/// In every legal log a run of a frame that has a picture of `n` words fetches at most `2n` bytes, and its
+/// In every legal log what a run shows has a picture, of `n` words; the run fetches at most `2n` bytes, and its
 /// fetch number `2n` is the one that finishes it, with the picture's strokes. Every frame that is accepted has
 /// exactly one picture. That so many fetches come is not said.
 pub fn always_in_time()
@@ -84,6 +84,18 @@ pub fn draws_a_half()
 /// record. It is the clause `headline` of `run`, of `run_trace` and of the calls of a `World`.
 pub fn headline()
     ensures { Always KeepsHeadline }
+{}
+
+/// In every legal log each word that a run fetches in the half being drawn is the word that the layout of the frame which it
+/// shows has there: so what is drawn is never torn, said without beams, steps or pictures.
+pub fn reads_one_frame()
+    ensures { Always (λ R image. ReadsOneFrame) }
+{}
+
+/// In every legal log the strokes of each run that reaches HALT are in range: positions below 2,097,152, and intensities of
+/// 1 to 15.
+pub fn draws_in_range()
+    ensures { Always (λ R image. DrewInRange) }
 {}
 
 /// In every legal log each word that a run fetched, a byte at a time, is the word that memory has when its high

@@ -1,5 +1,5 @@
 //! The world: both ends of the vector RAM, one event at a time.
-ghost use Rattle.std.specs.Prelude.{◌≡◌, ◌≢◌, ◌↔◌, ℕ, List, [], length, IfOk, IsErrOf, OnErr, OnOk};
+ghost use Rattle.std.specs.Prelude.{◌≡◌, ◌≢◌, ◌↔◌, ℕ, List, [], length, IfOk, IsErrOf, IsOk, OnErr, OnOk};
 ghost use Rattle.dvg_driver.specs.Stands.{IsInRam};
 ghost use Rattle.dvg_world.specs.Entries.{shown_of};
 ghost use Rattle.dvg_world.specs.Events.{Offer, Redraw, Tick, Strobe, Fetch, ResetGen, ResetCpu, ResetAll, happening_of};
@@ -35,8 +35,8 @@ pub struct World<S: Store> {
     generator: Generator<S::Alloc>,
     driver: Driver,
     strobe_sent: bool,
-    /// What drafts are checked by. It takes the memory of its tables at the first offer.
-    checker: Checker<S::Alloc>,
+    /// What drafts are checked by.
+    checker: Box<Checker, S::Alloc>,
 }
 
 /// Contracts see a `State`.
@@ -57,7 +57,8 @@ impl<S: Store> Model for World<S> {
 impl<S: Store> World<S> {
     /// A world after a reset of the whole system: the RAM holds this image, the generator is halted with the
     /// beam at 0, 0 and scale 0, the driver boots, and no strobe is under way. It takes its memory from this
-    /// allocator, and so does the list of a run's strokes later on.
+    /// allocator: that of its store, and then some 105 KB for the tables of the check. A fetch takes memory later on, for the
+    /// list of a run's strokes, and nothing else does.
     pub fn new(
         alloc: S::Alloc,
         rom: Rom<S::Alloc>,
@@ -69,13 +70,14 @@ impl<S: Store> World<S> {
         // An image is one of 2,048 bytes, as its type says.
         let _ = image.bytes();
         let store = S::make(alloc, image)?;
+        let checker = Box::new(alloc, Checker::new())?;
         Ok(World {
             rom,
             store,
             generator: Generator::new(alloc),
             driver: Driver::new(),
             strobe_sent: false,
-            checker: Checker::new(alloc),
+            checker,
         })
     }
 
@@ -90,6 +92,7 @@ impl<S: Store> World<S> {
     ) -> Result<(), MemFault>
         ensures stands { OnOk result (WorldAfter rom.now image.now [] self.new) }
         ensures size { IsErrOf result MemFault.Size ↔ ((length rom.now ≢ 2048) × (length rom.now ≢ 4096)) }
+        ensures room { length rom.now ≡ length self.old.rom → IsOk result }
         ensures refused { OnErr result (self.new ≡ self.old) }
     {
         match self.rom.copy_from(alloc, rom) {

@@ -1,16 +1,25 @@
 use Rattle.std.proofs.Common.{◌≡◌, ◌%◌, ◌/◌, None, arith, get_or, rules}
+use Rattle.dvg_dump.proofs.Silent.{both_draw_nothing}
 use Rattle.dvg_dump.proofs.Stepping.{takes_both, takes_hole}
 use Rattle.dvg_dump.proofs.runs.take_word.Goals as goal
 
-pub returns-in_default : goal.returns-in_default
-returns-in_default g c = takes_hole c.take_byte.result _ _ _ c.in_default.is c.take_byte.ensures.answers
+pub returns-in_default-clause-takes : goal.returns-in_default-clause-takes
+returns-in_default-clause-takes g c = takes_hole c.take_byte.result _ _ _ c.in_default.is c.take_byte.ensures.answers
 
 pub unreachable-requires : goal.unreachable-requires
 unreachable-requires g c = c.in_default-2.not-Low (c.in_ok-take_byte.ensures.answers c.requires.stands.0 None c.requires.stands.1).1
 
-pub returns : goal.returns
-returns g c =
+pub returns-clause-takes : goal.returns-clause-takes
+returns-clause-takes g c =
     let word = c.in-Some.word in
     let low : get_or c.to_le_bytes.result 0 0 ≡ word % 256 = search rules in
     let high : get_or c.to_le_bytes.result 1 0 ≡ word / 256 = search rules in
     takes_both c.take_byte-3.result c.in_ok-take_byte.field-0 _ c.take_byte-2.new.self _ _ c.in-Some.word _ _ c.in-Some.is (omega arith) c.in_ok-take_byte.ensures.answers c.take_byte-3.ensures.answers
+
+pub returns-clause-room : goal.returns-clause-room
+returns-clause-room g c = λ nothing.
+    let word = c.in-Some.word in
+    let low : get_or c.to_le_bytes.result 0 0 ≡ word % 256 = search rules in
+    let high : get_or c.to_le_bytes.result 1 0 ≡ word / 256 = search rules in
+    let half = (c.in_ok-take_byte.ensures.answers c.requires.stands.0 None c.requires.stands.1).0 in
+    c.take_byte-3.ensures.room (both_draw_nothing c.args.word word _ _ c.in-Some.is (omega arith) c.requires.open c.requires.stands.1 half nothing)

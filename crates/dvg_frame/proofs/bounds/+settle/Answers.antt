@@ -9,17 +9,17 @@ use Rattle.dvg_frame.proofs.bounds.+settle.Goals.{in-Call+else-not-settle, in_de
 
 pub way_on-way-requires-clause-inside : goal.way_on-way-requires-clause-inside
 way_on-way-requires-clause-inside g t c =
-    (popped _ _ c.requires.begins _ _ _ _ _ _ _ c.loop-start.invariant.left c.pop-place.ensures (let base = c.len-base.ensures in let now = c.len.ensures in omega arith)).last.good.inside
+    (popped _ _ c.requires.begins _ _ _ _ _ _ _ c.loop-start.invariant.left c.pop-place.ensures.value (let base = c.len-base.ensures.value in let now = c.len.ensures.value in omega arith)).last.good.inside
 
 pub way_on-way-requires-clause-fine : goal.way_on-way-requires-clause-fine
 way_on-way-requires-clause-fine g t c =
-    (_, (popped _ _ c.requires.begins _ _ _ _ _ _ _ c.loop-start.invariant.left c.pop-place.ensures (let base = c.len-base.ensures in let now = c.len.ensures in omega arith)).last.good.fine)
+    (_, (popped _ _ c.requires.begins _ _ _ _ _ _ _ c.loop-start.invariant.left c.pop-place.ensures.value (let base = c.len-base.ensures.value in let now = c.len.ensures.value in omega arith)).last.good.fine)
 
 pub settle-requires : goal.settle-requires
 settle-requires g t c κs within =
-    let out = popped _ _ c.requires.begins _ _ _ _ _ _ _ c.loop-start.invariant.left c.pop-place.ensures (let base = c.len-base.ensures in let now = c.len.ensures in omega arith) in
+    let out = popped _ _ c.requires.begins _ _ _ _ _ _ _ c.loop-start.invariant.left c.pop-place.ensures.value (let base = c.len-base.ensures.value in let now = c.len.ensures.value in omega arith) in
     let not_deepest = to_low _ _ c.requires.begins _ _ _ out.last _ c.way_on-way.ensures _ _ c.in-Call.is in
-    let room : length c.pop-place.new.self ≤ (c.args.start.depth + 1) * LONGEST = let room = c.loop-start.invariant.room in let before = c.requires.room in let taken = ap length c.pop-place.ensures in let sum = length-append c.pop-place.new.self (c.pop-place.result ∷ []) in omega arith in (
+    let room : length c.pop-place.new.self ≤ (c.args.start.depth + 1) * LONGEST = let room = c.loop-start.invariant.room in let before = c.requires.room in let taken = ap length c.pop-place.ensures.value in let sum = length-append c.pop-place.new.self (c.pop-place.result ∷ []) in omega arith in (
       omega arith,
       (
         within,
@@ -44,7 +44,7 @@ settle-requires g t c κs within =
 
 pub put_drawn-requires : goal.put_drawn-requires
 put_drawn-requires g t c =
-    let out = popped _ _ c.requires.begins _ _ _ _ _ _ _ c.loop-start.invariant.left c.pop-place.ensures (let base = c.len-base.ensures in let now = c.len.ensures in omega arith) in
+    let out = popped _ _ c.requires.begins _ _ _ _ _ _ _ c.loop-start.invariant.left c.pop-place.ensures.value (let base = c.len-base.ensures.value in let now = c.len.ensures.value in omega arith) in
     let ready : StandsSo c.args.draft.now c.args.rom.now c.pop-place.result.place c.match-way.way' × IsReady c.args.draft.now c.args.rom.now c.match-way.table c.pop-place.result.place c.args.start.depth =
     elim c.match-way.branch [
       | in-Call+else-not-settle w ↦ ready_call _ _ c.requires.begins _ _ _ out.last _ c.way_on-way.ensures _ _ _ _ _ w.in-Call.is w.settle.ensures.kept w.settle.ensures.entries w.if-not-settle.ensures.settled.0 w.table-is (w.way'-is ∙ sym w.in-Call.is)
@@ -54,7 +54,7 @@ put_drawn-requires g t c =
 
 pub loop-start-preserved : goal.loop-start-preserved
 loop-start-preserved g t c =
-    let out = popped _ _ c.requires.begins _ _ _ _ _ _ _ c.loop-start.invariant.left c.pop-place.ensures (let base = c.len-base.ensures in let now = c.len.ensures in omega arith) in
+    let out = popped _ _ c.requires.begins _ _ _ _ _ _ _ c.loop-start.invariant.left c.pop-place.ensures.value (let base = c.len-base.ensures.value in let now = c.len.ensures.value in omega arith) in
     let ready : StandsSo c.args.draft.now c.args.rom.now c.pop-place.result.place c.match-way.way' × IsReady c.args.draft.now c.args.rom.now c.match-way.table c.pop-place.result.place c.args.start.depth =
     elim c.match-way.branch [
       | in-Call+else-not-settle w ↦ ready_call _ _ c.requires.begins _ _ _ out.last _ c.way_on-way.ensures _ _ _ _ _ w.in-Call.is w.settle.ensures.kept w.settle.ensures.entries w.if-not-settle.ensures.settled.0 w.table-is (w.way'-is ∙ sym w.in-Call.is)
@@ -74,5 +74,5 @@ loop-start-preserved g t c =
       entries = c.put_drawn.ensures.entries _ _ _ ready.0 ready.1;
       kept = keeps_both _ _ _ c.loop-start.invariant.kept (keeps_both _ _ _ keeps c.put_drawn.ensures.kept);
       left = left_chain _ _ c.requires.begins _ _ _ _ _ _ _ _ out chain c.put_drawn.ensures.has;
-      room = let room = c.loop-start.invariant.room in let taken = ap length c.pop-place.ensures in let sum = length-append c.pop-place.new.self (c.pop-place.result ∷ []) in let same = ap length chain in omega arith;
+      room = let room = c.loop-start.invariant.room in let taken = ap length c.pop-place.ensures.value in let sum = length-append c.pop-place.new.self (c.pop-place.result ∷ []) in let same = ap length chain in omega arith;
     }

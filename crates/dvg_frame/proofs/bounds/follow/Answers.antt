@@ -1,9 +1,10 @@
-use Rattle.std.proofs.Common.{◌≡◌, ◌∙◌, ◌⊎◌, inl, inr, ℕ, List, [], ◌∷◌, ◌++◌, ◌+◌, ◌-◌, ◌*◌, ◌<◌, ◌≤◌, length, Fits, w64, sym, ap, arith, refl, append-nil, length-append}
+use Rattle.std.proofs.Common.{◌≡◌, ◌∙◌, ◌⊎◌, inl, inr, ℕ, List, [], ◌∷◌, ◌++◌, ◌+◌, ◌-◌, ◌*◌, ◌<◌, ◌≤◌, length, Fits, w64, sym, ap, arith, refl, append-nil, length-append, lit<}
 use Rattle.dvg_mem.specs.Memory.{IsRom}
 use Rattle.dvg_frame.specs.declared.op.OpKind.{OpKind}
 use Rattle.dvg_frame.specs.declared.pair.Pair.{Pair}
 use Rattle.dvg_frame.specs.declared.chain.TheConstants.{LONGEST, ROOM}
 use Rattle.dvg_frame.specs.Ops.{IsDraft}
+use Rattle.dvg_frame.proofs.Swept.{in_place}
 use Rattle.dvg_frame.proofs.Tabled.{good_by, has_some, goes_in, goes_good, linked_loops, chain_to, has_linked_more, has_chain_ends, onward_goes, onward_nowhere}
 use Rattle.dvg_frame.proofs.bounds.follow.Goals as goal
 
@@ -95,7 +96,15 @@ pub returns-in_default-clause-room : goal.returns-in_default-clause-room
 returns-in_default-clause-room g c = let i = c.loop-step.invariant in in_room _ _ _ _ _ i.is i.count c.loop-step.auto.step-end (few_steps _ _ _ _ _ c.len.ensures.draft c.requires.rom c.len.ensures.value c.len_words.ensures.count c.from.ensures)
 
 pub push-requires : goal.push-requires
-push-requires g c = let i = c.loop-step.invariant in room_left _ _ _ _ _ i.is i.count c.loop-step-test.true (few_steps _ _ _ _ _ c.len.ensures.draft c.requires.rom c.len.ensures.value c.len_words.ensures.count c.from.ensures) _ c.requires.depth c.requires.room
+push-requires g c =
+    let i = c.loop-step.invariant in
+    let few = few_steps _ _ _ _ _ c.len.ensures.draft c.requires.rom c.len.ensures.value c.len_words.ensures.count c.from.ensures in (
+      lit< tt,
+      (
+        room_left _ _ _ _ _ i.is i.count c.loop-step-test.true few _ c.requires.depth c.requires.room,
+        record { place = in_place _ _ _ i.inside; depth = c.requires.depth },
+      ),
+    )
 
 pub returns-in-None-clause-room : goal.returns-in-None-clause-room
 returns-in-None-clause-room g c = let i = c.loop-step.invariant in room_behind _ _ _ _ _ i.is i.count c.loop-step-test.true (few_steps _ _ _ _ _ c.len.ensures.draft c.requires.rom c.len.ensures.value c.len_words.ensures.count c.from.ensures) _ _ c.push.ensures

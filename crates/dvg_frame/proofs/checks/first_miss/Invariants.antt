@@ -1,5 +1,5 @@
 use Rattle.std.proofs.Common.{ℕ, ◌<◌}
-use Rattle.dvg_frame.specs.Faults.{Misses}
+use Rattle.dvg_frame.specs.Steps.{Misses}
 use Rattle.dvg_frame.proofs.checks.first_miss.Given as goal
 
 abbrev pub invariant-loop-i : goal.invariant-loop-i

@@ -31,7 +31,7 @@ returns-in-Ok-clause-plays g c =
     let gives = subst (λ text. GivesTrace text told.events told.rom.items) c.as_slice.ensures.value c.in_ok-told.ensures.gives in
     let wrote = subst (λ l. WritesText c.write_entries.result (shown all 0 (map shown_of l)) old new) c.as_slice-in-Ok.ensures.value c.write_entries.ensures.writes in
     told_whole all c.write_entries.result _ old new c.in_ok-text.text.items (shown all 0 (map shown_of entries)) c.in_ok-text.ensures.bytes
-    (played_whole _ told.rom.items told.events entries gives c.in-Ok.ensures.legal c.in-Ok.ensures.whole)
+    (played_whole _ told.rom.items told.events entries gives c.in-Ok.ensures.legal c.in-Ok.ensures.headline c.in-Ok.ensures.whole)
     (log_shown all told.events entries (let same = c.in-Ok.ensures.whole in omega arith)) wrote
 
 pub returns-in_err-write_entries-in-Err-clause-plays : goal.returns-in_err-write_entries-in-Err-clause-plays
@@ -47,7 +47,7 @@ returns-in_err-write_entries-in-Err-clause-plays g c =
     let wrote = subst (λ l. StopsWriting fault (shown all 0 (map shown_of l)) old new) c.as_slice-in-Err.ensures.value c.in_err-write_entries-in-Err.ensures.writes in
     answered all _ fault _ old new (is.1 ∙ ap Err is.2)
     (broke_off all fault _ old new c.in_ok-text.text.items (shown all 0 (map shown_of stopped.entries.items)) c.in_ok-text.ensures.bytes
-    (played_part _ told.rom.items told.events stopped gives c.in-Err.ensures.legal c.in-Err.ensures.stopped c.in-Err.ensures.early)
+    (played_part _ told.rom.items told.events stopped gives c.in-Err.ensures.legal c.in-Err.ensures.headline c.in-Err.ensures.stopped c.in-Err.ensures.early)
     (log_shown all told.events stopped.entries.items (few told.rom.items told.events stopped c.in-Err.ensures.stopped c.in-Err.ensures.early)) wrote)
 
 pub returns-clause-plays : goal.returns-clause-plays
@@ -60,5 +60,5 @@ returns-clause-plays g c =
     let gives = subst (λ text. GivesTrace text told.events told.rom.items) c.as_slice.ensures.value c.in_ok-told.ensures.gives in
     let wrote = subst (λ l. WritesText c.write_entries-in-Err.result (shown all 0 (map shown_of l)) old new) c.as_slice-in-Err.ensures.value c.write_entries-in-Err.ensures.writes in
     told_part all _ old new c.in_ok-text.text.items (shown all 0 (map shown_of stopped.entries.items)) c.in_ok-text.ensures.bytes
-    (played_part _ told.rom.items told.events stopped gives c.in-Err.ensures.legal c.in-Err.ensures.stopped c.in-Err.ensures.early)
+    (played_part _ told.rom.items told.events stopped gives c.in-Err.ensures.legal c.in-Err.ensures.headline c.in-Err.ensures.stopped c.in-Err.ensures.early)
     (log_shown all told.events stopped.entries.items (few told.rom.items told.events stopped c.in-Err.ensures.stopped c.in-Err.ensures.early)) (search rules)

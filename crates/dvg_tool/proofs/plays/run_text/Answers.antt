@@ -1,8 +1,10 @@
 use Rattle.std.proofs.Common.{IfErr, subst, ◌∙◌}
+use Rattle.dvg_world.specs.Headline.{KeepsHeadline}
 use Rattle.dvg_world.specs.Legal.{IsLegal}
+use Rattle.dvg_world.specs.Log.{Throughout}
 use Rattle.dvg_world.specs.Runs.{IsStop, log_by}
 use Rattle.dvg_tool.specs.Plays.{zeros}
-use Rattle.dvg_tool.proofs.Played.{legal_at_once}
+use Rattle.dvg_tool.proofs.Played.{headline_at_once, legal_at_once}
 use Rattle.dvg_tool.proofs.plays.run_text.Goals as goal
 
 pub returns-in_default-clause-legal : goal.returns-in_default-clause-legal
@@ -22,3 +24,17 @@ returns-clause-early g c =
     let told = c.args.told.now in
     let image = subst (λ image. IfErr c.run_trace.result (IsStop c.in-Ok.rom image told.events)) c.in-Ok-new.ensures.bytes c.run_trace.ensures.early in
     subst (λ R. IfErr c.run_trace.result (IsStop R zeros told.events)) (c.in-Ok.ensures.bytes ∙ c.as_slice.ensures.value) image
+
+pub returns-in_default-clause-headline : goal.returns-in_default-clause-headline
+returns-in_default-clause-headline g c = headline_at_once c.args.told.now.rom.items c.args.told.now.events _ c.unstarted.ensures.entries
+
+pub returns-in_default-new-clause-headline : goal.returns-in_default-new-clause-headline
+returns-in_default-new-clause-headline g c =
+    headline_at_once c.args.told.now.rom.items c.args.told.now.events _ c.unstarted-in_default-new.ensures.entries
+
+pub returns-clause-headline : goal.returns-clause-headline
+returns-clause-headline g c =
+    let told = c.args.told.now in
+    let log = log_by told.events c.run_trace.result in
+    let image = subst (λ image. Throughout (KeepsHeadline c.in-Ok.rom image) log) c.in-Ok-new.ensures.bytes c.run_trace.ensures.headline in
+    subst (λ R. Throughout (KeepsHeadline R zeros) log) (c.in-Ok.ensures.bytes ∙ c.as_slice.ensures.value) image

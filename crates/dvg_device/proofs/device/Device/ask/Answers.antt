@@ -5,21 +5,21 @@ use Rattle.dvg_device.proofs.device.Device.ask.Goals as goal
 
 pub returns-in-World : goal.returns-in-World
 returns-in-World c = rw (sym c.self.view_is, c.in-World.is) (
-  c.ask_world.new.world,
-  c.ask_world.new.picture.items,
+  c.ask.new.self,
+  c.ask.new.picture.items,
   refl,
-  subst (λ staged. WorldAnswers c.self.inside.draft staged c.args.request c.in-World.world.value c.ask_world.new.world c.self.inside.picture.items c.ask_world.new.picture.items c.ask_world.result) c.as_slice.ensures.value
-      (subst (λ world. WorldAnswers c.self.inside.draft c.as_slice.result.now c.args.request world c.ask_world.new.world c.self.inside.picture.items c.ask_world.new.picture.items c.ask_world.result) c.deref_mut.ensures.value c.ask_world.ensures),
+  subst (λ staged. WorldAnswers c.self.inside.draft staged c.args.request c.in-World.world.value c.ask.new.self c.self.inside.picture.items c.ask.new.picture.items c.ask.result) c.as_slice-staged.ensures.value
+      (subst (λ world. WorldAnswers c.self.inside.draft c.as_slice-staged.result.now c.args.request world c.ask.new.self c.self.inside.picture.items c.ask.new.picture.items c.ask.result) c.deref_mut.ensures.value c.ask.ensures),
 )
 
 pub returns-in-Driver : goal.returns-in-Driver
 returns-in-Driver c =
     let driven = c.deref_mut-in-Driver.ensures.value in
     rw (sym c.self.view_is, c.in-Driver.is) (
-      c.ask.new.self,
+      c.ask-in-Driver.new.self,
       refl,
-      c.ask.ensures.rom ∙ ap (λ d. d.rom) driven,
-      subst (λ d. DriverAnswers d.rom c.self.inside.draft c.args.request d.stage c.ask.new.self.stage c.ask.result) driven c.ask.ensures.answers,
+      c.ask-in-Driver.ensures.rom ∙ ap (λ d. d.rom) driven,
+      subst (λ d. DriverAnswers d.rom c.self.inside.draft c.args.request d.stage c.ask-in-Driver.new.self.stage c.ask-in-Driver.result) driven c.ask-in-Driver.ensures.answers,
     )
 
 pub returns-in-Generator : goal.returns-in-Generator

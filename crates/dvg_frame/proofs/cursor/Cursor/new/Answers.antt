@@ -5,6 +5,7 @@ use Rattle.dvg_frame.proofs.cursor.Cursor.new.Goals as goal
 
 pub invariant_of-result : goal.invariant_of-result
 invariant_of-result c = record {
+  counted = c.words_before_each-words_before.ensures;
   given = omega arith;
   left = begins-length _ _ _ _ c.new.ensures (c.len_words-left.ensures.laid c.args.half);
   in_ram = let low = base_low c.args.half in let few = c.len_words-left.ensures.bound in omega arith;

@@ -5,6 +5,7 @@ use Rattle.dvg_frame.proofs.cursor.Cursor.restart.Goals as goal
 
 pub invariant_of-self : goal.invariant_of-self
 invariant_of-self c = record {
+  counted = c.words_before_each-self-inside.ensures;
   given = omega arith;
   left = begins-length _ _ _ _ c.new-self-inside.ensures (c.len_words.ensures.laid c.args.half);
   in_ram = let low = base_low c.args.half in let few = c.len_words.ensures.bound in omega arith;

@@ -1,6 +1,7 @@
 use Rattle.std.proofs.Common.{◌≡◌, ◌+◌, ◌-◌, ◌*◌, ◌/◌, ◌<◌, length, refl, sym, ap, ◌∙◌, subst, Some, get_or, arith}
 use Rattle.std.specs.Prelude.{slice_get}
 use Rattle.std.proofs.lemmas.Option.{slice_get-get_or}
+use Rattle.dvg_frame.specs.Counting.{IsCounted}
 use Rattle.dvg_frame.proofs.Cursors.{one_more, turns, stays, gives, GoesOn, IsNext, next_items, next_kept}
 use Rattle.dvg_frame.proofs.cursor.CursorIterator.next.Goals as goal
 use Rattle.dvg_frame.proofs.cursor.CursorIterator.next.Goals.{After-len, After-deref, After-byte_of, then-from-len, else-from-len}
@@ -8,7 +9,10 @@ use Rattle.dvg_frame.proofs.cursor.CursorIterator.next.Goals.{After-len, After-d
 pub spelling-self-inside-requires : goal.spelling-self-inside-requires
 spelling-self-inside-requires c =
     let S = c.self.inside in
-    one_more S.half S.frame.operations S.words.items S.given S.op S.left c.self.invariant.left c.if-self-eq0.false (omega arith)
+    record {
+      counted = subst (IsCounted S.frame.operations) (sym c.as_slice-words_before.ensures.value) c.self.invariant.counted;
+      within = one_more S.half S.frame.operations S.words.items S.given S.op S.left c.self.invariant.left c.if-self-eq0.false (omega arith);
+    }
 
 pub overflow_add-self : goal.overflow_add-self
 overflow_add-self c =
@@ -26,10 +30,10 @@ ready c =
           let all : S.given ≡ 2 * length S.words.items = (let is = w.if-from-len.true in omega arith) in
           let within = one_more S.half S.frame.operations S.words.items S.given S.op S.left c.self.invariant.left c.if-self-eq0.false all in
           subst (λ N. GoesOn S N) (sym w.self-inside-is)
-          (record { ready = turns S.half S.frame.operations S.words.items w.spelling-self-inside.result.items S.given S.op all within w.spelling-self-inside.ensures.words; address = refl; left = refl }))
+          (record { ready = turns S.half S.frame.operations S.words.items w.spelling-self-inside.result.items S.given S.op all within w.spelling-self-inside.ensures.words; address = refl; left = refl; counted = c.self.invariant.counted }))
       | else-from-len w ↦
           subst (λ N. GoesOn S N) (sym w.self-inside-is)
-          (record { ready = stays S.half S.frame.operations S.words.items S.given S.op c.self.invariant.given (λ all. w.if-from-len.false (omega arith)); address = refl; left = refl })
+          (record { ready = stays S.half S.frame.operations S.words.items S.given S.op c.self.invariant.given (λ all. w.if-from-len.false (omega arith)); address = refl; left = refl; counted = c.self.invariant.counted })
     ]
 
 pub bounds-deref-from : goal.bounds-deref-from
@@ -56,6 +60,7 @@ gave c on =
       given = let room = on.ready.room in omega arith;
       rises = let same = on.address in omega arith;
       left = let same = on.left in omega arith;
+      counted = on.counted;
     }
 
 pub invariant_of-self : goal.invariant_of-self

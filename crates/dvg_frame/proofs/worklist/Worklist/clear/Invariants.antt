@@ -2,8 +2,8 @@ use Rattle.std.proofs.Common.{length}
 use Rattle.dvg_frame.specs.Growth.{AreListed}
 use Rattle.dvg_frame.proofs.worklist.Worklist.clear.Given as goal
 
-abbrev pub invariant-loop-pair : goal.invariant-loop-pair
-invariant-loop-pair l = AreListed l.self-inside.marks l.self-inside.pairs.items
+abbrev pub invariant-loop-self : goal.invariant-loop-self
+invariant-loop-self l = AreListed l.self-inside.marks l.self-inside.pairs
 
-abbrev pub decreases-loop-pair : goal.decreases-loop-pair
-decreases-loop-pair l = length l.self-inside.pairs.items
+abbrev pub decreases-loop-self : goal.decreases-loop-self
+decreases-loop-self l = length l.self-inside.pairs

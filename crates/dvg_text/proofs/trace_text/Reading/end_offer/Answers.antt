@@ -2,7 +2,7 @@ use Rattle.std.proofs.Common.{◌≡◌, ◌<◌, ◌∷◌, ◌++◌, [], None,
 use Rattle.std.proofs.lemmas.Grind.{common_steps}
 use Rattle.dvg_world.specs.Events.{Offer}
 use Rattle.dvg_text.specs.TraceGives.{events_read, opened_of}
-use Rattle.dvg_text.proofs.TraceMoves.{end_fits, end_stops, end_taken, resets_stay, some_opened}
+use Rattle.dvg_text.proofs.TraceMoves.{end_fits, end_stops, end_taken, end_wants, resets_stay, some_opened}
 use Rattle.dvg_text.proofs.trace_text.Reading.end_offer.Goals as goal
 
 pub returns-then-len-eq-MOST_EVENTS-clause-fault : goal.returns-then-len-eq-MOST_EVENTS-clause-fault
@@ -11,6 +11,13 @@ returns-then-len-eq-MOST_EVENTS-clause-fault g c =
     let inside = some_opened reading.is_open reading.draft (search rules) in
     let full : length (events_read reading) ≡ 65536 = grind (arith, common_steps) in
     end_stops (events_read reading) (opened_of reading) reading.draft reading.rom inside full
+
+pub returns-then-is_err-clause-fault : goal.returns-then-is_err-clause-fault
+returns-then-is_err-clause-fault g c =
+    let reading = c.args.self.now in
+    let inside = some_opened reading.is_open reading.draft (search rules) in
+    let room : length (events_read reading) < 65536 = grind (arith, common_steps) in
+    end_wants (events_read reading) (opened_of reading) reading.draft reading.rom inside room
 
 pub returns-clause-held : goal.returns-clause-held
 returns-clause-held g c =

@@ -1,4 +1,4 @@
-use Rattle.std.proofs.Common.{ap, subst, sym}
+use Rattle.std.proofs.Common.{sym}
 use Rattle.dvg_world.proofs.Standing.{new_world}
 use Rattle.dvg_world.proofs.world.World.power_up.Goals as goal
 

@@ -1,0 +1,73 @@
+# Makes drafts of shapes from the points of their outlines. This is unproved.
+#
+#     awk -f outline.awk <OUTLINES >SHAPES.draft
+#
+# A shape is a name with a colon, and points X,Y in units of the screen, from where the beam is when
+# the shape is called. The beam draws to each point, and moves to one behind an @ without drawing.
+# Points may go on in the next lines, and # begins a comment. A house, with a door:
+#
+#     house: 60,0 60,40 30,60 0,40 0,0 @20,0 20,20 35,20 35,0 @0,0
+#
+# Each vector gets the least scale that has room for its move: the generator takes as long for a
+# vector as its scale says, however short it is. The global scale 0 shows a shape in its own size,
+# 1 twice as large, and 15 half as large. A vector goes at most 1,023 units.
+# -v intensity=N sets how bright it is, 1 to 15; it is 9 where none is given. What can't be read is
+# told on standard error, with its line, and the status is 1.
+
+function refuse(text) {
+    print "outline.awk: " text " at line " NR | "cat 1>&2"
+    refused = 1
+}
+
+function size(number) { return number < 0 ? -number : number }
+
+# The least scale, 1 or more, at which a move of this many units is at most 1,023 long.
+function scale_of(units, scale) {
+    for (scale = 1; scale < 9 && units * 512 / 2 ^ scale > 1023; scale++);
+    return scale
+}
+
+function rounded(number) { return number < 0 ? -int(0.5 - number) : int(number + 0.5) }
+
+# Goes to X, Y. Where the beam is, at_x and at_y, is counted in 1/512 of a unit.
+function vector(x, y, z, scale, step, dx, dy) {
+    dx = x * 512 - at_x
+    dy = y * 512 - at_y
+    scale = scale_of((size(dx) > size(dy) ? size(dx) : size(dy)) / 512)
+    step = 2 ^ scale
+    dx = rounded(dx / step)
+    dy = rounded(dy / step)
+    if (size(dx) > 1023 || size(dy) > 1023) refuse("a move of more than 1,023 units")
+    at_x += dx * step
+    at_y += dy * step
+    printf "  vctr %d %d %d %d\n", scale, dx, dy, z
+}
+
+BEGIN { if (intensity == "") intensity = 9 }
+
+{ sub(/#.*/, "") }
+
+$1 ~ /^[A-Za-z_][A-Za-z0-9_]*:$/ {
+    if (shapes++) print "  return"
+    print $1
+    at_x = at_y = 0
+    $1 = ""
+    $0 = $0
+}
+
+NF && !shapes { refuse("no name") }
+
+{
+    for (i = 1; i <= NF && shapes; i++) {
+        z = $i ~ /^@/ ? 0 : intensity
+        if ($i ~ /^@?-?[0-9]+(\.[0-9]+)?,-?[0-9]+(\.[0-9]+)?$/) {
+            split(z ? $i : substr($i, 2), point, ",")
+            vector(point[1], point[2], z)
+        } else refuse("no point: '" $i "'")
+    }
+}
+
+END {
+    if (shapes) print "  return"
+    exit refused
+}

@@ -1,0 +1,67 @@
+//! A world, beside the image that it is reset to.
+ghost use Rattle.std.specs.Prelude.{◌≡◌, [], length, IfSome, MatchBool};
+ghost use Rattle.dvg_world.specs.Standing.{WorldAfter};
+ghost use Rattle.dvg_device.specs.Worlds.{WorldAnswers};
+
+use crate::happening::ask_world;
+use crate::reply::Reply;
+use crate::request::Request;
+use dvg_frame::Draft;
+use dvg_gen::Stroke;
+use dvg_mem::{Flat, Image, Rom};
+use dvg_world::World;
+use std::alloc::Global;
+use std::marker::Model;
+
+/// A world, and room for the image of a reset of the whole system, so that no such reset takes memory.
+#[derive(Drop)]
+pub(crate) struct Cabinet {
+    world: World<Flat>,
+    image: Image,
+}
+
+/// Contracts see the world.
+impl Model for Cabinet {
+    ghost use Rattle.dvg_world.specs.Standing.{State};
+
+    ghost Value = { State };
+
+    ghost view = { λ cabinet. cabinet.world };
+}
+
+impl Cabinet {
+    // A world over a ROM of these bytes, with this first image of its RAM. None for want of memory.
+    pub(crate) fn new(alloc: Global, image: &[u8], rom: &[u8]) -> Option<Cabinet>
+        ensures { IfSome result (λ cabinet. WorldAfter rom.now image.now [] cabinet) }
+    {
+        let image = Image::new(alloc, image).ok()?;
+        let rom = Rom::new(alloc, rom).ok()?;
+        let world = World::new(alloc, rom, &image).ok()?;
+        Some(Cabinet { world, image })
+    }
+
+    // The world begins anew over a ROM of these bytes, with this first image. False for want of memory.
+    pub(crate) fn begin_anew(&mut self, alloc: Global, image: &[u8], rom: &[u8]) -> bool
+        requires { length image.now ≡ 2048 }
+        ensures { MatchBool result (WorldAfter rom.now image.now [] self.new) (Unit {0}) }
+    {
+        self.image.copy_from(image);
+        self.world.begin_anew(alloc, rom, &self.image).is_ok()
+    }
+
+    // Asks the world, with this draft and these staged bytes. The strokes are those of the newest run that came to a
+    // HALT.
+    #[inline(always)]
+    pub(crate) fn ask(
+        &mut self,
+        request: Request,
+        draft: &Draft,
+        staged: &[u8],
+        picture: &mut Vec<Stroke>,
+    ) -> Reply
+        ensures { WorldAnswers draft.now staged.now request self.old self.new picture.old.items picture.new.items result }
+    {
+        let image = &mut self.image;
+        ask_world(&mut self.world, image, request, draft, staged, picture)
+    }
+}

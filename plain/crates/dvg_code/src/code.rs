@@ -1,0 +1,47 @@
+//! Instructions in range.
+use crate::instr::Instr;
+
+/// An instruction whose fields are all in range, so that words spell it.
+#[derive(Clone, Copy, Debug, PartialEq, Eq)]
+pub struct Code {
+    instr: Instr,
+}
+
+impl Code {
+    /// The instruction, or None where a field is out of its range.
+    pub fn new(instr: Instr) -> Option<Code> {
+        if is_in_range(instr) {
+            Some(Code { instr })
+        } else {
+            None
+        }
+    }
+
+    /// The instruction, of which the caller knows that it is in range.
+    pub fn within(instr: Instr) -> Code {
+        Code { instr }
+    }
+
+    /// The instruction, which is in range.
+    pub fn instr(&self) -> Instr {
+        self.instr
+    }
+}
+
+// Whether each field is in range.
+fn is_in_range(instr: Instr) -> bool {
+    match instr {
+        Instr::Vctr { scale, dx, dy, z } => scale <= 9 && is_move(1023, dx, dy, z),
+        Instr::Labs { x, y, scale } => x <= 4095 && y <= 4095 && scale <= 15,
+        Instr::Jsrl(address) | Instr::Jmpl(address) => address <= 4095,
+        Instr::Halt | Instr::Rtsl => true,
+        Instr::Svec { scale, dx, dy, z } => {
+            2 <= scale && scale <= 5 && is_move(3, i16::from(dx), i16::from(dy), z)
+        }
+    }
+}
+
+// Whether a vector's moves are at most so large, and its intensity has four bits.
+fn is_move(most: u16, dx: i16, dy: i16, z: u8) -> bool {
+    dx.unsigned_abs() <= most && dy.unsigned_abs() <= most && z <= 15
+}

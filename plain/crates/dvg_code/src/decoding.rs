@@ -1,0 +1,108 @@
+//! From words to instructions.
+use crate::code::Code;
+use crate::instr::Instr;
+use thiserror::Error;
+
+/// Why words begin with no instruction.
+#[derive(Clone, Copy, Debug, PartialEq, Eq, Error)]
+pub enum CodeFault {
+    /// There is no word.
+    #[error("there is no word")]
+    Empty,
+    /// There is exactly one word, of opcode 0 to A: its second word is missing.
+    #[error("the second word is missing")]
+    Cut,
+}
+
+// So many bits of a word, from this one up.
+fn bits(word: u16, from: u32, count: u32) -> u16 {
+    (word >> from) & ((1 << count) - 1)
+}
+
+// A number by its sign bit and its magnitude.
+fn signed(sign: u16, magnitude: u16) -> i16 {
+    if sign == 0 {
+        magnitude as i16
+    } else {
+        -(magnitude as i16)
+    }
+}
+
+// What two words spell, of which the first has an opcode of 0 to 9.
+fn read_vctr(first: u16, second: u16) -> Code {
+    let dy = signed(bits(first, 10, 1), bits(first, 0, 10));
+    let dx = signed(bits(second, 10, 1), bits(second, 0, 10));
+    Code::within(Instr::Vctr {
+        scale: bits(first, 12, 4) as u8,
+        dx,
+        dy,
+        z: bits(second, 12, 4) as u8,
+    })
+}
+
+// What two words spell, of which the first has the opcode A.
+fn read_labs(first: u16, second: u16) -> Code {
+    Code::within(Instr::Labs {
+        x: bits(second, 0, 12),
+        y: bits(first, 0, 12),
+        scale: bits(second, 12, 4) as u8,
+    })
+}
+
+// What two words spell, of which the first has an opcode of 0 to A.
+fn read_two(first: u16, second: u16) -> Code {
+    if first < 0xA000 {
+        read_vctr(first, second)
+    } else {
+        read_labs(first, second)
+    }
+}
+
+// What a word of the opcode F spells.
+fn read_short(word: u16) -> Code {
+    let dy = signed(bits(word, 10, 1), bits(word, 8, 2));
+    let dx = signed(bits(word, 2, 1), bits(word, 0, 2));
+    let scale = 2 + 2 * bits(word, 3, 1) + bits(word, 11, 1);
+    Code::within(Instr::Svec {
+        scale: scale as u8,
+        dx: dx as i8,
+        dy: dy as i8,
+        z: bits(word, 4, 4) as u8,
+    })
+}
+
+// What a word of an opcode of B to F spells.
+fn read_one(word: u16) -> Code {
+    match bits(word, 12, 4) {
+        0xB => Code::within(Instr::Halt),
+        0xC => Code::within(Instr::Jsrl(bits(word, 0, 12))),
+        0xD => Code::within(Instr::Rtsl),
+        0xE => Code::within(Instr::Jmpl(bits(word, 0, 12))),
+        _ => read_short(word),
+    }
+}
+
+/// The instruction that the front of the words spells, and its number of words.
+///
+/// | Opcode | Instruction | Fields |
+/// |---|---|---|
+/// | 0 to 9 | VCTR | first word: local scale (the opcode), bit 10 sign and bits 9 to 0 magnitude of y; second word: bits 15 to 12 intensity, bit 10 sign and bits 9 to 0 magnitude of x |
+/// | A | LABS | first word: bits 11 to 0 y; second word: bits 15 to 12 global scale, bits 11 to 0 x |
+/// | B | HALT | |
+/// | C | JSRL | bits 11 to 0 word address |
+/// | D | RTSL | |
+/// | E | JMPL | bits 11 to 0 word address |
+/// | F | SVEC | bit 11 scale weight 1, bit 10 sign and bits 9 to 8 magnitude of y, bits 7 to 4 intensity, bit 3 scale weight 2, bit 2 sign and bits 1 to 0 magnitude of x |
+///
+/// A sign bit of 1 means negative: sign and magnitude, where minus zero reads as zero. Bit 11 of both
+/// words of a VCTR and bits 11 to 0 of HALT and RTSL are ignored (this project's own choice), so there
+/// are spellings that aren't canonical, and they are read all the same.
+#[inline(always)]
+pub fn decode(words: &[u16]) -> Result<(Code, usize), CodeFault> {
+    match words {
+        [] => Err(CodeFault::Empty),
+        [word, ..] if *word >= 0xB000 => Ok((read_one(*word), 1)),
+        [first, second, ..] => Ok((read_two(*first, *second), 2)),
+        [_] => Err(CodeFault::Cut),
+    }
+}

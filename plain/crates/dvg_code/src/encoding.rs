@@ -1,0 +1,68 @@
+//! From instructions to words.
+use crate::code::Code;
+use crate::decoding::decode;
+use crate::instr::Instr;
+use arrayvec::ArrayVec;
+
+/// The words of one instruction.
+pub type Words = ArrayVec<u16, 2>;
+
+// The sign bit that is written of a number.
+fn sign_of(n: i16) -> u16 {
+    if n < 0 { 1 } else { 0 }
+}
+
+// The word of four bits, a sign bit and a magnitude.
+fn long_word(top: u8, n: i16) -> u16 {
+    4096 * u16::from(top) + 1024 * sign_of(n) + n.unsigned_abs()
+}
+
+// The word of a short vector.
+fn short_word(scale: u8, dx: i8, dy: i8, z: u8) -> u16 {
+    let weights = u16::from(scale) - 2;
+    0xF000
+        + 2048 * (weights % 2)
+        + 1024 * sign_of(i16::from(dy))
+        + 256 * u16::from(dy.unsigned_abs())
+        + 16 * u16::from(z)
+        + 8 * (weights / 2)
+        + 4 * sign_of(i16::from(dx))
+        + u16::from(dx.unsigned_abs())
+}
+
+// One word.
+fn one_word(word: u16) -> Words {
+    let mut words = Words::new();
+    words.push(word);
+    words
+}
+
+// Two words.
+fn two_words(first: u16, second: u16) -> Words {
+    let mut words = Words::new();
+    words.push(first);
+    words.push(second);
+    words
+}
+
+/// The canonical words of an instruction: every ignored bit is 0, and so is the sign of a magnitude of
+/// zero (this project's own choice).
+pub fn encode(code: &Code) -> Words {
+    match code.instr() {
+        Instr::Vctr { scale, dx, dy, z } => two_words(long_word(scale, dy), long_word(z, dx)),
+        Instr::Labs { x, y, scale } => two_words(0xA000 + y, 4096 * u16::from(scale) + x),
+        Instr::Halt => one_word(0xB000),
+        Instr::Jsrl(address) => one_word(0xC000 + address),
+        Instr::Rtsl => one_word(0xD000),
+        Instr::Jmpl(address) => one_word(0xE000 + address),
+        Instr::Svec { scale, dx, dy, z } => one_word(short_word(scale, dx, dy, z)),
+    }
+}
+
+/// Whether the words are what `encode` writes of some instruction.
+pub fn is_canonical(words: &[u16]) -> bool {
+    match decode(words) {
+        Ok(read) => encode(&read.0).as_slice() == words,
+        Err(_) => false,
+    }
+}

@@ -1,0 +1,282 @@
+//! The device.
+use std::prelude::*;
+
+use crate::cabinet::Cabinet;
+use crate::desk::Desk;
+use crate::lone::ask_generator;
+use crate::operation::Operation;
+use crate::reply::Reply;
+use crate::request::Request;
+use dvg_frame::Draft;
+use dvg_gen::{Generator, Stroke};
+use dvg_mem::{MEMORY_BYTES, Rom};
+use std::alloc::Global;
+use std::mem;
+
+/// The most bytes that are staged: those of a RAM, and of the larger ROM.
+const MOST_STAGED: usize = 6144;
+
+/// What is open.
+pub(crate) enum Part {
+    Nothing,
+    World(Box<Cabinet>),
+    Driver(Box<Desk>),
+    Generator(Generator<Global>),
+}
+
+/// A device, in which a world, a driver alone or a generator alone may be open. It has a draft, which requests make and
+/// an offer hands to the driver; bytes that are staged for what is opened, and for a reset of the whole system; and the
+/// strokes of the newest run that came to a HALT.
+pub struct Device {
+    alloc: Global,
+    staged: Vec<u8>,
+    draft: Draft,
+    picture: Vec<Stroke>,
+    part: Part,
+    // Blocks of memory of what was open before, for what is opened next.
+    spare_world: Option<Box<Cabinet>>,
+    spare_desk: Option<Box<Desk>>,
+}
+
+impl Device {
+    /// A device in which nothing is open.
+    pub fn new(alloc: Global) -> Device {
+        Device {
+            alloc,
+            staged: Vec::new(alloc),
+            draft: Draft::new(),
+            picture: Vec::new(alloc),
+            part: Part::Nothing,
+            spare_world: None,
+            spare_desk: None,
+        }
+    }
+
+    /// One request, as a number of 64 bits, and its answer. `Request` says which requests there are, and `Reply` which
+    /// answers.
+    pub fn turn(&mut self, request: u64) -> u64 {
+        // Those that come most often go their way at once, so that what they bring stays in registers.
+        match request % 0x100 {
+            2 => self.ask(Request::of(request)).number(),
+            4 => self.ask(Request::of(request)).number(),
+            _ => self.answer(Request::of(request)).number(),
+        }
+    }
+
+    /// One request, and its answer.
+    #[inline(always)]
+    pub fn answer(&mut self, request: Request) -> Reply {
+        match request {
+            Request::Push(operation) => self.push(operation),
+            Request::ClearDraft => self.clear_draft(),
+            Request::Stage { byte, count } => self.stage(byte, count),
+            Request::Unstage => self.unstage(),
+            Request::OpenWorld => self.open_world(),
+            Request::OpenDriver => self.open_driver(),
+            Request::OpenGenerator => self.open_generator(),
+            Request::Close => self.close(),
+            Request::CountStrokes => Reply::Count(self.picture.len() as u64),
+            Request::StrokeFrom(i) => self.stroke_from(i),
+            Request::StrokeTo(i) => self.stroke_to(i),
+            Request::StrokeIntensity(i) => self.stroke_intensity(i),
+            _ => self.ask(request),
+        }
+    }
+
+    // Adds an operation to the draft.
+    fn push(&mut self, operation: Operation) -> Reply {
+        let Some(op) = operation.op() else {
+            return Reply::NoOperation;
+        };
+        match self.draft.push(op) {
+            Ok(i) => Reply::Pushed(i),
+            Err(_) => Reply::Full,
+        }
+    }
+
+    // Takes the operations of the draft away.
+    fn clear_draft(&mut self) -> Reply {
+        self.draft.clear();
+        Reply::Cleared
+    }
+
+    // Stages a byte so often.
+    fn stage(&mut self, byte: u8, count: u16) -> Reply {
+        let length = self.staged.len() + usize::from(count);
+        if MOST_STAGED < length {
+            return Reply::Full;
+        }
+        match self.staged.resize(length, byte) {
+            Ok(()) => Reply::Staged(length as u16),
+            Err(_) => Reply::NoMemory,
+        }
+    }
+
+    // Takes the staged bytes away, with their memory.
+    fn unstage(&mut self) -> Reply {
+        self.staged = Vec::new(self.alloc);
+        Reply::Cleared
+    }
+
+    // The memory of a world that was open before, if there is some.
+    fn take_spare_world(&mut self) -> Option<Box<Cabinet>> {
+        self.spare_world.take()
+    }
+
+    // The memory of a driver that was open before, if there is some.
+    fn take_spare_desk(&mut self) -> Option<Box<Desk>> {
+        self.spare_desk.take()
+    }
+
+    // Opens a world.
+    #[inline(never)]
+    fn open_world(&mut self) -> Reply {
+        if !is_one_of(self.staged.len(), 4096, 6144) {
+            return Reply::WrongSize;
+        }
+        let spare = self.take_spare_world();
+        match new_world(self.alloc, self.staged.as_slice(), spare) {
+            Some(world) => self.open(Part::World(world)),
+            None => Reply::NoMemory,
+        }
+    }
+
+    // Opens a driver.
+    #[inline(never)]
+    fn open_driver(&mut self) -> Reply {
+        if !is_one_of(self.staged.len(), 2048, 4096) {
+            return Reply::WrongSize;
+        }
+        let spare = self.take_spare_desk();
+        match new_desk(self.alloc, self.staged.as_slice(), spare) {
+            Some(desk) => self.open(Part::Driver(desk)),
+            None => Reply::NoMemory,
+        }
+    }
+
+    // Opens a generator.
+    fn open_generator(&mut self) -> Reply {
+        self.open(Part::Generator(Generator::new(self.alloc)))
+    }
+
+    // Opens this, in which nothing was drawn yet. The memory of what was open stays, for the next one of its kind.
+    fn open(&mut self, part: Part) -> Reply {
+        let before = mem::replace(&mut self.part, part);
+        self.keep(before);
+        self.picture = Vec::new(self.alloc);
+        Reply::Opened
+    }
+
+    // Keeps the memory of what was open.
+    fn keep(&mut self, before: Part) {
+        match before {
+            Part::World(world) => self.spare_world = Some(world),
+            Part::Driver(desk) => self.spare_desk = Some(desk),
+            Part::Nothing | Part::Generator(_) => {}
+        }
+    }
+
+    // Ends what is open, and gives its memory back.
+    #[inline(never)]
+    fn close(&mut self) -> Reply {
+        *self = Device::new(self.alloc);
+        Reply::Closed
+    }
+
+    // A stroke of the newest run that came to a HALT.
+    fn stroke(&self, i: u64) -> Option<Stroke> {
+        if i < self.picture.len() as u64 {
+            Some(self.picture[i as usize])
+        } else {
+            None
+        }
+    }
+
+    // Where a stroke begins.
+    fn stroke_from(&self, i: u64) -> Reply {
+        match self.stroke(i) {
+            Some(stroke) => Reply::Point(stroke.x0, stroke.y0),
+            None => Reply::Point(0, 0),
+        }
+    }
+
+    // Where a stroke ends.
+    fn stroke_to(&self, i: u64) -> Reply {
+        match self.stroke(i) {
+            Some(stroke) => Reply::Point(stroke.x1, stroke.y1),
+            None => Reply::Point(0, 0),
+        }
+    }
+
+    // A stroke's intensity.
+    fn stroke_intensity(&self, i: u64) -> Reply {
+        match self.stroke(i) {
+            Some(stroke) => Reply::Intensity(stroke.z),
+            None => Reply::Intensity(0),
+        }
+    }
+
+    // Asks what is open.
+    #[inline(always)]
+    fn ask(&mut self, request: Request) -> Reply {
+        match &mut self.part {
+            Part::Nothing => unopened(request),
+            Part::World(world) => {
+                let staged = self.staged.as_slice();
+                world.ask(request, &self.draft, staged, &mut self.picture)
+            }
+            Part::Driver(desk) => desk.ask(request, &self.draft),
+            Part::Generator(generator) => ask_generator(generator, request, &mut self.picture),
+        }
+    }
+}
+
+// What is answered where nothing is open.
+fn unopened(request: Request) -> Reply {
+    match request {
+        Request::Unknown => Reply::Unknown,
+        _ => Reply::Closed,
+    }
+}
+
+// Whether a number is one of two.
+fn is_one_of(n: usize, small: usize, large: usize) -> bool {
+    n == small || n == large
+}
+
+// A world over the ROM of the bytes after the first 2,048, with those as the first image of its RAM, in this memory where
+// there is some. None for want of memory.
+fn new_world(alloc: Global, staged: &[u8], spare: Option<Box<Cabinet>>) -> Option<Box<Cabinet>> {
+    let (image, rom) = staged.split_at_checked(MEMORY_BYTES)?;
+    let Some(mut world) = spare else {
+        return Box::new(alloc, Cabinet::new(alloc, image, rom)?).ok();
+    };
+    if world.begin_anew(alloc, image, rom) {
+        Some(world)
+    } else {
+        None
+    }
+}
+
+// A driver alone over the ROM of these bytes, in this memory where there is some. None for want of memory.
+fn new_desk(alloc: Global, rom: &[u8], spare: Option<Box<Desk>>) -> Option<Box<Desk>> {
+    match spare {
+        Some(desk) => renewed_desk(alloc, rom, desk),
+        None => boxed_desk(alloc, rom),
+    }
+}
+
+// The same in the memory of this one.
+fn renewed_desk(alloc: Global, rom: &[u8], mut desk: Box<Desk>) -> Option<Box<Desk>> {
+    match desk.begin_anew(alloc, rom) {
+        Ok(()) => Some(desk),
+        Err(_) => None,
+    }
+}
+
+// The same in new memory.
+fn boxed_desk(alloc: Global, rom: &[u8]) -> Option<Box<Desk>> {
+    let rom = Rom::new(alloc, rom).ok()?;
+    let desk = Desk::new(alloc, rom).ok()?;
+    Box::new(alloc, desk).ok()
+}

@@ -1,0 +1,50 @@
+//! What happens in a world.
+use std::prelude::*;
+
+use crate::reply::{Reply, told};
+use crate::request::Request;
+use dvg_frame::Draft;
+use dvg_gen::Stroke;
+use dvg_mem::{Flat, Image, MEMORY_BYTES};
+use dvg_world::World;
+
+// Asks a world, with this draft and these staged bytes. The strokes are those of the newest run that came to a HALT. The
+// image is the room for that of a reset of the whole system.
+#[inline(always)]
+pub(crate) fn ask_world(
+    world: &mut World<Flat>,
+    image: &mut Image,
+    request: Request,
+    draft: &Draft,
+    staged: &[u8],
+    picture: &mut Vec<Stroke>,
+) -> Reply {
+    match request {
+        Request::Offer => told(world.offer(draft), picture),
+        Request::Redraw => told(world.redraw(), picture),
+        Request::Tick { .. } => told(world.tick(), picture),
+        Request::Strobe => told(world.strobe(), picture),
+        Request::Fetch(_) => match world.fetch() {
+            Ok(entry) => told(entry, picture),
+            Err(_) => Reply::NoMemory,
+        },
+        Request::ResetGenerator => told(world.reset_generator(), picture),
+        Request::ResetProcessor => told(world.reset_processor(), picture),
+        Request::ResetAll => reset_all(world, image, staged, picture),
+        _ => Reply::Unknown,
+    }
+}
+
+// Resets the whole system, where the staged bytes are those of an image.
+fn reset_all(
+    world: &mut World<Flat>,
+    image: &mut Image,
+    staged: &[u8],
+    picture: &mut Vec<Stroke>,
+) -> Reply {
+    if staged.len() != MEMORY_BYTES {
+        return Reply::WrongSize;
+    }
+    image.copy_from(staged);
+    told(world.reset_all(image), picture)
+}

@@ -1,0 +1,51 @@
+//! A generator alone.
+use std::prelude::*;
+
+use crate::reply::{Reply, told};
+use crate::request::Request;
+use dvg_gen::{Generator, Stroke};
+use dvg_world::Entry;
+use std::alloc::Global;
+
+// Asks a generator. The strokes are those of the newest run that came to a HALT.
+#[inline(always)]
+pub(crate) fn ask_generator(
+    generator: &mut Generator<Global>,
+    request: Request,
+    picture: &mut Vec<Stroke>,
+) -> Reply {
+    match request {
+        Request::Strobe => {
+            generator.start();
+            Reply::Started
+        }
+        Request::ResetGenerator => {
+            generator.reset();
+            Reply::Cleared
+        }
+        Request::Wants => wanted(generator),
+        Request::Fetch(byte) => fetch(generator, byte, picture),
+        _ => Reply::Unknown,
+    }
+}
+
+// Which byte it wants.
+fn wanted(generator: &Generator<Global>) -> Reply {
+    match generator.wants() {
+        Some(address) => Reply::Wants(address, generator.wants_high()),
+        None => Reply::Still,
+    }
+}
+
+// Hands it a byte, or a hole.
+#[inline(always)]
+fn fetch(generator: &mut Generator<Global>, byte: Option<u8>, picture: &mut Vec<Stroke>) -> Reply {
+    let Some(address) = generator.wants() else {
+        return Reply::Still;
+    };
+    let low = generator.low_byte();
+    match generator.take_byte(byte) {
+        Ok(taken) => told(Entry::of_fetch(address, low, byte, taken), picture),
+        Err(_) => Reply::NoMemory,
+    }
+}

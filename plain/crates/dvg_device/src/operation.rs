@@ -1,0 +1,85 @@
+//! Operations of drafts, by plain numbers.
+use dvg_code::{Code, Instr};
+use dvg_frame::{Op, OpKind};
+
+/// An operation of a draft by plain numbers, in range or not.
+///
+/// | kind | operation | what counts |
+/// |---|---|---|
+/// | 0 | VCTR | `scale`, `x` and `y` by two's complement, `z` |
+/// | 1 | SVEC | `scale`, `x` and `y` by two's complement, `z` |
+/// | 2 | LABS | `x`, `y`, `scale` |
+/// | 3, 4 | call, jump | `x`, the number of an operation of the draft |
+/// | 5, 6 | call, jump into the ROM | `x`, a word address |
+/// | 7, 8 | return, halt | |
+#[derive(Clone, Copy, Debug, PartialEq, Eq)]
+pub struct Operation {
+    /// Which operation, 0 to 8.
+    pub kind: u8,
+    /// A vector's local scale, or the global scale of a LABS.
+    pub scale: u8,
+    /// A vector's intensity.
+    pub z: u8,
+    /// A move or a position along x, the number of an operation, or a word address.
+    pub x: u16,
+    /// A move or a position along y.
+    pub y: u16,
+}
+
+impl Operation {
+    /// The operation. None exactly where the kind is over 8, or a field that counts is out of its range.
+    pub fn op(self) -> Option<Op> {
+        match self.kind {
+            0 => drawing(self.vctr()),
+            1 => self.svec(),
+            2 => drawing(self.labs()),
+            3 => Op::new(OpKind::Call(self.x)),
+            4 => Op::new(OpKind::Jump(self.x)),
+            5 => Op::new(OpKind::CallRom(self.x)),
+            6 => Op::new(OpKind::JumpRom(self.x)),
+            7 => Op::new(OpKind::Return),
+            8 => Op::new(OpKind::Halt),
+            _ => None,
+        }
+    }
+
+    // The fields as those of a VCTR.
+    fn vctr(self) -> Instr {
+        Instr::Vctr {
+            scale: self.scale,
+            dx: self.x.cast_signed(),
+            dy: self.y.cast_signed(),
+            z: self.z,
+        }
+    }
+
+    // The fields as those of a LABS.
+    fn labs(self) -> Instr {
+        Instr::Labs {
+            x: self.x,
+            y: self.y,
+            scale: self.scale,
+        }
+    }
+
+    // An SVEC of the fields, where they are in range.
+    fn svec(self) -> Option<Op> {
+        let (Ok(dx), Ok(dy)) = (
+            i8::try_from(self.x.cast_signed()),
+            i8::try_from(self.y.cast_signed()),
+        ) else {
+            return None;
+        };
+        drawing(Instr::Svec {
+            scale: self.scale,
+            dx,
+            dy,
+            z: self.z,
+        })
+    }
+}
+
+// The operation that draws by an instruction, where a draft may hold it.
+fn drawing(instr: Instr) -> Option<Op> {
+    Op::new(OpKind::Draw(Code::new(instr)?))
+}

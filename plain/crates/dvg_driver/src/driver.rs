@@ -1,0 +1,173 @@
+//! The driver.
+use crate::action::Action;
+use crate::fault::DriverFault;
+use dvg_frame::{Checked, Cursor, Frame};
+use dvg_mem::Half;
+
+/// How far the driver is. What it writes of a frame stands beside it, so that a change of the phase moves
+/// no frame.
+#[derive(Clone, Copy)]
+enum Phase {
+    /// It has done nothing since its reset.
+    Start,
+    /// It waits for the first time until the generator is halted.
+    Booting,
+    /// It is idle.
+    Resting,
+    /// It writes a frame into the free half, and then word zero.
+    Writing,
+    /// It has written byte 000, and flips next.
+    Flipping,
+    /// It waits until the generator is halted.
+    Waiting,
+    /// It sends the strobe next.
+    Sending,
+}
+
+/// The driver of the vector generator, from one reset to the next and beyond. It keeps one frame at most,
+/// while it writes it.
+pub struct Driver {
+    phase: Phase,
+    /// The bytes of the newest frame. They count only while the driver writes.
+    cursor: Option<Cursor>,
+    /// The current half, once the driver has looked at byte 001.
+    half: Half,
+    /// Whether it has flipped since its reset.
+    flipped: bool,
+}
+
+impl Driver {
+    /// A driver that was just reset.
+    pub fn new() -> Driver {
+        Driver {
+            phase: Phase::Start,
+            cursor: None,
+            half: Half::H0,
+            flipped: false,
+        }
+    }
+
+    /// Forgets everything, also a frame that is being written.
+    pub fn reset(&mut self) {
+        // The half and the cursor count no more: the peek and the next frame set them.
+        self.phase = Phase::Start;
+        self.flipped = false;
+    }
+
+    /// Whether it is idle, so that it would take a frame.
+    pub fn is_idle(&self) -> bool {
+        match self.phase {
+            Phase::Resting => true,
+            _ => false,
+        }
+    }
+
+    /// Takes a frame, which the next ticks write into the free half and publish. It is refused exactly
+    /// where the driver isn't idle; the frame is dropped then, and nothing else has changed.
+    pub fn offer(&mut self, frame: Frame) -> Result<(), DriverFault> {
+        match self.phase {
+            Phase::Resting => {
+                self.cursor = Some(Cursor::new(frame, self.half.other()));
+                self.phase = Phase::Writing;
+                Ok(())
+            }
+            _ => Err(DriverFault::Busy),
+        }
+    }
+
+    /// Takes a checked draft, as `offer` takes its frame. It is copied only where it is taken, into the memory
+    /// that the driver has.
+    pub fn offer_checked(&mut self, checked: &Checked) -> Result<(), DriverFault> {
+        match self.phase {
+            Phase::Resting => {
+                begin(&mut self.cursor, checked, self.half.other());
+                self.phase = Phase::Writing;
+                Ok(())
+            }
+            _ => Err(DriverFault::Busy),
+        }
+    }
+
+    /// Asks for the published frame once more. It is refused as `NothingPublished` exactly where the
+    /// driver hasn't flipped since its reset, and else as `Busy` exactly where it isn't idle. Nothing has
+    /// changed then.
+    pub fn redraw(&mut self) -> Result<(), DriverFault> {
+        if !self.flipped {
+            return Err(DriverFault::NothingPublished);
+        }
+        match self.phase {
+            Phase::Resting => {
+                self.phase = Phase::Waiting;
+                Ok(())
+            }
+            _ => Err(DriverFault::Busy),
+        }
+    }
+
+    /// Does the next action of the script. `halted` is the HALT flag, and `byte1` is byte 001 of the RAM;
+    /// what isn't read has no effect. A `Wrote` is for the caller to do, and so is a `Sent`.
+    pub fn tick(&mut self, halted: bool, byte1: u8) -> Action {
+        self.act(halted, byte1)
+    }
+
+    // Does the next action.
+    fn act(&mut self, halted: bool, byte1: u8) -> Action {
+        match self.phase {
+            Phase::Start => {
+                self.half = Half::of_high(byte1);
+                self.phase = Phase::Booting;
+                Action::Peek
+            }
+            Phase::Booting => {
+                if halted {
+                    self.phase = Phase::Resting;
+                }
+                Action::Read(halted)
+            }
+            Phase::Resting => Action::Idle,
+            Phase::Writing => match next_of(&mut self.cursor) {
+                Some((address, byte)) => Action::Wrote(address, byte),
+                None if self.flipped => self.flip(),
+                None => {
+                    self.phase = Phase::Flipping;
+                    Action::Wrote(0, 0x01)
+                }
+            },
+            Phase::Flipping => self.flip(),
+            Phase::Waiting => {
+                if halted {
+                    self.phase = Phase::Sending;
+                }
+                Action::Read(halted)
+            }
+            Phase::Sending => {
+                self.phase = Phase::Resting;
+                Action::Sent
+            }
+        }
+    }
+
+    // Publishes the frame in the free half, which is the current one from now on.
+    fn flip(&mut self) -> Action {
+        self.half = self.half.other();
+        self.flipped = true;
+        self.phase = Phase::Waiting;
+        Action::Wrote(1, self.half.high())
+    }
+}
+
+// Begins a cursor over the bytes of a checked draft's frame.
+fn begin(cursor: &mut Option<Cursor>, checked: &Checked, half: Half) {
+    match cursor {
+        Some(cursor) => cursor.restart(checked, half),
+        None => *cursor = Some(Cursor::new(checked.to_frame(), half)),
+    }
+}
+
+// The next byte, if one is still to come, with its address.
+fn next_of(cursor: &mut Option<Cursor>) -> Option<(u16, u8)> {
+    match cursor {
+        Some(cursor) => cursor.next(),
+        None => None,
+    }
+}

@@ -1,0 +1,96 @@
+//! Runs over dumps.
+use std::prelude::*;
+
+use crate::dump::Dump;
+use crate::ending::Ending;
+use crate::ran::Ran;
+use crate::tracer::Tracer;
+use dvg_code::OutOfMemory;
+use dvg_gen::{Generator, Taken};
+use dvg_mem::fetch;
+use std::alloc::{Allocator, Global};
+
+/// The most words that a run is followed (this project's own choice): all that an address of 12 bits names, sixteen times.
+pub const MOST_WORDS: u32 = 65_536;
+
+/// A run: its instructions, and how it ends.
+#[derive(Debug)]
+pub struct Traced<A: Allocator = Global> {
+    /// The instructions, in the order in which they were run. One that broke the run is the last.
+    pub ran: Vec<Ran, A>,
+    /// How the run ends.
+    pub ending: Ending<A>,
+}
+
+// The generator takes a word, its low byte first, or a hole.
+fn take_word<A: Allocator + Copy>(
+    generator: &mut Generator<A>,
+    word: Option<u16>,
+) -> Result<Taken<A>, OutOfMemory> {
+    let Some(word) = word else {
+        return generator.take_byte(None);
+    };
+    let [low, high] = word.to_le_bytes();
+    let Taken::Low = generator.take_byte(Some(low))? else {
+        unreachable!()
+    };
+    generator.take_byte(Some(high))
+}
+
+impl<A: Allocator + Copy> Dump<A> {
+    /// The run of a new generator over this memory, and how it ends.
+    ///
+    /// An error is want of memory, of which the strokes take some, one by one. A run that draws none is never refused.
+    pub fn run(&self) -> Result<Ending<A>, OutOfMemory> {
+        Ok(self.run_telling(false)?.ending)
+    }
+
+    /// The same run, with the instructions that were run. These take memory, too.
+    pub fn run_traced(&self) -> Result<Traced<A>, OutOfMemory> {
+        self.run_telling(true)
+    }
+
+    /// The same run, with the instructions that were run where that is asked for, and else with none.
+    pub fn run_telling(&self, traces: bool) -> Result<Traced<A>, OutOfMemory> {
+        let mut tracer = Tracer::new(self.alloc, traces);
+        let ending = self.run_beside(&mut tracer)?;
+        Ok(Traced {
+            ran: tracer.into_ran(),
+            ending,
+        })
+    }
+
+    // How the run ends, of which the tracer is told.
+    fn run_beside(&self, tracer: &mut Tracer<A>) -> Result<Ending<A>, OutOfMemory> {
+        let mut generator = Generator::new(self.alloc);
+        generator.start();
+        for words in 0..MOST_WORDS {
+            let Some(address) = generator.wants() else {
+                unreachable!()
+            };
+            match self.step(address, &mut generator, tracer)? {
+                Taken::Low | Taken::Word => {}
+                Taken::Done(strokes) => {
+                    return Ok(Ending::Finished {
+                        words: words + 1,
+                        strokes,
+                    });
+                }
+                Taken::Broke(fault) => return Ok(Ending::Broke { address, fault }),
+            }
+        }
+        Ok(Ending::Endless)
+    }
+
+    // The generator takes the word at an address, and the tracer is told of it.
+    fn step(
+        &self,
+        address: u16,
+        generator: &mut Generator<A>,
+        tracer: &mut Tracer<A>,
+    ) -> Result<Taken<A>, OutOfMemory> {
+        let word = fetch(&self.ram, &self.rom, address);
+        tracer.take(address, word)?;
+        take_word(generator, word)
+    }
+}

@@ -1,0 +1,53 @@
+//! Drafts with the places of their operations.
+use crate::draft::{Draft, MAX_OPS, words_of};
+use crate::op::Op;
+use arrayvec::ArrayVec;
+
+/// One entry for each operation, and one for their end.
+pub(crate) const COUNTS: usize = MAX_OPS + 1;
+
+/// A draft and a table of how many words stand before each operation, both borrowed, so that the place of an operation
+/// is found in constant time.
+pub(crate) struct Counted<'a> {
+    draft: &'a Draft,
+    /// How many words the operations before each one have, and then how many all have.
+    words_before: &'a [u16],
+}
+
+impl<'a> Counted<'a> {
+    // A draft with its table.
+    pub(crate) fn of(draft: &'a Draft, words_before: &'a [u16]) -> Counted<'a> {
+        Counted {
+            draft,
+            words_before,
+        }
+    }
+
+    // How many operations there are.
+    pub(crate) fn len(&self) -> usize {
+        self.draft.len()
+    }
+
+    // The operation of this number.
+    pub(crate) fn op(&self, i: usize) -> Op {
+        self.draft.op(i)
+    }
+
+    // How many words the operations before this number have.
+    pub(crate) fn words_before(&self, i: usize) -> u16 {
+        let _ = self.draft.len();
+        self.words_before[i]
+    }
+}
+
+// How many words stand before each operation, and how many there are in all.
+pub(crate) fn words_before_each(draft: &Draft) -> ArrayVec<u16, COUNTS> {
+    let mut words_before = ArrayVec::new();
+    let mut words = 0;
+    words_before.push(words);
+    for op in draft.ops() {
+        words += words_of(op.kind());
+        words_before.push(words);
+    }
+    words_before
+}

@@ -1,0 +1,53 @@
+//! What is wrong at a pair of place and depth.
+use crate::draft::Draft;
+use crate::pair::{DEEPEST, Pair};
+use crate::place::{FrameFault, Place};
+use crate::way::{Way, way_at};
+use dvg_mem::Rom;
+use std::alloc::Allocator;
+
+// The operation at a place, if it is the last one of so many.
+fn last_op(count: usize, place: Place) -> Option<u16> {
+    match place {
+        Place::InFrame(i) => {
+            if usize::from(i) + 1 == count {
+                Some(i)
+            } else {
+                None
+            }
+        }
+        Place::InRom(_) => None,
+    }
+}
+
+// The fault at a pair among so many operations, where this is the way on: that of least number.
+#[inline(always)]
+fn fault_at<A: Allocator>(rom: &Rom<A>, count: usize, pair: Pair, seen: Way) -> Option<FrameFault> {
+    if seen.goes_on() {
+        if let Some(i) = last_op(count, pair.place) {
+            return Some(FrameFault::RunsOff(i));
+        }
+    }
+    if seen.leads_outside(rom) {
+        return Some(FrameFault::OutOfRom(pair.place));
+    }
+    if seen.is_call() && pair.depth == DEEPEST {
+        return Some(FrameFault::TooDeep(pair.place));
+    }
+    if seen.is_return() && pair.depth == 0 {
+        return Some(FrameFault::NoCaller(pair.place));
+    }
+    None
+}
+
+// The way on from a pair without a fault, or the fault of least number there.
+#[inline(always)]
+pub(crate) fn look<A: Allocator>(draft: &Draft, rom: &Rom<A>, pair: Pair) -> Result<Way, FrameFault> {
+    match way_at(draft, rom, pair.place) {
+        Some(seen) => match fault_at(rom, draft.len(), pair, seen) {
+            Some(fault) => Err(fault),
+            None => Ok(seen),
+        },
+        None => Err(FrameFault::OutOfRom(pair.place)),
+    }
+}

@@ -1,0 +1,70 @@
+//! The sweep over all pairs that a draft's run can come to.
+use crate::draft::Draft;
+use crate::faults::look;
+use crate::pair::{DEEPEST, Pair, index_of};
+use crate::place::FrameFault;
+use crate::way::Way;
+use crate::worklist::Worklist;
+use dvg_mem::Rom;
+use std::alloc::Allocator;
+
+/// A pair that has a fault, and the fault of least number there.
+#[derive(Clone, Copy)]
+pub(crate) struct Found {
+    pub(crate) pair: Pair,
+    pub(crate) fault: FrameFault,
+}
+
+// Adds the pairs that a way leads to from this depth.
+fn spread(list: &mut Worklist, way: Way, depth: u8) {
+    match way {
+        Way::Move(next, _) | Way::Jump(next) => list.add(Pair { place: next, depth }),
+        Way::Call(target, after) => {
+            let inside = Pair {
+                place: target,
+                depth: depth + 1,
+            };
+            let behind = Pair {
+                place: after,
+                depth,
+            };
+            list.add(inside);
+            list.add(behind);
+        }
+        Way::Return | Way::Halt => {}
+    }
+}
+
+// The one that comes first.
+fn first_of(best: Option<Found>, found: Found) -> Found {
+    match best {
+        Some(old) => {
+            if index_of(old.pair) < index_of(found.pair) {
+                old
+            } else {
+                found
+            }
+        }
+        None => found,
+    }
+}
+
+/// The first reached pair that has a fault, with that of least number there. The list has no pair at first,
+/// and the reached ones at the end.
+///
+/// Each pair is looked at once, when its turn comes in a list without doubles, so the time is linear in
+/// the number of reached pairs.
+pub(crate) fn sweep<A: Allocator>(list: &mut Worklist, draft: &Draft, rom: &Rom<A>) -> Option<Found> {
+    list.add(Pair::default());
+    let mut best = None;
+    let mut done = 0;
+    while done < list.len() {
+        let pair = list.at(done);
+        match look(draft, rom, pair) {
+            Ok(way) => spread(list, way, pair.depth),
+            Err(fault) => best = Some(first_of(best, Found { pair, fault })),
+        }
+        done += 1;
+    }
+    best
+}

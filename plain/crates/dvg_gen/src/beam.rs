@@ -1,0 +1,83 @@
+//! The beam, and what an instruction does to it.
+use crate::stroke::Stroke;
+use dvg_code::{Code, Instr};
+
+// How many positions there are along x, and along y: 4,096 screen units of 512 each.
+const CIRCLE: u32 = 2_097_152;
+
+/// Where the beam stands, in 1/512 of a screen unit, and the global scale.
+///
+/// Positions are exact, and go round: past the edge at 4,096 units the beam comes in at the other one.
+/// Nothing is rounded or clipped (this project's own choice).
+#[derive(Clone, Copy, Debug, PartialEq, Eq)]
+pub struct Beam {
+    /// The position along x, below 2,097,152.
+    pub x: u32,
+    /// The position along y, below 2,097,152.
+    pub y: u32,
+    /// The global scale, 0 to 15.
+    pub scale: u8,
+}
+
+impl Beam {
+    /// The beam that LABS leaves: at this position in screen units, 0 to 4095, with this global scale,
+    /// 0 to 15.
+    pub fn place(x: u16, y: u16, scale: u8) -> Beam {
+        Beam {
+            x: 512 * u32::from(x),
+            y: 512 * u32::from(y),
+            scale,
+        }
+    }
+
+    /// Moves the beam by an instruction, and answers the stroke that it draws, if any.
+    ///
+    /// The effective scale is the sum of the global and the local scale, modulo 16. At 0 to 9 it doubles
+    /// a move so many times; 10 to 15 move the beam by nothing (this project's own choice). A vector of
+    /// intensity 1 to 15 draws one stroke, also where it moves by nothing. Instructions other than
+    /// LABS, VCTR and SVEC leave the beam as it is.
+    #[inline(always)]
+    pub fn step(&mut self, code: &Code) -> Option<Stroke> {
+        match code.instr() {
+            Instr::Vctr { scale, dx, dy, z } => self.slide(dx, dy, unit(self.scale, scale), z),
+            Instr::Svec { scale, dx, dy, z } => {
+                let unit = 256 * unit(self.scale, scale);
+                self.slide(i16::from(dx), i16::from(dy), unit, z)
+            }
+            Instr::Labs { x, y, scale } => {
+                *self = Beam::place(x, y, scale);
+                None
+            }
+            Instr::Halt | Instr::Jsrl(_) | Instr::Rtsl | Instr::Jmpl(_) => None,
+        }
+    }
+
+    // Moves the beam so many units along each axis, and answers the stroke, unless it is blank.
+    fn slide(&mut self, dx: i16, dy: i16, unit: u32, z: u8) -> Option<Stroke> {
+        let (x0, y0) = (self.x, self.y);
+        self.x = shifted(x0, dx, unit);
+        self.y = shifted(y0, dy, unit);
+        if z == 0 {
+            return None;
+        }
+        Some(Stroke {
+            x0,
+            y0,
+            x1: self.x,
+            y1: self.y,
+            z,
+        })
+    }
+}
+
+// How far a magnitude of 1 moves the beam, at a global and a local scale.
+fn unit(global: u8, local: u8) -> u32 {
+    let effective = (global + local) % 16;
+    if effective <= 9 { 1 << effective } else { 0 }
+}
+
+// A position that was moved so many units, round the circle.
+fn shifted(from: u32, by: i16, unit: u32) -> u32 {
+    let moved = i64::from(from) + i64::from(by) * i64::from(unit);
+    moved.rem_euclid(i64::from(CIRCLE)) as u32
+}

@@ -1,0 +1,216 @@
+//! The generator.
+use std::prelude::*;
+
+use crate::beam::Beam;
+use crate::stroke::Stroke;
+use crate::taken::{GenFault, Taken};
+use arrayvec::ArrayVec;
+use dvg_code::{Code, Instr, OutOfMemory, decode};
+use std::alloc::Allocator;
+use std::mem;
+
+/// The vector generator, which is handed one byte a call: the low byte of a word, and then its high byte
+/// (this project's own choice).
+///
+/// A new one is halted, with the beam at 0, 0 and the global scale 0. Beam and scale are kept from run to
+/// run (this project's own choice).
+pub struct Generator<A: Allocator> {
+    alloc: A,
+    is_open: bool,
+    // Neither this nor the address lies at a multiple of four bytes, where the processor would be made to wait
+    // for it: each fetch reads them as the one before has written them. So this is no part of an `Option`.
+    has_low: bool,
+    // The address of the next word.
+    at: u16,
+    held: Option<u16>,
+    // The low byte of the next word, where `has_low`.
+    low: u8,
+    stack: ArrayVec<u16, 4>,
+    beam: Beam,
+    strokes: Vec<Stroke, A>,
+}
+
+impl<A: Allocator + Copy> Generator<A> {
+    /// A generator that was told nothing. Its strokes will be in memory of this allocator.
+    pub fn new(alloc: A) -> Generator<A> {
+        Generator {
+            alloc,
+            at: 0,
+            held: None,
+            has_low: false,
+            low: 0,
+            stack: ArrayVec::new(),
+            beam: Beam::place(0, 0, 0),
+            strokes: Vec::new(alloc),
+            is_open: false,
+        }
+    }
+
+    /// Begins a run at word zero, with no return address and no stroke. A run that was open is abandoned
+    /// with its strokes and its low byte (this project's own choice).
+    pub fn start(&mut self) {
+        self.reset();
+        self.at = 0;
+        self.held = None;
+        self.stack.clear();
+        self.is_open = true;
+    }
+
+    /// Halts. A run that was open is abandoned with its strokes and its low byte; the beam stays.
+    pub fn reset(&mut self) {
+        self.strokes.clear();
+        self.has_low = false; // The high byte never comes.
+        self.is_open = false;
+    }
+
+    /// Whether no run is open.
+    pub fn halted(&self) -> bool {
+        !self.is_open
+    }
+
+    /// The address of the next word, or None where the generator is halted.
+    pub fn wants(&self) -> Option<u16> {
+        (!self.halted()).then_some(self.at)
+    }
+
+    /// Whether the next byte is the high one of its word: the last fetch of the open run was of the low byte.
+    pub fn wants_high(&self) -> bool {
+        self.low_byte().is_some()
+    }
+
+    /// The low byte of the next word, where it was fetched and the high byte comes next.
+    #[inline(always)]
+    pub fn low_byte(&self) -> Option<u8> {
+        self.has_low.then_some(self.low)
+    }
+
+    /// Takes the low byte of the word at the address that `wants` gives, or its high byte where
+    /// `wants_high`; None where no memory answers there. After `Done` or `Broke` the generator is halted.
+    ///
+    /// An error is want of memory, and then nothing has changed. It comes only where a high byte completes
+    /// a vector with an intensity of at least 1.
+    #[inline(always)]
+    pub fn take_byte(&mut self, byte: Option<u8>) -> Result<Taken<A>, OutOfMemory> {
+        let Some(byte) = byte else {
+            return Ok(self.break_off(GenFault::Hole));
+        };
+        let Some(low) = self.low_byte() else {
+            self.low = byte;
+            self.has_low = true;
+            return Ok(Taken::Low);
+        };
+        self.take(u16::from_le_bytes([low, byte]))
+    }
+
+    // Takes a whole word.
+    #[inline(always)]
+    fn take(&mut self, word: u16) -> Result<Taken<A>, OutOfMemory> {
+        // The opcode says which instruction it is. To tell the decoded ones apart once more would take time.
+        if let Some(first) = self.held {
+            let code = of_two(first, word);
+            return if first < 0xA000 {
+                self.draw(code)
+            } else {
+                Ok(self.place(code))
+            };
+        }
+        if word < 0xB000 {
+            self.at = after(self.at);
+            self.held = Some(word);
+            self.has_low = false;
+            return Ok(Taken::Word);
+        }
+        match word >> 12 {
+            0xB => Ok(self.finish()),
+            0xC => Ok(self.call(word % 4096)),
+            0xD => Ok(self.come_back()),
+            0xE => Ok(self.jump(word % 4096)),
+            _ => self.draw(of_one(word)),
+        }
+    }
+
+    // Places the beam by a LABS.
+    #[inline(always)]
+    fn place(&mut self, code: Code) -> Taken<A> {
+        let Instr::Labs { x, y, scale } = code.instr() else {
+            unreachable!()
+        };
+        self.beam = Beam::place(x, y, scale);
+        self.jump(after(self.at))
+    }
+
+    // Draws a vector.
+    #[inline(always)]
+    fn draw(&mut self, code: Code) -> Result<Taken<A>, OutOfMemory> {
+        // Field by field: a copy of the whole would move its unused bytes too.
+        let Beam { x, y, scale } = self.beam;
+        let mut beam = Beam { x, y, scale };
+        if let Some(stroke) = beam.step(&code) {
+            self.strokes.push(stroke)?;
+        }
+        self.beam = beam;
+        Ok(self.jump(after(self.at)))
+    }
+
+    // Saves the address of the next word, and goes to another.
+    fn call(&mut self, address: u16) -> Taken<A> {
+        if self.stack.is_full() {
+            return self.break_off(GenFault::StackOver);
+        }
+        self.stack.push(after(self.at));
+        self.jump(address)
+    }
+
+    // Goes to the address that was saved last.
+    fn come_back(&mut self) -> Taken<A> {
+        match self.stack.pop() {
+            Some(address) => self.jump(address),
+            None => self.break_off(GenFault::StackUnder),
+        }
+    }
+
+    // Goes to an address, where the next instruction begins.
+    fn jump(&mut self, address: u16) -> Taken<A> {
+        self.at = address;
+        self.held = None;
+        self.has_low = false;
+        Taken::Word
+    }
+
+    // Ends the run, and hands its strokes out.
+    fn finish(&mut self) -> Taken<A> {
+        self.has_low = false;
+        self.is_open = false;
+        Taken::Done(mem::replace(&mut self.strokes, Vec::new(self.alloc)))
+    }
+
+    // Breaks the run.
+    fn break_off(&mut self, fault: GenFault) -> Taken<A> {
+        self.has_low = false;
+        self.is_open = false;
+        Taken::Broke(fault)
+    }
+}
+
+// The address one word on, where 000 comes after FFF.
+fn after(address: u16) -> u16 {
+    (address + 1) % 4096
+}
+
+// The instruction of one word.
+#[inline(always)]
+fn of_one(word: u16) -> Code {
+    match decode(&[word]) {
+        Ok(read) => read.0,
+        Err(_) => unreachable!(),
+    }
+}
+
+// The instruction of two words.
+#[inline(always)]
+fn of_two(first: u16, word: u16) -> Code {
+    match decode(&[first, word]) {
+        Ok(read) => read.0,
+        Err(_) => unreachable!(),
+    }
+}

@@ -1,0 +1,45 @@
+//! The generator's answers.
+use std::prelude::*;
+
+use crate::stroke::Stroke;
+use std::alloc::Allocator;
+use thiserror::Error;
+
+/// Why a run broke. That each of these stops the run is this project's own choice.
+#[derive(Clone, Copy, Debug, PartialEq, Eq, Error)]
+pub enum GenFault {
+    /// A call with four return addresses saved.
+    #[error("a call with four return addresses saved")]
+    StackOver,
+    /// A return with no return address saved.
+    #[error("a return with no return address saved")]
+    StackUnder,
+    /// A fetch where no memory answers.
+    #[error("a fetch where no memory answers")]
+    Hole,
+}
+
+impl GenFault {
+    /// The number by which texts and answers tell the fault: 1 to 3, in the order in which they are declared (this
+    /// project's own choice).
+    pub fn number(self) -> u8 {
+        match self {
+            GenFault::StackOver => 1,
+            GenFault::StackUnder => 2,
+            GenFault::Hole => 3,
+        }
+    }
+}
+
+/// What a fetch led to.
+#[derive(Debug)]
+pub enum Taken<A: Allocator> {
+    /// That was the low byte of a word, whose high byte comes next.
+    Low,
+    /// The word is complete, and the run goes on.
+    Word,
+    /// A HALT ended the run. These are its strokes, in the order drawn.
+    Done(Vec<Stroke, A>),
+    /// The run broke.
+    Broke(GenFault),
+}

@@ -1,0 +1,36 @@
+//! Why an engine stops.
+use dvg_code::OutOfMemory;
+use dvg_text::{TextFault, TraceFault};
+use thiserror::Error;
+
+/// Why an engine stopped. Its text is what `dvg` prints of it (this project's own choice).
+#[derive(Clone, Copy, Debug, PartialEq, Eq, Error)]
+pub enum ToolFault {
+    /// What was read is at fault.
+    #[error(transparent)]
+    Text(TextFault),
+    /// The reader failed.
+    #[error("read failed")]
+    Reader,
+    /// The writer failed.
+    #[error("write failed")]
+    Writer,
+    /// A growth was refused for want of memory.
+    #[error("out of memory")]
+    Memory,
+}
+
+impl From<OutOfMemory> for ToolFault {
+    fn from(_refused: OutOfMemory) -> ToolFault {
+        ToolFault::Memory
+    }
+}
+
+impl From<TraceFault> for ToolFault {
+    fn from(fault: TraceFault) -> ToolFault {
+        match fault {
+            TraceFault::Text(fault) => ToolFault::Text(fault),
+            TraceFault::Memory => ToolFault::Memory,
+        }
+    }
+}

@@ -1,0 +1,56 @@
+//! Whole reads and writes through watched devices.
+use std::prelude::*;
+
+use crate::fault::ToolFault;
+use crate::watched::{DeviceFailed, Watched};
+use dvg_code::{OutOfMemory, word_at};
+use std::alloc::Allocator;
+use std::io::{Read, Write};
+
+/// The most bytes that one read takes.
+const PIECE: usize = 8192;
+
+/// The bytes that a reader has left, or the first `most + 1` of them. It takes no more than those.
+pub fn read_up_to<A: Allocator, R: Read>(
+    alloc: A,
+    reader: &mut Watched<R>,
+    most: usize,
+) -> Result<Vec<u8, A>, ToolFault> {
+    let mut bytes = Vec::new(alloc);
+    let mut piece = [0u8; PIECE];
+    while bytes.len() <= most {
+        let room = (most + 1 - bytes.len()).min(PIECE);
+        let Ok(count) = reader.read(&mut piece[..room]) else {
+            return Err(ToolFault::Reader);
+        };
+        if count == 0 {
+            return Ok(bytes);
+        }
+        if bytes.extend_from_slice(&piece[..count]).is_err() {
+            return Err(ToolFault::Memory);
+        }
+    }
+    Ok(bytes)
+}
+
+/// The words of an even number of bytes.
+pub fn collect_words<A: Allocator>(alloc: A, bytes: &[u8]) -> Result<Vec<u16, A>, OutOfMemory> {
+    let mut words = Vec::new(alloc);
+    for k in 0..bytes.len() / 2 {
+        words.push(word_at(bytes, k))?;
+    }
+    Ok(words)
+}
+
+/// Writes the whole of a text, by as many writes as it takes. After a failure a beginning of it went
+/// out.
+pub fn write_whole<W: Write>(writer: &mut Watched<W>, text: &[u8]) -> Result<(), DeviceFailed> {
+    let mut rest = text;
+    while !rest.is_empty() {
+        let Ok(count) = writer.write(rest) else {
+            return Err(DeviceFailed);
+        };
+        rest = &rest[count..];
+    }
+    Ok(())
+}

@@ -1,0 +1,15 @@
+//! Lines that the program `dvg` writes, in memory: of instructions, ROMs, verdicts, entries, runs and strokes (all formats
+//! are this project's own choice). A line is written without taking memory.
+#![no_std]
+
+extern crate plain_std as std;
+
+mod line;
+mod log_line;
+mod log_verdict;
+mod run_line;
+mod verdict;
+
+pub use line::Line;
+pub use log_verdict::LogVerdict;
+pub use verdict::{BoundedVerdict, Verdict};

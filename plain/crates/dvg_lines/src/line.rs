@@ -1,0 +1,221 @@
+//! Lines of output, made without taking memory.
+use crate::verdict::{BoundedVerdict, Verdict};
+use arrayvec::ArrayVec;
+use dvg_code::{Code, Instr};
+use dvg_frame::{FrameFault, Place};
+use itoa::{Buffer, Integer};
+
+/// A line of output, of at most 64 bytes.
+pub struct Line {
+    bytes: ArrayVec<u8, 64>,
+}
+
+impl Line {
+    /// A line with no bytes.
+    pub fn new() -> Line {
+        Line {
+            bytes: ArrayVec::new(),
+        }
+    }
+
+    /// The bytes.
+    pub fn as_bytes(&self) -> &[u8] {
+        self.bytes.as_slice()
+    }
+
+    // Becomes a line with no bytes.
+    pub(crate) fn clear(&mut self) {
+        self.bytes.clear();
+    }
+
+    // Becomes a number in decimal.
+    pub(crate) fn become_number<I: Integer>(&mut self, n: I) {
+        self.bytes.clear();
+        self.text(Buffer::new().format(n).as_bytes());
+    }
+
+    // Appends a text.
+    pub(crate) fn text(&mut self, text: &[u8]) {
+        self.bytes.try_extend_from_slice(text).unwrap();
+    }
+
+    // Appends a space and a part of the line.
+    pub(crate) fn part(&mut self, part: &[u8]) {
+        self.text(b" ");
+        self.text(part);
+    }
+
+    // Appends a space and a number in decimal.
+    pub(crate) fn number<I: Integer>(&mut self, n: I) {
+        self.part(Buffer::new().format(n).as_bytes());
+    }
+
+    // Appends a hexadecimal digit in upper case.
+    fn hex_digit(&mut self, digit: usize) {
+        self.bytes.push(b"0123456789ABCDEF"[digit]);
+    }
+
+    // Appends a space and two hexadecimal digits.
+    pub(crate) fn hex_2(&mut self, byte: u8) {
+        let n = usize::from(byte);
+        self.text(b" ");
+        self.hex_digit(n / 16);
+        self.hex_digit(n % 16);
+    }
+
+    // Appends three hexadecimal digits.
+    pub(crate) fn hex_3(&mut self, n: usize) {
+        self.hex_digit(n / 256 % 16);
+        self.hex_digit(n / 16 % 16);
+        self.hex_digit(n % 16);
+    }
+
+    // Appends a space and four hexadecimal digits.
+    pub(crate) fn hex_4(&mut self, word: u16) {
+        let n = usize::from(word);
+        self.text(b" ");
+        self.hex_digit(n / 4096 % 16);
+        self.hex_3(n);
+    }
+
+    // Appends the name of a vector and its numbers.
+    fn vector(&mut self, name: &[u8], scale: u8, dx: i16, dy: i16, z: u8) {
+        self.part(name);
+        self.number(scale);
+        self.number(dx);
+        self.number(dy);
+        self.number(z);
+    }
+
+    // Appends the name of a LABS and its numbers.
+    fn labs(&mut self, x: u16, y: u16, scale: u8) {
+        self.part(b"LABS");
+        self.number(x);
+        self.number(y);
+        self.number(scale);
+    }
+
+    // Appends the name of an instruction and a word address.
+    pub(crate) fn with_address(&mut self, name: &[u8], address: u16) {
+        self.part(name);
+        self.text(b" ");
+        self.hex_3(usize::from(address));
+    }
+
+    // Appends the name of an instruction and its operands.
+    fn instr(&mut self, instr: Instr) {
+        match instr {
+            Instr::Vctr { scale, dx, dy, z } => self.vector(b"VCTR", scale, dx, dy, z),
+            Instr::Labs { x, y, scale } => self.labs(x, y, scale),
+            Instr::Halt => self.part(b"HALT"),
+            Instr::Jsrl(address) => self.with_address(b"JSRL", address),
+            Instr::Rtsl => self.part(b"RTSL"),
+            Instr::Jmpl(address) => self.with_address(b"JMPL", address),
+            Instr::Svec { scale, dx, dy, z } => {
+                self.vector(b"SVEC", scale, i16::from(dx), i16::from(dy), z)
+            }
+        }
+    }
+
+    // Appends a place: an operation's number, or a ROM word's address.
+    fn place(&mut self, place: Place) {
+        match place {
+            Place::InFrame(i) => {
+                self.part(b"op");
+                self.number(i);
+            }
+            Place::InRom(a) => self.with_address(b"word", a),
+        }
+    }
+
+    // Appends a fault's number and name, and a place.
+    fn fault_at(&mut self, name: &[u8], place: Place) {
+        self.part(name);
+        self.place(place);
+    }
+
+    // Appends a fault's number and name, and the number of an operation.
+    fn fault_of(&mut self, name: &[u8], i: u16) {
+        self.part(name);
+        self.number(i);
+    }
+
+    // Appends the parts of a fault's text.
+    pub(crate) fn fault(&mut self, fault: FrameFault) {
+        match fault {
+            FrameFault::Empty => self.part(b"1 empty"),
+            FrameFault::NoLabs => self.part(b"2 no labs"),
+            FrameFault::TooLong => self.part(b"3 too long"),
+            FrameFault::Target(i) => self.fault_of(b"4 target", i),
+            FrameFault::RunsOff(i) => self.fault_of(b"5 runs off", i),
+            FrameFault::OutOfRom(place) => self.fault_at(b"6 out of rom", place),
+            FrameFault::TooDeep(place) => self.fault_at(b"7 too deep", place),
+            FrameFault::NoCaller(place) => self.fault_at(b"8 no caller", place),
+            FrameFault::Loops => self.part(b"9 loops"),
+        }
+    }
+
+    // Becomes the place of an instruction, its name and operands, and a star where its words aren't canonical.
+    pub(crate) fn become_placed(&mut self, place: usize, code: &Code, canonical: bool) {
+        self.bytes.clear();
+        self.hex_3(place);
+        self.instr(code.instr());
+        if !canonical {
+            self.part(b"*");
+        }
+    }
+
+    /// Becomes the line that `list` writes of an instruction at a place, of words that are canonical or
+    /// not.
+    pub fn become_listed(&mut self, place: usize, code: &Code, canonical: bool) {
+        self.become_placed(place, code, canonical);
+        self.text(b"\n");
+    }
+
+    /// Becomes the ROM line of eight words, from an address on.
+    pub fn become_rom(&mut self, address: usize, words: &[u16]) {
+        self.bytes.clear();
+        self.text(b"rom ");
+        self.hex_3(address);
+        for word in words {
+            self.hex_4(*word);
+        }
+        self.text(b"\n");
+    }
+
+    /// Becomes the line that `check` writes of a verdict.
+    pub fn become_verdict(&mut self, verdict: Verdict) {
+        self.bytes.clear();
+        match verdict {
+            Verdict::Good(words) => {
+                self.text(b"ok");
+                self.number(words);
+                self.part(b"words");
+            }
+            Verdict::Refused(fault) => {
+                self.text(b"fault");
+                self.fault(fault);
+            }
+        }
+        self.text(b"\n");
+    }
+
+    /// Becomes the line that `check` writes of a verdict, with the bound of a good draft.
+    pub fn become_bounded(&mut self, verdict: BoundedVerdict) {
+        self.bytes.clear();
+        match verdict {
+            BoundedVerdict::Good { words, bound } => {
+                self.text(b"ok");
+                self.number(words);
+                self.part(b"words");
+                self.number(bound);
+                self.part(b"fetches");
+            }
+            BoundedVerdict::Refused(fault) => {
+                self.text(b"fault");
+                self.fault(fault);
+            }
+        }
+        self.text(b"\n");
+    }
+}

@@ -1,0 +1,13 @@
+//! Logs as texts, of any length and whoever's: what each line tells, and the engine that answers the first write that
+//! tears a picture (the format is this project's own choice). A log is read in pieces and takes no memory.
+#![no_std]
+
+extern crate plain_std as std;
+
+mod log_line;
+mod log_reading;
+mod tears;
+
+pub use dvg_lines::LogVerdict;
+pub use log_line::{LogLine, MOST_LINE_BYTES, read_log_line};
+pub use tears::torn;

@@ -1,0 +1,74 @@
+//! Lines of logs.
+use dvg_text::{hex, is_passed};
+
+/// The most bytes of a line, without its end (this project's own choice).
+pub const MOST_LINE_BYTES: usize = 64;
+
+/// What a line tells.
+#[derive(Clone, Copy, Debug, PartialEq, Eq)]
+pub enum LogLine {
+    /// Nothing, as it is passed over.
+    Passed,
+    /// A strobe began a run.
+    Started,
+    /// A fetch completed the word at this word address. This is the word, and the run goes on.
+    Fetched(u16, u16),
+    /// A fetch brought the low byte of the word at this word address.
+    Low(u16, u8),
+    /// The driver wrote this byte at this byte address of the RAM.
+    Wrote(u16, u8),
+    /// A fetch ended the run by a HALT.
+    Halted,
+    /// The generator was reset.
+    Reset,
+}
+
+/// What a line of a log tells. None exactly where it tells nothing that a line may: it is `started`, `fetched` with a
+/// word address and the word there, `low` with a word address and a byte, `wrote` with a byte address and the byte,
+/// `halted` or `reset`, one space between the parts; or it is passed over, as it is empty or begins with `#`. An
+/// address has three hexadecimal digits, a word four and a byte two, of either case. It has at most 64 bytes.
+pub fn read_log_line(line: &[u8]) -> Option<LogLine> {
+    if line.len() > MOST_LINE_BYTES {
+        return None;
+    }
+    if is_passed(line) {
+        return Some(LogLine::Passed);
+    }
+    row(line)
+}
+
+// What a line tells that isn't passed over.
+fn row(line: &[u8]) -> Option<LogLine> {
+    if let Some(rest) = line.strip_prefix(b"wrote ") {
+        let (address, byte) = numbers(rest, 2)?;
+        Some(LogLine::Wrote(address, byte as u8))
+    } else if let Some(rest) = line.strip_prefix(b"fetched ") {
+        let (address, word) = numbers(rest, 4)?;
+        Some(LogLine::Fetched(address, word))
+    } else if let Some(rest) = line.strip_prefix(b"low ") {
+        let (address, byte) = numbers(rest, 2)?;
+        Some(LogLine::Low(address, byte as u8))
+    } else {
+        bare(line)
+    }
+}
+
+// An address of three hexadecimal digits and a number of so many, with one space between them.
+fn numbers(bytes: &[u8], digits: usize) -> Option<(u16, u16)> {
+    if bytes.len() != 4 + digits || bytes[3] != b' ' {
+        return None;
+    }
+    let address = hex(&bytes[..3], 3)?;
+    let number = hex(&bytes[4..], digits)?;
+    Some((address, number))
+}
+
+// What a name alone tells.
+fn bare(name: &[u8]) -> Option<LogLine> {
+    match name {
+        b"started" => Some(LogLine::Started),
+        b"halted" => Some(LogLine::Halted),
+        b"reset" => Some(LogLine::Reset),
+        _ => None,
+    }
+}

@@ -1,0 +1,136 @@
+//! The text of a log, as it is read in pieces.
+use crate::log_line::{LogLine, MOST_LINE_BYTES, read_log_line};
+use arrayvec::ArrayVec;
+use dvg_world::Judge;
+use memchr::memchr;
+
+/// Why the reading of a log stops before its text ends.
+#[derive(Clone, Copy, Debug, PartialEq, Eq)]
+pub enum LogStop {
+    /// The line of this number, counted from 1, writes a byte, at a byte address, in the half that the open run draws.
+    Torn { line: usize, address: u16, byte: u8 },
+    /// The line of this number, counted from 1, tells nothing that a line may.
+    Syntax(usize),
+    /// There are more lines than are counted.
+    TooLong,
+}
+
+// Tells the judge what a line tells. The byte address and the byte of the write that tears a picture, where it does.
+fn tell(judge: &mut Judge, told: LogLine) -> Option<(u16, u8)> {
+    match told {
+        LogLine::Started => judge.started(),
+        LogLine::Fetched(address, word) => judge.fetched(address, word),
+        LogLine::Wrote(address, byte) => {
+            if judge.wrote(address) {
+                return Some((address, byte));
+            }
+        }
+        LogLine::Halted => judge.halted(),
+        LogLine::Reset => judge.reset(),
+        LogLine::Passed | LogLine::Low(..) => {}
+    }
+    None
+}
+
+// The lines that have ended. None of them is torn or at fault.
+#[derive(Clone, Copy, Debug, PartialEq, Eq)]
+struct JudgedLines {
+    judge: Judge,
+    count: usize,
+}
+
+impl JudgedLines {
+    // Why the next line stops the reading, where it tells nothing that a line may.
+    fn wrong(&self) -> LogStop {
+        if self.count == usize::MAX {
+            return LogStop::TooLong;
+        }
+        LogStop::Syntax(self.count + 1)
+    }
+
+    // Takes the next line.
+    fn take(&mut self, line: &[u8]) -> Result<(), LogStop> {
+        if self.count == usize::MAX {
+            return Err(LogStop::TooLong);
+        }
+        let number = self.count + 1;
+        let Some(told) = read_log_line(line) else {
+            return Err(LogStop::Syntax(number));
+        };
+        match tell(&mut self.judge, told) {
+            Some((address, byte)) => Err(LogStop::Torn {
+                line: number,
+                address,
+                byte,
+            }),
+            None => {
+                self.count = number;
+                Ok(())
+            }
+        }
+    }
+}
+
+/// What was read of a log's text.
+pub struct LogReading {
+    judged: JudgedLines,
+    // The bytes of a line that has not ended.
+    unfinished: ArrayVec<u8, MOST_LINE_BYTES>,
+}
+
+impl LogReading {
+    /// Before the first piece.
+    pub fn new() -> LogReading {
+        LogReading {
+            judged: JudgedLines {
+                judge: Judge::new(),
+                count: 0,
+            },
+            unfinished: ArrayVec::new(),
+        }
+    }
+
+    // Takes bytes of a line, of which it is not the end.
+    fn begin_line(&mut self, bytes: &[u8]) -> Result<(), LogStop> {
+        match self.unfinished.try_extend_from_slice(bytes) {
+            Ok(()) => Ok(()),
+            Err(_) => Err(self.judged.wrong()),
+        }
+    }
+
+    // Takes the last bytes of a line, and its end.
+    fn end_line(&mut self, bytes: &[u8]) -> Result<(), LogStop> {
+        if self.unfinished.is_empty() {
+            return self.judged.take(bytes);
+        }
+        match self.begin_line(bytes) {
+            Ok(()) => {}
+            Err(stop) => return Err(stop),
+        }
+        let taken = self.judged.take(self.unfinished.as_slice());
+        self.unfinished.clear();
+        taken
+    }
+
+    /// Takes a piece more of the text.
+    pub fn take_piece(&mut self, piece: &[u8]) -> Result<(), LogStop> {
+        let mut rest = piece;
+        while let Some(end) = memchr(b'\n', rest) {
+            match self.end_line(&rest[..end]) {
+                Ok(()) => {}
+                Err(stop) => return Err(stop),
+            }
+            rest = &rest[end + 1..];
+        }
+        self.begin_line(rest)
+    }
+
+    /// Takes the end of the text, which ends a line that has begun.
+    pub fn finish(self) -> Result<(), LogStop> {
+        let mut judged = self.judged;
+        if self.unfinished.is_empty() {
+            return Ok(());
+        }
+        judged.take(self.unfinished.as_slice())
+    }
+}

@@ -1,0 +1,17 @@
+//! The areas of the generator's address space.
+use crate::half::Half;
+
+/// What a word address belongs to.
+#[derive(Clone, Copy, Debug, PartialEq, Eq)]
+pub enum Area {
+    /// Word zero, where each run begins.
+    Zero,
+    /// A half of the vector RAM, which holds a frame.
+    Frame(Half),
+    /// The word of the RAM between the halves, which no frame uses (this project's own choice).
+    Unused,
+    /// The vector ROM.
+    Rom,
+    /// An address that no memory answers (this project's own choice).
+    Hole,
+}

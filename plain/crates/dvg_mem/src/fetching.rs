@@ -1,0 +1,28 @@
+//! What the generator finds at an address.
+use crate::areas::Area;
+use crate::rom::Rom;
+use crate::store::Store;
+use std::alloc::Allocator;
+
+/// The low byte of the word at a word address of 12 bits, in the RAM or in the ROM, or where `high` its high
+/// byte. None exactly for a hole.
+pub fn fetch_byte<S: Store, A: Allocator>(store: &S, rom: &Rom<A>, w: u16, high: bool) -> Option<u8> {
+    match rom.area(w) {
+        Area::Zero | Area::Frame(_) | Area::Unused => {
+            let place = if high { 2 * w + 1 } else { 2 * w };
+            Some(store.read(place))
+        }
+        Area::Rom => {
+            let [low_byte, high_byte] = rom.word(w).to_le_bytes();
+            Some(if high { high_byte } else { low_byte })
+        }
+        Area::Hole => None,
+    }
+}
+
+/// The word at a word address of 12 bits, in the RAM or in the ROM. None exactly for a hole.
+pub fn fetch<S: Store, A: Allocator>(store: &S, rom: &Rom<A>, w: u16) -> Option<u16> {
+    let low = fetch_byte(store, rom, w, false)?;
+    let high = fetch_byte(store, rom, w, true)?;
+    Some(u16::from_le_bytes([low, high]))
+}

@@ -1,0 +1,38 @@
+//! A store in one array of bytes.
+use std::prelude::*;
+
+use crate::MEMORY_BYTES;
+use crate::image::Image;
+use crate::store::Store;
+use dvg_code::OutOfMemory;
+use std::alloc::{Allocator, Global};
+
+/// A store that keeps its bytes in one array.
+pub struct Flat<A: Allocator = Global> {
+    bytes: Box<[u8; MEMORY_BYTES], A>,
+}
+
+impl<A: Allocator + Copy> Store for Flat<A> {
+    type Alloc = A;
+
+    fn make(alloc: A, image: &Image<A>) -> Result<Flat<A>, OutOfMemory> {
+        let mut copy = [0; MEMORY_BYTES];
+        copy.copy_from_slice(image.bytes());
+        match Box::new(alloc, copy) {
+            Ok(bytes) => Ok(Flat { bytes }),
+            Err(_) => Err(OutOfMemory),
+        }
+    }
+
+    fn read(&self, a: u16) -> u8 {
+        self.bytes[usize::from(a)]
+    }
+
+    fn write(&mut self, a: u16, b: u8) {
+        self.bytes[usize::from(a)] = b;
+    }
+
+    fn load(&mut self, image: &Image<A>) {
+        self.bytes.copy_from_slice(image.bytes());
+    }
+}

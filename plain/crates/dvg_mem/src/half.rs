@@ -1,0 +1,56 @@
+//! The two halves of the vector RAM.
+/// One half of the vector RAM. The processor writes a frame into one while the generator draws the
+/// other.
+#[derive(Clone, Copy, Debug, PartialEq, Eq)]
+pub enum Half {
+    /// Words 001 to 1FF.
+    H0,
+    /// Words 201 to 3FF.
+    H1,
+}
+
+impl Half {
+    /// The word address of the half's first word: 001 or 201.
+    pub fn base(self) -> u16 {
+        match self {
+            Half::H0 => 0x001,
+            Half::H1 => 0x201,
+        }
+    }
+
+    /// The half that this one is not.
+    pub fn other(self) -> Half {
+        match self {
+            Half::H0 => Half::H1,
+            Half::H1 => Half::H0,
+        }
+    }
+
+    /// The high byte of word zero that names this half, as that of a jump to its first word: E0 of
+    /// E001, or E2 of E201.
+    pub fn high(self) -> u8 {
+        match self {
+            Half::H0 => 0xE0,
+            Half::H1 => 0xE2,
+        }
+    }
+
+    /// The half that a high byte of word zero names, whatever its other bits: bit 1 is 0 for half 0,
+    /// and 1 for half 1.
+    pub fn of_high(high: u8) -> Half {
+        if high / 2 % 2 == 0 {
+            Half::H0
+        } else {
+            Half::H1
+        }
+    }
+
+    /// The half in which a word of this number lies; none for word zero, word 200 and all from 400 on.
+    pub fn of_word(w: u16) -> Option<Half> {
+        match w {
+            0x001..=0x1FF => Some(Half::H0),
+            0x201..=0x3FF => Some(Half::H1),
+            _ => None,
+        }
+    }
+}

@@ -1,0 +1,69 @@
+//! What a memory holds.
+use std::prelude::*;
+
+use crate::MEMORY_BYTES;
+use std::alloc::{AllocError, Allocator, Global};
+use thiserror::Error;
+
+/// Why a memory was not made.
+#[derive(Clone, Copy, Debug, PartialEq, Eq, Error)]
+pub enum MemFault {
+    /// There are not as many bytes as the memory has: 2,048, or for a ROM 2,048 or 4,096.
+    #[error("there are not as many bytes as the memory has")]
+    Size,
+    /// A growth was refused for want of memory.
+    #[error("out of memory")]
+    OutOfMemory,
+}
+
+/// The 2,048 bytes that a vector RAM holds.
+#[derive(Debug)]
+pub struct Image<A: Allocator = Global> {
+    bytes: Box<[u8; MEMORY_BYTES], A>,
+}
+
+/// A copy of the bytes, for which memory may be refused.
+impl<A: Allocator + Clone> Clone for Image<A> {
+    fn clone(&self) -> Result<Image<A>, AllocError> {
+        let alloc = Box::allocator(&self.bytes).clone()?;
+        match Image::new(alloc, self.bytes()) {
+            Ok(copy) => Ok(copy),
+            Err(_) => Err(AllocError),
+        }
+    }
+}
+
+/// Images are equal where their bytes are.
+impl<A: Allocator> PartialEq for Image<A> {
+    fn eq(&self, other: &Image<A>) -> bool {
+        self.bytes() == other.bytes()
+    }
+}
+
+impl<A: Allocator> Eq for Image<A> {
+}
+
+impl<A: Allocator> Image<A> {
+    /// The image of these bytes. It is refused as `Size` exactly where they are not 2,048.
+    pub fn new(alloc: A, bytes: &[u8]) -> Result<Image<A>, MemFault> {
+        if bytes.len() != MEMORY_BYTES {
+            return Err(MemFault::Size);
+        }
+        let mut copy = [0; MEMORY_BYTES];
+        copy.copy_from_slice(bytes);
+        match Box::new(alloc, copy) {
+            Ok(bytes) => Ok(Image { bytes }),
+            Err(_) => Err(MemFault::OutOfMemory),
+        }
+    }
+
+    /// Takes other bytes in place of its own, in the memory that it has.
+    pub fn copy_from(&mut self, bytes: &[u8]) {
+        self.bytes.copy_from_slice(bytes);
+    }
+
+    /// The bytes, from address 000 on.
+    pub fn bytes(&self) -> &[u8] {
+        self.bytes.as_slice()
+    }
+}

@@ -1,0 +1,21 @@
+//! The area of an address.
+use crate::areas::Area;
+use crate::half::Half;
+use crate::{FIRST_ROM_WORD, LAST_ROM_WORD};
+
+/// The area of a word address, which has 12 bits, with a ROM of 2,048 bytes. `Rom::area` tells it of any ROM.
+pub fn area(w: u16) -> Area {
+    area_in_map(FIRST_ROM_WORD, w)
+}
+
+// The area of a word address, where the ROM's first word is at an address behind the RAM.
+pub(crate) fn area_in_map(first: u16, w: u16) -> Area {
+    match w {
+        0x000 => Area::Zero,
+        0x001..=0x1FF => Area::Frame(Half::H0),
+        0x200 => Area::Unused,
+        0x201..=0x3FF => Area::Frame(Half::H1),
+        _ if first <= w && w <= LAST_ROM_WORD => Area::Rom,
+        _ => Area::Hole,
+    }
+}

@@ -1,0 +1,91 @@
+//! The vector ROM.
+use std::prelude::*;
+
+use crate::areas::Area;
+use crate::image::MemFault;
+use crate::lookup::area_in_map;
+use crate::{FIRST_LARGE_ROM_WORD, FIRST_ROM_WORD, LARGE_ROM_BYTES, MEMORY_BYTES};
+use dvg_code::word_at;
+use std::alloc::{AllocError, Allocator, Global};
+
+/// The bytes of a vector ROM: 2,048 of the words 800 to BFF, as in Asteroids, or 4,096 of the words 400 to BFF, as on
+/// boards of Asteroids Deluxe (the second map is this project's own choice).
+pub struct Rom<A: Allocator = Global> {
+    bytes: Vec<u8, A>,
+}
+
+impl<A: Allocator> Rom<A> {
+    /// The ROM of these bytes. It is refused as `Size` exactly where they are neither 2,048 nor 4,096.
+    pub fn new(alloc: A, bytes: &[u8]) -> Result<Rom<A>, MemFault> {
+        if bytes.len() != MEMORY_BYTES && bytes.len() != LARGE_ROM_BYTES {
+            return Err(MemFault::Size);
+        }
+        // As one block: `to_vec` would copy each byte by itself.
+        let mut copy = Vec::new(alloc);
+        match copy.extend_from_slice(bytes) {
+            Ok(()) => Ok(Rom { bytes: copy }),
+            Err(_) => Err(MemFault::OutOfMemory),
+        }
+    }
+
+    /// Takes other bytes in place of its own, in the memory that it has where they are as many. They are refused as
+    /// `Size` exactly where they are neither 2,048 nor 4,096, and nothing has changed after an error. Memory is taken only
+    /// for a ROM of another size.
+    pub fn copy_from(&mut self, alloc: A, bytes: &[u8]) -> Result<(), MemFault> {
+        if bytes.len() == self.bytes.len() {
+            self.bytes.as_mut_slice().copy_from_slice(bytes);
+            return Ok(());
+        }
+        match Rom::new(alloc, bytes) {
+            Ok(rom) => {
+                *self = rom;
+                Ok(())
+            }
+            Err(fault) => Err(fault),
+        }
+    }
+
+    /// The word address of the first word: 800 or 400.
+    pub fn first(&self) -> u16 {
+        if self.bytes.len() == MEMORY_BYTES {
+            FIRST_ROM_WORD
+        } else {
+            FIRST_LARGE_ROM_WORD
+        }
+    }
+
+    /// How many words there are: 1,024 or 2,048.
+    pub fn len_words(&self) -> u16 {
+        (self.bytes.len() / 2) as u16
+    }
+
+    /// The word at a word address from `first` to BFF.
+    pub fn word(&self, a: u16) -> u16 {
+        word_at(self.bytes.as_slice(), usize::from(a - self.first()))
+    }
+
+    /// The ROM of 4,096 bytes that has this one's words from 800 on, and D000, a return, at 400 to 7FF. It takes its memory
+    /// from this allocator, and is refused as `OutOfMemory` alone.
+    pub fn grow(&self, alloc: A) -> Result<Rom<A>, MemFault> {
+        let _ = &self.bytes;
+        match self.grown_bytes(alloc) {
+            Ok(bytes) => Ok(Rom { bytes }),
+            Err(_) => Err(MemFault::OutOfMemory),
+        }
+    }
+
+    // The bytes of 1,024 returns, and this ROM's behind them.
+    fn grown_bytes(&self, alloc: A) -> Result<Vec<u8, A>, AllocError> {
+        let mut bytes = Vec::with_capacity(alloc, LARGE_ROM_BYTES)?;
+        for _word in 0..1024u16 {
+            bytes.extend_from_slice(&[0x00, 0xD0])?;
+        }
+        bytes.extend_from_slice(self.bytes.as_slice())?;
+        Ok(bytes)
+    }
+
+    /// The area of a word address, which has 12 bits, with this ROM.
+    pub fn area(&self, w: u16) -> Area {
+        area_in_map(self.first(), w)
+    }
+}

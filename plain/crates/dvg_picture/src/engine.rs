@@ -1,0 +1,52 @@
+//! The engine `picture`.
+use crate::writes::write_run;
+use dvg_dump::{Dump, DumpFault, LARGE_DUMP_BYTES, Outcome, Traced};
+use dvg_io::{ToolFault, Watched, read_up_to};
+use dvg_text::TextFault;
+use std::alloc::Allocator;
+use std::io::{Read, Write};
+
+// The run over a dump, with its instructions where it `traces`.
+fn run_dump<A: Allocator + Copy>(
+    alloc: A,
+    bytes: &[u8],
+    traces: bool,
+) -> Result<Traced<A>, ToolFault> {
+    let dump = match Dump::new(alloc, bytes) {
+        Ok(dump) => dump,
+        Err(DumpFault::Size) => return Err(ToolFault::Text(TextFault::DumpSize)),
+        Err(DumpFault::OutOfMemory) => return Err(ToolFault::Memory),
+    };
+    let Ok(run) = dump.run_telling(traces) else {
+        return Err(ToolFault::Memory);
+    };
+    Ok(run)
+}
+
+/// Reads a dump of vector memory, 2,048 bytes of RAM and then 2,048 or 4,096 of ROM, starts a new generator once over it,
+/// which doesn't change, and writes how that ends: `picture` with the numbers of words that were fetched and of
+/// strokes, and a line for each stroke; `broke` with the address of the fetch and the fault's number; or `endless`, where
+/// there is neither within 65,536 words. With `all` it first writes a line for each instruction that was run, with the beam after it,
+/// and behind it that of its stroke (the texts are this project's own choice). It answers which of the three it was.
+///
+/// - `DumpSize`: the input has neither 4,096 bytes nor 6,144, of which no more than 6,145 are taken.
+/// - `Reader`, `Writer`: that device failed. After `Writer` a beginning of the text went out.
+/// - `Memory`: a growth was refused.
+///
+/// Where it stops before it writes, which is at any fault but `Writer`, the writer is as it was.
+#[inline(never)]
+pub fn picture<A: Allocator + Copy, R: Read, W: Write>(
+    alloc: A,
+    reader: &mut Watched<R>,
+    writer: &mut Watched<W>,
+    all: bool,
+) -> Result<Outcome, ToolFault> {
+    let run = {
+        let bytes = read_up_to(alloc, reader, LARGE_DUMP_BYTES)?;
+        run_dump(alloc, bytes.as_slice(), all)?
+    };
+    if write_run(&run, writer).is_err() {
+        return Err(ToolFault::Writer);
+    }
+    Ok(run.ending.outcome())
+}

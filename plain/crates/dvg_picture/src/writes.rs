@@ -1,0 +1,71 @@
+//! What is written of a run.
+use dvg_dump::{Ending, Ran, Traced};
+use dvg_gen::Stroke;
+use dvg_io::{DeviceFailed, Watched, write_strokes, write_whole};
+use dvg_lines::Line;
+use std::alloc::Allocator;
+use std::io::Write;
+
+// Writes the line, and behind it those of strokes, which are made in its place.
+fn write_with_strokes<W: Write>(
+    line: &mut Line,
+    strokes: &[Stroke],
+    writer: &mut Watched<W>,
+) -> Result<(), DeviceFailed> {
+    write_whole(writer, line.as_bytes())?;
+    write_strokes(line, strokes, writer)
+}
+
+// Writes the lines of an instruction that was run. They are made in `line`.
+fn write_ran<W: Write>(
+    line: &mut Line,
+    ran: &Ran,
+    writer: &mut Watched<W>,
+) -> Result<(), DeviceFailed> {
+    line.become_instruction(ran.address, &ran.code, ran.canonical, &ran.beam);
+    write_with_strokes(line, ran.stroke.as_slice(), writer)
+}
+
+// Writes the lines of the instructions that were run. They are made in `line`.
+fn write_trace<W: Write>(
+    line: &mut Line,
+    trace: &[Ran],
+    writer: &mut Watched<W>,
+) -> Result<(), DeviceFailed> {
+    for ran in trace {
+        write_ran(line, ran, writer)?;
+    }
+    Ok(())
+}
+
+// Writes how a run ends. The lines are made in `line`.
+fn write_end<A: Allocator, W: Write>(
+    line: &mut Line,
+    ending: &Ending<A>,
+    writer: &mut Watched<W>,
+) -> Result<(), DeviceFailed> {
+    match ending {
+        Ending::Finished { words, strokes } => {
+            line.become_picture(*words as usize, strokes.len());
+            write_with_strokes(line, strokes.as_slice(), writer)
+        }
+        Ending::Broke { address, fault } => {
+            line.become_broke(*address, *fault);
+            write_whole(writer, line.as_bytes())
+        }
+        Ending::Endless => {
+            line.become_endless();
+            write_whole(writer, line.as_bytes())
+        }
+    }
+}
+
+/// Writes the instructions of a run and how it ends.
+pub(crate) fn write_run<A: Allocator, W: Write>(
+    run: &Traced<A>,
+    writer: &mut Watched<W>,
+) -> Result<(), DeviceFailed> {
+    let mut line = Line::new();
+    write_trace(&mut line, run.ran.as_slice(), writer)?;
+    write_end(&mut line, &run.ending, writer)
+}

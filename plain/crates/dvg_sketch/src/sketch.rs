@@ -1,0 +1,76 @@
+//! The draft of a sketch.
+use crate::fault::SketchFault;
+use crate::step::Step;
+use dvg_frame::{Draft, Op, OpKind};
+
+/// The most operations of a draft.
+const MOST_OPS: usize = 511;
+
+// The number of the operation that is named so.
+fn number_of(steps: &[Step], name: &str) -> Option<u16> {
+    let mut number = 0;
+    for step in steps {
+        if step.names(name) {
+            return Some(number);
+        }
+        if step.is_operation() {
+            number += 1;
+        }
+    }
+    None
+}
+
+// The first step that gives a name which one before it gives.
+fn given_again(steps: &[Step]) -> Option<usize> {
+    for (place, step) in steps.iter().enumerate() {
+        if let Step::Name(name) = step {
+            if number_of(&steps[..place], name).is_some() {
+                return Some(place);
+            }
+        }
+    }
+    None
+}
+
+// The operation of a step that is one. None where it names one that isn't there.
+fn operation(steps: &[Step], step: &Step) -> Option<Op> {
+    match step {
+        Step::Op(op) => Some(*op),
+        Step::Call(name) => match number_of(steps, name) {
+            Some(number) => Op::new(OpKind::Call(number)),
+            None => None,
+        },
+        Step::Jump(name) => match number_of(steps, name) {
+            Some(number) => Op::new(OpKind::Jump(number)),
+            None => None,
+        },
+        Step::Name(_) => unreachable!(),
+    }
+}
+
+/// The draft whose operations are those of the sketch, in order, where each call and each jump has the number of the
+/// operation that its name stands before. No memory is taken. The time grows with the square of the number of steps.
+///
+/// - `Full`: there are more than 511 operations.
+/// - `Twice`: else, this step is the first that gives a name which an earlier one gave.
+/// - `Unknown`: else, this step is the first that calls or jumps to a name which no step gives.
+///
+/// A name behind the last operation names one that isn't there, which the check of a draft refuses where it is used.
+pub fn draft_of(steps: &[Step]) -> Result<Draft, SketchFault> {
+    if steps.iter().filter(|step| step.is_operation()).count() > MOST_OPS {
+        return Err(SketchFault::Full);
+    }
+    if let Some(place) = given_again(steps) {
+        return Err(SketchFault::Twice(place));
+    }
+    let mut draft = Draft::new();
+    for (place, step) in steps.iter().enumerate() {
+        if step.is_operation() {
+            let Some(op) = operation(steps, step) else {
+                return Err(SketchFault::Unknown(place));
+            };
+            draft.push(op).unwrap();
+        }
+    }
+    Ok(draft)
+}

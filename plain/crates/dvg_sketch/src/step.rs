@@ -1,0 +1,30 @@
+//! The steps of a sketch.
+use dvg_frame::Op;
+
+/// A step of a sketch.
+#[derive(Clone, Copy, Debug, PartialEq, Eq)]
+pub enum Step<'a> {
+    /// Names the operation that comes next.
+    Name(&'a str),
+    /// An operation.
+    Op(Op),
+    /// Calls the subroutine that begins at the operation of this name.
+    Call(&'a str),
+    /// Jumps to the operation of this name.
+    Jump(&'a str),
+}
+
+impl<'a> Step<'a> {
+    // Whether it is an operation.
+    pub(crate) fn is_operation(&self) -> bool {
+        !matches!(self, Step::Name(_))
+    }
+
+    // Whether it gives this name.
+    pub(crate) fn names(&self, name: &str) -> bool {
+        match self {
+            Step::Name(given) => *given == name,
+            _ => false,
+        }
+    }
+}

@@ -1,0 +1,45 @@
+//! What can be wrong with a text.
+use thiserror::Error;
+
+/// A fault of what was read. Its text is what `dvg` prints of it (this project's own choice).
+#[derive(Clone, Copy, Debug, PartialEq, Eq, Error)]
+pub enum TextFault {
+    /// The input has more bytes, or a log more lines, than are allowed.
+    #[error("too long")]
+    TooLong,
+    /// The input has an odd number of bytes.
+    #[error("odd length")]
+    Odd,
+    /// The word at this place, counted in words from 0, wants a second word, which is missing.
+    #[error("cut at {0:03X}")]
+    Cut(usize),
+    /// A ROM has neither 2,048 nor 4,096 bytes.
+    #[error("rom size")]
+    RomSize,
+    /// A dump of vector memory has neither 4,096 nor 6,144 bytes.
+    #[error("dump size")]
+    DumpSize,
+    /// The line of this number, counted from 1, spells nothing that may stand at its place.
+    #[error("syntax at line {0}")]
+    Syntax(usize),
+    /// The line of this number, counted from 1, spells operation number 511 of a draft, which can't hold it.
+    #[error("full at line {0}")]
+    Full(usize),
+    /// The line of this number, counted from 1, brings the number of a trace's events above 65,536.
+    #[error("too many events at line {0}")]
+    Many(usize),
+    /// The text ends inside an offer.
+    #[error("offer without end")]
+    Unended,
+}
+
+/// Why the text of a trace was not read.
+#[derive(Clone, Copy, Debug, PartialEq, Eq, Error)]
+pub enum TraceFault {
+    /// The text is at fault.
+    #[error(transparent)]
+    Text(TextFault),
+    /// A growth was refused.
+    #[error("out of memory")]
+    Memory,
+}

@@ -1,0 +1,24 @@
+//! Texts in memory that are read: the lines of numbers, drafts, ROMs and traces, which are the input of the program `dvg`
+//! (all formats are this project's own choice).
+#![no_std]
+
+extern crate plain_std as std;
+
+mod draft_text;
+mod event_line;
+mod fault;
+mod line_parts;
+mod number;
+mod op_line;
+mod rom_line;
+mod rom_text;
+mod text_lines;
+mod trace_following;
+mod trace_text;
+
+pub use draft_text::{DraftText, MOST_TEXT_BYTES, read_draft};
+pub use dvg_world::MOST_EVENTS;
+pub use fault::{TextFault, TraceFault};
+pub use number::hex;
+pub use text_lines::is_passed;
+pub use trace_text::{TraceText, read_trace};

@@ -1,0 +1,74 @@
+//! The engines `check_text` and `check_bound`.
+use dvg_frame::check;
+use dvg_io::{ToolFault, Watched, read_up_to, write_whole};
+use dvg_lines::{BoundedVerdict, Line, Verdict};
+use dvg_mem::Rom;
+use dvg_text::{MOST_TEXT_BYTES, read_draft};
+use std::alloc::Allocator;
+use std::io::{Read, Write};
+
+// What the check says of the draft that a text denotes, over the ROM that it denotes.
+#[inline(never)]
+fn judge<A: Allocator>(alloc: A, text: &[u8]) -> Result<BoundedVerdict, ToolFault> {
+    let told = match read_draft(text) {
+        Ok(told) => told,
+        Err(fault) => return Err(ToolFault::Text(fault)),
+    };
+    let Ok(rom) = Rom::new(alloc, told.rom.as_slice()) else {
+        return Err(ToolFault::Memory);
+    };
+    match check(&told.draft, &rom) {
+        Ok(frame) => Ok(BoundedVerdict::Good {
+            words: frame.len_words(),
+            bound: frame.bound(),
+        }),
+        Err(fault) => Ok(BoundedVerdict::Refused(fault)),
+    }
+}
+
+/// Reads a draft as text, with the lines of a memory map and of a ROM before it, and writes in one line what the check says
+/// of the draft over that ROM: `ok` and its number of words, or `fault` and the fault's number, name and
+/// place (the texts are this project's own choice). It answers what it wrote.
+///
+/// - `TooLong`: the text has more than 1,048,576 bytes, of which no more than 1,048,577 are taken. This
+///   is decided before all others.
+/// - `Syntax`, `Full`: this line is the first at fault. It spells nothing that may stand at its place, or
+///   it spells operation number 511.
+/// - `Reader`, `Writer`: that device failed. After `Writer` a beginning of the line went out.
+/// - `Memory`: a growth was refused.
+///
+/// Where it stops before it writes, which is at any fault but `Writer`, the writer is as it was.
+#[inline(never)]
+pub fn check_text<A: Allocator, R: Read, W: Write>(
+    alloc: A,
+    reader: &mut Watched<R>,
+    writer: &mut Watched<W>,
+) -> Result<Verdict, ToolFault> {
+    let text = read_up_to(&alloc, reader, MOST_TEXT_BYTES)?;
+    let bounded = judge(&alloc, text.as_slice())?;
+    let verdict = bounded.verdict();
+    let mut line = Line::new();
+    line.become_verdict(verdict);
+    if write_whole(writer, line.as_bytes()).is_err() {
+        return Err(ToolFault::Writer);
+    }
+    Ok(verdict)
+}
+
+/// The same, but the line of a good draft tells its bound, too: `ok`, its number of words and how many fetches
+/// its whole run takes, which are the words that the generator fetches, word zero included.
+#[inline(never)]
+pub fn check_bound<A: Allocator, R: Read, W: Write>(
+    alloc: A,
+    reader: &mut Watched<R>,
+    writer: &mut Watched<W>,
+) -> Result<BoundedVerdict, ToolFault> {
+    let text = read_up_to(&alloc, reader, MOST_TEXT_BYTES)?;
+    let verdict = judge(&alloc, text.as_slice())?;
+    let mut line = Line::new();
+    line.become_bounded(verdict);
+    if write_whole(writer, line.as_bytes()).is_err() {
+        return Err(ToolFault::Writer);
+    }
+    Ok(verdict)
+}

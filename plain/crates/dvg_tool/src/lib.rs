@@ -1,0 +1,30 @@
+//! The engines of the program `dvg` but `picture` and `torn`, over any watched reader and writer; the jobs that its words ask for, which
+//! are those of `dvg_words`. What it reads are the texts of `dvg_text`, and what it writes the lines of `dvg_lines`.
+//!
+//! An engine reads its whole input before it writes, and takes no memory after its first write: its lines are
+//! made in an array of fixed size (that what writes is handed no allocator is seen by reading). It stops at the
+//! first failure of its reader or writer.
+#![no_std]
+
+extern crate plain_std as std;
+
+mod checks;
+mod jobs;
+mod lists;
+mod outcome;
+mod plays;
+mod roms;
+mod shows;
+
+pub use checks::{check_bound, check_text};
+pub use dvg_io::{DeviceFailed, ToolFault, Watched};
+pub use dvg_lines::{BoundedVerdict, Verdict};
+pub use dvg_logs::{LogVerdict, torn};
+pub use dvg_picture::{Outcome, picture};
+pub use dvg_text::{MOST_TEXT_BYTES, TextFault};
+pub use dvg_words::{Job, job, words_status};
+pub use jobs::perform;
+pub use lists::{MOST_LIST_BYTES, list};
+pub use outcome::{Done, finish, status};
+pub use plays::{play, play_in};
+pub use roms::rom_text;

@@ -1,0 +1,68 @@
+//! The engine `list`.
+use dvg_code::{Code, Listed, Listing, encode};
+use dvg_io::{DeviceFailed, ToolFault, Watched, collect_words, read_up_to, write_whole};
+use dvg_lines::Line;
+use dvg_text::TextFault;
+use std::alloc::Allocator;
+use std::io::{Read, Write};
+
+/// The most bytes that `list` takes as its input: 4,096 words, all that an address of 12 bits names
+/// (this project's own choice).
+pub const MOST_LIST_BYTES: usize = 8192;
+
+// Writes the line of the instruction that stands at a place of the words. The line is made in `line`.
+fn write_item<W: Write>(
+    line: &mut Line,
+    words: &[u16],
+    place: usize,
+    code: &Code,
+    writer: &mut Watched<W>,
+) -> Result<(), DeviceFailed> {
+    let canonical = words[place..].starts_with(encode(code).as_slice());
+    line.become_listed(place, code, canonical);
+    write_whole(writer, line.as_bytes())
+}
+
+// Writes a line for each instruction of the words.
+fn list_words<W: Write>(words: &[u16], writer: &mut Watched<W>) -> Result<(), ToolFault> {
+    let mut line = Line::new();
+    for item in Listing::new(words) {
+        match item {
+            Listed::At(place, code) => {
+                if write_item(&mut line, words, place, &code, writer).is_err() {
+                    return Err(ToolFault::Writer);
+                }
+            }
+            Listed::Cut(place) => return Err(ToolFault::Text(TextFault::Cut(place))),
+        }
+    }
+    Ok(())
+}
+
+/// Reads words, two bytes each, the low one first, and writes a line for each instruction: its place
+/// in words, its name and operands, and a star where its words aren't canonical (the text is this
+/// project's own choice).
+///
+/// - `TooLong`: the input has more than 8,192 bytes, of which no more than 8,193 are taken.
+/// - `Odd`: it has an odd number of bytes.
+/// - `Cut`: the last word is the first of two, and the second is missing; the lines before it are written.
+/// - `Reader`, `Writer`: that device failed. After `Writer` a beginning of the text went out.
+/// - `Memory`: a growth was refused.
+///
+/// Where it stops before it writes, which is at any fault but `Cut` and `Writer`, the writer is as it
+/// was.
+pub fn list<A: Allocator, R: Read, W: Write>(
+    alloc: A,
+    reader: &mut Watched<R>,
+    writer: &mut Watched<W>,
+) -> Result<(), ToolFault> {
+    let bytes = read_up_to(&alloc, reader, MOST_LIST_BYTES)?;
+    if bytes.len() > MOST_LIST_BYTES {
+        return Err(ToolFault::Text(TextFault::TooLong));
+    }
+    if bytes.len() % 2 == 1 {
+        return Err(ToolFault::Text(TextFault::Odd));
+    }
+    let words = collect_words(&alloc, bytes.as_slice())?;
+    list_words(words.as_slice(), writer)
+}

@@ -1,0 +1,56 @@
+//! How the program ends.
+use dvg_io::{ToolFault, Watched};
+use dvg_lines::{BoundedVerdict, Verdict};
+use dvg_logs::LogVerdict;
+use dvg_picture::Outcome;
+use std::io::Write;
+
+/// What an engine that is done has to tell.
+#[derive(Clone, Copy, Debug, PartialEq, Eq)]
+pub enum Done {
+    /// The text was written.
+    Written,
+    /// This was said of a draft, and the line of it was written.
+    Judged(Verdict),
+    /// This was said of a draft, with the bound of a good one, and the line of it was written.
+    Bounded(BoundedVerdict),
+    /// The run over a dump came to this, and its text was written.
+    Drew(Outcome),
+    /// This was said of a log, and the line of it was written.
+    Searched(LogVerdict),
+}
+
+/// Flushes the writer of an engine that is done. A flush that fails is `Writer`, whatever the engine
+/// answered; else the engine's answer stays.
+pub fn finish<W: Write>(
+    answer: Result<Done, ToolFault>,
+    writer: &mut Watched<W>,
+) -> Result<Done, ToolFault> {
+    match writer.flush() {
+        Ok(()) => answer,
+        Err(_) => Err(ToolFault::Writer),
+    }
+}
+
+/// The program's exit status: 0 where the job is done, 1 for a fault of the text, and where what was asked about isn't
+/// good: a draft that `check` refuses, a dump that draws no picture, a log with a torn picture; 2 for a device that failed or want of memory; words that ask for no job are 64, which
+/// is not an answer of an engine (this project's own choice).
+pub fn status(answer: &Result<Done, ToolFault>) -> u8 {
+    match answer {
+        Ok(
+            Done::Written
+            | Done::Judged(Verdict::Good(_))
+            | Done::Bounded(BoundedVerdict::Good { .. })
+            | Done::Drew(Outcome::Picture)
+            | Done::Searched(LogVerdict::NotTorn),
+        ) => 0,
+        Ok(
+            Done::Judged(Verdict::Refused(_))
+            | Done::Bounded(BoundedVerdict::Refused(_))
+            | Done::Drew(Outcome::Broke | Outcome::Endless)
+            | Done::Searched(LogVerdict::Torn { .. }),
+        )
+        | Err(ToolFault::Text(_)) => 1,
+        Err(ToolFault::Reader | ToolFault::Writer | ToolFault::Memory) => 2,
+    }
+}

@@ -1,0 +1,215 @@
+//! The help texts, and the version.
+/// The program's version.
+pub(crate) const VERSION: &str = "0.9.0";
+
+/// What the program's help says behind its commands.
+pub(crate) const PROGRAM: &str =
+    "Each command reads standard input and writes standard output. `dvg help COMMAND`
+tells what a command reads and writes, with its limits and an example.
+A fault of the input is printed on standard error, behind `dvg: `.
+
+Exit status:
+   0  done, or a help text or the version that was asked for
+   1  a fault of the input, or what was asked about isn't good: a draft that may
+      not be drawn, a dump that draws no picture, a log with a torn picture
+   2  a failing read or write, or out of memory
+  64  arguments that ask for nothing the program can do: a file is no argument,
+      it is read by `<`
+
+Example:
+  $ printf 'labs 512 400 0\\nvctr 9 -100 100 7\\nhalt\\n' | dvg check
+  ok 5 words";
+
+/// The input and output of `list`.
+pub(crate) const LIST: &str =
+    "Standard input: words, the low byte of each first, at most 8,192 bytes.
+
+Standard output: one line per instruction: the place of its first word, counted
+in words from 000, its name and its numbers. Places and addresses are
+hexadecimal, other numbers decimal. A `*` ends the line of words that aren't the
+canonical spelling.
+
+Faults: `too long` for more than 8,192 bytes, `odd length` for an odd number of
+them, and `cut at HHH` where the last word begins an instruction of two words.
+
+Example:
+  $ printf '\\144\\220\\144\\164' | dvg list
+  000 VCTR 9 -100 100 7";
+
+/// The input and output of `rom`.
+pub(crate) const ROM: &str =
+    "Standard input: the 2,048 or 4,096 bytes of a ROM, the low byte of each word
+first.
+
+Standard output: of 2,048 bytes 128 lines `rom HHH HHHH ..`, each with a word
+address and the eight words that stand from there on, in hexadecimal. The first
+address is 800, the last BF8. Of 4,096 bytes the line `map 4096` and 256 lines
+`rom HHH HHHH ..`, from 400 on. `check` and `play` read such lines.
+
+Fault: `rom size` for any other number of bytes.
+
+Example:
+  $ head -c 2048 /dev/zero | dvg rom | tail -n 1
+  rom BF8 0000 0000 0000 0000 0000 0000 0000 0000";
+
+/// The input and output of `picture`.
+pub(crate) const PICTURE: &str =
+    "Standard input: a dump of the vector memory, the low byte of each word first: the
+2,048 bytes of its RAM (words 000 to 3FF), and then the 2,048 bytes of a ROM
+(800 to BFF) or the 4,096 of the larger one (400 to BFF).
+
+The generator is started once over this memory, which doesn't change, with the
+beam at 0 0 and scale 0. Standard output is one of these:
+
+  picture W N       W words were fetched up to the HALT. N lines `x0 y0 x1 y1 z`
+                    follow, one per stroke: from where to where, in 1/512 of a
+                    screen unit, and the intensity
+  broke HHH F       the run broke at the word fetched from HHH, where F is
+                    1 for a call inside of four calls, 2 for a return outside of
+                    any call, 3 for an address where there is no memory
+  endless           neither happened within 65,536 words
+
+With `--all` there is first one line per instruction that is run, in order: its
+address, its name and its numbers as `dvg list` writes them, and behind `at` the
+beam after it: x, y and scale. Where it draws a stroke, its line follows.
+
+Fault: `dump size` for any other number of bytes.
+
+Example:
+  $ printf '\\001\\340\\220\\241\\000\\002\\144\\220\\144\\164\\000\\260' >dump
+  $ head -c 4084 /dev/zero >>dump
+  $ dvg picture <dump
+  picture 6 1
+  262144 204800 210944 256000 7";
+
+/// The input and output of `check`.
+pub(crate) const CHECK: &str =
+    "Standard input: a draft as text, at most 1,048,576 bytes. First may come a line
+`map 2048` or `map 4096`, the number of the ROM's bytes: its words are those of
+800 to BFF, or of 400 to BFF; 2048 holds where there is no such line. Then lines
+`rom HHH HHHH ..`: one to eight words of the ROM from one of these addresses on,
+in hexadecimal. A word that no line gives is D000. Then a line an operation, at
+most 511, which are numbered from 0:
+
+  labs X Y S        put the beam at X Y and set the global scale
+                    (X and Y 0 to 4095, S 0 to 15)
+  vctr S DX DY Z    move the beam by DX and DY, with local scale S, and draw
+                    with intensity Z, where 0 draws nothing
+                    (S 0 to 9, DX and DY -1023 to 1023, Z 0 to 15)
+  svec S DX DY Z    the same in one word, with moves of 256 times DX and DY
+                    (S 2 to 5, DX and DY -3 to 3, Z 0 to 15)
+  call N            call operation N (0 to 65535)
+  jump N            go on at operation N (0 to 65535)
+  callrom HHH       call the ROM word at this address
+  jumprom HHH       go on at the ROM word at this address
+  return            return from the newest call
+  halt              end the picture
+
+With scales that add up to 9, moves are in units of the screen; each step less
+halves them, and from 10 to 15 nothing moves (scales add up modulo 16).
+
+Exactly one space parts two parts of a line, and numbers have no leading zeros.
+An empty line and a line that begins with `#` are passed over.
+
+Standard output: `ok W words` for a draft that may be drawn, and with `--bound`
+`ok W words N fetches`, where N is how many words the generator fetches in the
+whole run, word zero included. Else one of these, where I is an operation and
+PLACE is `op I` or `word HHH`:
+
+  fault 1 empty              there is no operation
+  fault 2 no labs            operation 0 is no labs
+  fault 3 too long           the operations take more than 511 words: labs and
+                             vctr two, others one
+  fault 4 target I           I names an operation that isn't there
+  fault 5 runs off I         I is the last operation, and one must come after it
+  fault 6 out of rom PLACE   this leads out of the ROM's words
+  fault 7 too deep PLACE     this calls inside of four calls
+  fault 8 no caller PLACE    this returns outside of any call
+  fault 9 loops              a place leads back to itself, with as many calls
+                             open, so the picture may have no end
+
+Faults of the text: `too long` for more than 1,048,576 bytes, `syntax at line N`
+for a line that is none of these or stands where it may not, and `full at line N`
+for operation 512. Lines are numbered from 1.
+
+Example:
+  $ printf 'labs 512 400 0\\nvctr 9 -100 100 7\\nhalt\\n' | dvg check
+  ok 5 words
+  $ printf 'labs 512 400 0\\nvctr 9 -100 100 7\\nhalt\\n' | dvg check --bound
+  ok 5 words 6 fetches";
+
+/// The input and output of `play`.
+pub(crate) const PLAY: &str =
+    "Standard input: a trace as text, at most 1,048,576 bytes. Lines `map` and `rom`
+may come first, as `dvg rom` writes them and `dvg help check` tells them; a word
+that no line gives is D000. Then events, at most 65,536, which are numbered from
+0:
+
+  offer         offer a frame to the driver: this line, a line for each of its
+  ..            operations (`dvg help check` tells them, at most 511), and `end`
+  end
+  redraw        ask for the published frame once more
+  tick [N]      a step of the driver
+  strobe [N]    a strobe that the driver sent arrives at the generator
+  fetch [N]     the generator fetches a byte: a word's low one, then its high one
+  resetgen      reset the generator
+  resetcpu      reset the driver
+  resetall HH   reset both, with a RAM of bytes HH
+
+N is 1 to 9999 and repeats the event. The RAM holds zeros at first. A driver is
+busy at first, for two ticks and until the generator is halted, and then from
+an offer or a redraw until it sends the strobe. An empty line and a line that
+begins with `#` are passed over.
+
+Standard output: for each finished picture a line `picture EVENT STROKES`, with
+the event that finished it and the number of its strokes, and then a line
+`x0 y0 x1 y1 z` a stroke: from where to where, in 1/512 of a screen unit, and
+the intensity. With `--all` a line for each event instead, with what came of it,
+and a picture's strokes behind the event that finished it.
+
+With `--banked` the RAM is kept in banks, of which none has bytes of both
+halves. The same is written, so one sees that no picture depends on how the RAM
+is kept.
+
+Faults: `too long` for more than 1,048,576 bytes, `syntax at line N` for a line
+that is none of these or stands where it may not, `full at line N` for operation
+512 of a frame, `too many events at line N` for event 65,537, and
+`offer without end`. Lines are numbered from 1.
+
+Example:
+  $ printf 'tick 2\\noffer\\nlabs 512 400 0\\nvctr 9 -100 100 7\\nhalt\\nend\\n' >trace
+  $ printf 'tick 14\\nstrobe\\nfetch 12\\n' >>trace
+  $ dvg play <trace
+  picture 29 1
+  262144 204800 210944 256000 7";
+
+/// The input and output of `torn`.
+pub(crate) const TORN: &str =
+    "Standard input: a log of what a system of any kind did, as text of any length, one
+line per event:
+
+  started           a strobe began a run of the generator
+  low HHH HH        the generator fetched the low byte of the word at HHH
+  fetched HHH HHHH  it fetched the word at HHH, or the high byte of it
+  halted            the run ended
+  reset             the generator was reset, so the run is over
+  wrote HHH HH      a byte was written in the RAM, at this byte address
+
+A line has at most 64 bytes. Numbers are hexadecimal, with as many digits as
+here. An empty line and a line that begins with `#` are passed over.
+
+A half of the RAM is being drawn from the first word that a run fetched on, if
+that is word 000, a jump to the half, until the run ends. Half 0 is bytes 002 to
+3FF, half 1 is bytes 402 to 7FF.
+
+Standard output: `torn at line N: wrote HHH HH` for the first byte that is
+written in the half being drawn, else `not torn`. Lines are numbered from 1.
+Nothing is judged behind the first line that is torn or at fault.
+
+Fault: `syntax at line N`.
+
+Example:
+  $ printf 'started\\nfetched 000 E201\\nwrote 402 90\\n' | dvg torn
+  torn at line 3: wrote 402 90
+  $ printf 'started\\nfetched 000 E201\\nhalted\\nwrote 402 90\\n' | dvg torn
+  not torn";

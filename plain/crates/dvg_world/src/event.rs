@@ -1,0 +1,31 @@
+//! What can happen to a world.
+use std::prelude::*;
+
+use dvg_frame::Draft;
+use dvg_mem::Image;
+use std::alloc::{Allocator, Global};
+
+/// One thing that happens. Events come in any order and number: a strobe that is sent and never given as
+/// an event is a lost one, and one that is given again is a repeated one.
+#[derive(Debug, PartialEq, Eq)]
+pub enum Event<A: Allocator = Global> {
+    /// The driver is handed a draft to show.
+    Offer(Box<Draft, A>),
+    /// The driver is asked to have the published frame drawn again.
+    Redraw,
+    /// The driver does one action.
+    Tick,
+    /// A start strobe reaches the generator. It has no effect unless the driver sent one since the last
+    /// reset of the whole system, or the beginning.
+    Strobe,
+    /// The generator fetches one byte: the low byte of a word, or the high byte of the word whose low byte it
+    /// fetched before (this project's own choice).
+    Fetch,
+    /// A reset of the generator alone: its run is abandoned.
+    ResetGen,
+    /// A reset of the processor alone: the driver forgets everything. RAM, generator and strobes under way
+    /// stay as they are.
+    ResetCpu,
+    /// A reset of the whole system: both of them, strobes under way end, and the RAM holds these bytes.
+    ResetAll(Image<A>),
+}

@@ -1,0 +1,137 @@
+//! A judge of logs, whoever made them.
+use crate::entry::Entry;
+use crate::event::Event;
+use dvg_driver::Action;
+use dvg_mem::Half;
+use std::alloc::Allocator;
+
+// What the open run of a log draws.
+#[derive(Clone, Copy, Debug, PartialEq, Eq)]
+enum Drawing {
+    // No half: there is no open run, or it began with no jump to one.
+    Nothing,
+    // Nothing yet: the run is about to fetch word zero.
+    Begun,
+    // This half.
+    Within(Half),
+}
+
+impl Drawing {
+    // What a run draws whose first word is this one, at this address.
+    fn from_first(address: u16, word: u16) -> Drawing {
+        if address != 0 || word / 0x1000 != 0xE {
+            return Drawing::Nothing;
+        }
+        let Some(half) = Half::of_word(word % 0x1000) else {
+            return Drawing::Nothing;
+        };
+        Drawing::Within(half)
+    }
+
+    // What is left by an event.
+    fn after_event<A: Allocator>(self, event: &Event<A>) -> Drawing {
+        match event {
+            Event::ResetGen | Event::ResetAll(_) => Drawing::Nothing,
+            _ => self,
+        }
+    }
+
+    // What is drawn behind the fetch of a word at this address.
+    fn after_fetch(self, address: u16, word: u16) -> Drawing {
+        match self {
+            Drawing::Begun => Drawing::from_first(address, word),
+            _ => self,
+        }
+    }
+
+    // What is drawn behind an entry.
+    fn after_entry<A: Allocator>(self, entry: &Entry<A>) -> Drawing {
+        match entry {
+            Entry::Started => Drawing::Begun,
+            Entry::Fetched(address, word) => self.after_fetch(*address, *word),
+            Entry::Done(..) | Entry::Broke(..) => Drawing::Nothing,
+            _ => self,
+        }
+    }
+
+    // Whether this is drawn with the byte at this address of the RAM, so that to write it tears the picture.
+    fn is_torn_at(self, address: u16) -> bool {
+        let Drawing::Within(half) = self else {
+            return false;
+        };
+        Half::of_word(address / 2) == Some(half)
+    }
+
+    // Whether this entry, behind which that is drawn, tears the picture.
+    fn is_torn_by<A: Allocator>(self, entry: &Entry<A>) -> bool {
+        match entry {
+            Entry::Acted(Action::Wrote(address, _)) => self.is_torn_at(*address),
+            _ => false,
+        }
+    }
+}
+
+/// A judge of one log, whoever made it, that is told its lines in order: each by its event and its entry, or by what it
+/// shows. It keeps no more than which half the open run draws, and takes no memory.
+#[derive(Clone, Copy, Debug, PartialEq, Eq)]
+pub struct Judge {
+    drawing: Drawing,
+}
+
+impl Judge {
+    /// Before the first line.
+    pub fn new() -> Judge {
+        Judge {
+            drawing: Drawing::Nothing,
+        }
+    }
+
+    /// Is told a line more. Whether that tears a picture.
+    pub fn take<A: Allocator>(&mut self, event: &Event<A>, entry: &Entry<A>) -> bool {
+        self.drawing = self.drawing.after_event(event).after_entry(entry);
+        self.drawing.is_torn_by(entry)
+    }
+
+    /// Is told that a strobe began a run.
+    pub fn started(&mut self) {
+        self.drawing = Drawing::Begun;
+    }
+
+    /// Is told that a fetch completed this word at this word address, and the run goes on.
+    pub fn fetched(&mut self, address: u16, word: u16) {
+        self.drawing = self.drawing.after_fetch(address, word);
+    }
+
+    /// Is told that a fetch ended the run by a HALT, whatever its word address, its word and what it drew.
+    pub fn halted(&mut self) {
+        self.drawing = Drawing::Nothing;
+    }
+
+    /// Is told of a reset of the generator.
+    pub fn reset(&mut self) {
+        self.drawing = Drawing::Nothing;
+    }
+
+    /// Is told that the driver wrote a byte at this byte address of the RAM. Whether that tears a picture.
+    pub fn wrote(&self, address: u16) -> bool {
+        self.drawing.is_torn_at(address)
+    }
+}
+
+/// The number of the first entry that tears a picture: a byte written in the half that the open run draws. None
+/// exactly where there is none. The log may be any one, legal or not, as that of another driver or of a test program;
+/// where one list is longer than the other, what it has more is passed over.
+///
+/// A strobe that began a run opens it, and a HALT, a fault, and a reset of the generator or of the whole system end
+/// it; such a reset ends it before its own entry counts. It draws a half where the first word that it fetched is the
+/// one at 000, a jump to a word of that half: from that entry on. No memory is taken, and each entry is looked at
+/// once.
+pub fn first_torn<A: Allocator>(events: &[Event<A>], entries: &[Entry<A>]) -> Option<usize> {
+    let mut judge = Judge::new();
+    for number in 0..events.len().min(entries.len()) {
+        if judge.take(&events[number], &entries[number]) {
+            return Some(number);
+        }
+    }
+    None
+}

@@ -1,0 +1,138 @@
+//! Whole runs.
+use std::prelude::*;
+
+use crate::entry::Entry;
+use crate::event::Event;
+use crate::stopped::Stopped;
+use crate::trace::{Trace, happen_of};
+use crate::world::World;
+use dvg_code::OutOfMemory;
+use dvg_frame::Draft;
+use dvg_mem::{Image, Rom, Store};
+use std::alloc::Allocator;
+
+/// Lets events happen to a new world, one after the other, and answers the entry of each, in their order.
+///
+/// For every ROM, first image of the RAM and list of events, whatever they are, each line of the log keeps the
+/// headline (`KeepsHeadline`, of which each part has a name): no byte is written in the half being drawn, the
+/// generator never faults, and every run that reaches HALT drew exactly the picture of the frame newest published
+/// when it fetched word zero, so no picture is older than the one before. Every frame that is accepted has exactly
+/// one picture: a run of it is finished at the picture's last fetch, and fetches at most two bytes for each word of
+/// the frame's bound. A run that has fetched word zero is drawing a half, and the half holds the frame that the run
+/// shows. The log has one entry for each event, and each entry is the one that its event gets over the log before
+/// it: the log is legal, so driver and generator really act.
+///
+/// This rests on three premises. The log ends early only for want of memory: before the first event, or at a
+/// fetch that completes a vector with an intensity of at least 1. `Stopped` then has the entries of the
+/// events before, and all this holds of their log. A strobe arrives only after the driver sent one since the
+/// last reset of the whole system, or the beginning; it may arrive never, once or often. One access of memory
+/// is whole: one byte written, or one byte fetched.
+///
+/// It isn't said that a strobe, a tick or a fetch ever comes, that a picture is ever drawn, or that a frame
+/// that was accepted is: a later one may replace it. Nothing is said of real hardware.
+///
+/// The log is grown once, for all events, before the first happens.
+pub fn run<S: Store>(
+    alloc: S::Alloc,
+    rom: Rom<S::Alloc>,
+    image: &Image<S::Alloc>,
+    events: &[Event<S::Alloc>],
+) -> Result<Vec<Entry<S::Alloc>, S::Alloc>, Stopped<S::Alloc>> {
+    run_each::<S, Listed<S::Alloc>>(alloc, rom, image, Listed { events })
+}
+
+/// Lets the events of a trace happen to a new world, as `run` does with a list of them: each line of the log keeps
+/// the headline, and the log is the one legal log of these events. Its clauses are those of `run`.
+pub fn run_trace<S: Store>(
+    alloc: S::Alloc,
+    rom: Rom<S::Alloc>,
+    image: &Image<S::Alloc>,
+    trace: &Trace<S::Alloc>,
+) -> Result<Vec<Entry<S::Alloc>, S::Alloc>, Stopped<S::Alloc>> {
+    let draft = Draft::new();
+    run_each::<S, Playing<S::Alloc>>(alloc, rom, image, Playing { trace, draft })
+}
+
+// Events in order, however they are kept.
+trait Events<S: Store>: Drop {
+    // How many there are.
+    fn count(&self) -> usize;
+
+    // Lets the event of this number happen to a world.
+    fn happen(
+        &mut self,
+        number: usize,
+        world: &mut World<S>,
+    ) -> Result<Entry<S::Alloc>, OutOfMemory>;
+}
+
+// A list of events.
+struct Listed<'a, A: Allocator> {
+    events: &'a [Event<A>],
+}
+
+impl<'a, S: Store> Events<S> for Listed<'a, S::Alloc> {
+    fn count(&self) -> usize {
+        self.events.len()
+    }
+
+    fn happen(
+        &mut self,
+        number: usize,
+        world: &mut World<S>,
+    ) -> Result<Entry<S::Alloc>, OutOfMemory> {
+        world.apply(&self.events[number])
+    }
+}
+
+// A trace, and the draft in which those of its offers are made.
+struct Playing<'a, A: Allocator> {
+    trace: &'a Trace<A>,
+    draft: Draft,
+}
+
+impl<'a, S: Store> Events<S> for Playing<'a, S::Alloc> {
+    fn count(&self) -> usize {
+        self.trace.len()
+    }
+
+    fn happen(
+        &mut self,
+        number: usize,
+        world: &mut World<S>,
+    ) -> Result<Entry<S::Alloc>, OutOfMemory> {
+        happen_of(self.trace, number, &mut self.draft, world)
+    }
+}
+
+// Lets events happen to a new world. What their log shows follows from its being legal.
+fn run_each<S: Store, E: Events<S>>(
+    alloc: S::Alloc,
+    rom: Rom<S::Alloc>,
+    image: &Image<S::Alloc>,
+    events: E,
+) -> Result<Vec<Entry<S::Alloc>, S::Alloc>, Stopped<S::Alloc>> {
+    let Ok(mut world) = World::<S>::new(alloc, rom, image) else {
+        return Err(Stopped {
+            entries: Vec::new(alloc),
+            event: 0,
+        });
+    };
+    let mut events = events;
+    let Ok(mut entries) = Vec::with_capacity(alloc, events.count()) else {
+        return Err(Stopped {
+            entries: Vec::new(alloc),
+            event: 0,
+        });
+    };
+    for number in 0..events.count() {
+        let Ok(entry) = events.happen(number, &mut world) else {
+            return Err(Stopped {
+                entries,
+                event: number,
+            });
+        };
+        entries.push_reserved(entry);
+    }
+    Ok(entries)
+}

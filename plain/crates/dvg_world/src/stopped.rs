@@ -1,0 +1,17 @@
+//! Runs that stop early.
+use std::prelude::*;
+
+use crate::entry::Entry;
+use std::alloc::{Allocator, Global};
+use thiserror::Error;
+
+/// A run that stopped for want of memory, and for no other cause.
+#[derive(Error)]
+#[derive(Debug, PartialEq, Eq)]
+#[error("memory was refused at event {event}")]
+pub struct Stopped<A: Allocator = Global> {
+    /// The entries of the events before the one at which the run stopped.
+    pub entries: Vec<Entry<A>, A>,
+    /// The number of the event at which the run stopped, counted from 0. It has no entry.
+    pub event: usize,
+}

@@ -1,0 +1,183 @@
+//! The world: both ends of the vector RAM, one event at a time.
+use std::prelude::*;
+
+use crate::entry::Entry;
+use crate::event::Event;
+use dvg_code::OutOfMemory;
+use dvg_driver::{Action, Driver, DriverFault};
+use dvg_frame::{Checker, Draft};
+use dvg_gen::Generator;
+use dvg_mem::{Image, MemFault, Rom, Store, fetch_byte};
+
+/// Both ends of the vector RAM: the driver that writes frames into it, and the generator that draws out of
+/// it and out of the ROM.
+///
+/// `apply` lets any event happen, and the calls beside it one each. Of a world that stands after a legal log each
+/// answers the entry that the event gets over that log; the world then stands after the log with this line (`stands`),
+/// and the line keeps the headline, as `run` says of each line (`headline`).
+///
+/// A strobe that the driver has sent is under way until the next reset of the whole system, and may arrive
+/// never, once or often (this project's own choice, as a strobe that the hardware passes over is one that
+/// never arrives).
+pub struct World<S: Store> {
+    rom: Rom<S::Alloc>,
+    store: S,
+    generator: Generator<S::Alloc>,
+    driver: Driver,
+    strobe_sent: bool,
+    /// What drafts are checked by.
+    checker: Box<Checker, S::Alloc>,
+}
+
+impl<S: Store> World<S> {
+    /// A world after a reset of the whole system: the RAM holds this image, the generator is halted with the
+    /// beam at 0, 0 and scale 0, the driver boots, and no strobe is under way. It takes its memory from this
+    /// allocator: that of its store, and then some 105 KB for the tables of the check. A fetch takes memory later on, for the
+    /// list of a run's strokes, and nothing else does.
+    pub fn new(
+        alloc: S::Alloc,
+        rom: Rom<S::Alloc>,
+        image: &Image<S::Alloc>,
+    ) -> Result<World<S>, OutOfMemory> {
+        // An image is one of 2,048 bytes, as its type says.
+        let _ = image.bytes();
+        let store = S::make(alloc, image)?;
+        let checker = Box::new(alloc, Checker::new())?;
+        Ok(World {
+            rom,
+            store,
+            generator: Generator::new(alloc),
+            driver: Driver::new(),
+            strobe_sent: false,
+            checker,
+        })
+    }
+
+    /// Makes this world one over a ROM of these bytes after a reset of the whole system, as `new` makes one, in the
+    /// memory that it has: for callers that open one world after another. Memory is taken, and may be refused, only for a
+    /// ROM of another size. The world is as it was after an error, which is `Size` exactly where a ROM has another number of bytes.
+    pub fn begin_anew(
+        &mut self,
+        alloc: S::Alloc,
+        rom: &[u8],
+        image: &Image<S::Alloc>,
+    ) -> Result<(), MemFault> {
+        match self.rom.copy_from(alloc, rom) {
+            Ok(()) => {
+                self.power_up(alloc, image);
+                Ok(())
+            }
+            Err(fault) => Err(fault),
+        }
+    }
+
+    // All but the ROM is as in a new world, whose RAM holds this image.
+    fn power_up(&mut self, alloc: S::Alloc, image: &Image<S::Alloc>) {
+        // An image is one of 2,048 bytes, and a ROM has 2,048 or 4,096, as their types say.
+        let _ = image.bytes();
+        let _ = self.rom.len_words();
+        self.store.load(image);
+        self.generator = Generator::new(alloc);
+        self.driver.reset();
+        self.strobe_sent = false;
+    }
+
+    /// Lets an event happen, by the call that does it, and answers its entry.
+    ///
+    /// An error is want of memory, and then the world is as it was. It comes only for a fetch that completes
+    /// a vector with an intensity of at least 1.
+    pub fn apply(&mut self, event: &Event<S::Alloc>) -> Result<Entry<S::Alloc>, OutOfMemory> {
+        match event {
+            Event::Offer(draft) => Ok(self.offer(draft)),
+            Event::Redraw => Ok(self.redraw()),
+            Event::Tick => Ok(self.tick()),
+            Event::Strobe => Ok(self.strobe()),
+            Event::Fetch => self.fetch(),
+            Event::ResetGen => Ok(self.reset_generator()),
+            Event::ResetCpu => Ok(self.reset_processor()),
+            Event::ResetAll(image) => Ok(self.reset_all(image)),
+        }
+    }
+
+    /// The driver is handed a draft to show, as by `Event::Offer`.
+    pub fn offer(&mut self, draft: &Draft) -> Entry<S::Alloc> {
+        // A draft has at most 511 operations, as its type says.
+        let _ = draft.len();
+        let checked = match self.checker.check(draft, &self.rom) {
+            Ok(checked) => checked,
+            Err(fault) => return Entry::Refused(fault),
+        };
+        match self.driver.offer_checked(&checked) {
+            Ok(()) => Entry::Offered,
+            Err(_) => Entry::Busy,
+        }
+    }
+
+    /// The driver is asked to have the published frame drawn again, as by `Event::Redraw`.
+    pub fn redraw(&mut self) -> Entry<S::Alloc> {
+        match self.driver.redraw() {
+            Ok(()) => Entry::Asked,
+            Err(DriverFault::NothingPublished) => Entry::NothingPublished,
+            Err(DriverFault::Busy) => Entry::Busy,
+        }
+    }
+
+    /// The driver does one action, as by `Event::Tick`.
+    pub fn tick(&mut self) -> Entry<S::Alloc> {
+        let byte1 = self.store.read(1);
+        let action = self.driver.tick(self.generator.halted(), byte1);
+        self.perform(action);
+        Entry::Acted(action)
+    }
+
+    // Does a write in the store, and puts a strobe under way.
+    fn perform(&mut self, action: Action) {
+        match action {
+            Action::Wrote(a, byte) => self.store.write(a, byte),
+            Action::Sent => self.strobe_sent = true,
+            Action::Peek | Action::Read(_) | Action::Idle => {}
+        }
+    }
+
+    /// A strobe reaches the generator, if the driver has sent one, as by `Event::Strobe`.
+    pub fn strobe(&mut self) -> Entry<S::Alloc> {
+        if !self.strobe_sent {
+            return Entry::NoStrobe;
+        }
+        self.generator.start();
+        Entry::Started
+    }
+
+    /// The generator fetches one byte, as by `Event::Fetch`. This is the one event that takes memory, for the stroke of
+    /// a vector with an intensity of at least 1. An error is want of it, and then the world is as it was.
+    pub fn fetch(&mut self) -> Result<Entry<S::Alloc>, OutOfMemory> {
+        let Some(address) = self.generator.wants() else {
+            return Ok(Entry::Still);
+        };
+        let low = self.generator.low_byte();
+        let byte = fetch_byte(&self.store, &self.rom, address, low.is_some());
+        let taken = self.generator.take_byte(byte)?;
+        Ok(Entry::of_fetch(address, low, byte, taken))
+    }
+
+    /// The generator is reset, as by `Event::ResetGen`.
+    pub fn reset_generator(&mut self) -> Entry<S::Alloc> {
+        self.generator.reset(); // The open run is over.
+        Entry::Cleared
+    }
+
+    /// The driver is reset, as by `Event::ResetCpu`.
+    pub fn reset_processor(&mut self) -> Entry<S::Alloc> {
+        self.driver.reset();
+        Entry::Cleared
+    }
+
+    /// The whole system is reset, and the RAM holds this image, as by `Event::ResetAll`.
+    pub fn reset_all(&mut self, image: &Image<S::Alloc>) -> Entry<S::Alloc> {
+        self.store.load(image);
+        self.generator.reset();
+        self.driver.reset();
+        self.strobe_sent = false; // No strobe is under way any more.
+        Entry::Cleared
+    }
+}

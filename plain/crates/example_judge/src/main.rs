@@ -1,0 +1,65 @@
+//! An example: a trace is played over banked memory, and its log is judged. A test program would judge the log of its
+//! own driver so.
+extern crate plain_std as std;
+
+use std::prelude::*;
+
+use std::println;
+
+use dvg_frame::Draft;
+use dvg_mem::{Banked, Image, MEMORY_BYTES, Rom};
+use dvg_text::read_trace;
+use dvg_world::{Event, Trace, TraceEvent, first_torn, run_trace};
+use std::io;
+use std::process::ExitCode;
+
+/// An event of a trace with a draft or an image of its own.
+fn own_event(rt: &HostRuntime, event: TraceEvent) -> Option<Event> {
+    Some(match event {
+        TraceEvent::Offer(ops) => {
+            let mut draft = Draft::new();
+            draft.try_extend_from_slice(ops).ok()?;
+            Event::Offer(Box::new(rt.alloc(), draft).ok()?)
+        }
+        TraceEvent::Redraw => Event::Redraw,
+        TraceEvent::Tick => Event::Tick,
+        TraceEvent::Strobe => Event::Strobe,
+        TraceEvent::Fetch => Event::Fetch,
+        TraceEvent::ResetGen => Event::ResetGen,
+        TraceEvent::ResetCpu => Event::ResetCpu,
+        TraceEvent::ResetAll(image) => Event::ResetAll(image.clone().ok()?),
+    })
+}
+
+/// The events of a trace, one by one.
+fn events(rt: &HostRuntime, trace: &Trace) -> Option<Vec<Event>> {
+    let mut events = Vec::new(rt.alloc());
+    for number in 0..trace.len() {
+        events.push(own_event(rt, trace.event(number))?).ok()?;
+    }
+    Some(events)
+}
+
+/// Plays the trace of a text, and finds the first entry of its log that tears a picture. None where the text is no
+/// trace, or memory is refused.
+fn judge(rt: &HostRuntime, text: &[u8]) -> Option<Option<usize>> {
+    let told = read_trace(rt.alloc(), text).ok()?;
+    let rom = Rom::new(rt.alloc(), told.rom.as_slice()).ok()?;
+    let image = Image::new(rt.alloc(), &[0; MEMORY_BYTES]).ok()?;
+    let entries = run_trace::<Banked>(rt.alloc(), rom, &image, &told.events).ok()?;
+    let events = events(rt, &told.events)?;
+    Some(first_torn(events.as_slice(), entries.as_slice()))
+}
+
+fn main() -> ExitCode {
+    let rt = HostRuntime::new();
+    let Ok(text) = io::read_to_string(rt.alloc(), rt.stdin()) else {
+        return ExitCode::from(2);
+    };
+    let (told, status) = match judge(&rt, text.as_bytes()) {
+        Some(None) => (println!(rt; "not torn"), 0),
+        Some(Some(number)) => (println!(rt; "torn at {number}"), 1),
+        None => return ExitCode::from(2),
+    };
+    ExitCode::from(if told.is_ok() { status } else { 2 })
+}

@@ -1,0 +1,894 @@
+//! The eraser: takes the contracts away from Rattle sources. What is left is Rust, over plain_std.
+//!
+//! ```text
+//! erase FROM TO CRATE..            writes TO/CRATE/src/*.rs of FROM/CRATE/src/*.rt
+//! erase --check FROM TO CRATE..    compares instead, and names each file that differs: status 1
+//! ```
+//!
+//! It does three things, and refuses what it doesn't know: status 2.
+//!
+//! 1. It takes away: `ghost` items, fields and uses; the clauses `requires` and `ensures`; `impl
+//!    Model` and the use of `Model`; `tactic` attributes; `Drop` among derives; `derive_where` with
+//!    a parameter; the module `laws` and modules of tests. A comment right before one of these
+//!    items goes with it.
+//! 2. It writes otherwise: `derive_where(X)` as `derive(X)`; `rattlefmt::skip` as `rustfmt::skip`;
+//!    the signature of `Display::fmt`; `main`, which gets its runtime by a line of its own.
+//! 3. It puts in: the lines of `HEAD` at the head of a crate; `PRELUDE` in a file that names one of
+//!    its words; a `use` of the `MACROS` that a file calls.
+//!
+//! All else stays as it is, letter by letter, with its comments.
+use std::collections::BTreeSet;
+use std::path::{Path, PathBuf};
+use std::process::ExitCode;
+use std::{env, fs};
+
+/// What stands at the head of a library.
+const HEAD: &str = "#![no_std]\n\nextern crate plain_std as std;\n\n";
+
+/// What stands at the head of a program, which keeps Rust's own std.
+const PROGRAM_HEAD: &str = "extern crate plain_std as std;\n\n";
+
+/// What stands in a file that names one of `PRELUDE_WORDS`.
+const PRELUDE: &str = "use std::prelude::*;\n\n";
+
+/// The words that a Rattle source has without a `use`, and that mean something else in Rust.
+const PRELUDE_WORDS: [&str; 6] = ["Box", "Clone", "Drop", "HostRuntime", "String", "Vec"];
+
+/// The macros whose first word is the runtime, as in Rattle.
+const MACROS: [&str; 3] = ["eprint", "eprintln", "println"];
+
+/// The attributes that stay as they are.
+const KEPT_ATTRIBUTES: [&str; 6] = ["error", "from", "inline", "must_use", "repr", "unsafe"];
+
+/// Words of Rattle that must not be left over.
+const RATTLE_WORDS: [&str; 5] = ["Model", "decreases", "invariant", "proof", "tactic"];
+
+/// The modules that have no code, each in a file of its own.
+const ERASED_MODULES: [&str; 2] = ["laws", "tests"];
+
+/// Why a source is refused, and at which byte.
+#[derive(Debug, PartialEq, Eq)]
+struct Refused {
+    at: usize,
+    why: String,
+}
+
+impl Refused {
+    fn new(at: usize, why: impl Into<String>) -> Refused {
+        let why = why.into();
+        Refused { at, why }
+    }
+}
+
+// --- Tokens ---
+
+/// What begins at a place of a source.
+#[derive(Clone, Copy, Debug, PartialEq, Eq)]
+enum Kind {
+    Word,
+    /// A text in quotes, or a letter in quotes.
+    Literal,
+    /// To the end of its line, without that.
+    Comment,
+    /// A blank, a bracket or another mark: one byte.
+    Mark,
+}
+
+fn is_of_word(byte: u8) -> bool {
+    byte.is_ascii_alphanumeric() || byte == b'_' || byte >= 0x80
+}
+
+/// The end of a text in quotes that begins at a place.
+fn end_of_text(text: &[u8], from: usize) -> Result<usize, Refused> {
+    let mut at = from + 1;
+    while at < text.len() {
+        match text[at] {
+            b'"' => return Ok(at + 1),
+            b'\\' => at += 2,
+            _ => at += 1,
+        }
+    }
+    Err(Refused::new(from, "a text without an end"))
+}
+
+/// The end of what begins with a single quote: a letter, or the quote of a lifetime alone.
+fn end_of_quote(text: &[u8], from: usize) -> (Kind, usize) {
+    let first = from + 1;
+    if text.get(first) == Some(&b'\\') {
+        let rest = text.get(first + 2..).unwrap_or(&[]);
+        let end = rest.iter().position(|byte| *byte == b'\'');
+        return (Kind::Literal, end.map_or(text.len(), |k| first + 2 + k + 1));
+    }
+    let letter = (first + 1..text.len().min(first + 5)).find(|at| text[*at] == b'\'');
+    match letter {
+        Some(end) if end == first + 1 || text[first] >= 0x80 => (Kind::Literal, end + 1),
+        _ => (Kind::Mark, first),
+    }
+}
+
+/// What begins at a place, and where it ends.
+fn token(text: &[u8], from: usize) -> Result<(Kind, usize), Refused> {
+    let rest = &text[from..];
+    let until = |end: Option<usize>| end.map_or(text.len(), |k| from + k);
+    match rest[0] {
+        b'"' => Ok((Kind::Literal, end_of_text(text, from)?)),
+        b'\'' => Ok(end_of_quote(text, from)),
+        b'/' if rest.starts_with(b"//") => {
+            let end = rest.iter().position(|byte| *byte == b'\n');
+            Ok((Kind::Comment, until(end)))
+        }
+        b'/' if rest.starts_with(b"/*") => Err(Refused::new(from, "a comment between /* and */")),
+        byte if is_of_word(byte) => {
+            let end = until(rest.iter().position(|byte| !is_of_word(*byte)));
+            let is_raw = matches!(&text[from..end], b"r" | b"br" | b"cr");
+            match text.get(end) {
+                Some(b'"' | b'#') if is_raw => Err(Refused::new(from, "a raw text")),
+                _ => Ok((Kind::Word, end)),
+            }
+        }
+        _ => Ok((Kind::Mark, from + 1)),
+    }
+}
+
+/// The place after blanks.
+fn after_blanks(text: &[u8], from: usize) -> usize {
+    let blanks = text[from..]
+        .iter()
+        .position(|byte| !byte.is_ascii_whitespace());
+    blanks.map_or(text.len(), |k| from + k)
+}
+
+/// The place after the bracket that closes the one at a place. In what a clause says nothing but
+/// brackets and texts in quotes counts.
+fn after_bracket(text: &[u8], from: usize) -> Result<usize, Refused> {
+    let (open, close) = match text.get(from) {
+        Some(b'{') => (b'{', b'}'),
+        Some(b'[') => (b'[', b']'),
+        _ => return Err(Refused::new(from, "no bracket where one must stand")),
+    };
+    let (mut at, mut depth) = (from, 0_usize);
+    while at < text.len() {
+        match text[at] {
+            b'"' => at = end_of_text(text, at)? - 1,
+            byte if byte == open => depth += 1,
+            byte if byte == close && depth == 1 => return Ok(at + 1),
+            byte if byte == close => depth -= 1,
+            _ => {}
+        }
+        at += 1;
+    }
+    Err(Refused::new(from, "a bracket that isn't closed"))
+}
+
+// --- The eraser ---
+
+/// A source, how far it was read, what is left of it, and the words of code that are left.
+struct Eraser<'a> {
+    text: &'a [u8],
+    at: usize,
+    out: Vec<u8>,
+    words: BTreeSet<&'a str>,
+}
+
+impl<'a> Eraser<'a> {
+    fn new(text: &'a str) -> Eraser<'a> {
+        Eraser {
+            text: text.as_bytes(),
+            at: 0,
+            out: Vec::new(),
+            words: BTreeSet::new(),
+        }
+    }
+
+    fn refuse<T>(&self, why: impl Into<String>) -> Result<T, Refused> {
+        Err(Refused::new(self.at, why))
+    }
+
+    fn slice(&self, from: usize, end: usize) -> &'a str {
+        std::str::from_utf8(&self.text[from..end]).unwrap_or("")
+    }
+
+    fn begins(&self, with: &str) -> bool {
+        self.text[self.at..].starts_with(with.as_bytes())
+    }
+
+    /// The place of a byte, from a place on.
+    fn find(&self, byte: u8, from: usize, why: &str) -> Result<usize, Refused> {
+        match self.text[from..].iter().position(|other| *other == byte) {
+            Some(k) => Ok(from + k),
+            None => self.refuse(why),
+        }
+    }
+
+    fn copy_to(&mut self, end: usize) {
+        self.out.extend_from_slice(&self.text[self.at..end]);
+        self.at = end;
+    }
+
+    fn put(&mut self, text: &str, end: usize) {
+        self.out.extend_from_slice(text.as_bytes());
+        self.at = end;
+    }
+
+    // --- Taking away ---
+
+    /// Where the last line of what is left begins, but for an empty one at the end.
+    fn last_line(&self) -> usize {
+        let end = self.out.strip_suffix(b"\n").unwrap_or(&self.out).len();
+        self.out[..end]
+            .iter()
+            .rposition(|byte| *byte == b'\n')
+            .map_or(0, |k| k + 1)
+    }
+
+    /// Takes the blanks back that stand before an item, and the comments on the lines above it.
+    fn take_back_comments(&mut self) {
+        loop {
+            while self.out.last() == Some(&b' ') {
+                self.out.pop();
+            }
+            let start = self.last_line();
+            let line = self.out[start..].trim_ascii_start();
+            if !line.starts_with(b"//") || line.starts_with(b"//!") {
+                return;
+            }
+            self.out.truncate(start);
+        }
+    }
+
+    /// The same before a clause, which stands on a line of its own below a signature.
+    fn take_back_to_signature(&mut self) {
+        loop {
+            self.out.truncate(self.out.trim_ascii_end().len());
+            let start = self.last_line();
+            if !self.out[start..].trim_ascii_start().starts_with(b"//") {
+                return;
+            }
+            self.out.truncate(start);
+        }
+    }
+
+    /// Takes the rest of a line away up to a place, with the line's end and the blanks before it.
+    /// The comments above belong to the next line.
+    fn drop_line(&mut self, end: usize) {
+        while self.out.last() == Some(&b' ') {
+            self.out.pop();
+        }
+        self.at = end;
+        if self.begins("\n") {
+            self.at += 1;
+        }
+    }
+
+    /// Takes an item away, with its comments. No blank line is left twice, or at the edge of a
+    /// block.
+    fn drop_item(&mut self, end: usize) {
+        self.take_back_comments();
+        self.drop_line(end);
+        if self.out.is_empty() || self.out.ends_with(b"\n\n") || self.out.ends_with(b"{\n") {
+            while self.begins("\n") {
+                self.at += 1;
+            }
+        }
+        let next = self.text.get(after_blanks(self.text, self.at));
+        while next.is_none_or(|byte| *byte == b'}') && self.out.ends_with(b"\n\n") {
+            self.out.pop();
+        }
+    }
+
+    /// `ghost use ..;`, or an item or a field with a body.
+    fn drop_ghost(&mut self) -> Result<(), Refused> {
+        let from = after_blanks(self.text, self.at + "ghost".len());
+        let end = if self.text[from..].starts_with(b"use ") {
+            self.find(b';', from, "a ghost use without an end")? + 1
+        } else {
+            let brace = self.find(b'{', from, "a ghost item without a body")?;
+            let end = after_bracket(self.text, brace)?;
+            end + usize::from(matches!(self.text.get(end), Some(b';' | b',')))
+        };
+        self.drop_item(end);
+        Ok(())
+    }
+
+    /// The place after the clauses, and the comments between them, that begin at a place.
+    fn after_clauses(&self) -> Result<usize, Refused> {
+        let mut at = self.at;
+        loop {
+            at = after_blanks(self.text, at);
+            if at == self.text.len() {
+                return self.refuse("a clause that nothing follows");
+            }
+            let (kind, end) = token(self.text, at)?;
+            match (kind, self.slice(at, end)) {
+                (Kind::Comment, _) => at = end,
+                (Kind::Word, "requires" | "ensures" | "ghost") => {
+                    let brace = self.find(b'{', at, "a clause without a body")?;
+                    at = after_bracket(self.text, brace)?;
+                }
+                (_, "{" | ";") => return Ok(at),
+                _ => return self.refuse("a clause that no body follows"),
+            }
+        }
+    }
+
+    /// The clauses of a function. What follows goes on the line of the signature; where that ends
+    /// with the comma of a `where`, it stays on a line of its own.
+    fn drop_clauses(&mut self) -> Result<(), Refused> {
+        let end = self.after_clauses()?;
+        self.take_back_to_signature();
+        if self.out.ends_with(b",") {
+            let start = self.text[..end].iter().rposition(|byte| *byte == b'\n');
+            let start = start.unwrap_or(end);
+            self.put("", start);
+            self.copy_to(end);
+        } else {
+            self.put(if self.text[end] == b'{' { " " } else { "" }, end);
+        }
+        Ok(())
+    }
+
+    /// `impl Model for ..`. Other blocks stay.
+    fn implementation(&mut self, end: usize) -> Result<(), Refused> {
+        let brace = self.find(b'{', self.at, "an implementation without a body")?;
+        if self
+            .slice(self.at, brace)
+            .split_whitespace()
+            .any(|word| word == "Model")
+        {
+            self.drop_item(after_bracket(self.text, brace)?);
+        } else {
+            self.copy_word(end);
+        }
+        Ok(())
+    }
+
+    /// A module. One of laws has no code.
+    fn module(&mut self, end: usize) {
+        for line in ["pub mod laws;", "mod laws;"] {
+            if self.begins(line) {
+                return self.drop_line(self.at + line.len());
+            }
+        }
+        self.copy_word(end);
+    }
+
+    /// A `use`. That of `Model` goes.
+    fn usage(&mut self, end: usize) {
+        let model = "use std::marker::Model;";
+        if self.begins(model) {
+            self.drop_line(self.at + model.len());
+        } else {
+            self.copy_word(end);
+        }
+    }
+
+    // --- Attributes ---
+
+    fn attribute(&mut self) -> Result<(), Refused> {
+        let bracket = self.find(b'[', self.at, "an attribute without a bracket")?;
+        let end = after_bracket(self.text, bracket)?;
+        let inside = self.slice(bracket + 1, end - 1);
+        let (name, words) = inside.split_once('(').unwrap_or((inside, ""));
+        let words = words.strip_suffix(')').unwrap_or(words);
+        match name {
+            "tactic" if self.begins("#!") => self.drop_item(end),
+            "tactic" => self.drop_line(end),
+            "rattlefmt::skip" => self.put("#[rustfmt::skip]", end),
+            "derive_where" if words.contains(';') => self.drop_line(end),
+            "derive" | "derive_where" => self.derive(words, end),
+            "cfg" if words == "test" => self.drop_tests(end)?,
+            _ if KEPT_ATTRIBUTES.contains(&name) => self.copy_to(end),
+            _ => return self.refuse(format!("the attribute '{name}'")),
+        }
+        Ok(())
+    }
+
+    /// A derive, without `Drop`.
+    fn derive(&mut self, words: &str, end: usize) {
+        let kept: Vec<&str> = words.split(", ").filter(|word| *word != "Drop").collect();
+        if kept.is_empty() {
+            self.drop_line(end);
+        } else {
+            self.put(&format!("#[derive({})]", kept.join(", ")), end);
+        }
+    }
+
+    /// A module of tests, which has a file of its own.
+    fn drop_tests(&mut self, end: usize) -> Result<(), Refused> {
+        let module = after_blanks(self.text, end);
+        let end = self.find(b';', module, "a test without an end")?;
+        match self.slice(module, end) {
+            "mod tests" => self.drop_item(end + 1),
+            _ => return self.refuse("a test that is no module 'tests' with a file of its own"),
+        }
+        Ok(())
+    }
+
+    // --- Functions ---
+
+    /// A function's head. Those of `Display::fmt` and `main` are written otherwise.
+    fn function(&mut self, end: usize) -> Result<(), Refused> {
+        if self.begins("fn fmt<") {
+            self.display()
+        } else if self.begins("fn main(") {
+            self.main()
+        } else {
+            self.copy_word(end);
+            Ok(())
+        }
+    }
+
+    /// `fn fmt<W: fmt::Write>(&self, f: &mut fmt::Formatter<W>)`, where `f` is any name.
+    fn display(&mut self) -> Result<(), Refused> {
+        let end = self.find(b')', self.at, "a signature without an end")?;
+        let name = self
+            .slice(self.at, end)
+            .strip_prefix("fn fmt<W: fmt::Write>(&self, ")
+            .and_then(|rest| rest.strip_suffix(": &mut fmt::Formatter<W>"));
+        match name {
+            Some(name) => self.put(
+                &format!("fn fmt(&self, {name}: &mut fmt::Formatter<'_>"),
+                end,
+            ),
+            None => return self.refuse("another signature of 'fmt' than that of Display"),
+        }
+        Ok(())
+    }
+
+    /// `fn main(rt: HostRuntime) -> ExitCode {`, where `rt` is any name.
+    fn main(&mut self) -> Result<(), Refused> {
+        let brace = self.find(b'{', self.at, "a main without a body")?;
+        let head = self.slice(self.at, brace);
+        let name = head
+            .strip_prefix("fn main(")
+            .and_then(|rest| rest.strip_suffix(": HostRuntime) -> ExitCode "));
+        let Some(name) = name else {
+            return self.refuse("another signature of 'main' than from HostRuntime to ExitCode");
+        };
+        self.words.insert("HostRuntime");
+        let line = format!("fn main() -> ExitCode {{\n    let {name} = HostRuntime::new();");
+        self.put(&line, brace + 1);
+        Ok(())
+    }
+
+    // --- All of it ---
+
+    fn copy_word(&mut self, end: usize) {
+        self.words.insert(self.slice(self.at, end));
+        self.copy_to(end);
+    }
+
+    fn word(&mut self, end: usize) -> Result<(), Refused> {
+        match self.slice(self.at, end) {
+            "ghost" => self.drop_ghost()?,
+            "requires" | "ensures" => self.drop_clauses()?,
+            "impl" => self.implementation(end)?,
+            "pub" | "mod" => self.module(end),
+            "use" => self.usage(end),
+            "fn" => self.function(end)?,
+            word if RATTLE_WORDS.contains(&word) => {
+                return self.refuse(format!("the word '{word}' where no rule takes it away"));
+            }
+            _ => self.copy_word(end),
+        }
+        Ok(())
+    }
+
+    fn step(&mut self) -> Result<(), Refused> {
+        let (kind, end) = token(self.text, self.at)?;
+        match kind {
+            Kind::Word => self.word(end)?,
+            Kind::Mark if self.begins("#[") || self.begins("#![") => self.attribute()?,
+            _ => self.copy_to(end),
+        }
+        Ok(())
+    }
+
+    fn run(mut self) -> Result<(String, BTreeSet<&'a str>), Refused> {
+        while self.at < self.text.len() {
+            self.step()?;
+        }
+        let text = String::from_utf8(self.out).map_err(|_| Refused::new(0, "no text is left"))?;
+        Ok((text, self.words))
+    }
+}
+
+// --- What is put in ---
+
+/// What a file is to its crate.
+#[derive(Clone, Copy, Debug, PartialEq, Eq)]
+enum Role {
+    Library,
+    Program,
+    Module,
+}
+
+impl Role {
+    fn of(stem: &str) -> Role {
+        match stem {
+            "lib" => Role::Library,
+            "main" => Role::Program,
+            _ => Role::Module,
+        }
+    }
+
+    fn head(self) -> &'static str {
+        match self {
+            Role::Library => HEAD,
+            Role::Program => PROGRAM_HEAD,
+            Role::Module => "",
+        }
+    }
+}
+
+/// The line that brings in the macros that a file calls.
+fn use_of_macros(words: &BTreeSet<&str>) -> String {
+    let called: Vec<&str> = MACROS
+        .into_iter()
+        .filter(|word| words.contains(word))
+        .collect();
+    match called.as_slice() {
+        [] => String::new(),
+        [one] => format!("use std::{one};\n\n"),
+        some => format!("use std::{{{}}};\n\n", some.join(", ")),
+    }
+}
+
+/// What is left of a source. Lines are put in after the comments of the file itself.
+fn erased(text: &str, role: Role) -> Result<String, Refused> {
+    let (body, words) = Eraser::new(text).run()?;
+    let about: usize = body
+        .lines()
+        .take_while(|line| line.starts_with("//!"))
+        .map(|line| line.len() + 1)
+        .sum();
+    let (about, rest) = body.split_at(about.min(body.len()));
+    let needs_prelude = PRELUDE_WORDS.iter().any(|word| words.contains(word));
+    let prelude = if needs_prelude { PRELUDE } else { "" };
+    let macros = use_of_macros(&words);
+    Ok(format!(
+        "{about}{}{prelude}{macros}{}",
+        role.head(),
+        rest.trim_start_matches('\n')
+    ))
+}
+
+// --- Files ---
+
+/// The files of a folder, in order.
+fn files_of(folder: &Path) -> Result<Vec<PathBuf>, String> {
+    let why = |error| format!("{}: {error}", folder.display());
+    let mut files = Vec::new();
+    for entry in fs::read_dir(folder).map_err(why)? {
+        files.push(entry.map_err(why)?.path());
+    }
+    files.sort();
+    Ok(files)
+}
+
+/// The line of a source at which a byte stands.
+fn line_of(text: &str, at: usize) -> usize {
+    1 + text.bytes().take(at).filter(|byte| *byte == b'\n').count()
+}
+
+/// The name of the file of a source, without its ending.
+fn stem_of(file: &Path) -> Result<&str, String> {
+    match (
+        file.extension().and_then(|end| end.to_str()),
+        file.file_stem(),
+    ) {
+        (Some("rt"), Some(stem)) => stem.to_str().ok_or_else(|| "no text".to_owned()),
+        _ => Err(format!(
+            "{}: no source, whose name ends with .rt",
+            file.display()
+        )),
+    }
+}
+
+/// The files that a crate's sources become: the name of each, and its text.
+fn erased_crate(folder: &Path) -> Result<Vec<(String, String)>, String> {
+    let mut made = Vec::new();
+    for file in files_of(folder)? {
+        let stem = stem_of(&file)?;
+        if ERASED_MODULES.contains(&stem) {
+            continue;
+        }
+        let text = fs::read_to_string(&file).map_err(|e| format!("{}: {e}", file.display()))?;
+        let plain = erased(&text, Role::of(stem)).map_err(|refused| {
+            format!(
+                "{}:{}: {}",
+                file.display(),
+                line_of(&text, refused.at),
+                refused.why
+            )
+        })?;
+        made.push((format!("{stem}.rs"), plain));
+    }
+    Ok(made)
+}
+
+/// The files of a folder that stand for no source.
+fn strays(folder: &Path, made: &[(String, String)]) -> Vec<PathBuf> {
+    let is_made = |file: &Path| made.iter().any(|(name, _)| file.ends_with(name));
+    files_of(folder)
+        .unwrap_or_default()
+        .into_iter()
+        .filter(|file| !is_made(file))
+        .collect()
+}
+
+/// Says which files of a folder aren't those that were made. Answers whether there are any.
+fn differs(folder: &Path, made: &[(String, String)]) -> bool {
+    let mut found = false;
+    for (name, text) in made {
+        let path = folder.join(name);
+        if fs::read_to_string(&path).ok().as_deref() != Some(text) {
+            println!("{} isn't what is left of its source", path.display());
+            found = true;
+        }
+    }
+    for path in strays(folder, made) {
+        println!("{} stands for no source", path.display());
+        found = true;
+    }
+    found
+}
+
+/// Writes the files that were made, but for those that are so already, and removes those that stand
+/// for no source.
+fn write(folder: &Path, made: &[(String, String)]) -> Result<(), String> {
+    let why = |error| format!("{}: {error}", folder.display());
+    fs::create_dir_all(folder).map_err(why)?;
+    for (name, text) in made {
+        let path = folder.join(name);
+        if fs::read_to_string(&path).ok().as_deref() != Some(text) {
+            fs::write(path, text).map_err(why)?;
+        }
+    }
+    for path in strays(folder, made) {
+        fs::remove_file(path).map_err(why)?;
+    }
+    Ok(())
+}
+
+/// Does what the words ask for. Answers whether all is as it must be.
+fn run(words: &[String]) -> Result<bool, String> {
+    let (checks, words) = match words {
+        [first, rest @ ..] if first == "--check" => (true, rest),
+        _ => (false, words),
+    };
+    let [from, to, crates @ ..] = words else {
+        return Err("usage: erase [--check] FROM TO CRATE..".to_owned());
+    };
+    let mut is_right = true;
+    for name in crates {
+        let made = erased_crate(&Path::new(from).join(name).join("src"))?;
+        let folder = Path::new(to).join(name).join("src");
+        if checks {
+            is_right &= !differs(&folder, &made);
+        } else {
+            write(&folder, &made)?;
+        }
+    }
+    Ok(is_right)
+}
+
+fn main() -> ExitCode {
+    let words: Vec<String> = env::args().skip(1).collect();
+    match run(&words) {
+        Ok(true) => ExitCode::SUCCESS,
+        Ok(false) => ExitCode::FAILURE,
+        Err(why) => {
+            eprintln!("erase: {why}");
+            ExitCode::from(2)
+        }
+    }
+}
+
+#[cfg(test)]
+mod tests {
+    use super::{Role, erased};
+
+    /// What is left of a module's source is this.
+    #[track_caller]
+    fn leaves(source: &str, wanted: &str) {
+        assert_eq!(erased(source, Role::Module), Ok(wanted.to_owned()));
+    }
+
+    /// A source is refused at the place where this text stands.
+    #[track_caller]
+    fn refuses(source: &str, place: &str) {
+        let refused = erased(source, Role::Module).expect_err("it is refused");
+        assert_eq!(Some(refused.at), source.find(place), "{}", refused.why);
+    }
+
+    /// A source stays as it is.
+    #[track_caller]
+    fn stays(source: &str) {
+        leaves(source, source);
+    }
+
+    #[test]
+    fn plain_code_stays() {
+        stays("/// A sum.\npub fn sum(a: u8, b: u8) -> u8 {\n    a + b // of two\n}\n");
+        stays("impl<A: Allocator> Rom<A> {\n    fn first<'a>(&'a self) -> &'a u8 { &self.0 }\n}\n");
+        stays("pub mod lawsuits;\nmod draft;\npub use draft::Draft;\n");
+    }
+
+    #[test]
+    fn words_of_contracts_in_texts_and_comments_stay() {
+        stays("// It requires { nothing.\nlet text = \"ensures { ghost \\\" use\";\n");
+        stays(
+            "let letters = ['{', '\"', '\\'', '\\\\', 'é', b'{', b'\\n', '\\u{7b}'];\nfn f() {}\n",
+        );
+        stays("fn ghostly(requirements: u8) {}\n");
+    }
+
+    #[test]
+    fn clauses_go() {
+        let source =
+            "fn f(a: u8) -> u8\n    requires { a < 9 }\n    ensures one { r { x } }\n{\n    a\n}\n";
+        leaves(source, "fn f(a: u8) -> u8 {\n    a\n}\n");
+        leaves(
+            "fn f()\n    requires* { sem 𝓛 at }\n    ensures* { x }\n{\n}\n",
+            "fn f() {\n}\n",
+        );
+        leaves(
+            "fn f()\n    ghost d: { Held }\n    // Why.\n    ensures { \"}\" }\n{\n}\n",
+            "fn f() {\n}\n",
+        );
+        leaves(
+            "fn f()\n    // Why.\n    ensures { x }\n{\n}\n",
+            "fn f() {\n}\n",
+        );
+    }
+
+    #[test]
+    fn clauses_of_a_call_without_a_body_go() {
+        leaves(
+            "trait T {\n    fn f();\n    fn g()\n        ensures { x };\n}\n",
+            "trait T {\n    fn f();\n    fn g();\n}\n",
+        );
+    }
+
+    #[test]
+    fn clauses_after_a_where_go() {
+        let source = "fn f<T>(t: T)\nwhere\n    T: Copy,\n    ensures { x }\n{\n}\n";
+        leaves(source, "fn f<T>(t: T)\nwhere\n    T: Copy,\n{\n}\n");
+    }
+
+    #[test]
+    fn ghosts_go() {
+        leaves(
+            "//! About.\nghost use Rattle.std.{◌≡◌, IfSome};\n\nuse a::B;\n",
+            "//! About.\nuse a::B;\n",
+        );
+        leaves(
+            "struct S {\n    a: u8,\n    ghost b: { x },\n}\n",
+            "struct S {\n    a: u8,\n}\n",
+        );
+        leaves(
+            "impl I for S {\n    // Why.\n    ghost view = { λ s. s };\n\n    fn f() {}\n}\n",
+            "impl I for S {\n    fn f() {}\n}\n",
+        );
+        leaves(
+            "struct S {\n    a: u8,\n\n    ghost b: { x },\n}\n",
+            "struct S {\n    a: u8,\n}\n",
+        );
+    }
+
+    #[test]
+    fn models_go() {
+        let source = "use std::marker::Model;\nuse a::B;\n\n\
+            // How.\nimpl<A: X> Model for S<A> {\n    ghost Value = { a };\n}\n\nfn f() {}\n";
+        leaves(source, "use a::B;\n\nfn f() {}\n");
+        stays("impl Modelled for S {\n}\n");
+    }
+
+    #[test]
+    fn laws_and_tests_go() {
+        leaves("mod a;\npub mod laws;\nmod b;\n", "mod a;\nmod b;\n");
+        leaves("mod a;\n\n#[cfg(test)]\nmod tests;\n", "mod a;\n");
+    }
+
+    #[test]
+    fn attributes() {
+        leaves("#![tactic(auto)]\n\nfn f() {}\n", "fn f() {}\n");
+        leaves(
+            "/// F.\n#[tactic(auto, using(a::b))]\nfn f() {}\n",
+            "/// F.\nfn f() {}\n",
+        );
+        leaves("#[derive(Drop)]\nstruct S;\n", "struct S;\n");
+        leaves(
+            "#[derive(Debug, Drop, Eq)]\nstruct S;\n",
+            "#[derive(Debug, Eq)]\nstruct S;\n",
+        );
+        leaves(
+            "#[derive_where(Debug, Eq)]\nstruct S;\n",
+            "#[derive(Debug, Eq)]\nstruct S;\n",
+        );
+        leaves(
+            "/// S.\n#[derive_where(Clone; A)]\nstruct S;\n",
+            "/// S.\nstruct S;\n",
+        );
+        leaves(
+            "#[rattlefmt::skip]\nfn f() {}\n",
+            "#[rustfmt::skip]\nfn f() {}\n",
+        );
+        stays("#[inline(always)]\n#[error(\"{0} is ] wrong\")]\n#[unsafe(no_mangle)]\nfn f() {}\n");
+    }
+
+    #[test]
+    fn signatures() {
+        leaves(
+            "    fn fmt<W: fmt::Write>(&self, out: &mut fmt::Formatter<W>) -> fmt::Result {\n",
+            "    fn fmt(&self, out: &mut fmt::Formatter<'_>) -> fmt::Result {\n",
+        );
+        let program = erased(
+            "//! P.\nfn main(rt: HostRuntime) -> ExitCode {\n    f(&rt)\n}\n",
+            Role::Program,
+        );
+        let wanted = "//! P.\nextern crate plain_std as std;\n\nuse std::prelude::*;\n\n\
+            fn main() -> ExitCode {\n    let rt = HostRuntime::new();\n    f(&rt)\n}\n";
+        assert_eq!(program.as_deref(), Ok(wanted));
+    }
+
+    #[test]
+    fn what_is_put_in() {
+        let library = erased(
+            "//! L.\n//! M.\n#![tactic(auto)]\n\nmod a;\n",
+            Role::Library,
+        );
+        let wanted = "//! L.\n//! M.\n#![no_std]\n\nextern crate plain_std as std;\n\nmod a;\n";
+        assert_eq!(library.as_deref(), Ok(wanted));
+        leaves(
+            "fn f() -> Vec<u8> {}\n",
+            "use std::prelude::*;\n\nfn f() -> Vec<u8> {}\n",
+        );
+        leaves(
+            "fn f() { println!(rt; \"\"); }\n",
+            "use std::println;\n\nfn f() { println!(rt; \"\"); }\n",
+        );
+        let source = "fn f() { eprint!(rt; \"\"); eprintln!(rt; \"\"); }\n";
+        leaves(
+            source,
+            &format!("use std::{{eprint, eprintln}};\n\n{source}"),
+        );
+        stays("// A Vec.\nlet text = \"Box\";\n#[error(\"Drop\")]\nfn f() {}\n");
+    }
+
+    #[test]
+    fn what_is_unknown_is_refused() {
+        refuses(
+            "fn f()\n    requires { x }\n    decreases { y }\n{\n}\n",
+            "requires",
+        );
+        refuses("fn f() {\n    while a decreases { b } {}\n}\n", "decreases");
+        refuses("fn f() {\n    invariant { b }\n}\n", "invariant");
+        refuses("fn f(m: Model) {}\n", "Model");
+        refuses("#[proof]\nfn f() {}\n", "#[proof]");
+        refuses("#[cfg(test)]\nmod tests {\n}\nfn f();\n", "#[cfg");
+        refuses("#[cfg(unix)]\nfn f() {}\n", "#[cfg");
+        refuses("fn fmt<W>(&self, f: &mut F<W>) {}\n", "fn fmt");
+        refuses("fn main(rt: Other) -> ExitCode {}\n", "fn main");
+    }
+
+    #[test]
+    fn what_has_no_end_is_refused() {
+        refuses("fn f()\n    ensures { x \n", "{ x");
+        refuses("fn f()\n    ensures { x }\n", "ensures");
+        refuses("fn f()\n    ensures\n", "ensures");
+        refuses("ghost use a::b\n", "ghost");
+        refuses("ghost view\n", "ghost");
+        refuses("let text = \"abc;\n", "\"abc");
+        refuses("#[derive(Debug\n", "[derive");
+        refuses("impl Model for S\n", "impl");
+    }
+
+    #[test]
+    fn what_could_be_misread_is_refused() {
+        refuses("let text = r\"\\\";\n", "r\"");
+        refuses("let text = br#\"\"#;\n", "br#");
+        refuses("fn f() { /* ghost */ }\n", "/*");
+    }
+}

@@ -1,0 +1,222 @@
+//! Allocators, boxes and vectors.
+use core::alloc::Layout;
+use core::ops::{Deref, DerefMut};
+use heap::vec;
+
+/// What hands out memory. Here all of it comes from Rust's global allocator.
+pub trait Allocator {}
+
+/// Rust's global allocator.
+#[derive(Clone, Copy, Debug, Default, PartialEq, Eq)]
+pub struct Global;
+
+impl Allocator for Global {}
+
+impl<A: Allocator> Allocator for &A {}
+
+/// Memory was refused.
+#[derive(Clone, Copy, Debug, PartialEq, Eq)]
+pub struct AllocError;
+
+/// Memory was refused for a value, which comes back.
+#[derive(Clone, Copy, Debug, PartialEq, Eq)]
+pub struct AllocFailed<T>(pub T);
+
+impl<T> From<AllocFailed<T>> for AllocError {
+    fn from(_refused: AllocFailed<T>) -> AllocError {
+        AllocError
+    }
+}
+
+/// What may be let go: in Rust each value.
+pub trait Drop: Sized {}
+
+impl<T> Drop for T {}
+
+/// A copy, for which memory may be refused.
+pub trait Clone: Sized {
+    /// The copy.
+    fn clone(&self) -> Result<Self, AllocError>;
+}
+
+impl<T: Copy> Clone for T {
+    fn clone(&self) -> Result<T, AllocError> {
+        Ok(*self)
+    }
+}
+
+/// A value in memory of its own.
+#[derive(Debug, PartialEq, Eq)]
+pub struct Box<T: ?Sized, A = Global> {
+    alloc: A,
+    value: heap::boxed::Box<T>,
+}
+
+impl<T, A> Box<T, A> {
+    /// The value in memory of its own, or back where that is refused.
+    pub fn new(alloc: A, value: T) -> Result<Box<T, A>, AllocFailed<T>> {
+        let layout = Layout::new::<T>();
+        if layout.size() == 0 {
+            let value = heap::boxed::Box::new(value);
+            return Ok(Box { alloc, value });
+        }
+        // SAFETY: the layout has bytes; the pointer is to memory of this layout, which is written
+        // before it is a box.
+        let value = unsafe {
+            let at = heap::alloc::alloc(layout).cast::<T>();
+            if at.is_null() {
+                return Err(AllocFailed(value));
+            }
+            at.write(value);
+            heap::boxed::Box::from_raw(at)
+        };
+        Ok(Box { alloc, value })
+    }
+}
+
+impl<T> Box<T> {
+    /// Where the value is, which is to be freed by `from_raw`.
+    pub fn into_raw(this: Box<T>) -> *mut T {
+        heap::boxed::Box::into_raw(this.value)
+    }
+
+    /// The box of a value.
+    ///
+    /// # Safety
+    /// The pointer is one that `into_raw` gave, and comes back once.
+    pub unsafe fn from_raw(alloc: Global, at: *mut T) -> Box<T> {
+        Box {
+            alloc,
+            // SAFETY: as said above.
+            value: unsafe { heap::boxed::Box::from_raw(at) },
+        }
+    }
+}
+
+impl<T: ?Sized, A> Box<T, A> {
+    /// The allocator.
+    pub fn allocator(this: &Box<T, A>) -> &A {
+        &this.alloc
+    }
+}
+
+impl<T: ?Sized, A> Deref for Box<T, A> {
+    type Target = T;
+
+    fn deref(&self) -> &T {
+        &self.value
+    }
+}
+
+impl<T: ?Sized, A> DerefMut for Box<T, A> {
+    fn deref_mut(&mut self) -> &mut T {
+        &mut self.value
+    }
+}
+
+/// A vector.
+#[derive(Debug, PartialEq, Eq)]
+pub struct Vec<T, A = Global> {
+    alloc: A,
+    items: vec::Vec<T>,
+}
+
+impl<T, A> Vec<T, A> {
+    /// A vector of nothing.
+    pub const fn new(alloc: A) -> Vec<T, A> {
+        Vec {
+            alloc,
+            items: vec::Vec::new(),
+        }
+    }
+
+    /// A vector of nothing, with room.
+    pub fn with_capacity(alloc: A, room: usize) -> Result<Vec<T, A>, AllocError> {
+        let mut made = Vec::new(alloc);
+        made.items.try_reserve_exact(room).map_err(|_| AllocError)?;
+        Ok(made)
+    }
+
+    /// The allocator.
+    pub fn allocator(&self) -> &A {
+        &self.alloc
+    }
+
+    /// The elements.
+    pub fn as_slice(&self) -> &[T] {
+        &self.items
+    }
+
+    /// The elements.
+    pub fn as_mut_slice(&mut self) -> &mut [T] {
+        &mut self.items
+    }
+
+    /// Room for more elements.
+    pub fn reserve(&mut self, room: usize) -> Result<(), AllocError> {
+        self.items.try_reserve(room).map_err(|_| AllocError)
+    }
+
+    /// One element more, or back where memory is refused.
+    pub fn push(&mut self, item: T) -> Result<(), AllocFailed<T>> {
+        if self.items.len() == self.items.capacity() && self.items.try_reserve(1).is_err() {
+            return Err(AllocFailed(item));
+        }
+        self.items.push(item);
+        Ok(())
+    }
+
+    /// One element more, for which there is room.
+    pub fn push_reserved(&mut self, item: T) {
+        self.items.push(item);
+    }
+
+    /// The last element.
+    pub fn pop(&mut self) -> Option<T> {
+        self.items.pop()
+    }
+
+    /// Takes the elements away.
+    pub fn clear(&mut self) {
+        self.items.clear();
+    }
+}
+
+impl<T: Copy, A> Vec<T, A> {
+    /// These elements more.
+    pub fn extend_from_slice(&mut self, items: &[T]) -> Result<(), AllocError> {
+        self.reserve(items.len())?;
+        self.items.extend_from_slice(items);
+        Ok(())
+    }
+
+    /// So many elements, by cutting or by more of this one.
+    pub fn resize(&mut self, length: usize, item: T) -> Result<(), AllocError> {
+        self.reserve(length.saturating_sub(self.items.len()))?;
+        self.items.resize(length, item);
+        Ok(())
+    }
+}
+
+impl<T, A> Deref for Vec<T, A> {
+    type Target = [T];
+
+    fn deref(&self) -> &[T] {
+        &self.items
+    }
+}
+
+impl<T, A> DerefMut for Vec<T, A> {
+    fn deref_mut(&mut self) -> &mut [T] {
+        &mut self.items
+    }
+}
+
+impl<'a, T, A> IntoIterator for &'a Vec<T, A> {
+    type Item = &'a T;
+    type IntoIter = core::slice::Iter<'a, T>;
+
+    fn into_iter(self) -> core::slice::Iter<'a, T> {
+        self.items.iter()
+    }
+}

@@ -1,0 +1,33 @@
+//! What the sources use of Rattle's standard library, over Rust's. Tested, not proved.
+//!
+//! A call that takes memory is handed an allocator and answers a `Result`; here all memory comes
+//! from Rust's global allocator. `core` and `alloc` are enough. The feature `io` adds readers and
+//! writers, and needs Rust's own `std`; `program` adds a program's streams and words; `c` adds what
+//! a library for C needs where `io` isn't there.
+#![no_std]
+
+extern crate alloc as heap;
+#[cfg(feature = "io")]
+extern crate std as host;
+
+pub mod alloc;
+#[cfg(all(feature = "c", not(feature = "io")))]
+mod c;
+#[cfg(feature = "io")]
+pub mod io;
+#[cfg(feature = "program")]
+pub mod runtime;
+
+pub use core::{fmt, iter, mem};
+#[cfg(feature = "program")]
+pub use host::process;
+#[cfg(feature = "program")]
+pub use runtime::env;
+
+/// The names that each Rattle source has without a `use`.
+pub mod prelude {
+    pub use crate::alloc::{Box, Clone, Drop, Vec};
+    #[cfg(feature = "program")]
+    pub use crate::runtime::HostRuntime;
+    pub use heap::string::String;
+}

@@ -1,0 +1,1047 @@
+#!/usr/bin/env python3
+"""Gerbilargent from Python: both ends of the vector RAM of Atari's Digital Vector Generator (DVG).
+
+    import gerbilargent
+    from gerbilargent import Draft, World
+
+    with World() as world:
+        for stroke in world.draw(Draft().labs(512, 400).vctr(9, -100, 100, 7).halt()):
+            print(stroke)
+
+The module stands on the shared library build/libdvg.so; DVG_LIBRARY in the environment names
+another. *Proved* is only what the Rattle kit's `rt` has passed. `./lib` builds the library in
+seconds, of the plain form in plain/: the same code with its contracts taken away, tested, not
+proved. `./lib --proved` proves it first. This module itself is tested, not proved.
+
+    World       both ends, over a RAM and a ROM that it holds
+    Driver      the driver alone: it says what is to be written into a RAM of yours
+    Generator   the generator alone: it is handed the bytes of a RAM and a ROM of yours
+    Draft       the operations of a frame
+    picture     what a dump of the vector memory draws
+    judge       whether the log of any system tears a picture; Judge is told one line at a time
+    svg         strokes as an SVG
+
+Units. A place is in 1/512 of a screen unit, 0 to 2,097,151 along both axes, y upwards; a LABS names
+whole screen units, 0 to 4,095. An intensity is 0 (nothing is seen) to 15. A word address is 000 to
+FFF (hexadecimal): words 000 to 3FF are the RAM, and the ROM ends at BFF. A byte address is 0 to
+2,047. Words lie in memory with their low byte first.
+
+Errors. Each refusal is an exception with a name, below Error, and has changed nothing. What comes
+in a wrong order is a WrongOrder. A run that broke, and one that came to no end, are errors, too.
+
+Threads. A World, Driver or Generator belongs to the thread that made it, and another one gets a
+WrongThread. Each is a context manager, and `close` gives its memory back.
+
+Run as a script it draws a first picture: `python3 python/gerbilargent.py --help`.
+"""
+
+from __future__ import annotations
+
+import argparse
+import ctypes
+import enum
+import functools
+import itertools
+import os
+import sys
+import threading
+import warnings
+from pathlib import Path
+from typing import Iterable, Iterator, NamedTuple, Optional, TypeVar, Union
+
+__all__ = [
+    "BadByte", "BadLog", "BadOperation", "Break", "Busy", "Closed", "Draft", "DraftFull",
+    "DraftRefused", "Driver", "Endless", "Entry", "Error", "Fault", "Generator", "Halted", "Judge",
+    "Kind", "LibraryMissing", "NothingPublished", "NoStrobe", "OutOfMemory", "RETURNS", "RunBroke",
+    "Stroke", "Picture", "Torn", "Verdict", "World", "WrongOrder", "WrongSize", "WrongThread",
+    "Wanted", "judge", "picture", "svg",
+]
+
+#: Bytes: `bytes`, a `bytearray` or a `memoryview`.
+Bytes = Union[bytes, bytearray, memoryview]
+
+#: How many bytes a RAM has.
+RAM_BYTES = 2048
+
+#: How many bytes a ROM may have.
+ROM_SIZES = (2048, 4096)
+
+#: A ROM of 2,048 bytes whose words are all D000, a return.
+RETURNS = b"\x00\xd0" * 1024
+
+#: Within how many words `picture` looks for the end of a run.
+MOST_WORDS = 65536
+
+#: How many operations a draft has at most.
+MOST_OPERATIONS = 511
+
+
+# --- What is answered ---
+
+
+class Kind(enum.IntEnum):
+    """What came of a request. `text` is its name in words."""
+
+    OFFERED = 0
+    REFUSED = 1
+    BUSY = 2
+    ASKED = 3
+    NOTHING_PUBLISHED = 4
+    PEEK = 5
+    WROTE = 6
+    READ = 7
+    SENT = 8
+    IDLE = 9
+    STARTED = 10
+    NO_STROBE = 11
+    LOW = 12
+    FETCHED = 13
+    DONE = 14
+    BROKE = 15
+    STILL = 16
+    CLEARED = 17
+    PUSHED = 18
+    NO_OPERATION = 19
+    FULL = 20
+    STAGED = 21
+    OPENED = 22
+    WRONG_SIZE = 23
+    CLOSED = 24
+    WANTED = 25
+    UNKNOWN = 254
+    NO_MEMORY = 255
+
+    @property
+    def text(self) -> str:
+        return self.name.lower().replace("_", " ")
+
+
+class Fault(enum.IntEnum):
+    """Why a draft is refused: the numbers of `dvg check`. `text` is its name there."""
+
+    EMPTY = 1
+    NO_LABS = 2
+    TOO_LONG = 3
+    TARGET = 4
+    RUNS_OFF = 5
+    OUT_OF_ROM = 6
+    TOO_DEEP = 7
+    NO_CALLER = 8
+    LOOPS = 9
+
+    @property
+    def text(self) -> str:
+        return self.name.lower().replace("_", " ")
+
+
+class Break(enum.IntEnum):
+    """Why a run broke: the numbers of `dvg picture`. `text` says it in words."""
+
+    STACK_OVER = 1
+    STACK_UNDER = 2
+    HOLE = 3
+
+    @property
+    def text(self) -> str:
+        return ("fifth call", "return without a call", "no memory there")[self - 1]
+
+
+class Stroke(NamedTuple):
+    """A line that was drawn, from x0, y0 to x1, y1: in 1/512 of a screen unit, 0 to 2,097,151 each.
+
+    z is its intensity, 1 to 15. As text it is the five numbers, as `dvg play` writes them.
+    """
+
+    x0: int
+    y0: int
+    x1: int
+    y1: int
+    z: int
+
+    def __str__(self) -> str:
+        return f"{self.x0} {self.y0} {self.x1} {self.y1} {self.z}"
+
+
+class Entry(NamedTuple):
+    """What came of an event. As text it is what `dvg play --all` has after the event's number.
+
+    `address` is a byte address of WROTE, and a word address of LOW, FETCHED and DONE; `value` is
+    the byte or the word there, and of READ whether the generator is halted. `strokes` is how many
+    a DONE drew; which they are the World or the Generator tells.
+    """
+
+    kind: Kind
+    address: int = 0
+    value: int = 0
+    strokes: int = 0
+
+    def __str__(self) -> str:
+        kind, address, value = self.kind, self.address, self.value
+        if kind in (Kind.WROTE, Kind.LOW):
+            return f"{kind.text} {address:03X} {value:02X}"
+        if kind is Kind.FETCHED:
+            return f"fetched {address:03X} {value:04X}"
+        if kind is Kind.DONE:
+            return f"done {address:03X} {value:04X} {self.strokes}"
+        if kind is Kind.BROKE:
+            return f"broke {address:03X} {value & 3}"
+        if kind is Kind.READ:
+            return "read halted" if value else "read running"
+        return kind.text
+
+
+class Wanted(NamedTuple):
+    """The byte that a generator wants next: the high or the low one of the word at `address`."""
+
+    address: int
+    high: bool
+
+
+class Picture(NamedTuple):
+    """A run that came to a HALT: after how many words, and what it drew, in order.
+
+    As text it is what `dvg picture` writes.
+    """
+
+    words: int
+    strokes: "list[Stroke]"
+
+    def __str__(self) -> str:
+        return "\n".join([f"picture {self.words} {len(self.strokes)}", *map(str, self.strokes)])
+
+
+# --- What is refused ---
+
+
+class Error(Exception):
+    """What this module raises. Each kind of it has a name of its own."""
+
+
+class LibraryMissing(Error, OSError):
+    """There is no shared library."""
+
+
+class OutOfMemory(Error, MemoryError):
+    """Memory was refused."""
+
+
+class WrongSize(Error, ValueError):
+    """A RAM isn't of 2,048 bytes, a ROM not of 2,048 or 4,096, or a dump not of both."""
+
+
+class BadByte(Error, ValueError):
+    """A byte isn't 0 to 255, or a byte address isn't one of the RAM."""
+
+
+class BadOperation(Error, ValueError):
+    """A field of an operation is out of its range."""
+
+
+class DraftFull(Error, ValueError):
+    """A draft has 511 operations, and gets one more."""
+
+
+class DraftRefused(Error):
+    """The check refuses a draft.
+
+    fault       why
+    operation   the number of the operation where, from 0; None where the fault has no such place
+    rom_word    the word address in the ROM where, 000 to FFF; None where it has no such place
+    """
+
+    def __init__(self, fault: Fault, operation: Optional[int], rom_word: Optional[int]) -> None:
+        self.fault, self.operation, self.rom_word = fault, operation, rom_word
+        super().__init__(fault, operation, rom_word)
+
+    def __str__(self) -> str:
+        place = ""
+        if self.rom_word is not None:
+            place = f" word {self.rom_word:03X}"
+        elif self.operation is not None:
+            in_draft = self.fault in (Fault.TARGET, Fault.RUNS_OFF)
+            place = f" {self.operation}" if in_draft else f" op {self.operation}"
+        return f"{int(self.fault)} {self.fault.text}{place}"
+
+
+class RunBroke(Error):
+    """A run broke at the word address `address`: `why` tells why."""
+
+    def __init__(self, address: int, why: Break) -> None:
+        self.address, self.why = address, why
+        super().__init__(address, why)
+
+    def __str__(self) -> str:
+        return f"broke {self.address:03X} {int(self.why)}: {self.why.text}"
+
+
+class Endless(Error):
+    """A run came to no end within `words` words."""
+
+    def __init__(self, words: int) -> None:
+        self.words = words
+        super().__init__(words)
+
+    def __str__(self) -> str:
+        return f"no end within {self.words} words"
+
+
+class BadLog(Error, ValueError):
+    """A line of a log tells nothing that a line may. `line` is its number, from 1."""
+
+    def __init__(self, line: int, text: str) -> None:
+        self.line, self.text = line, text
+        super().__init__(line, text)
+
+    def __str__(self) -> str:
+        return f"syntax at line {self.line}: {self.text!r}"
+
+
+class WrongOrder(Error):
+    """A call came when it can't be done."""
+
+
+class Closed(WrongOrder):
+    """The World, Driver or Generator was closed."""
+
+
+class WrongThread(WrongOrder):
+    """The World, Driver or Generator belongs to another thread."""
+
+
+class Busy(WrongOrder):
+    """The driver isn't idle: it writes a frame, or waits to send a strobe. Let it tick."""
+
+
+class NothingPublished(WrongOrder):
+    """The driver has published no frame since its reset: there is nothing to draw again."""
+
+
+class NoStrobe(WrongOrder):
+    """A strobe has no effect: the driver of this world has sent none."""
+
+
+class Halted(WrongOrder):
+    """The generator is halted, so it fetches nothing: a strobe begins a run."""
+
+
+# --- The library ---
+
+
+def library_path() -> Path:
+    """Where the shared library is looked for."""
+    named = os.environ.get("DVG_LIBRARY")
+    if named:
+        return Path(named)
+    return Path(__file__).resolve().parent.parent / "build" / "libdvg.so"
+
+
+@functools.lru_cache(maxsize=None)
+def _load(path: Path) -> ctypes.CDLL:
+    """The library there, with its three functions declared: else pointers would be cut."""
+    if not path.exists():
+        raise LibraryMissing(f"there is no {path}: ./lib builds it, and DVG_LIBRARY names another")
+    try:
+        library = ctypes.CDLL(str(path))
+        library.dvg_new.argtypes = [ctypes.POINTER(ctypes.c_void_p)]
+        library.dvg_new.restype = ctypes.c_uint32
+        library.dvg_turn.argtypes = [ctypes.c_void_p, ctypes.c_uint64]
+        library.dvg_turn.restype = ctypes.c_uint64
+        library.dvg_free.argtypes = [ctypes.c_void_p]
+        library.dvg_free.restype = None
+    except (OSError, AttributeError) as error:
+        raise LibraryMissing(f"{path} can't be used: {error}: ./lib builds one") from error
+    return library
+
+
+class _Request(enum.IntEnum):
+    """Requests, by their numbers in include/dvg.h."""
+
+    OFFER = 0
+    REDRAW = 1
+    TICK = 2
+    STROBE = 3
+    FETCH = 4
+    RESET_GENERATOR = 5
+    RESET_PROCESSOR = 6
+    RESET_ALL = 7
+    PUSH = 8
+    CLEAR = 9
+    STAGE = 10
+    UNSTAGE = 11
+    OPEN_WORLD = 12
+    OPEN_DRIVER = 13
+    OPEN_GENERATOR = 14
+    WANTS = 16
+    STROKES = 17
+    STROKE_FROM = 18
+    STROKE_TO = 19
+    STROKE_INTENSITY = 20
+
+
+_NUMBERS = (_Request.STROKES, _Request.STROKE_FROM, _Request.STROKE_TO, _Request.STROKE_INTENSITY)
+
+#: The answers that are errors without more to tell.
+_ERRORS = {
+    Kind.BUSY: Busy("the driver isn't idle"),
+    Kind.NOTHING_PUBLISHED: NothingPublished("no frame is published since the reset"),
+    Kind.NO_STROBE: NoStrobe("the driver has sent no strobe"),
+    Kind.STILL: Halted("the generator is halted"),
+    Kind.NO_OPERATION: BadOperation("a field is out of its range"),
+    Kind.FULL: DraftFull(f"a draft has at most {MOST_OPERATIONS} operations"),
+    Kind.WRONG_SIZE: WrongSize("a RAM has 2,048 bytes, and a ROM 2,048 or 4,096"),
+    Kind.NO_MEMORY: OutOfMemory("memory was refused"),
+}
+
+
+def _byte(value: int) -> int:
+    """The byte, where it is one."""
+    if not 0 <= value <= 255:
+        raise BadByte(f"{value} isn't 0 to 255")
+    return int(value)
+
+
+def _ram(ram: Optional[Bytes]) -> bytes:
+    """The bytes of a RAM: zeros where none is named."""
+    held = bytes(RAM_BYTES) if ram is None else bytes(ram)
+    if len(held) != RAM_BYTES:
+        raise WrongSize(f"a RAM has {RAM_BYTES} bytes, not {len(held)}")
+    return held
+
+
+def _rom(rom: Optional[Bytes]) -> bytes:
+    """The bytes of a ROM: RETURNS where none is named."""
+    held = RETURNS if rom is None else bytes(rom)
+    if len(held) not in ROM_SIZES:
+        raise WrongSize(f"a ROM has 2048 or 4096 bytes, not {len(held)}")
+    return held
+
+
+_Own = TypeVar("_Own", bound="_Device")
+
+
+class _Device:
+    """A device of the library. It is used by the thread that made it, until it is closed."""
+
+    def __init__(self) -> None:
+        self._device: Optional[ctypes.c_void_p] = None
+        self._thread = threading.get_ident()
+        self._library = _load(library_path())
+        made = ctypes.c_void_p()
+        if self._library.dvg_new(ctypes.byref(made)) != 0:
+            raise OutOfMemory("memory was refused")
+        self._device = made
+
+    def close(self) -> None:
+        """Gives the memory back. Closing again does nothing, and any other call is Closed then."""
+        if self._device is not None:
+            self._own_thread()
+            self._library.dvg_free(self._device)
+            self._device = None
+
+    def __enter__(self: _Own) -> _Own:
+        if self._device is None:
+            raise Closed("it was closed")
+        return self
+
+    def __exit__(self, *_error: object) -> None:
+        self.close()
+
+    def __del__(self) -> None:
+        if getattr(self, "_device", None) is not None:
+            if self._thread == threading.get_ident():
+                self.close()
+            else:
+                warnings.warn("not closed by its own thread", ResourceWarning, stacklevel=2)
+
+    def _own_thread(self) -> None:
+        if self._thread != threading.get_ident():
+            raise WrongThread("it belongs to the thread that made it")
+
+    def _turn(self, request: _Request, fields: int = 0) -> int:
+        """One request, with its fields, and the number that is its answer."""
+        self._own_thread()
+        if self._device is None:
+            raise Closed("it was closed")
+        return self._library.dvg_turn(self._device, int(request) | fields)
+
+    def _ask(self, request: _Request, fields: int = 0) -> Entry:
+        """One request, and its answer; what is refused is raised."""
+        number = self._turn(request, fields)
+        entry = Entry(Kind(number & 0xFF), number >> 8 & 0xFFFF, number >> 24 & 0xFFFF)
+        if entry.kind in _ERRORS:
+            error = _ERRORS[entry.kind]
+            raise type(error)(*error.args)
+        if entry.kind is Kind.REFUSED:
+            raise _refusal(entry)
+        if entry.kind is Kind.BROKE:
+            raise RunBroke(entry.address, Break(entry.value & 3))
+        if entry.kind is Kind.DONE:
+            return entry._replace(strokes=self._turn(_Request.STROKES))
+        return entry
+
+    def _stage(self, held: bytes) -> None:
+        """Stages these bytes, in place of what is staged."""
+        self._ask(_Request.UNSTAGE)
+        for byte, equal in itertools.groupby(held):
+            count = sum(1 for _ in equal)
+            self._ask(_Request.STAGE, byte << 16 | count << 24)
+
+    def _with_staged(self, request: _Request, held: bytes) -> Entry:
+        """A request for which these bytes are staged. Whatever comes, none is staged then."""
+        try:
+            self._stage(held)
+            return self._ask(request)
+        finally:
+            self._turn(_Request.UNSTAGE)
+
+    def _offer(self, draft: "Draft") -> Entry:
+        """Hands a draft to the driver."""
+        self._ask(_Request.CLEAR)
+        for operation in draft:
+            self._ask(_Request.PUSH, operation.number)
+        return self._ask(_Request.OFFER)
+
+    @property
+    def strokes(self) -> "list[Stroke]":
+        """What the newest run drew that came to a HALT, in the order drawn; empty before it."""
+        return [self._stroke(number) for number in range(self._turn(_Request.STROKES))]
+
+    def _stroke(self, number: int) -> Stroke:
+        begin, end, z = (self._turn(request, number << 8) for request in _NUMBERS[1:])
+        return Stroke(begin & 0xFFFFFFFF, begin >> 32, end & 0xFFFFFFFF, end >> 32, z)
+
+
+def _refusal(entry: Entry) -> DraftRefused:
+    """The exception for a refused draft."""
+    fault = Fault(entry.value & 0xF)
+    if entry.value & 0x100:
+        return DraftRefused(fault, None, entry.address)
+    if fault in (Fault.EMPTY, Fault.NO_LABS, Fault.TOO_LONG, Fault.LOOPS):
+        return DraftRefused(fault, None, None)
+    return DraftRefused(fault, entry.address, None)
+
+
+# --- Drafts ---
+
+
+class Operation(NamedTuple):
+    """One operation of a draft: its kind's number, and its fields. A Draft makes them."""
+
+    kind: int
+    scale: int = 0
+    z: int = 0
+    x: int = 0
+    y: int = 0
+
+    @property
+    def number(self) -> int:
+        """Its fields, as a request has them."""
+        low = self.kind << 8 | self.scale << 16 | self.z << 24
+        return low | (self.x & 0xFFFF) << 32 | (self.y & 0xFFFF) << 48
+
+
+class Draft:
+    """The operations of a frame, numbered from 0. Each call adds one, and answers the draft.
+
+    A field out of its range is a BadOperation, and a 512th operation a DraftFull: the draft is then
+    as it was. Whether the whole may be drawn an offer tells.
+    """
+
+    def __init__(self) -> None:
+        self._operations: "list[Operation]" = []
+
+    def __len__(self) -> int:
+        return len(self._operations)
+
+    def __iter__(self) -> Iterator[Operation]:
+        return iter(self._operations)
+
+    def _add(self, kind: int, **fields: "tuple[int, int, int]") -> "Draft":
+        """Adds an operation, of fields with their least and most."""
+        for name, (value, least, most) in fields.items():
+            if not least <= value <= most:
+                raise BadOperation(f"{name} is {value}, and must be {least} to {most}")
+        if len(self) == MOST_OPERATIONS:
+            raise DraftFull(f"a draft has at most {MOST_OPERATIONS} operations")
+        values = {name: int(value) for name, (value, _least, _most) in fields.items()}
+        self._operations.append(Operation(kind, **values))
+        return self
+
+    def vctr(self, scale: int, dx: int, dy: int, z: int) -> "Draft":
+        """A VCTR, two words: moves the beam, and draws where z is 1 to 15.
+
+        dx and dy are -1,023 to 1,023, in 1/512 of a screen unit, times two to the power of s. s is
+        the sum of this scale, 0 to 9, and the one that the newest LABS set, modulo 16; where it is
+        over 9, nothing moves. z is the intensity, 0 to 15.
+        """
+        return self._add(
+            0, scale=(scale, 0, 9), z=(z, 0, 15), x=(dx, -1023, 1023), y=(dy, -1023, 1023)
+        )
+
+    def svec(self, scale: int, dx: int, dy: int, z: int) -> "Draft":
+        """An SVEC, one word: a VCTR of dx and dy -3 to 3, which count 256 times; scale 2 to 5."""
+        return self._add(1, scale=(scale, 2, 5), z=(z, 0, 15), x=(dx, -3, 3), y=(dy, -3, 3))
+
+    def labs(self, x: int, y: int, scale: int = 0) -> "Draft":
+        """A LABS, two words: puts the beam at x, y, 0 to 4,095 screen units; scale is 0 to 15."""
+        return self._add(2, scale=(scale, 0, 15), x=(x, 0, 4095), y=(y, 0, 4095))
+
+    def call(self, operation: int) -> "Draft":
+        """A call of the operation of this number, 0 to 65,535, which may come later; one word."""
+        return self._add(3, x=(operation, 0, 65535))
+
+    def jump(self, operation: int) -> "Draft":
+        """A jump to the operation of this number, 0 to 65,535, which may come later; one word."""
+        return self._add(4, x=(operation, 0, 65535))
+
+    def call_rom(self, address: int) -> "Draft":
+        """A call of a word of the ROM, by its word address, 000 to FFF; one word."""
+        return self._add(5, x=(address, 0, 0xFFF))
+
+    def jump_rom(self, address: int) -> "Draft":
+        """A jump to a word of the ROM, by its word address, 000 to FFF; one word."""
+        return self._add(6, x=(address, 0, 0xFFF))
+
+    def return_(self) -> "Draft":
+        """A return from the newest call; one word."""
+        return self._add(7)
+
+    def halt(self) -> "Draft":
+        """The end of the run; one word."""
+        return self._add(8)
+
+
+# --- What opens ---
+
+
+class Driver(_Device):
+    """A driver alone, just reset. Its drafts are checked over a ROM, RETURNS where none is named.
+
+    The RAM is the caller's: after a tick that wrote, put the byte there before the next tick and
+    the next fetch. After one that sent a strobe, start the generator.
+    """
+
+    def __init__(self, rom: Optional[Bytes] = None) -> None:
+        held = _rom(rom)
+        super().__init__()
+        self._with_staged(_Request.OPEN_DRIVER, held)
+
+    def tick(self, halted: bool, byte1: int) -> Entry:
+        """The driver does one action: PEEK, WROTE (a byte, at a byte address), READ, SENT or IDLE.
+
+        halted is the HALT flag, and byte1 byte 001 of the RAM, 0 to 255.
+        """
+        return self._ask(_Request.TICK, bool(halted) << 8 | _byte(byte1) << 16)
+
+    def offer(self, draft: Draft) -> Entry:
+        """Hands a draft to the driver: OFFERED. DraftRefused, Busy."""
+        return self._offer(draft)
+
+    def redraw(self) -> Entry:
+        """Asks to have the published frame drawn again: ASKED. NothingPublished, Busy."""
+        return self._ask(_Request.REDRAW)
+
+    def reset(self) -> Entry:
+        """A reset of the processor: CLEARED."""
+        return self._ask(_Request.RESET_PROCESSOR)
+
+
+class Generator(_Device):
+    """A generator alone, halted, with the beam at 0, 0 and scale 0. It is handed its bytes."""
+
+    def __init__(self) -> None:
+        super().__init__()
+        self._ask(_Request.OPEN_GENERATOR)
+
+    @property
+    def wanted(self) -> Optional[Wanted]:
+        """Which byte it wants next; None where it is halted."""
+        number = self._turn(_Request.WANTS)
+        if number & 0xFF == Kind.STILL:
+            return None
+        return Wanted(number >> 8 & 0xFFFF, bool(number >> 24 & 0xFFFF))
+
+    @property
+    def halted(self) -> bool:
+        """The HALT flag."""
+        return self.wanted is None
+
+    def strobe(self) -> Entry:
+        """A start strobe: a run begins at word zero. STARTED."""
+        return self._ask(_Request.STROBE)
+
+    def fetch(self, byte: int) -> Entry:
+        """Is handed the byte that it wants, 0 to 255: LOW, FETCHED or DONE.
+
+        Halted; RunBroke; OutOfMemory, and then the same byte is still wanted.
+        """
+        return self._ask(_Request.FETCH, _byte(byte) << 16)
+
+    def hole(self) -> Entry:
+        """No memory answers at the address that it wants: raises RunBroke, or Halted."""
+        return self._ask(_Request.FETCH, 0x100)
+
+    def fetch_from(self, ram: Bytes, rom: Optional[Bytes] = None) -> Entry:
+        """Fetches the byte that it wants from this RAM and ROM: `fetch` or `hole`. WrongSize."""
+        rom = RETURNS if rom is None else rom
+        if len(ram) != RAM_BYTES or len(rom) not in ROM_SIZES:
+            raise WrongSize("a RAM has 2,048 bytes, and a ROM 2,048 or 4,096")
+        wanted = self.wanted
+        if wanted is None:
+            raise Halted("the generator is halted")
+        at = 2 * wanted.address + wanted.high
+        rom_begins = 0x1800 - len(rom)
+        if at < RAM_BYTES:
+            return self.fetch(ram[at])
+        if rom_begins <= at < 0x1800:
+            return self.fetch(rom[at - rom_begins])
+        return self.hole()
+
+    def draw(
+        self, ram: Bytes, rom: Optional[Bytes] = None, most_words: int = MOST_WORDS
+    ) -> Picture:
+        """Starts over this RAM and ROM, which don't change, and runs up to the HALT.
+
+        RunBroke; Endless, where there is no end within so many words; WrongSize, OutOfMemory.
+        """
+        held_ram, held_rom = _ram(ram), _rom(rom)
+        self.strobe()
+        for words in range(1, most_words + 1):
+            self.fetch_from(held_ram, held_rom)
+            if self.fetch_from(held_ram, held_rom).kind is Kind.DONE:
+                return Picture(words, self.strokes)
+        raise Endless(most_words)
+
+    def reset(self) -> Entry:
+        """A reset of the generator, which ends its run: CLEARED."""
+        return self._ask(_Request.RESET_GENERATOR)
+
+
+class World(_Device):
+    """Both ends, over a ROM of 2,048 or 4,096 bytes and a RAM of 2,048.
+
+    Where none is named, the ROM is RETURNS and the RAM holds zeros.
+
+    Each call of `offer`, `redraw`, `tick`, `strobe`, `fetch` and the resets is an event, as a line
+    of a trace is, and answers its Entry. `events` is how many there were, with those that were
+    refused: a refused draft, Busy, NothingPublished, NoStrobe and Halted.
+    """
+
+    def __init__(self, rom: Optional[Bytes] = None, ram: Optional[Bytes] = None) -> None:
+        held = _ram(ram) + _rom(rom)
+        super().__init__()
+        self.events = 0
+        self._with_staged(_Request.OPEN_WORLD, held)
+
+    def _counted(self) -> None:
+        """Counts an event, of a world that can be asked."""
+        self._own_thread()
+        if self._device is not None:
+            self.events += 1
+
+    def offer(self, draft: Draft) -> Entry:
+        """Hands a draft to the driver: OFFERED. DraftRefused, Busy."""
+        self._counted()
+        return self._offer(draft)
+
+    def redraw(self) -> Entry:
+        """Asks to have the published frame drawn again: ASKED. NothingPublished, Busy."""
+        self._counted()
+        return self._ask(_Request.REDRAW)
+
+    def tick(self) -> Entry:
+        """The driver does one action: PEEK, WROTE, READ, SENT or IDLE."""
+        self._counted()
+        return self._ask(_Request.TICK)
+
+    def strobe(self) -> Entry:
+        """A start strobe arrives: STARTED. NoStrobe, where the driver has sent none."""
+        self._counted()
+        return self._ask(_Request.STROBE)
+
+    def fetch(self) -> Entry:
+        """The generator fetches a byte: LOW, FETCHED or DONE.
+
+        Halted; OutOfMemory, which is no event: the same byte is still wanted.
+        """
+        self._counted()
+        try:
+            return self._ask(_Request.FETCH)
+        except OutOfMemory:
+            self.events -= 1
+            raise
+
+    def reset_generator(self) -> Entry:
+        """A reset of the generator alone, which ends its run: CLEARED."""
+        self._counted()
+        return self._ask(_Request.RESET_GENERATOR)
+
+    def reset_processor(self) -> Entry:
+        """A reset of the processor alone, which is one of the driver: CLEARED."""
+        self._counted()
+        return self._ask(_Request.RESET_PROCESSOR)
+
+    def reset_all(self, ram: Optional[Bytes] = None) -> Entry:
+        """A reset of the whole system, after which the RAM holds these bytes, or zeros: CLEARED."""
+        held = _ram(ram)
+        entry = self._with_staged(_Request.RESET_ALL, held)
+        self.events += 1
+        return entry
+
+    def draw(self, draft: Draft) -> "list[Stroke]":
+        """Has a draft drawn, by as many events as that takes, and answers its strokes.
+
+        What the driver and the generator are at is brought to its end first; a frame that was
+        offered before may not be drawn. DraftRefused, OutOfMemory.
+        """
+        while True:
+            entry = self._let_tick()
+            if entry.kind is Kind.IDLE or entry.kind is Kind.READ and entry.value:
+                try:
+                    self.offer(draft)
+                    break
+                except Busy:
+                    pass
+        while self._let_tick().kind is not Kind.SENT:
+            pass
+        self.strobe()
+        while self.fetch().kind is not Kind.DONE:
+            pass
+        return self.strokes
+
+    def _let_tick(self) -> Entry:
+        """A tick; where it waits for the generator, that runs to its end."""
+        entry = self.tick()
+        if entry.kind is Kind.READ and not entry.value:
+            while self.fetch().kind is not Kind.DONE:
+                pass
+        return entry
+
+
+# --- Dumps ---
+
+
+def picture(dump: Bytes, most_words: int = MOST_WORDS) -> Picture:
+    """What a dump of the vector memory draws, as `dvg picture` tells it.
+
+    A dump is the 2,048 bytes of a RAM and then the 2,048 or 4,096 bytes of a ROM: 4,096 or 6,144.
+    RunBroke; Endless; WrongSize; OutOfMemory.
+    """
+    held = bytes(dump)
+    if len(held) not in (4096, 6144):
+        raise WrongSize(f"a dump has 4096 or 6144 bytes, not {len(held)}")
+    with Generator() as generator:
+        return generator.draw(held[:RAM_BYTES], held[RAM_BYTES:], most_words)
+
+
+# --- Logs ---
+
+
+def _half(word_address: int) -> Optional[int]:
+    """The half in which a word lies, 0 or 1; None of words 000 and 200, and beyond the RAM."""
+    if 0x001 <= word_address <= 0x1FF:
+        return 0
+    return 1 if 0x201 <= word_address <= 0x3FF else None
+
+
+class Torn(NamedTuple):
+    """A byte that was written in the half being drawn: its line, from 1, byte address and byte."""
+
+    line: int
+    address: int
+    byte: int
+
+    def __str__(self) -> str:
+        return f"torn at line {self.line}: wrote {self.address:03X} {self.byte:02X}"
+
+
+class Verdict(NamedTuple):
+    """What is said of a log: its first torn line, or None, and what it tells up to there.
+
+    runs is how many began, halted how many came to a HALT, and writes how many bytes were written.
+    A log in which no run came to a HALT shows little, whatever is said of it.
+    """
+
+    torn: Optional[Torn]
+    runs: int
+    halted: int
+    writes: int
+
+    def __str__(self) -> str:
+        return str(self.torn) if self.torn else "not torn"
+
+
+class Judge:
+    """Judges a log whose lines come one at a time, of a driver and a generator of any kind.
+
+    A run draws a half where the first word that it fetched is the one at 000, a jump to a word of
+    that half: from then on, until it ends. `runs`, `halted` and `writes` count. This is the rule of
+    `dvg torn`, written once more in Python: it is tested against that.
+    """
+
+    def __init__(self) -> None:
+        self.runs = self.halts = self.writes = 0
+        self._begun = False
+        self._half: Optional[int] = None
+
+    def started(self) -> None:
+        """A strobe began a run."""
+        self.runs += 1
+        self._begun, self._half = True, None
+
+    def fetched(self, address: int, word: int) -> None:
+        """A word was fetched, at a word address, 000 to FFF, and the run goes on."""
+        if self._begun:
+            self._begun = False
+            jumps = address == 0 and word >> 12 == 0xE
+            self._half = _half(word & 0xFFF) if jumps else None
+
+    def halted(self) -> None:
+        """The run ended by a HALT."""
+        self.halts += 1
+        self.reset()
+
+    def reset(self) -> None:
+        """The run ended by a reset of the generator."""
+        self._begun, self._half = False, None
+
+    def wrote(self, address: int, byte: int = 0) -> bool:
+        """A byte was written, at a byte address, 000 to 7FF. Whether that tears the picture."""
+        if not 0 <= address < RAM_BYTES:
+            raise BadByte(f"{address:X} is no byte address of the RAM, which are 000 to 7FF")
+        _byte(byte)
+        self.writes += 1
+        return self._half is not None and _half(address // 2) == self._half
+
+
+def _hex(digits: str, count: int) -> int:
+    """The number of so many hexadecimal digits."""
+    if len(digits) != count or not all(digit in "0123456789abcdefABCDEF" for digit in digits):
+        raise ValueError(digits)
+    return int(digits, 16)
+
+
+def _tell(judge: Judge, parts: "list[str]") -> Optional["tuple[int, int]"]:
+    """Tells a judge the parts of a line: the address and the byte where they tear a picture."""
+    what, rest = parts[0], parts[1:]
+    if what in ("started", "halted", "reset") and not rest:
+        getattr(judge, what)()
+    elif what == "low" and len(rest) == 2:
+        _hex(rest[0], 3), _hex(rest[1], 2)
+    elif what == "fetched" and len(rest) == 2:
+        judge.fetched(_hex(rest[0], 3), _hex(rest[1], 4))
+    elif what == "wrote" and len(rest) == 2:
+        address, byte = _hex(rest[0], 3), _hex(rest[1], 2)
+        if judge.wrote(address, byte):
+            return address, byte
+    else:
+        raise ValueError(what)
+    return None
+
+
+def judge(log: Union[str, Iterable[str]]) -> Verdict:
+    """Whether a log tears a picture, as `dvg torn` says it; docs/FORMATS.md has the lines.
+
+    log is the text, or its lines in order, as an open file gives them. Nothing after the first torn
+    line is read. BadLog at a line that is none, none before it being torn.
+    """
+    judge_of = Judge()
+    torn = None
+    for number, line in enumerate(log.split("\n") if isinstance(log, str) else log, 1):
+        text = line[:-1] if line.endswith("\n") else line
+        try:
+            if len(text.encode()) > 64:
+                raise ValueError(text)
+            found = None if text == "" or text.startswith("#") else _tell(judge_of, text.split(" "))
+        except ValueError as error:
+            raise BadLog(number, text) from error
+        if found:
+            torn = Torn(number, *found)
+            break
+    return Verdict(torn, judge_of.runs, judge_of.halts, judge_of.writes)
+
+
+# --- Pictures ---
+
+_FIELD = 4096 * 512
+
+
+def _way(begin: int, end: int) -> int:
+    """Where the shorter way to an end leads, which may be beyond the edge."""
+    if end - begin > _FIELD // 2:
+        return end - _FIELD
+    return end + _FIELD if begin - end > _FIELD // 2 else end
+
+
+def _shapes(stroke: Stroke, side: int) -> Iterator[str]:
+    """A stroke as elements of an SVG: twice along an axis where it crosses the edge."""
+    x1, y1 = _way(stroke.x0, stroke.x1), _way(stroke.y0, stroke.y1)
+    percent = (stroke.z + 5) * 5
+    opacity = f'opacity="{percent // 100}.{percent % 100:02d}"'
+    for dx in {0: None, stroke.x1 - x1: None}:
+        for dy in {0: None, stroke.y1 - y1: None}:
+            begin, end = (stroke.x0 + dx, stroke.y0 + dy), (x1 + dx, y1 + dy)
+            if begin == end:
+                yield f'<circle cx="{begin[0]}" cy="{begin[1]}" r="{side // 1024}" {opacity}/>'
+            else:
+                yield (f'<line x1="{begin[0]}" y1="{begin[1]}" x2="{end[0]}" y2="{end[1]}" '
+                       f"{opacity}/>")
+
+
+def svg(strokes: Iterable[Stroke], units: int = 1024) -> str:
+    """Strokes as an SVG of so many screen units along both axes, from 0 on, y upwards.
+
+    Intensities 1 to 15 are opacities of 0.30 to 1.00, lines 2 pixels wide, and a stroke of length 0
+    a dot. A stroke goes the shorter way; where that crosses the edge at 4,096 units, it is there
+    twice.
+    """
+    side = units * 512
+    head = (f'<svg xmlns="http://www.w3.org/2000/svg" width="1024" height="1024" '
+            f'viewBox="-256 -256 {side} {side}">\n'
+            f'<rect x="-256" y="-256" width="{side}" height="{side}"/>\n'
+            f'<g transform="matrix(1 0 0 -1 0 {side - 512})" fill="#fff" stroke="#fff" '
+            f'stroke-width="{side // 512}" stroke-linecap="round">\n')
+    shapes = (shape + "\n" for stroke in strokes for shape in _shapes(stroke, side))
+    return head + "".join(shapes) + "</g>\n</svg>\n"
+
+
+# --- The script ---
+
+
+def _first_picture() -> Picture:
+    """The first picture of README.md: one vector."""
+    with World() as world:
+        world.draw(Draft().labs(512, 400).vctr(9, -100, 100, 7).halt())
+        return Picture(6, world.strokes)
+
+
+def main(words: Optional["list[str]"] = None) -> int:
+    """Runs the script. Status 0 is done, 1 no picture, a torn log or a fault, 70 no library."""
+    parser = argparse.ArgumentParser(
+        description="Draws a first picture: a world, one frame of one vector, and its strokes.",
+        epilog="Without options it prints the picture as `dvg picture` does: its words, its "
+        "strokes, and a line for each.",
+    )
+    parser.add_argument("--dump", metavar="FILE", help="draws this dump of a vector memory instead")
+    parser.add_argument("--log", metavar="FILE", help="judges this log instead, as `dvg torn` does")
+    parser.add_argument("--svg", action="store_true", help="writes the picture as an SVG")
+    asked = parser.parse_args(words)
+    try:
+        if asked.log:
+            with open(asked.log, encoding="ascii", errors="replace", newline="\n") as log:
+                verdict = judge(log)
+            print(verdict)
+            return 1 if verdict.torn else 0
+        drawn = picture(Path(asked.dump).read_bytes()) if asked.dump else _first_picture()
+    except LibraryMissing as error:
+        print(f"gerbilargent: {error}", file=sys.stderr)
+        return 70
+    except (Error, OSError) as error:
+        print(f"gerbilargent: {error}", file=sys.stderr)
+        return 1
+    print(svg(drawn.strokes) if asked.svg else f"{drawn}\n", end="")
+    return 0
+
+
+if __name__ == "__main__":
+    sys.exit(main())

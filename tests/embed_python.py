@@ -1,0 +1,859 @@
+"""Tests python/gerbilargent.py: each call, each refusal, and, beside the program `dvg`, random
+schedules, dumps and logs.
+
+    embed_python.py PROGRAM [DRAW [SEED]]
+
+The shared library is build/libdvg.so, or the one that DVG_LIBRARY names. DRAW is embed_draw.c,
+built: then the dumps are drawn by dvg_draw, too. What passes prints nothing. The last line is
+'N passed, M failed'.
+"""
+
+import contextlib
+import io
+import os
+import random
+import re
+import subprocess
+import sys
+import tempfile
+import threading
+from pathlib import Path
+
+TOP = Path(__file__).resolve().parent.parent
+sys.path.insert(0, str(TOP / "python"))
+import gerbilargent as g  # noqa: E402
+from gerbilargent import Break, Draft, Driver, Fault, Generator, Kind, World  # noqa: E402
+
+os.environ.setdefault("DVG_LIBRARY", str(TOP / "build" / "libdvg.so"))
+PROGRAM = sys.argv[1]
+DRAW = sys.argv[2] if len(sys.argv) > 2 else None
+SEED = int(sys.argv[3]) if len(sys.argv) > 3 else 1979
+passed = failed = 0
+
+
+def expect(holds, what):
+    """Counts a test."""
+    global passed, failed
+    if holds:
+        passed += 1
+    else:
+        failed += 1
+        print(f"FAILED: {what}")
+
+
+def expect_same(wanted, found, what):
+    if wanted != found:
+        print(f"  wanted {str(wanted)[:300]!r}\n  found  {str(found)[:300]!r}")
+    expect(wanted == found, what)
+
+
+def expect_raises(kind, call, what=None):
+    """The call must raise exactly this exception, which is answered."""
+    try:
+        call()
+    except Exception as error:  # the kind is looked at below
+        expect(type(error) is kind and str(error), what or f"{kind.__name__}, not {error!r}")
+        return error
+    expect(False, what or f"{kind.__name__} isn't raised")
+    return None
+
+
+def dvg(*words, text):
+    """What the program writes of an input, and its status."""
+    bytes_in = text if isinstance(text, bytes) else text.encode()
+    ran = subprocess.run([PROGRAM, *words], input=bytes_in, capture_output=True, check=False)
+    return ran.stdout.decode(), ran.stderr.decode(), ran.returncode
+
+
+def words(*values):
+    """Words as bytes, low bytes first."""
+    return b"".join(value.to_bytes(2, "little") for value in values)
+
+
+def first_frame():
+    return Draft().labs(512, 400).vctr(9, -100, 100, 7).halt()
+
+
+# --- Each call ---
+
+
+def test_world():
+    with World() as world:
+        expect_same([], world.strokes, "a new world has drawn nothing")
+        kinds = [str(world.tick()) for _ in range(3)]
+        expect_same(["peek", "read halted", "idle"], kinds, "the first ticks")
+        expect_same(g.Entry(Kind.OFFERED), world.offer(first_frame()), "an offer")
+        expect_same("wrote 402 90", str(world.tick()), "the first write")
+        while world.tick().kind is not Kind.SENT:
+            pass
+        expect_same("started", str(world.strobe()), "the strobe")
+        fetched = [str(world.fetch()) for _ in range(12)]
+        expect_same("low 000 01", fetched[0], "the first byte")
+        expect_same("fetched 000 E201", fetched[1], "the first word")
+        expect_same("done 205 B000 1", fetched[-1], "the HALT")
+        expect_same([g.Stroke(262144, 204800, 210944, 256000, 7)], world.strokes, "the stroke")
+        expect_same(31, world.events, "events are counted")
+        expect_same("asked", str(world.redraw()), "a redraw")
+        expect_same("cleared", str(world.reset_generator()), "a reset of the generator")
+        expect_same("cleared", str(world.reset_processor()), "a reset of the processor")
+        expect_same("cleared", str(world.reset_all(b"\xf2" * 2048)), "a reset of all")
+        expect_same(35, world.events, "resets are events")
+        expect_raises(g.NoStrobe, world.strobe, "after a reset of all no strobe was sent")
+        expect_same(36, world.events, "what is refused is an event")
+        expect_same(1, len(world.draw(first_frame())), "a frame is drawn after a reset")
+        world.offer(first_frame())
+        two = Draft().labs(0, 0).vctr(0, 1, 1, 1).vctr(0, 0, 0, 15).halt()
+        expect_same(2, len(world.draw(two)), "a frame is drawn by a world at work")
+    expect_raises(g.Closed, world.tick, "a closed world is Closed")
+    expect_raises(g.Closed, world.__enter__, "a closed world isn't entered")
+    expect_raises(g.Closed, lambda: world.strokes, "a closed world tells no strokes")
+    world.close()
+    expect(True, "closing twice does nothing")
+    over = bytearray(2048)
+    with World(bytearray(g.RETURNS), memoryview(over)) as world:
+        expect_same("peek", str(world.tick()), "bytes of each kind are taken")
+    with World(g.RETURNS * 2) as world:
+        expect_same("peek", str(world.tick()), "a ROM of 4,096 bytes")
+
+
+def test_freeing():
+    """Each device is freed, and once: by `close`, at the end of `with`, and where it is dropped."""
+    real, freed = g._load(g.library_path()), []
+
+    class Counting:
+        dvg_new, dvg_turn = real.dvg_new, real.dvg_turn
+
+        @staticmethod
+        def dvg_free(device):
+            freed.append(device)
+            real.dvg_free(device)
+
+    load, g._load = g._load, lambda path: Counting
+    with World() as world:
+        world.tick()
+    expect_same(1, len(freed), "a world is freed at the end of `with`")
+    world.close()
+    expect_same(1, len(freed), "and not again")
+    World().tick()
+    expect_same(2, len(freed), "a world that is dropped is freed")
+    driver = Driver()
+    driver.close(), driver.close()
+    expect_same(3, len(freed), "a driver is freed by `close`")
+    g.picture(words(0xB000).ljust(4096, b"\0"))
+    expect_same(4, len(freed), "a picture leaves no device")
+    expect_raises(g.WrongSize, lambda: World(bytes(1)))
+    expect_same(4, len(freed), "of a wrong size none is made")
+    g._load = load
+
+
+def test_driver():
+    with Driver() as driver:
+        told = [str(driver.tick(True, 0)) for _ in range(3)]
+        expect_same(["peek", "read halted", "idle"], told, "the first ticks of a driver")
+        expect_same("offered", str(driver.offer(first_frame())), "an offer to a driver")
+        expect_same("wrote 402 90", str(driver.tick(True, 0)), "it tells what to write")
+        expect_raises(g.Busy, lambda: driver.offer(first_frame()))
+        expect_raises(g.NothingPublished, lambda: Driver().redraw())
+        expect_same("cleared", str(driver.reset()), "a reset of a driver")
+        expect_same("read running", [str(driver.tick(False, 0)) for _ in range(2)][1], "the flag")
+        expect_raises(g.BadByte, lambda: driver.tick(True, 256))
+        expect_raises(g.BadByte, lambda: driver.tick(True, -1))
+        expect_same([], driver.strokes, "a driver draws nothing")
+
+
+def test_generator():
+    with Generator() as generator:
+        expect(generator.halted and generator.wanted is None, "a new generator is halted")
+        expect_raises(g.Halted, lambda: generator.fetch(0))
+        expect_raises(g.Halted, generator.hole)
+        expect_raises(g.Halted, lambda: generator.fetch_from(bytes(2048)))
+        expect_same("started", str(generator.strobe()), "a strobe")
+        expect_same(g.Wanted(0, False), generator.wanted, "the low byte first")
+        expect_same("low 000 01", str(generator.fetch(0x01)), "a low byte")
+        expect_same(g.Wanted(0, True), generator.wanted, "then the high byte")
+        expect_same("fetched 000 E001", str(generator.fetch(0xE0)), "a word")
+        expect_same(g.Wanted(1, False), generator.wanted, "it follows the jump")
+        broke = expect_raises(g.RunBroke, generator.hole)
+        expect_same((1, Break.HOLE), (broke.address, broke.why), "where and why")
+        expect(generator.halted, "a broken run is over")
+        generator.strobe()
+        expect_same("cleared", str(generator.reset()), "a reset of a generator")
+        expect(generator.halted, "a reset ends the run")
+        expect_raises(g.BadByte, lambda: generator.fetch(256))
+        expect_raises(g.WrongSize, lambda: generator.fetch_from(bytes(2047)))
+        expect_raises(g.WrongSize, lambda: generator.fetch_from(bytes(2048), bytes(4095)))
+        ram = words(0xB000).ljust(2048, b"\0")
+        expect_same(g.Picture(1, []), generator.draw(ram), "a HALT alone")
+        expect_same("picture 1 0", str(generator.draw(ram)), "its text")
+        expect_raises(g.Endless, lambda: generator.draw(ram, most_words=0))
+        over = words(0xC000).ljust(2048, b"\0")
+        expect_same(
+            Break.STACK_OVER, expect_raises(g.RunBroke, lambda: generator.draw(over)).why, "over"
+        )
+        under = words(0xD000).ljust(2048, b"\0")
+        expect_same(
+            Break.STACK_UNDER, expect_raises(g.RunBroke, lambda: generator.draw(under)).why, "under"
+        )
+        hole = words(0xEC00).ljust(2048, b"\0")
+        broke = expect_raises(g.RunBroke, lambda: generator.draw(hole))
+        expect_same("broke C00 3: no memory there", str(broke), "a hole, as text")
+        rom = words(0xB000) + g.RETURNS[2:]
+        jump = words(0xE800).ljust(2048, b"\0")
+        expect_same(2, generator.draw(jump, rom).words, "a small ROM begins at 800")
+        jump = words(0xE400).ljust(2048, b"\0")
+        expect_same(2, generator.draw(jump, rom + rom).words, "a large ROM begins at 400")
+        expect_raises(g.RunBroke, lambda: generator.draw(jump, rom), "a small one doesn't")
+        endless = words(0xE000).ljust(2048, b"\0")
+        expect_same(
+            65536, expect_raises(g.Endless, lambda: generator.draw(endless)).words, "its cap"
+        )
+        expect_same(
+            3, expect_raises(g.Endless, lambda: generator.draw(endless, most_words=3)).words, "3"
+        )
+
+
+# --- Each refusal ---
+
+
+def refused(draft, fault, operation=None, rom_word=None, rom=g.RETURNS):
+    """A driver and a world refuse this draft, for this, and `dvg check` says the same."""
+    for opened in (Driver(rom), World(rom)):
+        with opened as it:
+            for _ in range(2):
+                it.tick(True, 0) if isinstance(it, Driver) else it.tick()
+            error = expect_raises(
+                g.DraftRefused, lambda: it.offer(draft), f"{fault.text} is refused"
+            )
+            if error:
+                expect_same(
+                    (fault, operation, rom_word),
+                    (error.fault, error.operation, error.rom_word),
+                    fault.text,
+                )
+                expect_same(
+                    f"fault {error}\n",
+                    dvg("check", text=rom_text(rom) + text_of(draft))[0],
+                    "as `check` says",
+                )
+            frame = first_frame()
+            expect_same(Kind.OFFERED, it.offer(frame).kind, "after a refusal an offer is taken")
+
+
+def test_refusals():
+    refused(Draft(), Fault.EMPTY)
+    refused(Draft().halt(), Fault.NO_LABS)
+    long = Draft()
+    for _ in range(256):
+        long.labs(0, 0)
+    refused(long.halt(), Fault.TOO_LONG)
+    refused(Draft().labs(0, 0).call(9).halt(), Fault.TARGET, 1)
+    refused(Draft().labs(0, 0), Fault.RUNS_OFF, 0)
+    refused(Draft().labs(0, 0).jump_rom(0x7FF), Fault.OUT_OF_ROM, 1)
+    refused(
+        Draft().labs(0, 0).call_rom(0x800).halt(),
+        Fault.OUT_OF_ROM,
+        None,
+        0x800,
+        words(0xE3FF) + g.RETURNS[2:],
+    )
+    deep = Draft().labs(0, 0)
+    for number in range(1, 6):
+        deep.call(number + 1)
+    refused(deep.halt(), Fault.TOO_DEEP, 5)
+    refused(Draft().labs(0, 0).return_(), Fault.NO_CALLER, 1)
+    refused(Draft().labs(0, 0).jump_rom(0x800), Fault.NO_CALLER, None, 0x800)
+    refused(Draft().labs(0, 0).jump(0), Fault.LOOPS)
+    with World() as world:
+        world.tick(), world.tick(), world.offer(first_frame())
+        expect_raises(g.Busy, lambda: world.offer(first_frame()))
+        expect_raises(g.NothingPublished, world.redraw)
+        expect_raises(g.NoStrobe, world.strobe)
+        expect_raises(g.Halted, world.fetch)
+        world.draw(first_frame()), world.redraw()
+        expect_raises(g.Busy, world.redraw)
+    with World() as world:
+        expect_raises(g.NothingPublished, lambda: (world.tick(), world.tick(), world.redraw()))
+    for rom, ram in (
+        (bytes(2047), None),
+        (b"", None),
+        (bytes(4097), None),
+        (g.RETURNS, bytes(2049)),
+        (g.RETURNS, b""),
+    ):
+        expect_raises(g.WrongSize, lambda: World(rom, ram))
+    expect_raises(g.WrongSize, lambda: Driver(bytes(2049)))
+    with World() as world:
+        expect_raises(g.WrongSize, lambda: world.reset_all(bytes(1)))
+        expect_same(0, world.events, "a RAM of a wrong size is no event")
+    for size in (0, 2048, 4095, 8192):
+        expect_raises(g.WrongSize, lambda: g.picture(bytes(size)))
+    for kind in vars(g).values():
+        if isinstance(kind, type) and issubclass(kind, Exception):
+            expect(issubclass(kind, g.Error), f"{kind.__name__} is an Error")
+    for kind in (g.Closed, g.WrongThread, g.Busy, g.NothingPublished, g.NoStrobe, g.Halted):
+        expect(issubclass(kind, g.WrongOrder), f"{kind.__name__} is a WrongOrder")
+
+
+def test_no_memory():
+    """The library's answer 255, by one that answers nothing else, and a device that isn't made."""
+    with World() as world:
+        real = world._library
+        class Refusing:
+            dvg_turn = staticmethod(lambda device, request: 255)
+        world._library = Refusing
+        expect_raises(g.OutOfMemory, world.fetch)
+        expect_same(0, world.events, "a fetch without memory is no event")
+        world._library = real
+        expect_same("peek", str(world.tick()), "and nothing has changed")
+    load, g._load = g._load, lambda path: Missing
+    class Missing:
+        dvg_new = staticmethod(lambda out: 2)
+    expect_raises(g.OutOfMemory, World)
+    g._load = load
+    expect(issubclass(g.OutOfMemory, MemoryError), "want of memory is a MemoryError")
+
+
+def test_threads():
+    found = []
+    with World() as world:
+        def use():
+            for call in (world.tick, world.close, lambda: world.strokes):
+                try:
+                    call()
+                    found.append(None)
+                except g.Error as error:
+                    found.append(type(error))
+        thread = threading.Thread(target=use)
+        thread.start(), thread.join()
+        expect_same([g.WrongThread] * 3, found, "another thread is refused")
+        expect_same("peek", str(world.tick()), "and nothing has changed")
+        expect_same(1, world.events, "and nothing was counted")
+    def use_own():
+        with World() as own:
+            found.append(len(own.draw(first_frame())))
+    thread = threading.Thread(target=use_own)
+    thread.start(), thread.join()
+    expect_same(1, found[-1], "a world in a thread of its own")
+
+
+def test_ranges():
+    """The ranges of Draft are those of the library: each field at its edges and beside them."""
+    makers = {
+        0: lambda s, z, x, y: Draft().vctr(s, x, y, z),
+        1: lambda s, z, x, y: Draft().svec(s, x, y, z),
+        2: lambda s, z, x, y: Draft().labs(x, y, s),
+        3: lambda s, z, x, y: Draft().call(x),
+        4: lambda s, z, x, y: Draft().jump(x),
+        5: lambda s, z, x, y: Draft().call_rom(x),
+        6: lambda s, z, x, y: Draft().jump_rom(x),
+    }
+    fine = {
+        0: (9, 7, 5, 5),
+        1: (3, 7, 1, 1),
+        2: (3, 0, 5, 5),
+        3: (0, 0, 5, 0),
+        4: (0, 0, 5, 0),
+        5: (0, 0, 5, 0),
+        6: (0, 0, 5, 0),
+    }
+    edges = [(-1, 0, 1, 2, 4, 5, 6, 9, 10, 15, 16, 255), (-1, 0, 1, 15, 16, 255)]
+    moves = (-32768, -4096, -1024, -1023, -4, -3, -1, 0, 3, 4, 1023, 1024, 4095, 4096, 32767)
+    moves += (32768, 65535)
+    edges += [moves, moves]
+    with Driver() as driver:
+        for kind, make in makers.items():
+            for place, values in enumerate(edges):
+                if kind > 2 and place != 2 or kind == 2 and place == 1:
+                    continue
+                for value in values:
+                    fields = list(fine[kind])
+                    fields[place] = value
+                    try:
+                        make(*fields)
+                        taken = True
+                    except g.BadOperation:
+                        taken = False
+                    # Below 0 a field of 8 bits isn't asked for at all, as
+                    # one of 16 that has no sign.
+                    unasked = value < 0 and (place < 2 or kind > 1) or value > 32767 and kind < 2
+                    driver._turn(g._Request.CLEAR)
+                    number = g.Operation(kind, *fields).number if not unasked else 0xFF << 8
+                    asked = driver._turn(g._Request.PUSH, number) & 0xFF == Kind.PUSHED
+                    expect_same(asked, taken, f"operation {kind} with {fields}")
+    draft = Draft()
+    for _ in range(511):
+        draft.halt()
+    expect_raises(g.DraftFull, draft.halt)
+    expect_same(511, len(draft), "a full draft stays as it was")
+    expect_raises(g.BadOperation, lambda: Draft().labs(0, 4096))
+    expect_same(0, len([0 for _ in Draft()]), "an empty draft")
+
+
+# --- Beside the program ---
+
+NAMES = ("vctr", "svec", "labs", "call", "jump", "callrom", "jumprom", "return", "halt")
+
+
+def text_of(draft):
+    """The draft as `dvg check` reads it."""
+    lines = []
+    for kind, scale, z, x, y in draft:
+        if kind < 2:
+            fields = (scale, x, y, z)
+        elif kind == 2:
+            fields = (x, y, scale)
+        else:
+            fields = (x,) if kind < 5 else (f"{x:03X}",) if kind < 7 else ()
+        lines.append(" ".join(map(str, (NAMES[kind], *fields))) + "\n")
+    return "".join(lines)
+
+
+def rom_text(rom):
+    """The ROM as lines of a draft or trace."""
+    text = ["map 4096\n"] if len(rom) == 4096 else []
+    first = 0xC00 - len(rom) // 2
+    for at in range(0, len(rom), 2):
+        text.append(f"rom {first + at // 2:03X} {int.from_bytes(rom[at:at + 2], 'little'):04X}\n")
+    return "".join(text)
+
+
+def random_rom(chance):
+    """Mostly short vectors and returns."""
+    size = chance.choice(g.ROM_SIZES)
+    made = (0xF000 | chance.randrange(0x1000) for _ in range(size // 2))
+    return words(*(word if chance.random() < 0.8 else 0xD000 for word in made))
+
+
+def random_draft(chance):
+    draft = Draft().labs(chance.randrange(4096), chance.randrange(4096), chance.randrange(16))
+    for _ in range(chance.randrange(12)):
+        which = chance.randrange(10)
+        if which < 3:
+            draft.vctr(
+                chance.randrange(10),
+                chance.randint(-1023, 1023),
+                chance.randint(-1023, 1023),
+                chance.randrange(16),
+            )
+        elif which < 6:
+            draft.svec(
+                chance.randint(2, 5),
+                chance.randint(-3, 3),
+                chance.randint(-3, 3),
+                chance.randrange(16),
+            )
+        elif which == 6:
+            draft.call_rom(chance.randrange(0x800, 0xC00))
+        elif which == 7 and chance.random() < 0.3:
+            draft.call(chance.randrange(14))
+        else:
+            draft.labs(chance.randrange(4096), chance.randrange(4096), chance.randrange(16))
+    return draft.halt() if chance.random() < 0.95 else draft
+
+
+def shown(world, event):
+    """What `play --all` shows of an event: its entry, and the strokes of a done."""
+    try:
+        entry = event()
+    except g.DraftRefused as error:
+        return [f"refused {error}"]
+    except g.WrongOrder as error:
+        names = {
+            g.Busy: "busy",
+            g.NothingPublished: "nothing published",
+            g.NoStrobe: "no strobe",
+            g.Halted: "still",
+        }
+        return [names[type(error)]]
+    strokes = list(map(str, world.strokes)) if entry.kind is Kind.DONE else []
+    return [str(entry), *strokes]
+
+
+class Apart:
+    """A driver and a generator with a RAM between them, which is used as a World."""
+
+    def __init__(self, rom):
+        self.rom, self.ram, self.sent = rom, bytearray(2048), False
+        self.driver, self.generator = Driver(rom), Generator()
+
+    @property
+    def strokes(self):
+        return self.generator.strokes
+
+    def offer(self, draft):
+        return self.driver.offer(draft)
+
+    def redraw(self):
+        return self.driver.redraw()
+
+    def tick(self):
+        entry = self.driver.tick(self.generator.halted, self.ram[1])
+        if entry.kind is Kind.WROTE:
+            self.ram[entry.address] = entry.value
+        self.sent = self.sent or entry.kind is Kind.SENT
+        return entry
+
+    def strobe(self):
+        if not self.sent:
+            raise g.NoStrobe("none was sent")
+        return self.generator.strobe()
+
+    def fetch(self):
+        return self.generator.fetch_from(self.ram, self.rom)
+
+    def reset_generator(self):
+        return self.generator.reset()
+
+    def reset_processor(self):
+        return self.driver.reset()
+
+    def reset_all(self, ram):
+        self.ram[:], self.sent = ram, False
+        self.generator.reset()
+        return self.driver.reset()
+
+    def close(self):
+        self.driver.close(), self.generator.close()
+
+
+def random_schedule(chance, rom):
+    """Events, each as its lines of a trace and as what is called."""
+    events = []
+    while len(events) < 700:
+        which = chance.randrange(44)
+        many = chance.randint(1, 60)
+        draft = random_draft(chance)
+        offer = (f"offer\n{text_of(draft)}end\n", "offer", (draft,))
+        if which < 4:
+            events.append(offer)
+        elif which >= 40:
+            # Mostly a picture.
+            events += [("tick\n", "tick", ())] * 3 + [offer] + [("tick\n", "tick", ())] * 2 * many
+            events += [("strobe\n", "strobe", ())] + [("fetch\n", "fetch", ())] * 2 * many
+        elif which < 16:
+            events += [("tick\n", "tick", ())] * many
+        elif which < 20:
+            events.append(("strobe\n", "strobe", ()))
+        elif which < 34:
+            events += [("fetch\n", "fetch", ())] * many
+        elif which < 37:
+            events.append(("redraw\n", "redraw", ()))
+        elif which == 37:
+            events.append(("resetgen\n", "reset_generator", ()))
+        elif which == 38:
+            events.append(("resetcpu\n", "reset_processor", ()))
+        elif chance.random() < 0.5:
+            byte = chance.randrange(256)
+            events.append((f"resetall {byte:02X}\n", "reset_all", (bytes([byte]) * 2048,)))
+    return events
+
+
+def test_schedules(count):
+    pictures = 0
+    for number in range(count):
+        chance = random.Random(SEED + number)
+        rom = random_rom(chance)
+        events = random_schedule(chance, rom)
+        trace = rom_text(rom) + "".join(text for text, _, _ in events)
+        wanted, error, status = dvg("play", "--all", text=trace)
+        expect_same(("", 0), (error, status), "the program plays a schedule")
+        pictures += wanted.count(" done ")
+        for made in (World, Apart):
+            world = made(rom)
+            lines = []
+            for at, (_, name, arguments) in enumerate(events):
+                entry, *strokes = shown(world, lambda: getattr(world, name)(*arguments))
+                lines += [f"{at} {entry}\n", *(f"{stroke}\n" for stroke in strokes)]
+            found = "".join(lines)
+            if wanted != found:
+                pairs = zip(wanted.splitlines(), found.splitlines())
+                print(
+                    next(
+                        (f"  wanted {a}, found {b}" for a, b in pairs if a != b), "  one is longer"
+                    ),
+                )
+            expect(wanted == found, f"schedule {SEED + number} by {made.__name__}")
+            if made is World:
+                expect_same(len(events), world.events, "each event is counted")
+            world.close()
+    expect(pictures >= count / 2, f"{count} schedules drew only {pictures} pictures")
+
+
+def random_dump(chance):
+    """A dump that mostly draws: vectors, jumps and calls, returns and HALTs."""
+    size = 2048 + chance.choice(g.ROM_SIZES)
+    made = []
+    while len(made) < size // 2:
+        which = chance.randrange(20)
+        if which < 5:
+            made += [
+                chance.randrange(10) << 12 | chance.randrange(0x1000), chance.randrange(0x10000)
+            ]
+        elif which < 7:
+            made += [0xA000 | chance.randrange(0x1000), chance.randrange(0x10000)]
+        elif which < 8:
+            made.append(0xC000 | chance.randrange(0xC00))
+        elif which < 9:
+            made.append(0xE000 | chance.randrange(0xC00))
+        elif which < 10:
+            made.append(0xD000)
+        elif which < 12:
+            made.append(0xB000)
+        else:
+            made.append(0xF000 | chance.randrange(0x1000))
+    return words(*made[:size // 2])
+
+
+def dump_text(dump, cap=g.MOST_WORDS):
+    """What the module says of a dump, as the program does."""
+    try:
+        return f"{g.picture(dump, cap)}\n", 0
+    except g.RunBroke as error:
+        return f"broke {error.address:03X} {int(error.why)}\n", 1
+    except g.Endless:
+        return "endless\n", 1
+
+
+def drawn_by_c(dump, cap=g.MOST_WORDS):
+    """The same by dvg_draw."""
+    ran = subprocess.run([DRAW, str(cap)], input=dump, capture_output=True, check=False)
+    return ran.stdout.decode(), ran.returncode
+
+
+def test_dumps_in_c(dump, wanted, status, what):
+    expect_same((wanted, status), drawn_by_c(dump), f"{what} by dvg_draw")
+    if wanted.startswith("picture"):
+        size = int(wanted.split()[1])
+        expect_same(
+            (wanted, 0), drawn_by_c(dump, size), f"{what} by dvg_draw, with its words as the cap"
+        )
+        expect_same(
+            ("endless\n", 1), drawn_by_c(dump, size - 1), f"{what} by dvg_draw, with a word less"
+        )
+
+
+def test_dumps(count):
+    kinds = {"picture": 0, "broke": 0, "endless": 0}
+    for number in range(count):
+        dump = random_dump(random.Random(SEED + number))
+        wanted, _, status = dvg("picture", text=dump)
+        kinds[wanted.split()[0]] += 1
+        if DRAW:
+            test_dumps_in_c(dump, wanted, status, f"dump {SEED + number}")
+        if number >= 20 and wanted == "endless\n":
+            continue
+        expect_same((wanted, status), dump_text(dump), f"dump {SEED + number}")
+        if wanted.startswith("picture"):
+            size = int(wanted.split()[1])
+            expect_same(wanted, dump_text(dump, size)[0], "the cap is just large enough")
+            expect_same("endless\n", dump_text(dump, size - 1)[0], "the cap is just too small")
+    expect(min(kinds["picture"], kinds["broke"]) > count / 10, f"the dumps are all alike: {kinds}")
+    if DRAW:
+        expect_same(
+            ("wrong size\n", 1), drawn_by_c(bytes(4095)), "a dump of a wrong size by dvg_draw"
+        )
+
+
+WRONG_LINES = (
+    "wrote 4002 00", "wrote 002", "start", "started ", " started", "fetched 000 E00", "low 000",
+    "halted now", "#" * 65, "wrote 00G 00", "started\r",
+)
+
+
+def random_log(chance):
+    lines = []
+    for _ in range(chance.randint(1, 40)):
+        which = chance.randrange(20)
+        if which < 3:
+            lines.append("started")
+        elif which < 7:
+            first = chance.random() < 0.7
+            address = 0 if first else chance.randrange(0x1000)
+            top = chance.choice((0xE000, 0xE000, 0xE000, chance.randrange(16) << 12))
+            edge = chance.choice((0, 1, 0x1FF, 0x200, 0x201, 0x3FF, 0x400))
+            word = top + chance.choice((chance.randrange(0x400), chance.randrange(0x1000), edge))
+            lines.append(f"fetched {address:03X} {word:04X}")
+        elif which < 8:
+            lines.append(f"low {chance.randrange(0x1000):03X} {chance.randrange(256):02x}")
+        elif which < 9:
+            lines.append("halted")
+        elif which < 10:
+            lines.append("reset")
+        elif which < 18:
+            address = chance.choice(
+                (chance.randrange(0x800), 0, 1, 2, 0x3FF, 0x400, 0x401, 0x402, 0x7FF)
+            )
+            lines.append(f"wrote {address:03X} {chance.randrange(256):02X}")
+        elif which < 19:
+            lines.append(chance.choice(("", "# a remark", "#" * 64)))
+        elif chance.random() < 0.2:
+            lines.append(chance.choice(WRONG_LINES))
+    return "\n".join(lines) + chance.choice(("", "\n"))
+
+
+def log_text(log):
+    """What the module says of a log, as the program does: standard output, and standard error."""
+    try:
+        return f"{g.judge(log)}", ""
+    except g.BadLog as error:
+        return "", f"dvg: syntax at line {error.line}"
+
+
+def test_logs(count):
+    kinds = {"not": 0, "torn": 0, "": 0}
+    for number in range(count):
+        log = random_log(random.Random(SEED + number))
+        out, error, _ = dvg("torn", text=log)
+        # The program may tell more after this, of what it saw.
+        verdict = re.match(r"torn at line \d+: wrote ... ..|not torn|no run drew|", out)[0]
+        verdict = "not torn" if verdict == "no run drew" else verdict
+        fault = re.match(r"dvg: syntax at line \d+|", error)[0]
+        kinds[verdict.split(" ")[0]] += 1
+        expect_same((verdict, fault), log_text(log), f"log {SEED + number}")
+        expect_same(log_text(log), log_text(io.StringIO(log, newline="\n")), "a log by its lines")
+    expect(min(kinds.values()) > count / 20, f"the logs are all alike: {kinds}")
+    verdict = g.judge(
+        "started\nfetched 000 E201\nwrote 002 00\nhalted\nstarted\nreset\nwrote 402 00\n"
+    )
+    expect_same(g.Verdict(None, 2, 1, 2), verdict, "what a log tells is counted")
+    verdict = g.judge("started\nfetched 000 E201\nwrote 402 90\nhalted\n")
+    expect_same(
+        (g.Torn(3, 0x402, 0x90), 0), (verdict.torn, verdict.halted), "nothing is read after a tear"
+    )
+    expect_same("torn at line 3: wrote 402 90", str(verdict), "its text")
+    expect_same(
+        2,
+        expect_raises(g.BadLog, lambda: g.judge("started\nwrote 800 00\n")).line,
+        "beyond the RAM",
+    )
+    told = g.Judge()
+    told.started(), told.fetched(0, 0xE001)
+    expect_same(
+        [True, False], [told.wrote(2), told.wrote(0x402)], "a judge is told a line at a time"
+    )
+    expect_raises(g.BadByte, lambda: told.wrote(2048))
+    expect_raises(g.BadByte, lambda: told.wrote(0, 256))
+    told.reset()
+    expect_same(False, told.wrote(2), "after a reset nothing is drawn")
+
+
+def test_svg(count):
+    awk = TOP / "examples" / "tools" / "svg.awk"
+    if not awk.exists():
+        print("skipped: svg.awk isn't here")
+        return
+    for number in range(count):
+        chance = random.Random(SEED + number)
+        place = lambda: chance.choice((chance.randrange(2097152), 0, 2097151, 1048576))
+        strokes = [
+            g.Stroke(place(), place(), place(), place(), chance.randint(1, 15)) for _ in range(6)
+        ]
+        strokes.append(strokes[0]._replace(x1=strokes[0].x0, y1=strokes[0].y0))
+        text = f"{g.Picture(9, strokes)}\n".encode()
+        units = chance.choice((1024, 4096))
+        wanted = subprocess.run(
+            ["awk", "-v", f"units={units}", "-f", awk], input=text, capture_output=True, check=False
+        )
+        expect_same(wanted.stdout.decode(), g.svg(strokes, units), f"the SVG {SEED + number}")
+
+
+# --- The script ---
+
+
+def script(*arguments, **environment):
+    ran = subprocess.run(
+        [sys.executable, str(TOP / "python" / "gerbilargent.py"), *arguments],
+        capture_output=True, text=True, check=False, env={**os.environ, **environment},
+    )
+    return ran.stdout, ran.stderr, ran.returncode
+
+
+def test_script():
+    with tempfile.TemporaryDirectory() as folder:
+        dump, log, bad = Path(folder, "dump"), Path(folder, "log"), Path(folder, "bad")
+        first = "picture 6 1\n262144 204800 210944 256000 7\n"
+        expect_same((first, "", 0), script(), "the first picture")
+        expect_same(
+            (TOP / "docs/first_picture.svg").read_text(), script("--svg")[0], "the same as SVG"
+        )
+        expect_same(0, script("--help")[2], "help")
+        expect("--dump" in script("--help")[0], "help names what there is")
+        expect_same(2, script("--nonsense")[2], "an option that isn't there")
+        dump.write_bytes(words(0xE001, 0xA190, 0x0200, 0x9064, 0x7464, 0xB000).ljust(4096, b"\0"))
+        expect_same((first, "", 0), script("--dump", str(dump)), "a dump")
+        dump.write_bytes(bytes(4095))
+        expect_same(1, script("--dump", str(dump))[2], "a dump of a wrong size")
+        expect_same(1, script("--dump", str(bad))[2], "a dump that isn't there")
+        log.write_text("started\nfetched 000 E001\nwrote 002 00\n")
+        expect_same(
+            ("torn at line 3: wrote 002 00\n", "", 1), script("--log", str(log)), "a torn log"
+        )
+        log.write_text("started\nhalted\n")
+        expect_same(("not torn\n", "", 0), script("--log", str(log)), "a log that isn't torn")
+        log.write_bytes(b"started\r\n\xff")
+        out, error, status = script("--log", str(log))
+        expect(status == 1 and "syntax at line 1" in error and out == "", "a log at fault")
+        out, error, status = script(DVG_LIBRARY=str(bad))
+        expect(
+            status == 70 and "./lib" in error and "Traceback" not in error, "no library names ./lib"
+        )
+        bad.write_text("no library")
+        out, error, status = script(DVG_LIBRARY=str(bad))
+        expect(
+            status == 70 and "./lib" in error and "Traceback" not in error,
+            "what isn't a library names ./lib",
+        )
+        os.environ["DVG_LIBRARY"], kept = str(Path(folder, "none")), os.environ["DVG_LIBRARY"]
+        expect_raises(g.LibraryMissing, World)
+        os.environ["DVG_LIBRARY"] = ""
+        expect_same(
+            TOP / "build" / "libdvg.so", g.library_path(), "where the library is looked for"
+        )
+        os.environ["DVG_LIBRARY"] = kept
+        with contextlib.redirect_stdout(io.StringIO()) as out:
+            status = g.main([])
+        expect_same((first, 0), (out.getvalue(), status), "main from Python")
+    dropped = "import gerbilargent as g; from gerbilargent import *; World().tick()"
+    ran = subprocess.run(
+        [sys.executable, "-W", "error", "-c", dropped], capture_output=True, text=True, check=False,
+        env={**os.environ, "PYTHONPATH": str(TOP / "python")},
+    )
+    expect_same(
+        ("", 0),
+        (ran.stderr, ran.returncode),
+        "a world that is only dropped is closed without a warning",
+    )
+    for name in g.__all__:
+        expect(hasattr(g, name), f"{name} is there")
+
+
+def test_texts():
+    """Each kind, fault and break has a text: those of the header."""
+    header = (TOP / "include" / "dvg.h").read_text()
+    for prefix, kinds in (("DVG_", Kind), ("DVG_FAULT_", Fault), ("DVG_BREAK_", Break)):
+        for kind in kinds:
+            text = re.search(rf'case {prefix}{kind.name}: return "([^"]*)"', header)
+            expect_same(text and text[1], kind.text, f"the text of {kind.name}")
+            number = re.search(rf"\b{prefix}{kind.name} = (\d+)", header)
+            expect_same(number and int(number[1]), int(kind), f"the number of {kind.name}")
+    for request in g._Request:
+        number = re.search(rf"\bDVG_REQUEST_{request.name} = (\d+)", header)
+        expect_same(number and int(number[1]), int(request), f"the request {request.name}")
+
+
+test_world()
+test_freeing()
+test_driver()
+test_generator()
+test_refusals()
+test_no_memory()
+test_threads()
+test_ranges()
+test_schedules(60)
+test_dumps(200)
+test_logs(300)
+test_svg(20)
+test_script()
+test_texts()
+print(f"{passed} passed, {failed} failed")
+sys.exit(failed != 0)

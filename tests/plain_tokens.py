@@ -1,0 +1,198 @@
+"""Checks the plain form of the sources by other means than the eraser's.
+
+    python3 tests/plain_tokens.py CRATES PLAIN NAME..
+
+CRATES/NAME/src/*.rt are sources with contracts, and PLAIN/NAME/src/*.rs what is left of them. The
+code of both is cut into tokens. Those of a source without its contracts, and with the few forms
+that are written otherwise, must be those of the plain file without the lines that are put in: all
+of them, in the same order. Each comment of the plain file must stand in the source, in the same
+order. At the head of each crate stand the lines that must stand there.
+
+Each file that differs is named, with the first place. Status 1 if there is one.
+"""
+
+import re
+import sys
+from pathlib import Path
+
+TOKEN = re.compile(r"""//[^\n]*|"(?:[^"\\]|\\.)*"|'(?:[^'\\]|\\[^\n]*?)'|\w+|[^\w\s]""", re.DOTALL)
+MODULES_WITHOUT_CODE = {"laws", "tests"}
+NO_STD = "#![no_std]"
+EXTERN = "extern crate plain_std as std;"
+PRELUDE = "use std::prelude::*;"
+MACROS = re.compile(r"use std::(println|\{eprint, eprintln\});")
+RUNTIME = re.compile(r"let \w+ = HostRuntime::new\(\);")
+
+
+def cut(text):
+    """The tokens of code, and the comments."""
+    tokens = TOKEN.findall(text)
+    return [t for t in tokens if not t.startswith("//")], [t for t in tokens if t.startswith("//")]
+
+
+def words(text):
+    return cut(text)[0]
+
+
+# The signature of Display::fmt, as far as it is written otherwise.
+GENERIC_FMT = words("fn fmt<W: fmt::Write>")
+
+
+class Source:
+    """The tokens of a source, of which those of contracts are passed over."""
+
+    def __init__(self, tokens):
+        self.tokens = tokens
+        self.at = 0
+        self.left = []
+
+    def next_is(self, *wanted):
+        return self.tokens[self.at : self.at + len(wanted)] == list(wanted)
+
+    def until(self, mark):
+        """The place of a mark from here on."""
+        return self.tokens.index(mark, self.at)
+
+    def after_brackets(self, opening, closing):
+        """The place after the bracket that closes the next one."""
+        at = self.until(opening)
+        depth = 0
+        while True:
+            depth += (self.tokens[at] == opening) - (self.tokens[at] == closing)
+            at += 1
+            if depth == 0:
+                return at
+
+    def pass_ghost(self):
+        if self.tokens[self.at + 1] == "use":
+            self.at = self.until(";") + 1
+            return
+        self.at = self.after_brackets("{", "}")
+        if self.tokens[self.at] in (";", ","):
+            self.at += 1
+
+    def attribute(self):
+        """An attribute, as it is in the plain file."""
+        end = self.after_brackets("[", "]")
+        inside = self.tokens[self.until("[") + 1 : end - 1]
+        self.at = end
+        if inside[0] == "tactic" or inside[0] == "derive_where" and ";" in inside:
+            return []
+        if inside == words("cfg(test)"):
+            self.at = self.until(";") + 1
+            return []
+        if inside == words("rattlefmt::skip"):
+            return words("#[rustfmt::skip]")
+        if inside[0] not in ("derive", "derive_where"):
+            return ["#", "[", *inside, "]"]
+        names = [token for token in inside[2:-1] if token not in (",", "Drop")]
+        return words(f"#[derive({', '.join(names)})]") if names else []
+
+    def is_model(self):
+        return self.next_is("impl") and "Model" in self.tokens[self.at : self.until("{")]
+
+    def skipped_line(self):
+        """A line that goes whole, or nothing."""
+        lines = ("use std::marker::Model;", "pub mod laws;", "mod laws;")
+        return next((line for line in map(words, lines) if self.next_is(*line)), None)
+
+    def step(self):
+        line = self.skipped_line()
+        if self.next_is("ghost"):
+            self.pass_ghost()
+        elif self.next_is("requires") or self.next_is("ensures") or self.is_model():
+            self.at = self.after_brackets("{", "}")
+        elif self.next_is("#", "[") or self.next_is("#", "!", "["):
+            self.left += self.attribute()
+        elif line:
+            self.at += len(line)
+        elif self.next_is(*GENERIC_FMT):
+            end = self.until(")")
+            fields = self.tokens[self.at + len(GENERIC_FMT) : end - len(words("<W>"))]
+            self.left += [*words("fn fmt"), *fields, *words("<'_>")]
+            self.at = end
+        elif self.next_is(*words("fn main(")):
+            self.left += words("fn main()")
+            self.at = self.until(")") + 1
+        else:
+            self.left.append(self.tokens[self.at])
+            self.at += 1
+
+    def code(self):
+        while self.at < len(self.tokens):
+            self.step()
+        return self.left
+
+
+def without_added_lines(text, stem):
+    """A plain file without the lines that are put in, and what is wrong with these."""
+    lines = text.split("\n")
+    head = {"lib": [NO_STD, EXTERN], "main": [EXTERN]}.get(stem, [])
+    found = [line for line in lines if line in (NO_STD, EXTERN)]
+    wrong = None if found == head else f"the head is {found}, not {head}"
+    added = {NO_STD, EXTERN, PRELUDE}
+    kept = []
+    for line in lines:
+        is_runtime = stem == "main" and RUNTIME.fullmatch(line.strip())
+        if line not in added and not MACROS.fullmatch(line) and not is_runtime:
+            kept.append(line)
+    return "\n".join(kept), wrong
+
+
+def first_difference(left, plain):
+    """Where two lists of tokens differ, in words, or nothing."""
+    if left == plain:
+        return None
+    differing = (k for k, (a, b) in enumerate(zip(left, plain)) if a != b)
+    at = next(differing, min(len(left), len(plain)))
+    before = " ".join(left[max(0, at - 6) : at])
+    found, wanted = (" ".join(tokens[at : at + 4]) for tokens in (plain, left))
+    return f"after '{before}' stands '{found}', not '{wanted}'"
+
+
+def stray_comment(comments, of_source):
+    """The first comment that doesn't stand in the source in this order, or nothing."""
+    rest = iter(of_source)
+    return next((comment for comment in comments if comment not in rest), None)
+
+
+def fault_of(source, plain):
+    """What is wrong with a plain file, or nothing."""
+    text, wrong = without_added_lines(plain.read_text(encoding="utf-8"), plain.stem)
+    if wrong:
+        return wrong
+    tokens, comments = cut(text)
+    of_source, comments_of_source = cut(source.read_text(encoding="utf-8"))
+    difference = first_difference(Source(of_source).code(), tokens)
+    if difference:
+        return difference
+    comment = stray_comment(comments, comments_of_source)
+    return f"a comment that isn't in the source: {comment}" if comment else None
+
+
+def files_of(folder):
+    """The files of a folder that have code, by their names without an ending."""
+    return {path.stem: path for path in folder.iterdir() if path.stem not in MODULES_WITHOUT_CODE}
+
+
+def main(crates, plain, names):
+    files = faults = tokens = 0
+    for name in names:
+        sources = files_of(Path(crates, name, "src"))
+        made = files_of(Path(plain, name, "src"))
+        for stem in sorted(sources.keys() ^ made.keys()):
+            print(f"{name}/src/{stem}: one of the source and the plain file isn't there")
+            faults += 1
+        for stem in sorted(sources.keys() & made.keys()):
+            fault = fault_of(sources[stem], made[stem])
+            files += 1
+            tokens += len(cut(made[stem].read_text(encoding="utf-8"))[0])
+            if fault:
+                print(f"{name}/src/{stem}.rs: {fault}")
+                faults += 1
+    print(f"{files} files, {tokens} tokens of plain code")
+    return 1 if faults or not files else 0
+
+
+if __name__ == "__main__":
+    sys.exit(main(sys.argv[1], sys.argv[2], sys.argv[3:]))
