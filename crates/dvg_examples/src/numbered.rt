@@ -58,11 +58,12 @@ fn a_closed_device_has_an_answer_to_each_request(rt: HostRuntime) {
     assert_eq!(rt; device.turn(12), 23);
     assert_eq!(rt; device.turn(15), 24);
     for code in 21..256 {
-        assert_eq!(rt; device.turn(code), 24, "{code}");
+        assert_eq!(rt; device.turn(code), 254, "{code}");
     }
 }
 
-/// A driver alone writes into these bytes, and a generator alone draws out of them, one tick and one fetch after another.
+/// A driver alone writes into these bytes, and a generator alone draws out of them, one tick and
+/// one fetch after another.
 fn draws(ram: &mut [u8; 2048], driver: &mut Device, generator: &mut Device) -> Option<u64> {
     let mut halted = true;
     for _step in 0..100u8 {

@@ -9,7 +9,7 @@ use dvg_world::run;
 use linked_list_allocator::LocalHeap;
 use std::alloc::Global;
 use std::io;
-use std::io::Write;
+use std::io::Read;
 use std::test::Fail;
 
 /// A store that is never made.
@@ -64,49 +64,50 @@ fn a_trace_without_a_store_is_not_played(rt: HostRuntime) {
     assert!(rt; writer.into_inner().is_empty());
 }
 
-/// A writer that sees how many bytes of a heap are in use at its first write.
+/// A reader that parts a heap at the end of its text: of what is free, 1,856 bytes lie alone.
 #[derive(Drop)]
-struct Looking<'a> {
+struct Parting<'a> {
+    text: &'a [u8],
     heap: &'a LocalHeap,
-    used: Option<usize>,
+    wall: Option<Vec<u8, &'a LocalHeap>>,
 }
 
-impl Write for Looking<'_> {
-    fn write(&mut self, buf: &[u8]) -> io::Result<usize> {
-        if self.used.is_none() {
-            self.used = Some(self.heap.used());
+impl Read for Parting<'_> {
+    fn read(&mut self, buf: &mut [u8]) -> io::Result<usize> {
+        if self.text.is_empty() && self.wall.is_none() {
+            let hole = Vec::<u8, &LocalHeap>::with_capacity(self.heap, 1_856)?;
+            self.wall = Some(Vec::with_capacity(self.heap, 16)?);
+            drop(hole);
         }
-        Ok(buf.len())
-    }
-
-    fn flush(&mut self) -> io::Result<()> {
-        Ok(())
+        self.text.read(buf)
     }
 }
 
-/// How many bytes are in use when the first entry of the first picture is written, over a flat or a banked store.
-fn used_in_play(alloc: Global, banked: bool) -> Result<usize, Fail> {
-    let heap = LocalHeap::new(alloc, 262_144)?;
-    let mut reader = Watched::new(FIRST_PICTURE.as_bytes());
-    let mut writer = Watched::new(Looking {
-        heap: &heap,
-        used: None,
-    });
-    let job = Job::Play { all: true, banked };
-    if perform(&heap, job, &mut reader, &mut writer) != Ok(Done::Written) {
-        return Err("not played".into());
+/// The size in bytes, in steps of 64, of the smallest parted heap that the first picture is played
+/// on.
+fn smallest_heap(alloc: Global, banked: bool) -> Result<usize, Fail> {
+    for units in 1_700..4_096usize {
+        let size = units.saturating_mul(64);
+        let heap = LocalHeap::new(alloc, size)?;
+        let mut reader = Watched::new(Parting {
+            text: FIRST_PICTURE.as_bytes(),
+            heap: &heap,
+            wall: None,
+        });
+        let mut writer = Watched::new(Vec::new(alloc));
+        let job = Job::Play { all: true, banked };
+        if perform(&heap, job, &mut reader, &mut writer) == Ok(Done::Written) {
+            return Ok(size);
+        }
     }
-    let Some(used) = writer.into_inner().used else {
-        return Err("nothing was written".into());
-    };
-    Ok(used)
+    Err("no heap is large enough".into())
 }
 
-/// In units of 16 bytes one block of 2,048 bytes takes 2,048, and two blocks of 2 and two of 1,022 take 2,080.
+/// One of the two blocks of 1,022 bytes fits into the smaller part, one of 2,048 never does.
 #[test]
-fn a_banked_store_takes_four_blocks(rt: HostRuntime) -> Result<(), Fail> {
-    let flat = used_in_play(rt.alloc(), false)?;
-    let banked = used_in_play(rt.alloc(), true)?;
-    assert_eq!(rt; banked, flat.saturating_add(32));
+fn a_banked_store_takes_two_blocks(rt: HostRuntime) -> Result<(), Fail> {
+    let flat = smallest_heap(rt.alloc(), false)?;
+    let banked = smallest_heap(rt.alloc(), true)?;
+    assert!(rt; banked < flat, "banked {banked}, flat {flat}");
     Ok(())
 }
