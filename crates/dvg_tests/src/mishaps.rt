@@ -5,7 +5,8 @@ use crate::tasks::{Task, tasks, written};
 use dvg_frame::FrameFault;
 use dvg_mem::MEMORY_BYTES;
 use dvg_tool::{
-    BoundedVerdict, Done, LogVerdict, Outcome, TextFault, ToolFault, Verdict, Watched, finish, perform,
+    BoundedVerdict, Done, LogVerdict, Outcome, TextFault, ToolFault, Verdict, Watched, finish,
+    perform,
 };
 use std::alloc::Global;
 use std::test::Fail;

@@ -1,7 +1,9 @@
 //! A task for each job, and what comes of it where nothing fails.
 use crate::traces::FIRST_PICTURE;
 use dvg_frame::{FrameFault, Place};
-use dvg_tool::{BoundedVerdict, Done, Job, LogVerdict, Outcome, TextFault, ToolFault, Verdict, Watched, perform};
+use dvg_tool::{
+    BoundedVerdict, Done, Job, LogVerdict, Outcome, TextFault, ToolFault, Verdict, Watched, perform,
+};
 use std::alloc::Global;
 use std::test::Fail;
 

@@ -25,7 +25,13 @@ fn is_text<F: Display + Drop>(alloc: Global, fault: F, text: &str) -> Result<boo
 #[test]
 fn faults_of_the_library_have_their_texts(rt: HostRuntime) -> Result<(), Fail> {
     let alloc = rt.alloc();
-    assert!(rt; is_text(alloc, FrameFault::Loops, "steps at one depth lead back to a place")?);
+    assert!(rt;
+        is_text(
+            alloc,
+            FrameFault::Loops,
+            "steps at one depth lead back to a place"
+        )?
+    );
     let full = "there are more than 511 operations";
     assert!(rt; is_text(alloc, SketchFault::Full, full)?);
     let twice = "step 3 gives a name that was given before";
