@@ -5,3 +5,4 @@ pub mod Refused
 pub mod Jumping
 pub mod Halted
 pub mod Peeking
+pub mod Called

@@ -7,7 +7,7 @@ use Rattle.dvg_mem.specs.declared.areas.Area.{Area}
 use Rattle.dvg_mem.specs.declared.areas.Area.TheVariants.{Zero, Frame, Unused, Rom, Hole}
 use Rattle.dvg_mem.specs.declared.half.Half.{Half}
 use Rattle.dvg_mem.specs.declared.half.Half.TheVariants.{H0, H1}
-use Rattle.dvg_frame.specs.declared.op.OpKind.TheVariants.{Draw, Jump, Halt}
+use Rattle.dvg_frame.specs.declared.op.OpKind.TheVariants.{Draw, Call, Jump, Return, Halt}
 use Rattle.dvg_driver.specs.declared.action.Action.TheVariants.{Peek, Read, Wrote, Sent}
 use Rattle.dvg_lines.specs.Lines.{spaced}
 use Rattle.dvg_world.specs.Events.{Happening, Tick, Offer, Strobe, Fetch}
@@ -24,6 +24,10 @@ blank_frame = Draw (Labs 512 400 0) ∷ Halt ∷ []
 -- labs 512 400 0; vctr 9 -100 100 7; halt
 abbrev pub vector_frame : List OpKind
 vector_frame = Draw (Labs 512 400 0) ∷ Draw long_vector ∷ Halt ∷ []
+
+-- call 2; halt; vctr 9 -100 100 7; return
+abbrev pub called_draft : List OpKind
+called_draft = Call 2 ∷ Halt ∷ Draw long_vector ∷ Return ∷ []
 
 abbrev pub one_tick : List Happening
 one_tick = Tick ∷ []
