@@ -6,3 +6,4 @@ pub mod Jumping
 pub mod Halted
 pub mod Peeking
 pub mod Called
+pub mod Redraws

@@ -1,5 +1,6 @@
 -- What the clients' facts speak of.
-use Rattle.std.specs.Prelude.{ℕ, List, [], ◌∷◌, ◌++◌, true, pos, negsuc, codes, decimal, replicate}
+use Rattle.std.specs.Prelude.{ℕ, List, [], ◌∷◌, ◌++◌, Ok, Err, true, false, pos, negsuc}
+use Rattle.std.specs.Prelude.{codes, decimal, replicate}
 use Rattle.dvg_code.specs.declared.instr.Instr.{Instr}
 use Rattle.dvg_code.specs.declared.instr.Instr.TheVariants.{Vctr, Labs}
 use Rattle.dvg_frame.specs.declared.op.OpKind.{OpKind}
@@ -8,7 +9,10 @@ use Rattle.dvg_mem.specs.declared.areas.Area.TheVariants.{Zero, Frame, Unused, R
 use Rattle.dvg_mem.specs.declared.half.Half.{Half}
 use Rattle.dvg_mem.specs.declared.half.Half.TheVariants.{H0, H1}
 use Rattle.dvg_frame.specs.declared.op.OpKind.TheVariants.{Draw, Call, Jump, Return, Halt}
-use Rattle.dvg_driver.specs.declared.action.Action.TheVariants.{Peek, Read, Wrote, Sent}
+use Rattle.dvg_driver.specs.declared.action.Action.TheVariants.{Peek, Read, Wrote, Sent, Idle}
+use Rattle.dvg_driver.specs.declared.fault.DriverFault.TheVariants.{Busy, NothingPublished}
+use Rattle.dvg_clients.specs.declared.driver.Answer.{Answer}
+use Rattle.dvg_clients.specs.declared.driver.Answer.TheVariants.{Asked, Ticked}
 use Rattle.dvg_lines.specs.Lines.{spaced}
 use Rattle.dvg_world.specs.Events.{Happening, Tick, Offer, Strobe, Fetch}
 use Rattle.dvg_world.specs.Entries.{Shown, Acted, Offered, Started, Low, Fetched, Done}
@@ -60,6 +64,19 @@ first_picture = Acted Peek ∷ Acted (Read true) ∷ Offered
     ∷ Low 0x000 0x01 ∷ Fetched 0x000 0xE201 ∷ Low 0x201 0x90 ∷ Fetched 0x201 0xA190 ∷ Low 0x202 0x00 ∷ Fetched 0x202 0x0200
     ∷ Low 0x203 0x64 ∷ Fetched 0x203 0x9064 ∷ Low 0x204 0x64 ∷ Fetched 0x204 0x7464
     ∷ Low 0x205 0x00 ∷ Done 0x205 0xB000 (record { x0 = 262144; y0 = 204800; x1 = 210944; y1 = 256000; z = 7 } ∷ []) ∷ []
+
+-- redraw; offer; tick 4, of which two find the generator running
+-- offer; tick 10; redraw; tick 2; redraw; tick 2; redraw; tick 2
+abbrev pub redraw_table : List Answer
+redraw_table = Asked (Err NothingPublished) ∷ Asked (Err Busy)
+    ∷ Ticked Peek ∷ Ticked (Read false) ∷ Ticked (Read true) ∷ Ticked Idle
+    ∷ Asked (Ok tt) ∷ Ticked (Wrote 0x002 0x90) ∷ Ticked (Wrote 0x003 0xA1)
+    ∷ Ticked (Wrote 0x004 0x00) ∷ Ticked (Wrote 0x005 0x02) ∷ Ticked (Wrote 0x006 0x64)
+    ∷ Ticked (Wrote 0x007 0x90) ∷ Ticked (Wrote 0x008 0x64) ∷ Ticked (Wrote 0x009 0x74)
+    ∷ Ticked (Wrote 0x00A 0x00) ∷ Ticked (Wrote 0x00B 0xB0)
+    ∷ Asked (Err NothingPublished) ∷ Ticked (Wrote 0x000 0x01) ∷ Ticked (Wrote 0x001 0xE0)
+    ∷ Asked (Err Busy) ∷ Ticked (Read true) ∷ Ticked Sent
+    ∷ Asked (Ok tt) ∷ Ticked (Read true) ∷ Ticked Sent ∷ []
 
 -- the areas of 000, 001, 1FF, 200, 201, 3FF, 400, 7FF, 800, BFF, C00 and FFF
 abbrev pub areas_in_turn : List Area
