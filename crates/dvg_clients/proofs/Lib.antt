@@ -7,3 +7,6 @@ pub mod Halted
 pub mod Peeking
 pub mod Called
 pub mod Redraws
+pub mod Alone
+pub mod Laying
+pub mod FourFrames

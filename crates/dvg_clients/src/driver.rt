@@ -40,8 +40,7 @@ pub enum Answer {
     Ticked(Action),
 }
 
-/// Three redraws are refused: before and amid the first frame, and amid its publication. A fourth is
-/// taken once the strobe is sent, and sends its own.
+/// A redraw is refused before a frame, amid its writing and before its strobe; then one is taken.
 pub fn redraws(checked: &Checked) -> [Answer; 26]
     requires { checked.now.operations ≡ vector_frame }
     ensures { result ≡ redraw_table }
