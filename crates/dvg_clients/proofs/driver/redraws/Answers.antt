@@ -6,7 +6,8 @@ use Rattle.dvg_driver.specs.Script.{Asked, Offered}
 use Rattle.dvg_driver.specs.Stands.{StandsAfter}
 use Rattle.dvg_driver.proofs.Shapes.{rests_whole}
 use Rattle.dvg_clients.specs.Facts.{vector_frame}
-use Rattle.dvg_clients.proofs.Redraws.{ticked, taken, not_whole_at, offer_busy, redraw_busy, redraw_nothing}
+use Rattle.dvg_clients.proofs.Redraws.{ticked, taken, not_whole_at}
+use Rattle.dvg_clients.proofs.Redraws.{offer_busy, redraw_busy, redraw_nothing}
 use Rattle.dvg_clients.proofs.Redraws.{life0, life1, life2, life3, life4, life5, life6, life7}
 use Rattle.dvg_clients.proofs.Redraws.{life8, life9, life10, life11, life12, life13, life14}
 use Rattle.dvg_clients.proofs.Redraws.{life15, life16, life17, life18, life19, life20, life21}
@@ -39,7 +40,8 @@ returns c =
     taken 0xFF life4 s6.1 c.offer_checked-2.result (Offered H0 vector_frame)
     ((c.offer_checked-2.ensures.accepted 0xFF life4 s6.1).1 (rests_whole life4 true refl))
     (subst
-    (λ F. OnOk c.offer_checked-2.result (StandsAfter c.offer_checked-2.new.self 0xFF (Offered H0 F ∷ life4)))
+    (λ F. OnOk c.offer_checked-2.result
+    (StandsAfter c.offer_checked-2.new.self 0xFF (Offered H0 F ∷ life4)))
     c.requires (c.offer_checked-2.ensures.stands 0xFF life4 s6.1)) in
     let s8 =
     ticked 0xFF life5 s7.1 0xFF true (Wrote 0x002 0x90) _ refl tt
