@@ -5,3 +5,8 @@ pub mod Refused
 pub mod Jumping
 pub mod Halted
 pub mod Peeking
+pub mod Called
+pub mod Redraws
+pub mod Alone
+pub mod Laying
+pub mod FourFrames

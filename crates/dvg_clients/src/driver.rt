@@ -1,8 +1,8 @@
 //! What follows from the contracts of `Driver`.
 ghost use Rattle.std.specs.Prelude.{◌≡◌, Some, true};
-ghost use Rattle.dvg_clients.specs.Facts.{blank_frame};
+ghost use Rattle.dvg_clients.specs.Facts.{blank_frame, redraw_table, vector_frame};
 
-use dvg_driver::{Action, Driver};
+use dvg_driver::{Action, Driver, DriverFault};
 use dvg_frame::Checked;
 
 /// A driver begins with its peek, and then reads the HALT flag.
@@ -30,4 +30,48 @@ pub fn first_write(checked: &Checked) -> Option<Action>
         },
         Err(_) => None,
     }
+}
+
+/// An answer of a driver.
+pub enum Answer {
+    /// To an offer or to a redraw.
+    Asked(Result<(), DriverFault>),
+    /// To a tick.
+    Ticked(Action),
+}
+
+/// A redraw is refused before a frame, amid its writing and before its strobe; then one is taken.
+pub fn redraws(checked: &Checked) -> [Answer; 26]
+    requires { checked.now.operations ≡ vector_frame }
+    ensures { result ≡ redraw_table }
+{
+    let mut driver = Driver::new();
+    [
+        Answer::Asked(driver.redraw()),
+        Answer::Asked(driver.offer_checked(checked)),
+        Answer::Ticked(driver.tick(false, 0xFF)),
+        Answer::Ticked(driver.tick(false, 0xFF)),
+        Answer::Ticked(driver.tick(true, 0xFF)),
+        Answer::Ticked(driver.tick(true, 0xFF)),
+        Answer::Asked(driver.offer_checked(checked)),
+        Answer::Ticked(driver.tick(true, 0xFF)),
+        Answer::Ticked(driver.tick(true, 0xFF)),
+        Answer::Ticked(driver.tick(true, 0xFF)),
+        Answer::Ticked(driver.tick(true, 0xFF)),
+        Answer::Ticked(driver.tick(true, 0xFF)),
+        Answer::Ticked(driver.tick(true, 0xFF)),
+        Answer::Ticked(driver.tick(true, 0xFF)),
+        Answer::Ticked(driver.tick(true, 0xFF)),
+        Answer::Ticked(driver.tick(true, 0xFF)),
+        Answer::Ticked(driver.tick(true, 0xFF)),
+        Answer::Asked(driver.redraw()),
+        Answer::Ticked(driver.tick(true, 0xFF)),
+        Answer::Ticked(driver.tick(true, 0xFF)),
+        Answer::Asked(driver.redraw()),
+        Answer::Ticked(driver.tick(true, 0xE0)),
+        Answer::Ticked(driver.tick(true, 0xE0)),
+        Answer::Asked(driver.redraw()),
+        Answer::Ticked(driver.tick(true, 0xE0)),
+        Answer::Ticked(driver.tick(true, 0xE0)),
+    ]
 }

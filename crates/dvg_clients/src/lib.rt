@@ -15,4 +15,5 @@ pub mod memories;
 pub mod numbered;
 pub mod sketches;
 pub mod texts;
+pub mod undisturbed;
 pub mod worlds;

@@ -1,7 +1,9 @@
 //! What follows from the contract of `draft_of`.
-ghost use Rattle.std.specs.Prelude.{◌≡◌, [], IfOk};
+ghost use Rattle.std.specs.Prelude.{◌≡◌, [], IfOk, Ok};
+ghost use Rattle.dvg_clients.specs.Facts.{called_draft};
 
-use dvg_frame::Draft;
+use dvg_code::{Code, Instr};
+use dvg_frame::{Draft, Op, OpKind};
 use dvg_sketch::{SketchFault, Step, draft_of};
 
 /// A sketch that has nothing but a name is a draft without operations.
@@ -9,4 +11,23 @@ pub fn name_alone() -> Result<Draft, SketchFault>
     ensures { IfOk result (λ draft. draft ≡ []) }
 {
     draft_of(&[Step::Name("end")])
+}
+
+/// The call of a named subroutine calls operation 2, as the name stands before it.
+pub fn called_by_name() -> Result<Draft, SketchFault>
+    ensures { result ≡ Ok called_draft }
+{
+    let vector = Code::within(Instr::Vctr {
+        scale: 9,
+        dx: -100,
+        dy: 100,
+        z: 7,
+    });
+    draft_of(&[
+        Step::Call("shape"),
+        Step::Op(Op::default()),
+        Step::Name("shape"),
+        Step::Op(Op::new(OpKind::Draw(vector)).unwrap()),
+        Step::Op(Op::new(OpKind::Return).unwrap()),
+    ])
 }
