@@ -1,17 +1,17 @@
 -- A run that begins, and that nothing ends but itself, is finished once.
-use Rattle.std.proofs.Common.{◌≡◌, ℕ, suc, ◌+◌, ◌*◌, inl, inr, ◌⊎◌, List, [], ◌∷◌, ◌++◌, Option, Some, None, refl, sym, ap, ◌∙◌, subst, arith}
+use Rattle.std.proofs.Common.{◌≡◌, ℕ, suc, inl, inr, ◌⊎◌, List, [], ◌∷◌, ◌++◌, Some, None, refl, sym, ap, ◌∙◌, subst}
 use Rattle.std.specs.Prelude.{option_map}
-use Rattle.std.proofs.lemmas.Option.{none-some, same_Some}
+use Rattle.std.proofs.lemmas.Option.{none-some}
 use Rattle.dvg_gen.specs.declared.stroke.Stroke.{Stroke}
 use Rattle.dvg_frame.specs.declared.op.OpKind.{OpKind}
 use Rattle.dvg_frame.specs.Picture.{IsPicture}
 use Rattle.dvg_world.specs.Events.{Happening, Offer, Redraw, Tick, Strobe, Fetch, ResetGen, ResetCpu, ResetAll}
-use Rattle.dvg_world.specs.Entries.{Shown, Offered, Refused, Busy, Asked, NothingPublished, Acted, Started, NoStrobe, Low, Fetched, Done, Broke, Still, Cleared}
+use Rattle.dvg_world.specs.Entries.{Shown, Offered, Refused, Busy, Asked, NothingPublished, Acted, Started, Low, Fetched, Done, Broke, Still, Cleared}
 use Rattle.dvg_world.specs.Log.{◌⟼◌, Log, Throughout, history, open_run}
 use Rattle.dvg_world.specs.Legal.{IsLegal, IsWanted}
 use Rattle.dvg_world.proofs.Headline.{always_in_time, draws_published, never_faults}
 use Rattle.dvg_world.proofs.Linked.{wanting}
-use Rattle.dvg_progress.specs.Progress.{fetched_since, RunsOn, NotDone, DrawsOnce, DrawnInTime}
+use Rattle.dvg_progress.specs.Progress.{RunsOn, NotDone, DrawsOnce, DrawnInTime}
 use Rattle.dvg_progress.proofs.Halting.{counted}
 
 -- where no run is open no word is wanted

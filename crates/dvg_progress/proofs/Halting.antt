@@ -1,19 +1,18 @@
 -- How many fetches an open run has had.
-use Rattle.std.proofs.Common.{◌≡◌, ℕ, suc, ◌+◌, ◌*◌, ◌<◌, List, [], ◌∷◌, length, Option, Some, None, Bool, true, false, refl, sym, ap, ◌∙◌, subst, arith}
+use Rattle.std.proofs.Common.{◌≡◌, ℕ, suc, ◌+◌, ◌*◌, ◌<◌, List, [], ◌∷◌, length, Option, Some, None, refl, sym, ap, ◌∙◌, subst, arith}
 use Rattle.std.specs.Prelude.{option_map}
 use Rattle.std.proofs.lemmas.Option.{none-some, same_Some}
 use Rattle.dvg_gen.specs.declared.stroke.Stroke.{Stroke}
 use Rattle.dvg_frame.specs.declared.op.OpKind.{OpKind}
-use Rattle.dvg_frame.specs.Picture.{IsPicture, IsBound}
+use Rattle.dvg_frame.specs.Picture.{IsBound}
 use Rattle.dvg_frame.proofs.Pictures.{one_picture}
 use Rattle.dvg_world.specs.Events.{Happening, Offer, Redraw, Tick, Strobe, Fetch, ResetGen, ResetCpu, ResetAll}
 use Rattle.dvg_world.specs.Entries.{Shown, Offered, Refused, Busy, Asked, NothingPublished, Acted, Started, NoStrobe, Low, Fetched, Done, Broke, Still, Cleared}
-use Rattle.dvg_world.specs.Log.{◌⟼◌, Log, Throughout, open_run, low_byte, waiting, at_zero, published}
-use Rattle.dvg_world.specs.Legal.{IsLegal, Fits}
+use Rattle.dvg_world.specs.Log.{◌⟼◌, Log, open_run, low_byte, published}
+use Rattle.dvg_world.specs.Legal.{IsLegal}
 use Rattle.dvg_world.specs.Headline.{IsShown, fetch_count, EndsAt, KeepsTime}
-use Rattle.dvg_world.specs.Fetches.{IsPaired}
 use Rattle.dvg_world.proofs.Headline.{always_in_time}
-use Rattle.dvg_world.proofs.Shows.{at_zero_fetched, at_zero_open}
+use Rattle.dvg_world.proofs.Shows.{at_zero_fetched}
 use Rattle.dvg_world.proofs.Words.{words_are_paired}
 use Rattle.dvg_progress.specs.Progress.{fetched_since, HaltsInTime}
 

@@ -1,2 +1,6 @@
 pub mod Halting
 pub mod Drawn
+pub mod Lives
+pub mod Flipped
+pub mod Writing
+pub mod Sending

@@ -1,15 +1,29 @@
 //! Laws of progress, of the definitions alone. Each is the contract of a function that does nothing.
-ghost use Rattle.dvg_progress.specs.Progress.{DrawnInTime, HaltsInTime};
+ghost use Rattle.dvg_progress.specs.Progress.{DrawnInTime, HaltsInTime, PublishedInTime, SentInTime};
 
-/// In every legal log an open run that shows a frame with a bound of `n` words has had fewer than `2n` fetches since it began. So
-/// once `2n` fetches have come no run is open, unless a strobe came in between.
+/// In every legal log, after an accepted offer of a draft of `W` words, while neither the processor nor the
+/// whole system is reset, the first `2W + 2` ticks are the writes of its frame part, in their order, and
+/// the last of them is the flip: the draft is published. Where the life has flipped before, these are `2W + 1`.
+pub fn published_in_time()
+    ensures { PublishedInTime }
+{}
+
+/// In every legal log, after a flip, while neither the processor nor the whole system is reset, the first
+/// tick at which no run is open reads that the generator is halted, and the next tick sends the strobe.
+pub fn sent_in_time()
+    ensures { SentInTime }
+{}
+
+/// In every legal log an open run that shows a frame with a bound of `n` words has had fewer than `2n`
+/// fetches since it began. So once `2n` fetches have come it is over, unless a strobe began another.
 pub fn halts_in_time()
     ensures { HaltsInTime }
 {}
 
-/// In every legal log, after a strobe began a run, while there is no other strobe and no reset of the generator or of the whole system:
-/// once no run is open, there was exactly one `done`. It is the run's fetch number `2n`, and drew the picture, of `n` words, of the
-/// frame that was newest published when the run fetched word zero.
+/// In every legal log, after a strobe began a run, while there is no other strobe and no reset of the
+/// generator or of the whole system: once no run is open, there was exactly one `done`. It is the run's
+/// fetch number `2n`, and drew the picture, of `n` words, of the frame that was newest published when the
+/// run fetched word zero.
 pub fn drawn_in_time()
     ensures { DrawnInTime }
 {}
