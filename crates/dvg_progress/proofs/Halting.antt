@@ -1,6 +1,6 @@
 -- How many fetches an open run has had.
 use Rattle.std.proofs.Common.{◌≡◌, ℕ, suc, ◌+◌, ◌*◌, ◌<◌, List, [], ◌∷◌, length, Option, Some, None, refl, sym, ap, ◌∙◌, subst, arith}
-use Rattle.std.specs.Prelude.{option_map}
+use Rattle.std.specs.Prelude.{◌≢◌, option_map}
 use Rattle.std.proofs.lemmas.Option.{none-some, same_Some}
 use Rattle.dvg_gen.specs.declared.stroke.Stroke.{Stroke}
 use Rattle.dvg_frame.specs.declared.op.OpKind.{OpKind}
@@ -109,8 +109,13 @@ under R image ((Strobe ⟼ NoStrobe) ∷ log) (v ∷ vs) F n l o shown b = under
 under R image ((ResetCpu ⟼ Cleared) ∷ log) (v ∷ vs) F n l o shown b = under R image log (v ∷ vs) F n l.2 o (still_shown ResetCpu Cleared log v vs F o shown) b
 under R image ((event ⟼ entry) ∷ log) (v ∷ vs) F n l o shown b = absurd l.0
 
+pub some_run : (run : Option (List (ℕ × ℕ))) → run ≢ None → (words : List (ℕ × ℕ)) × (run ≡ Some words)
+some_run None is_open = absurd (is_open refl)
+some_run (Some words) is_open = (words, refl)
+
 pub halts_in_time : HaltsInTime
-halts_in_time R image log words F n l o shown bound =
-    let count = counted R image log words l o in
-    let few = under R image log words F n l o shown bound in
+halts_in_time R image log F n l is_open shown bound =
+    let some = some_run (open_run log) is_open in
+    let count = counted R image log some.0 l some.1 in
+    let few = under R image log some.0 F n l some.1 shown bound in
     omega arith

@@ -1,5 +1,5 @@
 -- What a line of a legal log does to the driver's life.
-use Rattle.std.proofs.Common.{◌≡◌, ℕ, suc, List, [], ◌∷◌, Some, Bool, refl, ap, ◌∙◌}
+use Rattle.std.proofs.Common.{◌≡◌, ℕ, suc, List, [], ◌∷◌, ◌++◌, Some, Bool, refl, ap, ◌∙◌}
 use Rattle.std.specs.Prelude.{is_none}
 use Rattle.dvg_driver.specs.declared.action.Action.{Action}
 use Rattle.dvg_driver.specs.Script.{Did, IsWhole}
@@ -8,10 +8,52 @@ use Rattle.dvg_driver.specs.Stands.{Tells}
 use Rattle.dvg_driver.proofs.Places.{whole_rests, life_place, place_before}
 use Rattle.dvg_world.specs.Events.{Happening, Offer, Redraw, Tick, Strobe, Fetch, ResetGen, ResetCpu, ResetAll}
 use Rattle.dvg_world.specs.Entries.{Shown, Offered, Refused, Busy, Asked, NothingPublished, Acted, Started, NoStrobe, Low, Fetched, Done, Broke, Still, Cleared}
-use Rattle.dvg_world.specs.Log.{◌⟼◌, Log, open_run, life, strobed, offered, before_flip}
+use Rattle.dvg_world.specs.Log.{◌⟼◌, Log, Throughout, open_run, life, strobed, offered, before_flip}
 use Rattle.dvg_world.specs.Legal.{IsLegal}
 use Rattle.dvg_world.proofs.Kept.{same_place}
-use Rattle.dvg_progress.specs.Progress.{ticks, LivesOn}
+use Rattle.dvg_progress.specs.Progress.{Without, ticks}
+
+-- neither the processor nor the whole system is reset
+abbrev pub LivesOn : Log → Happening → Shown → Type 0
+LivesOn log ResetCpu entry = ⊥
+LivesOn log (ResetAll bytes) entry = ⊥
+LivesOn log event entry = Unit {0}
+
+-- no strobe comes, and neither the generator nor the whole system is reset
+abbrev pub RunsOn : Log → Happening → Shown → Type 0
+RunsOn log Strobe entry = ⊥
+RunsOn log ResetGen entry = ⊥
+RunsOn log (ResetAll bytes) entry = ⊥
+RunsOn log event entry = Unit {0}
+
+-- no strobe comes
+abbrev pub NotStrobe : Log → Happening → Shown → Type 0
+NotStrobe log Strobe entry = ⊥
+NotStrobe log event entry = Unit {0}
+
+-- the newer lines, and the older ones
+pub newer : (events : List Happening) (one other : Log) → Without events (one ++ other) → Without events one
+newer events [] other without = tt
+newer events ((ResetAll bytes ⟼ entry) ∷ one) other without = without
+newer events ((event ⟼ entry) ∷ one) other without = (without.0, newer events one other without.1)
+
+pub older : (events : List Happening) (one other : Log) → Without events (one ++ other) → Without events other
+older events [] other without = without
+older events ((ResetAll bytes ⟼ entry) ∷ one) other without = absurd without
+older events ((event ⟼ entry) ∷ one) other without = older events one other without.1
+
+pub lives_on : (later : Log) → Without (ResetCpu ∷ []) later → Throughout LivesOn later
+lives_on [] without = tt
+lives_on ((ResetCpu ⟼ entry) ∷ later) without = absurd (without.0.0 refl)
+lives_on ((ResetAll bytes ⟼ entry) ∷ later) without = absurd without
+lives_on ((event ⟼ entry) ∷ later) without = (tt, lives_on later without.1)
+
+pub runs_on : (later : Log) → Without (Strobe ∷ ResetGen ∷ []) later → Throughout RunsOn later
+runs_on [] without = tt
+runs_on ((Strobe ⟼ entry) ∷ later) without = absurd (without.0.0 refl)
+runs_on ((ResetGen ⟼ entry) ∷ later) without = absurd (without.0.1.0 refl)
+runs_on ((ResetAll bytes ⟼ entry) ∷ later) without = absurd without
+runs_on ((event ⟼ entry) ∷ later) without = (tt, runs_on later without.1)
 
 -- the driver doesn't rest, so it accepts nothing
 abbrev pub IsBusy : Place → Type 0

@@ -8,7 +8,7 @@ use Rattle.dvg_driver.specs.declared.action.Action.TheVariants.{Wrote, Read, Sen
 use Rattle.dvg_driver.specs.Script.{Did}
 use Rattle.dvg_driver.specs.Place.{Place, Resting, Writing, Waiting, Sending, next_place, place_of_life}
 use Rattle.dvg_driver.specs.Stands.{Tells}
-use Rattle.dvg_world.specs.Events.{Happening, Tick, ResetCpu, ResetAll}
+use Rattle.dvg_world.specs.Events.{Happening, Tick, ResetCpu}
 use Rattle.dvg_world.specs.Entries.{Shown, Acted}
 use Rattle.dvg_world.specs.Log.{◌⟼◌, Log, Throughout, open_run, free_half, life}
 use Rattle.dvg_world.specs.Legal.{IsLegal}
@@ -17,8 +17,8 @@ use Rattle.dvg_world.proofs.Drawing.{past_zero}
 use Rattle.dvg_world.proofs.Kept.{KeptBy, kept}
 use Rattle.dvg_world.proofs.Todo.{IsWrite, to_half, to_zero, to_one, is_write}
 use Rattle.dvg_world.proofs.Words.{words_are_whole}
-use Rattle.dvg_progress.specs.Progress.{ticks, LivesOn, FindsRun, SentInTime}
-use Rattle.dvg_progress.proofs.Lives.{IsBusy, quiet, ticked}
+use Rattle.dvg_progress.specs.Progress.{ticks, SentInTime}
+use Rattle.dvg_progress.proofs.Lives.{IsBusy, LivesOn, lives_on, newer, older, quiet, ticked}
 
 -- a write of byte 001 is a flip: the driver waits after it
 flip_waits : (half : Half) (z b : ℕ) (to : Place) → IsWrite half z 1 b to → to ≡ Waiting false
@@ -33,14 +33,13 @@ wrote_at R image log _ to b k next = absurd (cc)
 acted_is : {one other : Action} → Acted one ≡ Acted other → other ≡ one
 acted_is e = cc
 
-pub flip_place : (R image : List ℕ) (before : Log) (flip : Happening) (b : ℕ) → IsLegal R image ((flip ⟼ Acted (Wrote 1 b)) ∷ before) → place_of_life (life image ((flip ⟼ Acted (Wrote 1 b)) ∷ before)) ≡ Some (Waiting false)
-flip_place R image before Tick b l =
+pub flip_place : (R image : List ℕ) (before : Log) (b : ℕ) → IsLegal R image ((Tick ⟼ Acted (Wrote 1 b)) ∷ before) → place_of_life (life image ((Tick ⟼ Acted (Wrote 1 b)) ∷ before)) ≡ Some (Waiting false)
+flip_place R image before b l =
     let k = kept R image before l.2 (words_are_whole R image before l.2) in
     let t = ticked R image before (Acted (Wrote 1 b)) k.0 l k.1.stands in
     let same : t.action ≡ Wrote 1 b = acted_is t.is in
     let next : next_place k.0 (Did (Wrote 1 b)) ≡ Some t.to = subst (λ action. next_place k.0 (Did action) ≡ Some t.to) same t.next in
     subst (λ action. place_of_life (Did action ∷ life image before) ≡ Some (Waiting false)) same (t.stands ∙ ap Some (wrote_at R image before k.0 t.to b k.1 next))
-flip_place R image before event b l = absurd l.0
 
 pub waiting_busy : (first : Bool) → IsBusy (Waiting first)
 waiting_busy first other is = cc
@@ -89,24 +88,15 @@ not_none : (run : Option (List (ℕ × ℕ))) → run ≢ None → is_none run �
 not_none None some = absurd (some refl)
 not_none (Some words) some = refl
 
-lives_same : (one other : Log) (event : Happening) (entry : Shown) → LivesOn one event entry → LivesOn other event entry
-lives_same one other ResetCpu entry lives = lives
-lives_same one other (ResetAll bytes) entry lives = lives
-lives_same one other event entry lives = lives
-
-pub lives_newer : (one other : Log) → Throughout LivesOn (one ++ other) → Throughout LivesOn one
-lives_newer [] other lives = tt
-lives_newer ((event ⟼ entry) ∷ one) other lives = (lives_same (one ++ other) one event entry lives.0, lives_newer one other lives.1)
-
-pub lives_older : (one other : Log) → Throughout LivesOn (one ++ other) → Throughout LivesOn other
-lives_older [] other lives = lives
-lives_older ((event ⟼ entry) ∷ one) other lives = lives_older one other lives.1
+-- at a tick a run is open
+abbrev FindsRun : Log → Happening → Shown → Type 0
+FindsRun log event entry = event ≡ Tick → open_run log ≢ None
 
 module _ (R image : List ℕ) (start : Log) where
   wait_step : (later : Log) (event : Happening) (entry : Shown) → IsLegal R image ((event ⟼ entry) ∷ later ++ start) → LivesOn later event entry → FindsRun (later ++ start) event entry
       → place_of_life (life image (later ++ start)) ≡ Some (Waiting false) → place_of_life (life image ((event ⟼ entry) ∷ later ++ start)) ≡ Some (Waiting false)
   wait_step later Tick entry l lives finds stands =
-      (waits R image (later ++ start) entry false l stands).stands ∙ ap (λ halted. Some (if halted then Sending false else Waiting false)) (not_none (open_run (later ++ start)) finds)
+      (waits R image (later ++ start) entry false l stands).stands ∙ ap (λ halted. Some (if halted then Sending false else Waiting false)) (not_none (open_run (later ++ start)) (finds refl))
   wait_step later event entry l lives finds stands = stays R image (later ++ start) event entry (Waiting false) l lives refl stands (waiting_busy false)
 
   -- while the driver finds a run open it waits
@@ -126,19 +116,19 @@ module _ (R image : List ℕ) (start : Log) where
   rest_on [] place busy l lives none stands = stands
   rest_on ((event ⟼ entry) ∷ later) place busy l lives none stands = rest_step later event entry place busy l lives.0 none (λ fewer. rest_on later place busy l.2 lives.1 fewer stands)
 
-older : (R image : List ℕ) (later log : Log) → IsLegal R image (later ++ log) → IsLegal R image log
-older R image [] log l = l
-older R image ((event ⟼ entry) ∷ later) log l = older R image later log l.2
+pub legal_before : (R image : List ℕ) (later log : Log) → IsLegal R image (later ++ log) → IsLegal R image log
+legal_before R image [] log l = l
+legal_before R image ((event ⟼ entry) ∷ later) log l = legal_before R image later log l.2
 
 pub sent_in_time : SentInTime
-sent_in_time R image before wait rest flip b first next l lives finds none no_ticks =
-    let flipped : Log = (flip ⟼ Acted (Wrote 1 b)) ∷ before in
+sent_in_time R image before wait rest b first next l lives finds none no_ticks =
+    let flipped : Log = (Tick ⟼ Acted (Wrote 1 b)) ∷ before in
     let halted : Log = (Tick ⟼ first) ∷ wait ++ flipped in
-    let halted_legal = older R image rest halted l.2 in
-    let at_flip = flip_place R image before flip b (older R image wait flipped halted_legal.2) in
-    let at_first = wait_on R image flipped wait halted_legal.2 (lives_older rest wait lives) finds at_flip in
+    let halted_legal = legal_before R image rest halted l.2 in
+    let at_flip = flip_place R image before b (legal_before R image wait flipped halted_legal.2) in
+    let at_first = wait_on R image flipped wait halted_legal.2 (lives_on wait (older (ResetCpu ∷ []) rest wait lives)) finds at_flip in
     let read = waits R image (wait ++ flipped) first false halted_legal at_first in
     let is_halted : is_none (open_run (wait ++ flipped)) ≡ true = ap is_none none in
     let at_halted : place_of_life (life image halted) ≡ Some (Sending false) = read.stands ∙ ap (λ h. Some (if h then Sending false else Waiting false)) is_halted in
-    let at_next = rest_on R image halted rest (Sending false) (sending_busy false) l.2 (lives_newer rest wait lives) no_ticks at_halted in
+    let at_next = rest_on R image halted rest (Sending false) (sending_busy false) l.2 (lives_on rest (newer (ResetCpu ∷ []) rest wait lives)) no_ticks at_halted in
     (read.read ∙ ap (λ h. Acted (Read h)) is_halted, (sends R image (rest ++ halted) next false l at_next).sent)

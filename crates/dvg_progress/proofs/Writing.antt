@@ -2,7 +2,7 @@
 use Rattle.std.proofs.Common.{◌≡◌, ℕ, suc, ◌+◌, ◌*◌, ◌<◌, ◌≤◌, Bool, true, false, not, List, [], ◌∷◌, ◌++◌, length, take, drop, reverse, slice_get, Some, refl, sym, ap, ◌∙◌, subst, arith}
 use Rattle.std.specs.Prelude.{if◌then◌else◌, option_and_then}
 use Rattle.std.proofs.Math.Seq.{take-suc}
-use Rattle.std.proofs.lemmas.List.{length-append, length-drop, drop_all, map-append, reverse-append}
+use Rattle.std.proofs.lemmas.List.{length-append, length-drop, drop_all, take_all, map-append, reverse-append}
 use Rattle.std.proofs.lemmas.Option.{slice_get_within, get_or_from_slice_get}
 use Rattle.dvg_mem.specs.declared.half.Half.{Half}
 use Rattle.dvg_mem.specs.Areas.{base}
@@ -26,9 +26,9 @@ use Rattle.dvg_world.proofs.Kept.{KeptBy, kept, same_place}
 use Rattle.dvg_world.proofs.Todo.{IsWrite, to_half, to_zero, to_one, is_write}
 use Rattle.dvg_world.proofs.Words.{words_are_whole}
 use Rattle.dvg_world.proofs.Writes.{written_at}
-use Rattle.dvg_progress.specs.Progress.{ticks, LivesOn, writes_of, writing_time, PublishedInTime}
+use Rattle.dvg_progress.specs.Progress.{ticks, PublishedInTime}
 use Rattle.dvg_progress.proofs.Flipped.{EndsInFlip, here, past, frame_ends, rests_flipped}
-use Rattle.dvg_progress.proofs.Lives.{IsBusy, quiet, ticked}
+use Rattle.dvg_progress.proofs.Lives.{IsBusy, LivesOn, lives_on, quiet, ticked}
 
 -- how many writes a frame part has
 frame_time : (half : Half) (F : List OpKind) (flipped : Bool) → length (frame_writes half F (not flipped)) ≡ 2 * size F + (if flipped then 1 else 2)
@@ -92,7 +92,7 @@ module _ (R image : List ℕ) (before : Log) (F : List OpKind) where
   start = (Offer F ⟼ Offered) ∷ before
 
   abbrev pub all : List (ℕ × ℕ)
-  all = writes_of image before F
+  all = frame_writes (free_half image before) F (not (has_flip (life image before)))
 
   -- what was written after so many ticks
   pub record SoFar (later : Log) : Type 0 where
@@ -158,11 +158,13 @@ module _ (R image : List ℕ) (before : Log) (F : List OpKind) where
   so_far [] l lives room = begun l
   so_far ((event ⟼ entry) ∷ later) l lives room = step later event entry l lives.0 room (so_far later l.2 lives.1 (fewer later event entry room))
 
-  pub time_is : length all ≡ writing_time image before F
+  pub time_is : length all ≡ 2 * size F + (if has_flip (life image before) then 1 else 2)
   time_is = frame_time (free_half image before) F (has_flip (life image before))
 
 pub published_in_time : PublishedInTime
-published_in_time R image before later F l lives room =
-    let time = time_is R image before F in
-    let so = so_far R image before F later l lives (omega arith) in
-    (so.life_is, λ end. so.flipped (end ∙ sym time))
+published_in_time R image before later F l lives time =
+    let all_is = time_is R image before F in
+    let end : ticks later ≡ length (all R image before F) = time ∙ sym all_is in
+    let so = so_far R image before F later l (lives_on later lives) (omega arith) in
+    let whole : take (ticks later) (all R image before F) ≡ all R image before F = take_all (ticks later) (all R image before F) (omega arith) in
+    (so.life_is ∙ ap (λ writes. reverse (wrote writes) ++ life image (start R image before F)) whole, so.flipped end)
