@@ -122,7 +122,7 @@ module _ (R image : List ℕ) (before : Log) where
   run_on words o [] l runs = inl (words, o, tt)
   run_on words o ((event ⟼ entry) ∷ later) l runs = both later event entry l runs.0 (run_on words o later l.2 runs.1)
 
-at_end : (R image : List ℕ) (before later : Log) → open_run (later ++ before) ≡ None → IsOpen R image before later ⊎ IsOver R image before later → (F : List OpKind) × (n : ℕ) × DrawsOnce F R n later before
+pub at_end : (R image : List ℕ) (before later : Log) → open_run (later ++ before) ≡ None → IsOpen R image before later ⊎ IsOver R image before later → (F : List OpKind) × (n : ℕ) × DrawsOnce F R n later before
 at_end R image before later none (inl is) = absurd (none-some is.0 (sym none ∙ is.1))
 at_end R image before later none (inr is) = (is.1, is.2, is.3)
 

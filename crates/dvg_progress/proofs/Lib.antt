@@ -4,3 +4,6 @@ pub mod Lives
 pub mod Flipped
 pub mod Writing
 pub mod Sending
+pub mod Newest
+pub mod Ready
+pub mod Together

@@ -82,7 +82,8 @@ DrawnInTime = (R image : List ℕ) (before later : Log)
 abbrev pub ShownInTime : Type 0
 ShownInTime = (R image : List ℕ) (F : List OpKind) (n : ℕ) (before write halt send draw : Log)
     (entry : Shown) → let written : Log = write ++ (Offer F ⟼ Offered) ∷ before in
-    let started : Log = (Strobe ⟼ entry) ∷ send ++ (halt ++ written) in IsLegal R image (draw ++ started)
+    let started : Log = (Strobe ⟼ entry) ∷ send ++ (halt ++ written) in
+    IsLegal R image (draw ++ started)
     → Throughout (λ _ _ e. e ≢ Offered) (draw ++ (send ++ (halt ++ write)))
     → Without (ResetCpu ∷ []) write → 2 * size F + 2 ≤ ticks write
     → ((G : List OpKind) (m : ℕ) → open_run written ≢ None → IsShown written G → IsBound G R m

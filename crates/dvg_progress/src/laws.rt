@@ -1,5 +1,5 @@
 //! Laws of progress, of the definitions alone. Each is the contract of a function that does nothing.
-ghost use Rattle.dvg_progress.specs.Progress.{DrawnInTime, HaltsInTime, PublishedInTime, SentInTime};
+ghost use Rattle.dvg_progress.specs.Progress.{DrawnInTime, HaltsInTime, PublishedInTime, SentInTime, ShownInTime};
 
 /// In every legal log, after an accepted offer of a draft of `W` words, while neither the processor nor the
 /// whole system is reset, the first `2W + 2` ticks are the writes of its frame part, in their order, and
@@ -26,4 +26,13 @@ pub fn halts_in_time()
 /// run fetched word zero.
 pub fn drawn_in_time()
     ensures { DrawnInTime }
+{}
+
+/// The laws together. Let a draft of `W` words and with a bound of `n` be accepted, and no other one up to
+/// the end. Let `2W + 2` ticks come, with no reset of the processor or of the whole system; then, with no such
+/// reset and no strobe, `2m` fetches, where `m` is the bound of what a run shows that is open by then, and
+/// 2 ticks; then a strobe; then, with no other strobe and no reset of the generator or of the whole
+/// system, `2n` fetches. One of these is `done`, and drew exactly the draft's picture. More may come of each.
+pub fn shown_in_time()
+    ensures { ShownInTime }
 {}
