@@ -7,3 +7,4 @@ pub mod Sending
 pub mod Newest
 pub mod Ready
 pub mod Together
+pub mod FirstPicture

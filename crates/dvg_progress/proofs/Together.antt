@@ -122,9 +122,10 @@ module _ (R image : List ℕ) (F : List OpKind) where
         ⊎_elim
         (λ fewer. at_flip ((event ⟼ entry) ∷ later) (omega arith) (so_far R image before F ((event ⟼ entry) ∷ later) l lives (omega arith)))
         (λ enough.
-        let old = reached later l.2 lives.1 none.1 enough in
-        (newest_step R image F (later ++ start R image before F) event entry l (lives_all ((event ⟼ entry) ∷ later) lives).0 none.0 old.0,
-        ready_step R image (start R image before F) later event entry l lives.0 old.1))
+        let old = reached later l.2 lives.1 none.1 enough in (
+          newest_step R image F (later ++ start R image before F) event entry l (lives_all ((event ⟼ entry) ∷ later) lives).0 none.0 old.0,
+          ready_step R image (start R image before F) later event entry l lives.0 old.1,
+        ))
         (cases_lt (ticks later) (length (all R image before F)))
 
   module _ (n : ℕ) (bound : IsBound F R n) (before draw : Log) where
@@ -227,5 +228,5 @@ shown_in_time R image F n before write halt send draw entry l none write_lives e
     let is : entry ≡ Started = starts R image ready_log entry started_l.0 (is_sent image ready_log (ticks send) two sends.1) in
     let at_started = newest_step R image F ready_log Strobe entry started_l tt (started_not entry is) at_ready in
     let P : Shown → Type 0 = λ e. IsLegal R image (draw ++ (Strobe ⟼ e) ∷ ready_log) → Newest image F ((Strobe ⟼ e) ∷ ready_log) → 2 * n ≤ fetched_since (draw ++ (Strobe ⟼ e) ∷ ready_log)
-        → DrawsOnce F R n draw ((Strobe ⟼ e) ∷ ready_log) in
+    → DrawsOnce F R n draw ((Strobe ⟼ e) ∷ ready_log) in
     subst P (sym is) (λ l newest fetched. draws R image F n bound ready_log draw l newest none_draw (runs_on draw runs) fetched) l at_started fetched

@@ -127,7 +127,7 @@ module _ (R image : List ℕ) (before : Log) (F : List OpKind) where
       let at = written_at all k w.0 w.1 t.to w.3 in
       let now : Some t.to ≡ Some (with_left (drop (suc k) all)) = ap Some (sym at.1) in
       let last : suc k ≡ length all → w.0 ≡ 1 = λ end. last_flips R image (later ++ start) left w.0 w.1 t.to l.2 (so.stands ∙ ap Some (left_writes left some)) w.3
-          (sym at.1 ∙ ap with_left (drop_all (suc k) all (omega arith))) in
+      (sym at.1 ∙ ap with_left (drop_all (suc k) all (omega arith))) in
       subst (λ shown. SoFar ((Tick ⟼ shown) ∷ later)) (sym (t.is ∙ ap Acted w.2)) (record {
         stands = subst (λ action. place_of_life (Did action ∷ life image (later ++ start)) ≡ Some (with_left (drop (suc k) all))) w.2 (t.stands ∙ now);
         life_is = ap (λ items. Did (Wrote w.0 w.1) ∷ items) so.life_is ∙ ap (λ items. items ++ life image start) (sym (one_more all k w.0 w.1 at.0));

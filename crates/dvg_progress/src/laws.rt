@@ -1,38 +1,43 @@
 //! Laws of progress, of the definitions alone. Each is the contract of a function that does nothing.
-ghost use Rattle.dvg_progress.specs.Progress.{DrawnInTime, HaltsInTime, PublishedInTime, SentInTime, ShownInTime};
+ghost use Rattle.dvg_progress.specs.Progress.{DrawnInTime, HaltsInTime, PublishedInTime};
+ghost use Rattle.dvg_progress.specs.Progress.{SentInTime, ShownInTime};
 
-/// In every legal log, after an accepted offer of a draft of `W` words, while neither the processor nor the
-/// whole system is reset, the first `2W + 2` ticks are the writes of its frame part, in their order, and
-/// the last of them is the flip: the draft is published. Where the life has flipped before, these are `2W + 1`.
+/// In every legal log, after an accepted offer of a draft of `W` words, while neither the processor
+/// nor the whole system is reset: the first `2W + 2` ticks are the writes of its frame part, in
+/// their order, and the last of these is the flip, so the draft is published. Where the life has
+/// flipped before, they are `2W + 1`.
 pub fn published_in_time()
     ensures { PublishedInTime }
 {}
 
-/// In every legal log, after a flip, while neither the processor nor the whole system is reset, the first
-/// tick at which no run is open reads that the generator is halted, and the next tick sends the strobe.
+/// In every legal log, after a flip, while neither the processor nor the whole system is reset: the
+/// first tick at which no run is open reads that the generator is halted, and the next tick sends
+/// the strobe.
 pub fn sent_in_time()
     ensures { SentInTime }
 {}
 
-/// In every legal log an open run that shows a frame with a bound of `n` words has had fewer than `2n`
-/// fetches since it began. So once `2n` fetches have come it is over, unless a strobe began another.
+/// In every legal log an open run that shows a frame with a bound of `n` words has had fewer than
+/// `2n` fetches since it began. So with `2n` it is over, whatever else comes, unless a strobe began
+/// another.
 pub fn halts_in_time()
     ensures { HaltsInTime }
 {}
 
-/// In every legal log, after a strobe began a run, while there is no other strobe and no reset of the
-/// generator or of the whole system: once no run is open, there was exactly one `done`. It is the run's
-/// fetch number `2n`, and drew the picture, of `n` words, of the frame that was newest published when the
-/// run fetched word zero.
+/// In every legal log, after a strobe began a run, while there is no other strobe and no reset of
+/// the generator or of the whole system: once no run is open, there was exactly one `done`. It is
+/// the run's fetch number `2n`, and drew the picture, of `n` words, of the frame that was newest
+/// published when the run fetched word zero.
 pub fn drawn_in_time()
     ensures { DrawnInTime }
 {}
 
-/// The laws together. Let a draft of `W` words and with a bound of `n` be accepted, and no other one up to
-/// the end. Let `2W + 2` ticks come, with no reset of the processor or of the whole system; then, with no such
-/// reset and no strobe, `2m` fetches, where `m` is the bound of what a run shows that is open by then, and
-/// 2 ticks; then a strobe; then, with no other strobe and no reset of the generator or of the whole
-/// system, `2n` fetches. One of these is `done`, and drew exactly the draft's picture. More may come of each.
+/// These together. Let a draft of `W` words and with a bound of `n` be accepted, and no other one
+/// up to the end. Let `2W + 2` ticks come, with no reset of the processor or of the whole system;
+/// then, with no such reset and no strobe, `2m` fetches, where `m` is the bound of what a run shows
+/// that is open by then, and 2 ticks; then a strobe; then, with no other strobe and no reset of the
+/// generator or of the whole system, `2n` fetches. Then exactly one of these is `done`, and it drew
+/// the draft's picture. More of each may come, and anything else in between.
 pub fn shown_in_time()
     ensures { ShownInTime }
 {}
