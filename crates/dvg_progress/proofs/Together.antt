@@ -179,7 +179,7 @@ module _ (R image : List ℕ) (F : List OpKind) where
 
   -- what is open when the frame is written is over in time
   halted : (written halt : Log) → IsLegal R image (halt ++ written) → Newest image F written → NoFrame halt → Throughout LivesOn halt → Throughout (λ log event entry. NotStrobe event) halt
-      → ((G : List OpKind) (m : ℕ) → open_run written ≢ None → IsShown written G → IsBound G R m → fetched_since written + 2 * m ≤ fetched_since (halt ++ written)) → open_run (halt ++ written) ≡ None
+      → ((G : List OpKind) (m : ℕ) → open_run written ≢ None → IsShown written G → IsBound G R m → 2 * m ≤ fetched_since (halt ++ written)) → open_run (halt ++ written) ≡ None
   halted written halt l newest none lives not_strobe enough = by (open_run (halt ++ written)) refl
     where
       by : (run : Option (List (ℕ × ℕ))) → open_run (halt ++ written) ≡ run → open_run (halt ++ written) ≡ None

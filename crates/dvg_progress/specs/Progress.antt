@@ -87,7 +87,7 @@ ShownInTime = (R image : List ℕ) (F : List OpKind) (n : ℕ) (before write hal
     → Throughout (λ _ _ e. e ≢ Offered) (draw ++ (send ++ (halt ++ write)))
     → Without (ResetCpu ∷ []) write → 2 * size F + 2 ≤ ticks write
     → ((G : List OpKind) (m : ℕ) → open_run written ≢ None → IsShown written G → IsBound G R m
-    → fetched_since written + 2 * m ≤ fetched_since (halt ++ written))
+    → 2 * m ≤ fetched_since (halt ++ written))
     → Without (Strobe ∷ ResetCpu ∷ []) (send ++ halt) → 2 ≤ ticks send → IsBound F R n
     → Without (Strobe ∷ ResetGen ∷ []) draw → 2 * n ≤ fetched_since (draw ++ started)
     → DrawsOnce F R n draw started

@@ -1,4 +1,4 @@
-//! Laws of progress, of the definitions alone. Each is the contract of a function that does nothing.
+//! Laws of progress, of definitions alone. Each is the contract of a function that does nothing.
 ghost use Rattle.dvg_progress.specs.Progress.{DrawnInTime, HaltsInTime, PublishedInTime};
 ghost use Rattle.dvg_progress.specs.Progress.{SentInTime, ShownInTime};
 
@@ -33,11 +33,12 @@ pub fn drawn_in_time()
 {}
 
 /// These together. Let a draft of `W` words and with a bound of `n` be accepted, and no other one
-/// up to the end. Let `2W + 2` ticks come, with no reset of the processor or of the whole system;
-/// then, with no such reset and no strobe, `2m` fetches, where `m` is the bound of what a run shows
-/// that is open by then, and 2 ticks; then a strobe; then, with no other strobe and no reset of the
-/// generator or of the whole system, `2n` fetches. Then exactly one of these is `done`, and it drew
-/// the draft's picture. More of each may come, and anything else in between.
+/// up to the end. Let `2W + 2` ticks come, with no reset of the processor or of the whole system.
+/// Then, with no such reset and no strobe, let a run that is open by then come to `2m` fetches,
+/// where `m` is the bound of what it shows; and then 2 ticks. Then let a strobe come, and, with no
+/// other strobe and no reset of the generator or of the whole system, `2n` fetches. Exactly one of
+/// these is `done`, and it drew the draft's picture. More of each may come, and anything else in
+/// between.
 pub fn shown_in_time()
     ensures { ShownInTime }
 {}
