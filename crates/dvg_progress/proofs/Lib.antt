@@ -8,3 +8,4 @@ pub mod Newest
 pub mod Ready
 pub mod Together
 pub mod FirstPicture
+pub mod Following
