@@ -1,22 +1,21 @@
 -- A run that begins can be fetched to its end.
-use Rattle.std.proofs.Common.{◌≡◌, ◌≢◌, ℕ, zero, suc, ◌+◌, ◌*◌, ◌/◌, ◌%◌, ◌≤◌, List, [], ◌∷◌, ◌++◌, length, Option, Some, None, Bool, true, false, refl, sym, ap, ◌∙◌, subst, arith, append_assoc}
+use Rattle.std.proofs.Common.{◌≡◌, ℕ, suc, ◌+◌, ◌*◌, ◌/◌, ◌%◌, List, [], ◌∷◌, ◌++◌, length, Option, Some, None, true, false, refl, sym, ap, ◌∙◌, subst, arith}
 use Rattle.std.specs.Prelude.{option_map, is_some, if◌then◌else◌}
-use Rattle.std.specs.List.{AllByRecursion}
 use Rattle.dvg_gen.specs.declared.stroke.Stroke.{Stroke}
 use Rattle.dvg_gen.specs.declared.beam.Beam.{Beam}
-use Rattle.dvg_gen.specs.Bytes.{Met, Waits, Whole, met, word_of}
+use Rattle.dvg_gen.specs.Bytes.{Waits, Whole, met, word_of}
 use Rattle.dvg_gen.specs.Run.{Visit, Fate, Goes, Finished, beam_after, fate, strokes, wanted, Adds, Runs, begins, fetches}
-use Rattle.dvg_gen.specs.Told.{Told, Start, Fed, Newest, begun, grown, goes_on, Leaves, new, starts, resets, takes, More, Drew, reply_by, reply, wants}
+use Rattle.dvg_gen.specs.Told.{Fed, Newest, begun, grown, goes_on, Leaves, new, starts, resets, takes, More, Drew, reply_by}
 use Rattle.dvg_mem.specs.declared.half.Half.{Half}
 use Rattle.dvg_mem.specs.Areas.{base, half_of_high}
 use Rattle.dvg_mem.specs.Memory.{fetched, fetched_byte}
 use Rattle.dvg_frame.specs.declared.op.OpKind.{OpKind}
 use Rattle.dvg_frame.specs.Picture.{IsPicture}
 use Rattle.dvg_frame.proofs.Bounded.{some_picture}
-use Rattle.dvg_world.specs.Events.{Happening, Strobe, Fetch, ResetGen, ResetAll}
+use Rattle.dvg_world.specs.Events.{Strobe, Fetch, ResetGen, ResetAll}
 use Rattle.dvg_world.specs.Entries.{Shown, Started, Low, Fetched, Done, Broke}
 use Rattle.dvg_world.specs.Log.{◌⟼◌, Log, ram, low_byte, meets, history, life, strobed, before_flip, published}
-use Rattle.dvg_world.specs.Legal.{IsWanted, IsFetch, IsLegal}
+use Rattle.dvg_world.specs.Legal.{IsWanted, IsLegal}
 use Rattle.dvg_world.proofs.Kept.{kept, zero_jumps}
 use Rattle.dvg_world.proofs.Least.{Checked, fits, frame_memory, least_draws, least_once, Lies, agrees}
 use Rattle.dvg_world.proofs.Later.{shows}
@@ -56,8 +55,8 @@ drew_by f s finished = ap (λ f. reply_by None f s) finished
 
 -- fetches alone, which leave all but the run as it was
 pub data Fetches : Log → Type 0 where
-  none : Fetches []
-  more : {log : Log} (entry : Shown) → Fetches log → Fetches ((Fetch ⟼ entry) ∷ log)
+  no_fetches : Fetches []
+  one_fetch : {log : Log} (entry : Shown) → Fetches log → Fetches ((Fetch ⟼ entry) ∷ log)
 
 module _ (R image : List ℕ) (before : Log) where
   abbrev start : Log
@@ -110,7 +109,7 @@ module _ (R image : List ℕ) (before : Log) where
         flip_is = f.flip_is;
         low_is = refl;
         leaves = subst (λ going. Leaves (Fed (Some w) ∷ history R image (later ++ start)) (record { first = beam; visits = visits'; held = held'; is_open = going })) (ap goes_on goes) leaves;
-        fetched_all = more (Fetched (wanted visits held) w) (more (Low (wanted visits held) (w % 256)) f.fetched_all);
+        fetched_all = one_fetch (Fetched (wanted visits held) w) (one_fetch (Low (wanted visits held) (w % 256)) f.fetched_all);
         count_is = omega arith;
       }
 
@@ -142,7 +141,7 @@ module _ (R image : List ℕ) (before : Log) where
         life_is = f.life_is;
         strobed_is = f.strobed_is;
         flip_is = f.flip_is;
-        fetched_all = more (Low (wanted visits held) (w % 256)) f.fetched_all;
+        fetched_all = one_fetch (Low (wanted visits held) (w % 256)) f.fetched_all;
         count_is = omega arith;
       }
 
@@ -169,7 +168,7 @@ module _ (R image : List ℕ) (before : Log) where
       flip_is = refl;
       low_is = refl;
       leaves = starts (leaves_of R image before begun_legal.2).1;
-      fetched_all = none;
+      fetched_all = no_fetches;
       count_is = refl;
     }
 

@@ -9,3 +9,4 @@ pub mod Ready
 pub mod Together
 pub mod FirstPicture
 pub mod Following
+pub mod Ticking

@@ -31,7 +31,7 @@ use Rattle.dvg_progress.proofs.Flipped.{EndsInFlip, here, past, frame_ends, rest
 use Rattle.dvg_progress.proofs.Lives.{IsBusy, LivesOn, lives_on, quiet, ticked}
 
 -- how many writes a frame part has
-frame_time : (half : Half) (F : List OpKind) (flipped : Bool) → length (frame_writes half F (not flipped)) ≡ 2 * size F + (if flipped then 1 else 2)
+pub frame_time : (half : Half) (F : List OpKind) (flipped : Bool) → length (frame_writes half F (not flipped)) ≡ 2 * size F + (if flipped then 1 else 2)
 frame_time half F flipped =
     let front = addressed (2 * base half) (bytes (laid half F)) in
     let both = length-append front (word_zero half (not flipped)) in
