@@ -1,5 +1,5 @@
 -- The laws of progress, used on the first picture: none of their premises is empty.
-use Rattle.std.proofs.Common.{◌≡◌, ℕ, suc, pos, negsuc, true, List, [], ◌∷◌, ◌++◌, length, replicate, Some, refl, sym, ap, subst, lit≤, ◌<◌}
+use Rattle.std.proofs.Common.{◌≡◌, ℕ, suc, pos, negsuc, true, List, [], ◌∷◌, ◌++◌, length, replicate, Some, refl, sym, ap, subst, lit≤, ◌<◌, ◌*◌, ◌+◌, arith}
 use Rattle.std.specs.Prelude.{◌≢◌}
 use Rattle.std.specs.List.{AllByRecursion}
 use Rattle.std.proofs.lemmas.Option.{same_Some}
@@ -8,6 +8,7 @@ use Rattle.dvg_gen.specs.declared.stroke.Stroke.{Stroke}
 use Rattle.dvg_frame.specs.declared.op.OpKind.{OpKind}
 use Rattle.dvg_frame.specs.declared.op.OpKind.TheVariants.{Draw, Halt as Stop}
 use Rattle.dvg_frame.specs.Picture.{IsPicture, IsBound}
+use Rattle.dvg_frame.proofs.Pictures.{one_picture}
 use Rattle.dvg_driver.specs.declared.action.Action.TheVariants.{Peek, Wrote, Read, Sent}
 use Rattle.dvg_world.specs.Events.{Offer, Tick, Strobe, Fetch, ResetGen, ResetCpu}
 use Rattle.dvg_world.specs.Entries.{Offered, Acted, Started, Low, Fetched, Done}
@@ -20,6 +21,7 @@ use Rattle.dvg_progress.proofs.Drawn.{drawn_in_time}
 use Rattle.dvg_progress.proofs.Halting.{halts_in_time}
 use Rattle.dvg_progress.proofs.Sending.{legal_before, sent_in_time}
 use Rattle.dvg_progress.proofs.Together.{shown_in_time}
+use Rattle.dvg_progress.proofs.Unstuck.{never_stuck}
 use Rattle.dvg_progress.proofs.Writing.{published_in_time}
 
 abbrev zeros : List ℕ
@@ -120,3 +122,15 @@ is_shown =
     (λ e. cc, (λ e. cc, (λ e. cc, (λ e. cc, (λ e. cc, (λ e. cc, (λ e. cc, (λ e. cc, (λ e. cc, (λ e. cc, (λ e. cc, (λ e. cc, (λ e. cc, (λ e. cc, (λ e. cc, (λ e. cc, (λ e. cc, (λ e. cc, (λ e. cc, (λ e. cc, (λ e. cc, (λ e. cc, (λ e. cc, (λ e. cc, (λ e. cc, (λ e. cc, tt))))))))))))))))))))))))))
     writes_apart (lit≤ tt) (λ G m is_open shown bound. absurd (is_open refl))
     (wait_apart, (wait_apart, tt)) (lit≤ tt) bound draws_apart (lit≤ tt)
+
+accepted_legal : IsLegal zeros zeros accepted
+accepted_legal = legal_before zeros zeros writes accepted begun_legal.2.2.2
+
+-- with a run open after 11 fetches, the frame can be drawn once more, within 1067 events
+pub is_unstuck : (later : Log) × (length later < 2 * 17 + 1033)
+is_unstuck =
+    let again = never_stuck zeros zeros (but_last ++ begun) frame 6 6 legal.2 accepted_legal.1 accepted_legal.0.0 bound (λ G k newest other.
+    let same : IsPicture frame zeros other.0 k = subst (λ H. IsPicture H zeros other.0 k) (sym (same_Some _ _ newest)) other.1 in
+    let words : k ≡ 6 = (one_picture frame zeros bound.0 other.0 6 k bound.1 same).1 in
+    omega arith) in
+    (again.0, again.7)

@@ -10,3 +10,4 @@ pub mod Together
 pub mod FirstPicture
 pub mod Following
 pub mod Ticking
+pub mod Unstuck

@@ -115,7 +115,7 @@ module _ (R image : List ℕ) (F : List OpKind) where
         (record { newest = so.flipped time; place = Waiting false; stands = stands; still = tt }, waiting false stands (omega arith))
 
     -- so many ticks after the offer, or more
-    reached : (later : Log) → IsLegal R image (later ++ start R image before F) → Throughout LivesOn later → NoFrame later → length (all R image before F) ≤ ticks later → flipped (later ++ start R image before F)
+    pub reached : (later : Log) → IsLegal R image (later ++ start R image before F) → Throughout LivesOn later → NoFrame later → length (all R image before F) ≤ ticks later → flipped (later ++ start R image before F)
     reached [] l lives none time = at_flip [] (omega arith) (so_far R image before F [] l lives (omega arith))
     reached ((event ⟼ entry) ∷ later) l lives none time =
         let more = one_tick event entry later in
@@ -192,7 +192,7 @@ module _ (R image : List ℕ) (F : List OpKind) where
           let many = enough it.0 it.1 same.was_open it.2 it.3 in
           absurd (omega arith)
 
-time_low : (flipped : Bool) → (if flipped then 1 else 2) ≤ 2
+pub time_low : (flipped : Bool) → (if flipped then 1 else 2) ≤ 2
 time_low true = omega arith
 time_low false = omega arith
 

@@ -1,9 +1,11 @@
 -- What comes, comes in time. Parts of logs are newest first, as logs are.
-use Rattle.std.specs.Prelude.{◌≡◌, ◌≢◌, ℕ, suc, ◌+◌, ◌*◌, ◌<◌, ◌≤◌, Bool, not, true, List, [], ◌∷◌, ◌++◌, reverse, Some, None, if◌then◌else◌}
+use Rattle.std.specs.Prelude.{◌≡◌, ◌≢◌, ℕ, suc, ◌+◌, ◌*◌, ◌<◌, ◌≤◌, Bool, not, true, List, [], ◌∷◌, ◌++◌, length, reverse, Some, None, if◌then◌else◌}
 use Rattle.std.specs.List.{AllByRecursion}
 use Rattle.dvg_gen.specs.declared.stroke.Stroke.{Stroke}
 use Rattle.dvg_frame.specs.declared.op.OpKind.{OpKind}
+use Rattle.dvg_frame.specs.Ops.{IsDraft}
 use Rattle.dvg_frame.specs.Layout.{size}
+use Rattle.dvg_frame.specs.Faults.{Accepts}
 use Rattle.dvg_frame.specs.Picture.{IsPicture, IsBound}
 use Rattle.dvg_driver.specs.declared.action.Action.TheVariants.{Wrote, Read, Sent}
 use Rattle.dvg_driver.specs.Script.{has_flip, frame_writes, wrote}
@@ -91,3 +93,12 @@ ShownInTime = (R image : List ℕ) (F : List OpKind) (n : ℕ) (before write hal
     → Without (Strobe ∷ ResetCpu ∷ []) (send ++ halt) → 2 ≤ ticks send → IsBound F R n
     → Without (Strobe ∷ ResetGen ∷ []) draw → 2 * n ≤ fetched_since (draw ++ started)
     → DrawsOnce F R n draw started
+
+-- from every log each frame that is accepted can come to be drawn with no reset, in so many events
+abbrev pub NeverStuck : Type 0
+NeverStuck = (R image : List ℕ) (log : Log) (F : List OpKind) (m n : ℕ) → IsLegal R image log
+    → IsDraft F → Accepts F R → IsBound F R n
+    → ((G : List OpKind) (k : ℕ) → published log ≡ Some G → IsBound G R k → k ≤ m)
+    → (later : Log) × (address : ℕ) × (word : ℕ) × (drew : List Stroke)
+    × IsLegal R image ((Fetch ⟼ Done address word drew) ∷ later ++ log) × IsPicture F R drew n
+    × Without (ResetGen ∷ ResetCpu ∷ []) later × (length later < 2 * (size F + m + n) + 1033)

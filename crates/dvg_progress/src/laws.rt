@@ -1,6 +1,6 @@
 //! Laws of progress, of definitions alone. Each is the contract of a function that does nothing.
 ghost use Rattle.dvg_progress.specs.Progress.{DrawnInTime, HaltsInTime, PublishedInTime};
-ghost use Rattle.dvg_progress.specs.Progress.{SentInTime, ShownInTime};
+ghost use Rattle.dvg_progress.specs.Progress.{NeverStuck, SentInTime, ShownInTime};
 
 /// In every legal log, after an accepted offer of a draft of `W` words, while neither the processor
 /// nor the whole system is reset: the first `2W + 2` ticks are the writes of its frame part, in
@@ -41,4 +41,13 @@ pub fn drawn_in_time()
 /// between.
 pub fn shown_in_time()
     ensures { ShownInTime }
+{}
+
+/// No schedule, however hostile, leaves the two ends where a frame can't be drawn any more. From
+/// every legal log, and for every draft of `W` words and with a bound of `n` that is accepted over
+/// the ROM, there is a list of at most `2(W + m + n) + 1033` events, none of them a reset, after
+/// which the last entry is `done` with the draft's picture. Here `m` is the bound of the frame that
+/// is newest published, and 0 where none is.
+pub fn never_stuck()
+    ensures { NeverStuck }
 {}
