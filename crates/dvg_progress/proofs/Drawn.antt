@@ -29,7 +29,7 @@ module _ (R image : List ℕ) (before : Log) where
   IsOpen later = (words : List (ℕ × ℕ)) × (open_run (later ++ before) ≡ Some words) × Throughout (λ log event entry. NotDone entry) later
 
   abbrev pub IsOver : Log → Type 0
-  IsOver later = (open_run (later ++ before) ≡ None) × (F : List OpKind) × (n : ℕ) × DrawsOnce F R n later before
+  IsOver later = (open_run (later ++ before) ≡ None) × (F : List OpKind) × (n : ℕ) × DrawsOnce F R n before later
 
   -- the run is finished
   finished : (later : Log) (a w : ℕ) (drew : List Stroke) → IsLegal R image ((Fetch ⟼ Done a w drew) ∷ later ++ before) → IsOpen later → IsOver ((Fetch ⟼ Done a w drew) ∷ later)
@@ -41,18 +41,7 @@ module _ (R image : List ℕ) (before : Log) where
         refl,
         drawn.draft,
         time.1,
-        record {
-          after = [];
-          address = a;
-          word = w;
-          drew = drew;
-          until = later;
-          split = refl;
-          only = is_open.2;
-          shown = drawn.shown;
-          picture = subst (λ strokes. IsPicture drawn.draft R strokes time.1) (sym time.4.1) time.2;
-          number = ap suc count ∙ time.4.0;
-        },
+        (drawn.shown, subst (λ strokes. IsPicture drawn.draft R strokes time.1) (sym time.4.1) time.2, ap suc count ∙ time.4.0, is_open.2),
       )
 
   open_step : (later : Log) (event : Happening) (entry : Shown) → IsLegal R image ((event ⟼ entry) ∷ later ++ before) → RunsOn later event entry → IsOpen later → IsOpen ((event ⟼ entry) ∷ later) ⊎ IsOver ((event ⟼ entry) ∷ later)
@@ -74,41 +63,20 @@ module _ (R image : List ℕ) (before : Log) where
   open_step later (ResetAll bytes) entry l runs is = absurd runs
   open_step later event entry l runs is = absurd l.0
 
-  -- one line more that isn't done
-  longer : (later : Log) (event : Happening) (entry : Shown) → NotDone entry → open_run ((event ⟼ entry) ∷ later ++ before) ≡ None → IsOver later → IsOver ((event ⟼ entry) ∷ later)
-  longer later event entry not none is =
-      let once = is.3 in (
-        none,
-        is.1,
-        is.2,
-        record {
-          after = (event ⟼ entry) ∷ once.after;
-          address = once.address;
-          word = once.word;
-          drew = once.drew;
-          until = once.until;
-          split = ap (λ lines. (event ⟼ entry) ∷ lines) once.split;
-          only = (not, once.only);
-          shown = once.shown;
-          picture = once.picture;
-          number = once.number;
-        },
-      )
-
   over_step : (later : Log) (event : Happening) (entry : Shown) → IsLegal R image ((event ⟼ entry) ∷ later ++ before) → RunsOn later event entry → IsOver later → IsOver ((event ⟼ entry) ∷ later)
   over_step later Fetch (Done a w drew) l runs is = absurd (none_wanted R image (later ++ before) a l.2 is.0 l.0.1.asked)
   over_step later Fetch (Broke a fault) l runs is = absurd (none_wanted R image (later ++ before) a l.2 is.0 l.0.2.asked)
   over_step later Fetch (Fetched a w) l runs is = absurd (none_wanted R image (later ++ before) a l.2 is.0 l.0.1.asked)
-  over_step later Fetch (Low a b) l runs is = longer later Fetch (Low a b) (λ a w drew e. cc) is.0 is
-  over_step later Fetch Still l runs is = longer later Fetch Still (λ a w drew e. cc) is.0 is
-  over_step later (Offer F) (Refused fault) l runs is = longer later (Offer F) (Refused fault) (λ a w drew e. cc) is.0 is
-  over_step later (Offer F) Busy l runs is = longer later (Offer F) Busy (λ a w drew e. cc) is.0 is
-  over_step later (Offer F) Offered l runs is = longer later (Offer F) Offered (λ a w drew e. cc) is.0 is
-  over_step later Redraw NothingPublished l runs is = longer later Redraw NothingPublished (λ a w drew e. cc) is.0 is
-  over_step later Redraw Busy l runs is = longer later Redraw Busy (λ a w drew e. cc) is.0 is
-  over_step later Redraw Asked l runs is = longer later Redraw Asked (λ a w drew e. cc) is.0 is
-  over_step later Tick (Acted action) l runs is = longer later Tick (Acted action) (λ a w drew e. cc) is.0 is
-  over_step later ResetCpu Cleared l runs is = longer later ResetCpu Cleared (λ a w drew e. cc) is.0 is
+  over_step later Fetch (Low a b) l runs is = (is.0, is.1, is.2, is.3)
+  over_step later Fetch Still l runs is = (is.0, is.1, is.2, is.3)
+  over_step later (Offer F) (Refused fault) l runs is = (is.0, is.1, is.2, is.3)
+  over_step later (Offer F) Busy l runs is = (is.0, is.1, is.2, is.3)
+  over_step later (Offer F) Offered l runs is = (is.0, is.1, is.2, is.3)
+  over_step later Redraw NothingPublished l runs is = (is.0, is.1, is.2, is.3)
+  over_step later Redraw Busy l runs is = (is.0, is.1, is.2, is.3)
+  over_step later Redraw Asked l runs is = (is.0, is.1, is.2, is.3)
+  over_step later Tick (Acted action) l runs is = (is.0, is.1, is.2, is.3)
+  over_step later ResetCpu Cleared l runs is = (is.0, is.1, is.2, is.3)
   over_step later Strobe entry l runs is = absurd runs
   over_step later ResetGen entry l runs is = absurd runs
   over_step later (ResetAll bytes) entry l runs is = absurd runs
@@ -122,7 +90,7 @@ module _ (R image : List ℕ) (before : Log) where
   run_on words o [] l runs = inl (words, o, tt)
   run_on words o ((event ⟼ entry) ∷ later) l runs = both later event entry l runs.0 (run_on words o later l.2 runs.1)
 
-pub at_end : (R image : List ℕ) (before later : Log) → open_run (later ++ before) ≡ None → IsOpen R image before later ⊎ IsOver R image before later → (F : List OpKind) × (n : ℕ) × DrawsOnce F R n later before
+pub at_end : (R image : List ℕ) (before later : Log) → open_run (later ++ before) ≡ None → IsOpen R image before later ⊎ IsOver R image before later → (F : List OpKind) × (n : ℕ) × DrawsOnce F R n before later
 at_end R image before later none (inl is) = absurd (none-some is.0 (sym none ∙ is.1))
 at_end R image before later none (inr is) = (is.1, is.2, is.3)
 

@@ -105,18 +105,18 @@ is_published = (published_in_time zeros zeros booted writes frame begun_legal.2.
 
 -- the two ticks after the flip
 pub is_sent : (Acted (Read true) ≡ Acted (Read true)) × (Acted Sent ≡ Acted Sent)
-is_sent = sent_in_time zeros zeros (flipless ++ accepted) [] [] 0xE2 (Acted (Read true)) (Acted Sent) begun_legal.2 tt tt refl refl
+is_sent = sent_in_time zeros zeros (flipless ++ accepted) [] [] 0xE2 (Acted (Read true)) (Acted Sent) begun_legal.2 tt refl refl tt
 
 -- 11 fetches: the run is open
 pub is_open : fetched_since (but_last ++ begun) < 12
 is_open = halts_in_time zeros zeros (but_last ++ begun) frame 6 legal.2 (λ e. cc) refl bound
 
 -- 12: it was finished, by the last one
-pub is_drawn : (F : List OpKind) × (n : ℕ) × DrawsOnce F zeros n draws begun
+pub is_drawn : (F : List OpKind) × (n : ℕ) × DrawsOnce F zeros n begun draws
 is_drawn = drawn_in_time zeros zeros (sends ++ (writes ++ accepted)) draws legal draws_apart refl
 
 -- and all together
-pub is_shown : DrawsOnce frame zeros 6 draws begun
+pub is_shown : DrawsOnce frame zeros 6 begun draws
 is_shown =
     shown_in_time zeros zeros frame 6 booted writes [] sends draws Started legal
     (λ e. cc, (λ e. cc, (λ e. cc, (λ e. cc, (λ e. cc, (λ e. cc, (λ e. cc, (λ e. cc, (λ e. cc, (λ e. cc, (λ e. cc, (λ e. cc, (λ e. cc, (λ e. cc, (λ e. cc, (λ e. cc, (λ e. cc, (λ e. cc, (λ e. cc, (λ e. cc, (λ e. cc, (λ e. cc, (λ e. cc, (λ e. cc, (λ e. cc, (λ e. cc, tt))))))))))))))))))))))))))

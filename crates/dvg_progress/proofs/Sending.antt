@@ -121,7 +121,7 @@ legal_before R image [] log l = l
 legal_before R image ((event ⟼ entry) ∷ later) log l = legal_before R image later log l.2
 
 pub sent_in_time : SentInTime
-sent_in_time R image before wait rest b first next l lives finds none no_ticks =
+sent_in_time R image before wait rest b first next l finds none no_ticks lives =
     let flipped : Log = (Tick ⟼ Acted (Wrote 1 b)) ∷ before in
     let halted : Log = (Tick ⟼ first) ∷ wait ++ flipped in
     let halted_legal = legal_before R image rest halted l.2 in

@@ -164,18 +164,19 @@ module _ (R image : List ℕ) (F : List OpKind) where
             let few = halts_in_time R image (draw ++ begun) F n l is_open (stays_shown draw l newest none runs is_open) bound in
             absurd (omega arith)
 
-    draws : IsLegal R image (draw ++ begun) → Newest image F begun → NoFrame draw → Throughout RunsOn draw → 2 * n ≤ fetched_since (draw ++ begun) → DrawsOnce F R n draw begun
+    -- what is drawn once is the frame
+    same_once : (G : List OpKind) (k : ℕ) (later : Log) → DrawsOnce G R k begun later → Throughout ShowsIt later → (G ≡ F) × (k ≡ n)
+    same_once G k [] once shown = absurd once
+    same_once G k ((event ⟼ Done a w drew) ∷ later) once shown =
+        let same : G ≡ F = same_Some _ _ (sym once.0 ∙ shown.0) in
+        (same, (one_picture F R bound.0 drew n k bound.1 (subst (λ H. IsPicture H R drew k) same once.1)).1)
+    same_once G k ((event ⟼ entry) ∷ later) once shown = same_once G k later once shown.1
+
+    draws : IsLegal R image (draw ++ begun) → Newest image F begun → NoFrame draw → Throughout RunsOn draw → 2 * n ≤ fetched_since (draw ++ begun) → DrawsOnce F R n begun draw
     draws l newest none runs enough =
         let it = at_end R image begun draw (over l newest none runs enough) (run_on R image begun [] refl draw l runs) in
-        let once = it.2 in
-        let shown : IsShown (once.until ++ begun) F = picked once.after once.until Fetch (Done once.address once.word once.drew) (subst (Throughout ShowsIt) once.split (all_show draw l newest none runs)) in
-        let same : it.0 ≡ F = same_Some _ _ (sym once.shown ∙ shown) in
-        let words : it.1 ≡ n = (one_picture F R bound.0 once.drew n it.1 bound.1 (subst (λ G. IsPicture G R once.drew it.1) same once.picture)).1 in
-        subst (λ k. DrawsOnce F R k draw begun) words (subst (λ G. DrawsOnce G R it.1 draw begun) same once)
-      where
-        picked : (after until : Log) (event : Happening) (entry : Shown) → Throughout ShowsIt (after ++ (event ⟼ entry) ∷ until) → ShowsIt until event entry
-        picked [] until event entry all = all.0
-        picked ((other ⟼ shown) ∷ after) until event entry all = picked after until event entry all.1
+        let same = same_once it.0 it.1 draw it.2 (all_show draw l newest none runs) in
+        subst (λ k. DrawsOnce F R k begun draw) same.1 (subst (λ G. DrawsOnce G R it.1 begun draw) same.0 it.2)
 
   -- what is open when the frame is written is over in time
   halted : (written halt : Log) → IsLegal R image (halt ++ written) → Newest image F written → NoFrame halt → Throughout LivesOn halt → Throughout (λ log event entry. NotStrobe event) halt
@@ -228,5 +229,5 @@ shown_in_time R image F n before write halt send draw entry l none write_lives e
     let is : entry ≡ Started = starts R image ready_log entry started_l.0 (is_sent image ready_log (ticks send) two sends.1) in
     let at_started = newest_step R image F ready_log Strobe entry started_l tt (started_not entry is) at_ready in
     let P : Shown → Type 0 = λ e. IsLegal R image (draw ++ (Strobe ⟼ e) ∷ ready_log) → Newest image F ((Strobe ⟼ e) ∷ ready_log) → 2 * n ≤ fetched_since (draw ++ (Strobe ⟼ e) ∷ ready_log)
-    → DrawsOnce F R n draw ((Strobe ⟼ e) ∷ ready_log) in
+    → DrawsOnce F R n ((Strobe ⟼ e) ∷ ready_log) draw in
     subst P (sym is) (λ l newest fetched. draws R image F n bound ready_log draw l newest none_draw (runs_on draw runs) fetched) l at_started fetched
