@@ -17,7 +17,9 @@ use Rattle.dvg_world.proofs.Words.{words_are_paired}
 use Rattle.dvg_progress.specs.Progress.{fetched_since, HaltsInTime}
 
 -- a run with one more fetch had the others
-pub more_parts : (w : ℕ × ℕ) (run : Option (List (ℕ × ℕ))) (ws : List (ℕ × ℕ)) → option_map (λ fetches. w ∷ fetches) run ≡ Some ws → (us : List (ℕ × ℕ)) × (run ≡ Some us) × (w ∷ us ≡ ws)
+pub more_parts : (w : ℕ × ℕ) (run : Option (List (ℕ × ℕ))) (ws : List (ℕ × ℕ))
+    → option_map (λ fetches. w ∷ fetches) run ≡ Some ws → (us : List (ℕ × ℕ)) × (run ≡ Some us)
+    × (w ∷ us ≡ ws)
 more_parts w None ws e = absurd (none-some ws e)
 more_parts w (Some us) ws e = (us, refl, same_Some _ _ e)
 
@@ -25,9 +27,11 @@ not_begun : (v : ℕ × ℕ) (vs : List (ℕ × ℕ)) → Some [] ≡ Some (v �
 not_begun v vs e = cc
 
 -- fetches are counted two ways
-pub counted : (R image : List ℕ) (log : Log) (words : List (ℕ × ℕ)) → IsLegal R image log → open_run log ≡ Some words → fetched_since log ≡ fetch_count words (low_byte log)
+pub counted : (R image : List ℕ) (log : Log) (words : List (ℕ × ℕ)) → IsLegal R image log
+    → open_run log ≡ Some words → fetched_since log ≡ fetch_count words (low_byte log)
 counted R image [] words l o = absurd (none-some words o)
-counted R image ((event ⟼ Started) ∷ log) words l o = subst (λ ws. 0 ≡ fetch_count ws None) (same_Some _ _ o) refl
+counted R image ((event ⟼ Started) ∷ log) words l o =
+    subst (λ ws. 0 ≡ fetch_count ws None) (same_Some _ _ o) refl
 counted R image ((ResetGen ⟼ entry) ∷ log) words l o = absurd (none-some words o)
 counted R image ((ResetAll bytes ⟼ entry) ∷ log) words l o = absurd (none-some words o)
 counted R image ((Fetch ⟼ Low a b) ∷ log) words l o =
@@ -59,13 +63,17 @@ counted R image ((ResetCpu ⟼ Cleared) ∷ log) words l o = counted R image log
 counted R image ((event ⟼ entry) ∷ log) words l o = absurd l.0
 
 -- a picture has a word at least
-few : (low : Option ℕ) (F : List OpKind) (R : List ℕ) (n : ℕ) → IsBound F R n → fetch_count [] low < 2 * n
+few : (low : Option ℕ) (F : List OpKind) (R : List ℕ) (n : ℕ) → IsBound F R n
+    → fetch_count [] low < 2 * n
 few None F R n bound = let count = bound.1.count in omega arith
 few (Some byte) F R n bound = let count = bound.1.count in omega arith
 
 -- a fetch that doesn't end the run is before the last one
-before_last : (R : List ℕ) (log : Log) (entry : Shown) (words : List (ℕ × ℕ)) (F : List OpKind) (n number : ℕ) → KeepsTime R log Fetch entry → open_run log ≡ Some words → IsShown log F → IsBound F R n
-    → ((number more : ℕ) (drew : List Stroke) → EndsAt number drew more entry → number < 2 * more) → number ≡ suc (fetch_count words (low_byte log)) → number < 2 * n
+before_last : (R : List ℕ) (log : Log) (entry : Shown) (words : List (ℕ × ℕ)) (F : List OpKind)
+    (n number : ℕ) → KeepsTime R log Fetch entry → open_run log ≡ Some words → IsShown log F
+    → IsBound F R n
+    → ((number more : ℕ) (drew : List Stroke) → EndsAt number drew more entry → number < 2 * more)
+    → number ≡ suc (fetch_count words (low_byte log)) → number < 2 * n
 before_last R log entry words F n number keeps o shown bound ends is =
     let it = keeps words F o shown in
     let same = (one_picture F R bound.0 it.0 n it.1 bound.1 it.2).1 in
@@ -73,43 +81,69 @@ before_last R log entry words F n number keeps o shown bound ends is =
     omega arith
 
 -- what an open run that has fetched a word shows stays
-still_shown : (event : Happening) (entry : Shown) (log : Log) (v : ℕ × ℕ) (vs : List (ℕ × ℕ)) (F : List OpKind) → open_run ((event ⟼ entry) ∷ log) ≡ Some (v ∷ vs) → IsShown ((event ⟼ entry) ∷ log) F → IsShown log F
-still_shown event entry log v vs F o shown = subst (λ zero. published zero ≡ Some F) (at_zero_fetched (event ⟼ entry) log v vs o) shown
+still_shown : (event : Happening) (entry : Shown) (log : Log) (v : ℕ × ℕ) (vs : List (ℕ × ℕ))
+    (F : List OpKind) → open_run ((event ⟼ entry) ∷ log) ≡ Some (v ∷ vs)
+    → IsShown ((event ⟼ entry) ∷ log) F → IsShown log F
+still_shown event entry log v vs F o shown =
+    subst (λ zero. published zero ≡ Some F) (at_zero_fetched (event ⟼ entry) log v vs o) shown
 
 -- the fetches of an open run are fewer than two for each word of what it shows
-under : (R image : List ℕ) (log : Log) (words : List (ℕ × ℕ)) (F : List OpKind) (n : ℕ) → IsLegal R image log → open_run log ≡ Some words → IsShown log F → IsBound F R n → fetch_count words (low_byte log) < 2 * n
+under : (R image : List ℕ) (log : Log) (words : List (ℕ × ℕ)) (F : List OpKind) (n : ℕ)
+    → IsLegal R image log → open_run log ≡ Some words → IsShown log F → IsBound F R n
+    → fetch_count words (low_byte log) < 2 * n
 under R image log [] F n l o shown b = few (low_byte log) F R n b
 under R image [] (v ∷ vs) F n l o shown b = absurd (none-some (v ∷ vs) o)
 under R image ((event ⟼ Started) ∷ log) (v ∷ vs) F n l o shown b = absurd (not_begun v vs o)
 under R image ((ResetGen ⟼ entry) ∷ log) (v ∷ vs) F n l o shown b = absurd (none-some (v ∷ vs) o)
-under R image ((ResetAll bytes ⟼ entry) ∷ log) (v ∷ vs) F n l o shown b = absurd (none-some (v ∷ vs) o)
+under R image ((ResetAll bytes ⟼ entry) ∷ log) (v ∷ vs) F n l o shown b =
+    absurd (none-some (v ∷ vs) o)
 under R image ((Fetch ⟼ Low a y) ∷ log) (v ∷ vs) F n l o shown b =
     let line = (Fetch ⟼ Low a y) ∷ log in
     let paired = (words_are_paired R image line l).0 in
-    let count : fetch_count (v ∷ vs) (low_byte log) ≡ 2 * length (v ∷ vs) = ap (λ low. fetch_count (v ∷ vs) (option_map (λ low. low.1) low)) paired in
-    before_last R log (Low a y) (v ∷ vs) F n (2 * length (v ∷ vs) + 1) (always_in_time R image line l).0 o (still_shown Fetch (Low a y) log v vs F o shown) b (λ number more drew early. early) (omega arith)
+    let count : fetch_count (v ∷ vs) (low_byte log) ≡ 2 * length (v ∷ vs) =
+    ap (λ low. fetch_count (v ∷ vs) (option_map (λ low. low.1) low)) paired in
+    before_last R log (Low a y) (v ∷ vs) F n (2 * length (v ∷ vs) + 1)
+    (always_in_time R image line l).0 o (still_shown Fetch (Low a y) log v vs F o shown) b
+    (λ number more drew early. early) (omega arith)
 under R image ((Fetch ⟼ Fetched a w) ∷ log) (v ∷ vs) F n l o shown b =
     let line = (Fetch ⟼ Fetched a w) ∷ log in
     let q = more_parts (a, w) (open_run log) (v ∷ vs) o in
     let paired = (words_are_paired R image line l).0 in
-    let count : fetch_count q.0 (low_byte log) ≡ 2 * length q.0 + 1 = ap (λ low. fetch_count q.0 (option_map (λ low. low.1) low)) paired in
+    let count : fetch_count q.0 (low_byte log) ≡ 2 * length q.0 + 1 =
+    ap (λ low. fetch_count q.0 (option_map (λ low. low.1) low)) paired in
     let longer : suc (length q.0) ≡ length (v ∷ vs) = ap length q.2 in
-    before_last R log (Fetched a w) q.0 F n (2 * length (v ∷ vs)) (always_in_time R image line l).0 q.1 (still_shown Fetch (Fetched a w) log v vs F o shown) b (λ number more drew early. early) (omega arith)
-under R image ((Fetch ⟼ Still) ∷ log) (v ∷ vs) F n l o shown b = absurd (none-some (v ∷ vs) (sym l.0 ∙ o))
-under R image ((event ⟼ Done a w drew) ∷ log) (v ∷ vs) F n l o shown b = absurd (none-some (v ∷ vs) o)
-under R image ((event ⟼ Broke a fault) ∷ log) (v ∷ vs) F n l o shown b = absurd (none-some (v ∷ vs) o)
-under R image ((Offer G ⟼ Refused fault) ∷ log) (v ∷ vs) F n l o shown b = under R image log (v ∷ vs) F n l.2 o (still_shown (Offer G) (Refused fault) log v vs F o shown) b
-under R image ((Offer G ⟼ Busy) ∷ log) (v ∷ vs) F n l o shown b = under R image log (v ∷ vs) F n l.2 o (still_shown (Offer G) Busy log v vs F o shown) b
-under R image ((Offer G ⟼ Offered) ∷ log) (v ∷ vs) F n l o shown b = under R image log (v ∷ vs) F n l.2 o (still_shown (Offer G) Offered log v vs F o shown) b
-under R image ((Redraw ⟼ NothingPublished) ∷ log) (v ∷ vs) F n l o shown b = under R image log (v ∷ vs) F n l.2 o (still_shown Redraw NothingPublished log v vs F o shown) b
-under R image ((Redraw ⟼ Busy) ∷ log) (v ∷ vs) F n l o shown b = under R image log (v ∷ vs) F n l.2 o (still_shown Redraw Busy log v vs F o shown) b
-under R image ((Redraw ⟼ Asked) ∷ log) (v ∷ vs) F n l o shown b = under R image log (v ∷ vs) F n l.2 o (still_shown Redraw Asked log v vs F o shown) b
-under R image ((Tick ⟼ Acted action) ∷ log) (v ∷ vs) F n l o shown b = under R image log (v ∷ vs) F n l.2 o (still_shown Tick (Acted action) log v vs F o shown) b
-under R image ((Strobe ⟼ NoStrobe) ∷ log) (v ∷ vs) F n l o shown b = under R image log (v ∷ vs) F n l.2 o (still_shown Strobe NoStrobe log v vs F o shown) b
-under R image ((ResetCpu ⟼ Cleared) ∷ log) (v ∷ vs) F n l o shown b = under R image log (v ∷ vs) F n l.2 o (still_shown ResetCpu Cleared log v vs F o shown) b
+    before_last R log (Fetched a w) q.0 F n (2 * length (v ∷ vs)) (always_in_time R image line l).0
+    q.1 (still_shown Fetch (Fetched a w) log v vs F o shown) b (λ number more drew early. early)
+    (omega arith)
+under R image ((Fetch ⟼ Still) ∷ log) (v ∷ vs) F n l o shown b =
+    absurd (none-some (v ∷ vs) (sym l.0 ∙ o))
+under R image ((event ⟼ Done a w drew) ∷ log) (v ∷ vs) F n l o shown b =
+    absurd (none-some (v ∷ vs) o)
+under R image ((event ⟼ Broke a fault) ∷ log) (v ∷ vs) F n l o shown b =
+    absurd (none-some (v ∷ vs) o)
+under R image ((Offer G ⟼ Refused fault) ∷ log) (v ∷ vs) F n l o shown b =
+    under R image log (v ∷ vs) F n l.2 o (still_shown (Offer G) (Refused fault) log v vs F o shown)
+    b
+under R image ((Offer G ⟼ Busy) ∷ log) (v ∷ vs) F n l o shown b =
+    under R image log (v ∷ vs) F n l.2 o (still_shown (Offer G) Busy log v vs F o shown) b
+under R image ((Offer G ⟼ Offered) ∷ log) (v ∷ vs) F n l o shown b =
+    under R image log (v ∷ vs) F n l.2 o (still_shown (Offer G) Offered log v vs F o shown) b
+under R image ((Redraw ⟼ NothingPublished) ∷ log) (v ∷ vs) F n l o shown b =
+    under R image log (v ∷ vs) F n l.2 o (still_shown Redraw NothingPublished log v vs F o shown) b
+under R image ((Redraw ⟼ Busy) ∷ log) (v ∷ vs) F n l o shown b =
+    under R image log (v ∷ vs) F n l.2 o (still_shown Redraw Busy log v vs F o shown) b
+under R image ((Redraw ⟼ Asked) ∷ log) (v ∷ vs) F n l o shown b =
+    under R image log (v ∷ vs) F n l.2 o (still_shown Redraw Asked log v vs F o shown) b
+under R image ((Tick ⟼ Acted action) ∷ log) (v ∷ vs) F n l o shown b =
+    under R image log (v ∷ vs) F n l.2 o (still_shown Tick (Acted action) log v vs F o shown) b
+under R image ((Strobe ⟼ NoStrobe) ∷ log) (v ∷ vs) F n l o shown b =
+    under R image log (v ∷ vs) F n l.2 o (still_shown Strobe NoStrobe log v vs F o shown) b
+under R image ((ResetCpu ⟼ Cleared) ∷ log) (v ∷ vs) F n l o shown b =
+    under R image log (v ∷ vs) F n l.2 o (still_shown ResetCpu Cleared log v vs F o shown) b
 under R image ((event ⟼ entry) ∷ log) (v ∷ vs) F n l o shown b = absurd l.0
 
-pub some_run : (run : Option (List (ℕ × ℕ))) → run ≢ None → (words : List (ℕ × ℕ)) × (run ≡ Some words)
+pub some_run : (run : Option (List (ℕ × ℕ))) → run ≢ None → (words : List (ℕ × ℕ))
+    × (run ≡ Some words)
 some_run None is_open = absurd (is_open refl)
 some_run (Some words) is_open = (words, refl)
 

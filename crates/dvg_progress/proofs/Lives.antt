@@ -32,12 +32,14 @@ NotStrobe log Strobe entry = ⊥
 NotStrobe log event entry = Unit {0}
 
 -- the newer lines, and the older ones
-pub newer : (events : List Happening) (one other : Log) → Without events (one ++ other) → Without events one
+pub newer : (events : List Happening) (one other : Log) → Without events (one ++ other)
+    → Without events one
 newer events [] other without = tt
 newer events ((ResetAll bytes ⟼ entry) ∷ one) other without = without
 newer events ((event ⟼ entry) ∷ one) other without = (without.0, newer events one other without.1)
 
-pub older : (events : List Happening) (one other : Log) → Without events (one ++ other) → Without events other
+pub older : (events : List Happening) (one other : Log) → Without events (one ++ other)
+    → Without events other
 older events [] other without = without
 older events ((ResetAll bytes ⟼ entry) ∷ one) other without = absurd without
 older events ((event ⟼ entry) ∷ one) other without = older events one other without.1
@@ -67,30 +69,48 @@ pub record Leaves (image : List ℕ) (log : Log) (event : Happening) (entry : Sh
   pub strobed_is : strobed ((event ⟼ entry) ∷ log) ≡ strobed log
 
 -- a driver that is busy isn't at rest
-not_whole : (image : List ℕ) (log : Log) (place : Place) → place_of_life (life image log) ≡ Some place → IsBusy place → IsWhole (life image log) → ⊥
-not_whole image log place stands busy whole = let rests = whole_rests (life image log) whole in busy rests.0 (same_place (life image log) place (Resting rests.0) stands rests.1)
+not_whole : (image : List ℕ) (log : Log) (place : Place)
+    → place_of_life (life image log) ≡ Some place → IsBusy place → IsWhole (life image log) → ⊥
+not_whole image log place stands busy whole = let rests = whole_rests (life image log) whole in
+    busy rests.0 (same_place (life image log) place (Resting rests.0) stands rests.1)
 
 no_tick : {n : ℕ} → suc n ≡ 0 → ⊥
 no_tick e = cc
 
 -- a line that is no tick, while the driver is busy
-pub quiet : (R image : List ℕ) (log : Log) (event : Happening) (entry : Shown) (place : Place) → IsLegal R image ((event ⟼ entry) ∷ log) → LivesOn log event entry → ticks ((event ⟼ entry) ∷ []) ≡ 0
+pub quiet : (R image : List ℕ) (log : Log) (event : Happening) (entry : Shown) (place : Place)
+    → IsLegal R image ((event ⟼ entry) ∷ log) → LivesOn log event entry
+    → ticks ((event ⟼ entry) ∷ []) ≡ 0
     → place_of_life (life image log) ≡ Some place → IsBusy place → Leaves image log event entry
 quiet R image log Tick entry place l lives none stands busy = absurd (no_tick none)
-quiet R image log (Offer F) (Refused fault) place l lives none stands busy = record { life_is = refl; offered_is = refl; flip_is = refl; strobed_is = refl }
-quiet R image log (Offer F) Busy place l lives none stands busy = record { life_is = refl; offered_is = refl; flip_is = refl; strobed_is = refl }
-quiet R image log (Offer F) Offered place l lives none stands busy = absurd (not_whole image log place stands busy l.0.1)
-quiet R image log Redraw NothingPublished place l lives none stands busy = record { life_is = refl; offered_is = refl; flip_is = refl; strobed_is = refl }
-quiet R image log Redraw Busy place l lives none stands busy = record { life_is = refl; offered_is = refl; flip_is = refl; strobed_is = refl }
-quiet R image log Redraw Asked place l lives none stands busy = absurd (not_whole image log place stands busy l.0.1)
-quiet R image log Strobe Started place l lives none stands busy = record { life_is = refl; offered_is = refl; flip_is = refl; strobed_is = refl }
-quiet R image log Strobe NoStrobe place l lives none stands busy = record { life_is = refl; offered_is = refl; flip_is = refl; strobed_is = refl }
-quiet R image log Fetch Still place l lives none stands busy = record { life_is = refl; offered_is = refl; flip_is = refl; strobed_is = refl }
-quiet R image log Fetch (Low a b) place l lives none stands busy = record { life_is = refl; offered_is = refl; flip_is = refl; strobed_is = refl }
-quiet R image log Fetch (Fetched a w) place l lives none stands busy = record { life_is = refl; offered_is = refl; flip_is = refl; strobed_is = refl }
-quiet R image log Fetch (Done a w drew) place l lives none stands busy = record { life_is = refl; offered_is = refl; flip_is = refl; strobed_is = refl }
-quiet R image log Fetch (Broke a fault) place l lives none stands busy = record { life_is = refl; offered_is = refl; flip_is = refl; strobed_is = refl }
-quiet R image log ResetGen Cleared place l lives none stands busy = record { life_is = refl; offered_is = refl; flip_is = refl; strobed_is = refl }
+quiet R image log (Offer F) (Refused fault) place l lives none stands busy =
+    record { life_is = refl; offered_is = refl; flip_is = refl; strobed_is = refl }
+quiet R image log (Offer F) Busy place l lives none stands busy =
+    record { life_is = refl; offered_is = refl; flip_is = refl; strobed_is = refl }
+quiet R image log (Offer F) Offered place l lives none stands busy =
+    absurd (not_whole image log place stands busy l.0.1)
+quiet R image log Redraw NothingPublished place l lives none stands busy =
+    record { life_is = refl; offered_is = refl; flip_is = refl; strobed_is = refl }
+quiet R image log Redraw Busy place l lives none stands busy =
+    record { life_is = refl; offered_is = refl; flip_is = refl; strobed_is = refl }
+quiet R image log Redraw Asked place l lives none stands busy =
+    absurd (not_whole image log place stands busy l.0.1)
+quiet R image log Strobe Started place l lives none stands busy =
+    record { life_is = refl; offered_is = refl; flip_is = refl; strobed_is = refl }
+quiet R image log Strobe NoStrobe place l lives none stands busy =
+    record { life_is = refl; offered_is = refl; flip_is = refl; strobed_is = refl }
+quiet R image log Fetch Still place l lives none stands busy =
+    record { life_is = refl; offered_is = refl; flip_is = refl; strobed_is = refl }
+quiet R image log Fetch (Low a b) place l lives none stands busy =
+    record { life_is = refl; offered_is = refl; flip_is = refl; strobed_is = refl }
+quiet R image log Fetch (Fetched a w) place l lives none stands busy =
+    record { life_is = refl; offered_is = refl; flip_is = refl; strobed_is = refl }
+quiet R image log Fetch (Done a w drew) place l lives none stands busy =
+    record { life_is = refl; offered_is = refl; flip_is = refl; strobed_is = refl }
+quiet R image log Fetch (Broke a fault) place l lives none stands busy =
+    record { life_is = refl; offered_is = refl; flip_is = refl; strobed_is = refl }
+quiet R image log ResetGen Cleared place l lives none stands busy =
+    record { life_is = refl; offered_is = refl; flip_is = refl; strobed_is = refl }
 quiet R image log ResetCpu entry place l lives none stands busy = absurd lives
 quiet R image log (ResetAll bytes) entry place l lives none stands busy = absurd lives
 quiet R image log event entry place l lives none stands busy = absurd l.0
@@ -104,7 +124,9 @@ pub record Ticked (image : List ℕ) (log : Log) (entry : Shown) (place : Place)
   pub stands : place_of_life (Did action ∷ life image log) ≡ Some to
   pub tells : Tells action (is_none (open_run log))
 
-pub ticked : (R image : List ℕ) (log : Log) (entry : Shown) (place : Place) → IsLegal R image ((Tick ⟼ entry) ∷ log) → place_of_life (life image log) ≡ Some place → Ticked image log entry place
+pub ticked : (R image : List ℕ) (log : Log) (entry : Shown) (place : Place)
+    → IsLegal R image ((Tick ⟼ entry) ∷ log) → place_of_life (life image log) ≡ Some place
+    → Ticked image log entry place
 ticked R image log (Acted action) place l stands =
     let after = life_place (Did action ∷ life image log) l.0.0 in
     let before = place_before (Did action) (life image log) after.0 after.1 in
@@ -112,7 +134,8 @@ ticked R image log (Acted action) place l stands =
       action = action;
       is = refl;
       to = after.0;
-      next = ap (λ p. next_place p (Did action)) (same_place (life image log) place before.0 stands before.1) ∙ before.2;
+      next = ap (λ p. next_place p (Did action))
+          (same_place (life image log) place before.0 stands before.1) ∙ before.2;
       stands = after.1;
       tells = l.0.1;
     }

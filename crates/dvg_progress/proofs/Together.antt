@@ -1,4 +1,4 @@
--- One frame after the other part of its way: written, published, its strobe sent, its run begun and finished.
+-- The whole way of a frame: written, published, its strobe sent, its run begun and finished.
 use Rattle.std.proofs.Common.{◌≡◌, ℕ, suc, ◌*◌, ◌≤◌, ⊎_elim, Bool, true, false, List, [], ◌∷◌, ◌++◌, length, drop, Option, Some, None, refl, sym, ap, ◌∙◌, subst, arith}
 use Rattle.std.specs.Prelude.{◌≢◌, if◌then◌else◌}
 use Rattle.std.proofs.lemmas.Bool.{cases_lt, true≢false}
@@ -31,17 +31,20 @@ use Rattle.dvg_progress.proofs.Sending.{legal_before}
 use Rattle.dvg_progress.proofs.Writing.{start, all, SoFar, so_far, time_is}
 
 -- what these words leave out
-lives_all : (later : Log) → Throughout LivesOn later → Throughout (λ log event entry. NotAll event) later
+lives_all : (later : Log) → Throughout LivesOn later
+    → Throughout (λ log event entry. NotAll event) later
 lives_all [] lives = tt
 lives_all ((ResetAll bytes ⟼ entry) ∷ later) lives = absurd lives.0
 lives_all ((event ⟼ entry) ∷ later) lives = (tt, lives_all later lives.1)
 
-runs_all : (later : Log) → Throughout RunsOn later → Throughout (λ log event entry. NotAll event) later
+runs_all : (later : Log) → Throughout RunsOn later
+    → Throughout (λ log event entry. NotAll event) later
 runs_all [] runs = tt
 runs_all ((ResetAll bytes ⟼ entry) ∷ later) runs = absurd runs.0
 runs_all ((event ⟼ entry) ∷ later) runs = (tt, runs_all later runs.1)
 
-runs_strobe : (later : Log) → Throughout RunsOn later → Throughout (λ log event entry. NotStrobe event) later
+runs_strobe : (later : Log) → Throughout RunsOn later
+    → Throughout (λ log event entry. NotStrobe event) later
 runs_strobe [] runs = tt
 runs_strobe ((Strobe ⟼ entry) ∷ later) runs = absurd runs.0
 runs_strobe ((event ⟼ entry) ∷ later) runs = (tt, runs_strobe later runs.1)
@@ -52,7 +55,8 @@ waits_lives ((ResetCpu ⟼ entry) ∷ later) without = absurd (without.0.1.0 ref
 waits_lives ((ResetAll bytes ⟼ entry) ∷ later) without = absurd without
 waits_lives ((event ⟼ entry) ∷ later) without = (tt, waits_lives later without.1)
 
-waits_strobe : (later : Log) → Without (Strobe ∷ ResetCpu ∷ []) later → Throughout (λ log event entry. NotStrobe event) later
+waits_strobe : (later : Log) → Without (Strobe ∷ ResetCpu ∷ []) later
+    → Throughout (λ log event entry. NotStrobe event) later
 waits_strobe [] without = tt
 waits_strobe ((Strobe ⟼ entry) ∷ later) without = absurd (without.0.0 refl)
 waits_strobe ((ResetAll bytes ⟼ entry) ∷ later) without = absurd without
@@ -72,12 +76,15 @@ frames_older ((event ⟼ entry) ∷ one) other none = frames_older one other non
 
 -- what an open run shows has a bound
 bound_of : (F : List OpKind) (R : List ℕ) → Checked F R → (n : ℕ) × IsBound F R n
-bound_of F R checked = let it = some_picture F R checked.rom checked.accepts.closed checked.accepts.ends in (it.1, (it.0, it.2))
+bound_of F R checked = let it = some_picture F R checked.rom checked.accepts.closed
+    checked.accepts.ends in (it.1, (it.0, it.2))
 
-open_shows : (R image : List ℕ) (log : Log) → IsLegal R image log → open_run log ≢ None → (G : List OpKind) × (n : ℕ) × IsShown log G × IsBound G R n
+open_shows : (R image : List ℕ) (log : Log) → IsLegal R image log → open_run log ≢ None
+    → (G : List OpKind) × (n : ℕ) × IsShown log G × IsBound G R n
 open_shows R image log l is_open = by (open_run log) refl
   where
-    by : (run : Option (List (ℕ × ℕ))) → open_run log ≡ run → (G : List OpKind) × (n : ℕ) × IsShown log G × IsBound G R n
+    by : (run : Option (List (ℕ × ℕ))) → open_run log ≡ run → (G : List OpKind) × (n : ℕ)
+        × IsShown log G × IsBound G R n
     by None o = absurd (is_open o)
     by (Some []) o =
         let whole = words_are_whole R image log l in
@@ -90,7 +97,8 @@ open_shows R image log l is_open = by (open_run log) refl
         let bound = bound_of running.draft R running.checked in
         (running.draft, bound.0, running.shown, bound.1)
 
-one_tick : (event : Happening) (entry : Shown) (later : Log) → ticks ((event ⟼ entry) ∷ later) ≤ suc (ticks later)
+one_tick : (event : Happening) (entry : Shown) (later : Log)
+    → ticks ((event ⟼ entry) ∷ later) ≤ suc (ticks later)
 one_tick Tick entry later = omega arith
 one_tick event entry later = omega arith
 
@@ -98,7 +106,8 @@ some_run : (run : Option (List (ℕ × ℕ))) (words : List (ℕ × ℕ)) → ru
 some_run run words o none = none-some words (sym none ∙ o)
 
 -- a strobe that comes after one was sent begins a run
-starts : (R image : List ℕ) (log : Log) (entry : Shown) → Fits R image log Strobe entry → strobed log ≡ true → entry ≡ Started
+starts : (R image : List ℕ) (log : Log) (entry : Shown) → Fits R image log Strobe entry
+    → strobed log ≡ true → entry ≡ Started
 starts R image log Started fits sent = refl
 starts R image log NoStrobe fits sent = absurd (true≢false (sym sent ∙ fits))
 starts R image log entry fits sent = absurd fits
@@ -108,22 +117,31 @@ module _ (R image : List ℕ) (F : List OpKind) where
     abbrev flipped : Log → Type 0
     flipped log = Newest image F log × Ready image log 0
 
-    at_flip : (later : Log) → ticks later ≡ length (all R image before F) → SoFar R image before F later → flipped (later ++ start R image before F)
+    at_flip : (later : Log) → ticks later ≡ length (all R image before F)
+        → SoFar R image before F later → flipped (later ++ start R image before F)
     at_flip later time so =
-        let none : drop (ticks later) (all R image before F) ≡ [] = drop_all (ticks later) (all R image before F) (omega arith) in
-        let stands = so.stands ∙ ap (λ left. Some (with_left left)) none in
-        (record { newest = so.flipped time; place = Waiting false; stands = stands; still = tt }, waiting false stands (omega arith))
+        let none : drop (ticks later) (all R image before F) ≡ [] =
+        drop_all (ticks later) (all R image before F) (omega arith) in
+        let stands = so.stands ∙ ap (λ left. Some (with_left left)) none in (
+          record { newest = so.flipped time; place = Waiting false; stands = stands; still = tt },
+          waiting false stands (omega arith),
+        )
 
     -- so many ticks after the offer, or more
-    pub reached : (later : Log) → IsLegal R image (later ++ start R image before F) → Throughout LivesOn later → NoFrame later → length (all R image before F) ≤ ticks later → flipped (later ++ start R image before F)
-    reached [] l lives none time = at_flip [] (omega arith) (so_far R image before F [] l lives (omega arith))
+    pub reached : (later : Log) → IsLegal R image (later ++ start R image before F)
+        → Throughout LivesOn later → NoFrame later → length (all R image before F) ≤ ticks later
+        → flipped (later ++ start R image before F)
+    reached [] l lives none time = at_flip [] (omega arith)
+        (so_far R image before F [] l lives (omega arith))
     reached ((event ⟼ entry) ∷ later) l lives none time =
         let more = one_tick event entry later in
         ⊎_elim
-        (λ fewer. at_flip ((event ⟼ entry) ∷ later) (omega arith) (so_far R image before F ((event ⟼ entry) ∷ later) l lives (omega arith)))
+        (λ fewer. at_flip ((event ⟼ entry) ∷ later) (omega arith)
+        (so_far R image before F ((event ⟼ entry) ∷ later) l lives (omega arith)))
         (λ enough.
         let old = reached later l.2 lives.1 none.1 enough in (
-          newest_step R image F (later ++ start R image before F) event entry l (lives_all ((event ⟼ entry) ∷ later) lives).0 none.0 old.0,
+          newest_step R image F (later ++ start R image before F) event entry l
+              (lives_all ((event ⟼ entry) ∷ later) lives).0 none.0 old.0,
           ready_step R image (start R image before F) later event entry l lives.0 old.1,
         ))
         (cases_lt (ticks later) (length (all R image before F)))
@@ -140,56 +158,86 @@ module _ (R image : List ℕ) (F : List OpKind) where
     first_shown : Newest image F begun → IsShown begun F
     first_shown n = ap published (at_zero_open begun refl) ∙ n.newest
 
-    stays_shown : (later : Log) → IsLegal R image (later ++ begun) → Newest image F begun → NoFrame later → Throughout RunsOn later → open_run (later ++ begun) ≢ None → IsShown (later ++ begun) F
-    stays_shown later l newest none runs is_open = (same_run R image F begun newest later l (runs_all later runs) none (runs_strobe later runs) is_open).shows F (first_shown newest)
+    stays_shown : (later : Log) → IsLegal R image (later ++ begun) → Newest image F begun
+        → NoFrame later → Throughout RunsOn later → open_run (later ++ begun) ≢ None
+        → IsShown (later ++ begun) F
+    stays_shown later l newest none runs is_open =
+        (same_run R image F begun newest later l (runs_all later runs) none (runs_strobe later runs)
+        is_open).shows F (first_shown newest)
 
-    line_shows : (later : Log) (event : Happening) (entry : Shown) → IsLegal R image ((event ⟼ entry) ∷ later ++ begun) → Newest image F begun → NoFrame later → Throughout RunsOn later → ShowsIt later event entry
+    line_shows : (later : Log) (event : Happening) (entry : Shown)
+        → IsLegal R image ((event ⟼ entry) ∷ later ++ begun) → Newest image F begun → NoFrame later
+        → Throughout RunsOn later → ShowsIt later event entry
     line_shows later Fetch (Done a w drew) l newest none runs =
         let t = wanting R image (later ++ begun) a l.2 l.0.1.asked in
-        stays_shown later l.2 newest none runs (some_run (open_run (later ++ begun)) t.fetches t.open_now)
+        stays_shown later l.2 newest none runs
+        (some_run (open_run (later ++ begun)) t.fetches t.open_now)
     line_shows later event (Done a w drew) l newest none runs = absurd l.0
     line_shows later event entry l newest none runs = tt
 
-    all_show : (later : Log) → IsLegal R image (later ++ begun) → Newest image F begun → NoFrame later → Throughout RunsOn later → Throughout ShowsIt later
+    all_show : (later : Log) → IsLegal R image (later ++ begun) → Newest image F begun
+        → NoFrame later → Throughout RunsOn later → Throughout ShowsIt later
     all_show [] l newest none runs = tt
-    all_show ((event ⟼ entry) ∷ later) l newest none runs = (line_shows later event entry l newest none.1 runs.1, all_show later l.2 newest none.1 runs.1)
+    all_show ((event ⟼ entry) ∷ later) l newest none runs = (
+      line_shows later event entry l newest none.1 runs.1,
+      all_show later l.2 newest none.1
+          runs.1,
+    )
 
-    over : IsLegal R image (draw ++ begun) → Newest image F begun → NoFrame draw → Throughout RunsOn draw → 2 * n ≤ fetched_since (draw ++ begun) → open_run (draw ++ begun) ≡ None
+    over : IsLegal R image (draw ++ begun) → Newest image F begun → NoFrame draw
+        → Throughout RunsOn draw → 2 * n ≤ fetched_since (draw ++ begun)
+        → open_run (draw ++ begun) ≡ None
     over l newest none runs enough = by (open_run (draw ++ begun)) refl
       where
-        by : (run : Option (List (ℕ × ℕ))) → open_run (draw ++ begun) ≡ run → open_run (draw ++ begun) ≡ None
+        by : (run : Option (List (ℕ × ℕ))) → open_run (draw ++ begun) ≡ run
+            → open_run (draw ++ begun) ≡ None
         by None o = o
         by (Some words) o =
             let is_open = some_run (open_run (draw ++ begun)) words o in
-            let few = halts_in_time R image (draw ++ begun) F n l is_open (stays_shown draw l newest none runs is_open) bound in
+            let few = halts_in_time R image (draw ++ begun) F n l is_open
+            (stays_shown draw l newest none runs is_open) bound in
             absurd (omega arith)
 
     -- what is drawn once is the frame
-    same_once : (G : List OpKind) (k : ℕ) (later : Log) → DrawsOnce G R k begun later → Throughout ShowsIt later → (G ≡ F) × (k ≡ n)
+    same_once : (G : List OpKind) (k : ℕ) (later : Log) → DrawsOnce G R k begun later
+        → Throughout ShowsIt later → (G ≡ F) × (k ≡ n)
     same_once G k [] once shown = absurd once
     same_once G k ((event ⟼ Done a w drew) ∷ later) once shown =
-        let same : G ≡ F = same_Some _ _ (sym once.0 ∙ shown.0) in
-        (same, (one_picture F R bound.0 drew n k bound.1 (subst (λ H. IsPicture H R drew k) same once.1)).1)
+        let same : G ≡ F = same_Some _ _ (sym once.0 ∙ shown.0) in (
+          same,
+          (one_picture F R bound.0 drew n k bound.1
+              (subst (λ H. IsPicture H R drew k) same once.1)).1,
+        )
     same_once G k ((event ⟼ entry) ∷ later) once shown = same_once G k later once shown.1
 
-    draws : IsLegal R image (draw ++ begun) → Newest image F begun → NoFrame draw → Throughout RunsOn draw → 2 * n ≤ fetched_since (draw ++ begun) → DrawsOnce F R n begun draw
+    draws : IsLegal R image (draw ++ begun) → Newest image F begun → NoFrame draw
+        → Throughout RunsOn draw → 2 * n ≤ fetched_since (draw ++ begun)
+        → DrawsOnce F R n begun draw
     draws l newest none runs enough =
-        let it = at_end R image begun draw (over l newest none runs enough) (run_on R image begun [] refl draw l runs) in
+        let it = at_end R image begun draw (over l newest none runs enough)
+        (run_on R image begun [] refl draw l runs) in
         let same = same_once it.0 it.1 draw it.2 (all_show draw l newest none runs) in
-        subst (λ k. DrawsOnce F R k begun draw) same.1 (subst (λ G. DrawsOnce G R it.1 begun draw) same.0 it.2)
+        subst (λ k. DrawsOnce F R k begun draw) same.1
+        (subst (λ G. DrawsOnce G R it.1 begun draw) same.0 it.2)
 
   -- what is open when the frame is written is over in time
-  halted : (written halt : Log) → IsLegal R image (halt ++ written) → Newest image F written → NoFrame halt → Throughout LivesOn halt → Throughout (λ log event entry. NotStrobe event) halt
-      → ((G : List OpKind) (m : ℕ) → open_run written ≢ None → IsShown written G → IsBound G R m → 2 * m ≤ fetched_since (halt ++ written)) → open_run (halt ++ written) ≡ None
+  halted : (written halt : Log) → IsLegal R image (halt ++ written) → Newest image F written
+      → NoFrame halt → Throughout LivesOn halt
+      → Throughout (λ log event entry. NotStrobe event) halt
+      → ((G : List OpKind) (m : ℕ) → open_run written ≢ None → IsShown written G → IsBound G R m
+      → 2 * m ≤ fetched_since (halt ++ written)) → open_run (halt ++ written) ≡ None
   halted written halt l newest none lives not_strobe enough = by (open_run (halt ++ written)) refl
     where
-      by : (run : Option (List (ℕ × ℕ))) → open_run (halt ++ written) ≡ run → open_run (halt ++ written) ≡ None
+      by : (run : Option (List (ℕ × ℕ))) → open_run (halt ++ written) ≡ run
+          → open_run (halt ++ written) ≡ None
       by None o = o
       by (Some words) o =
           let is_open = some_run (open_run (halt ++ written)) words o in
-          let same = same_run R image F written newest halt l (lives_all halt lives) none not_strobe is_open in
+          let same = same_run R image F written newest halt l (lives_all halt lives) none not_strobe
+          is_open in
           let it = open_shows R image written (legal_before R image halt written l) same.was_open in
-          let few = halts_in_time R image (halt ++ written) it.0 it.1 l is_open (same.shows it.0 it.2) it.3 in
+          let few = halts_in_time R image (halt ++ written) it.0 it.1 l is_open
+          (same.shows it.0 it.2) it.3 in
           let many = enough it.0 it.1 same.was_open it.2 it.3 in
           absurd (omega arith)
 
@@ -201,7 +249,8 @@ started_not : (entry : Shown) → entry ≡ Started → entry ≢ Offered
 started_not entry is wrong = let clash = sym is ∙ wrong in cc
 
 pub shown_in_time : ShownInTime
-shown_in_time R image F n before write halt send draw entry l none write_lives enough halts quiet two bound runs fetched =
+shown_in_time R image F n before write halt send draw entry l none write_lives enough halts quiet
+    two bound runs fetched =
     let accepted : Log = start R image before F in
     let written : Log = write ++ accepted in
     let halted_log : Log = halt ++ written in
@@ -221,13 +270,23 @@ shown_in_time R image F n before write halt send draw entry l none write_lives e
     let halt_lives = waits_lives halt without_halt in
     let time = time_is R image before F in
     let low = time_low (has_flip (life image before)) in
-    let at_written = reached R image F before write written_l (lives_on write write_lives) (frames_older halt write none_2) (omega arith) in
-    let at_halted = newest_on R image F written at_written.0 halt halted_l (lives_all halt halt_lives) none_halt in
-    let at_ready = newest_on R image F halted_log at_halted send ready_l (lives_all send send_lives) none_send in
-    let closed = halted R image F written halt halted_l at_written.0 none_halt halt_lives (waits_strobe halt without_halt) halts in
-    let sends = send_on R image halted_log send ready_l send_lives (waits_strobe send without_send) closed (ready_on R image written halt halted_l halt_lives at_written.1) in
-    let is : entry ≡ Started = starts R image ready_log entry started_l.0 (is_sent image ready_log (ticks send) two sends.1) in
-    let at_started = newest_step R image F ready_log Strobe entry started_l tt (started_not entry is) at_ready in
-    let P : Shown → Type 0 = λ e. IsLegal R image (draw ++ (Strobe ⟼ e) ∷ ready_log) → Newest image F ((Strobe ⟼ e) ∷ ready_log) → 2 * n ≤ fetched_since (draw ++ (Strobe ⟼ e) ∷ ready_log)
+    let at_written = reached R image F before write written_l (lives_on write write_lives)
+    (frames_older halt write none_2) (omega arith) in
+    let at_halted = newest_on R image F written at_written.0 halt halted_l
+    (lives_all halt halt_lives) none_halt in
+    let at_ready = newest_on R image F halted_log at_halted send ready_l (lives_all send send_lives)
+    none_send in
+    let closed = halted R image F written halt halted_l at_written.0 none_halt halt_lives
+    (waits_strobe halt without_halt) halts in
+    let sends = send_on R image halted_log send ready_l send_lives (waits_strobe send without_send)
+    closed (ready_on R image written halt halted_l halt_lives at_written.1) in
+    let is : entry ≡ Started = starts R image ready_log entry started_l.0
+    (is_sent image ready_log (ticks send) two sends.1) in
+    let at_started = newest_step R image F ready_log Strobe entry started_l tt
+    (started_not entry is) at_ready in
+    let P : Shown → Type 0 = λ e. IsLegal R image (draw ++ (Strobe ⟼ e) ∷ ready_log)
+    → Newest image F ((Strobe ⟼ e) ∷ ready_log)
+    → 2 * n ≤ fetched_since (draw ++ (Strobe ⟼ e) ∷ ready_log)
     → DrawsOnce F R n ((Strobe ⟼ e) ∷ ready_log) draw in
-    subst P (sym is) (λ l newest fetched. draws R image F n bound ready_log draw l newest none_draw (runs_on draw runs) fetched) l at_started fetched
+    subst P (sym is) (λ l newest fetched. draws R image F n bound ready_log draw l newest none_draw
+    (runs_on draw runs) fetched) l at_started fetched
