@@ -1,6 +1,6 @@
 -- The laws of progress, used on the first picture: none of their premises is empty.
-use Rattle.std.proofs.Common.{◌≡◌, ℕ, suc, pos, negsuc, true, List, [], ◌∷◌, ◌++◌, length, replicate, Some, refl, sym, ap, subst, lit≤, ◌<◌, ◌*◌, ◌+◌, arith}
-use Rattle.std.specs.Prelude.{◌≢◌}
+use Rattle.std.proofs.Common.{◌≡◌, ℕ, zero, suc, pos, negsuc, true, List, [], ◌∷◌, ◌++◌, length, replicate, Some, refl, sym, ap, subst, lit≤, ◌<◌, ◌*◌, ◌+◌, arith}
+use Rattle.std.specs.Prelude.{◌≢◌, None, is_none, option_and_then}
 use Rattle.std.proofs.lemmas.Option.{same_Some}
 use Rattle.dvg_code.specs.declared.instr.Instr.TheVariants.{Vctr, Labs}
 use Rattle.dvg_gen.specs.declared.stroke.Stroke.{Stroke}
@@ -9,14 +9,18 @@ use Rattle.dvg_frame.specs.declared.op.OpKind.TheVariants.{Draw, Halt as Stop}
 use Rattle.dvg_frame.specs.Picture.{IsPicture, IsBound}
 use Rattle.dvg_frame.proofs.Pictures.{one_picture}
 use Rattle.dvg_driver.specs.declared.action.Action.{Action}
-use Rattle.dvg_driver.specs.declared.action.Action.TheVariants.{Peek, Wrote, Read, Sent}
+use Rattle.dvg_driver.specs.declared.action.Action.TheVariants.{Peek, Wrote, Read, Sent, Idle}
+use Rattle.dvg_driver.specs.Script.{Did}
+use Rattle.dvg_driver.specs.Place.{Place, Booting, Resting, next_place, place_of_life}
+use Rattle.dvg_driver.specs.Stands.{Tells}
+use Rattle.dvg_driver.proofs.Shapes.{place_life}
 use Rattle.dvg_world.specs.Events.{Offer, Tick, Strobe, Fetch, ResetGen, ResetCpu}
-use Rattle.dvg_world.specs.Entries.{Offered, Acted, Started, Low, Fetched, Done}
-use Rattle.dvg_world.specs.Log.{◌⟼◌, Log, Throughout, published}
+use Rattle.dvg_world.specs.Entries.{Offered, Acted, Started, Low, Fetched, Done, Still, Cleared}
+use Rattle.dvg_world.specs.Log.{◌⟼◌, Log, Throughout, life, open_run, published}
 use Rattle.dvg_world.specs.Legal.{IsLegal}
 use Rattle.dvg_world.proofs.Headline.{draws_published}
 use Rattle.dvg_world.proofs.Rows.{first_picture}
-use Rattle.dvg_progress.specs.Progress.{Without, fetched_since, DrawsOnce}
+use Rattle.dvg_progress.specs.Progress.{Without, ticks, fetched_since, DrawsOnce}
 use Rattle.dvg_progress.proofs.Drawn.{drawn_in_time}
 use Rattle.dvg_progress.proofs.Halting.{halts_in_time}
 use Rattle.dvg_progress.proofs.Sending.{legal_before, sent_in_time}
@@ -180,3 +184,45 @@ is_unstuck =
     let words : k ≡ 6 = (one_picture frame zeros bound.0 other.0 6 k bound.1 same).1 in
     omega arith) in
     (again.0, again.7)
+
+-- one more tick
+did_more : (log : Log) (action : Action) (to : Place) → IsLegal zeros zeros log
+    → place_of_life (Did action ∷ life zeros log) ≡ Some to → Tells action (is_none (open_run log))
+    → IsLegal zeros zeros ((Tick ⟼ Acted action) ∷ log)
+did_more log action to l stands tells =
+    ((place_life (Did action ∷ life zeros log) to stands, tells), tt, l)
+
+-- the driver that was reset reads and idles
+abbrev idled : List Action → Log
+idled actions = did (actions ++ (Read true ∷ Peek ∷ [])) ++ (ResetCpu ⟼ Cleared) ∷ accepted
+
+idles : (count : ℕ) → IsLegal zeros zeros (idled (replicate count Idle))
+    × (place_of_life (life zeros (idled (replicate count Idle))) ≡ Some (Resting true))
+    × (open_run (idled (replicate count Idle)) ≡ None)
+idles zero =
+    let reset : Log = (ResetCpu ⟼ Cleared) ∷ accepted in
+    let peeked = did_more reset Peek Booting (tt, tt, accepted_legal) refl tt in
+    (did_more ((Tick ⟼ Acted Peek) ∷ reset) (Read true) (Resting true) peeked refl refl, refl, refl)
+idles (suc count) =
+    let before = idles count in
+    let log : Log = idled (replicate count Idle) in
+    let stands = ap (option_and_then (λ place. next_place place (Did Idle))) before.1 in
+    (did_more log Idle (Resting true) before.0 stands tt, stands, before.2)
+
+-- with the processor reset in between, 12 ticks publish nothing
+pub needs_the_processor : IsLegal zeros zeros (idled (replicate 10 Idle))
+    × (ticks (did (replicate 10 Idle ++ (Read true ∷ Peek ∷ []))) ≡ 12)
+    × (published (idled (replicate 10 Idle)) ≡ None)
+needs_the_processor = ((idles 10).0, refl, refl)
+
+-- fetches of a generator that was reset
+abbrev stood : ℕ → Log
+stood count = replicate count (Fetch ⟼ Still) ++ (ResetGen ⟼ Cleared) ∷ begun
+
+stands_still : (count : ℕ) → IsLegal zeros zeros (stood count) × (open_run (stood count) ≡ None)
+stands_still zero = ((tt, tt, begun_legal), refl)
+stands_still (suc count) = let before = stands_still count in ((before.1, tt, before.0), before.1)
+
+-- with the generator reset in between, 12 fetches draw nothing
+pub needs_the_generator : IsLegal zeros zeros (stood 12) × (fetched_since (stood 12) ≡ 12)
+needs_the_generator = ((stands_still 12).0, refl)
