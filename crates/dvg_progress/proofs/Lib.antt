@@ -1,0 +1,13 @@
+pub mod Halting
+pub mod Drawn
+pub mod Lives
+pub mod Flipped
+pub mod Writing
+pub mod Sending
+pub mod Newest
+pub mod Ready
+pub mod Together
+pub mod FirstPicture
+pub mod Following
+pub mod Ticking
+pub mod Unstuck

@@ -1,0 +1,5 @@
+use Rattle.dvg_progress.proofs.Together.{shown_in_time}
+use Rattle.dvg_progress.proofs.laws.shown_in_time.Goals as goal
+
+pub returns : goal.returns
+returns c = shown_in_time
