@@ -10,11 +10,19 @@ export class Memory {
     this.canvas = canvas;
     this.context = canvas.getContext('2d');
     this.chosen = null;
+    this.image = document.createElement('canvas');
+    this.fit();
   }
 
-  /* The cells in a row of each half: both halves stand side by side where there is room. */
-  get layout() {
-    const width = this.canvas.clientWidth || 1, height = this.canvas.clientHeight;
+  /* The size in pixels of the page, and where the cells are: both halves stand side by side where
+   * there is room. */
+  fit() {
+    this.width = this.canvas.clientWidth || 1;
+    this.height = this.canvas.clientHeight;
+    this.layout = this.place(this.width, this.height);
+  }
+
+  place(width, height) {
     const beside = width >= 640;
     const across = beside ? 64 : 32;
     const cell = beside ? (width - 12) / (2 * across) : width / across;
@@ -47,32 +55,53 @@ export class Memory {
 
   draw(moment, marks, colors) {
     const { context, canvas } = this;
-    const ratio = canvas.width / (canvas.clientWidth || 1);
+    const ratio = canvas.width / this.width;
     context.setTransform(ratio, 0, 0, ratio, 0, 0);
     context.fillStyle = colors.field;
-    context.fillRect(0, 0, canvas.clientWidth, canvas.clientHeight);
-    const layout = this.layout;
-    for (let word = 0; word < RAM_WORDS; word++) this.drawCell(word, moment, marks, colors, layout);
-    context.globalAlpha = 1;
+    context.fillRect(0, 0, this.width, this.height);
+    const { layout } = this;
+    this.drawCells(moment, marks, colors, layout);
     this.drawFrame(moment.run?.beam, colors.good, 2, layout);
     this.drawFrame(moment.written === null ? null : moment.written.address >> 1, colors.ink, 2, layout);
     this.drawFrame(this.chosen, colors.dim, 2, layout);
     this.drawTexts(moment, colors, layout);
   }
 
-  drawCell(word, moment, marks, colors, layout) {
-    const { context } = this;
-    const { x, y } = this.placeOf(word, layout);
-    const some = moment.ram[2 * word] !== 0 || moment.ram[2 * word + 1] !== 0;
-    const fill = (color, alpha) => {
-      context.globalAlpha = alpha;
-      context.fillStyle = color;
-      context.fillRect(x + 0.5, y + 0.5, layout.cell - 1, layout.tall - 1);
-    };
-    fill(colors.areas[areaOf(word)], some ? 0.6 : 0.14);
-    if (marks.torn.has(word)) fill(colors.torn, 1);
-    else if (marks.written[word] > 0) fill(colors.ink, 0.8 * marks.written[word] ** 3);
-    if (marks.fetched[word] > 0) fill(colors.good, 0.8 * marks.fetched[word] ** 3);
+  /* The cells are a small image, a pixel a word, which is drawn enlarged, and then parted by lines. */
+  drawCells(moment, marks, colors, layout) {
+    const { context } = this, { across, cell, tall, halves } = layout;
+    const rows = 512 / across;
+    this.image.width = across;
+    this.image.height = 2 * rows;
+    const small = this.image.getContext('2d'), pixels = small.createImageData(across, 2 * rows);
+    const paint = this.paints(colors);
+    for (let word = 0; word < RAM_WORDS; word++) {
+      const filled = moment.ram[2 * word] !== 0 || moment.ram[2 * word + 1] !== 0;
+      let color = paint.areas[areaOf(word)][filled ? 1 : 0];
+      if (marks.torn.has(word)) color = paint.torn;
+      else if (marks.written[word] > 0) color = mix(color, paint.ink, 0.8 * marks.written[word] ** 3);
+      if (marks.fetched[word] > 0) color = mix(color, paint.good, 0.8 * marks.fetched[word] ** 3);
+      pixels.data.set(color, 4 * word);
+    }
+    small.putImageData(pixels, 0, 0);
+    context.imageSmoothingEnabled = false;
+    halves.forEach(({ x, y }, half) => {
+      context.drawImage(this.image, 0, half * rows, across, rows, x, y, across * cell, rows * tall);
+      context.fillStyle = colors.field;
+      for (let k = 1; k < across; k++) context.fillRect(x + k * cell - 0.5, y, 1, rows * tall);
+      for (let k = 1; k < rows; k++) context.fillRect(x, y + k * tall - 0.5, across * cell, 1);
+    });
+  }
+
+  /* The colours as numbers: of each area, of an empty word and of another. */
+  paints(colors) {
+    if (this.painted !== colors) {
+      const field = numbersOf(colors.field);
+      const areas = colors.areas.map((color) => [0.14, 0.6].map((part) => mix(field, numbersOf(color), part)));
+      this.paint = { areas, torn: numbersOf(colors.torn), ink: numbersOf(colors.ink), good: numbersOf(colors.good) };
+      this.painted = colors;
+    }
+    return this.paint;
   }
 
   drawFrame(word, color, width, layout) {
@@ -96,4 +125,13 @@ export class Memory {
       context.fillText(words.join(', '), halves[half].x + 2, halves[half].y - 5);
     });
   }
+}
+
+/* A colour #rrggbb as four numbers. */
+function numbersOf(color) {
+  return [1, 3, 5].map((at) => parseInt(color.slice(at, at + 2), 16)).concat(255);
+}
+
+function mix(one, other, part) {
+  return one.map((value, k) => value + (other[k] - value) * part);
 }

@@ -84,7 +84,7 @@ export class Drawer {
   strokesOf(run) {
     if (run === null) return [];
     const count = wholeWords(run.words);
-    const key = `${run.from} ${count} ${run.words[0]}`;
+    const key = `${run.from} ${run.words.slice(0, count)}`;
     if (key !== this.key) {
       this.key = key;
       this.strokes = this.draw(run.words.slice(0, count));

@@ -21,9 +21,10 @@ const byId = (id) => document.getElementById(id);
 const FIRST = { a: 'score', b: 'rocks', count: 3000, seed: 1979 };
 
 const LOG_BEFORE = 12, LOG_AFTER = 4;
-const JUDGE_EVERY = 500;
+/* While it runs, how often the log is judged, and texts are shown, in milliseconds. */
+const JUDGE_EVERY = 500, TEXTS_EVERY = 100;
 
-let engine, drawer, board, schedule = null, running = false, judgedAt = 0;
+let engine, drawer, board, schedule = null, running = false, judgedAt = 0, textsAt = 0;
 /* The moment that is shown: how many events have happened by then. */
 let at = 0;
 let dump = null, lesson = 0;
@@ -35,6 +36,7 @@ const drawings = new Map(), frameTimes = [];
 function beginAnew(wireCut = board?.wireCut ?? false) {
   board?.free();
   board = new Board(engine, editorR.rom, wireCut);
+  board.id = performance.now();
   schedule = null;
   moveTo(0);
 }
@@ -46,7 +48,6 @@ function moveTo(moment) {
 
 function setWire(cut) {
   board.setWire(cut);
-  board.everCut ||= cut;
   changed();
 }
 
@@ -219,10 +220,18 @@ function changed() {
 }
 
 function show() {
-  const moment = momentOf(board, at), marks = marksOf(board, at);
+  const moment = momentOf(board, at);
   showScreen(moment);
   rows.draw(board, at, colors);
-  memory.draw(moment, marks, colors);
+  memory.draw(moment, marksOf(board, at), colors);
+  const now = performance.now();
+  if (running && now - textsAt < TEXTS_EVERY) return;
+  textsAt = now;
+  showTexts(moment);
+}
+
+function showTexts(moment) {
+  showPictureText(moment);
   if (!running) showWord(moment);
   showLog();
   byId('counts').textContent = countsText(board);
@@ -235,30 +244,36 @@ function show() {
 
 function showScreen({ picture, run: open }) {
   if (dump !== null) {
-    screen.draw({ id: dump.id, strokes: dump.strokes, tears: 0 }, null);
-    byId('picture-text').textContent = dump.text;
+    screen.draw(dump, null);
     return;
   }
-  const sofar = drawer.strokesOf(open);
-  if (picture !== null) picture.id ??= `${board.rom.text}${picture.at} ${performance.now()}`;
-  screen.draw(picture, open === null ? null : sofar);
+  if (picture !== null) picture.id ??= performance.now();
+  screen.draw(picture, open === null ? null : { id: `${board.id} ${open.from}`, strokes: drawer.strokesOf(open) });
+}
+
+function showPictureText({ picture, run: open }) {
+  const text = byId('picture-text');
+  text.className = dump === null && picture?.tears ? 'bad' : '';
+  if (dump !== null) {
+    text.textContent = dump.text;
+    return;
+  }
   const number = picture === null ? 0 : board.pictures.indexOf(picture) + 1;
   const named = picture === null ? '' : nameOf(picture);
-  byId('picture-text').textContent = `${pictureText(picture, number, named)} ${runText(open, sofar.length)}`;
-  byId('picture-text').className = picture?.tears ? 'bad' : '';
+  const run = runText(open, drawer.strokesOf(open).length);
+  text.textContent = `${pictureText(picture, number, named)} ${run}`;
 }
 
 function showLog() {
   const from = Math.max(0, at - LOG_BEFORE), to = Math.min(board.length, at + LOG_AFTER);
-  const lines = [];
+  const lines = byId('log');
+  while (lines.children.length > to - from) lines.lastChild.remove();
+  while (lines.children.length < to - from) lines.append(document.createElement('span'));
   for (let k = from; k < to; k++) {
-    const { torn } = board.entries[k];
-    const line = document.createElement('span');
-    line.textContent = `${board.linesOf(k)[0]}${torn ? '   torn' : ''}`;
+    const { torn, text } = board.entries[k], line = lines.children[k - from];
+    line.textContent = `${k} ${text}${torn ? '   torn' : ''}`;
     line.className = [k === at - 1 && 'now', k >= at && 'later', torn && 'bad'].filter(Boolean).join(' ');
-    lines.push(line);
   }
-  byId('log').replaceChildren(...lines);
 }
 
 function showWord(moment) {
@@ -366,7 +381,6 @@ function loadTrace(text) {
   if (rom !== '') setRom(rom);
   beginAnew(false);
   playSteps(board, steps);
-  board.everCut = board.wires.length > 0;
   moveTo(board.length);
   return true;
 }
@@ -464,7 +478,7 @@ function openDump(name, bytes) {
   const lines = got.output.split('\n').filter((line) => line !== '');
   const strokes = lines.filter((line) => /^[0-9]+( [0-9]+){4}$/.test(line)).map((line) => line.split(' ').map(Number));
   const end = lines.find((line) => /^(picture|broke|endless)/.test(line)) ?? got.error.trim();
-  dump = { id: `dump ${name} ${performance.now()}`, strokes, text: `The dump ${name}: ${end}.` };
+  dump = { id: performance.now(), strokes, tears: 0, text: `The dump ${name}: ${end}.` };
   showFile(`The dump ${name}`, `dvg picture: ${end}`, lines.join('\n'));
   changed();
 }
@@ -642,6 +656,8 @@ function listenToSizes() {
       canvas.width = Math.round(canvas.clientWidth * ratio);
       canvas.height = Math.round(canvas.clientHeight * ratio);
     }
+    rows.fit();
+    memory.fit();
     if (board !== undefined) show();
   };
   fit();

@@ -13,10 +13,16 @@ export class Rows {
     this.context = canvas.getContext('2d');
     this.scale = 4;
     this.first = 0;
+    this.fit();
   }
 
-  get ratio() { return this.canvas.width / (this.canvas.clientWidth || 1); }
-  get width() { return this.canvas.clientWidth || 1; }
+  /* The size in pixels of the page, and how many of the canvas each has. */
+  fit() {
+    this.width = this.canvas.clientWidth || 1;
+    this.height = this.canvas.clientHeight;
+    this.ratio = this.canvas.width / this.width;
+  }
+
   /* How many events are in sight. */
   get span() { return this.width / this.scale; }
 
@@ -45,7 +51,7 @@ export class Rows {
     const { context } = this;
     context.setTransform(this.ratio, 0, 0, this.ratio, 0, 0);
     context.fillStyle = colors.field;
-    context.fillRect(0, 0, this.width, this.canvas.clientHeight);
+    context.fillRect(0, 0, this.width, this.height);
     const from = Math.max(0, Math.floor(this.first));
     const to = Math.min(board.length, Math.ceil(this.first + this.span) + 1);
     this.drawColumns(board, from, to, colors);
@@ -128,9 +134,9 @@ export class Rows {
   drawMoment(board, at, colors) {
     const x = (at - this.first) * this.scale;
     this.context.fillStyle = colors.ink;
-    this.context.fillRect(x - 0.5, 0, 1, this.canvas.clientHeight);
+    this.context.fillRect(x - 0.5, 0, 1, this.height);
     this.context.fillStyle = colors.shade;
-    this.context.fillRect(x + 0.5, 0, (board.length - at) * this.scale, this.canvas.clientHeight);
+    this.context.fillRect(x + 0.5, 0, (board.length - at) * this.scale, this.height);
   }
 
   drawTexts(colors) {

@@ -54,39 +54,35 @@ function glow(context, strokes, color, strength) {
   context.restore();
 }
 
-const BEAM = '#9fe8ff', TORN = '#ff6b78', GROWING = '#e4ffff', SPOT = '#ffffff';
+const BEAM = '#9fe8ff', TORN = '#ff6b78', GROWING = '#e4ffff';
 
 export class Screen {
   constructor(canvas) {
     this.canvas = canvas;
     this.context = canvas.getContext('2d');
-    this.layer = document.createElement('canvas');
     this.key = '';
+    this.count = 0;
   }
 
-  /* The newest picture, and over it the open run's strokes so far. */
-  draw(picture, sofar) {
-    const open = sofar !== null;
-    this.drawPicture(picture, open && !picture?.tears ? 0.5 : 1);
-    this.context.globalAlpha = 1;
-    this.context.drawImage(this.layer, 0, 0);
-    if (!open) return;
-    glow(this.context, sofar, GROWING, 0.8);
-    const last = sofar.at(-1);
-    if (last) glow(this.context, [[last[2], last[3], last[2], last[3], 15]], SPOT, 1);
-  }
-
-  /* A finished picture is drawn once, and kept. */
-  drawPicture(picture, strength) {
-    const { width, height } = this.canvas;
-    const key = `${picture?.id} ${strength} ${width} ${height}`;
-    if (key === this.key) return;
+  /* The newest picture, and over it the strokes so far of the open run, if there is one. Both are
+   * told apart by their ids. Of a run that only grew, the new strokes alone are drawn. */
+  draw(picture, open) {
+    const { width, height } = this.canvas, sofar = open?.strokes ?? [];
+    const key = `${picture?.id} ${open?.id} ${width} ${height}`;
+    if (key !== this.key || sofar.length < this.count) this.begin(picture, open !== null);
+    if (sofar.length > this.count) glow(this.context, sofar.slice(this.count), GROWING, 0.8);
     this.key = key;
-    this.layer.width = width;
-    this.layer.height = height;
-    const context = this.layer.getContext('2d');
+    this.count = sofar.length;
+  }
+
+  /* The picture alone, weaker where a run draws over it. */
+  begin(picture, open) {
+    const { context } = this, { width, height } = this.canvas;
+    this.count = 0;
     context.fillStyle = '#000';
     context.fillRect(0, 0, width, height);
-    if (picture) glow(context, picture.strokes, picture.tears ? TORN : BEAM, strength);
+    if (picture === null) return;
+    const torn = picture.tears > 0;
+    glow(context, picture.strokes, torn ? TORN : BEAM, open && !torn ? 0.5 : 1);
   }
 }
