@@ -141,10 +141,15 @@ const REDS = `(() => {
 })()`;
 
 async function testCutWire() {
+  await tab.media({ 'color-scheme': 'dark' });
+  await tab.size(1280, 1330);
+  await tab.open(address);
   await runSeed(1);
   await tab.click('picture-back');
   const whole = await tab.value(REDS);
   expect('a whole picture is not red', true, whole.red === 0 && whole.blue > 100);
+  await tab.click('zoom-all');
+  await tab.value('document.querySelector("main").scrollIntoView()');
   writeFileSync(`${work}/page_whole.png`, await tab.screenshot());
   await tab.click('wire');
   expect('the wire is cut', 'true', await tab.value('document.getElementById("wire").getAttribute("aria-pressed")'));
@@ -154,13 +159,13 @@ async function testCutWire() {
   expect('torn finds it', /^torn at line [0-9]+: wrote [0-9A-F]{3} [0-9A-F]{2} \(event [0-9]+\)$/, await tab.text('judged'));
   const named = await tab.value('[...document.querySelectorAll("#torn-list button")].map((one) => one.textContent)');
   expect('torn pictures are named', true, named.length > 0 && named.every((one) => /^picture [0-9]+, event [0-9]+: [0-9]+ bytes?, /.test(one)));
-  const number = named.findIndex((one) => one.endsWith('none of the frames that were offered'));
+  const number = named.findIndex((one) => one.endsWith('no frame that was offered'));
   expect('one of them is no frame', true, number >= 0);
   await tab.click(`#torn-list li:nth-child(${number + 1}) button`);
-  expect('it is shown', /torn: [0-9]+ bytes? w[a-z]+ written into its half while it was drawn\. It is none of the frames/, await tab.text('picture-text'));
+  expect('it is shown', /torn: [0-9]+ bytes? w[a-z]+ written into its half while it was drawn\. It is no frame that was offered/, await tab.text('picture-text'));
   const torn = await tab.value(REDS);
   expect('a torn picture is red', true, torn.red > 100);
-  await tab.value('scrollTo(0, 0)');
+  await tab.value('document.querySelector("main").scrollIntoView()');
   writeFileSync(`${work}/page_cut.png`, await tab.screenshot());
   await tab.click('compare');
   expect('play has no cut wire', 'the same up to the cut wire, which no trace has: 0 events, 0 lines', await tab.text('compared'));
@@ -168,6 +173,8 @@ async function testCutWire() {
   expect('the first torn byte is shown', /into the half that is being drawn\.$/, await tab.text('moment-text'));
   await tab.click('wire');
   expect('the wire is whole again', /is whole/, await tab.text('wire-text'));
+  await tab.media({});
+  await tab.size(1600, 1000);
 }
 
 async function testRunning() {
@@ -190,7 +197,7 @@ async function testLessons() {
     expect(`lesson ${title}: its sentences`, sentences.join('|'), await tab.value('[...document.querySelectorAll("#lesson-text p")].map((one) => one.textContent).join("|")'));
     expect(`lesson ${title}: its moment`, `${shows}`, (await tab.value('document.querySelector("#log .now").textContent')).replace('   torn', ''));
     const text = await tab.text('picture-text');
-    if (k === 5) expect('the cut wire tears', /torn: 16 bytes were written into its half while it was drawn\. It is none of the frames/, text);
+    if (k === 5) expect('the cut wire tears', /torn: 16 bytes were written into its half while it was drawn\. It is no frame that was offered/, text);
     else expect(`lesson ${title}: nothing is torn`, 'not torn', await tab.text('judged'));
   }
 }
@@ -387,6 +394,26 @@ async function testRows() {
   expect('the picture before', /: done /, await tab.text('moment-text'));
   await tab.click('picture-on');
   expect('the picture after', /: done /, await tab.text('moment-text'));
+  expect('the moment is in sight', true, await tab.value(`(() => {
+    const canvas = document.getElementById('rows'), line = canvas.getContext('2d').getImageData(0, 2, canvas.width, 1).data;
+    const ink = getComputedStyle(document.documentElement).getPropertyValue('--ink').trim();
+    const [r, g, b] = [1, 3, 5].map((k) => parseInt(ink.slice(k, k + 2), 16));
+    for (let k = 0; k < line.length; k += 4) if (Math.abs(line[k] - r) + Math.abs(line[k + 1] - g) + Math.abs(line[k + 2] - b) < 200) return true;
+    return false;
+  })()`));
+  const kept = Number(/^Event ([0-9]+)/.exec(await tab.text('moment-text'))[1]) + 1;
+  await tab.click('forget');
+  expect('what comes later is forgotten', new RegExp(`^event ${kept} `), await tab.text('counts'));
+  await tab.click('compare');
+  expect('and the log is that of play', new RegExp(`^the same: ${kept} events`), await tab.text('compared'));
+  await tab.click('once');
+  expect('after more events the newest is shown', new RegExp(`^Event ${kept + 19999} of ${kept + 20000}`), await tab.text('moment-text'));
+  await set('count', 65536);
+  await tab.click('once');
+  expect('there are at most as many events as play takes', /^event 65536 /, await tab.text('counts'));
+  expect('that is said', true, await tab.value('document.getElementById("full").checkVisibility() && document.getElementById("run").disabled'));
+  await tab.click('compare');
+  expect('they are compared, too', /^the same: 65536 events/, await tab.text('compared'));
   await tab.click('now');
   const { left: x, top: at } = await tab.middle('memory');
   await tab.mouse('mouseMoved', x + 3, at + 22);

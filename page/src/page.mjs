@@ -17,8 +17,8 @@ import { FRAMES, WASM } from './built.mjs';
 
 const byId = (id) => document.getElementById(id);
 
-/* What a newcomer sees. */
-const FIRST = { a: 'score', b: 'rocks', count: 3000, seed: 1979 };
+/* What a newcomer sees: these frames, after so many events. */
+const FIRST = { a: 'score', b: 'rocks' }, FIRST_EVENTS = 3000;
 
 const LOG_BEFORE = 12, LOG_AFTER = 4;
 /* While it runs, how often the log is judged, and texts are shown, in milliseconds. */
@@ -44,6 +44,20 @@ function beginAnew(wireCut = board?.wireCut ?? false) {
 function moveTo(moment) {
   at = Math.min(board.length, Math.max(0, moment));
   rows.follow(at);
+}
+
+/* Lets the board be as it was at the moment that is shown. */
+function forgetLater() {
+  setRunning(false);
+  const { entries, wires } = board, end = at;
+  beginAnew(false);
+  const setWires = (now) => wires.filter((wire) => wire.at === now).forEach(({ cut }) => board.setWire(cut));
+  for (let k = 0; k < end; k++) {
+    setWires(k);
+    happen(entries[k].event);
+  }
+  setWires(end);
+  changed();
 }
 
 function setWire(cut) {
@@ -189,7 +203,7 @@ function nameOf(picture) {
     if (draft === editorA.lines.join('\n')) return 'frame A';
     return draft === editorB.lines.join('\n') ? 'frame B' : `the frame first offered in event ${event}`;
   }
-  return picture.tears > 0 ? 'none of the frames that were offered' : 'no frame that was offered';
+  return 'no frame that was offered';
 }
 
 /* --- What is shown --- */
@@ -211,6 +225,7 @@ function readColors() {
 
 /* After something has happened or was chosen. */
 function changed() {
+  rows.follow(at);
   judge();
   byId('compared').textContent = '';
   showButtons();
@@ -312,6 +327,8 @@ function showButtons() {
   byId('once').disabled = running || !canRun();
   for (const [name, editor] of [['A', editorA], ['B', editorB]]) byId(`offer${name}`).disabled = !editor.offerable || board.full;
   for (const button of document.querySelectorAll('[data-event]')) button.disabled = board.full;
+  byId('full').hidden = !board.full;
+  byId('forget').disabled = running || at === board.length;
 }
 
 function showFrameTime() {
@@ -346,11 +363,17 @@ function exampleOr(text) {
 async function loadFragment() {
   try {
     loadState(location.hash.length > 1 ? await stateOf(location.hash) : FIRST);
-    if (location.hash.length <= 1) runAtOnce();
+    if (location.hash.length <= 1) showNewcomer();
   } catch (fault) {
     tell(`This link holds no state: ${fault.message}`, true);
     if (board === undefined) loadState(FIRST);
   }
+}
+
+function showNewcomer() {
+  runSome(FIRST_EVENTS);
+  rows.showAll(board.length);
+  changed();
 }
 
 function loadState(state) {
@@ -559,6 +582,7 @@ function listenToButtons() {
   on('picture-back', () => goTo((board.pictures.findLast((one) => one.at + 1 < at)?.at ?? -1) + 1));
   on('picture-on', () => goTo((board.pictures.find((one) => one.at + 1 > at)?.at ?? board.length) + 1));
   on('now', () => goTo(board.length));
+  on('forget', forgetLater);
   on('file-close', () => goTo(at));
   for (const id of ['seed', 'how']) byId(id).addEventListener('input', () => { schedule = null; });
 }
