@@ -1,5 +1,5 @@
-// Puts the page together, on standard output: src/page.html with its style, its script, dvg.wasm and
-// examples/frames. The script is the modules of src/, each after those that it imports, without
+// Puts the page together, on standard output: src/page.html with its style, its script, dvg.wasm
+// and examples/frames. The script is the modules of src/, each after those that it imports, without
 // their imports and exports; so no two of them may give one name twice. The content security policy
 // names the style and the script by their digests, and lets nothing else in.
 import { createHash } from 'node:crypto';
@@ -35,5 +35,6 @@ collect('page.mjs', modules);
 const script = [...modules.values()].join('\n\n').replace(/<\/script/g, '<\\/script');
 const style = source('page.css');
 process.stdout.write(source('page.html')
-  .replace('<!--SCRIPT HASH-->', () => digestOf(script)).replace('<!--STYLE HASH-->', () => digestOf(style))
+  .replace('<!--SCRIPT HASH-->', () => digestOf(script))
+  .replace('<!--STYLE HASH-->', () => digestOf(style))
   .replace('<!--STYLE-->', () => style).replace('<!--SCRIPT-->', () => script));

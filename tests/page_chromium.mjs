@@ -9,9 +9,11 @@ const WAIT = 30000;
 // Starts the browser of this name.
 export async function startChromium(name) {
   const profile = mkdtempSync(join(tmpdir(), 'page-chromium-'));
-  const words = ['--headless=new', '--no-sandbox', '--disable-gpu', '--remote-debugging-pipe', '--no-first-run',
+  const words = ['--headless=new', '--no-sandbox', '--disable-gpu', '--remote-debugging-pipe',
+    '--no-first-run',
     '--disable-background-networking', '--disable-component-update', '--disable-dev-shm-usage',
-    '--force-device-scale-factor=1', '--hide-scrollbars', `--user-data-dir=${profile}`, 'about:blank'];
+    '--force-device-scale-factor=1', '--hide-scrollbars', `--user-data-dir=${profile}`,
+      'about:blank'];
   const child = spawn(name, words, { stdio: ['ignore', 'ignore', 'ignore', 'pipe', 'pipe'] });
   const browser = new Chromium(child, profile);
   await browser.send('Browser.getVersion');
@@ -61,8 +63,10 @@ class Chromium {
     const { sessionId } = await this.send('Target.attachToTarget', { targetId, flatten: true });
     const tab = new Tab(this, sessionId, targetId);
     const before = this.heard;
-    this.heard = (message) => (message.sessionId === sessionId ? tab.hear(message) : before(message));
-    for (const domain of ['Page', 'Runtime', 'Network', 'Log', 'Performance']) await tab.send(`${domain}.enable`);
+    this.heard = (message) => (message.sessionId === sessionId ? tab.hear(message)
+      : before(message));
+    for (const domain of ['Page', 'Runtime', 'Network', 'Log',
+      'Performance']) await tab.send(`${domain}.enable`);
     return tab;
   }
 
@@ -75,9 +79,14 @@ class Chromium {
 }
 
 const KEYS = {
-  Tab: [9, ''], Enter: [13, '\r'], ' ': [32, ' '], ArrowLeft: [37, ''], ArrowUp: [38, ''], ArrowRight: [39, ''],
+  Tab: [9, ''], Enter: [13, '\r'], ' ': [32, ' '], ArrowLeft: [37, ''], ArrowUp: [38, ''],
+    ArrowRight: [39, ''],
   ArrowDown: [40, ''], Home: [36, ''], End: [35, ''],
 };
+
+function faultOf({ exception, text }) {
+  return exception?.description ?? text;
+}
 
 class Tab {
   constructor(browser, sessionId, targetId) {
@@ -95,9 +104,10 @@ class Tab {
   hear({ method, params }) {
     if (method === 'Network.requestWillBeSent') this.requests.push(params.request.url);
     if (method === 'Runtime.exceptionThrown') {
-      this.faults.push(params.exceptionDetails.exception?.description ?? params.exceptionDetails.text);
+      this.faults.push(faultOf(params.exceptionDetails));
     }
-    if (method === 'Log.entryAdded' && params.entry.level === 'error') this.faults.push(params.entry.text);
+    if (method === 'Log.entryAdded'
+      && params.entry.level === 'error') this.faults.push(params.entry.text);
   }
 
   // What an expression is in the page.
@@ -105,7 +115,7 @@ class Tab {
     const { result, exceptionDetails } = await this.send('Runtime.evaluate', {
       expression, returnByValue: true, awaitPromise: true,
     });
-    if (exceptionDetails) throw new Error(exceptionDetails.exception?.description ?? exceptionDetails.text);
+    if (exceptionDetails) throw new Error(faultOf(exceptionDetails));
     return result.value;
   }
 
@@ -119,19 +129,22 @@ class Tab {
   }
 
   async size(width, height = 900, mobile = false) {
-    await this.send('Emulation.setDeviceMetricsOverride', { width, height, deviceScaleFactor: 1, mobile });
+    await this.send('Emulation.setDeviceMetricsOverride',
+      { width, height, deviceScaleFactor: 1, mobile });
   }
 
   async media(features) {
     await this.send('Emulation.setEmulatedMedia', {
-      features: Object.entries(features).map(([name, value]) => ({ name: `prefers-${name}`, value })),
+      features: Object.entries(features)
+        .map(([name, value]) => ({ name: `prefers-${name}`, value })),
     });
   }
 
   async open(url) {
     await this.send('Page.navigate', { url: 'about:blank' });
     await this.send('Page.navigate', { url });
-    if (!await this.until('document.body?.dataset.ready === "yes"')) throw new Error(`${url} is not ready`);
+    const ready = await this.until('document.body?.dataset.ready === "yes"');
+    if (!ready) throw new Error(`${url} is not ready`);
   }
 
   text(id) {
@@ -165,8 +178,10 @@ class Tab {
 
   async key(key, modifiers = 0) {
     const [code, text] = KEYS[key];
-    const event = { key, code: key === ' ' ? 'Space' : key, windowsVirtualKeyCode: code, modifiers };
-    await this.send('Input.dispatchKeyEvent', { type: text === '' ? 'rawKeyDown' : 'keyDown', text, ...event });
+    const event = { key, code: key === ' ' ? 'Space' : key, windowsVirtualKeyCode: code,
+      modifiers };
+    await this.send('Input.dispatchKeyEvent',
+      { type: text === '' ? 'rawKeyDown' : 'keyDown', text, ...event });
     await this.send('Input.dispatchKeyEvent', { type: 'keyUp', ...event });
   }
 
@@ -191,11 +206,13 @@ class Tab {
   async drop(id, file) {
     const { x, y } = await this.middle(id);
     const data = { items: [], files: [file], dragOperationsMask: 1 };
-    for (const type of ['dragEnter', 'dragOver', 'drop']) await this.send('Input.dispatchDragEvent', { type, x, y, data });
+    for (const type of ['dragEnter', 'dragOver', 'drop']) await this.send('Input.dispatchDragEvent',
+      { type, x, y, data });
   }
 
   async screenshot(whole = false) {
-    const { data } = await this.send('Page.captureScreenshot', { format: 'png', captureBeyondViewport: whole });
+    const { data } = await this.send('Page.captureScreenshot',
+      { format: 'png', captureBeyondViewport: whole });
     return Buffer.from(data, 'base64');
   }
 }

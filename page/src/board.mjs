@@ -24,8 +24,8 @@ export function areaOf(word) {
 
 /* What an entry shows beside its byte. */
 export const SIGN = {
-  NONE: 0, FLIP: 1, START: 2, DONE: 3, TORN_DONE: 4, SENT: 5, READ_HALTED: 6, READ_RUNNING: 7, RESET: 8,
-  BROKE: 9, OFFERED: 10, TORN: 11,
+  NONE: 0, FLIP: 1, START: 2, DONE: 3, TORN_DONE: 4, SENT: 5, READ_HALTED: 6, READ_RUNNING: 7,
+  RESET: 8, BROKE: 9, OFFERED: 10, TORN: 11,
 };
 export const ROW = { GENERATOR: 0, DRIVER: 1, NONE: 2 };
 
@@ -130,8 +130,8 @@ export class Board {
     }
     const flip = address === 1 ? SIGN.FLIP : SIGN.NONE;
     return {
-      text: `wrote ${hex(address, 3)} ${hex(value, 2)}`, row: ROW.DRIVER, area, sign: torn ? SIGN.TORN : flip,
-      wrote: address, value, torn,
+      text: `wrote ${hex(address, 3)} ${hex(value, 2)}`,
+      row: ROW.DRIVER, area, sign: torn ? SIGN.TORN : flip, wrote: address, value, torn,
     };
   }
 

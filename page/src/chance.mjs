@@ -144,6 +144,7 @@ export class Proportions {
       this.generator = this.driver;
       this.words.begin();
     }
-    if (event.name === 'fetch') this.generator += word === undefined ? 0.5 : this.words.of(word) + 0.5;
+    if (event.name === 'fetch') this.generator += word === undefined ? 0.5
+      : this.words.of(word) + 0.5;
   }
 }

@@ -27,7 +27,9 @@ export function plainDraft(text) {
       else if (numberOf.has(name)) refuse(k + 1, `'${name}' is given twice`);
       else numberOf.set(name, lineOf.length);
     }
-    if (parts[0] === 'map' || parts[0] === 'rom') refuse(k + 1, 'a line of the ROM, which has its own editor,');
+    if (parts[0] === 'map' || parts[0] === 'rom') {
+      refuse(k + 1, 'a line of the ROM, which has its own editor,');
+    }
     if (parts.length > 0) lineOf.push(k + 1);
     return parts;
   });
@@ -77,7 +79,8 @@ export function romOf(text) {
 export function splitRom(text) {
   const lines = text.split('\n');
   const last = lines.findLastIndex((line) => /^\s*(map|rom)\s/.test(line));
-  return { rom: lines.slice(0, last + 1).join('\n'), draft: lines.slice(last + 1).join('\n').trimStart() };
+  const [rom, draft] = [lines.slice(0, last + 1), lines.slice(last + 1)];
+  return { rom: rom.join('\n'), draft: draft.join('\n').trimStart() };
 }
 
 const FAULTS = ['', 'empty', 'no labs', 'too long', 'target', 'runs off', 'out of rom', 'too deep',
@@ -99,7 +102,8 @@ export function hex(number, digits) {
 
 /* The line of a draft that what `dvg check` says is about: of an operation, or of a syntax. */
 export function lineAtFault(said, plain, romLines) {
-  const place = /^fault [0-9] .*?(?:op )?([0-9]+)$/.exec(said), line = /at line ([0-9]+)$/.exec(said);
+  const place = /^fault [0-9] .*?(?:op )?([0-9]+)$/.exec(said);
+  const line = /at line ([0-9]+)$/.exec(said);
   if (line) return Number(line[1]) - romLines;
   if (/^fault [1-2] /.test(said)) return plain.lineOf[0] ?? 1;
   return place && !said.includes('word') ? plain.lineOf[Number(place[1])] ?? null : null;

@@ -16,7 +16,8 @@ class Editor {
     this.said = make('div', { className: 'said', id: `said${place.id}` });
     this.said.setAttribute('role', 'status');
     this.text.setAttribute('aria-describedby', this.said.id);
-    this.row = make('div', { className: 'row' }, make('label', { htmlFor: this.text.id, textContent: title }));
+    this.row = make('div', { className: 'row' },
+      make('label', { htmlFor: this.text.id, textContent: title }));
     place.append(this.row, this.numbers, this.text, this.said);
     this.text.addEventListener('input', changed);
     this.text.addEventListener('scroll', () => { this.numbers.scrollTop = this.text.scrollTop; });
@@ -26,7 +27,8 @@ class Editor {
   set value(text) { this.text.value = text; }
 
   addPicks(label, names, picked) {
-    const select = make('select', { id: `pick${this.text.id.slice(4)}` }, make('option', { value: '', textContent: label }));
+    const select = make('select', { id: `pick${this.text.id.slice(4)}` },
+      make('option', { value: '', textContent: label }));
     select.setAttribute('aria-label', `${label} into this editor`);
     for (const name of names) select.append(make('option', { value: name, textContent: name }));
     select.addEventListener('change', () => {

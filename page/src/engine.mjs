@@ -6,13 +6,14 @@ export const OPTION = 8;
 
 /* The requests, and the kinds of answers, that the page uses, as include/dvg.h has them. */
 const REQUEST = {
-  OFFER: 0, REDRAW: 1, TICK: 2, STROBE: 3, FETCH: 4, RESET_GENERATOR: 5, RESET_PROCESSOR: 6, PUSH: 8,
-  CLEAR: 9, STAGE: 10, UNSTAGE: 11, OPEN_DRIVER: 13, OPEN_GENERATOR: 14, WANTS: 16, STROKES: 17,
-  STROKE_FROM: 18, STROKE_TO: 19, STROKE_INTENSITY: 20,
+  OFFER: 0, REDRAW: 1, TICK: 2, STROBE: 3, FETCH: 4, RESET_GENERATOR: 5, RESET_PROCESSOR: 6,
+  PUSH: 8, CLEAR: 9, STAGE: 10, UNSTAGE: 11, OPEN_DRIVER: 13, OPEN_GENERATOR: 14, WANTS: 16,
+  STROKES: 17, STROKE_FROM: 18, STROKE_TO: 19, STROKE_INTENSITY: 20,
 };
 export const KIND = {
-  OFFERED: 0, REFUSED: 1, BUSY: 2, ASKED: 3, NOTHING_PUBLISHED: 4, PEEK: 5, WROTE: 6, READ: 7, SENT: 8,
-  IDLE: 9, STARTED: 10, LOW: 12, FETCHED: 13, DONE: 14, BROKE: 15, STILL: 16, OPENED: 22, WANTED: 25,
+  OFFERED: 0, REFUSED: 1, BUSY: 2, ASKED: 3, NOTHING_PUBLISHED: 4, PEEK: 5, WROTE: 6, READ: 7,
+  SENT: 8, IDLE: 9, STARTED: 10, LOW: 12, FETCHED: 13, DONE: 14, BROKE: 15, STILL: 16,
+  OPENED: 22, WANTED: 25,
 };
 
 /* The operations by the numbers of DVG_REQUEST_PUSH. */
@@ -41,7 +42,8 @@ export class Engine {
 
   written(onError) {
     const at = this.wasm.dvg_written(onError);
-    return new Uint8Array(this.wasm.memory.buffer, at, this.wasm.dvg_written_length(onError)).slice();
+    return new Uint8Array(this.wasm.memory.buffer, at,
+      this.wasm.dvg_written_length(onError)).slice();
   }
 
   /* The same, as texts. */
@@ -122,7 +124,7 @@ export class Device {
   fetchHole() { return this.ask(REQUEST.FETCH, 1); }
   resetGenerator() { return this.ask(REQUEST.RESET_GENERATOR); }
 
-  /* The strokes of the newest finished run: each x0, y0, x1, y1 in 1/512 of a screen unit, and z. */
+  /* The strokes of the newest finished run: each x0, y0, x1, y1, in 1/512 of a unit, and z. */
   strokes() {
     const all = [];
     const count = Number(this.turn(BigInt(REQUEST.STROKES)));

@@ -3,6 +3,11 @@
 const DUMP_BYTES = [4096, 6144];
 const ROM_BYTES = 2048;
 
+const ENTRY = /^(started$|low |fetched |halted$|reset$|wrote )/;
+const EVENT = /^(offer|redraw|tick|strobe|fetch|resetgen|resetcpu|resetall)( |$)/;
+const OPERATION_OR_NAME =
+  /^([A-Za-z_]\w*:|(labs|vctr|svec|call|jump|callrom|jumprom|return|halt)( |$))/;
+
 /* A dump or a ROM by its length, and a text by its first line that says anything. A file of 4,096
  * bytes is a dump, as the larger ROM has its own button. */
 export function kindOf(bytes) {
@@ -13,8 +18,8 @@ export function kindOf(bytes) {
   const lines = new TextDecoder().decode(bytes).split('\n').map((line) => line.trim());
   const words = lines.filter((line) => line !== '' && !/^(#|map |rom )/.test(line));
   const first = words[0] ?? '';
-  if (/^(started$|low |fetched |halted$|reset$|wrote )/.test(first)) return 'log';
-  if (/^(offer|redraw|tick|strobe|fetch|resetgen|resetcpu|resetall)( |$)/.test(first)) return 'trace';
-  if (/^([A-Za-z_]\w*:|(labs|vctr|svec|call|jump|callrom|jumprom|return|halt)( |$))/.test(first)) return 'draft';
+  if (ENTRY.test(first)) return 'log';
+  if (EVENT.test(first)) return 'trace';
+  if (OPERATION_OR_NAME.test(first)) return 'draft';
   return lines.some((line) => /^(map|rom) /.test(line)) && first === '' ? 'romtext' : 'unknown';
 }

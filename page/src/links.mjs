@@ -11,7 +11,8 @@ export function plainFragment(state) {
 
 /* The same, deflated. */
 export async function fragmentOf(state) {
-  const bytes = await through(new TextEncoder().encode(plainFragment(state).slice(1)), new CompressionStream('deflate-raw'));
+  const bytes = await through(new TextEncoder().encode(plainFragment(state).slice(1)),
+    new CompressionStream('deflate-raw'));
   let text = '';
   for (const byte of bytes) text += String.fromCharCode(byte);
   return `#z=${btoa(text).replace(/\+/g, '-').replace(/\//g, '_').replace(/=+$/, '')}`;

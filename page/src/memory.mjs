@@ -41,8 +41,11 @@ export class Memory {
   wordAt(px, py) {
     const { across, cell, tall, halves } = this.layout;
     for (const half of [0, 1]) {
-      const column = Math.floor((px - halves[half].x) / cell), row = Math.floor((py - halves[half].y) / tall);
-      if (column >= 0 && column < across && row >= 0 && row < 512 / across) return 512 * half + row * across + column;
+      const column = Math.floor((px - halves[half].x) / cell);
+      const row = Math.floor((py - halves[half].y) / tall);
+      if (column >= 0 && column < across && row >= 0 && row < 512 / across) {
+        return 512 * half + row * across + column;
+      }
     }
     return null;
   }
@@ -62,12 +65,13 @@ export class Memory {
     const { layout } = this;
     this.drawCells(moment, marks, colors, layout);
     this.drawFrame(moment.run?.beam, colors.good, 2, layout);
-    this.drawFrame(moment.written === null ? null : moment.written.address >> 1, colors.ink, 2, layout);
+    const written = moment.written === null ? null : moment.written.address >> 1;
+    this.drawFrame(written, colors.ink, 2, layout);
     this.drawFrame(this.chosen, colors.dim, 2, layout);
     this.drawTexts(moment, colors, layout);
   }
 
-  /* The cells are a small image, a pixel a word, which is drawn enlarged, and then parted by lines. */
+  /* The cells are a small image, a pixel a word, that is drawn enlarged and parted by lines. */
   drawCells(moment, marks, colors, layout) {
     const { context } = this, { across, cell, tall, halves } = layout;
     const rows = 512 / across;
@@ -78,9 +82,10 @@ export class Memory {
     for (let word = 0; word < RAM_WORDS; word++) {
       const filled = moment.ram[2 * word] !== 0 || moment.ram[2 * word + 1] !== 0;
       let color = paint.areas[areaOf(word)][filled ? 1 : 0];
+      const [written, fetched] = [marks.written[word], marks.fetched[word]];
       if (marks.torn.has(word)) color = paint.torn;
-      else if (marks.written[word] > 0) color = mix(color, paint.ink, 0.8 * marks.written[word] ** 3);
-      if (marks.fetched[word] > 0) color = mix(color, paint.good, 0.8 * marks.fetched[word] ** 3);
+      else if (written > 0) color = mix(color, paint.ink, strength(written));
+      if (fetched > 0) color = mix(color, paint.good, strength(fetched));
       pixels.data.set(color, 4 * word);
     }
     small.putImageData(pixels, 0, 0);
@@ -97,8 +102,10 @@ export class Memory {
   paints(colors) {
     if (this.painted !== colors) {
       const field = numbersOf(colors.field);
-      const areas = colors.areas.map((color) => [0.14, 0.6].map((part) => mix(field, numbersOf(color), part)));
-      this.paint = { areas, torn: numbersOf(colors.torn), ink: numbersOf(colors.ink), good: numbersOf(colors.good) };
+      const areas =
+        colors.areas.map((color) => [0.14, 0.6].map((part) => mix(field, numbersOf(color), part)));
+      this.paint = { areas, torn: numbersOf(colors.torn), ink: numbersOf(colors.ink),
+        good: numbersOf(colors.good) };
       this.painted = colors;
     }
     return this.paint;
@@ -130,6 +137,11 @@ export class Memory {
 /* A colour #rrggbb as four numbers. */
 function numbersOf(color) {
   return [1, 3, 5].map((at) => parseInt(color.slice(at, at + 2), 16)).concat(255);
+}
+
+/* How strong the mark of a word is, by how recent it is. */
+function strength(recent) {
+  return 0.8 * recent ** 3;
 }
 
 function mix(one, other, part) {

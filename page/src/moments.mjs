@@ -6,12 +6,13 @@ export const RECENT = 240;
 
 const HALT_WORD = 0xB000;
 
-/* The moment after `at` events: the RAM, the byte last written, the open run, the newest picture. */
+/* The moment after `at` events: the RAM, the byte last written, the open run, the picture. */
 export function momentOf(board, at) {
   const last = at > 0 ? board.entries[at - 1] : null;
   const picture = last === null || last.picture < 0 ? null
     : board.pictures.find((one) => one.at === last.picture);
-  return { at, last, ram: ramAt(board, at), written: lastWritten(board, at), run: runAt(board, at), picture };
+  return { at, last, ram: ramAt(board, at), written: lastWritten(board, at), run: runAt(board, at),
+    picture };
 }
 
 function ramAt(board, at) {

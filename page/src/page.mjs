@@ -51,7 +51,8 @@ function forgetLater() {
   setRunning(false);
   const { entries, wires } = board, end = at;
   beginAnew(false);
-  const setWires = (now) => wires.filter((wire) => wire.at === now).forEach(({ cut }) => board.setWire(cut));
+  const setWires = (now) => wires.filter((wire) => wire.at === now)
+    .forEach(({ cut }) => board.setWire(cut));
   for (let k = 0; k < end; k++) {
     setWires(k);
     happen(entries[k].event);
@@ -104,7 +105,8 @@ function scheduleNow() {
   const how = byId('how').value, seed = clamp(byId('seed').value, 0, 4294967295);
   const key = `${how} ${seed}`;
   if (schedule?.key !== key) {
-    const made = how === 'board' ? new Proportions(seed, draftsNow) : new Chance(seed, draftsNow, how === 'resets');
+    const made = how === 'board' ? new Proportions(seed, draftsNow)
+      : new Chance(seed, draftsNow, how === 'resets');
     schedule = { key, made, left: 0 };
   }
   return schedule;
@@ -177,7 +179,8 @@ function compare() {
   const got = engine.run(COMMAND.play + OPTION, traceOf(board));
   const here = board.log(events).split('\n'), there = got.output.split('\n');
   const differs = here.slice(0, -1).findIndex((line, k) => line !== there[k]);
-  const same = got.status === 0 && differs < 0 && (events < board.length || here.length === there.length);
+  const same = got.status === 0 && differs < 0
+    && (events < board.length || here.length === there.length);
   const cut = events < board.length ? ' up to the cut wire, which no trace has' : '';
   byId('compared').className = same ? 'good' : 'bad';
   byId('compared').textContent = same
@@ -189,7 +192,8 @@ function compare() {
 function drawingOf(draft) {
   const key = board.rom.text + draft;
   if (!drawings.has(key)) {
-    const trace = `${board.rom.text}tick 2\noffer\n${draft}\nend\ntick 1100\nstrobe\nfetch 9999\nfetch 9999\n`;
+    const trace =
+      `${board.rom.text}tick 2\noffer\n${draft}\nend\ntick 1100\nstrobe\nfetch 9999\nfetch 9999\n`;
     drawings.set(key, engine.run(COMMAND.play, trace).output.split('\n').slice(1, -1).join('\n'));
   }
   return drawings.get(key);
@@ -201,7 +205,8 @@ function nameOf(picture) {
   for (const [draft, event] of board.drafts) {
     if (event > picture.at || drawingOf(draft) !== drawn) continue;
     if (draft === editorA.lines.join('\n')) return 'frame A';
-    return draft === editorB.lines.join('\n') ? 'frame B' : `the frame first offered in event ${event}`;
+    return draft === editorB.lines.join('\n') ? 'frame B'
+      : `the frame first offered in event ${event}`;
   }
   return 'no frame that was offered';
 }
@@ -218,8 +223,8 @@ function readColors() {
   areas[AREA.ROM] = of('rom');
   areas[AREA.NONE] = of('none');
   colors = {
-    areas, ink: of('ink'), dim: of('dim'), field: of('field'), torn: of('torn'), tornGlow: of('torn-glow'),
-    good: of('good'), shade: of('shade'),
+    areas, ink: of('ink'), dim: of('dim'), field: of('field'), torn: of('torn'),
+    tornGlow: of('torn-glow'), good: of('good'), shade: of('shade'),
   };
 }
 
@@ -263,7 +268,8 @@ function showScreen({ picture, run: open }) {
     return;
   }
   if (picture !== null) picture.id ??= performance.now();
-  screen.draw(picture, open === null ? null : { id: `${board.id} ${open.from}`, strokes: drawer.strokesOf(open) });
+  const id = `${board.id} ${open?.from}`;
+  screen.draw(picture, open === null ? null : { id, strokes: drawer.strokesOf(open) });
 }
 
 function showPictureText({ picture, run: open }) {
@@ -287,7 +293,8 @@ function showLog() {
   for (let k = from; k < to; k++) {
     const { torn, text } = board.entries[k], line = lines.children[k - from];
     line.textContent = `${k} ${text}${torn ? '   torn' : ''}`;
-    line.className = [k === at - 1 && 'now', k >= at && 'later', torn && 'bad'].filter(Boolean).join(' ');
+    const names = [k === at - 1 && 'now', k >= at && 'later', torn && 'bad'];
+    line.className = names.filter(Boolean).join(' ');
   }
 }
 
@@ -296,20 +303,24 @@ function showWord(moment) {
   const word = memory.chosen, marks = [];
   if (moment.run?.beam === word) marks.push('under the beam');
   if (moment.written !== null && moment.written.address >> 1 === word) {
-    marks.push(`its ${moment.written.address % 2 ? 'high' : 'low'} byte was written last, in event ${moment.written.event}`);
+    const which = moment.written.address % 2 ? 'high' : 'low';
+    marks.push(`its ${which} byte was written last, in event ${moment.written.event}`);
   }
-  byId('word-text').textContent = wordText(engine, moment.ram, word, areaOf(word), marks.map((mark) => `; ${mark}`).join(''));
+  byId('word-text').textContent = wordText(engine, moment.ram, word, areaOf(word),
+    marks.map((mark) => `; ${mark}`).join(''));
 }
 
 const MOST_TORN_SHOWN = 12;
 
 /* The torn pictures, the newest last, each with what it is. */
 function showTorn() {
-  const torn = board.pictures.map((picture, k) => ({ picture, number: k + 1 })).filter(({ picture }) => picture.tears > 0);
+  const torn = board.pictures.map((picture, k) => ({ picture, number: k + 1 }))
+    .filter(({ picture }) => picture.tears > 0);
   byId('torn-pictures').hidden = torn.length === 0;
   byId('torn-list').replaceChildren(...torn.slice(-MOST_TORN_SHOWN).map(({ picture, number }) => {
     const item = document.createElement('li'), button = document.createElement('button');
-    button.textContent = `picture ${number}, event ${picture.at}: ${counted(picture.tears, 'byte')}, ${nameOf(picture)}`;
+    const bytes = counted(picture.tears, 'byte');
+    button.textContent = `picture ${number}, event ${picture.at}: ${bytes}, ${nameOf(picture)}`;
     button.onclick = () => goTo(picture.at + 1);
     item.append(button);
     return item;
@@ -325,7 +336,8 @@ function showButtons() {
   byId('run').textContent = running ? 'Stop' : 'Run';
   byId('run').disabled = !running && !canRun();
   byId('once').disabled = running || !canRun();
-  for (const [name, editor] of [['A', editorA], ['B', editorB]]) byId(`offer${name}`).disabled = !editor.offerable || board.full;
+  byId('offerA').disabled = !editorA.offerable || board.full;
+  byId('offerB').disabled = !editorB.offerable || board.full;
   for (const button of document.querySelectorAll('[data-event]')) button.disabled = board.full;
   byId('full').hidden = !board.full;
   byId('forget').disabled = running || at === board.length;
@@ -335,7 +347,8 @@ function showFrameTime() {
   const times = frameTimes.splice(0).sort((a, b) => a - b);
   if (times.length < 5) return;
   const of = (part) => times[Math.floor(part * (times.length - 1))].toFixed(1);
-  byId('frame-time').textContent = `${of(0.5)} ms at the median, and ${of(0.95)} ms or less in 19 of 20 frames`;
+  byId('frame-time').textContent =
+    `${of(0.5)} ms at the median, and ${of(0.95)} ms or less in 19 of 20 frames`;
 }
 
 function goTo(moment) {
@@ -350,7 +363,8 @@ function goTo(moment) {
 
 function stateNow() {
   return {
-    lesson: lesson || undefined, a: editorA.value, b: editorB.value, rom: editorR.value, trace: traceOf(board), at,
+    lesson: lesson || undefined, a: editorA.value, b: editorB.value, rom: editorR.value,
+    trace: traceOf(board), at,
     seed: byId('seed').value, count: byId('count').value, how: byId('how').value,
     scale: rows.scale.toFixed(4), first: rows.first.toFixed(1),
   };
@@ -380,13 +394,15 @@ function loadState(state) {
   if (board !== undefined) setRunning(false);
   dump = null;
   byId('file').hidden = true;
-  for (const id of ['seed', 'count', 'how']) if (state[id] !== undefined) byId(id).value = state[id];
+  for (const id of ['seed', 'count', 'how']) byId(id).value = state[id] ?? byId(id).value;
   editorA.value = exampleOr(state.a ?? FIRST.a);
   editorB.value = exampleOr(state.b ?? FIRST.b);
   setRom(state.rom ?? '');
   loadTrace(state.trace ?? '');
   rows.showAll(board.length);
-  if (state.scale !== undefined) Object.assign(rows, { scale: Number(state.scale) || 4, first: Number(state.first) || 0 });
+  if (state.scale !== undefined) {
+    Object.assign(rows, { scale: Number(state.scale) || 4, first: Number(state.first) || 0 });
+  }
   if (state.at !== undefined) moveTo(clamp(state.at, 0, MOST_EVENTS));
   showLesson(clamp(state.lesson ?? 0, 0, LESSONS.length));
   changed();
@@ -412,7 +428,9 @@ function setRom(text) {
   editorR.value = text;
   const good = editorR.check(engine);
   const { bytes } = editorR.rom;
-  byId('rom-said').textContent = `${bytes.length} bytes${text === '' ? ', each word an RTSL' : ''}${good ? '' : ', with a fault, so not used'}`;
+  const none = text === '' ? ', each word an RTSL' : '';
+  const bad = good ? '' : ', with a fault, so not used';
+  byId('rom-said').textContent = `${bytes.length} bytes${none}${bad}`;
   checkDrafts();
 }
 
@@ -427,7 +445,8 @@ async function makeLink() {
   byId('link-text').hidden = false;
   byId('link-text').value = location.href;
   byId('link-text').select();
-  tell(`The link holds ${counted(board.length, 'event')} in ${fragment.length} characters. It stands in the address, too.`);
+  const held = `${counted(board.length, 'event')} in ${fragment.length} characters`;
+  tell(`The link holds ${held}. It stands in the address, too.`);
   await navigator.clipboard?.writeText(location.href).catch(() => {});
 }
 
@@ -466,7 +485,8 @@ function showLesson(number) {
   if (number === 0) return;
   const { title, sentences } = LESSONS[number - 1];
   byId('lesson-title').textContent = `${number}. ${title}`;
-  byId('lesson-text').replaceChildren(...sentences.map((sentence) => Object.assign(document.createElement('p'), { textContent: sentence })));
+  byId('lesson-text').replaceChildren(...sentences
+    .map((sentence) => Object.assign(document.createElement('p'), { textContent: sentence })));
 }
 
 /* --- Files --- */
@@ -499,7 +519,8 @@ function openDump(name, bytes) {
   setRunning(false);
   const got = engine.run(COMMAND.picture + OPTION, bytes);
   const lines = got.output.split('\n').filter((line) => line !== '');
-  const strokes = lines.filter((line) => /^[0-9]+( [0-9]+){4}$/.test(line)).map((line) => line.split(' ').map(Number));
+  const strokes = lines.filter((line) => /^[0-9]+( [0-9]+){4}$/.test(line))
+    .map((line) => line.split(' ').map(Number));
   const end = lines.find((line) => /^(picture|broke|endless)/.test(line)) ?? got.error.trim();
   dump = { id: performance.now(), strokes, tears: 0, text: `The dump ${name}: ${end}.` };
   showFile(`The dump ${name}`, `dvg picture: ${end}`, lines.join('\n'));
@@ -513,7 +534,8 @@ function openLog(name, bytes) {
   const torn = /^torn at line ([0-9]+)/.exec(said);
   const lines = new TextDecoder().decode(bytes).split('\n');
   const number = torn ? Number(torn[1]) : 0;
-  const around = lines.slice(Math.max(0, number - 9), number).map((line, k) => `${Math.max(0, number - 9) + k + 1}: ${line}`);
+  const from = Math.max(0, number - 9);
+  const around = lines.slice(from, number).map((line, k) => `${from + k + 1}: ${line}`);
   showFile(`The log ${name}`, `dvg torn: ${said}`, torn ? around.join('\n') : '');
 }
 
@@ -580,7 +602,8 @@ function listenToButtons() {
   on('back', () => goTo(at - 1));
   on('on', () => goTo(at + 1));
   on('picture-back', () => goTo((board.pictures.findLast((one) => one.at + 1 < at)?.at ?? -1) + 1));
-  on('picture-on', () => goTo((board.pictures.find((one) => one.at + 1 > at)?.at ?? board.length) + 1));
+  on('picture-on',
+    () => goTo((board.pictures.find((one) => one.at + 1 > at)?.at ?? board.length) + 1));
   on('now', () => goTo(board.length));
   on('forget', forgetLater);
   on('file-close', () => goTo(at));
@@ -588,7 +611,8 @@ function listenToButtons() {
 }
 
 const STEPS = {
-  ArrowLeft: -1, ArrowRight: 1, ArrowDown: -1, ArrowUp: 1, PageUp: -100, PageDown: 100, Home: -Infinity, End: Infinity,
+  ArrowLeft: -1, ArrowRight: 1, ArrowDown: -1, ArrowUp: 1, PageUp: -100, PageDown: 100,
+  Home: -Infinity, End: Infinity,
 };
 
 function listenToRows() {
@@ -605,7 +629,8 @@ function listenToRows() {
   canvas.addEventListener('wheel', (event) => {
     if (!event.ctrlKey && !event.shiftKey) return;
     event.preventDefault();
-    rows.zoom(event.deltaY + event.deltaX < 0 ? 1.25 : 0.8, rows.eventAt(event.offsetX), board.length);
+    rows.zoom(event.deltaY + event.deltaX < 0 ? 1.25 : 0.8, rows.eventAt(event.offsetX),
+      board.length);
     show();
   }, { passive: false });
   listenToDrags(canvas);
@@ -622,7 +647,8 @@ function listenToDrags(canvas) {
     if (from === null) return;
     from.moved ||= Math.abs(event.offsetX - from.x) > 4;
     if (!from.moved) return;
-    rows.first = Math.max(0, Math.min(board.length - 1, from.first - (event.offsetX - from.x) / rows.scale));
+    rows.first =
+      Math.max(0, Math.min(board.length - 1, from.first - (event.offsetX - from.x) / rows.scale));
     show();
   });
   canvas.addEventListener('pointerup', (event) => {
@@ -640,7 +666,8 @@ function listenToMemory() {
     memory.chosen = word;
     show();
   };
-  canvas.addEventListener('pointermove', (event) => choose(memory.wordAt(event.offsetX, event.offsetY) ?? memory.chosen));
+  canvas.addEventListener('pointermove',
+    (event) => choose(memory.wordAt(event.offsetX, event.offsetY) ?? memory.chosen));
   canvas.addEventListener('keydown', (event) => {
     if (!(event.key in MOVES)) return;
     event.preventDefault();
@@ -707,7 +734,9 @@ function makeEditors() {
     beginAnew();
     changed();
   });
-  for (const editor of [editorA, editorB]) editor.addPicks('Example', names, (name) => useDraft(editor, FRAMES[name]));
+  for (const editor of [editorA, editorB]) {
+    editor.addPicks('Example', names, (name) => useDraft(editor, FRAMES[name]));
+  }
 }
 
 async function begin() {

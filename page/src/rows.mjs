@@ -78,7 +78,8 @@ export class Rows {
     columns.forEach((column, row) => {
       this.fillSpans(column, ROW_TOP[row], ROW_HEIGHT, (area) => colors.areas[area]);
     });
-    this.fillSpans(torn, ROW_TOP[0] - 6, ROW_TOP[1] + ROW_HEIGHT + 6 - ROW_TOP[0], () => colors.tornGlow);
+    this.fillSpans(torn, ROW_TOP[0] - 6, ROW_TOP[1] + ROW_HEIGHT + 6 - ROW_TOP[0],
+      () => colors.tornGlow);
     this.fillSpans(torn, ROW_TOP[1], ROW_HEIGHT, () => colors.torn);
   }
 
@@ -101,7 +102,8 @@ export class Rows {
       if (sign === SIGN.NONE || sign === SIGN.TORN) continue;
       const x = (k - this.first) * this.scale;
       if (sign === SIGN.READ_HALTED || sign === SIGN.READ_RUNNING) {
-        if (near) this.bar(x, ROW_TOP[1] + ROW_HEIGHT - 8, 8, sign === SIGN.READ_HALTED ? colors.good : colors.dim);
+        const color = sign === SIGN.READ_HALTED ? colors.good : colors.dim;
+        if (near) this.bar(x, ROW_TOP[1] + ROW_HEIGHT - 8, 8, color);
       } else this.drawSign(sign, x, ROW_TOP[board.rows[k] === ROW.DRIVER ? 1 : 0], colors);
     }
   }
@@ -128,7 +130,10 @@ export class Rows {
       context.fill();
     } else if (sign === SIGN.OFFERED) {
       this.bar(x, top + ROW_HEIGHT + 2, 4, colors.ink);
-    } else this.bar(x, top - 4, ROW_HEIGHT + 4, sign === SIGN.RESET || sign === SIGN.BROKE ? colors.torn : colors.good);
+    } else {
+      const ends = sign === SIGN.RESET || sign === SIGN.BROKE;
+      this.bar(x, top - 4, ROW_HEIGHT + 4, ends ? colors.torn : colors.good);
+    }
   }
 
   drawMoment(board, at, colors) {

@@ -1,5 +1,6 @@
 /* Traces as texts, as `dvg play` reads them. That the HALT wire is cut, or whole again, stands in a
  * remark, which `play` passes over: it has no such wire. */
+import { hex } from './drafts.mjs';
 
 const CUT = '# wire cut', WHOLE = '# wire whole';
 const MOST_TIMES = 9999;
@@ -39,7 +40,7 @@ export function traceOf(board) {
 
 function linesOf({ name, draft, byte }) {
   if (name === 'offer') return ['offer', ...draft, 'end'];
-  return [name === 'resetall' ? `resetall ${byte.toString(16).toUpperCase().padStart(2, '0')}` : name];
+  return [name === 'resetall' ? `resetall ${hex(byte, 2)}` : name];
 }
 
 /* What a trace tells that `play` takes: the text of its ROM, and its steps, of which each is an
@@ -57,8 +58,9 @@ export function stepsOf(text) {
     } else if (draft !== null) draft.push(line);
     else if (name === 'offer') draft = [];
     else if (name === 'map' || name === 'rom') rom.push(line);
-    else if (name === 'resetall') steps.push({ event: { name, byte: parseInt(word, 16) }, times: 1 });
-    else steps.push({ event: { name }, times: Number(word ?? 1) });
+    else if (name === 'resetall') {
+      steps.push({ event: { name, byte: parseInt(word, 16) }, times: 1 });
+    } else steps.push({ event: { name }, times: Number(word ?? 1) });
   }
   return { rom: rom.join('\n'), steps };
 }

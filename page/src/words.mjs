@@ -12,7 +12,8 @@ const HALF_NAME = { [AREA.HALF0]: 'half 0', [AREA.HALF1]: 'half 1' };
 /* A picture's state: `named` says which frame it is. */
 export function pictureText(picture, number, named) {
   if (picture === null) return 'No picture is finished yet.';
-  const begin = `Picture ${number}, finished by event ${picture.at}: ${counted(picture.strokes.length, 'stroke')}`;
+  const strokes = counted(picture.strokes.length, 'stroke');
+  const begin = `Picture ${number}, finished by event ${picture.at}: ${strokes}`;
   if (picture.tears === 0) return `${begin}, whole. It is ${named}.`;
   const bytes = `${counted(picture.tears, 'byte')} ${picture.tears === 1 ? 'was' : 'were'}`;
   return `${begin}, torn: ${bytes} written into its half while it was drawn. It is ${named}.`;
@@ -21,7 +22,8 @@ export function pictureText(picture, number, named) {
 export function runText(run, strokes) {
   if (run === null) return 'The generator is halted.';
   const half = run.half === 0 ? '' : ` from ${HALF_NAME[run.half]}`;
-  return `A run draws${half}: ${counted(run.words.length, 'word')}, ${counted(strokes, 'stroke')} so far.`;
+  const words = counted(run.words.length, 'word');
+  return `A run draws${half}: ${words}, ${counted(strokes, 'stroke')} so far.`;
 }
 
 export function countsText(board) {
@@ -32,7 +34,10 @@ export function countsText(board) {
 }
 
 const AREA_NAME = {
-  [AREA.ZERO]: 'word zero', [AREA.HALF0]: 'half 0', [AREA.HALF1]: 'half 1', [AREA.NONE]: 'neither half',
+  [AREA.ZERO]: 'word zero',
+  [AREA.HALF0]: 'half 0',
+  [AREA.HALF1]: 'half 1',
+  [AREA.NONE]: 'neither half',
 };
 
 /* What stands at a word of the RAM, as `dvg list` lists it. */
@@ -40,7 +45,8 @@ export function wordText(engine, ram, word, area, marks) {
   const bytes = ram.slice(2 * word, 2 * word + 4);
   const listed = engine.run(COMMAND.list, bytes).output.split('\n')[0].replace(/^000 /, '');
   const value = hex(bytes[0] | bytes[1] << 8, 4);
-  return `Word ${hex(word, 3)}, ${AREA_NAME[area]}: ${value}, ${listed || 'the first word of two'}${marks}`;
+  const instruction = listed || 'the first word of two';
+  return `Word ${hex(word, 3)}, ${AREA_NAME[area]}: ${value}, ${instruction}${marks}`;
 }
 
 /* The text of an entry, for the row of moments. */
