@@ -117,6 +117,7 @@ async function testOneByOne() {
     await tab.click(`[data-event="${name}"]`);
   };
   await happen('tick', 2);
+  await set('times', 1);
   await tab.click('offerA');
   await happen('tick', 14);
   await happen('strobe');
@@ -134,8 +135,10 @@ async function testOneByOne() {
     expect(`the entry of ${name}`, text,
       (await tab.value('document.querySelector("#log .now").textContent')).replace(/^[0-9]+ /, ''));
   }
+  await happen('redraw', 3);
+  expect('three at once', /^event 39 /, await tab.text('counts'));
   await tab.click('compare');
-  expect('the log is that of play', 'the same: 36 events, 37 lines', await tab.text('compared'));
+  expect('the log is that of play', 'the same: 39 events, 40 lines', await tab.text('compared'));
 }
 
 async function testSeeds() {
@@ -231,6 +234,14 @@ async function testRunning() {
 }
 
 async function testLessons() {
+  for (const width of [400, 800, 1600]) {
+    await tab.size(width, 900, width === 400);
+    await testLessonsNow();
+  }
+  await tab.size(1600, 1000);
+}
+
+async function testLessonsNow() {
   await tab.open(address);
   for (const [k, { title, sentences, shows }] of LESSONS.entries()) {
     await tab.click(`#lessons li:nth-child(${k + 1}) a`);

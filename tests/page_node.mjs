@@ -9,8 +9,8 @@
 import { spawnSync } from 'node:child_process';
 import { existsSync, readFileSync, readdirSync, writeFileSync } from 'node:fs';
 import { COMMAND, Engine, OPTION } from '../page/src/engine.mjs';
-import { Board } from '../page/src/board.mjs';
-import { plainDraft, operationsOf, romOf, splitRom } from '../page/src/drafts.mjs';
+import { AREA, Board, areaOf, drawnHalf } from '../page/src/board.mjs';
+import { hex, plainDraft, operationsOf, romOf, splitRom } from '../page/src/drafts.mjs';
 import { playSteps, stepsOf, traceOf } from '../page/src/traces.mjs';
 import { Chance, Proportions } from '../page/src/chance.mjs';
 import { Drawer, momentOf } from '../page/src/moments.mjs';
@@ -170,6 +170,31 @@ function testTornPictures(seed, board, torn) {
     torn.some((picture) => !isWhole(picture)));
 }
 
+// Of each word, whether a byte written there tears a picture, and of each word zero, whether the
+// page draws a half, as `torn` has it.
+function testHalves() {
+  const tears = (first, word) => engine.run(COMMAND.torn,
+    `started\nfetched 000 ${hex(first, 4)}\nwrote ${hex(2 * word, 3)} 00\n`).status === 1;
+  for (const [first, half] of [[0xE001, AREA.HALF0], [0xE201, AREA.HALF1]]) {
+    for (let word = 0; word < 1024; word++) {
+      expect(`${hex(first, 4)}, word ${hex(word, 3)}`, tears(first, word), areaOf(word) === half);
+    }
+  }
+  for (let first = 0; first < 0x10000; first += first >> 12 === 0xE ? 1 : 0x95) {
+    const half = drawnHalf(first);
+    expect(`word zero is ${hex(first, 4)}`, `${tears(first, 1)} ${tears(first, 0x201)}`,
+      `${half === AREA.HALF0} ${half === AREA.HALF1}`);
+  }
+}
+
+// More events of a kind than a line of a trace can count.
+function testLongTrace() {
+  const board = new Board(engine, romOf(''));
+  for (let k = 0; k < 25000; k++) board.happen({ name: k < 20000 ? 'tick' : 'fetch' });
+  expect('20,000 ticks: the log', runProgram(['play', '--all'], traceOf(board)), board.log());
+  board.free();
+}
+
 // --- Drafts with names, and ROMs ---
 
 function testDrafts() {
@@ -264,6 +289,7 @@ function testFiles() {
     text(example(name)));
   for (const name of ['tears.log', 'waits.log']) is('log',
     readFileSync(`${top}examples/logs/${name}`));
+  is('log', text('\nlow 000 01\n'));
   is('trace', text('# a trace\nmap 2048\ntick 2\n'));
   is('romtext', text('map 4096\nrom 800 B000\n'));
   is('unknown', text('something else\n'));
@@ -299,6 +325,8 @@ function testMention(title, number, text, board) {
 testCases();
 testSchedules();
 testCutWire();
+testHalves();
+testLongTrace();
 testDrafts();
 testRoms();
 testMoments();

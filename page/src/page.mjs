@@ -24,7 +24,7 @@ const LOG_BEFORE = 12, LOG_AFTER = 4;
 /* While it runs, how often the log is judged, and texts are shown, in milliseconds. */
 const JUDGE_EVERY = 500, TEXTS_EVERY = 100;
 
-let engine, drawer, board, schedule = null, running = false, judgedAt = 0, textsAt = 0;
+let engine, drawer, board, schedule = null, running = false, judgedAt = 0, textsAt = 0, turn = false;
 /* The moment that is shown: how many events have happened by then. */
 let at = 0;
 let dump = null, lesson = 0;
@@ -78,8 +78,7 @@ function draftsNow() {
 }
 
 function offer(editor) {
-  happen({ name: 'offer', draft: editor.lines });
-  changed();
+  happenOften({ name: 'offer', draft: editor.lines });
 }
 
 function eventOf(name) {
@@ -89,9 +88,9 @@ function eventOf(name) {
 }
 
 /* Lets an event happen as often as is asked for. */
-function happenTimes(name) {
-  const times = /^(tick|fetch|strobe)$/.test(name) ? clamp(byId('times').value, 1, 9999) : 1;
-  for (let k = 0; k < times; k++) happen(eventOf(name));
+function happenOften(event) {
+  const times = clamp(byId('times').value, 1, 9999);
+  for (let k = 0; k < times; k++) happen(event);
   changed();
 }
 
@@ -242,8 +241,10 @@ function changed() {
 function show() {
   const moment = momentOf(board, at);
   showScreen(moment);
-  rows.draw(board, at, colors);
-  memory.draw(moment, marksOf(board, at), colors);
+  // While it runs, the rows and the RAM are drawn by turns.
+  turn = !turn;
+  if (!running || turn) rows.draw(board, at, colors);
+  if (!running || !turn) memory.draw(moment, marksOf(board, at), colors);
   const now = performance.now();
   if (running && now - textsAt < TEXTS_EVERY) return;
   textsAt = now;
@@ -584,7 +585,7 @@ function useDraft(editor, text) {
 function listenToButtons() {
   const on = (id, act) => byId(id).addEventListener('click', act);
   for (const button of document.querySelectorAll('[data-event]')) {
-    button.addEventListener('click', () => happenTimes(button.dataset.event));
+    button.addEventListener('click', () => happenOften(eventOf(button.dataset.event)));
   }
   on('offerA', () => offer(editorA));
   on('offerB', () => offer(editorB));
@@ -593,7 +594,7 @@ function listenToButtons() {
   on('once', runAtOnce);
   on('anew', () => { setRunning(false); beginAnew(); changed(); });
   on('compare', compare);
-  on('link', makeLink);
+  on('link', () => makeLink().catch((fault) => tell(`No link: ${fault.message}`, true)));
   on('save-trace', () => save('trace.txt', traceOf(board)));
   on('save-log', () => save('log.txt', board.log()));
   on('zoom-in', () => { rows.zoom(2, at, board.length); show(); });
