@@ -1,7 +1,7 @@
 /* Both rows over time: what the generator fetches, and what the driver does. */
 import { ROW, SIGN } from './board.mjs';
 
-const ROW_TOP = [22, 74], ROW_HEIGHT = 40;
+const ROW_TOP = [32, 86], ROW_HEIGHT = 40;
 const LEAST_SCALE = 1 / 64, MOST_SCALE = 24;
 
 /* The areas, weakest first: of several events in one column the strongest is shown. */
@@ -57,7 +57,7 @@ export class Rows {
     this.drawColumns(board, from, to, colors);
     this.drawSigns(board, from, to, colors);
     this.drawMoment(board, at, colors);
-    this.drawTexts(colors);
+    this.drawTexts(board.length, colors);
   }
 
   /* Each row as spans of one colour. */
@@ -144,13 +144,14 @@ export class Rows {
     this.context.fillRect(x + 0.5, 0, (board.length - at) * this.scale, this.height);
   }
 
-  drawTexts(colors) {
+  drawTexts(length, colors) {
     const { context } = this;
     context.font = '12px system-ui, sans-serif';
     context.fillStyle = colors.dim;
-    context.fillText('the generator fetches', 4, ROW_TOP[0] - 8);
+    context.fillText('the generator fetches', 4, ROW_TOP[0] - 18);
     context.fillText('the driver writes', 4, ROW_TOP[1] + ROW_HEIGHT + 16);
-    const text = `events ${Math.floor(this.first)} to ${Math.floor(this.first + this.span)}`;
+    const last = Math.min(length, Math.floor(this.first + this.span));
+    const text = `events ${Math.floor(this.first)} to ${last}`;
     context.textAlign = 'right';
     context.fillText(text, this.width - 4, ROW_TOP[1] + ROW_HEIGHT + 16);
     context.textAlign = 'left';
