@@ -212,6 +212,8 @@ async function testCutWire() {
     'the same up to the cut wire, which no trace has: 0 events, 0 lines',
     await tab.text('compared'));
   await tab.click('judged-go');
+  const words = await tab.value(REDS.replace("'screen'", "'memory'"));
+  expect('the RAM shows where', true, words.red > 20);
   expect('the first torn byte is shown', /into the half that is being drawn\.$/,
     await tab.text('moment-text'));
   await tab.click('wire');

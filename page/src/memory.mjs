@@ -83,9 +83,9 @@ export class Memory {
       const filled = moment.ram[2 * word] !== 0 || moment.ram[2 * word + 1] !== 0;
       let color = paint.areas[areaOf(word)][filled ? 1 : 0];
       const [written, fetched] = [marks.written[word], marks.fetched[word]];
-      if (marks.torn.has(word)) color = paint.torn;
-      else if (written > 0) color = mix(color, paint.ink, strength(written));
+      if (written > 0) color = mix(color, paint.ink, strength(written));
       if (fetched > 0) color = mix(color, paint.good, strength(fetched));
+      if (marks.torn.has(word)) color = paint.torn;
       pixels.data.set(color, 4 * word);
     }
     small.putImageData(pixels, 0, 0);
