@@ -1,0 +1,40 @@
+// Puts the page together, on standard output: src/page.html with its style, its script, dvg.wasm
+// and examples/frames. The script is the modules of src/, each after those that it imports, without
+// their imports and exports; so no two of them may give one name twice. The content security policy
+// names the style and the script by their digests, and lets nothing else in.
+import { createHash } from 'node:crypto';
+import { readFileSync, readdirSync } from 'node:fs';
+
+const page = new URL('.', import.meta.url).pathname;
+const source = (name) => readFileSync(`${page}src/${name}`, 'utf8');
+const IMPORT = /^import \{[^}]*\} from '\.\/([a-z]+\.mjs)';\n/gm;
+
+// What the page needs beside its sources: dvg.wasm, and the examples.
+function built() {
+  const folder = `${page}../examples/frames/`;
+  const frames = readdirSync(folder).filter((name) => name.endsWith('.draft')).sort()
+    .map((name) => [name.replace('.draft', ''), readFileSync(folder + name, 'utf8')]);
+  const wasm = readFileSync(`${page}dvg.wasm`).toString('base64');
+  return `const FRAMES = ${JSON.stringify(Object.fromEntries(frames))};\nconst WASM = '${wasm}';\n`;
+}
+
+// The modules that a module stands on, and it, each once.
+function collect(name, done) {
+  if (done.has(name)) return;
+  const text = name === 'built.mjs' ? built() : source(name);
+  for (const [, other] of text.matchAll(IMPORT)) collect(other, done);
+  done.set(name, text.replace(IMPORT, '').replace(/^export /gm, '').trim());
+}
+
+function digestOf(text) {
+  return `sha256-${createHash('sha256').update(text).digest('base64')}`;
+}
+
+const modules = new Map();
+collect('page.mjs', modules);
+const script = [...modules.values()].join('\n\n').replace(/<\/script/g, '<\\/script');
+const style = source('page.css');
+process.stdout.write(source('page.html')
+  .replace('<!--SCRIPT HASH-->', () => digestOf(script))
+  .replace('<!--STYLE HASH-->', () => digestOf(style))
+  .replace('<!--STYLE-->', () => style).replace('<!--SCRIPT-->', () => script));

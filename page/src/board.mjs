@@ -1,0 +1,263 @@
+/* The board: a driver alone and a generator alone, with a RAM between them that is the page's. So
+ * the HALT wire can be cut, which nothing in `dvg` can do. Each event has an entry, and the entries
+ * are what `play --all` writes, as long as the wire is whole. */
+import { KIND } from './engine.mjs';
+import { faultText, hex } from './drafts.mjs';
+
+/* The most events, as `play` takes them. */
+export const MOST_EVENTS = 65536;
+
+const RAM_BYTES = 2048;
+/* After so many events a copy of the RAM is kept. */
+export const KEPT_EVERY = 1024;
+
+/* Where a word of the RAM is: half 0 or half 1, word zero, or none of these. And what else a fetch
+ * may find. */
+export const AREA = { HALF0: 1, HALF1: 2, ZERO: 3, ROM: 4, NONE: 5 };
+
+export function areaOf(word) {
+  if (word === 0) return AREA.ZERO;
+  if (word < 0x200) return AREA.HALF0;
+  if (word > 0x200 && word < 0x400) return AREA.HALF1;
+  return word < 0x400 ? AREA.NONE : AREA.ROM;
+}
+
+/* What an entry shows beside its byte. */
+export const SIGN = {
+  NONE: 0, FLIP: 1, START: 2, DONE: 3, TORN_DONE: 4, SENT: 5, READ_HALTED: 6, READ_RUNNING: 7,
+  RESET: 8, BROKE: 9, OFFERED: 10, TORN: 11,
+};
+export const ROW = { GENERATOR: 0, DRIVER: 1, NONE: 2 };
+
+export class Board {
+  constructor(engine, rom, wireCut = false) {
+    this.rom = rom;
+    this.driver = engine.device();
+    this.driver.openDriver(rom.bytes);
+    this.generator = engine.device();
+    this.generator.openGenerator();
+    this.ram = new Uint8Array(RAM_BYTES);
+    this.kept = [this.ram.slice()];
+    this.entries = [];
+    this.rows = new Uint8Array(MOST_EVENTS);
+    this.areas = new Uint8Array(MOST_EVENTS);
+    this.signs = new Uint8Array(MOST_EVENTS);
+    this.told = new LogForTorn();
+    this.wires = [];
+    this.wireCut = false;
+    if (wireCut) this.setWire(true);
+    this.sent = false;
+    this.open = null;
+    this.picture = -1;
+    this.pictures = [];
+    this.tears = 0;
+    this.abandoned = 0;
+    this.drafts = new Map();
+  }
+
+  free() {
+    this.driver.free();
+    this.generator.free();
+  }
+
+  get length() { return this.entries.length; }
+  get full() { return this.length >= MOST_EVENTS; }
+
+  /* From the next event on the driver is told that the generator is always halted, or the truth. */
+  setWire(cut) {
+    if (this.wireCut === cut) return;
+    this.wireCut = cut;
+    if (this.wires.at(-1)?.at === this.length) this.wires.pop();
+    else this.wires.push({ at: this.length, cut });
+  }
+
+  /* One event: its name as a trace has it, the lines of an offered draft, the byte of a reset. */
+  happen(event) {
+    if (this.full) return null;
+    const shown = this[event.name](event);
+    return this.append(event, shown);
+  }
+
+  append(event, { text, row = ROW.NONE, area = 0, sign = SIGN.NONE, ...more }) {
+    const at = this.length;
+    const entry = { event, text, run: this.open?.at ?? -1, picture: this.picture, ...more };
+    this.entries.push(entry);
+    this.rows[at] = row;
+    this.areas[at] = area;
+    this.signs[at] = sign;
+    this.told.add(at, event, text);
+    if (this.length % KEPT_EVERY === 0) this.kept.push(this.ram.slice());
+    return entry;
+  }
+
+  offer({ draft }) {
+    const answer = this.driver.offer(draft);
+    if (answer.kind === KIND.BUSY) return { text: 'busy' };
+    if (answer.kind === KIND.REFUSED) return { text: `refused ${faultText(answer)}` };
+    const key = draft.join('\n');
+    if (!this.drafts.has(key)) this.drafts.set(key, this.length);
+    return { text: 'offered', row: ROW.DRIVER, sign: SIGN.OFFERED };
+  }
+
+  redraw() {
+    const { kind } = this.driver.redraw();
+    if (kind === KIND.ASKED) return { text: 'asked' };
+    return { text: kind === KIND.BUSY ? 'busy' : 'nothing published' };
+  }
+
+  tick() {
+    const halted = this.open === null;
+    const did = this.driver.tick(this.wireCut || halted, this.ram[1]);
+    if (did.kind === KIND.WROTE) return this.write(did.address, did.value);
+    if (did.kind === KIND.SENT) {
+      this.sent = true;
+      return { text: 'sent', row: ROW.DRIVER, sign: SIGN.SENT };
+    }
+    if (did.kind === KIND.READ) {
+      const sign = did.value ? SIGN.READ_HALTED : SIGN.READ_RUNNING;
+      return { text: did.value ? 'read halted' : 'read running', row: ROW.DRIVER, sign };
+    }
+    return { text: did.kind === KIND.PEEK ? 'peek' : 'idle' };
+  }
+
+  write(address, value) {
+    this.ram[address] = value;
+    const area = areaOf(address >> 1);
+    const torn = this.open !== null && this.open.half === area;
+    if (torn) {
+      this.open.tears++;
+      this.tears++;
+    }
+    const flip = address === 1 ? SIGN.FLIP : SIGN.NONE;
+    return {
+      text: `wrote ${hex(address, 3)} ${hex(value, 2)}`,
+      row: ROW.DRIVER, area, sign: torn ? SIGN.TORN : flip, wrote: address, value, torn,
+    };
+  }
+
+  strobe() {
+    if (!this.sent) return { text: 'no strobe' };
+    this.generator.strobe();
+    this.end(true);
+    this.open = { at: this.length, half: 0, words: 0, tears: 0 };
+    return { text: 'started', row: ROW.GENERATOR, sign: SIGN.START };
+  }
+
+  /* Ends the open run, if there is one. */
+  end(abandoned) {
+    if (this.open !== null && abandoned) this.abandoned++;
+    this.open = null;
+  }
+
+  /* The byte that the memory answers with, or null where no memory is. */
+  byteAt(byte) {
+    if (byte < RAM_BYTES) return this.ram[byte];
+    const at = byte - 2 * this.rom.first;
+    return at >= 0 && at < this.rom.bytes.length ? this.rom.bytes[at] : null;
+  }
+
+  fetch() {
+    const want = this.generator.wants();
+    if (want.kind !== KIND.WANTED) return { text: 'still' };
+    const byte = this.byteAt(2 * want.address + want.value);
+    const got = byte === null ? this.generator.fetchHole() : this.generator.fetch(byte);
+    const shown = { row: ROW.GENERATOR, area: areaOf(want.address), fetched: want.address };
+    const place = hex(got.address, 3);
+    if (got.kind === KIND.LOW) return { ...shown, text: `low ${place} ${hex(got.value, 2)}` };
+    if (got.kind === KIND.BROKE) {
+      this.end(false);
+      return { ...shown, text: `broke ${place} ${got.value & 3}`, sign: SIGN.BROKE };
+    }
+    this.open.words++;
+    if (this.open.words === 1) this.open.half = drawnHalf(got.value);
+    shown.word = got.value;
+    if (got.kind === KIND.DONE) return this.finish(place, got.value, shown);
+    return { ...shown, text: `fetched ${place} ${hex(got.value, 4)}` };
+  }
+
+  finish(place, word, shown) {
+    const strokes = this.generator.strokes();
+    const tears = this.open.tears;
+    this.picture = this.length;
+    this.pictures.push({ at: this.length, from: this.open.at, strokes, tears });
+    this.end(false);
+    const text = `done ${place} ${hex(word, 4)} ${strokes.length}`;
+    return { ...shown, text, strokes, tears, sign: tears ? SIGN.TORN_DONE : SIGN.DONE };
+  }
+
+  resetgen() {
+    this.generator.resetGenerator();
+    this.end(true);
+    return { text: 'cleared', row: ROW.GENERATOR, sign: SIGN.RESET };
+  }
+
+  resetcpu() {
+    this.driver.resetProcessor();
+    return { text: 'cleared', row: ROW.DRIVER, sign: SIGN.RESET };
+  }
+
+  resetall({ byte }) {
+    this.generator.resetGenerator();
+    this.driver.resetProcessor();
+    this.end(true);
+    this.sent = false;
+    this.ram.fill(byte);
+    return { text: 'cleared', row: ROW.GENERATOR, sign: SIGN.RESET, filled: byte };
+  }
+
+  /* The lines that `play --all` writes for an entry. */
+  linesOf(at) {
+    const { text, strokes } = this.entries[at];
+    return [`${at} ${text}`, ...(strokes ?? []).map((stroke) => stroke.join(' '))];
+  }
+
+  /* The whole log, as `play --all` writes it; or its first entries. */
+  log(most = this.length) {
+    const lines = [];
+    for (let at = 0; at < most; at++) lines.push(...this.linesOf(at));
+    return lines.map((line) => `${line}\n`).join('');
+  }
+
+  /* How many events happened before the wire was cut. */
+  get beforeCut() {
+    return this.wires.find(({ cut }) => cut)?.at ?? this.length;
+  }
+}
+
+/* The half that a run draws whose word zero is this: a jump to a word of that half, or none. */
+export function drawnHalf(word) {
+  if (word >> 12 !== 0xE) return 0;
+  const area = areaOf(word & 0xFFF);
+  return area === AREA.HALF0 || area === AREA.HALF1 ? area : 0;
+}
+
+/* The log as `dvg torn` reads it, as bytes that grow, and at which event each line stands. */
+class LogForTorn {
+  constructor() {
+    this.bytes = new Uint8Array(1 << 16);
+    this.used = 0;
+    this.eventOf = [];
+  }
+
+  add(at, event, text) {
+    if (/^(started|low|fetched|wrote)/.test(text)) this.line(at, text);
+    else if (text.startsWith('done')) {
+      this.line(at, `fetched ${text.slice(5, 13)}`);
+      this.line(at, 'halted');
+    } else if (text.startsWith('broke')) this.line(at, 'halted');
+    else if (event.name === 'resetgen' || event.name === 'resetall') this.line(at, 'reset');
+  }
+
+  line(at, text) {
+    if (this.used + text.length + 1 > this.bytes.length) {
+      const larger = new Uint8Array(2 * this.bytes.length);
+      larger.set(this.bytes);
+      this.bytes = larger;
+    }
+    for (let k = 0; k < text.length; k++) this.bytes[this.used++] = text.charCodeAt(k);
+    this.bytes[this.used++] = 10;
+    this.eventOf.push(at);
+  }
+
+  get text() { return this.bytes.subarray(0, this.used); }
+}

@@ -1,0 +1,25 @@
+/* Which kind of file was dropped on the page. */
+
+const DUMP_BYTES = [4096, 6144];
+const ROM_BYTES = 2048;
+
+const ENTRY = /^(started$|low |fetched |halted$|reset$|wrote )/;
+const EVENT = /^(offer|redraw|tick|strobe|fetch|resetgen|resetcpu|resetall)( |$)/;
+const OPERATION_OR_NAME =
+  /^([A-Za-z_]\w*:|(labs|vctr|svec|call|jump|callrom|jumprom|return|halt)( |$))/;
+
+/* A dump or a ROM by its length, and a text by its first line that says anything. A file of 4,096
+ * bytes is a dump, as the larger ROM has its own button. */
+export function kindOf(bytes) {
+  if (bytes.includes(0) || bytes.some((byte) => byte > 0x7E)) {
+    if (DUMP_BYTES.includes(bytes.length)) return 'dump';
+    return bytes.length === ROM_BYTES ? 'rom' : 'unknown';
+  }
+  const lines = new TextDecoder().decode(bytes).split('\n').map((line) => line.trim());
+  const words = lines.filter((line) => line !== '' && !/^(#|map |rom )/.test(line));
+  const first = words[0] ?? '';
+  if (ENTRY.test(first)) return 'log';
+  if (EVENT.test(first)) return 'trace';
+  if (OPERATION_OR_NAME.test(first)) return 'draft';
+  return lines.some((line) => /^(map|rom) /.test(line)) && first === '' ? 'romtext' : 'unknown';
+}

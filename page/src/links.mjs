@@ -1,0 +1,47 @@
+/* Links that hold the whole state: its fields as those of a query, in the link's fragment, which no
+ * browser sends anywhere. A long one is deflated. */
+
+const MOST_CHARACTERS = 4000000;
+
+/* The fragment of a state, as it stands. */
+export function plainFragment(state) {
+  const fields = Object.entries(state).filter(([, value]) => value !== '' && value !== undefined);
+  return `#${new URLSearchParams(fields)}`;
+}
+
+/* The same, deflated. */
+export async function fragmentOf(state) {
+  const bytes = await through(new TextEncoder().encode(plainFragment(state).slice(1)),
+    new CompressionStream('deflate-raw'));
+  let text = '';
+  for (const byte of bytes) text += String.fromCharCode(byte);
+  return `#z=${btoa(text).replace(/\+/g, '-').replace(/\//g, '_').replace(/=+$/, '')}`;
+}
+
+/* The state of a fragment; an error where it is none. */
+export async function stateOf(fragment) {
+  const text = fragment.replace(/^#/, '');
+  if (!text.startsWith('z=')) return Object.fromEntries(new URLSearchParams(text));
+  const packed = atob(text.slice(2).replace(/-/g, '+').replace(/_/g, '/'));
+  const bytes = Uint8Array.from(packed, (c) => c.charCodeAt(0));
+  const plain = await through(bytes, new DecompressionStream('deflate-raw'));
+  return Object.fromEntries(new URLSearchParams(new TextDecoder().decode(plain)));
+}
+
+async function through(bytes, transform) {
+  const reader = new Blob([bytes]).stream().pipeThrough(transform).getReader();
+  const parts = [];
+  let length = 0;
+  for (let part; !(part = await reader.read()).done;) {
+    parts.push(part.value);
+    length += part.value.length;
+    if (length > MOST_CHARACTERS) throw new Error('a link that is too long');
+  }
+  const whole = new Uint8Array(length);
+  let at = 0;
+  for (const part of parts) {
+    whole.set(part, at);
+    at += part.length;
+  }
+  return whole;
+}

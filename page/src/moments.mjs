@@ -1,0 +1,105 @@
+/* What a board was like after its first events: all of it follows from the entries. */
+import { KEPT_EVERY, drawnHalf } from './board.mjs';
+
+/* How many events back a byte written or fetched is still marked. */
+export const RECENT = 240;
+
+const HALT_WORD = 0xB000;
+
+/* The moment after `at` events: the RAM, the byte last written, the open run, the picture. */
+export function momentOf(board, at) {
+  const last = at > 0 ? board.entries[at - 1] : null;
+  const picture = last === null || last.picture < 0 ? null
+    : board.pictures.find((one) => one.at === last.picture);
+  return { at, last, ram: ramAt(board, at), written: lastWritten(board, at), run: runAt(board, at),
+    picture };
+}
+
+function ramAt(board, at) {
+  const copy = Math.floor(at / KEPT_EVERY);
+  const ram = board.kept[copy].slice();
+  for (let k = copy * KEPT_EVERY; k < at; k++) {
+    const entry = board.entries[k];
+    if (entry.wrote !== undefined) ram[entry.wrote] = entry.value;
+    if (entry.filled !== undefined) ram.fill(entry.filled);
+  }
+  return ram;
+}
+
+function lastWritten(board, at) {
+  for (let k = at - 1; k >= 0; k--) {
+    const { wrote, value, filled } = board.entries[k];
+    if (filled !== undefined) return null;
+    if (wrote !== undefined) return { address: wrote, value, event: k };
+  }
+  return null;
+}
+
+/* The open run: where it began, its half, its words, and the word under the beam. */
+function runAt(board, at) {
+  const from = at > 0 ? board.entries[at - 1].run : -1;
+  if (from < 0) return null;
+  const run = { from, half: 0, words: [], beam: null, tears: 0 };
+  for (let k = from + 1; k < at; k++) {
+    const { word, fetched, torn } = board.entries[k];
+    if (fetched !== undefined) run.beam = fetched;
+    if (word !== undefined) run.words.push(word);
+    if (torn) run.tears++;
+  }
+  if (run.words.length > 0) run.half = drawnHalf(run.words[0]);
+  return run;
+}
+
+/* How recently each word of the RAM was written and fetched, 1 for just now, and where the open run
+ * was torn, or the picture that has just ended. */
+export function marksOf(board, at) {
+  const written = new Float32Array(1024), fetched = new Float32Array(1024), torn = new Set();
+  for (let k = Math.max(0, at - RECENT); k < at; k++) {
+    const entry = board.entries[k], age = 1 - (at - 1 - k) / RECENT;
+    if (entry.wrote !== undefined) written[entry.wrote >> 1] = age;
+    if (entry.fetched < 1024) fetched[entry.fetched] = age;
+    if (entry.torn) torn.add(entry.wrote >> 1);
+  }
+  return { written, fetched, torn };
+}
+
+/* How many of these words make whole instructions. */
+function wholeWords(words) {
+  let count = 0;
+  while (count < words.length) {
+    const length = words[count] >> 12 <= 0xA ? 2 : 1;
+    if (count + length > words.length) break;
+    count += length;
+  }
+  return count;
+}
+
+/* The strokes of a run so far: another generator is handed its words, and then a HALT. */
+export class Drawer {
+  constructor(engine) {
+    this.generator = engine.device();
+    this.generator.openGenerator();
+    this.key = '';
+  }
+
+  strokesOf(run) {
+    if (run === null) return [];
+    const count = wholeWords(run.words);
+    const key = `${run.from} ${run.words.slice(0, count)}`;
+    if (key !== this.key) {
+      this.key = key;
+      this.strokes = this.draw(run.words.slice(0, count));
+    }
+    return this.strokes;
+  }
+
+  draw(words) {
+    this.generator.resetGenerator();
+    this.generator.strobe();
+    for (const word of [...words, HALT_WORD]) {
+      this.generator.fetch(word & 0xFF);
+      this.generator.fetch(word >> 8);
+    }
+    return this.generator.strokes();
+  }
+}

@@ -1,0 +1,762 @@
+/* The page: what its buttons do, and what it shows. */
+import { COMMAND, Engine, OPTION } from './engine.mjs';
+import { AREA, Board, MOST_EVENTS, areaOf } from './board.mjs';
+import { hex, splitRom } from './drafts.mjs';
+import { playSteps, stepsOf, traceOf } from './traces.mjs';
+import { Drawer, marksOf, momentOf } from './moments.mjs';
+import { Chance, Proportions } from './chance.mjs';
+import { fragmentOf, plainFragment, stateOf } from './links.mjs';
+import { kindOf } from './files.mjs';
+import { LESSONS, stateOfLesson } from './lessons.mjs';
+import { Screen } from './screen.mjs';
+import { Rows } from './rows.mjs';
+import { Memory } from './memory.mjs';
+import { DraftEditor, RomEditor } from './editors.mjs';
+import { counted, countsText, momentText, pictureText, runText, wordText } from './words.mjs';
+import { FRAMES, WASM } from './built.mjs';
+
+const byId = (id) => document.getElementById(id);
+
+/* What a newcomer sees: these frames, after so many events. */
+const FIRST = { a: 'score', b: 'rocks' }, FIRST_EVENTS = 3000;
+
+const LOG_BEFORE = 12, LOG_AFTER = 4;
+/* While it runs, how often the log is judged, and texts are shown, in milliseconds. */
+const JUDGE_EVERY = 500, TEXTS_EVERY = 100;
+
+let engine, drawer, board, schedule = null, running = false, judgedAt = 0, textsAt = 0, turn = false;
+/* The moment that is shown: how many events have happened by then. */
+let at = 0;
+let dump = null, lesson = 0;
+let editorA, editorB, editorR, screen, rows, memory, colors;
+const drawings = new Map(), frameTimes = [];
+
+/* --- Beginning anew --- */
+
+function beginAnew(wireCut = board?.wireCut ?? false) {
+  board?.free();
+  board = new Board(engine, editorR.rom, wireCut);
+  board.id = performance.now();
+  schedule = null;
+  moveTo(0);
+}
+
+function moveTo(moment) {
+  at = Math.min(board.length, Math.max(0, moment));
+  rows.follow(at);
+}
+
+/* Lets the board be as it was at the moment that is shown. */
+function forgetLater() {
+  setRunning(false);
+  const { entries, wires } = board, end = at;
+  beginAnew(false);
+  const setWires = (now) => wires.filter((wire) => wire.at === now)
+    .forEach(({ cut }) => board.setWire(cut));
+  for (let k = 0; k < end; k++) {
+    setWires(k);
+    happen(entries[k].event);
+  }
+  setWires(end);
+  changed();
+}
+
+function setWire(cut) {
+  board.setWire(cut);
+  changed();
+}
+
+/* --- Events --- */
+
+function happen(event) {
+  board.happen(event);
+  at = board.length;
+}
+
+function draftsNow() {
+  return [editorA.lines, editorB.lines];
+}
+
+function offer(editor) {
+  happenOften({ name: 'offer', draft: editor.lines });
+}
+
+function eventOf(name) {
+  if (name !== 'resetall') return { name };
+  const byte = byId('byte').value;
+  return { name, byte: /^[0-9A-Fa-f]{1,2}$/.test(byte) ? parseInt(byte, 16) : 0 };
+}
+
+/* Lets an event happen as often as is asked for. */
+function happenOften(event) {
+  const times = clamp(byId('times').value, 1, 9999);
+  for (let k = 0; k < times; k++) happen(event);
+  changed();
+}
+
+function clamp(text, least, most) {
+  return Math.min(most, Math.max(least, Math.floor(Number(text)) || least));
+}
+
+/* --- Schedules by a seed --- */
+
+function scheduleNow() {
+  const how = byId('how').value, seed = clamp(byId('seed').value, 0, 4294967295);
+  const key = `${how} ${seed}`;
+  if (schedule?.key !== key) {
+    const made = how === 'board' ? new Proportions(seed, draftsNow)
+      : new Chance(seed, draftsNow, how === 'resets');
+    schedule = { key, made, left: 0 };
+  }
+  return schedule;
+}
+
+function canRun() {
+  return editorA.offerable && editorB.offerable && !board.full;
+}
+
+function runSome(count, until = Infinity) {
+  const { made } = scheduleNow();
+  for (let k = 0; k < count && !board.full; k++) {
+    happen(made.next(board));
+    if (k % 32 === 31 && performance.now() > until) return k + 1;
+  }
+  return count;
+}
+
+function runAtOnce() {
+  runSome(clamp(byId('count').value, 1, MOST_EVENTS));
+  changed();
+}
+
+function setRunning(on) {
+  running = on && canRun();
+  if (running) scheduleNow().left = clamp(byId('count').value, 1, MOST_EVENTS);
+  if (running) requestAnimationFrame(animate);
+  changed();
+}
+
+/* A frame of the animation: some events, and all that is shown. */
+function animate() {
+  if (!running) return;
+  const begin = performance.now();
+  const wanted = Math.min(scheduleNow().left, Math.round(2 ** Number(byId('speed').value)));
+  schedule.left -= runSome(wanted, begin + 3);
+  rows.follow(at);
+  if (begin - judgedAt > JUDGE_EVERY) judge();
+  show();
+  frameTimes.push(performance.now() - begin);
+  if (schedule.left <= 0 || board.full) setRunning(false);
+  else requestAnimationFrame(animate);
+}
+
+/* Someone who wants less motion sees where the run leads, and no animation. */
+function run() {
+  if (running) setRunning(false);
+  else if (matchMedia('(prefers-reduced-motion: reduce)').matches) runAtOnce();
+  else setRunning(true);
+}
+
+/* --- Verdicts --- */
+
+/* What `dvg torn` says of the log. */
+function judge() {
+  judgedAt = performance.now();
+  const got = engine.run(COMMAND.torn, board.told.text);
+  const said = got.output.trim();
+  const line = /^torn at line ([0-9]+)/.exec(said);
+  const event = line ? board.told.eventOf[Number(line[1]) - 1] : null;
+  byId('judged').textContent = event === null ? said : `${said} (event ${event})`;
+  byId('judged').className = event === null ? 'good' : 'bad';
+  byId('judged-go').hidden = event === null;
+  byId('judged-go').onclick = () => goTo(event + 1);
+}
+
+/* Compares the whole log with what `play --all` writes for the same events, up to a cut wire. */
+function compare() {
+  const events = board.beforeCut;
+  const got = engine.run(COMMAND.play + OPTION, traceOf(board));
+  const here = board.log(events).split('\n'), there = got.output.split('\n');
+  const differs = here.slice(0, -1).findIndex((line, k) => line !== there[k]);
+  const same = got.status === 0 && differs < 0
+    && (events < board.length || here.length === there.length);
+  const cut = events < board.length ? ' up to the cut wire, which no trace has' : '';
+  byId('compared').className = same ? 'good' : 'bad';
+  byId('compared').textContent = same
+    ? `the same${cut}: ${counted(events, 'event')}, ${counted(here.length - 1, 'line')}`
+    : got.error.trim() || `another log from line ${differs + 1} on`;
+}
+
+/* The strokes that a draft draws by itself, as a text; of the lines of the ROM and the draft. */
+function drawingOf(draft) {
+  const key = board.rom.text + draft;
+  if (!drawings.has(key)) {
+    const trace =
+      `${board.rom.text}tick 2\noffer\n${draft}\nend\ntick 1100\nstrobe\nfetch 9999\nfetch 9999\n`;
+    drawings.set(key, engine.run(COMMAND.play, trace).output.split('\n').slice(1, -1).join('\n'));
+  }
+  return drawings.get(key);
+}
+
+/* Which of the offered frames a picture is. */
+function nameOf(picture) {
+  const drawn = picture.strokes.map((stroke) => stroke.join(' ')).join('\n');
+  for (const [draft, event] of board.drafts) {
+    if (event > picture.at || drawingOf(draft) !== drawn) continue;
+    if (draft === editorA.lines.join('\n')) return 'frame A';
+    return draft === editorB.lines.join('\n') ? 'frame B'
+      : `the frame first offered in event ${event}`;
+  }
+  return 'no frame that was offered';
+}
+
+/* --- What is shown --- */
+
+function readColors() {
+  const style = getComputedStyle(document.documentElement);
+  const of = (name) => style.getPropertyValue(`--${name}`).trim();
+  const areas = [];
+  areas[AREA.HALF0] = of('half0');
+  areas[AREA.HALF1] = of('half1');
+  areas[AREA.ZERO] = of('zero');
+  areas[AREA.ROM] = of('rom');
+  areas[AREA.NONE] = of('none');
+  colors = {
+    areas, ink: of('ink'), dim: of('dim'), field: of('field'), torn: of('torn'),
+    tornGlow: of('torn-glow'), good: of('good'), shade: of('shade'),
+  };
+}
+
+/* After something has happened or was chosen. */
+function changed() {
+  rows.follow(at);
+  judge();
+  byId('compared').textContent = '';
+  showButtons();
+  show();
+  showTorn();
+  showFrameTime();
+}
+
+function show() {
+  const moment = momentOf(board, at);
+  showScreen(moment);
+  // While it runs, the rows and the RAM are drawn by turns.
+  turn = !turn;
+  if (!running || turn) rows.draw(board, at, colors);
+  if (!running || !turn) memory.draw(moment, marksOf(board, at), colors);
+  const now = performance.now();
+  if (running && now - textsAt < TEXTS_EVERY) return;
+  textsAt = now;
+  showTexts(moment);
+}
+
+function showTexts(moment) {
+  showPictureText(moment);
+  if (!running) showWord(moment);
+  showLog();
+  byId('counts').textContent = countsText(board);
+  byId('rows').setAttribute('aria-valuemax', board.length);
+  byId('rows').setAttribute('aria-valuenow', at);
+  if (running) return;
+  byId('moment-text').textContent = momentText(board, at);
+  byId('rows').setAttribute('aria-valuetext', momentText(board, at));
+}
+
+function showScreen({ picture, run: open }) {
+  if (dump !== null) {
+    screen.draw(dump, null);
+    return;
+  }
+  if (picture !== null) picture.id ??= performance.now();
+  const id = `${board.id} ${open?.from}`;
+  screen.draw(picture, open === null ? null : { id, strokes: drawer.strokesOf(open) });
+}
+
+function showPictureText({ picture, run: open }) {
+  const text = byId('picture-text');
+  text.className = dump === null && picture?.tears ? 'bad' : '';
+  if (dump !== null) {
+    text.textContent = dump.text;
+    return;
+  }
+  const number = picture === null ? 0 : board.pictures.indexOf(picture) + 1;
+  const named = picture === null ? '' : nameOf(picture);
+  const run = runText(open, drawer.strokesOf(open).length);
+  text.textContent = `${pictureText(picture, number, named)} ${run}`;
+}
+
+function showLog() {
+  const from = Math.max(0, at - LOG_BEFORE), to = Math.min(board.length, at + LOG_AFTER);
+  const lines = byId('log');
+  while (lines.children.length > to - from) lines.lastChild.remove();
+  while (lines.children.length < to - from) lines.append(document.createElement('span'));
+  for (let k = from; k < to; k++) {
+    const { torn, text } = board.entries[k], line = lines.children[k - from];
+    line.textContent = `${k} ${text}${torn ? '   torn' : ''}`;
+    const names = [k === at - 1 && 'now', k >= at && 'later', torn && 'bad'];
+    line.className = names.filter(Boolean).join(' ');
+  }
+}
+
+function showWord(moment) {
+  if (memory.chosen === null) return;
+  const word = memory.chosen, marks = [];
+  if (moment.run?.beam === word) marks.push('under the beam');
+  if (moment.written !== null && moment.written.address >> 1 === word) {
+    const which = moment.written.address % 2 ? 'high' : 'low';
+    marks.push(`its ${which} byte was written last, in event ${moment.written.event}`);
+  }
+  byId('word-text').textContent = wordText(engine, moment.ram, word, areaOf(word),
+    marks.map((mark) => `; ${mark}`).join(''));
+}
+
+const MOST_TORN_SHOWN = 12;
+
+/* The torn pictures, the newest last, each with what it is. */
+function showTorn() {
+  const torn = board.pictures.map((picture, k) => ({ picture, number: k + 1 }))
+    .filter(({ picture }) => picture.tears > 0);
+  byId('torn-pictures').hidden = torn.length === 0;
+  byId('torn-list').replaceChildren(...torn.slice(-MOST_TORN_SHOWN).map(({ picture, number }) => {
+    const item = document.createElement('li'), button = document.createElement('button');
+    const bytes = counted(picture.tears, 'byte');
+    button.textContent = `picture ${number}, event ${picture.at}: ${bytes}, ${nameOf(picture)}`;
+    button.onclick = () => goTo(picture.at + 1);
+    item.append(button);
+    return item;
+  }));
+}
+
+function showButtons() {
+  const { wireCut } = board;
+  byId('wire').setAttribute('aria-pressed', String(wireCut));
+  byId('wire-text').textContent = wireCut
+    ? 'The wire is cut: the driver is told that the generator is always halted.'
+    : 'The wire is whole: the driver is told whether the generator is halted.';
+  byId('run').textContent = running ? 'Stop' : 'Run';
+  byId('run').disabled = !running && !canRun();
+  byId('once').disabled = running || !canRun();
+  byId('offerA').disabled = !editorA.offerable || board.full;
+  byId('offerB').disabled = !editorB.offerable || board.full;
+  for (const button of document.querySelectorAll('[data-event]')) button.disabled = board.full;
+  byId('full').hidden = !board.full;
+  byId('forget').disabled = running || at === board.length;
+}
+
+function showFrameTime() {
+  const times = frameTimes.splice(0).sort((a, b) => a - b);
+  if (times.length < 5) return;
+  const of = (part) => times[Math.floor(part * (times.length - 1))].toFixed(1);
+  byId('frame-time').textContent =
+    `${of(0.5)} ms at the median, and ${of(0.95)} ms or less in 19 of 20 frames`;
+}
+
+function goTo(moment) {
+  setRunning(false);
+  dump = null;
+  byId('file').hidden = true;
+  moveTo(moment);
+  changed();
+}
+
+/* --- The state as a link --- */
+
+function stateNow() {
+  return {
+    lesson: lesson || undefined, a: editorA.value, b: editorB.value, rom: editorR.value,
+    trace: traceOf(board), at,
+    seed: byId('seed').value, count: byId('count').value, how: byId('how').value,
+    scale: rows.scale.toFixed(4), first: rows.first.toFixed(1),
+  };
+}
+
+function exampleOr(text) {
+  return Object.hasOwn(FRAMES, text) ? FRAMES[text] : text;
+}
+
+async function loadFragment() {
+  try {
+    loadState(location.hash.length > 1 ? await stateOf(location.hash) : FIRST);
+    if (location.hash.length <= 1) showNewcomer();
+  } catch (fault) {
+    tell(`This link holds no state: ${fault.message}`, true);
+    if (board === undefined) loadState(FIRST);
+  }
+}
+
+function showNewcomer() {
+  runSome(FIRST_EVENTS);
+  rows.showAll(board.length);
+  changed();
+}
+
+function loadState(state) {
+  if (board !== undefined) setRunning(false);
+  dump = null;
+  byId('file').hidden = true;
+  for (const id of ['seed', 'count', 'how']) byId(id).value = state[id] ?? byId(id).value;
+  editorA.value = exampleOr(state.a ?? FIRST.a);
+  editorB.value = exampleOr(state.b ?? FIRST.b);
+  setRom(state.rom ?? '');
+  loadTrace(state.trace ?? '');
+  rows.showAll(board.length);
+  if (state.scale !== undefined) {
+    Object.assign(rows, { scale: Number(state.scale) || 4, first: Number(state.first) || 0 });
+  }
+  if (state.at !== undefined) moveTo(clamp(state.at, 0, MOST_EVENTS));
+  showLesson(clamp(state.lesson ?? 0, 0, LESSONS.length));
+  changed();
+}
+
+/* Plays a trace, if `play` takes it, over its ROM. */
+function loadTrace(text) {
+  const got = engine.run(COMMAND.play, text);
+  if (got.error !== '') {
+    tell(`The trace is refused: ${got.error.trim()}`, true);
+    beginAnew(false);
+    return false;
+  }
+  const { rom, steps } = stepsOf(text);
+  if (rom !== '') setRom(rom);
+  beginAnew(false);
+  playSteps(board, steps);
+  moveTo(board.length);
+  return true;
+}
+
+function setRom(text) {
+  editorR.value = text;
+  const good = editorR.check(engine);
+  const { bytes } = editorR.rom;
+  const none = text === '' ? ', each word an RTSL' : '';
+  const bad = good ? '' : ', with a fault, so not used';
+  byId('rom-said').textContent = `${bytes.length} bytes${none}${bad}`;
+  checkDrafts();
+}
+
+function checkDrafts() {
+  editorA.check(engine, editorR.rom);
+  editorB.check(engine, editorR.rom);
+}
+
+async function makeLink() {
+  const fragment = await fragmentOf(stateNow());
+  history.replaceState(null, '', fragment);
+  byId('link-text').hidden = false;
+  byId('link-text').value = location.href;
+  byId('link-text').select();
+  const held = `${counted(board.length, 'event')} in ${fragment.length} characters`;
+  tell(`The link holds ${held}. It stands in the address, too.`);
+  await navigator.clipboard?.writeText(location.href).catch(() => {});
+}
+
+function tell(text, bad = false) {
+  byId('told').textContent = text;
+  byId('told').className = bad ? 'bad' : '';
+}
+
+function save(name, text) {
+  const link = document.createElement('a');
+  link.href = URL.createObjectURL(new Blob([text], { type: 'text/plain' }));
+  link.download = name;
+  link.click();
+  setTimeout(() => URL.revokeObjectURL(link.href), 1000);
+}
+
+/* --- Lessons --- */
+
+function makeLessons() {
+  byId('lessons').replaceChildren(...LESSONS.map(({ title }, k) => {
+    const item = document.createElement('li'), link = document.createElement('a');
+    link.textContent = title;
+    link.href = plainFragment(stateOfLesson(k));
+    item.append(link);
+    return item;
+  }));
+}
+
+function showLesson(number) {
+  lesson = number;
+  byId('lesson').hidden = number === 0;
+  document.querySelectorAll('#lessons a').forEach((link, k) => {
+    if (k + 1 === number) link.setAttribute('aria-current', 'true');
+    else link.removeAttribute('aria-current');
+  });
+  if (number === 0) return;
+  const { title, sentences } = LESSONS[number - 1];
+  byId('lesson-title').textContent = `${number}. ${title}`;
+  byId('lesson-text').replaceChildren(...sentences
+    .map((sentence) => Object.assign(document.createElement('p'), { textContent: sentence })));
+}
+
+/* --- Files --- */
+
+async function openFile(file, kind = null) {
+  const bytes = new Uint8Array(await file.arrayBuffer());
+  const text = () => new TextDecoder().decode(bytes);
+  const open = {
+    dump: () => openDump(file.name, bytes),
+    log: () => openLog(file.name, bytes),
+    rom: () => openRom(file.name, bytes),
+    romtext: () => openRomText(file.name, text()),
+    trace: () => openTrace(file.name, text()),
+    draft: () => openDraft(file.name, text()),
+    unknown: () => tell(`${file.name}: neither a dump, a log, a ROM, a trace nor a draft`, true),
+  };
+  open[kind ?? kindOf(bytes)]();
+}
+
+function showFile(title, text, lines) {
+  byId('file').hidden = false;
+  byId('file-title').textContent = title;
+  byId('file-text').textContent = text;
+  byId('file-lines').textContent = lines;
+  byId('file-lines').hidden = lines === '';
+}
+
+/* Draws a dump, as `dvg picture --all` does. */
+function openDump(name, bytes) {
+  setRunning(false);
+  const got = engine.run(COMMAND.picture + OPTION, bytes);
+  const lines = got.output.split('\n').filter((line) => line !== '');
+  const strokes = lines.filter((line) => /^[0-9]+( [0-9]+){4}$/.test(line))
+    .map((line) => line.split(' ').map(Number));
+  const end = lines.find((line) => /^(picture|broke|endless)/.test(line)) ?? got.error.trim();
+  dump = { id: performance.now(), strokes, tears: 0, text: `The dump ${name}: ${end}.` };
+  showFile(`The dump ${name}`, `dvg picture: ${end}`, lines.join('\n'));
+  changed();
+}
+
+/* Judges a log, as `dvg torn` does, and shows the lines around a torn one. */
+function openLog(name, bytes) {
+  const got = engine.run(COMMAND.torn, bytes);
+  const said = (got.output || got.error).trim();
+  const torn = /^torn at line ([0-9]+)/.exec(said);
+  const lines = new TextDecoder().decode(bytes).split('\n');
+  const number = torn ? Number(torn[1]) : 0;
+  const from = Math.max(0, number - 9);
+  const around = lines.slice(from, number).map((line, k) => `${from + k + 1}: ${line}`);
+  showFile(`The log ${name}`, `dvg torn: ${said}`, torn ? around.join('\n') : '');
+}
+
+function openRom(name, bytes) {
+  const got = engine.run(COMMAND.rom, bytes);
+  if (got.status !== 0) tell(`${name}: ${got.error.trim()}`, true);
+  else openRomText(name, got.output);
+}
+
+function openRomText(name, text) {
+  setRunning(false);
+  setRom(text);
+  beginAnew();
+  byId('rom-details').open = true;
+  tell(`${name}: the ROM was loaded, and the board begins anew.`);
+  changed();
+}
+
+function openTrace(name, text) {
+  setRunning(false);
+  if (loadTrace(text)) tell(`${name}: ${counted(board.length, 'event')} happened.`);
+  rows.showAll(board.length);
+  changed();
+}
+
+function openDraft(name, text) {
+  useDraft(editorA, text);
+  tell(`${name}: it stands in editor A.`);
+}
+
+/* Puts a draft into an editor, and the lines of its ROM, if it has some, into theirs. */
+function useDraft(editor, text) {
+  const { rom, draft } = splitRom(text);
+  editor.value = draft;
+  if (rom === '') checkDrafts();
+  else {
+    setRunning(false);
+    setRom(rom);
+    beginAnew();
+  }
+  changed();
+}
+
+/* --- Listening --- */
+
+function listenToButtons() {
+  const on = (id, act) => byId(id).addEventListener('click', act);
+  for (const button of document.querySelectorAll('[data-event]')) {
+    button.addEventListener('click', () => happenOften(eventOf(button.dataset.event)));
+  }
+  on('offerA', () => offer(editorA));
+  on('offerB', () => offer(editorB));
+  on('wire', () => setWire(!board.wireCut));
+  on('run', run);
+  on('once', runAtOnce);
+  on('anew', () => { setRunning(false); beginAnew(); changed(); });
+  on('compare', compare);
+  on('link', () => makeLink().catch((fault) => tell(`No link: ${fault.message}`, true)));
+  on('save-trace', () => save('trace.txt', traceOf(board)));
+  on('save-log', () => save('log.txt', board.log()));
+  on('zoom-in', () => { rows.zoom(2, at, board.length); show(); });
+  on('zoom-out', () => { rows.zoom(0.5, at, board.length); show(); });
+  on('zoom-all', () => { rows.showAll(board.length); show(); });
+  on('back', () => goTo(at - 1));
+  on('on', () => goTo(at + 1));
+  on('picture-back', () => goTo((board.pictures.findLast((one) => one.at + 1 < at)?.at ?? -1) + 1));
+  on('picture-on',
+    () => goTo((board.pictures.find((one) => one.at + 1 > at)?.at ?? board.length) + 1));
+  on('now', () => goTo(board.length));
+  on('forget', forgetLater);
+  on('file-close', () => goTo(at));
+  for (const id of ['seed', 'how']) byId(id).addEventListener('input', () => { schedule = null; });
+}
+
+const STEPS = {
+  ArrowLeft: -1, ArrowRight: 1, ArrowDown: -1, ArrowUp: 1, PageUp: -100, PageDown: 100,
+  Home: -Infinity, End: Infinity,
+};
+
+function listenToRows() {
+  const canvas = byId('rows');
+  canvas.addEventListener('keydown', (event) => {
+    if (event.ctrlKey || event.altKey || event.metaKey) return;
+    if (event.key === '+' || event.key === '-') {
+      rows.zoom(event.key === '+' ? 2 : 0.5, at, board.length);
+      show();
+    } else if (event.key in STEPS) goTo(at + STEPS[event.key] * (event.shiftKey ? 10 : 1));
+    else return;
+    event.preventDefault();
+  });
+  canvas.addEventListener('wheel', (event) => {
+    if (!event.ctrlKey && !event.shiftKey) return;
+    event.preventDefault();
+    rows.zoom(event.deltaY + event.deltaX < 0 ? 1.25 : 0.8, rows.eventAt(event.offsetX),
+      board.length);
+    show();
+  }, { passive: false });
+  listenToDrags(canvas);
+}
+
+/* A drag moves the rows; a click shows the moment after the event there. */
+function listenToDrags(canvas) {
+  let from = null;
+  canvas.addEventListener('pointerdown', (event) => {
+    from = { x: event.offsetX, first: rows.first, moved: false };
+    canvas.setPointerCapture(event.pointerId);
+  });
+  canvas.addEventListener('pointermove', (event) => {
+    if (from === null) return;
+    from.moved ||= Math.abs(event.offsetX - from.x) > 4;
+    if (!from.moved) return;
+    rows.first =
+      Math.max(0, Math.min(board.length - 1, from.first - (event.offsetX - from.x) / rows.scale));
+    show();
+  });
+  canvas.addEventListener('pointerup', (event) => {
+    if (from !== null && !from.moved) goTo(rows.eventAt(event.offsetX) + 1);
+    from = null;
+  });
+  canvas.addEventListener('pointercancel', () => { from = null; });
+}
+
+const MOVES = { ArrowLeft: [-1, 0], ArrowRight: [1, 0], ArrowUp: [0, -1], ArrowDown: [0, 1] };
+
+function listenToMemory() {
+  const canvas = byId('memory');
+  const choose = (word) => {
+    memory.chosen = word;
+    show();
+  };
+  canvas.addEventListener('pointermove',
+    (event) => choose(memory.wordAt(event.offsetX, event.offsetY) ?? memory.chosen));
+  canvas.addEventListener('keydown', (event) => {
+    if (!(event.key in MOVES)) return;
+    event.preventDefault();
+    choose(memory.chosen === null ? 0 : memory.move(memory.chosen, ...MOVES[event.key]));
+  });
+}
+
+function listenToFiles() {
+  const { body } = document;
+  document.addEventListener('dragover', (event) => {
+    event.preventDefault();
+    body.classList.add('dropping');
+  });
+  document.addEventListener('dragleave', (event) => {
+    if (event.relatedTarget === null) body.classList.remove('dropping');
+  });
+  document.addEventListener('drop', (event) => {
+    event.preventDefault();
+    body.classList.remove('dropping');
+    const [file] = event.dataTransfer.files;
+    if (file) openFile(file);
+  });
+  for (const [id, kind] of [['open', null], ['open-rom', 'rom']]) {
+    byId(id).addEventListener('change', (event) => {
+      const [file] = event.target.files;
+      if (file) openFile(file, kind);
+      event.target.value = '';
+    });
+  }
+}
+
+function listenToSizes() {
+  const canvases = [byId('screen'), byId('rows'), byId('memory')];
+  const fit = () => {
+    const ratio = Math.min(2, devicePixelRatio || 1);
+    for (const canvas of canvases) {
+      canvas.width = Math.round(canvas.clientWidth * ratio);
+      canvas.height = Math.round(canvas.clientHeight * ratio);
+    }
+    rows.fit();
+    memory.fit();
+    if (board !== undefined) show();
+  };
+  fit();
+  const observer = new ResizeObserver(fit);
+  for (const canvas of canvases) observer.observe(canvas);
+  matchMedia('(prefers-color-scheme: light)').addEventListener('change', () => {
+    readColors();
+    show();
+  });
+}
+
+function makeEditors() {
+  const names = Object.keys(FRAMES);
+  const edited = () => {
+    checkDrafts();
+    showButtons();
+  };
+  editorA = new DraftEditor(byId('A'), 'Frame A', edited);
+  editorB = new DraftEditor(byId('B'), 'Frame B', edited);
+  editorR = new RomEditor(byId('R'), 'Lines map and rom; a change begins anew', () => {
+    setRunning(false);
+    setRom(editorR.value);
+    beginAnew();
+    changed();
+  });
+  for (const editor of [editorA, editorB]) {
+    editor.addPicks('Example', names, (name) => useDraft(editor, FRAMES[name]));
+  }
+}
+
+async function begin() {
+  engine = await Engine.of(Uint8Array.from(atob(WASM), (c) => c.charCodeAt(0)));
+  drawer = new Drawer(engine);
+  screen = new Screen(byId('screen'));
+  rows = new Rows(byId('rows'));
+  memory = new Memory(byId('memory'));
+  readColors();
+  makeEditors();
+  makeLessons();
+  listenToSizes();
+  listenToButtons();
+  listenToRows();
+  listenToMemory();
+  listenToFiles();
+  addEventListener('hashchange', loadFragment);
+  await loadFragment();
+  document.body.dataset.ready = 'yes';
+}
+
+begin();

@@ -1,0 +1,159 @@
+/* Both rows over time: what the generator fetches, and what the driver does. */
+import { ROW, SIGN } from './board.mjs';
+
+const ROW_TOP = [32, 86], ROW_HEIGHT = 40;
+const LEAST_SCALE = 1 / 64, MOST_SCALE = 24;
+
+/* The areas, weakest first: of several events in one column the strongest is shown. */
+const STRENGTH = [0, 2, 2, 3, 1, 1];
+
+export class Rows {
+  constructor(canvas) {
+    this.canvas = canvas;
+    this.context = canvas.getContext('2d');
+    this.scale = 4;
+    this.first = 0;
+    this.fit();
+  }
+
+  /* The size in pixels of the page, and how many of the canvas each has. */
+  fit() {
+    this.width = this.canvas.clientWidth || 1;
+    this.height = this.canvas.clientHeight;
+    this.ratio = this.canvas.width / this.width;
+  }
+
+  /* How many events are in sight. */
+  get span() { return this.width / this.scale; }
+
+  eventAt(x) { return Math.floor(this.first + x / this.scale); }
+
+  zoom(factor, at, length) {
+    const least = Math.min(LEAST_SCALE, this.width / (length + 2));
+    const scale = Math.min(MOST_SCALE, Math.max(least, this.scale * factor));
+    this.first = Math.max(0, at - (at - this.first) * this.scale / scale);
+    this.scale = scale;
+  }
+
+  showAll(length) {
+    this.scale = Math.min(MOST_SCALE, this.width / (length + 2));
+    this.first = 0;
+  }
+
+  /* Brings a moment into sight. */
+  follow(at) {
+    if (at < this.first || at > this.first + this.span - 2) {
+      this.first = Math.max(0, at - this.span * (at < this.first ? 0.2 : 0.9));
+    }
+  }
+
+  draw(board, at, colors) {
+    const { context } = this;
+    context.setTransform(this.ratio, 0, 0, this.ratio, 0, 0);
+    context.fillStyle = colors.field;
+    context.fillRect(0, 0, this.width, this.height);
+    const from = Math.max(0, Math.floor(this.first));
+    const to = Math.min(board.length, Math.ceil(this.first + this.span) + 1);
+    this.drawColumns(board, from, to, colors);
+    this.drawSigns(board, from, to, colors);
+    this.drawMoment(board, at, colors);
+    this.drawTexts(board.length, colors);
+  }
+
+  /* Each row as spans of one colour. */
+  drawColumns(board, from, to, colors) {
+    const count = Math.ceil(this.width) + 1;
+    const columns = [new Uint8Array(count), new Uint8Array(count)];
+    const torn = new Uint8Array(count);
+    const wide = Math.max(1, Math.floor(this.scale));
+    for (let k = from; k < to; k++) {
+      const area = board.areas[k], row = board.rows[k];
+      if (area === 0 || row === ROW.NONE) continue;
+      const x = Math.floor((k - this.first) * this.scale);
+      for (let dx = Math.max(0, -x); dx < wide && x + dx < count; dx++) {
+        if (STRENGTH[area] > STRENGTH[columns[row][x + dx]]) columns[row][x + dx] = area;
+        if (board.signs[k] === SIGN.TORN) torn[x + dx] = 1;
+      }
+    }
+    columns.forEach((column, row) => {
+      this.fillSpans(column, ROW_TOP[row], ROW_HEIGHT, (area) => colors.areas[area]);
+    });
+    this.fillSpans(torn, ROW_TOP[0] - 6, ROW_TOP[1] + ROW_HEIGHT + 6 - ROW_TOP[0],
+      () => colors.tornGlow);
+    this.fillSpans(torn, ROW_TOP[1], ROW_HEIGHT, () => colors.torn);
+  }
+
+  fillSpans(column, top, height, colorOf) {
+    for (let x = 0; x < column.length;) {
+      let end = x + 1;
+      while (end < column.length && column[end] === column[x]) end++;
+      if (column[x] !== 0) {
+        this.context.fillStyle = colorOf(column[x]);
+        this.context.fillRect(x, top, end - x, height);
+      }
+      x = end;
+    }
+  }
+
+  drawSigns(board, from, to, colors) {
+    const near = this.scale >= 2;
+    for (let k = from; k < to; k++) {
+      const sign = board.signs[k];
+      if (sign === SIGN.NONE || sign === SIGN.TORN) continue;
+      const x = (k - this.first) * this.scale;
+      if (sign === SIGN.READ_HALTED || sign === SIGN.READ_RUNNING) {
+        const color = sign === SIGN.READ_HALTED ? colors.good : colors.dim;
+        if (near) this.bar(x, ROW_TOP[1] + ROW_HEIGHT - 8, 8, color);
+      } else this.drawSign(sign, x, ROW_TOP[board.rows[k] === ROW.DRIVER ? 1 : 0], colors);
+    }
+  }
+
+  bar(x, top, height, color) {
+    this.context.fillStyle = color;
+    this.context.fillRect(x, top, Math.max(1.5, this.scale - 1), height);
+  }
+
+  drawSign(sign, x, top, colors) {
+    const { context } = this;
+    if (sign === SIGN.FLIP) {
+      context.fillStyle = colors.ink;
+      context.beginPath();
+      context.moveTo(x - 5, top - 9);
+      context.lineTo(x + 6, top - 9);
+      context.lineTo(x + 0.5, top);
+      context.fill();
+      context.fillRect(x, top, 1.5, ROW_HEIGHT);
+    } else if (sign === SIGN.DONE || sign === SIGN.TORN_DONE) {
+      context.fillStyle = sign === SIGN.DONE ? colors.good : colors.torn;
+      context.beginPath();
+      context.arc(x + 1, top - 6, 4, 0, 7);
+      context.fill();
+    } else if (sign === SIGN.OFFERED) {
+      this.bar(x, top + ROW_HEIGHT + 2, 4, colors.ink);
+    } else {
+      const ends = sign === SIGN.RESET || sign === SIGN.BROKE;
+      this.bar(x, top - 4, ROW_HEIGHT + 4, ends ? colors.torn : colors.good);
+    }
+  }
+
+  drawMoment(board, at, colors) {
+    const x = (at - this.first) * this.scale;
+    this.context.fillStyle = colors.ink;
+    this.context.fillRect(x - 0.5, 0, 1, this.height);
+    this.context.fillStyle = colors.shade;
+    this.context.fillRect(x + 0.5, 0, (board.length - at) * this.scale, this.height);
+  }
+
+  drawTexts(length, colors) {
+    const { context } = this;
+    context.font = '12px system-ui, sans-serif';
+    context.fillStyle = colors.dim;
+    context.fillText('the generator fetches', 4, ROW_TOP[0] - 18);
+    context.fillText('the driver writes', 4, ROW_TOP[1] + ROW_HEIGHT + 16);
+    const last = Math.min(length, Math.floor(this.first + this.span));
+    const text = `events ${Math.floor(this.first)} to ${last}`;
+    context.textAlign = 'right';
+    context.fillText(text, this.width - 4, ROW_TOP[1] + ROW_HEIGHT + 16);
+    context.textAlign = 'left';
+  }
+}

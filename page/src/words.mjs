@@ -1,0 +1,58 @@
+/* What is shown, in words. */
+import { AREA } from './board.mjs';
+import { COMMAND } from './engine.mjs';
+import { hex } from './drafts.mjs';
+
+export function counted(number, one, many = `${one}s`) {
+  return `${number} ${number === 1 ? one : many}`;
+}
+
+const HALF_NAME = { [AREA.HALF0]: 'half 0', [AREA.HALF1]: 'half 1' };
+
+/* A picture's state: `named` says which frame it is. */
+export function pictureText(picture, number, named) {
+  if (picture === null) return 'No picture is finished yet.';
+  const strokes = counted(picture.strokes.length, 'stroke');
+  const begin = `Picture ${number}, finished by event ${picture.at}: ${strokes}`;
+  if (picture.tears === 0) return `${begin}, whole. It is ${named}.`;
+  const bytes = `${counted(picture.tears, 'byte')} ${picture.tears === 1 ? 'was' : 'were'}`;
+  return `${begin}, torn: ${bytes} written into its half while it was drawn. It is ${named}.`;
+}
+
+export function runText(run, strokes) {
+  if (run === null) return 'The generator is halted.';
+  const half = run.half === 0 ? '' : ` from ${HALF_NAME[run.half]}`;
+  const words = counted(run.words.length, 'word');
+  return `A run draws${half}: ${words}, ${counted(strokes, 'stroke')} so far.`;
+}
+
+export function countsText(board) {
+  return [`event ${board.length}`, counted(board.pictures.length, 'picture'),
+    `${board.pictures.filter(({ tears }) => tears > 0).length} torn`,
+    `${counted(board.tears, 'byte')} written into the half being drawn`,
+    `${counted(board.abandoned, 'run')} abandoned`].join(' · ');
+}
+
+const AREA_NAME = {
+  [AREA.ZERO]: 'word zero',
+  [AREA.HALF0]: 'half 0',
+  [AREA.HALF1]: 'half 1',
+  [AREA.NONE]: 'neither half',
+};
+
+/* What stands at a word of the RAM, as `dvg list` lists it. */
+export function wordText(engine, ram, word, area, marks) {
+  const bytes = ram.slice(2 * word, 2 * word + 4);
+  const listed = engine.run(COMMAND.list, bytes).output.split('\n')[0].replace(/^000 /, '');
+  const value = hex(bytes[0] | bytes[1] << 8, 4);
+  const instruction = listed || 'the first word of two';
+  return `Word ${hex(word, 3)}, ${AREA_NAME[area]}: ${value}, ${instruction}${marks}`;
+}
+
+/* The text of an entry, for the row of moments. */
+export function momentText(board, at) {
+  if (at === 0) return `Before the first of ${counted(board.length, 'event')}.`;
+  const entry = board.entries[at - 1];
+  const torn = entry.torn ? ', into the half that is being drawn' : '';
+  return `Event ${at - 1} of ${board.length}, a ${entry.event.name}: ${entry.text}${torn}.`;
+}

@@ -1,0 +1,105 @@
+//! What a page calls: the device, as `include/dvg.h` has it, and each command of `dvg` over bytes.
+//!
+//! The page owes what C owes: a device comes from `dvg_new`, and is used by one call at a time, and
+//! no more once `dvg_free` got it.
+use dvg_device::Device;
+use dvg_tool::{Job, Watched, finish, perform, status};
+use plain_std::alloc::Global;
+use std::cell::RefCell;
+
+/// What the page hands in, and what the newest command wrote.
+#[derive(Default)]
+struct Texts {
+    input: Vec<u8>,
+    output: Vec<u8>,
+    error: Vec<u8>,
+}
+
+thread_local! {
+    static TEXTS: RefCell<Texts> = RefCell::new(Texts::default());
+}
+
+/// A new device, in which nothing is open.
+#[unsafe(no_mangle)]
+pub extern "C" fn dvg_new() -> *mut Device {
+    Box::into_raw(Box::new(Device::new(Global)))
+}
+
+/// One request, and its answer.
+///
+/// # Safety
+/// The device comes from `dvg_new`, and wasn't freed.
+#[unsafe(no_mangle)]
+pub unsafe extern "C" fn dvg_turn(device: *mut Device, request: u64) -> u64 {
+    unsafe { (*device).turn(request) }
+}
+
+/// Frees a device, with all that it has.
+///
+/// # Safety
+/// The device comes from `dvg_new`, and wasn't freed.
+#[unsafe(no_mangle)]
+pub unsafe extern "C" fn dvg_free(device: *mut Device) {
+    drop(unsafe { Box::from_raw(device) });
+}
+
+/// Makes room for so many bytes of input, and tells where it is.
+#[unsafe(no_mangle)]
+pub extern "C" fn dvg_input(length: usize) -> *mut u8 {
+    TEXTS.with_borrow_mut(|texts| {
+        texts.input = vec![0; length];
+        texts.input.as_mut_ptr()
+    })
+}
+
+/// The command of a number: 0 list, 1 rom, 2 picture, 3 check, 4 play, 5 torn; with 8 more it has
+/// its option, `--all` or `--bound`.
+fn job_of(number: u32) -> Option<Job> {
+    let option = number & 8 != 0;
+    match (number & !8, option) {
+        (0, false) => Some(Job::List),
+        (1, false) => Some(Job::Rom),
+        (2, all) => Some(Job::Picture { all }),
+        (3, bound) => Some(Job::Check { bound }),
+        (4, all) => Some(Job::Play { all, banked: false }),
+        (5, false) => Some(Job::Torn),
+        _ => None,
+    }
+}
+
+/// Runs a command over the input, and tells its exit status; 64 where the number is of none.
+#[unsafe(no_mangle)]
+pub extern "C" fn dvg_run(number: u32) -> u32 {
+    let Some(job) = job_of(number) else {
+        return 64;
+    };
+    TEXTS.with_borrow_mut(|texts| {
+        texts.output.clear();
+        texts.error.clear();
+        let mut reader = Watched::new(texts.input.as_slice());
+        let mut writer = Watched::new(&mut texts.output);
+        let answer = perform(Global, job, &mut reader, &mut writer);
+        let answer = finish(answer, &mut writer);
+        if let Err(fault) = &answer {
+            texts.error = format!("dvg: {fault}\n").into_bytes();
+        }
+        u32::from(status(&answer))
+    })
+}
+
+/// Looks at what the newest command wrote on standard output, or on standard error.
+fn with_written<T>(on_error: u32, look: impl FnOnce(&Vec<u8>) -> T) -> T {
+    TEXTS.with_borrow(|texts| look(if on_error == 0 { &texts.output } else { &texts.error }))
+}
+
+/// Where that is.
+#[unsafe(no_mangle)]
+pub extern "C" fn dvg_written(on_error: u32) -> *const u8 {
+    with_written(on_error, |text| text.as_ptr())
+}
+
+/// How long that is.
+#[unsafe(no_mangle)]
+pub extern "C" fn dvg_written_length(on_error: u32) -> usize {
+    with_written(on_error, |text| text.len())
+}

@@ -1,0 +1,591 @@
+// The page in a Chromium without a screen, as a person would use it: clicks, keys, drops. Called by
+// tests/page:
+//
+//     node tests/page_browser.mjs CHROMIUM DVG FOLDER SEEDS EVENTS
+//
+// FOLDER is for what is thrown away; the screenshots come there, too. The last line is 'N passed, M
+// failed'.
+import { execFileSync, spawnSync } from 'node:child_process';
+import { existsSync, readFileSync, readdirSync, writeFileSync } from 'node:fs';
+import { createServer } from 'node:http';
+import { startChromium } from './page_chromium.mjs';
+import { LESSONS } from '../page/src/lessons.mjs';
+
+const [chromium, program, work] = process.argv.slice(2, 5),
+  [seeds, events] = process.argv.slice(5).map(Number);
+const top = new URL('..', import.meta.url).pathname;
+const file = `${top}page/dvg.html`, address = `file://${file}`;
+let passed = 0, failed = 0;
+
+function expect(what, wanted, found) {
+  const fits = wanted instanceof RegExp ? wanted.test(found) : wanted === found;
+  if (fits) passed++;
+  else {
+    failed++;
+    const [left, right] = [wanted, found].map((one) => String(one).slice(0, 200));
+    console.log(`FAILED: ${what}\n  wanted ${left}\n  found  ${right}`);
+  }
+}
+
+function runProgram(words, input) {
+  return spawnSync(program, words, { input, maxBuffer: 1 << 28 }).stdout.toString();
+}
+
+const browser = await startChromium(chromium);
+let tab = await browser.newTab();
+await browser.send('Browser.setDownloadBehavior',
+  { behavior: 'allow', downloadPath: work, eventsEnabled: false });
+
+// --- What a person does ---
+
+const set = (id, text) => tab.type(id, String(text));
+
+// The texts of all elements that a selector names.
+function textsOf(selector) {
+  return tab.value(`[...document.querySelectorAll('${selector}')].map((one) => one.textContent)`);
+}
+
+// Whether an element comes to have a text, or one with these words.
+function comes(id, text) {
+  return tab.until(`document.getElementById('${id}').textContent === ${JSON.stringify(text)}`);
+}
+function comesWith(id, text) {
+  return tab.until(`document.getElementById('${id}').textContent.includes('${text}')`);
+}
+
+async function runSeed(seed, how = 'chance') {
+  await tab.click('anew');
+  await set('seed', seed);
+  await set('count', events);
+  await tab.choose('how', how);
+  await tab.click('once');
+}
+
+async function saved(name, button) {
+  await tab.click(button);
+  for (let k = 0; k < 400 && !existsSync(`${work}/${name}`); k++) {
+    await new Promise((resolve) => { setTimeout(resolve, 25); });
+  }
+  const text = readFileSync(`${work}/${name}`, 'utf8');
+  execFileSync('rm', [`${work}/${name}`]);
+  return text;
+}
+
+// --- The tests ---
+
+async function testBeginning() {
+  await tab.size(1600, 1000);
+  await tab.open(address);
+  expect('what is proved is said',
+    /runs the erased form of the proved sources, as WebAssembly: it is\s+tested, not proved\./,
+    await tab.value('document.querySelector(".proved").textContent'));
+  expect('a newcomer sees a picture', /^Picture [0-9]+, .* whole\. It is frame [AB]\./,
+    await tab.text('picture-text'));
+  expect('and no torn one', 'not torn', await tab.text('judged'));
+}
+
+async function testTyping() {
+  const marked = () => tab.value('document.querySelector("#A .numbers b")?.textContent ?? "none"');
+  const cases = [
+    ['labs 512 400 0\nvctr 9 -100 100 7\nhalt', 'ok 5 words 6 fetches', 'none'],
+    ['labs 512 400 0\nvctr 9 -100 100\nhalt', 'syntax at line 2', '2'],
+    ['labs 0 0 0\n\ncall 9\nhalt', 'fault 4 target 1, at line 3', '3'],
+    ['labs 0 0 0\nhalt\ncall rock', "unknown name 'rock' at line 3", '3'],
+    ['rock: labs 0 0 0\njump rock # for ever', 'fault 9 loops', 'none'],
+    ['rom 800 B000\nlabs 0 0 0', 'a line of the ROM, which has its own editor, at line 1', '1'],
+    ['', 'fault 1 empty, at line 1', '1'],
+    ['halt', 'fault 2 no labs, at line 1', '1'],
+    ['labs 0 0 0\nreturn', 'fault 8 no caller op 1, at line 2', '2'],
+  ];
+  for (const [text, said, line] of cases) {
+    await set('textA', text);
+    expect(`typed ${JSON.stringify(text)}`, said, await tab.text('saidA'));
+    expect(`the line of ${JSON.stringify(text)}`, line, await marked());
+  }
+  await set('textA', 'labs 512 400 0\nvctr 9 -100 100\nhalt');
+  expect('what spells nothing is not offered', true,
+    await tab.value('document.getElementById("offerA").disabled'));
+  await tab.choose('pickA', 'ship');
+  expect('an example is taken', /^ok /, await tab.text('saidA'));
+}
+
+async function testOneByOne() {
+  await set('textA', 'labs 512 400 0\nvctr 9 -100 100 7\nhalt');
+  await tab.click('anew');
+  const happen = async (name, times = 1) => {
+    await set('times', times);
+    await tab.click(`[data-event="${name}"]`);
+  };
+  await happen('tick', 2);
+  await set('times', 1);
+  await tab.click('offerA');
+  await happen('tick', 14);
+  await happen('strobe');
+  await happen('fetch', 12);
+  expect('the picture',
+    'Picture 1, finished by event 29: 1 stroke, whole. It is frame A. The generator is halted.',
+    await tab.text('picture-text'));
+  expect('the log', /^18 low 000 01.*19 fetched 000 E201.*28 low 205 00.*29 done 205 B000 1$/s,
+    await tab.text('log'));
+  expect('the newest entry', '29 done 205 B000 1',
+    await tab.value('document.querySelector("#log .now").textContent'));
+  for (const [name, text] of [['redraw', 'asked'], ['resetgen', 'cleared'], ['resetcpu', 'cleared'],
+    ['resetall', 'cleared'], ['strobe', 'no strobe'], ['fetch', 'still']]) {
+    await happen(name);
+    expect(`the entry of ${name}`, text,
+      (await tab.value('document.querySelector("#log .now").textContent')).replace(/^[0-9]+ /, ''));
+  }
+  await happen('redraw', 3);
+  expect('three at once', /^event 39 /, await tab.text('counts'));
+  await tab.click('compare');
+  expect('the log is that of play', 'the same: 39 events, 40 lines', await tab.text('compared'));
+}
+
+async function testSeeds() {
+  await tab.choose('pickA', 'score');
+  await tab.choose('pickB', 'rocks');
+  let lines = 0;
+  for (let seed = 1; seed <= seeds; seed++) {
+    await runSeed(seed, ['chance', 'resets', 'board'][seed % 3]);
+    await tab.click('compare');
+    expect(`seed ${seed}: compared with play`,
+      new RegExp(`^the same: ${events} events, [0-9]+ lines$`), await tab.text('compared'));
+    expect(`seed ${seed}: torn`, 'not torn', await tab.text('judged'));
+    const trace = await saved('trace.txt', 'save-trace'), log = await saved('log.txt', 'save-log');
+    expect(`seed ${seed}: each line is that of the program`, true,
+      log === runProgram(['play', '--all'], trace));
+    lines += log.split('\n').length - 1;
+  }
+  const count = `${seeds} seeds of ${events} events, ${lines} lines`;
+  console.log(`browser: ${count}, each that of the program`);
+}
+
+// How many pixels of the picture are red, and how many are bluish.
+const REDS = `(() => {
+  const canvas = document.getElementById('screen'),
+    { data } = canvas.getContext('2d').getImageData(0, 0, canvas.width, canvas.height);
+  let red = 0, blue = 0;
+  for (let k = 0; k < data.length; k += 4) {
+    if (data[k] > 120 && data[k] > 1.5 * data[k + 1]) red++;
+    if (data[k + 2] > 60 && data[k + 2] > 1.1 * data[k]) blue++;
+  }
+  return { red, blue };
+})()`;
+
+async function testCutWire() {
+  await tab.media({ 'color-scheme': 'dark' });
+  await tab.size(1280, 1330);
+  await tab.open(address);
+  await runSeed(1);
+  await tab.click('picture-back');
+  const whole = await tab.value(REDS);
+  expect('a whole picture is not red', true, whole.red === 0 && whole.blue > 100);
+  await tab.click('zoom-all');
+  await tab.value('document.querySelector("main").scrollIntoView()');
+  writeFileSync(`${work}/page_whole.png`, await tab.screenshot());
+  await tab.click('wire');
+  expect('the wire is cut',
+    'true', await tab.value('document.getElementById("wire").getAttribute("aria-pressed")'));
+  expect('that is said', /is cut/, await tab.text('wire-text'));
+  await runSeed(1);
+  expect('torn pictures are counted',
+    /[0-9]+ pictures? · [1-9][0-9]* torn · [1-9][0-9]* bytes? written/, await tab.text('counts'));
+  expect('torn finds it', /^torn at line [0-9]+: wrote [0-9A-F]{3} [0-9A-F]{2} \(event [0-9]+\)$/,
+    await tab.text('judged'));
+  const named =
+    await textsOf('#torn-list button');
+  expect('torn pictures are named', true,
+    named.length > 0
+    && named.every((one) => /^picture [0-9]+, event [0-9]+: [0-9]+ bytes?, /.test(one)));
+  const number = named.findIndex((one) => one.endsWith('no frame that was offered'));
+  expect('one of them is no frame', true, number >= 0);
+  await tab.click(`#torn-list li:nth-child(${number + 1}) button`);
+  expect('it is shown',
+    /torn: [0-9]+ bytes? w[a-z]+ written into its half while .* It is no frame that was offered/,
+    await tab.text('picture-text'));
+  const torn = await tab.value(REDS);
+  expect('a torn picture is red', true, torn.red > 100);
+  await tab.value('document.querySelector("main").scrollIntoView()');
+  writeFileSync(`${work}/page_cut.png`, await tab.screenshot());
+  await tab.click('compare');
+  expect('play has no cut wire',
+    'the same up to the cut wire, which no trace has: 0 events, 0 lines',
+    await tab.text('compared'));
+  await tab.click('judged-go');
+  const words = await tab.value(REDS.replace("'screen'", "'memory'"));
+  expect('the RAM shows where', true, words.red > 20);
+  expect('the first torn byte is shown', /into the half that is being drawn\.$/,
+    await tab.text('moment-text'));
+  await tab.click('wire');
+  expect('the wire is whole again', /is whole/, await tab.text('wire-text'));
+  await tab.media({});
+  await tab.size(1600, 1000);
+}
+
+async function testRunning() {
+  await tab.click('anew');
+  await set('count', 4000);
+  await tab.choose('how', 'chance');
+  await tab.click('run');
+  expect('it runs', 'Stop', await tab.text('run'));
+  expect('it ends',
+    true, await tab.until('document.getElementById("run").textContent === "Run"', 30000));
+  expect('after as many events', /^event 4000 /, await tab.text('counts'));
+  await tab.click('compare');
+  expect('the log is that of play', /^the same: 4000 events/, await tab.text('compared'));
+}
+
+async function testLessons() {
+  for (const width of [400, 800, 1600]) {
+    await tab.size(width, 900, width === 400);
+    await testLessonsNow();
+  }
+  await tab.size(1600, 1000);
+}
+
+async function testLessonsNow() {
+  await tab.open(address);
+  for (const [k, { title, sentences, shows }] of LESSONS.entries()) {
+    await tab.click(`#lessons li:nth-child(${k + 1}) a`);
+    expect(`lesson ${title} opens`, true,
+      await comes('lesson-title', `${k + 1}. ${title}`));
+    expect(`lesson ${title}: its sentences`, sentences.join('|'),
+      (await textsOf('#lesson-text p')).join('|'));
+    expect(`lesson ${title}: its moment`, `${shows}`,
+      (await tab.value('document.querySelector("#log .now").textContent')).replace('   torn', ''));
+    const text = await tab.text('picture-text');
+    if (k === 5) expect('the cut wire tears',
+      /torn: 16 bytes were written into its half while .* It is no frame that was offered/, text);
+    else expect(`lesson ${title}: nothing is torn`, 'not torn', await tab.text('judged'));
+  }
+}
+
+async function testLink() {
+  await tab.open(address);
+  await runSeed(11, 'resets');
+  await tab.click('picture-back');
+  await tab.click('link');
+  expect('a link is told',
+    true, await tab.until('document.getElementById("link-text").value.includes("#z=")'));
+  const link = await tab.value('document.getElementById("link-text").value');
+  const seen =
+    async () =>
+    JSON.stringify([await tab.text('picture-text'), await tab.text('counts'),
+    await tab.text('moment-text'), await tab.text('log')]);
+  const wanted = await seen(), first = tab;
+  tab = await browser.newTab();
+  await tab.size(1600, 1000);
+  await tab.open(link);
+  expect('it holds all of the state', wanted, await seen());
+  await tab.click('compare');
+  expect('and the same log', new RegExp(`^the same: ${events} events`), await tab.text('compared'));
+  await tab.open(`${address}#z=AAAA`);
+  expect('a broken link is told', /holds no state/, await tab.text('told'));
+  await tab.open(`${address}#trace=tick%20x`);
+  expect('a broken trace is told', /syntax at line 1/, await tab.text('told'));
+  expect('the other tab has no fault', '', tab.faults.join());
+  await tab.close();
+  tab = first;
+  await tab.send('Page.bringToFront');
+}
+
+// --- Files ---
+
+function put(name, bytes) {
+  writeFileSync(`${work}/${name}`, bytes);
+  return `${work}/${name}`;
+}
+
+async function testFiles() {
+  await tab.open(address);
+  const dump = new Uint8Array(4096);
+  dump.set([1, 0xE0, 0x90, 0xA1, 0, 2, 0x64, 0x90, 0x64, 0x74, 0, 0xB0]);
+  await tab.drop('screen', put('a.dump', dump));
+  expect('a dump is drawn',
+    true, await comes('file-text', 'dvg picture: picture 6 1'));
+  expect('as the command does', runProgram(['picture', '--all'], dump).trim(),
+    await tab.text('file-lines'));
+  expect('and seen', true, (await tab.value(REDS)).blue > 20);
+  await tab.click('file-close');
+  expect('the board is back', /^Picture /, await tab.text('picture-text'));
+  for (const [name, said] of [['tears.log', /^dvg torn: torn at line/],
+    ['waits.log', /^dvg torn: not torn$/]]) {
+    const log = `${top}examples/logs/${name}`;
+    await tab.drop('textA', log);
+    await tab.until(`document.getElementById('file-title').textContent === 'The log ${name}'`);
+    expect(`${name} is judged`, said, await tab.text('file-text'));
+    expect(`${name}: as the command does`,
+      `dvg torn: ${runProgram(['torn'], readFileSync(log)).trim()}`, await tab.text('file-text'));
+  }
+  const rom = new Uint8Array(2048).fill(0xD0);
+  rom.set([0, 0xB0]);
+  await tab.drop('rows', put('some.rom', rom));
+  expect('a ROM is loaded',
+    true, await comesWith('told', 'some.rom: the ROM'));
+  await set('textA', 'labs 0 0 0\njumprom 800');
+  expect('a draft may use it', 'ok 3 words 5 fetches', await tab.text('saidA'));
+  await tab.drop('screen',
+    put('a.trace',
+    'map 4096\nrom 400 B000\ntick 2\noffer\nlabs 5 5 0\njumprom 400\nend\n'
+      + 'tick 10\nstrobe\nfetch 12\n'));
+  expect('a trace happens',
+    true, await comes('told', 'a.trace: 26 events happened.'));
+  expect('with its larger ROM', /4096 bytes/, await tab.text('rom-said'));
+  await tab.drop('screen', put('a.draft', 'labs 1 2 3 # here\nhalt\n'));
+  expect('a draft is taken',
+    true, await comes('saidA', 'ok 3 words 4 fetches'));
+  await tab.drop('screen', put('other', 'what is this?\n'));
+  expect('another file is told',
+    true, await tab.until('/neither a dump/.test(document.getElementById("told").textContent)'));
+  await tab.choose('pickB', 'rom_shapes');
+  expect('an example with a ROM', /^ok /, await tab.text('saidB'));
+}
+
+// --- Over http, and what leaves the page ---
+
+async function testHttp() {
+  const asked = [];
+  const server = createServer((request, response) => {
+    asked.push(request.url);
+    response.writeHead(200, { 'content-type': 'text/html' });
+    response.end(readFileSync(file));
+  });
+  await new Promise((resolve) => { server.listen(0, '127.0.0.1', resolve); });
+  const before = tab.requests.length;
+  await tab.open(`http://127.0.0.1:${server.address().port}/dvg.html`);
+  await tab.click('once');
+  await tab.click('compare');
+  expect('over http: compared', /^the same/, await tab.text('compared'));
+  const refused = await tab.value('fetch("/other").then(() => "answered", () => "refused")');
+  expect('a request is refused by the policy', 'refused', refused);
+  expect('the server was asked for the page alone', '/dvg.html', asked.join(' '));
+  expect('so says the network',
+    1, tab.requests.slice(before).filter((url) => url.startsWith('http')).length);
+  tab.faults = tab.faults.filter((fault) => !/Content Security Policy|violates/.test(fault));
+  server.close();
+}
+
+// --- Widths, colours, motion, keys, and what is read aloud ---
+
+async function testWidths() {
+  for (const width of [400, 800, 1600]) {
+    await tab.size(width, 900, width === 400);
+    await tab.open(address);
+    expect(`${width} pixels: nothing stands out`, true,
+      await tab.value('document.documentElement.scrollWidth <= innerWidth'));
+    const out =
+      await tab.value(`[...document.querySelectorAll('button, input, select, textarea, canvas, a')]
+      .filter((one) => one.checkVisibility())
+        .map((one) => [one.id || one.textContent, one.getBoundingClientRect()])
+      .filter(([, box]) => box.left < 0 || box.right > innerWidth + 0.5 || box.width === 0)
+        .map(([name]) => name).join()`);
+    expect(`${width} pixels: each part is within`, '', out);
+    await tab.click('#lessons li:nth-child(6) a');
+    expect(`${width} pixels: a lesson opens`, true,
+      await tab.until('!document.getElementById("lesson").hidden'));
+    await tab.click('wire');
+    await tab.click('once');
+    await tab.click('compare');
+    expect(`${width} pixels: compared`, /^the same/, await tab.text('compared'));
+    await tab.value('scrollTo(0, 0)');
+    writeFileSync(`${work}/page_${width}.png`, await tab.screenshot(true));
+  }
+  await tab.size(1600, 1000);
+}
+
+// The least contrast of a text with what lies under it.
+const CONTRAST = `(() => {
+  const rgb = (text) => text.match(/[0-9.]+/g).map(Number);
+  const light = (color) => color.slice(0,
+    3).map((c) => c / 255).map((c) => (c <= 0.03928 ? c / 12.92 : ((c + 0.055) / 1.055) ** 2.4))
+    .reduce((sum, c, k) => sum + c * [0.2126, 0.7152, 0.0722][k], 0);
+  const under =
+    (one) => { for (; one; one = one.parentElement) { const c =
+    rgb(getComputedStyle(one).backgroundColor); if (c.length < 4
+    || c[3] > 0) return c; } return [255, 255, 255]; };
+  const texts =
+    [...document.querySelectorAll('h1, h2, p, button, label, a, .said, textarea, #log span')]
+      .filter((one) => one.checkVisibility() && !one.disabled && !one.classList.contains('later'));
+  return Math.min(...texts.map((one) => {
+    const [a, b] = [light(rgb(getComputedStyle(one).color)),
+      light(under(one))].sort((x, y) => y - x);
+    return (a + 0.05) / (b + 0.05);
+  }));
+})()`;
+
+async function testColors() {
+  const backs = [];
+  for (const scheme of ['dark', 'light']) {
+    await tab.media({ 'color-scheme': scheme });
+    await tab.open(address);
+    await tab.click('#lessons li:nth-child(6) a');
+    await tab.until('!document.getElementById("lesson").hidden');
+    expect(`${scheme}: texts stand out`, true, await tab.value(CONTRAST) >= 4.5);
+    backs.push(await tab.value('getComputedStyle(document.body).backgroundColor'));
+    await tab.value('scrollTo(0, 0)');
+    writeFileSync(`${work}/page_${scheme}.png`, await tab.screenshot());
+  }
+  expect('dark and light differ', true, backs[0] !== backs[1]);
+}
+
+async function testMotion() {
+  await tab.media({ 'color-scheme': 'dark', 'reduced-motion': 'reduce' });
+  await tab.open(address);
+  await tab.click('anew');
+  await set('count', 3000);
+  await tab.click('run');
+  expect('with reduced motion a run is done at once', /^event 3000 /, await tab.text('counts'));
+  expect('and nothing moves', 'Run', await tab.text('run'));
+  await tab.media({ 'color-scheme': 'dark' });
+}
+
+async function testKeys() {
+  await tab.open(address);
+  const focused =
+    () => tab.value('(({ id, dataset, textContent }) => id || dataset.event || textContent)'
+      + '(document.activeElement)');
+  const seen = [];
+  for (let k = 0; k < 60; k++) {
+    await tab.key('Tab');
+    seen.push(await focused());
+  }
+  for (const id of ['A first picture', 'wire', 'run', 'once', 'tick', 'offerA', 'compare', 'textA',
+    'rows', 'memory', 'link']) {
+    expect(`the key Tab leads to ${id}`, true, seen.includes(id));
+  }
+  await tab.value('document.getElementById("rows").focus()');
+  await tab.key('Home');
+  expect('Home: before the first event', /^Before the first/, await tab.text('moment-text'));
+  await tab.key('ArrowRight');
+  await tab.key('ArrowRight');
+  expect('two events on', 'Event 1 of 3000, a tick: read halted.', await tab.text('moment-text'));
+  await tab.key('End');
+  expect('End: the newest event', /^Event 2999 of 3000/, await tab.text('moment-text'));
+  await tab.value('document.getElementById("memory").focus()');
+  await tab.key('ArrowRight');
+  await tab.key('ArrowRight');
+  expect('a word is told', /^Word 001, half 0: [0-9A-F]{4}, LABS [0-9]+ [0-9]+ [0-9]+/,
+    await tab.text('word-text'));
+  await tab.value('document.getElementById("wire").focus()');
+  await tab.key(' ');
+  expect('a key cuts the wire', /is cut/, await tab.text('wire-text'));
+}
+
+async function testRows() {
+  await tab.open(address);
+  await tab.click('zoom-all');
+  const { left, top: y, width, height } = await tab.middle('rows');
+  await tab.clickAt(left + width / 2, y + height / 2);
+  expect('a click shows that moment', /^Event 1[45][0-9][0-9] of 3000/,
+    await tab.text('moment-text'));
+  await tab.click('zoom-in');
+  await tab.click('zoom-in');
+  expect('zoomed in, it is still there', /^Event 1[45][0-9][0-9] of 3000/,
+    await tab.text('moment-text'));
+  await tab.click('picture-back');
+  expect('the picture before', /: done /, await tab.text('moment-text'));
+  await tab.click('picture-on');
+  expect('the picture after', /: done /, await tab.text('moment-text'));
+  expect('the moment is in sight', true, await tab.value(`(() => {
+    const canvas = document.getElementById('rows'),
+      line = canvas.getContext('2d').getImageData(0, 2, canvas.width, 1).data;
+    const ink = getComputedStyle(document.documentElement).getPropertyValue('--ink').trim();
+    const [r, g, b] = [1, 3, 5].map((k) => parseInt(ink.slice(k, k + 2), 16));
+    for (let k = 0; k < line.length; k += 4) if (Math.abs(line[k] - r) + Math.abs(line[k + 1] - g)
+      + Math.abs(line[k + 2] - b) < 200) return true;
+    return false;
+  })()`));
+  const kept = Number(/^Event ([0-9]+)/.exec(await tab.text('moment-text'))[1]) + 1;
+  await tab.click('forget');
+  expect('what comes later is forgotten', new RegExp(`^event ${kept} `), await tab.text('counts'));
+  await tab.click('compare');
+  expect('and the log is that of play', new RegExp(`^the same: ${kept} events`),
+    await tab.text('compared'));
+  await tab.click('once');
+  expect('after more events the newest is shown',
+    new RegExp(`^Event ${kept + 19999} of ${kept + 20000}`), await tab.text('moment-text'));
+  await set('count', 65536);
+  await tab.click('once');
+  expect('there are at most as many events as play takes', /^event 65536 /,
+    await tab.text('counts'));
+  expect('that is said',
+    'true true', await tab.value('`${document.getElementById("full").checkVisibility()} '
+      + '${document.getElementById("run").disabled}`'));
+  await tab.click('compare');
+  expect('they are compared, too', /^the same: 65536 events/, await tab.text('compared'));
+  await tab.click('now');
+  const { left: x, top: at } = await tab.middle('memory');
+  await tab.mouse('mouseMoved', x + 3, at + 22);
+  expect('a word under the pointer', /^Word 000, word zero: E[0-9A-F]{3}, JMPL/,
+    await tab.text('word-text'));
+}
+
+async function testReadAloud() {
+  await tab.open(address);
+  const { nodes } = await tab.send('Accessibility.getFullAXTree');
+  const named = nodes.filter(({ ignored }) => !ignored)
+    .map(({ role, name }) => [role?.value, name?.value ?? '']);
+  const nameless =
+    named.filter(([role,
+    name]) => /^(button|textbox|combobox|spinbutton|slider|image|link|application)$/.test(role)
+    && name === '');
+  expect('each part has a name', '', nameless.map(([role]) => role).join());
+  const images = named.filter(([role]) => role === 'image' || role === 'img')
+    .map(([, name]) => name);
+  expect('the picture is told in words', true, images.includes(await tab.text('picture-text')));
+}
+
+// --- How long a frame of the animation takes ---
+
+async function testSpeed() {
+  const vectors = Array.from({ length: 254 },
+    (_, k) =>
+    `vctr 7 ${[600, -560, -590, 570][k % 4]} ${[370, 560, -380, -540][k % 4]} ${1 + k % 15}`);
+  const draft = ['labs 400 400 0', ...vectors, 'halt'].join('\n');
+  await tab.size(1600, 1000);
+  await tab.open(address);
+  await set('textA', draft);
+  await set('textB', draft);
+  expect('254 strokes', 'ok 511 words 512 fetches', await tab.text('saidA'));
+  await runSeed(3);
+  await tab.click('zoom-all');
+  await set('count', 2000);
+  await tab.value('document.getElementById("speed").value = 4');
+  await tab.value('document.getElementById("run").scrollIntoView({ block: "center" })');
+  const metrics =
+    async () =>
+    Object.fromEntries((await tab.send('Performance.getMetrics')).metrics
+    .map(({ name, value }) => [name, value]));
+  await tab.value('scrollTo(0, 0)');
+  const before = await metrics();
+  await tab.value('document.getElementById("run").click()');
+  expect('it runs to the end',
+    true, await tab.until('document.getElementById("run").textContent === "Run"', 60000));
+  const after = await metrics();
+  const said = await tab.text('frame-time'), [median, most] = said.match(/[0-9.]+/g).map(Number);
+  const task = 1000 * (after.TaskDuration - before.TaskDuration) / 125;
+  console.log(`browser: a frame with 254 strokes and ${events} events takes ${median} ms at the`
+    + ` median, ${most} ms or less in 19 of 20; with layout and paint ${task.toFixed(1)} ms of the`
+    + ' main thread on average');
+  expect('a frame takes 8 ms or less', true, median <= 8);
+}
+
+const tests = {
+  testBeginning, testTyping, testOneByOne, testSeeds, testCutWire, testRunning, testLessons,
+    testLink, testFiles,
+  testHttp, testWidths, testColors, testMotion, testKeys, testRows, testReadAloud, testSpeed,
+};
+for (const [name, test] of Object.entries(tests)) {
+  await test().catch((fault) => {
+    failed++;
+    console.log(`FAILED: ${name}: ${fault.stack}`);
+  });
+  expect(`${name}: no fault in the page`, '', tab.faults.splice(0).join('; '));
+}
+const ALLOWED =
+  /^(file:.*dvg\.html|about:|blob:|data:|http:\/\/127\.0\.0\.1:[0-9]+\/(dvg\.html|other)$)/;
+expect('nothing but the page was asked for', '',
+  tab.requests.filter((url) => !ALLOWED.test(url.replace(/#.*/, ''))).join());
+await browser.stop();
+console.log(`${passed} passed, ${failed} failed`);
+process.exit(failed === 0 ? 0 : 1);

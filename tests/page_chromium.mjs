@@ -1,0 +1,218 @@
+// A Chromium without a screen, asked by its own protocol over a pipe: what tests/page needs of it.
+import { spawn } from 'node:child_process';
+import { mkdtempSync, rmSync } from 'node:fs';
+import { tmpdir } from 'node:os';
+import { join } from 'node:path';
+
+const WAIT = 30000;
+
+// Starts the browser of this name.
+export async function startChromium(name) {
+  const profile = mkdtempSync(join(tmpdir(), 'page-chromium-'));
+  const words = ['--headless=new', '--no-sandbox', '--disable-gpu', '--remote-debugging-pipe',
+    '--no-first-run',
+    '--disable-background-networking', '--disable-component-update', '--disable-dev-shm-usage',
+    '--force-device-scale-factor=1', '--hide-scrollbars', `--user-data-dir=${profile}`,
+      'about:blank'];
+  const child = spawn(name, words, { stdio: ['ignore', 'ignore', 'ignore', 'pipe', 'pipe'] });
+  const browser = new Chromium(child, profile);
+  await browser.send('Browser.getVersion');
+  return browser;
+}
+
+class Chromium {
+  constructor(child, profile) {
+    Object.assign(this, { child, profile, asked: new Map(), count: 0, heard: () => {} });
+    let rest = '';
+    child.stdio[4].setEncoding('utf8');
+    child.stdio[4].on('data', (text) => {
+      const parts = (rest + text).split('\0');
+      rest = parts.pop();
+      for (const part of parts) this.hear(JSON.parse(part));
+    });
+    child.on('exit', () => {
+      for (const { reject } of this.asked.values()) reject(new Error('the browser ended'));
+      this.asked.clear();
+    });
+  }
+
+  hear(message) {
+    const asked = this.asked.get(message.id);
+    if (asked === undefined) return this.heard(message);
+    this.asked.delete(message.id);
+    if (message.error) asked.reject(new Error(`${asked.method}: ${message.error.message}`));
+    else asked.resolve(message.result);
+  }
+
+  send(method, params = {}, sessionId = undefined) {
+    const id = ++this.count;
+    return new Promise((resolve, reject) => {
+      const late = setTimeout(() => {
+        this.asked.delete(id);
+        reject(new Error(`${method}: no answer`));
+      }, WAIT);
+      const end = (act) => (value) => { clearTimeout(late); act(value); };
+      this.asked.set(id, { method, resolve: end(resolve), reject: end(reject) });
+      this.child.stdio[3].write(`${JSON.stringify({ id, method, params, sessionId })}\0`);
+    });
+  }
+
+  // A new tab, with what it asks of the network, and each fault that it tells.
+  async newTab() {
+    const { targetId } = await this.send('Target.createTarget', { url: 'about:blank' });
+    const { sessionId } = await this.send('Target.attachToTarget', { targetId, flatten: true });
+    const tab = new Tab(this, sessionId, targetId);
+    const before = this.heard;
+    this.heard = (message) => (message.sessionId === sessionId ? tab.hear(message)
+      : before(message));
+    for (const domain of ['Page', 'Runtime', 'Network', 'Log',
+      'Performance']) await tab.send(`${domain}.enable`);
+    return tab;
+  }
+
+  async stop() {
+    const ended = new Promise((resolve) => { this.child.on('exit', resolve); });
+    await this.send('Browser.close').catch(() => this.child.kill());
+    await ended;
+    rmSync(this.profile, { recursive: true, force: true, maxRetries: 5 });
+  }
+}
+
+const KEYS = {
+  Tab: [9, ''], Enter: [13, '\r'], ' ': [32, ' '], ArrowLeft: [37, ''], ArrowUp: [38, ''],
+    ArrowRight: [39, ''],
+  ArrowDown: [40, ''], Home: [36, ''], End: [35, ''],
+};
+
+function faultOf({ exception, text }) {
+  return exception?.description ?? text;
+}
+
+class Tab {
+  constructor(browser, sessionId, targetId) {
+    Object.assign(this, { browser, sessionId, targetId, requests: [], faults: [] });
+  }
+
+  async close() {
+    await this.browser.send('Target.closeTarget', { targetId: this.targetId });
+  }
+
+  send(method, params = {}) {
+    return this.browser.send(method, params, this.sessionId);
+  }
+
+  hear({ method, params }) {
+    if (method === 'Network.requestWillBeSent') this.requests.push(params.request.url);
+    if (method === 'Runtime.exceptionThrown') {
+      this.faults.push(faultOf(params.exceptionDetails));
+    }
+    if (method === 'Log.entryAdded'
+      && params.entry.level === 'error') this.faults.push(params.entry.text);
+  }
+
+  // What an expression is in the page.
+  async value(expression) {
+    const { result, exceptionDetails } = await this.send('Runtime.evaluate', {
+      expression, returnByValue: true, awaitPromise: true,
+    });
+    if (exceptionDetails) throw new Error(faultOf(exceptionDetails));
+    return result.value;
+  }
+
+  // Waits until an expression holds in the page; whether it came to that.
+  async until(expression, most = 15000) {
+    for (const end = Date.now() + most; Date.now() < end;) {
+      if (await this.value(expression)) return true;
+      await new Promise((resolve) => { setTimeout(resolve, 25); });
+    }
+    return false;
+  }
+
+  async size(width, height = 900, mobile = false) {
+    await this.send('Emulation.setDeviceMetricsOverride',
+      { width, height, deviceScaleFactor: 1, mobile });
+  }
+
+  async media(features) {
+    await this.send('Emulation.setEmulatedMedia', {
+      features: Object.entries(features)
+        .map(([name, value]) => ({ name: `prefers-${name}`, value })),
+    });
+  }
+
+  async open(url) {
+    await this.send('Page.navigate', { url: 'about:blank' });
+    await this.send('Page.navigate', { url });
+    const ready = await this.until('document.body?.dataset.ready === "yes"');
+    if (!ready) throw new Error(`${url} is not ready`);
+  }
+
+  text(id) {
+    return this.value(`document.getElementById('${id}').textContent`);
+  }
+
+  // Where the middle of an element is, once it is in sight.
+  middle(id) {
+    return this.value(`(() => {
+      const element = document.getElementById('${id}') ?? document.querySelector('${id}');
+      element.scrollIntoView({ block: 'center', behavior: 'instant' });
+      const { x, y, width, height } = element.getBoundingClientRect();
+      return { x: x + width / 2, y: y + height / 2, left: x, top: y, width, height };
+    })()`);
+  }
+
+  async mouse(type, x, y, more = {}) {
+    await this.send('Input.dispatchMouseEvent', { type, x, y, ...more });
+  }
+
+  async clickAt(x, y) {
+    await this.mouse('mouseMoved', x, y);
+    await this.mouse('mousePressed', x, y, { button: 'left', clickCount: 1 });
+    await this.mouse('mouseReleased', x, y, { button: 'left', clickCount: 1 });
+  }
+
+  async click(id) {
+    const { x, y } = await this.middle(id);
+    await this.clickAt(x, y);
+  }
+
+  async key(key, modifiers = 0) {
+    const [code, text] = KEYS[key];
+    const event = { key, code: key === ' ' ? 'Space' : key, windowsVirtualKeyCode: code,
+      modifiers };
+    await this.send('Input.dispatchKeyEvent',
+      { type: text === '' ? 'rawKeyDown' : 'keyDown', text, ...event });
+    await this.send('Input.dispatchKeyEvent', { type: 'keyUp', ...event });
+  }
+
+  // Puts a text in place of what stands in a field, by the keyboard.
+  async type(id, text) {
+    await this.click(id);
+    await this.value(`document.getElementById('${id}').select()`);
+    await this.send('Input.insertText', { text });
+  }
+
+  // Chooses a value of a list.
+  async choose(id, value) {
+    await this.value(`(() => {
+      const list = document.getElementById('${id}');
+      list.value = '${value}';
+      list.dispatchEvent(new Event('input', { bubbles: true }));
+      list.dispatchEvent(new Event('change', { bubbles: true }));
+    })()`);
+  }
+
+  // Drops a file in the middle of an element.
+  async drop(id, file) {
+    const { x, y } = await this.middle(id);
+    const data = { items: [], files: [file], dragOperationsMask: 1 };
+    for (const type of ['dragEnter', 'dragOver', 'drop']) await this.send('Input.dispatchDragEvent',
+      { type, x, y, data });
+  }
+
+  async screenshot(whole = false) {
+    const { data } = await this.send('Page.captureScreenshot',
+      { format: 'png', captureBeyondViewport: whole });
+    return Buffer.from(data, 'base64');
+  }
+}

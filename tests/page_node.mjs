@@ -1,0 +1,337 @@
+// What can be tested of the page without a browser: dvg.wasm, and the modules of page/src. Called
+// by tests/page, with the program's name and what to test:
+//
+//     node tests/page_node.mjs DVG FOLDER SEEDS EVENTS
+//
+// FOLDER is for what is thrown away.
+//
+// The last line is 'N passed, M failed'.
+import { spawnSync } from 'node:child_process';
+import { existsSync, readFileSync, readdirSync, writeFileSync } from 'node:fs';
+import { COMMAND, Engine, OPTION } from '../page/src/engine.mjs';
+import { AREA, Board, areaOf, drawnHalf } from '../page/src/board.mjs';
+import { hex, plainDraft, operationsOf, romOf, splitRom } from '../page/src/drafts.mjs';
+import { playSteps, stepsOf, traceOf } from '../page/src/traces.mjs';
+import { Chance, Proportions } from '../page/src/chance.mjs';
+import { Drawer, momentOf } from '../page/src/moments.mjs';
+import { fragmentOf, plainFragment, stateOf } from '../page/src/links.mjs';
+import { kindOf } from '../page/src/files.mjs';
+import { LESSONS, stateOfLesson } from '../page/src/lessons.mjs';
+
+const [program, work] = process.argv.slice(2, 4),
+  [seeds, events] = process.argv.slice(4).map(Number);
+const top = new URL('..', import.meta.url).pathname;
+const engine = await Engine.of(readFileSync(`${top}page/dvg.wasm`));
+let passed = 0, failed = 0;
+
+function expect(what, wanted, found) {
+  if (wanted === found) passed++;
+  else {
+    failed++;
+    const at = [...String(wanted)].findIndex((c, k) => c !== String(found)[k]);
+    const near = (text) => JSON.stringify(text.slice(Math.max(0, at - 40), at + 60));
+    const [left, right] = [near(String(wanted)), near(String(found))];
+    console.log(`FAILED: ${what}\n  wanted ${left}\n  found  ${right}`);
+  }
+}
+
+// --- The commands, on tests/cases ---
+
+const OPTIONS = { picture: '--all', check: '--bound', play: '--all' };
+const read = (folder, file) => (existsSync(`${folder}/${file}`) ? readFileSync(`${folder}/${file}`)
+  : Buffer.alloc(0));
+
+// The number of the command of a case, or null where the page has none.
+function commandOf(folder) {
+  const words = read(folder, 'arguments').toString().split('\n').slice(0, -1);
+  if (!(words[0] in COMMAND) || read(folder, 'status').toString().trim() === '64') return null;
+  if (words.length === 1) return COMMAND[words[0]];
+  return words.length === 2 && words[1] === OPTIONS[words[0]] ? COMMAND[words[0]] + OPTION : null;
+}
+
+function testCases() {
+  let others = 0;
+  for (const name of readdirSync(`${top}tests/cases`)) {
+    const folder = `${top}tests/cases/${name}`;
+    const command = commandOf(folder);
+    if (command === null) {
+      others++;
+      continue;
+    }
+    const got = engine.runBytes(command, read(folder, 'input'));
+    const same = Buffer.from(got.output).equals(read(folder, 'output'))
+      && Buffer.from(got.error).equals(read(folder, 'error'))
+      && got.status === Number(read(folder, 'status').toString());
+    expect(`the case ${name}`, true, same);
+    if (command === COMMAND.play + OPTION && got.status === 0) testTrace(name,
+      read(folder, 'input').toString());
+  }
+  console.log(`${others} cases of tests/cases are no command of the page: words that ask for`
+    + ' nothing, help, --banked');
+}
+
+// --- The board that the page makes of a driver and a generator ---
+
+function testTrace(name, text) {
+  const { rom, steps } = stepsOf(text);
+  const board = new Board(engine, romOf(rom));
+  playSteps(board, steps);
+  expect(`the page's board on ${name}`, engine.run(COMMAND.play + OPTION, text).output,
+    board.log());
+  const again = engine.run(COMMAND.play + OPTION, traceOf(board));
+  expect(`the page's trace of ${name}`, again.error + again.output, board.log());
+  board.free();
+}
+
+
+// --- Schedules by seeds, beside the program ---
+
+function runProgram(words, input) {
+  return spawnSync(program, words, { input, maxBuffer: 1 << 28 }).stdout.toString();
+}
+
+const example = (name) => readFileSync(`${top}examples/frames/${name}.draft`, 'utf8');
+const linesOf = (text) => operationsOf(plainDraft(text));
+const drafts = () => [linesOf(example('score')), linesOf(example('rocks'))];
+
+// The board after so many events of a schedule.
+function runBoard(make, count, wireCut = false, rom = '') {
+  const board = new Board(engine, romOf(rom), wireCut), schedule = make();
+  while (board.length < count) board.happen(schedule.next(board));
+  return board;
+}
+
+const HOWS = {
+  'by chance': (seed) => () => new Chance(seed, drafts),
+  'with resets': (seed) => () => new Chance(seed, drafts, true),
+  'in proportions': (seed) => () => new Proportions(seed, drafts),
+};
+
+function testSchedules() {
+  let lines = 0, pictures = 0;
+  for (const [how, make] of Object.entries(HOWS)) {
+    for (let seed = 1; seed <= seeds; seed++) {
+      const board = runBoard(make(seed), events), trace = traceOf(board), log = board.log();
+      expect(`${how}, seed ${seed}: the program's log`, runProgram(['play', '--all'], trace), log);
+      expect(`${how}, seed ${seed}: the program's verdict`, 'not torn\n',
+        runProgram(['torn'], board.told.text));
+      expect(`${how}, seed ${seed}: no byte is torn`, 0, board.tears);
+      expect(`${how}, seed ${seed}: pictures come`, true, board.pictures.length > events / 10000);
+      testLog(`${how}, seed ${seed}`, trace, log, board);
+      lines += log.split('\n').length - 1;
+      pictures += board.pictures.length;
+      board.free();
+    }
+  }
+  console.log(`schedules: ${3 * seeds} of ${events} events, ${lines} lines, ${pictures} pictures`);
+}
+
+// The log for `torn` is the one that examples/tools/log.awk makes, without its remarks.
+function testLog(what, trace, log, board) {
+  writeFileSync(`${work}/trace`, trace);
+  const made = spawnSync('awk', ['-v', `trace=${work}/trace`, '-f', `${top}examples/tools/log.awk`],
+    { input: log, maxBuffer: 1 << 28 });
+  const wanted = made.stdout.toString().replace(/^#.*\n/gm, '');
+  expect(`${what}: the log for torn`, wanted, Buffer.from(board.told.text).toString());
+}
+
+// With the wire cut, pictures are torn, and `torn` finds the first byte.
+function testCutWire() {
+  let torn = 0, pictures = 0;
+  for (let seed = 1; seed <= seeds; seed++) {
+    const board = runBoard(HOWS['by chance'](seed), events, true);
+    const said = /^torn at line ([0-9]+): (.*)\n$/.exec(runProgram(['torn'], board.told.text));
+    const first = board.entries.findIndex((entry) => entry.torn);
+    expect(`wire cut, seed ${seed}: the first torn event`, first,
+      board.told.eventOf[Number(said?.[1]) - 1]);
+    expect(`wire cut, seed ${seed}: the first torn byte`, board.entries[first].text,
+      said?.[2] ?? '');
+    const those = board.pictures.filter(({ tears }) => tears > 0);
+    expect(`wire cut, seed ${seed}: pictures are torn`, true, those.length > 0);
+    testTornPictures(seed, board, those);
+    torn += those.length;
+    pictures += board.pictures.length;
+    board.free();
+  }
+  console.log(`wire cut: ${torn} of ${pictures} pictures torn`);
+}
+
+// A picture with no byte written into it is that of a draft, and of the others some are of none.
+function testTornPictures(seed, board, torn) {
+  const draw = (lines) => engine.run(COMMAND.play,
+    `tick 2\noffer\n${lines.join('\n')}\nend\ntick 999\nstrobe\nfetch 999\n`)
+    .output.split('\n').slice(1, -1).join('\n');
+  const whole = drafts().map(draw);
+  const isWhole =
+    ({ strokes }) => whole.includes(strokes.map((stroke) => stroke.join(' ')).join('\n'));
+  expect(`wire cut, seed ${seed}: whole pictures are frames`, true,
+    board.pictures.every((picture) => picture.tears > 0 || isWhole(picture)));
+  expect(`wire cut, seed ${seed}: some torn pictures are no frame`, true,
+    torn.some((picture) => !isWhole(picture)));
+}
+
+// Of each word, whether a byte written there tears a picture, and of each word zero, whether the
+// page draws a half, as `torn` has it.
+function testHalves() {
+  const tears = (first, word) => engine.run(COMMAND.torn,
+    `started\nfetched 000 ${hex(first, 4)}\nwrote ${hex(2 * word, 3)} 00\n`).status === 1;
+  for (const [first, half] of [[0xE001, AREA.HALF0], [0xE201, AREA.HALF1]]) {
+    for (let word = 0; word < 1024; word++) {
+      expect(`${hex(first, 4)}, word ${hex(word, 3)}`, tears(first, word), areaOf(word) === half);
+    }
+  }
+  for (let first = 0; first < 0x10000; first += first >> 12 === 0xE ? 1 : 0x95) {
+    const half = drawnHalf(first);
+    expect(`word zero is ${hex(first, 4)}`, `${tears(first, 1)} ${tears(first, 0x201)}`,
+      `${half === AREA.HALF0} ${half === AREA.HALF1}`);
+  }
+}
+
+// More events of a kind than a line of a trace can count.
+function testLongTrace() {
+  const board = new Board(engine, romOf(''));
+  for (let k = 0; k < 25000; k++) board.happen({ name: k < 20000 ? 'tick' : 'fetch' });
+  expect('20,000 ticks: the log', runProgram(['play', '--all'], traceOf(board)), board.log());
+  board.free();
+}
+
+// --- Drafts with names, and ROMs ---
+
+function testDrafts() {
+  const folder = `${top}tests/tool_cases`;
+  const cases = readdirSync(folder).filter((name) => name.startsWith('labels'))
+    .map((name) => `${folder}/${name}/input`)
+    .filter((file) => existsSync(file)).concat(readdirSync(`${top}examples/frames`)
+      .filter((name) => name.endsWith('.draft')).map((name) => `${top}examples/frames/${name}`));
+  for (const file of cases) {
+    const text = splitRom(readFileSync(file, 'utf8')).draft;
+    const awk = spawnSync('awk', ['-f', `${top}examples/tools/labels.awk`], { input: text });
+    const plain = plainDraft(text);
+    expect(`${file}: a fault is told`, awk.status !== 0, plain.fault !== null);
+    if (awk.status !== 0) {
+      expect(`${file}: the fault`, awk.stderr.toString().split('\n')[0],
+        `labels.awk: ${plain.fault?.text}`);
+    } else {
+      const wanted = awk.stdout.toString().split('\n')
+        .filter((line) => line !== '' && !line.startsWith('#')).join('\n');
+      expect(`${file}: the operations`, wanted, operationsOf(plain).join('\n'));
+    }
+  }
+  console.log(`drafts: ${cases.length} beside labels.awk`);
+}
+
+function testRoms() {
+  const shapes = splitRom(example('rom_shapes')).rom;
+  for (const text of ['', 'map 2048', 'map 4096\nrom 400 B000 F00A\nrom BFF E400', shapes]) {
+    const { bytes } = romOf(text);
+    const written = engine.run(COMMAND.rom, bytes).output;
+    expect(`the ROM of ${JSON.stringify(text.slice(0, 30))}`, Buffer.from(bytes).toString('hex'),
+      Buffer.from(romOf(written).bytes).toString('hex'));
+  }
+  const frame = () => [linesOf(splitRom(example('rom_shapes')).draft), drafts()[1]];
+  const board = runBoard(() => new Chance(7, frame), events, false, shapes);
+  expect('a frame that calls the ROM: the log', runProgram(['play', '--all'], traceOf(board)),
+    board.log());
+  expect('a frame that calls the ROM: pictures', true, board.pictures.length > events / 10000);
+  board.free();
+}
+
+// --- Moments, links, files, lessons ---
+
+// Each moment's RAM is that of a board that stops there, and its strokes are the first ones.
+function testMoments() {
+  const board = runBoard(HOWS['with resets'](3), 6000), drawer = new Drawer(engine);
+  for (let at = 0; at <= 6000; at += 97) {
+    const other = runBoard(HOWS['with resets'](3), at), moment = momentOf(board, at);
+    expect(`the RAM after ${at} events`, Buffer.from(other.ram).toString('hex'),
+      Buffer.from(moment.ram).toString('hex'));
+    expect(`whether a run is open after ${at} events`, other.open?.at ?? -1,
+      moment.run?.from ?? -1);
+    expect(`the picture after ${at} events`, other.picture, moment.picture?.at ?? -1);
+    other.free();
+  }
+  for (const { at, from, strokes } of board.pictures.slice(0, 6)) {
+    for (let k = from + 1; k <= at; k++) {
+      const sofar = drawer.strokesOf(momentOf(board, k).run);
+      expect(`the strokes after ${k} events`, JSON.stringify(strokes.slice(0, sofar.length)),
+        JSON.stringify(sofar));
+      if (k === at) expect(`all strokes after ${k} events`, true,
+        sofar.length >= strokes.length - 1);
+    }
+  }
+  board.free();
+}
+
+async function testLinks() {
+  const board = runBoard(HOWS['with resets'](5), events);
+  const state = { a: example('score'), b: 'a + b & c # é', trace: traceOf(board), at: '17',
+    seed: '5' };
+  for (const fragment of [plainFragment(state), await fragmentOf(state)]) {
+    expect('a link holds the state', JSON.stringify(state),
+      JSON.stringify(await stateOf(fragment)));
+  }
+  const length = (await fragmentOf(state)).length;
+  console.log(`a link of ${events} events has ${length} characters`);
+  const broken = await stateOf('#z=AAAA').then(() => 'a state', () => 'an error');
+  expect('a broken link is an error', 'an error', broken);
+  board.free();
+}
+
+function testFiles() {
+  const is = (wanted, bytes) => expect(`a file is a ${wanted}`, wanted,
+    kindOf(Uint8Array.from(bytes)));
+  const text = (words) => Buffer.from(words);
+  is('dump', new Uint8Array(4096));
+  is('dump', new Uint8Array(6144));
+  is('rom', new Uint8Array(2048).fill(0xD0));
+  is('unknown', new Uint8Array(100));
+  for (const name of ['attract', 'digits', 'rocks', 'rom_shapes', 'score', 'ship']) is('draft',
+    text(example(name)));
+  for (const name of ['tears.log', 'waits.log']) is('log',
+    readFileSync(`${top}examples/logs/${name}`));
+  is('log', text('\nlow 000 01\n'));
+  is('trace', text('# a trace\nmap 2048\ntick 2\n'));
+  is('romtext', text('map 4096\nrom 800 B000\n'));
+  is('unknown', text('something else\n'));
+}
+
+function testLessons() {
+  LESSONS.forEach(({ title, sentences, shows, at }, k) => {
+    const state = stateOfLesson(k), { rom, steps } = stepsOf(state.trace),
+      board = new Board(engine, romOf(rom));
+    playSteps(board, steps);
+    expect(`lesson ${title}: three sentences`, '1 1 1',
+      sentences.map((one) => one.match(/[.]( |$)/g).length).join(' '));
+    expect(`lesson ${title}: what it shows`, shows, board.linesOf(at - 1)[0]);
+    expect(`lesson ${title}: whether a picture is torn`, k === 5, board.tears > 0);
+    for (const [, number] of sentences.join(' ').matchAll(/event ([0-9]+)/g)) testMention(title,
+      Number(number), sentences.join(' '), board);
+    board.free();
+  });
+}
+
+// What a lesson says of an event, by the word that stands for it.
+const MENTIONED = { published: /^wrote 001/, sent: /^sent/, reached: /^started/, redraw: /^sent/,
+  flip: /^wrote 001/, writes: /^wrote/ };
+
+function testMention(title, number, text, board) {
+  const sentence = text.split(/(?<=[.]) /).find((one) => one.includes(`event ${number}`));
+  const entry = board.entries[number]?.text ?? 'nothing';
+  const fits = Object.entries(MENTIONED)
+    .some(([word, form]) => sentence.toLowerCase().includes(word) && form.test(entry));
+  expect(`lesson ${title}: event ${number} is what it says`, true, fits);
+}
+
+testCases();
+testSchedules();
+testCutWire();
+testHalves();
+testLongTrace();
+testDrafts();
+testRoms();
+testMoments();
+await testLinks();
+testFiles();
+testLessons();
+console.log(`${passed} passed, ${failed} failed`);
+process.exit(failed === 0 ? 0 : 1);
