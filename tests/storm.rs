@@ -91,7 +91,8 @@ fn print_totals(counts: &Counts) {
     println!(
         "{} events; {} schedules finish {} pictures of {} frames; of the offers {} accepted, {} refused, {} busy; \
          {} writes amid runs; strobes and resets: {} amid runs, {} between a flip and its strobe; \
-         {} events between the two bytes of a word, {} of them flips amid word zero",
+         {} events between the two bytes of a word, {} of them flips amid word zero; \
+         {} strobes sent in time",
         counts.events,
         counts.showing,
         counts.pictures,
@@ -103,7 +104,8 @@ fn print_totals(counts: &Counts) {
         counts.blows_amid_runs,
         counts.blows_behind_flips,
         counts.between_bytes,
-        counts.flips_amid_word_zero
+        counts.flips_amid_word_zero,
+        counts.sent_in_time
     );
 }
 

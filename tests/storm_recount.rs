@@ -1,13 +1,18 @@
 //! A recount of what `play --all` wrote of a schedule, for the storm.
 //!
-//! It goes by the lines and the schedule's events alone, and knows nothing of a driver or a memory. Of each log it says
-//! whether a line breaks one of these:
+//! It goes by the lines and the schedule's events alone, and knows nothing of a driver or a memory.
+//! Of each log it says whether a line breaks one of these:
 //!
 //! - No run breaks.
 //! - No byte is written in the half that the open run draws.
-//! - Each finished run drew exactly the picture of the frame newest published when the run fetched word zero, in as many
-//!   words.
+//! - Each finished run drew exactly the picture of the frame newest published when the run fetched
+//!   word zero, in as many words.
 //! - No frame that is shown was published before one that was shown earlier.
+//! - After a flip, with no reset of the processor or of the whole system, the first tick that finds
+//!   no run open reads `halted`, and the next one sends the strobe.
+//! - An open run that shows a frame of n words in all has had fewer than 2n fetches.
+//! - A run that was begun ends by fetch number 2n, or by a strobe or a reset, and each fetch while it
+//!   is open is one of its own.
 
 use crate::storm_drafts::Op;
 use crate::storm_pictures::picture;
@@ -37,6 +42,8 @@ pub struct Counts {
     pub flips_amid_word_zero: u64,
     /// Events other than fetches between the two bytes of a word.
     pub between_bytes: u64,
+    /// Strobes that were sent after a flip by the tick that had to.
+    pub sent_in_time: u64,
 }
 
 impl AddAssign for Counts {
@@ -53,6 +60,7 @@ impl AddAssign for Counts {
         self.writes_amid_runs += more.writes_amid_runs;
         self.flips_amid_word_zero += more.flips_amid_word_zero;
         self.between_bytes += more.between_bytes;
+        self.sent_in_time += more.sent_in_time;
     }
 }
 
@@ -68,8 +76,22 @@ struct Publication<'a> {
 struct Run<'a> {
     /// How many whole words it fetched.
     words: usize,
+    /// How many fetches it has had.
+    fetches: usize,
     draws: Option<u8>,
     shows: Option<Publication<'a>>,
+    /// How many words the run of the frame that it shows fetches in all.
+    bound: Option<usize>,
+}
+
+/// What the next ticks must do for the strobe of a frame that was published.
+#[derive(Clone, Copy, PartialEq, Eq)]
+enum Sending {
+    Nothing,
+    /// The first one that finds no run open reads that the generator is halted.
+    Read,
+    /// The next one sends.
+    Send,
 }
 
 /// What is known behind some lines.
@@ -84,6 +106,7 @@ struct Recount<'a> {
     half_fetched: Option<u16>,
     /// A flip has no strobe behind it.
     flipped: bool,
+    sending: Sending,
     /// The number of the publication that was shown last.
     shown: Option<usize>,
     counts: Counts,
@@ -112,6 +135,7 @@ pub fn recount(schedule: &Schedule, output: &str) -> Result<Counts, String> {
         run: None,
         half_fetched: None,
         flipped: false,
+        sending: Sending::Nothing,
         shown: None,
         counts: Counts::default(),
     };
@@ -145,6 +169,7 @@ impl<'a> Recount<'a> {
             self.published = None;
         }
         let parts: Vec<&str> = parts.collect();
+        self.follow(event, &parts)?;
         match (parts.as_slice(), event) {
             (["offered"], Event::Offer(draft)) => {
                 self.accepted = Some(draft);
@@ -162,7 +187,54 @@ impl<'a> Recount<'a> {
             (["broke", ..], _) => return Err("a run broke".to_owned()),
             _ => {}
         }
+        self.halts_in_time()
+    }
+
+    /// Follows what must come in time, before an event's line is taken.
+    fn follow(&mut self, event: &Event, entry: &[&str]) -> Result<(), String> {
+        match event {
+            Event::Tick => self.send(entry)?,
+            Event::ResetProcessor | Event::ResetAll => self.sending = Sending::Nothing,
+            Event::Fetch => {
+                if (entry == ["still"]) == self.run.is_some() {
+                    return Err(format!("a fetch is answered by {entry:?}"));
+                }
+                if let Some(run) = &mut self.run {
+                    run.fetches += 1;
+                }
+            }
+            _ => {}
+        }
         Ok(())
+    }
+
+    /// A tick after a flip, which must lead to its strobe.
+    fn send(&mut self, entry: &[&str]) -> Result<(), String> {
+        let (wanted, next): (&[&str], _) = match self.sending {
+            Sending::Read if self.run.is_none() => (&["read", "halted"], Sending::Send),
+            Sending::Send => (&["sent"], Sending::Nothing),
+            _ => return Ok(()),
+        };
+        if entry != wanted {
+            return Err(format!("a tick does {entry:?}, and not {wanted:?}"));
+        }
+        self.counts.sent_in_time += u64::from(self.sending == Sending::Send);
+        self.sending = next;
+        Ok(())
+    }
+
+    /// Whether the run that is open has had fewer fetches than it needs.
+    fn halts_in_time(&self) -> Result<(), String> {
+        match self.run {
+            Some(Run {
+                fetches,
+                bound: Some(words),
+                ..
+            }) if fetches >= 2 * words => Err(format!(
+                "a run of {words} words is open after {fetches} fetches"
+            )),
+            _ => Ok(()),
+        }
     }
 
     /// Counts what an event falls amid.
@@ -191,6 +263,7 @@ impl<'a> Recount<'a> {
                 .ok_or("nothing was accepted before the flip")?;
             self.published = Some(Publication { number, draft });
             self.flipped = true;
+            self.sending = Sending::Read;
             self.counts.flips_amid_word_zero += u64::from(self.half_fetched == Some(0));
         }
         Ok(())
@@ -209,6 +282,10 @@ impl<'a> Recount<'a> {
         let run = self.run.as_mut().ok_or("no run is open")?;
         if run.words == 0 && address == 0 {
             run.shows = self.published;
+            if let Some(publication) = self.published {
+                let whole = picture(publication.draft, &self.schedule.rom)?;
+                run.bound = Some(1 + whole.words);
+            }
             if word >> 12 == 0xE {
                 run.draws = half_of(word & 0xFFF);
             }
@@ -230,6 +307,9 @@ impl<'a> Recount<'a> {
                 "the picture isn't that of the frame published at event {}: {} words {:?}, and not {} words {drawn:?}",
                 publication.number, wanted.words, wanted.strokes, run.words
             ));
+        }
+        if run.fetches != 2 * (1 + wanted.words) {
+            return Err(format!("it is done by fetch {}", run.fetches));
         }
         if self.shown > Some(publication.number) {
             return Err("an older frame is shown again".to_owned());
