@@ -24,7 +24,9 @@ const LOG_BEFORE = 12, LOG_AFTER = 4;
 /* While it runs, how often the log is judged, and texts are shown, in milliseconds. */
 const JUDGE_EVERY = 500, TEXTS_EVERY = 100;
 
-let engine, drawer, board, schedule = null, running = false, judgedAt = 0, textsAt = 0, turn = false;
+let engine, drawer, board, schedule = null, running = false;
+/* When the log was judged and texts were shown, and whose turn it is to be drawn. */
+let judgedAt = 0, textsAt = 0, turn = false;
 /* The moment that is shown: how many events have happened by then. */
 let at = 0;
 let dump = null, lesson = 0;
