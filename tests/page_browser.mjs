@@ -82,6 +82,18 @@ async function testBeginning() {
   expect('a newcomer sees a picture', /^Picture [0-9]+, .* whole\. It is frame [AB]\./,
     await tab.text('picture-text'));
   expect('and no torn one', 'not torn', await tab.text('judged'));
+  for (const width of [1500, 700, 1280]) {
+    await tab.size(width, 1000);
+    await tab.settle();
+    expect(`${width} pixels, made so: it is seen`, true, (await tab.value(REDS)).blue > 100);
+  }
+  for (const width of [1280, 1500, 1600]) {
+    await tab.size(width, 1000);
+    await tab.open(address);
+    await tab.settle();
+    expect(`${width} pixels from the beginning: it is seen`, true,
+      (await tab.value(REDS)).blue > 100);
+  }
 }
 
 async function testTyping() {

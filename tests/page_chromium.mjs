@@ -147,6 +147,13 @@ class Tab {
     if (!ready) throw new Error(`${url} is not ready`);
   }
 
+  // Waits until the page has been laid out and painted.
+  async settle() {
+    await this.value(`new Promise((done) => {
+      requestAnimationFrame(() => requestAnimationFrame(() => setTimeout(done)));
+    })`);
+  }
+
   text(id) {
     return this.value(`document.getElementById('${id}').textContent`);
   }

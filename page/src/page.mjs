@@ -702,13 +702,19 @@ function listenToFiles() {
   }
 }
 
+/* A canvas that is given a size is empty after that, also where it had that size before. */
+function fitCanvas(canvas, width, height) {
+  if (canvas.width !== width) canvas.width = width;
+  if (canvas.height !== height) canvas.height = height;
+}
+
 function listenToSizes() {
   const canvases = [byId('screen'), byId('rows'), byId('memory')];
   const fit = () => {
     const ratio = Math.min(2, devicePixelRatio || 1);
     for (const canvas of canvases) {
-      canvas.width = Math.round(canvas.clientWidth * ratio);
-      canvas.height = Math.round(canvas.clientHeight * ratio);
+      fitCanvas(canvas, Math.round(canvas.clientWidth * ratio),
+        Math.round(canvas.clientHeight * ratio));
     }
     rows.fit();
     memory.fit();
