@@ -1,0 +1,118 @@
+-- The laws of progress need their premises: for each a legal log in which the others hold, and what
+-- the law says doesn't. By the law itself it is the premise left out of a lemma that fails there.
+use Rattle.std.proofs.Common.{◌≡◌, ℕ, zero, suc, true, List, [], ◌∷◌, ◌++◌, replicate, Some, refl, sym, ap, ◌*◌, ◌+◌}
+use Rattle.std.specs.Prelude.{◌≢◌, None, is_none, option_and_then}
+use Rattle.std.specs.List.{AllByRecursion}
+use Rattle.dvg_mem.specs.Memory.{IsImage}
+use Rattle.dvg_frame.specs.declared.op.OpKind.{OpKind}
+use Rattle.dvg_frame.specs.Layout.{size}
+use Rattle.dvg_driver.specs.declared.action.Action.{Action}
+use Rattle.dvg_driver.specs.declared.action.Action.TheVariants.{Peek, Read, Idle}
+use Rattle.dvg_driver.specs.Script.{Did}
+use Rattle.dvg_driver.specs.Place.{Booting, Resting, next_place, place_of_life}
+use Rattle.dvg_world.specs.Events.{Happening, Strobe, Fetch, Tick, ResetGen, ResetCpu, ResetAll}
+use Rattle.dvg_world.specs.Entries.{Acted, Still, Cleared}
+use Rattle.dvg_world.specs.Log.{◌⟼◌, Log, life, open_run, published}
+use Rattle.dvg_world.specs.Legal.{IsLegal}
+use Rattle.dvg_progress.specs.Progress.{Without, ticks, fetched_since, DrawsOnce}
+use Rattle.dvg_progress.proofs.FirstPicture.{zeros, frame, did, first_writes, accepted, accepted_legal, begun, begun_legal, but_last, legal, draws_apart, ticks_apart, did_more}
+
+is_image : IsImage zeros
+is_image = accepted_legal.2.2.2.1
+
+-- ticks of a driver that was reset: it peeks, reads and idles
+abbrev idled : ℕ → List Action
+idled count = replicate count Idle ++ (Read true ∷ Peek ∷ [])
+
+idles : (log : Log) → IsLegal zeros zeros log → life zeros log ≡ [] → open_run log ≡ None
+    → (count : ℕ) → IsLegal zeros zeros (did (idled count) ++ log)
+    × (place_of_life (life zeros (did (idled count) ++ log)) ≡ Some (Resting true))
+    × (open_run (did (idled count) ++ log) ≡ None)
+idles log l new none zero =
+    let peeked = ap (λ items. place_of_life (Did Peek ∷ items)) new in
+    let read = ap (λ items. place_of_life (Did (Read true) ∷ Did Peek ∷ items)) new in
+    let once = did_more log Peek Booting l peeked tt in
+    (
+      did_more ((Tick ⟼ Acted Peek) ∷ log) (Read true) (Resting true) once read
+          (sym (ap is_none none)),
+      read,
+      none,
+    )
+idles log l new none (suc count) =
+    let before = idles log l new none count in
+    let stands = ap (option_and_then (λ place. next_place place (Did Idle))) before.1 in
+    (
+      did_more (did (idled count) ++ log) Idle (Resting true) before.0 stands tt,
+      stands,
+      before.2,
+    )
+
+-- fetches at which no run is open
+abbrev stood : ℕ → Log
+stood count = replicate count (Fetch ⟼ Still)
+
+stands_still : (log : Log) → IsLegal zeros zeros log → open_run log ≡ None → (count : ℕ)
+    → IsLegal zeros zeros (stood count ++ log) × (open_run (stood count ++ log) ≡ None)
+stands_still log l none zero = (l, none)
+stands_still log l none (suc count) =
+    let before = stands_still log l none count in ((before.1, tt, before.0), before.1)
+
+stood_apart : (events : List Happening) (log : Log) → AllByRecursion (λ e. Fetch ≢ e) events
+    → Without events log → (count : ℕ) → Without events (stood count ++ log)
+stood_apart events log fetch apart zero = apart
+stood_apart events log fetch apart (suc count) = (fetch, stood_apart events log fetch apart count)
+
+-- published_in_time: of these 12 ticks, or as many as the law says, none publishes the frame
+abbrev PublishesNothing : Log → Type 0
+PublishesNothing later = IsLegal zeros zeros (later ++ accepted)
+    × ¬ (published (later ++ accepted) ≡ Some frame)
+
+-- the processor is reset in between
+pub published_needs_the_processor :
+    let later = did (idled 10) ++ (ResetCpu ⟼ Cleared) ∷ [] in
+    PublishesNothing later × Without [] later × (ticks later ≡ 2 * size frame + 2)
+published_needs_the_processor =
+    let reset = idles ((ResetCpu ⟼ Cleared) ∷ accepted) (tt, tt, accepted_legal) refl refl 10 in
+    ((reset.0, λ e. cc), _, refl)
+
+-- the whole system is reset in between
+pub published_needs_the_system :
+    let later = did (idled 10) ++ (ResetAll zeros ⟼ Cleared) ∷ [] in
+    PublishesNothing later × (ticks later ≡ 2 * size frame + 2)
+published_needs_the_system =
+    let reset : Log = (ResetAll zeros ⟼ Cleared) ∷ accepted in
+    (((idles reset (tt, is_image, accepted_legal) refl refl 10).0, λ e. cc), refl)
+
+-- one tick less comes
+pub published_needs_the_last_tick :
+    let later = did first_writes in
+    PublishesNothing later × (suc (ticks later) ≡ 2 * size frame + 2) × Without (ResetCpu ∷ []) later
+published_needs_the_last_tick = ((begun_legal.2.2.2.2, λ e. cc), refl, ticks_apart first_writes)
+
+-- drawn_in_time: there is no frame of which the log's later part holds one `done` alone, in time
+abbrev DrawsNoneOnce : Log → Type 0
+DrawsNoneOnce later = IsLegal zeros zeros (later ++ begun)
+    × ((F : List OpKind) (n : ℕ) → ¬ DrawsOnce F zeros n begun later)
+
+-- the run is still open, after 11 fetches
+pub drawn_needs_the_end : DrawsNoneOnce but_last × Without (Strobe ∷ ResetGen ∷ []) but_last
+drawn_needs_the_end = ((legal.2, λ F n once. once), draws_apart.1)
+
+-- the generator is reset, and then 12 fetches come
+pub drawn_needs_the_generator :
+    let later = stood 12 ++ (ResetGen ⟼ Cleared) ∷ [] in
+    DrawsNoneOnce later × (open_run (later ++ begun) ≡ None) × (fetched_since (later ++ begun) ≡ 12)
+    × Without (Strobe ∷ []) later
+drawn_needs_the_generator =
+    let reset : Log = (ResetGen ⟼ Cleared) ∷ [] in
+    let still = stands_still (reset ++ begun) (tt, tt, begun_legal) refl 12 in
+    let apart = stood_apart (Strobe ∷ []) reset (λ e. cc, tt) ((λ e. cc, tt), tt) 12 in
+    ((still.0, λ F n once. once), still.1, refl, apart)
+
+-- the whole system is reset, and then 12 fetches come
+pub drawn_needs_the_system :
+    let later = stood 12 ++ (ResetAll zeros ⟼ Cleared) ∷ [] in
+    DrawsNoneOnce later × (open_run (later ++ begun) ≡ None) × (fetched_since (later ++ begun) ≡ 12)
+drawn_needs_the_system =
+    let still = stands_still ((ResetAll zeros ⟼ Cleared) ∷ begun) (tt, is_image, begun_legal) refl 12 in
+    ((still.0, λ F n once. once), still.1, refl)
