@@ -1,21 +1,22 @@
 -- The laws of progress need their premises: for each a legal log in which the others hold, and what
 -- the law says doesn't. By the law itself it is the premise left out of a lemma that fails there.
-use Rattle.std.proofs.Common.{◌≡◌, ℕ, zero, suc, true, List, [], ◌∷◌, ◌++◌, replicate, Some, refl, sym, ap, ◌*◌, ◌+◌}
+use Rattle.std.proofs.Common.{◌≡◌, ℕ, zero, suc, true, false, List, [], ◌∷◌, ◌++◌, replicate, Some, refl, sym, ap, ◌*◌, ◌+◌}
 use Rattle.std.specs.Prelude.{◌≢◌, None, is_none, option_and_then}
 use Rattle.std.specs.List.{AllByRecursion}
 use Rattle.dvg_mem.specs.Memory.{IsImage}
 use Rattle.dvg_frame.specs.declared.op.OpKind.{OpKind}
 use Rattle.dvg_frame.specs.Layout.{size}
 use Rattle.dvg_driver.specs.declared.action.Action.{Action}
-use Rattle.dvg_driver.specs.declared.action.Action.TheVariants.{Peek, Read, Idle}
+use Rattle.dvg_driver.specs.declared.action.Action.TheVariants.{Peek, Wrote, Read, Sent, Idle}
 use Rattle.dvg_driver.specs.Script.{Did}
-use Rattle.dvg_driver.specs.Place.{Booting, Resting, next_place, place_of_life}
-use Rattle.dvg_world.specs.Events.{Happening, Strobe, Fetch, Tick, ResetGen, ResetCpu, ResetAll}
-use Rattle.dvg_world.specs.Entries.{Acted, Still, Cleared}
-use Rattle.dvg_world.specs.Log.{◌⟼◌, Log, life, open_run, published}
+use Rattle.dvg_driver.specs.Place.{Booting, Resting, Waiting, next_place, place_of_life}
+use Rattle.dvg_world.specs.Events.{Happening, Offer, Strobe, Fetch, Tick, ResetGen, ResetCpu, ResetAll}
+use Rattle.dvg_world.specs.Entries.{Shown, Offered, Acted, Started, Low, Still, Cleared}
+use Rattle.dvg_world.specs.Log.{◌⟼◌, Log, Throughout, life, open_run, published}
 use Rattle.dvg_world.specs.Legal.{IsLegal}
+use Rattle.dvg_world.proofs.Rows.{flip_between_the_bytes}
 use Rattle.dvg_progress.specs.Progress.{Without, ticks, fetched_since, DrawsOnce}
-use Rattle.dvg_progress.proofs.FirstPicture.{zeros, frame, did, first_writes, accepted, accepted_legal, begun, begun_legal, but_last, legal, draws_apart, ticks_apart, did_more}
+use Rattle.dvg_progress.proofs.FirstPicture.{zeros, frame, did, first_writes, writes, accepted, accepted_legal, sends, begun, begun_legal, but_last, draws, legal, draws_apart, ticks_apart, did_more}
 
 is_image : IsImage zeros
 is_image = accepted_legal.2.2.2.1
@@ -116,3 +117,74 @@ pub drawn_needs_the_system :
 drawn_needs_the_system =
     let still = stands_still ((ResetAll zeros ⟼ Cleared) ∷ begun) (tt, is_image, begun_legal) refl 12 in
     ((still.0, λ F n once. once), still.1, refl)
+
+-- sent_in_time: of these two ticks after a flip the first doesn't read `halted`, or the next sends no
+-- strobe
+abbrev SendsNothing : Log → Log → Shown → Log → Shown → Type 0
+SendsNothing flipped wait first rest next =
+    IsLegal zeros zeros ((Tick ⟼ next) ∷ rest ++ (Tick ⟼ first) ∷ wait ++ flipped)
+    × ¬ ((first ≡ Acted (Read true)) × (next ≡ Acted Sent))
+
+-- no tick of the wait finds that no run is open
+abbrev WaitsForRun : Log → Log → Type 0
+WaitsForRun flipped wait =
+    Throughout (λ log event entry. event ≡ Tick → open_run (log ++ flipped) ≢ None) wait
+
+abbrev flipped : Log
+flipped = writes ++ accepted
+
+-- the processor is reset after the flip: the first tick peeks, and the next one reads
+pub sent_needs_the_processor :
+    let wait = (ResetCpu ⟼ Cleared) ∷ [] in
+    SendsNothing flipped wait (Acted Peek) [] (Acted (Read true)) × WaitsForRun flipped wait
+    × (open_run (wait ++ flipped) ≡ None) × Without [] wait
+sent_needs_the_processor =
+    let reset : Log = (ResetCpu ⟼ Cleared) ∷ flipped in
+    (((idles reset (tt, tt, begun_legal.2.2.2) refl refl 0).0, λ is. cc), (λ e. cc, tt), refl, _)
+
+-- the whole system is reset after the flip
+pub sent_needs_the_system :
+    let wait = (ResetAll zeros ⟼ Cleared) ∷ [] in
+    SendsNothing flipped wait (Acted Peek) [] (Acted (Read true)) × WaitsForRun flipped wait
+    × (open_run (wait ++ flipped) ≡ None)
+sent_needs_the_system =
+    let reset : Log = (ResetAll zeros ⟼ Cleared) ∷ flipped in
+    let ticked = (idles reset (tt, is_image, begun_legal.2.2.2) refl refl 0).0 in
+    ((ticked, λ is. cc), (λ e. cc, tt), refl)
+
+idle_after : IsLegal zeros zeros ((Tick ⟼ Acted Idle) ∷ sends ++ flipped)
+idle_after = did_more (sends ++ flipped) Idle (Resting false) begun_legal.2 refl tt
+
+-- the first tick at which no run is open is over: the one after it sends the strobe
+pub sent_needs_the_first_tick :
+    let wait = did (Read true ∷ []) in
+    SendsNothing flipped wait (Acted Sent) [] (Acted Idle) × (open_run (wait ++ flipped) ≡ None)
+    × Without (ResetCpu ∷ []) wait
+sent_needs_the_first_tick = ((idle_after, λ is. cc), refl, ticks_apart (Read true ∷ []))
+
+-- there is a tick between the two: it sends the strobe
+pub sent_needs_the_next_tick :
+    let rest = did (Sent ∷ []) in
+    SendsNothing flipped [] (Acted (Read true)) rest (Acted Idle) × WaitsForRun flipped []
+    × (open_run flipped ≡ None) × Without (ResetCpu ∷ []) rest
+sent_needs_the_next_tick = ((idle_after, λ is. cc), _, refl, ticks_apart (Sent ∷ []))
+
+-- the same frame again, to the other half, and a strobe that is repeated before its flip
+abbrev flipped_again : Log
+flipped_again =
+    (Tick ⟼ Acted (Wrote 0x001 0xE0)) ∷ (Fetch ⟼ Low 0x000 0x01) ∷ (Strobe ⟼ Started)
+    ∷ did (
+        Wrote 0x00B 0xB0 ∷ Wrote 0x00A 0x00 ∷ Wrote 0x009 0x74 ∷ Wrote 0x008 0x64
+        ∷ Wrote 0x007 0x90 ∷ Wrote 0x006 0x64 ∷ Wrote 0x005 0x02 ∷ Wrote 0x004 0x00
+        ∷ Wrote 0x003 0xA1 ∷ Wrote 0x002 0x90 ∷ []
+    ) ++ (Offer frame ⟼ Offered) ∷ draws ++ begun
+
+-- a run is open at the tick: it reads `running`
+pub sent_needs_the_end :
+    SendsNothing flipped_again [] (Acted (Read false)) [] (Acted (Read false))
+    × WaitsForRun flipped_again [] × Without (ResetCpu ∷ []) []
+sent_needs_the_end =
+    let flips : IsLegal zeros zeros flipped_again = flip_between_the_bytes.2 in
+    let read = did_more flipped_again (Read false) (Waiting false) flips refl refl in
+    let log : Log = (Tick ⟼ Acted (Read false)) ∷ flipped_again in
+    ((did_more log (Read false) (Waiting false) read refl refl, λ is. cc), _, _)
