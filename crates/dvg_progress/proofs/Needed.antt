@@ -1,22 +1,29 @@
 -- The laws of progress need their premises: for each a legal log in which the others hold, and what
 -- the law says doesn't. By the law itself it is the premise left out of a lemma that fails there.
-use Rattle.std.proofs.Common.{◌≡◌, ℕ, zero, suc, true, false, List, [], ◌∷◌, ◌++◌, replicate, Some, refl, sym, ap, ◌*◌, ◌+◌}
+use Rattle.std.proofs.Common.{◌≡◌, ℕ, zero, suc, true, false, List, [], ◌∷◌, ◌++◌, replicate, Option, Some, pos, negsuc, lit<, lit≤, refl, sym, ap, ◌*◌, ◌+◌}
 use Rattle.std.specs.Prelude.{◌≢◌, None, is_none, option_and_then}
 use Rattle.std.specs.List.{AllByRecursion}
 use Rattle.dvg_mem.specs.Memory.{IsImage}
 use Rattle.dvg_frame.specs.declared.op.OpKind.{OpKind}
 use Rattle.dvg_frame.specs.Layout.{size}
+use Rattle.dvg_code.specs.declared.instr.Instr.TheVariants.{Vctr, Labs, Halt, Jmpl}
+use Rattle.dvg_code.specs.Spelling.{labs, halt, jmpl}
+use Rattle.dvg_code.proofs.Rows.{long_vector}
+use Rattle.dvg_gen.specs.declared.stroke.Stroke.{Stroke}
+use Rattle.dvg_gen.specs.Bytes.{Waits, Whole}
+use Rattle.dvg_gen.specs.Run.{Visit, Adds, first as opens, one as alone, two as closes}
+use Rattle.dvg_gen.specs.Told.{Fed, Newest, grown, begun as begun_run, Leaves, starts, takes, More, Drew, reply, wants}
 use Rattle.dvg_driver.specs.declared.action.Action.{Action}
 use Rattle.dvg_driver.specs.declared.action.Action.TheVariants.{Peek, Wrote, Read, Sent, Idle}
 use Rattle.dvg_driver.specs.Script.{Did}
 use Rattle.dvg_driver.specs.Place.{Booting, Resting, Waiting, next_place, place_of_life}
 use Rattle.dvg_world.specs.Events.{Happening, Offer, Strobe, Fetch, Tick, ResetGen, ResetCpu, ResetAll}
-use Rattle.dvg_world.specs.Entries.{Shown, Offered, Acted, Started, Low, Still, Cleared}
-use Rattle.dvg_world.specs.Log.{◌⟼◌, Log, Throughout, life, open_run, published}
-use Rattle.dvg_world.specs.Legal.{IsLegal}
+use Rattle.dvg_world.specs.Entries.{Shown, Offered, Acted, Started, Low, Done, Still, Cleared}
+use Rattle.dvg_world.specs.Log.{◌⟼◌, Log, Throughout, meets, history, life, open_run, published}
+use Rattle.dvg_world.specs.Legal.{IsLegal, IsWanted}
 use Rattle.dvg_world.proofs.Rows.{flip_between_the_bytes}
 use Rattle.dvg_progress.specs.Progress.{Without, ticks, fetched_since, DrawsOnce}
-use Rattle.dvg_progress.proofs.FirstPicture.{zeros, frame, did, first_writes, writes, accepted, accepted_legal, sends, begun, begun_legal, but_last, draws, legal, draws_apart, ticks_apart, did_more}
+use Rattle.dvg_progress.proofs.FirstPicture.{zeros, frame, did, first_writes, writes, accepted, accepted_legal, sends, begun, begun_legal, stroke, fetched, but_last, draws, legal, draws_apart, ticks_apart, did_more}
 
 is_image : IsImage zeros
 is_image = accepted_legal.2.2.2.1
@@ -188,3 +195,135 @@ sent_needs_the_end =
     let read = did_more flipped_again (Read false) (Waiting false) flips refl refl in
     let log : Log = (Tick ⟼ Acted (Read false)) ∷ flipped_again in
     ((did_more log (Read false) (Waiting false) read refl refl, λ is. cc), _, _)
+
+-- a run goes on by a word, in two fetches
+more : (log : Log) (run : Newest) (address low word : ℕ) (visits : List Visit) (held : Option ℕ)
+    → IsLegal zeros zeros log → Leaves (history zeros zeros log) run → run.is_open ≡ true
+    → wants run ≡ Some address → meets zeros zeros log address ≡ Waits low
+    → meets zeros zeros ((Fetch ⟼ Low address low) ∷ log) address ≡ Whole (Some word)
+    → Adds run.visits run.held word visits held
+    → reply (Some word) (grown run visits held) ≡ More
+    → IsLegal zeros zeros (fetched ((address, low, word) ∷ []) ++ log)
+    × Leaves (Fed (Some word) ∷ history zeros zeros log) (grown run visits held)
+more log run address low word visits held l leaves is_open wanted half whole adds replies =
+    let asked : IsWanted (history zeros zeros log) address =
+        record { run = run; leaves = leaves; wanted = wanted } in
+    let grows = takes leaves is_open adds in
+    (
+      (
+        (
+          whole,
+          record {
+            asked = asked; later = grown run visits held; leaves_later = grows; replies = replies
+          },
+        ),
+        tt,
+        ((half, asked), tt, l),
+      ),
+      grows,
+    )
+
+-- the run's last word, in two fetches
+last : (log : Log) (run : Newest) (address low word : ℕ) (visits : List Visit)
+    (drew : List Stroke) → IsLegal zeros zeros log → Leaves (history zeros zeros log) run
+    → run.is_open ≡ true → wants run ≡ Some address → meets zeros zeros log address ≡ Waits low
+    → meets zeros zeros ((Fetch ⟼ Low address low) ∷ log) address ≡ Whole (Some word)
+    → Adds run.visits run.held word visits None
+    → reply (Some word) (grown run visits None) ≡ Drew drew
+    → IsLegal zeros zeros ((Fetch ⟼ Done address word drew) ∷ (Fetch ⟼ Low address low) ∷ log)
+last log run address low word visits drew l leaves is_open wanted half whole adds replies =
+    let asked : IsWanted (history zeros zeros log) address =
+        record { run = run; leaves = leaves; wanted = wanted } in
+    let grows = takes leaves is_open adds in
+    (
+      (
+        whole,
+        record {
+          asked = asked; later = grown run visits None; leaves_later = grows; replies = replies
+        },
+      ),
+      tt,
+      ((half, asked), tt, l),
+    )
+
+-- the strobe comes again after the first picture
+abbrev again : Log
+again = (Strobe ⟼ Started) ∷ draws
+
+again_legal : IsLegal zeros zeros (again ++ begun)
+again_legal = (refl, tt, legal)
+
+module _ (before : Newest)
+    (leaves : Leaves (history zeros zeros (again ++ begun)) (begun_run before)) where
+  abbrev run : List Visit → Option ℕ → Newest
+  run visits held = grown (begun_run before) visits held
+
+  abbrev jumped : List Visit
+  jumped = record { place = 0; code = Jmpl 0x201 } ∷ []
+
+  abbrev placed : List Visit
+  placed = record { place = 0x201; code = Labs 512 400 0 } ∷ jumped
+
+  abbrev moved : List Visit
+  moved = record { place = 0x203; code = Vctr 9 (negsuc 99) (pos 100) 7 } ∷ placed
+
+  twice_legal : IsLegal zeros zeros (draws ++ (again ++ begun))
+  twice_legal =
+      let one_word = more (again ++ begun) (begun_run before) 0x000 0x01 0xE201 jumped None again_legal
+          leaves refl refl refl refl (alone (jmpl (lit≤ tt) refl)) refl in
+      let at1 : Log = fetched ((0x000, 0x01, 0xE201) ∷ []) ++ (again ++ begun) in
+      let two_words = more at1 (run jumped None) 0x201 0x90 0xA190 jumped (Some 0xA190) one_word.0
+          one_word.1 refl refl refl refl (opens (lit< tt)) refl in
+      let at2 : Log = fetched ((0x201, 0x90, 0xA190) ∷ []) ++ at1 in
+      let three = more at2 (run jumped (Some 0xA190)) 0x202 0x00 0x0200 placed None two_words.0
+          two_words.1 refl refl refl refl
+          (closes (labs (lit≤ tt, lit≤ tt, lit≤ tt) refl refl)) refl in
+      let at3 : Log = fetched ((0x202, 0x00, 0x0200) ∷ []) ++ at2 in
+      let four = more at3 (run placed None) 0x203 0x64 0x9064 placed (Some 0x9064) three.0 three.1
+          refl refl refl refl (opens (lit< tt)) refl in
+      let at4 : Log = fetched ((0x203, 0x64, 0x9064) ∷ []) ++ at3 in
+      let five = more at4 (run placed (Some 0x9064)) 0x204 0x64 0x7464 moved None four.0 four.1 refl
+          refl refl refl (closes long_vector) refl in
+      let at5 : Log = fetched ((0x204, 0x64, 0x7464) ∷ []) ++ at4 in
+      last at5 (run moved None) 0x205 0x00 0xB000 (record { place = 0x205; code = Halt } ∷ moved)
+          stroke five.0 five.1 refl refl refl refl (alone (halt (lit≤ tt) (lit< tt))) refl
+
+twice : IsLegal zeros zeros (draws ++ (again ++ begun))
+twice = let done = legal.0.1 in twice_legal done.later (starts done.leaves_later)
+
+-- the later part of a log is without what both of its parts are without
+joined : (events : List Happening) (one other : Log) → Without events one → Without events other
+    → Without events (one ++ other)
+joined events [] other new old = old
+joined events ((ResetAll bytes ⟼ entry) ∷ one) other new old = absurd new
+joined events ((event ⟼ entry) ∷ one) other new old =
+    (new.0, joined events one other new.1 old)
+
+no_reset : (log : Log) → Without (Strobe ∷ ResetGen ∷ []) log → Without (ResetGen ∷ []) log
+no_reset [] apart = tt
+no_reset ((ResetAll bytes ⟼ entry) ∷ log) apart = absurd apart
+no_reset ((event ⟼ entry) ∷ log) apart = (apart.0.1, no_reset log apart.1)
+
+-- no line is `done`
+abbrev NoneDone : Log → Type 0
+NoneDone log = Throughout (λ _ _ entry. (a w : ℕ) (s : List Stroke) → entry ≢ Done a w s) log
+
+older_done : (one other : Log) → NoneDone (one ++ other) → NoneDone other
+older_done [] other none = none
+older_done ((event ⟼ entry) ∷ one) other none = older_done one other none.1
+
+-- another strobe comes after the run is over, and there are two lines `done`
+pub drawn_needs_no_strobe :
+    let later = draws ++ again in
+    DrawsNoneOnce later × (open_run (later ++ begun) ≡ None) × Without (ResetGen ∷ []) later
+drawn_needs_no_strobe =
+    let draws_on = no_reset draws draws_apart in
+    (
+      (
+        twice,
+        λ F n once. (older_done (but_last ++ (Strobe ⟼ Started) ∷ []) draws once.3).0 0x205 0xB000
+            stroke refl,
+      ),
+      refl,
+      joined (ResetGen ∷ []) draws again draws_on ((λ e. cc, tt), draws_on),
+    )
