@@ -1,6 +1,6 @@
 -- The laws of progress need their premises: for each a legal log in which the others hold, and what
 -- the law says doesn't. By the law itself it is the premise left out of a lemma that fails there.
-use Rattle.std.proofs.Common.{◌≡◌, ℕ, zero, suc, true, false, List, [], ◌∷◌, ◌++◌, replicate, Option, Some, pos, negsuc, ◌≤◌, lit<, lit≤, refl, sym, ap, ◌*◌, ◌+◌}
+use Rattle.std.proofs.Common.{◌≡◌, ℕ, zero, suc, true, false, List, [], ◌∷◌, ◌++◌, length, replicate, Option, Some, pos, negsuc, ◌≤◌, lit<, lit≤, refl, sym, ap, ◌*◌, ◌+◌}
 use Rattle.std.specs.Prelude.{◌≢◌, None, is_none, option_and_then}
 use Rattle.std.specs.List.{AllByRecursion}
 use Rattle.dvg_mem.specs.Memory.{IsImage}
@@ -21,9 +21,9 @@ use Rattle.dvg_world.specs.Events.{Happening, Offer, Strobe, Fetch, Tick, ResetG
 use Rattle.dvg_world.specs.Entries.{Shown, Offered, Acted, Started, NoStrobe, Low, Done, Still, Cleared}
 use Rattle.dvg_world.specs.Log.{◌⟼◌, Log, Throughout, meets, history, life, open_run, strobed, published}
 use Rattle.dvg_world.specs.Legal.{IsLegal, IsWanted}
-use Rattle.dvg_world.proofs.Rows.{flip_between_the_bytes}
+use Rattle.dvg_world.proofs.Rows.{flip_between_the_bytes, restarted_run}
 use Rattle.dvg_progress.specs.Progress.{Without, ticks, fetched_since, DrawsOnce}
-use Rattle.dvg_progress.proofs.FirstPicture.{zeros, frame, stroke, did, first_writes, all_writes, writes, accepted, accepted_legal, sending, sends, begun, begun_legal, fetched, words, but_last, draws, legal, ticks_apart, waits_apart, draws_apart, NoFrame, ticks_accept, fetches_accept, did_more}
+use Rattle.dvg_progress.proofs.FirstPicture.{zeros, frame, stroke, did, first_writes, all_writes, writes, accepted, accepted_legal, sending, sends, begun, begun_legal, fetched, words, but_last, draws, legal, ticks_apart, waits_apart, draws_apart, NoFrame, ticks_accept, fetches_accept, is_shown, did_more}
 
 is_image : IsImage zeros
 is_image = accepted_legal.2.2.2.1
@@ -312,6 +312,12 @@ older_done : (one other : Log) → NoneDone (one ++ other) → NoneDone other
 older_done [] other none = none
 older_done ((event ⟼ entry) ∷ one) other none = older_done one other none.1
 
+fetches_done : (words : List (ℕ × ℕ × ℕ)) (log : Log) → NoneDone log
+    → NoneDone (fetched words ++ log)
+fetches_done [] log none = none
+fetches_done (it ∷ words) log none =
+    (λ a w s e. cc, (λ a w s e. cc, fetches_done words log none))
+
 -- another strobe comes after the run is over, and there are two lines `done`
 pub drawn_needs_no_strobe :
     let later = draws ++ again in
@@ -327,6 +333,17 @@ drawn_needs_no_strobe =
       refl,
       joined (ResetGen ∷ []) draws again draws_on ((λ e. cc, tt), draws_on),
     )
+
+-- a strobe that comes amid the run begins another one, whose fetches alone count: the law's end holds,
+-- with one line `done`, which is fetch number 22 of those since the first strobe
+pub restarts :
+    let later = draws ++ (Strobe ⟼ Started) ∷ fetched words in
+    IsLegal zeros zeros (later ++ begun) × (open_run (later ++ begun) ≡ None)
+    × (length later ≡ 22 + 1) × DrawsOnce frame zeros 6 begun later
+restarts =
+    let early = fetches_done words [] tt in
+    let done = fetches_done words ((Strobe ⟼ Started) ∷ fetched words) (λ a w s e. cc, early) in
+    (restarted_run, refl, refl, (refl, is_shown.1, refl, (λ a w s e. cc, done)))
 
 -- shown_in_time: the frame is accepted by the driver that has booted, and no other one; no run is open
 -- then; and the frame, whose bound is 6, isn't drawn once after the strobe
@@ -395,6 +412,21 @@ shown_needs_the_processor =
       (waits_apart (replicate 2 Idle), lit≤ tt),
     )
 
+-- the whole system is reset while the frame is written
+pub shown_needs_the_system :
+    let write = did (idled 10) ++ (ResetAll zeros ⟼ Cleared) ∷ [] in
+    let send = did (replicate 2 Idle) in
+    NeverBegun write send × (2 * size frame + 2 ≤ ticks write) × IsSending send
+shown_needs_the_system =
+    let reset : Log = (ResetAll zeros ⟼ Cleared) ∷ [] in
+    let idle = (idles (reset ++ accepted) (tt, is_image, accepted_legal) refl refl 12).0 in
+    (
+      never_begun (did (idled 10) ++ reset) (did (replicate 2 Idle)) idle
+          (ticks_accept_too (idled 12) reset (λ e. cc, tt)) refl refl refl (lit≤ tt),
+      lit≤ tt,
+      (waits_apart (replicate 2 Idle), lit≤ tt),
+    )
+
 -- a tick less comes for the writes: the flip comes next, and no tick is left for the strobe
 pub shown_needs_the_last_write :
     let write = did first_writes in let send = did (Read true ∷ Wrote 0x001 0xE2 ∷ []) in
@@ -437,6 +469,21 @@ shown_needs_the_sender =
           refl refl (lit≤ tt),
       (ticks_apart all_writes, lit≤ tt),
       ((λ e. cc, tt), ((λ e. cc, tt), ((λ e. cc, tt), tt))),
+      lit≤ tt,
+    )
+
+-- the whole system is reset before the strobe is sent
+pub shown_needs_what_was_written :
+    let send = did (idled 0) ++ (ResetAll zeros ⟼ Cleared) ∷ [] in
+    NeverBegun writes send × IsWriting writes × (2 ≤ ticks send)
+shown_needs_what_was_written =
+    let reset : Log = (ResetAll zeros ⟼ Cleared) ∷ [] in
+    let read = (idles (reset ++ flipped) (tt, is_image, begun_legal.2.2.2) refl refl 0).0 in
+    (
+      never_begun writes (did (idled 0) ++ reset) read
+          (ticks_accept_too (idled 0) (reset ++ writes) (λ e. cc, ticks_accept all_writes)) refl
+          refl refl (lit≤ tt),
+      (ticks_apart all_writes, lit≤ tt),
       lit≤ tt,
     )
 
@@ -490,6 +537,25 @@ shown_needs_the_generator =
       (ticks_apart all_writes, lit≤ tt),
       (waits_apart sending, lit≤ tt),
       drawn_needs_the_generator.3,
+      lit≤ tt,
+    )
+
+-- the whole system is reset, and then 12 fetches come
+pub shown_needs_the_memory :
+    let draw = stood 12 ++ (ResetAll zeros ⟼ Cleared) ∷ [] in
+    Undrawn 6 writes sends Started draw × IsWriting writes × IsSending sends
+    × (12 ≤ fetched_since (draw ++ begun))
+shown_needs_the_memory =
+    let reset : Log = (ResetAll zeros ⟼ Cleared) ∷ sends ++ writes in
+    (
+      (
+        drawn_needs_the_system.0.0,
+        fetches_stand 12 reset (λ e. cc, ticks_accept (sending ++ all_writes)),
+        refl,
+        drawn_needs_the_system.0.1 frame 6,
+      ),
+      (ticks_apart all_writes, lit≤ tt),
+      (waits_apart sending, lit≤ tt),
       lit≤ tt,
     )
 
