@@ -9,6 +9,7 @@ pub mod Ready
 pub mod Together
 pub mod FirstPicture
 pub mod Needed
+pub mod OtherFrame
 pub mod Following
 pub mod Ticking
 pub mod Unstuck

@@ -25,7 +25,7 @@ use Rattle.dvg_world.proofs.Rows.{flip_between_the_bytes, restarted_run}
 use Rattle.dvg_progress.specs.Progress.{Without, ticks, fetched_since, DrawsOnce}
 use Rattle.dvg_progress.proofs.FirstPicture.{zeros, frame, stroke, did, first_writes, all_writes, writes, accepted, accepted_legal, sending, sends, begun, begun_legal, fetched, words, but_last, draws, legal, ticks_apart, waits_apart, draws_apart, NoFrame, ticks_accept, fetches_accept, is_shown, did_more}
 
-is_image : IsImage zeros
+pub is_image : IsImage zeros
 is_image = accepted_legal.2.2.2.1
 
 -- ticks of a driver that was reset: it peeks, reads and idles
@@ -56,16 +56,16 @@ idles log l new none (suc count) =
     )
 
 -- fetches at which no run is open
-abbrev stood : ℕ → Log
+abbrev pub stood : ℕ → Log
 stood count = replicate count (Fetch ⟼ Still)
 
-stands_still : (log : Log) → IsLegal zeros zeros log → open_run log ≡ None → (count : ℕ)
+pub stands_still : (log : Log) → IsLegal zeros zeros log → open_run log ≡ None → (count : ℕ)
     → IsLegal zeros zeros (stood count ++ log) × (open_run (stood count ++ log) ≡ None)
 stands_still log l none zero = (l, none)
 stands_still log l none (suc count) =
     let before = stands_still log l none count in ((before.1, tt, before.0), before.1)
 
-stood_apart : (events : List Happening) (log : Log) → AllByRecursion (λ e. Fetch ≢ e) events
+pub stood_apart : (events : List Happening) (log : Log) → AllByRecursion (λ e. Fetch ≢ e) events
     → Without events log → (count : ℕ) → Without events (stood count ++ log)
 stood_apart events log fetch apart zero = apart
 stood_apart events log fetch apart (suc count) = (fetch, stood_apart events log fetch apart count)
@@ -137,7 +137,7 @@ abbrev WaitsForRun : Log → Log → Type 0
 WaitsForRun flipped wait =
     Throughout (λ log event entry. event ≡ Tick → open_run (log ++ flipped) ≢ None) wait
 
-abbrev flipped : Log
+abbrev pub flipped : Log
 flipped = writes ++ accepted
 
 -- the processor is reset after the flip: the first tick peeks, and the next one reads
@@ -197,7 +197,7 @@ sent_needs_the_end =
     ((did_more log (Read false) (Waiting false) read refl refl, λ is. cc), _, _)
 
 -- a run goes on by a word, in two fetches
-more : (log : Log) (run : Newest) (address low word : ℕ) (visits : List Visit) (held : Option ℕ)
+pub more : (log : Log) (run : Newest) (address low word : ℕ) (visits : List Visit) (held : Option ℕ)
     → IsLegal zeros zeros log → Leaves (history zeros zeros log) run → run.is_open ≡ true
     → wants run ≡ Some address → meets zeros zeros log address ≡ Waits low
     → meets zeros zeros ((Fetch ⟼ Low address low) ∷ log) address ≡ Whole (Some word)
@@ -224,7 +224,7 @@ more log run address low word visits held l leaves is_open wanted half whole add
     )
 
 -- the run's last word, in two fetches
-last : (log : Log) (run : Newest) (address low word : ℕ) (visits : List Visit)
+pub last : (log : Log) (run : Newest) (address low word : ℕ) (visits : List Visit)
     (drew : List Stroke) → IsLegal zeros zeros log → Leaves (history zeros zeros log) run
     → run.is_open ≡ true → wants run ≡ Some address → meets zeros zeros log address ≡ Waits low
     → meets zeros zeros ((Fetch ⟼ Low address low) ∷ log) address ≡ Whole (Some word)
@@ -347,20 +347,20 @@ restarts =
 
 -- shown_in_time: the frame is accepted by the driver that has booted, and no other one; no run is open
 -- then; and the frame, whose bound is 6, isn't drawn once after the strobe
-abbrev Undrawn : ℕ → Log → Log → Shown → Log → Type 0
+abbrev pub Undrawn : ℕ → Log → Log → Shown → Log → Type 0
 Undrawn n write send entry draw =
     let started = (Strobe ⟼ entry) ∷ send ++ (write ++ accepted) in
     IsLegal zeros zeros (draw ++ started) × NoFrame (draw ++ (send ++ write))
     × (open_run (write ++ accepted) ≡ None) × ¬ DrawsOnce frame zeros n started draw
 
 -- the other premises, of each part of the log
-abbrev IsWriting : Log → Type 0
+abbrev pub IsWriting : Log → Type 0
 IsWriting write = Without (ResetCpu ∷ []) write × (2 * size frame + 2 ≤ ticks write)
 
-abbrev IsSending : Log → Type 0
+abbrev pub IsSending : Log → Type 0
 IsSending send = Without (Strobe ∷ ResetCpu ∷ []) send × (2 ≤ ticks send)
 
-abbrev IsDrawing : ℕ → Log → Log → Type 0
+abbrev pub IsDrawing : ℕ → Log → Log → Type 0
 IsDrawing n started draw =
     Without (Strobe ∷ ResetGen ∷ []) draw × (2 * n ≤ fetched_since (draw ++ started))
 
@@ -373,7 +373,7 @@ ticks_accept_too : (actions : List Action) (log : Log) → NoFrame log → NoFra
 ticks_accept_too [] log none = none
 ticks_accept_too (action ∷ actions) log none = (λ e. cc, ticks_accept_too actions log none)
 
-fetches_stand : (count : ℕ) (log : Log) → NoFrame log → NoFrame (stood count ++ log)
+pub fetches_stand : (count : ℕ) (log : Log) → NoFrame log → NoFrame (stood count ++ log)
 fetches_stand zero log none = none
 fetches_stand (suc count) log none = (λ e. cc, fetches_stand count log none)
 
