@@ -94,8 +94,9 @@ published_needs_the_system =
 -- one tick less comes
 pub published_needs_the_last_tick :
     let later = did first_writes in
-    PublishesNothing later × (suc (ticks later) ≡ 2 * size frame + 2) × Without (ResetCpu ∷ []) later
-published_needs_the_last_tick = ((begun_legal.2.2.2.2, λ e. cc), refl, ticks_apart first_writes)
+    PublishesNothing later × Without (ResetCpu ∷ []) later
+    × (suc (ticks later) ≡ 2 * size frame + 2)
+published_needs_the_last_tick = ((begun_legal.2.2.2.2, λ e. cc), ticks_apart first_writes, refl)
 
 -- drawn_in_time: there is no frame of which the log's later part holds one `done` alone, in time
 abbrev DrawsNoneOnce : Log → Type 0
@@ -122,11 +123,12 @@ pub drawn_needs_the_system :
     let later = stood 12 ++ (ResetAll zeros ⟼ Cleared) ∷ [] in
     DrawsNoneOnce later × (open_run (later ++ begun) ≡ None) × (fetched_since (later ++ begun) ≡ 12)
 drawn_needs_the_system =
-    let still = stands_still ((ResetAll zeros ⟼ Cleared) ∷ begun) (tt, is_image, begun_legal) refl 12 in
+    let reset : Log = (ResetAll zeros ⟼ Cleared) ∷ begun in
+    let still = stands_still reset (tt, is_image, begun_legal) refl 12 in
     ((still.0, λ F n once. once), still.1, refl)
 
--- sent_in_time: of these two ticks after a flip the first doesn't read `halted`, or the next sends no
--- strobe
+-- sent_in_time: of these two ticks after a flip the first doesn't read `halted`, or the next one
+-- doesn't send the strobe
 abbrev SendsNothing : Log → Log → Shown → Log → Shown → Type 0
 SendsNothing flipped wait first rest next =
     IsLegal zeros zeros ((Tick ⟼ next) ∷ rest ++ (Tick ⟼ first) ∷ wait ++ flipped)
@@ -269,8 +271,8 @@ module _ (before : Newest)
 
   twice_legal : IsLegal zeros zeros (draws ++ (again ++ begun))
   twice_legal =
-      let one_word = more (again ++ begun) (begun_run before) 0x000 0x01 0xE201 jumped None again_legal
-          leaves refl refl refl refl (alone (jmpl (lit≤ tt) refl)) refl in
+      let one_word = more (again ++ begun) (begun_run before) 0x000 0x01 0xE201 jumped None
+          again_legal leaves refl refl refl refl (alone (jmpl (lit≤ tt) refl)) refl in
       let at1 : Log = fetched ((0x000, 0x01, 0xE201) ∷ []) ++ (again ++ begun) in
       let two_words = more at1 (run jumped None) 0x201 0x90 0xA190 jumped (Some 0xA190) one_word.0
           one_word.1 refl refl refl refl (opens (lit< tt)) refl in
@@ -292,7 +294,7 @@ twice : IsLegal zeros zeros (draws ++ (again ++ begun))
 twice = let done = legal.0.1 in twice_legal done.later (starts done.leaves_later)
 
 -- the later part of a log is without what both of its parts are without
-joined : (events : List Happening) (one other : Log) → Without events one → Without events other
+pub joined : (events : List Happening) (one other : Log) → Without events one → Without events other
     → Without events (one ++ other)
 joined events [] other new old = old
 joined events ((ResetAll bytes ⟼ entry) ∷ one) other new old = absurd new
@@ -334,8 +336,8 @@ drawn_needs_no_strobe =
       joined (ResetGen ∷ []) draws again draws_on ((λ e. cc, tt), draws_on),
     )
 
--- a strobe that comes amid the run begins another one, whose fetches alone count: the law's end holds,
--- with one line `done`, which is fetch number 22 of those since the first strobe
+-- a strobe that comes amid the run begins another one, and the law counts that one's fetches: what
+-- it says holds here, and the one `done` is fetch number 22 since the first strobe
 pub restarts :
     let later = draws ++ (Strobe ⟼ Started) ∷ fetched words in
     IsLegal zeros zeros (later ++ begun) × (open_run (later ++ begun) ≡ None)
@@ -345,8 +347,8 @@ restarts =
     let done = fetches_done words ((Strobe ⟼ Started) ∷ fetched words) (λ a w s e. cc, early) in
     (restarted_run, refl, refl, (refl, is_shown.1, refl, (λ a w s e. cc, done)))
 
--- shown_in_time: the frame is accepted by the driver that has booted, and no other one; no run is open
--- then; and the frame, whose bound is 6, isn't drawn once after the strobe
+-- shown_in_time: the driver that has booted accepts the frame, whose bound is 6, and no other one;
+-- no run is open once it is written; and after the strobe the frame isn't drawn once
 abbrev pub Undrawn : ℕ → Log → Log → Shown → Log → Type 0
 Undrawn n write send entry draw =
     let started = (Strobe ⟼ entry) ∷ send ++ (write ++ accepted) in
@@ -435,8 +437,8 @@ pub shown_needs_the_last_write :
 shown_needs_the_last_write =
     let sent : List Action = Read true ∷ Wrote 0x001 0xE2 ∷ [] in
     (
-      never_begun (did first_writes) (did sent) begun_legal.2.2 (ticks_accept (sent ++ first_writes))
-          refl refl refl (lit≤ tt),
+      never_begun (did first_writes) (did sent) begun_legal.2.2
+          (ticks_accept (sent ++ first_writes)) refl refl refl (lit≤ tt),
       ticks_apart first_writes,
       refl,
       (waits_apart sent, lit≤ tt),
@@ -562,7 +564,8 @@ shown_needs_the_memory =
 -- 7 is no bound of the frame: 14 fetches come, and the twelfth is `done`
 pub shown_needs_the_bound :
     let draw = stood 2 ++ draws in
-    Undrawn 7 writes sends Started draw × IsWriting writes × IsSending sends × IsDrawing 7 begun draw
+    Undrawn 7 writes sends Started draw × IsWriting writes × IsSending sends
+    × IsDrawing 7 begun draw
 shown_needs_the_bound =
     (
       (
