@@ -1,7 +1,7 @@
 -- The laws of progress need their premises: for each a legal log in which the others hold, and what
 -- the law says doesn't. By the law itself it is the premise left out of a lemma that fails there.
 use Rattle.std.proofs.Common.{◌≡◌, ℕ, zero, suc, true, false, List, [], ◌∷◌, ◌++◌, length, replicate, Option, Some, pos, negsuc, ◌≤◌, lit<, lit≤, refl, sym, ap, ◌*◌, ◌+◌}
-use Rattle.std.specs.Prelude.{◌≢◌, None, is_none, option_and_then}
+use Rattle.std.specs.Prelude.{◌≢◌, None, is_none, option_and_then, reverse}
 use Rattle.std.specs.List.{AllByRecursion}
 use Rattle.dvg_mem.specs.Memory.{IsImage}
 use Rattle.dvg_frame.specs.declared.op.OpKind.{OpKind}
@@ -15,15 +15,15 @@ use Rattle.dvg_gen.specs.Run.{Visit, Adds, first as opens, one as alone, two as 
 use Rattle.dvg_gen.specs.Told.{Fed, Newest, grown, begun as begun_run, Leaves, starts, takes, More, Drew, reply, wants}
 use Rattle.dvg_driver.specs.declared.action.Action.{Action}
 use Rattle.dvg_driver.specs.declared.action.Action.TheVariants.{Peek, Wrote, Read, Sent, Idle}
-use Rattle.dvg_driver.specs.Script.{Did}
+use Rattle.dvg_driver.specs.Script.{Did, wrote, frame_writes}
 use Rattle.dvg_driver.specs.Place.{Booting, Resting, Waiting, next_place, place_of_life}
 use Rattle.dvg_world.specs.Events.{Happening, Offer, Strobe, Fetch, Tick, ResetGen, ResetCpu, ResetAll}
 use Rattle.dvg_world.specs.Entries.{Shown, Offered, Acted, Started, NoStrobe, Low, Done, Still, Cleared}
-use Rattle.dvg_world.specs.Log.{◌⟼◌, Log, Throughout, meets, history, life, open_run, strobed, published}
+use Rattle.dvg_world.specs.Log.{◌⟼◌, Log, Throughout, meets, history, life, free_half, open_run, strobed, published}
 use Rattle.dvg_world.specs.Legal.{IsLegal, IsWanted}
 use Rattle.dvg_world.proofs.Rows.{flip_between_the_bytes, restarted_run}
 use Rattle.dvg_progress.specs.Progress.{Without, ticks, fetched_since, DrawsOnce}
-use Rattle.dvg_progress.proofs.FirstPicture.{zeros, frame, stroke, did, first_writes, all_writes, writes, accepted, accepted_legal, sending, sends, begun, begun_legal, fetched, words, but_last, draws, legal, ticks_apart, waits_apart, draws_apart, NoFrame, ticks_accept, fetches_accept, is_shown, did_more}
+use Rattle.dvg_progress.proofs.FirstPicture.{zeros, booted, frame, stroke, did, first_writes, all_writes, writes, accepted, accepted_legal, sending, sends, begun, begun_legal, fetched, words, but_last, draws, legal, ticks_apart, waits_apart, draws_apart, NoFrame, ticks_accept, fetches_accept, is_shown, did_more}
 
 pub is_image : IsImage zeros
 is_image = accepted_legal.2.2.2.1
@@ -97,6 +97,16 @@ pub published_needs_the_last_tick :
     PublishesNothing later × Without (ResetCpu ∷ []) later
     × (suc (ticks later) ≡ 2 * size frame + 2)
 published_needs_the_last_tick = ((begun_legal.2.2.2.2, λ e. cc), ticks_apart first_writes, refl)
+
+-- a tick more comes: the life has the writes, and the read after them
+pub published_needs_no_more :
+    let later = did (Read true ∷ all_writes) in
+    IsLegal zeros zeros (later ++ accepted) × Without (ResetCpu ∷ []) later
+    × (ticks later ≡ suc (2 * size frame + 2))
+    × ¬ (life zeros (later ++ accepted)
+    ≡ reverse (wrote (frame_writes (free_half zeros booted) frame true)) ++ life zeros accepted)
+published_needs_no_more =
+    (begun_legal.2.2, ticks_apart (Read true ∷ all_writes), refl, λ e. cc)
 
 -- drawn_in_time: there is no frame of which the log's later part holds one `done` alone, in time
 abbrev DrawsNoneOnce : Log → Type 0
