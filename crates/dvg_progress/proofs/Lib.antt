@@ -10,6 +10,7 @@ pub mod Together
 pub mod FirstPicture
 pub mod Needed
 pub mod OtherFrame
+pub mod Sooner
 pub mod Following
 pub mod Ticking
 pub mod Unstuck
