@@ -303,7 +303,7 @@ module _ (before : Newest)
 twice : IsLegal zeros zeros (draws ++ (again ++ begun))
 twice = let done = legal.0.1 in twice_legal done.later (starts done.leaves_later)
 
--- the later part of a log is without what both of its parts are without
+-- what both parts are without, the whole is without
 pub joined : (events : List Happening) (one other : Log) → Without events one → Without events other
     → Without events (one ++ other)
 joined events [] other new old = old
@@ -358,7 +358,8 @@ restarts =
     (restarted_run, refl, refl, (refl, is_shown.1, refl, (λ a w s e. cc, done)))
 
 -- shown_in_time: the driver that has booted accepts the frame, whose bound is 6, and no other one;
--- no run is open once it is written; and after the strobe the frame isn't drawn once
+-- no run is open once it is written; and after the strobe the frame isn't drawn once. That what is
+-- open halts, and that no strobe comes before this one, isn't needed (`Sooner`)
 abbrev pub Undrawn : ℕ → Log → Log → Shown → Log → Type 0
 Undrawn n write send entry draw =
     let started = (Strobe ⟼ entry) ∷ send ++ (write ++ accepted) in
@@ -413,13 +414,15 @@ but_last_accepts =
 -- the processor is reset while the frame is written
 pub shown_needs_the_processor :
     let write = did (idled 10) ++ (ResetCpu ⟼ Cleared) ∷ [] in let send = did (replicate 2 Idle) in
-    NeverBegun write send × (2 * size frame + 2 ≤ ticks write) × IsSending send
+    NeverBegun write send × Without [] write × (2 * size frame + 2 ≤ ticks write)
+    × IsSending send
 shown_needs_the_processor =
     let reset : Log = (ResetCpu ⟼ Cleared) ∷ [] in
     let idle = (idles (reset ++ accepted) (tt, tt, accepted_legal) refl refl 12).0 in
     (
       never_begun (did (idled 10) ++ reset) (did (replicate 2 Idle)) idle
           (ticks_accept_too (idled 12) reset (λ e. cc, tt)) refl refl refl (lit≤ tt),
+      _,
       lit≤ tt,
       (waits_apart (replicate 2 Idle), lit≤ tt),
     )

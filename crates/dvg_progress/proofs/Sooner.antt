@@ -1,5 +1,5 @@
--- shown_in_time needs no halting of what is open, and strobes may come in between: a run is open only
--- where a strobe was sent, and then each one that comes begins a run.
+-- shown_in_time needs no halting of what is open, and strobes may come in between: a run is open
+-- only where a strobe was sent, and then each one that comes begins a run.
 use Rattle.std.proofs.Common.{◌≡◌, ℕ, suc, ◌+◌, ◌*◌, ◌≤◌, Bool, true, false, List, [], ◌∷◌, ◌++◌, None, refl, sym, ap, ◌∙◌, subst, arith}
 use Rattle.std.specs.Prelude.{◌≢◌, is_none}
 use Rattle.std.proofs.lemmas.Bool.{true≢false}
