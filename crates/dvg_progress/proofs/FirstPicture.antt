@@ -1,6 +1,6 @@
 -- The laws of progress, used on the first picture: none of their premises is empty.
-use Rattle.std.proofs.Common.{◌≡◌, ℕ, zero, suc, pos, negsuc, true, List, [], ◌∷◌, ◌++◌, length, replicate, Some, refl, sym, ap, subst, lit≤, ◌<◌, ◌*◌, ◌+◌, arith}
-use Rattle.std.specs.Prelude.{◌≢◌, None, is_none, option_and_then}
+use Rattle.std.proofs.Common.{◌≡◌, ℕ, suc, pos, negsuc, true, List, [], ◌∷◌, ◌++◌, length, replicate, Some, refl, sym, ap, subst, lit≤, ◌<◌, ◌*◌, ◌+◌, arith}
+use Rattle.std.specs.Prelude.{◌≢◌, is_none}
 use Rattle.std.proofs.lemmas.Option.{same_Some}
 use Rattle.dvg_code.specs.declared.instr.Instr.TheVariants.{Vctr, Labs}
 use Rattle.dvg_gen.specs.declared.stroke.Stroke.{Stroke}
@@ -9,18 +9,18 @@ use Rattle.dvg_frame.specs.declared.op.OpKind.TheVariants.{Draw, Halt as Stop}
 use Rattle.dvg_frame.specs.Picture.{IsPicture, IsBound}
 use Rattle.dvg_frame.proofs.Pictures.{one_picture}
 use Rattle.dvg_driver.specs.declared.action.Action.{Action}
-use Rattle.dvg_driver.specs.declared.action.Action.TheVariants.{Peek, Wrote, Read, Sent, Idle}
+use Rattle.dvg_driver.specs.declared.action.Action.TheVariants.{Peek, Wrote, Read, Sent}
 use Rattle.dvg_driver.specs.Script.{Did}
-use Rattle.dvg_driver.specs.Place.{Place, Booting, Resting, next_place, place_of_life}
+use Rattle.dvg_driver.specs.Place.{Place, place_of_life}
 use Rattle.dvg_driver.specs.Stands.{Tells}
 use Rattle.dvg_driver.proofs.Shapes.{place_life}
 use Rattle.dvg_world.specs.Events.{Offer, Tick, Strobe, Fetch, ResetGen, ResetCpu}
-use Rattle.dvg_world.specs.Entries.{Offered, Acted, Started, Low, Fetched, Done, Still, Cleared}
+use Rattle.dvg_world.specs.Entries.{Offered, Acted, Started, Low, Fetched, Done}
 use Rattle.dvg_world.specs.Log.{◌⟼◌, Log, Throughout, life, open_run, published}
 use Rattle.dvg_world.specs.Legal.{IsLegal}
 use Rattle.dvg_world.proofs.Headline.{draws_published}
 use Rattle.dvg_world.proofs.Rows.{first_picture}
-use Rattle.dvg_progress.specs.Progress.{Without, ticks, fetched_since, DrawsOnce}
+use Rattle.dvg_progress.specs.Progress.{Without, fetched_since, DrawsOnce}
 use Rattle.dvg_progress.proofs.Drawn.{drawn_in_time}
 use Rattle.dvg_progress.proofs.Halting.{halts_in_time}
 use Rattle.dvg_progress.proofs.Sending.{legal_before, sent_in_time}
@@ -28,101 +28,101 @@ use Rattle.dvg_progress.proofs.Together.{shown_in_time}
 use Rattle.dvg_progress.proofs.Unstuck.{never_stuck}
 use Rattle.dvg_progress.proofs.Writing.{published_in_time}
 
-abbrev zeros : List ℕ
+abbrev pub zeros : List ℕ
 zeros = replicate 2048 0
 
 -- labs 512 400 0; vctr 9 -100 100 7; halt
 abbrev pub frame : List OpKind
 frame = Draw (Labs 512 400 0) ∷ Draw (Vctr 9 (negsuc 99) (pos 100) 7) ∷ Stop ∷ []
 
-abbrev stroke : List Stroke
+abbrev pub stroke : List Stroke
 stroke = record { x0 = 262144; y0 = 204800; x1 = 210944; y1 = 256000; z = 7 } ∷ []
 
 -- ticks of these actions, newest first
-abbrev did : List Action → Log
+abbrev pub did : List Action → Log
 did [] = []
 did (action ∷ actions) = (Tick ⟼ Acted action) ∷ did actions
 
-abbrev booted : Log
+abbrev pub booted : Log
 booted = did (Read true ∷ Peek ∷ [])
 
 -- the writes but the flip
-abbrev first_writes : List Action
+abbrev pub first_writes : List Action
 first_writes =
     Wrote 0x000 0x01 ∷ Wrote 0x40B 0xB0 ∷ Wrote 0x40A 0x00 ∷ Wrote 0x409 0x74 ∷ Wrote 0x408 0x64
     ∷ Wrote 0x407 0x90 ∷ Wrote 0x406 0x64 ∷ Wrote 0x405 0x02 ∷ Wrote 0x404 0x00 ∷ Wrote 0x403 0xA1
     ∷ Wrote 0x402 0x90 ∷ []
 
-abbrev all_writes : List Action
+abbrev pub all_writes : List Action
 all_writes = Wrote 0x001 0xE2 ∷ first_writes
 
-abbrev writes : Log
+abbrev pub writes : Log
 writes = did all_writes
 
-abbrev accepted : Log
+abbrev pub accepted : Log
 accepted = (Offer frame ⟼ Offered) ∷ booted
 
-abbrev sending : List Action
+abbrev pub sending : List Action
 sending = Sent ∷ Read true ∷ []
 
-abbrev sends : Log
+abbrev pub sends : Log
 sends = did sending
 
-abbrev begun : Log
+abbrev pub begun : Log
 begun = (Strobe ⟼ Started) ∷ sends ++ (writes ++ accepted)
 
 -- the two fetches of each of these words, of its address, its low byte and itself, newest first
-abbrev fetched : List (ℕ × ℕ × ℕ) → Log
+abbrev pub fetched : List (ℕ × ℕ × ℕ) → Log
 fetched [] = []
 fetched (it ∷ words) = (Fetch ⟼ Fetched it.0 it.2) ∷ (Fetch ⟼ Low it.0 it.1) ∷ fetched words
 
-abbrev words : List (ℕ × ℕ × ℕ)
+abbrev pub words : List (ℕ × ℕ × ℕ)
 words =
     (0x204, 0x64, 0x7464) ∷ (0x203, 0x64, 0x9064) ∷ (0x202, 0x00, 0x0200) ∷ (0x201, 0x90, 0xA190)
     ∷ (0x000, 0x01, 0xE201) ∷ []
 
-abbrev but_last : Log
+abbrev pub but_last : Log
 but_last = (Fetch ⟼ Low 0x205 0x00) ∷ fetched words
 
-abbrev draws : Log
+abbrev pub draws : Log
 draws = (Fetch ⟼ Done 0x205 0xB000 stroke) ∷ but_last
 
-legal : IsLegal zeros zeros (draws ++ begun)
+pub legal : IsLegal zeros zeros (draws ++ begun)
 legal = first_picture
 
 -- a tick is no reset and no strobe, and neither is a fetch
-ticks_apart : (actions : List Action) → Without (ResetCpu ∷ []) (did actions)
+pub ticks_apart : (actions : List Action) → Without (ResetCpu ∷ []) (did actions)
 ticks_apart [] = tt
 ticks_apart (action ∷ actions) = ((λ e. cc, tt), ticks_apart actions)
 
-waits_apart : (actions : List Action) → Without (Strobe ∷ ResetCpu ∷ []) (did actions)
+pub waits_apart : (actions : List Action) → Without (Strobe ∷ ResetCpu ∷ []) (did actions)
 waits_apart [] = tt
 waits_apart (action ∷ actions) = ((λ e. cc, (λ e. cc, tt)), waits_apart actions)
 
-fetches_apart : (words : List (ℕ × ℕ × ℕ)) → Without (Strobe ∷ ResetGen ∷ []) (fetched words)
+pub fetches_apart : (words : List (ℕ × ℕ × ℕ)) → Without (Strobe ∷ ResetGen ∷ []) (fetched words)
 fetches_apart [] = tt
 fetches_apart (it ∷ words) = (
   (λ e. cc, (λ e. cc, tt)),
   ((λ e. cc, (λ e. cc, tt)), fetches_apart words),
 )
 
-draws_apart : Without (Strobe ∷ ResetGen ∷ []) draws
+pub draws_apart : Without (Strobe ∷ ResetGen ∷ []) draws
 draws_apart = ((λ e. cc, (λ e. cc, tt)), ((λ e. cc, (λ e. cc, tt)), fetches_apart words))
 
 -- none of them accepts a frame
-abbrev NoFrame : Log → Type 0
+abbrev pub NoFrame : Log → Type 0
 NoFrame log = Throughout (λ _ _ entry. entry ≢ Offered) log
 
-ticks_accept : (actions : List Action) → NoFrame (did actions)
+pub ticks_accept : (actions : List Action) → NoFrame (did actions)
 ticks_accept [] = tt
 ticks_accept (action ∷ actions) = (λ e. cc, ticks_accept actions)
 
-fetches_accept : (words : List (ℕ × ℕ × ℕ)) (log : Log) → NoFrame log
+pub fetches_accept : (words : List (ℕ × ℕ × ℕ)) (log : Log) → NoFrame log
     → NoFrame (fetched words ++ log)
 fetches_accept [] log none = none
 fetches_accept (it ∷ words) log none = (λ e. cc, (λ e. cc, fetches_accept words log none))
 
-begun_legal : IsLegal zeros zeros begun
+pub begun_legal : IsLegal zeros zeros begun
 begun_legal = legal_before zeros zeros draws begun legal
 
 -- the frame's picture has 6 words
@@ -171,7 +171,7 @@ is_shown =
     (ticks_apart all_writes) (lit≤ tt) (λ G m is_open shown bound. absurd (is_open refl))
     (waits_apart sending) (lit≤ tt) bound draws_apart (lit≤ tt)
 
-accepted_legal : IsLegal zeros zeros accepted
+pub accepted_legal : IsLegal zeros zeros accepted
 accepted_legal = legal_before zeros zeros writes accepted begun_legal.2.2.2
 
 -- with a run open after 11 fetches, the frame can be drawn once more, within 1067 events
@@ -186,43 +186,8 @@ is_unstuck =
     (again.0, again.7)
 
 -- one more tick
-did_more : (log : Log) (action : Action) (to : Place) → IsLegal zeros zeros log
+pub did_more : (log : Log) (action : Action) (to : Place) → IsLegal zeros zeros log
     → place_of_life (Did action ∷ life zeros log) ≡ Some to → Tells action (is_none (open_run log))
     → IsLegal zeros zeros ((Tick ⟼ Acted action) ∷ log)
 did_more log action to l stands tells =
     ((place_life (Did action ∷ life zeros log) to stands, tells), tt, l)
-
--- the driver that was reset reads and idles
-abbrev idled : List Action → Log
-idled actions = did (actions ++ (Read true ∷ Peek ∷ [])) ++ (ResetCpu ⟼ Cleared) ∷ accepted
-
-idles : (count : ℕ) → IsLegal zeros zeros (idled (replicate count Idle))
-    × (place_of_life (life zeros (idled (replicate count Idle))) ≡ Some (Resting true))
-    × (open_run (idled (replicate count Idle)) ≡ None)
-idles zero =
-    let reset : Log = (ResetCpu ⟼ Cleared) ∷ accepted in
-    let peeked = did_more reset Peek Booting (tt, tt, accepted_legal) refl tt in
-    (did_more ((Tick ⟼ Acted Peek) ∷ reset) (Read true) (Resting true) peeked refl refl, refl, refl)
-idles (suc count) =
-    let before = idles count in
-    let log : Log = idled (replicate count Idle) in
-    let stands = ap (option_and_then (λ place. next_place place (Did Idle))) before.1 in
-    (did_more log Idle (Resting true) before.0 stands tt, stands, before.2)
-
--- with the processor reset in between, 12 ticks publish nothing
-pub needs_the_processor : IsLegal zeros zeros (idled (replicate 10 Idle))
-    × (ticks (did (replicate 10 Idle ++ (Read true ∷ Peek ∷ []))) ≡ 12)
-    × (published (idled (replicate 10 Idle)) ≡ None)
-needs_the_processor = ((idles 10).0, refl, refl)
-
--- fetches of a generator that was reset
-abbrev stood : ℕ → Log
-stood count = replicate count (Fetch ⟼ Still) ++ (ResetGen ⟼ Cleared) ∷ begun
-
-stands_still : (count : ℕ) → IsLegal zeros zeros (stood count) × (open_run (stood count) ≡ None)
-stands_still zero = ((tt, tt, begun_legal), refl)
-stands_still (suc count) = let before = stands_still count in ((before.1, tt, before.0), before.1)
-
--- with the generator reset in between, 12 fetches draw nothing
-pub needs_the_generator : IsLegal zeros zeros (stood 12) × (fetched_since (stood 12) ≡ 12)
-needs_the_generator = ((stands_still 12).0, refl)

@@ -8,6 +8,9 @@ pub mod Newest
 pub mod Ready
 pub mod Together
 pub mod FirstPicture
+pub mod Needed
+pub mod OtherFrame
+pub mod Sooner
 pub mod Following
 pub mod Ticking
 pub mod Unstuck

@@ -21,7 +21,7 @@ pub data Ready (image : List ℕ) (log : Log) (count : ℕ) : Type 0 where
   waiting : (first : Bool) → place_of_life (life image log) ≡ Some (Waiting first) → count ≤ 0
       → Ready image log count
 
-strobed_stays : (log : Log) (event : Happening) (entry : Shown) → LivesOn log event entry
+pub strobed_stays : (log : Log) (event : Happening) (entry : Shown) → LivesOn log event entry
     → strobed log ≡ true → strobed ((event ⟼ entry) ∷ log) ≡ true
 strobed_stays log (ResetAll bytes) entry lives s = absurd lives
 strobed_stays log event (Acted Sent) lives s = refl

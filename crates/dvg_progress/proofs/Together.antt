@@ -31,7 +31,7 @@ use Rattle.dvg_progress.proofs.Sending.{legal_before}
 use Rattle.dvg_progress.proofs.Writing.{start, all, SoFar, so_far, time_is}
 
 -- what these words leave out
-lives_all : (later : Log) → Throughout LivesOn later
+pub lives_all : (later : Log) → Throughout LivesOn later
     → Throughout (λ log event entry. NotAll event) later
 lives_all [] lives = tt
 lives_all ((ResetAll bytes ⟼ entry) ∷ later) lives = absurd lives.0
@@ -63,14 +63,14 @@ waits_strobe ((ResetAll bytes ⟼ entry) ∷ later) without = absurd without
 waits_strobe ((event ⟼ entry) ∷ later) without = (tt, waits_strobe later without.1)
 
 -- no frame is accepted among the newer lines, or the older ones
-abbrev NoFrame : Log → Type 0
+abbrev pub NoFrame : Log → Type 0
 NoFrame log = Throughout (λ _ _ entry. entry ≢ Offered) log
 
-frames_newer : (one other : Log) → NoFrame (one ++ other) → NoFrame one
+pub frames_newer : (one other : Log) → NoFrame (one ++ other) → NoFrame one
 frames_newer [] other none = tt
 frames_newer ((event ⟼ entry) ∷ one) other none = (none.0, frames_newer one other none.1)
 
-frames_older : (one other : Log) → NoFrame (one ++ other) → NoFrame other
+pub frames_older : (one other : Log) → NoFrame (one ++ other) → NoFrame other
 frames_older [] other none = none
 frames_older ((event ⟼ entry) ∷ one) other none = frames_older one other none.1
 
@@ -106,7 +106,7 @@ some_run : (run : Option (List (ℕ × ℕ))) (words : List (ℕ × ℕ)) → ru
 some_run run words o none = none-some words (sym none ∙ o)
 
 -- a strobe that comes after one was sent begins a run
-starts : (R image : List ℕ) (log : Log) (entry : Shown) → Fits R image log Strobe entry
+pub starts : (R image : List ℕ) (log : Log) (entry : Shown) → Fits R image log Strobe entry
     → strobed log ≡ true → entry ≡ Started
 starts R image log Started fits sent = refl
 starts R image log NoStrobe fits sent = absurd (true≢false (sym sent ∙ fits))
@@ -210,7 +210,7 @@ module _ (R image : List ℕ) (F : List OpKind) where
         )
     same_once G k ((event ⟼ entry) ∷ later) once shown = same_once G k later once shown.1
 
-    draws : IsLegal R image (draw ++ begun) → Newest image F begun → NoFrame draw
+    pub draws : IsLegal R image (draw ++ begun) → Newest image F begun → NoFrame draw
         → Throughout RunsOn draw → 2 * n ≤ fetched_since (draw ++ begun)
         → DrawsOnce F R n begun draw
     draws l newest none runs enough =
@@ -245,7 +245,7 @@ pub time_low : (flipped : Bool) → (if flipped then 1 else 2) ≤ 2
 time_low true = omega arith
 time_low false = omega arith
 
-started_not : (entry : Shown) → entry ≡ Started → entry ≢ Offered
+pub started_not : (entry : Shown) → entry ≡ Started → entry ≢ Offered
 started_not entry is wrong = let clash = sym is ∙ wrong in cc
 
 pub shown_in_time : ShownInTime
