@@ -39,8 +39,7 @@ idles : (log : Log) → IsLegal zeros zeros log → life zeros log ≡ [] → op
 idles log l new none zero =
     let peeked = ap (λ items. place_of_life (Did Peek ∷ items)) new in
     let read = ap (λ items. place_of_life (Did (Read true) ∷ Did Peek ∷ items)) new in
-    let once = did_more log Peek Booting l peeked tt in
-    (
+    let once = did_more log Peek Booting l peeked tt in (
       did_more ((Tick ⟼ Acted Peek) ∷ log) (Read true) (Resting true) once read
           (sym (ap is_none none)),
       read,
@@ -48,8 +47,7 @@ idles log l new none zero =
     )
 idles log l new none (suc count) =
     let before = idles log l new none count in
-    let stands = ap (option_and_then (λ place. next_place place (Did Idle))) before.1 in
-    (
+    let stands = ap (option_and_then (λ place. next_place place (Did Idle))) before.1 in (
       did_more (did (idled count) ++ log) Idle (Resting true) before.0 stands tt,
       stands,
       before.2,
@@ -193,9 +191,9 @@ abbrev flipped_again : Log
 flipped_again =
     (Tick ⟼ Acted (Wrote 0x001 0xE0)) ∷ (Fetch ⟼ Low 0x000 0x01) ∷ (Strobe ⟼ Started)
     ∷ did (
-        Wrote 0x00B 0xB0 ∷ Wrote 0x00A 0x00 ∷ Wrote 0x009 0x74 ∷ Wrote 0x008 0x64
-        ∷ Wrote 0x007 0x90 ∷ Wrote 0x006 0x64 ∷ Wrote 0x005 0x02 ∷ Wrote 0x004 0x00
-        ∷ Wrote 0x003 0xA1 ∷ Wrote 0x002 0x90 ∷ []
+    Wrote 0x00B 0xB0 ∷ Wrote 0x00A 0x00 ∷ Wrote 0x009 0x74 ∷ Wrote 0x008 0x64
+    ∷ Wrote 0x007 0x90 ∷ Wrote 0x006 0x64 ∷ Wrote 0x005 0x02 ∷ Wrote 0x004 0x00
+    ∷ Wrote 0x003 0xA1 ∷ Wrote 0x002 0x90 ∷ []
     ) ++ (Offer frame ⟼ Offered) ∷ draws ++ begun
 
 -- a run is open at the tick: it reads `running`
@@ -219,14 +217,16 @@ pub more : (log : Log) (run : Newest) (address low word : ℕ) (visits : List Vi
     × Leaves (Fed (Some word) ∷ history zeros zeros log) (grown run visits held)
 more log run address low word visits held l leaves is_open wanted half whole adds replies =
     let asked : IsWanted (history zeros zeros log) address =
-        record { run = run; leaves = leaves; wanted = wanted } in
-    let grows = takes leaves is_open adds in
-    (
+    record { run = run; leaves = leaves; wanted = wanted } in
+    let grows = takes leaves is_open adds in (
       (
         (
           whole,
           record {
-            asked = asked; later = grown run visits held; leaves_later = grows; replies = replies
+            asked = asked;
+            later = grown run visits held;
+            leaves_later = grows;
+            replies = replies;
           },
         ),
         tt,
@@ -245,13 +245,15 @@ pub last : (log : Log) (run : Newest) (address low word : ℕ) (visits : List Vi
     → IsLegal zeros zeros ((Fetch ⟼ Done address word drew) ∷ (Fetch ⟼ Low address low) ∷ log)
 last log run address low word visits drew l leaves is_open wanted half whole adds replies =
     let asked : IsWanted (history zeros zeros log) address =
-        record { run = run; leaves = leaves; wanted = wanted } in
-    let grows = takes leaves is_open adds in
-    (
+    record { run = run; leaves = leaves; wanted = wanted } in
+    let grows = takes leaves is_open adds in (
       (
         whole,
         record {
-          asked = asked; later = grown run visits None; leaves_later = grows; replies = replies
+          asked = asked;
+          later = grown run visits None;
+          leaves_later = grows;
+          replies = replies;
         },
       ),
       tt,
@@ -282,23 +284,23 @@ module _ (before : Newest)
   twice_legal : IsLegal zeros zeros (draws ++ (again ++ begun))
   twice_legal =
       let one_word = more (again ++ begun) (begun_run before) 0x000 0x01 0xE201 jumped None
-          again_legal leaves refl refl refl refl (alone (jmpl (lit≤ tt) refl)) refl in
+      again_legal leaves refl refl refl refl (alone (jmpl (lit≤ tt) refl)) refl in
       let at1 : Log = fetched ((0x000, 0x01, 0xE201) ∷ []) ++ (again ++ begun) in
       let two_words = more at1 (run jumped None) 0x201 0x90 0xA190 jumped (Some 0xA190) one_word.0
-          one_word.1 refl refl refl refl (opens (lit< tt)) refl in
+      one_word.1 refl refl refl refl (opens (lit< tt)) refl in
       let at2 : Log = fetched ((0x201, 0x90, 0xA190) ∷ []) ++ at1 in
       let three = more at2 (run jumped (Some 0xA190)) 0x202 0x00 0x0200 placed None two_words.0
-          two_words.1 refl refl refl refl
-          (closes (labs (lit≤ tt, lit≤ tt, lit≤ tt) refl refl)) refl in
+      two_words.1 refl refl refl refl
+      (closes (labs (lit≤ tt, lit≤ tt, lit≤ tt) refl refl)) refl in
       let at3 : Log = fetched ((0x202, 0x00, 0x0200) ∷ []) ++ at2 in
       let four = more at3 (run placed None) 0x203 0x64 0x9064 placed (Some 0x9064) three.0 three.1
-          refl refl refl refl (opens (lit< tt)) refl in
+      refl refl refl refl (opens (lit< tt)) refl in
       let at4 : Log = fetched ((0x203, 0x64, 0x9064) ∷ []) ++ at3 in
       let five = more at4 (run placed (Some 0x9064)) 0x204 0x64 0x7464 moved None four.0 four.1 refl
-          refl refl refl (closes long_vector) refl in
+      refl refl refl (closes long_vector) refl in
       let at5 : Log = fetched ((0x204, 0x64, 0x7464) ∷ []) ++ at4 in
       last at5 (run moved None) 0x205 0x00 0xB000 (record { place = 0x205; code = Halt } ∷ moved)
-          stroke five.0 five.1 refl refl refl refl (alone (halt (lit≤ tt) (lit< tt))) refl
+      stroke five.0 five.1 refl refl refl refl (alone (halt (lit≤ tt) (lit< tt))) refl
 
 twice : IsLegal zeros zeros (draws ++ (again ++ begun))
 twice = let done = legal.0.1 in twice_legal done.later (starts done.leaves_later)
@@ -335,8 +337,7 @@ pub drawn_needs_no_strobe :
     let later = draws ++ again in
     DrawsNoneOnce later × (open_run (later ++ begun) ≡ None) × Without (ResetGen ∷ []) later
 drawn_needs_no_strobe =
-    let draws_on = no_reset draws draws_apart in
-    (
+    let draws_on = no_reset draws draws_apart in (
       (
         twice,
         λ F n once. (older_done (but_last ++ (Strobe ⟼ Started) ∷ []) draws once.3).0 0x205 0xB000
@@ -396,8 +397,7 @@ never_begun : (write send : Log) → let log = send ++ (write ++ accepted) in Is
     → NeverBegun write send
 never_begun write send l frames closed none dark count =
     let log : Log = (Strobe ⟼ NoStrobe) ∷ send ++ (write ++ accepted) in
-    let apart = stood_apart (Strobe ∷ ResetGen ∷ []) [] (λ e. cc, (λ e. cc, tt)) tt 12 in
-    (
+    let apart = stood_apart (Strobe ∷ ResetGen ∷ []) [] (λ e. cc, (λ e. cc, tt)) tt 12 in (
       (
         (stands_still log (dark, tt, l) none 12).0,
         fetches_stand 12 (send ++ write) frames,
@@ -418,8 +418,7 @@ pub shown_needs_the_processor :
     × IsSending send
 shown_needs_the_processor =
     let reset : Log = (ResetCpu ⟼ Cleared) ∷ [] in
-    let idle = (idles (reset ++ accepted) (tt, tt, accepted_legal) refl refl 12).0 in
-    (
+    let idle = (idles (reset ++ accepted) (tt, tt, accepted_legal) refl refl 12).0 in (
       never_begun (did (idled 10) ++ reset) (did (replicate 2 Idle)) idle
           (ticks_accept_too (idled 12) reset (λ e. cc, tt)) refl refl refl (lit≤ tt),
       _,
@@ -434,8 +433,7 @@ pub shown_needs_the_system :
     NeverBegun write send × (2 * size frame + 2 ≤ ticks write) × IsSending send
 shown_needs_the_system =
     let reset : Log = (ResetAll zeros ⟼ Cleared) ∷ [] in
-    let idle = (idles (reset ++ accepted) (tt, is_image, accepted_legal) refl refl 12).0 in
-    (
+    let idle = (idles (reset ++ accepted) (tt, is_image, accepted_legal) refl refl 12).0 in (
       never_begun (did (idled 10) ++ reset) (did (replicate 2 Idle)) idle
           (ticks_accept_too (idled 12) reset (λ e. cc, tt)) refl refl refl (lit≤ tt),
       lit≤ tt,
@@ -448,8 +446,7 @@ pub shown_needs_the_last_write :
     NeverBegun write send × Without (ResetCpu ∷ []) write
     × (suc (ticks write) ≡ 2 * size frame + 2) × IsSending send
 shown_needs_the_last_write =
-    let sent : List Action = Read true ∷ Wrote 0x001 0xE2 ∷ [] in
-    (
+    let sent : List Action = Read true ∷ Wrote 0x001 0xE2 ∷ [] in (
       never_begun (did first_writes) (did sent) begun_legal.2.2
           (ticks_accept (sent ++ first_writes)) refl refl refl (lit≤ tt),
       ticks_apart first_writes,
@@ -462,14 +459,13 @@ pub shown_needs_the_next_tick :
     let send = did (Read true ∷ []) in
     NeverBegun writes send × IsWriting writes × Without (Strobe ∷ ResetCpu ∷ []) send
     × (suc (ticks send) ≡ 2)
-shown_needs_the_next_tick =
-    (
-      never_begun writes (did (Read true ∷ [])) begun_legal.2.2
-          (ticks_accept (Read true ∷ all_writes)) refl refl refl (lit≤ tt),
-      (ticks_apart all_writes, lit≤ tt),
-      waits_apart (Read true ∷ []),
-      refl,
-    )
+shown_needs_the_next_tick = (
+  never_begun writes (did (Read true ∷ [])) begun_legal.2.2
+      (ticks_accept (Read true ∷ all_writes)) refl refl refl (lit≤ tt),
+  (ticks_apart all_writes, lit≤ tt),
+  waits_apart (Read true ∷ []),
+  refl,
+)
 
 -- the processor is reset before the strobe is sent
 pub shown_needs_the_sender :
@@ -477,8 +473,7 @@ pub shown_needs_the_sender :
     NeverBegun writes send × IsWriting writes × Without (Strobe ∷ []) send × (2 ≤ ticks send)
 shown_needs_the_sender =
     let reset : Log = (ResetCpu ⟼ Cleared) ∷ [] in
-    let read = (idles (reset ++ flipped) (tt, tt, begun_legal.2.2.2) refl refl 0).0 in
-    (
+    let read = (idles (reset ++ flipped) (tt, tt, begun_legal.2.2.2) refl refl 0).0 in (
       never_begun writes (did (idled 0) ++ reset) read
           (ticks_accept_too (idled 0) (reset ++ writes) (λ e. cc, ticks_accept all_writes)) refl
           refl refl (lit≤ tt),
@@ -493,8 +488,7 @@ pub shown_needs_what_was_written :
     NeverBegun writes send × IsWriting writes × (2 ≤ ticks send)
 shown_needs_what_was_written =
     let reset : Log = (ResetAll zeros ⟼ Cleared) ∷ [] in
-    let read = (idles (reset ++ flipped) (tt, is_image, begun_legal.2.2.2) refl refl 0).0 in
-    (
+    let read = (idles (reset ++ flipped) (tt, is_image, begun_legal.2.2.2) refl refl 0).0 in (
       never_begun writes (did (idled 0) ++ reset) read
           (ticks_accept_too (idled 0) (reset ++ writes) (λ e. cc, ticks_accept all_writes)) refl
           refl refl (lit≤ tt),
@@ -506,34 +500,38 @@ shown_needs_what_was_written =
 pub shown_needs_the_last_fetch :
     Undrawn 6 writes sends Started but_last × IsWriting writes × IsSending sends
     × Without (Strobe ∷ ResetGen ∷ []) but_last × (suc (fetched_since (but_last ++ begun)) ≡ 12)
-shown_needs_the_last_fetch =
-    (
-      (legal.2, but_last_accepts, refl, λ once. once),
-      (ticks_apart all_writes, lit≤ tt),
-      (waits_apart sending, lit≤ tt),
-      draws_apart.1,
-      refl,
-    )
+shown_needs_the_last_fetch = (
+  (legal.2, but_last_accepts, refl, λ once. once),
+  (ticks_apart all_writes, lit≤ tt),
+  (waits_apart sending, lit≤ tt),
+  draws_apart.1,
+  refl,
+)
 
 -- another strobe comes after the picture, and with its 12 fetches a second one
 pub shown_needs_no_strobe :
     let draw = draws ++ again in
     Undrawn 6 writes sends Started draw × IsWriting writes × IsSending sends
     × Without (ResetGen ∷ []) draw × (12 ≤ fetched_since (draw ++ begun))
-shown_needs_no_strobe =
+shown_needs_no_strobe = (
+  (
+    twice,
     (
+      λ e. cc,
       (
-        twice,
-        (λ e. cc, (λ e. cc, fetches_accept words (again ++ (sends ++ writes))
-            (λ e. cc, (λ e. cc, but_last_accepts)))),
-        refl,
-        drawn_needs_no_strobe.0.1 frame 6,
+        λ e. cc,
+        fetches_accept words (again ++ (sends ++ writes))
+            (λ e. cc, (λ e. cc, but_last_accepts)),
       ),
-      (ticks_apart all_writes, lit≤ tt),
-      (waits_apart sending, lit≤ tt),
-      drawn_needs_no_strobe.2,
-      lit≤ tt,
-    )
+    ),
+    refl,
+    drawn_needs_no_strobe.0.1 frame 6,
+  ),
+  (ticks_apart all_writes, lit≤ tt),
+  (waits_apart sending, lit≤ tt),
+  drawn_needs_no_strobe.2,
+  lit≤ tt,
+)
 
 -- the generator is reset, and then 12 fetches come
 pub shown_needs_the_generator :
@@ -541,8 +539,7 @@ pub shown_needs_the_generator :
     Undrawn 6 writes sends Started draw × IsWriting writes × IsSending sends
     × Without (Strobe ∷ []) draw × (12 ≤ fetched_since (draw ++ begun))
 shown_needs_the_generator =
-    let reset : Log = (ResetGen ⟼ Cleared) ∷ sends ++ writes in
-    (
+    let reset : Log = (ResetGen ⟼ Cleared) ∷ sends ++ writes in (
       (
         drawn_needs_the_generator.0.0,
         fetches_stand 12 reset (λ e. cc, ticks_accept (sending ++ all_writes)),
@@ -561,8 +558,7 @@ pub shown_needs_the_memory :
     Undrawn 6 writes sends Started draw × IsWriting writes × IsSending sends
     × (12 ≤ fetched_since (draw ++ begun))
 shown_needs_the_memory =
-    let reset : Log = (ResetAll zeros ⟼ Cleared) ∷ sends ++ writes in
-    (
+    let reset : Log = (ResetAll zeros ⟼ Cleared) ∷ sends ++ writes in (
       (
         drawn_needs_the_system.0.0,
         fetches_stand 12 reset (λ e. cc, ticks_accept (sending ++ all_writes)),
@@ -579,18 +575,17 @@ pub shown_needs_the_bound :
     let draw = stood 2 ++ draws in
     Undrawn 7 writes sends Started draw × IsWriting writes × IsSending sends
     × IsDrawing 7 begun draw
-shown_needs_the_bound =
-    (
-      (
-        (stands_still (draws ++ begun) legal refl 2).0,
-        fetches_stand 2 (draws ++ (sends ++ writes)) (λ e. cc, but_last_accepts),
-        refl,
-        λ once. let late = once.2 in cc,
-      ),
-      (ticks_apart all_writes, lit≤ tt),
-      (waits_apart sending, lit≤ tt),
-      (
-        stood_apart (Strobe ∷ ResetGen ∷ []) draws (λ e. cc, (λ e. cc, tt)) draws_apart 2,
-        lit≤ tt,
-      ),
-    )
+shown_needs_the_bound = (
+  (
+    (stands_still (draws ++ begun) legal refl 2).0,
+    fetches_stand 2 (draws ++ (sends ++ writes)) (λ e. cc, but_last_accepts),
+    refl,
+    λ once. let late = once.2 in cc,
+  ),
+  (ticks_apart all_writes, lit≤ tt),
+  (waits_apart sending, lit≤ tt),
+  (
+    stood_apart (Strobe ∷ ResetGen ∷ []) draws (λ e. cc, (λ e. cc, tt)) draws_apart 2,
+    lit≤ tt,
+  ),
+)

@@ -39,7 +39,7 @@ is_draft : IsDraft other
 is_draft =
     record {
       count = lit≤ tt;
-      ops = All-from_recursion IsOp other (((lit≤ tt, lit≤ tt, lit≤ tt), refl), (tt, tt))
+      ops = All-from_recursion IsOp other (((lit≤ tt, lit≤ tt, lit≤ tt), refl), (tt, tt));
     }
 
 -- the pairs that it reaches
@@ -112,11 +112,11 @@ accepts : Accepts other zeros
 accepts =
     record {
       closed =
-        record {
-          begins = record { begins = labs_first; fits = lit≤ tt; targets = misses_none };
-          fine = λ p d r. fine (reached r)
-        };
-      ends = λ loop. let few = walks_up (reached loop.reached) loop.walk in omega arith
+          record {
+            begins = record { begins = labs_first; fits = lit≤ tt; targets = misses_none };
+            fine = λ p d r. fine (reached r);
+          };
+      ends = λ loop. let few = walks_up (reached loop.reached) loop.walk in omega arith;
     }
 
 -- these actions may come next, the oldest one first
@@ -162,14 +162,41 @@ offered_legal =
     ((accepts, rests_whole (life zeros (sends ++ flipped)) false refl), is_draft, begun_legal.2)
 
 started_legal : IsLegal zeros zeros started
-started_legal =
+started_legal = (
+  refl,
+  tt,
+  acts acted (offered ++ flipped) offered_legal (
+    _,
+    refl,
+    tt,
     (
+      _,
       refl,
-      tt,
-      acts acted (offered ++ flipped) offered_legal
-          (_, refl, tt, (_, refl, refl, (_, refl, tt, (_, refl, tt, (_, refl, tt, (_, refl, tt,
-          (_, refl, tt, (_, refl, tt, (_, refl, tt, tt))))))))),
-    )
+      refl,
+      (
+        _,
+        refl,
+        tt,
+        (
+          _,
+          refl,
+          tt,
+          (
+            _,
+            refl,
+            tt,
+            (
+              _,
+              refl,
+              tt,
+              (_, refl, tt, (_, refl, tt, (_, refl, tt, tt))),
+            ),
+          ),
+        ),
+      ),
+    ),
+  ),
+)
 
 abbrev run : List Visit → Option ℕ → Newest
 run visits held = grown (begun_run nothing) visits held
@@ -183,17 +210,17 @@ placed = record { place = 0x001; code = Labs 512 400 0 } ∷ jumped
 drawn_legal : IsLegal zeros zeros (drawn ++ started)
 drawn_legal =
     let one_word = more started (begun_run nothing) 0x000 0x01 0xE001 jumped None started_legal
-        (starts new) refl refl refl refl (alone (jmpl (lit≤ tt) refl)) refl in
+    (starts new) refl refl refl refl (alone (jmpl (lit≤ tt) refl)) refl in
     let at1 : Log = fetched ((0x000, 0x01, 0xE001) ∷ []) ++ started in
     let two_words = more at1 (run jumped None) 0x001 0x90 0xA190 jumped (Some 0xA190) one_word.0
-        one_word.1 refl refl refl refl (opens (lit< tt)) refl in
+    one_word.1 refl refl refl refl (opens (lit< tt)) refl in
     let at2 : Log = fetched ((0x001, 0x90, 0xA190) ∷ []) ++ at1 in
     let three = more at2 (run jumped (Some 0xA190)) 0x002 0x00 0x0200 placed None two_words.0
-        two_words.1 refl refl refl refl
-        (closes (labs (lit≤ tt, lit≤ tt, lit≤ tt) refl refl)) refl in
+    two_words.1 refl refl refl refl
+    (closes (labs (lit≤ tt, lit≤ tt, lit≤ tt) refl refl)) refl in
     let at3 : Log = fetched ((0x002, 0x00, 0x0200) ∷ []) ++ at2 in
     last at3 (run placed None) 0x003 0x00 0xB000 (record { place = 0x003; code = Halt } ∷ placed) []
-        three.0 three.1 refl refl refl refl (alone (halt (lit≤ tt) (lit< tt))) refl
+    three.0 three.1 refl refl refl refl (alone (halt (lit≤ tt) (lit< tt))) refl
 
 other_once : (F : List OpKind) (n : ℕ) → DrawsOnce F zeros n started draw
     → DrawsOnce other zeros 4 started draw
@@ -201,7 +228,7 @@ other_once F n once =
     let same = same_Some other F once.0 in
     let four : n ≡ 4 = let count = once.2 in omega arith in
     subst (λ k. DrawsOnce other zeros k started draw) four
-        (subst (λ G. DrawsOnce G zeros n started draw) (sym same) once)
+    (subst (λ G. DrawsOnce G zeros n started draw) (sym same) once)
 
 -- another frame is accepted before the strobe comes, and it is drawn
 pub shown_needs_no_other_frame : IsLegal zeros zeros (draw ++ started) × (open_run flipped ≡ None)
@@ -210,9 +237,8 @@ pub shown_needs_no_other_frame : IsLegal zeros zeros (draw ++ started) × (open_
 shown_needs_no_other_frame =
     let legal = (stands_still (drawn ++ started) drawn_legal refl 4).0 in
     let apart = stood_apart (Strobe ∷ ResetGen ∷ []) drawn (λ e. cc, (λ e. cc, tt))
-        ((λ e. cc, (λ e. cc, tt)), ((λ e. cc, (λ e. cc, tt)), fetches_apart other_words)) 4 in
-    let found = drawn_in_time zeros zeros (send ++ flipped) draw legal apart refl in
-    (
+    ((λ e. cc, (λ e. cc, tt)), ((λ e. cc, (λ e. cc, tt)), fetches_apart other_words)) 4 in
+    let found = drawn_in_time zeros zeros (send ++ flipped) draw legal apart refl in (
       legal,
       refl,
       (ticks_apart all_writes, lit≤ tt),
