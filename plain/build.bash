@@ -11,9 +11,10 @@ plain=$top/plain
 workspace=$plain/target/made
 target=$workspace/target
 
-# What is being run, and the folder for what is thrown away; nothing where there is none.
+# What is being run, and the folders for what is thrown away; nothing where there is none.
 running=
 work=
+rooms=
 
 say() {
     echo "$name: $1" >&2
@@ -55,6 +56,49 @@ digest_of_proofs() {
     digest_of_files crates.txt 'crates/*/src' 'crates/*/specs' 'crates/*/proofs'
 }
 
+# The crates of this repository that a crate stands on.
+below() {
+    awk -F : -v wanted="$1" '
+        { sub(/ .*/, "", $1); uses[$1] = $2 }
+        END {
+            count = split(uses[wanted], names, " ")
+            for (i = 1; i <= count; i++)
+                if (names[i] in uses) print names[i]
+        }
+    ' "$top/crates.txt"
+}
+
+# A crate, and then all that it is made of.
+crates_of() {
+    local crates=("$1") i crate
+    for ((i = 0; i < ${#crates[@]}; i++)); do
+        echo "${crates[i]}"
+        for crate in $(below "${crates[i]}"); do
+            [[ " ${crates[*]} " == *" $crate "* ]] || crates+=("$crate")
+        done
+    done
+}
+
+# The digest of what is proved of a crate and of all that it is made of.
+digest_of_crate() {
+    local crate files=(crates.txt)
+    for crate in $(crates_of "$1"); do
+        files+=("crates/$crate/src" "crates/$crate/specs" "crates/$crate/proofs")
+    done
+    digest_of_files "${files[@]}"
+}
+
+# Says of a crate that it was proved of the sources that are there.
+mark() {
+    digest_of_crate "$1" >"$top/crates/$1/out/proved"
+}
+
+# Whether a crate was proved of the sources that are there.
+is_marked() {
+    [ -r "$top/crates/$1/out/proved" ] &&
+        [ "$(cat "$top/crates/$1/out/proved")" = "$(digest_of_crate "$1")" ]
+}
+
 # The digest of all that the plain form is made of.
 digest_of_plain() {
     digest_of_files 'crates/*/src' include plain/CRATES plain/Cargo.toml plain/Cargo.lock \
@@ -87,6 +131,7 @@ stop_running() {
 at_exit() {
     stop_running
     [ -z "$work" ] || rm -rf "$work"
+    [ -z "$rooms" ] || rm -rf "$rooms"
 }
 trap at_exit EXIT
 trap 'exit 70' INT TERM HUP
