@@ -7,7 +7,7 @@
  * world, with a driver or with a generator, by turns. The first line of what is written tells how
  * often each kind of answer came, and the last is 'N passed, M failed'.
  *
- * It is linked with the archive of the port and with the twin, bench/plain_port.rs, and compiled
+ * It is linked with the archive of the port and with the twin, twin/src/port.rs, and compiled
  * with a sanitizer: then what a device does with memory is watched, too.
  */
 

@@ -7,7 +7,7 @@
 //
 // The last line is 'N passed, M failed'.
 import { spawnSync } from 'node:child_process';
-import { existsSync, readFileSync, readdirSync, writeFileSync } from 'node:fs';
+import { existsSync, mkdirSync, readFileSync, readdirSync, writeFileSync } from 'node:fs';
 import { COMMAND, Engine, OPTION } from '../page/src/engine.mjs';
 import { AREA, Board, areaOf, drawnHalf } from '../page/src/board.mjs';
 import { hex, plainDraft, operationsOf, romOf, splitRom } from '../page/src/drafts.mjs';
@@ -37,6 +37,19 @@ function expect(what, wanted, found) {
 
 // --- The commands, on tests/cases ---
 
+// The cases of these texts as folders, which tests/unfold writes once.
+function unfolded(name, texts) {
+  const folder = `${work}/${name}`;
+  if (existsSync(folder)) return folder;
+  mkdirSync(folder);
+  const files = texts.map((text) => `${top}tests/${name}/${text}.md`);
+  const { status, stderr } = spawnSync(`${top}tests/unfold`, [folder, ...files]);
+  if (status !== 0) throw new Error(`tests/unfold: ${stderr}`);
+  return folder;
+}
+
+const TEXTS = ['arguments', 'check', 'check_bound', 'list', 'picture', 'picture_all', 'play',
+  'play_all', 'play_banked', 'rom', 'torn'];
 const OPTIONS = { picture: '--all', check: '--bound', play: '--all' };
 const read = (folder, file) => (existsSync(`${folder}/${file}`) ? readFileSync(`${folder}/${file}`)
   : Buffer.alloc(0));
@@ -51,8 +64,9 @@ function commandOf(folder) {
 
 function testCases() {
   let others = 0;
-  for (const name of readdirSync(`${top}tests/cases`)) {
-    const folder = `${top}tests/cases/${name}`;
+  const cases = unfolded('cases', TEXTS);
+  for (const name of readdirSync(cases)) {
+    const folder = `${cases}/${name}`;
     const command = commandOf(folder);
     if (command === null) {
       others++;
@@ -198,7 +212,7 @@ function testLongTrace() {
 // --- Drafts with names, and ROMs ---
 
 function testDrafts() {
-  const folder = `${top}tests/tool_cases`;
+  const folder = unfolded('tool_cases', ['labels']);
   const cases = readdirSync(folder).filter((name) => name.startsWith('labels'))
     .map((name) => `${folder}/${name}/input`)
     .filter((file) => existsSync(file)).concat(readdirSync(`${top}examples/frames`)

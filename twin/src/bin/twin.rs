@@ -1,0 +1,367 @@
+//! The plain twin of `dvg`: the same program in plain Rust, with nothing proved, to compare speeds with.
+//!
+//! It has the same limits, texts and statuses, as tests/program sees. Only where standard input or standard output was
+//! closed by the caller do the two differ, as Rust's runtime opens /dev/null in its place, and for words that ask for
+//! help or for nothing the program can do: those it answers with one line and the status 64.
+
+
+use twin::frames::check;
+use twin::lines::Line;
+use twin::listing::is_first_of_two;
+use twin::memory::{BYTES, Banked, Flat};
+use twin::picture::{is_image, write_picture};
+use twin::shows::write_entries;
+use twin::texts::{MOST_TEXT_BYTES, TextFault, read_draft};
+use twin::torn::{LogFault, Verdict, judge_text};
+use twin::traces::read_trace;
+use twin::world::run;
+use std::ffi::OsString;
+use std::fmt;
+use std::fs::File;
+use std::io::{self, BufWriter, Read, Write};
+use std::os::fd::AsFd;
+use std::process::ExitCode;
+
+/// The most bytes that `list` takes as its input.
+const MOST_LIST_BYTES: usize = 8192;
+
+/// The bytes of a ROM, which `rom` takes as its input.
+const ROM_BYTES: usize = 2048;
+
+/// The bytes of the larger ROM.
+const LARGE_ROM_BYTES: usize = 4096;
+
+/// The bytes of an image of vector memory with the larger ROM, the most that `picture` takes as its input.
+const MOST_IMAGE_BYTES: usize = 6144;
+
+/// The word address behind a ROM's last word.
+const ROM_END: usize = 0xC00;
+
+/// How many bytes of a ROM stand in a line.
+const ROM_LINE_BYTES: usize = 16;
+
+/// The exit status of words that ask for nothing the program can do.
+const MISUSE: u8 = 64;
+
+/// Why a job could not be finished.
+enum Fault {
+    TooLong,
+    OddLength,
+    Cut(usize),
+    RomSize,
+    DumpSize,
+    Syntax(usize),
+    Full(usize),
+    Many(usize),
+    Unended,
+    Reader,
+    Writer,
+}
+
+impl From<TextFault> for Fault {
+    fn from(fault: TextFault) -> Fault {
+        match fault {
+            TextFault::TooLong => Fault::TooLong,
+            TextFault::Syntax(line) => Fault::Syntax(line),
+            TextFault::Full(line) => Fault::Full(line),
+            TextFault::Many(line) => Fault::Many(line),
+            TextFault::Unended => Fault::Unended,
+        }
+    }
+}
+
+impl From<LogFault> for Fault {
+    fn from(fault: LogFault) -> Fault {
+        match fault {
+            LogFault::Syntax(line) => Fault::Syntax(line),
+            LogFault::Reader => Fault::Reader,
+        }
+    }
+}
+
+impl Fault {
+    /// The exit status: 1 for a fault of the input, 2 for a failing device.
+    fn status(&self) -> u8 {
+        match self {
+            Fault::Reader | Fault::Writer => 2,
+            _ => 1,
+        }
+    }
+}
+
+impl fmt::Display for Fault {
+    fn fmt(&self, f: &mut fmt::Formatter) -> fmt::Result {
+        match self {
+            Fault::TooLong => write!(f, "too long"),
+            Fault::OddLength => write!(f, "odd length"),
+            Fault::Cut(place) => write!(f, "cut at {place:03X}"),
+            Fault::RomSize => write!(f, "rom size"),
+            Fault::DumpSize => write!(f, "dump size"),
+            Fault::Syntax(line) => write!(f, "syntax at line {line}"),
+            Fault::Full(line) => write!(f, "full at line {line}"),
+            Fault::Many(line) => write!(f, "too many events at line {line}"),
+            Fault::Unended => write!(f, "offer without end"),
+            Fault::Reader => write!(f, "read failed"),
+            Fault::Writer => write!(f, "write failed"),
+        }
+    }
+}
+
+/// Reads until the buffer is full or the input ends, and answers how many bytes that was.
+fn read_up_to(reader: &mut impl Read, buffer: &mut [u8]) -> io::Result<usize> {
+    let mut length = 0;
+    while length < buffer.len() {
+        match reader.read(&mut buffer[length..])? {
+            0 => break,
+            count => length += count,
+        }
+    }
+    Ok(length)
+}
+
+/// Writes a line for each instruction of the words.
+fn list_words(bytes: &[u8], writer: &mut impl Write) -> Result<(), Fault> {
+    let (words, _) = bytes.as_chunks();
+    let mut place = 0;
+    while place < words.len() {
+        let mut line = Line::new();
+        let first = u16::from_le_bytes(words[place]);
+        let (length, second) = if is_first_of_two(first) {
+            let second = words.get(place + 1).ok_or(Fault::Cut(place))?;
+            (2, u16::from_le_bytes(*second))
+        } else {
+            (1, 0)
+        };
+        line.listed(place, first, second);
+        line.push(b'\n');
+        line.write(writer).map_err(|_| Fault::Writer)?;
+        place += length;
+    }
+    Ok(())
+}
+
+/// Writes the line of the map of the larger ROM, and a line for each eight words.
+fn write_rom(bytes: &[u8], writer: &mut impl Write) -> Result<(), Fault> {
+    if bytes.len() == LARGE_ROM_BYTES {
+        writer.write_all(b"map 4096\n").map_err(|_| Fault::Writer)?;
+    }
+    let first = ROM_END - bytes.len() / 2;
+    for (row, part) in bytes.chunks(ROM_LINE_BYTES).enumerate() {
+        let mut line = Line::new();
+        line.text(b"rom ");
+        line.hex::<3>(first + row * ROM_LINE_BYTES / 2);
+        for word in part.as_chunks().0 {
+            line.push(b' ');
+            line.hex::<4>(usize::from(u16::from_le_bytes(*word)));
+        }
+        line.push(b'\n');
+        line.write(writer).map_err(|_| Fault::Writer)?;
+    }
+    Ok(())
+}
+
+// Standard input and standard output are used as files: the handles of `std::io` have buffers of their own, which
+// would only copy once more.
+
+/// Standard input.
+fn input() -> Result<File, Fault> {
+    let input = io::stdin()
+        .as_fd()
+        .try_clone_to_owned()
+        .map_err(|_| Fault::Reader)?;
+    Ok(File::from(input))
+}
+
+/// Reads what standard input has, up to the buffer's length, and answers how many bytes that was.
+fn read_input(buffer: &mut [u8]) -> Result<usize, Fault> {
+    read_up_to(&mut input()?, buffer).map_err(|_| Fault::Reader)
+}
+
+/// Standard output.
+fn output() -> Result<BufWriter<File>, Fault> {
+    let output = io::stdout()
+        .as_fd()
+        .try_clone_to_owned()
+        .map_err(|_| Fault::Writer)?;
+    Ok(BufWriter::new(File::from(output)))
+}
+
+/// Lists the words that standard input holds on standard output.
+fn list() -> Result<(), Fault> {
+    let mut buffer = [0; MOST_LIST_BYTES + 1];
+    let length = read_input(&mut buffer)?;
+    if length > MOST_LIST_BYTES {
+        return Err(Fault::TooLong);
+    }
+    if length % 2 == 1 {
+        return Err(Fault::OddLength);
+    }
+    let mut writer = output()?;
+    let listed = list_words(&buffer[..length], &mut writer);
+    writer.flush().map_err(|_| Fault::Writer)?;
+    listed
+}
+
+/// Writes the ROM that standard input holds as text on standard output.
+fn rom() -> Result<(), Fault> {
+    let mut buffer = [0; LARGE_ROM_BYTES + 1];
+    let length = read_input(&mut buffer)?;
+    if length != ROM_BYTES && length != LARGE_ROM_BYTES {
+        return Err(Fault::RomSize);
+    }
+    let mut writer = output()?;
+    write_rom(&buffer[..length], &mut writer)?;
+    writer.flush().map_err(|_| Fault::Writer)
+}
+
+/// Writes what the image of vector memory that standard input holds draws, or why that has no end.
+fn picture(all: bool) -> Result<ExitCode, Fault> {
+    let mut buffer = [0; MOST_IMAGE_BYTES + 1];
+    let length = read_input(&mut buffer)?;
+    if !is_image(length) {
+        return Err(Fault::DumpSize);
+    }
+    let mut writer = output()?;
+    let drew = write_picture(&buffer[..length], all, &mut writer)
+        .and_then(|drew| writer.flush().map(|()| drew))
+        .map_err(|_| Fault::Writer)?;
+    Ok(if drew {
+        ExitCode::SUCCESS
+    } else {
+        ExitCode::from(1)
+    })
+}
+
+/// The text that standard input holds, or a beginning that is one byte too long.
+fn read_text() -> Result<Vec<u8>, Fault> {
+    let mut text = Vec::new();
+    input()?
+        .take(MOST_TEXT_BYTES as u64 + 1)
+        .read_to_end(&mut text)
+        .map_err(|_| Fault::Reader)?;
+    Ok(text)
+}
+
+/// Checks the draft that standard input holds as text, and writes what is said of it on standard output: with its bound
+/// where that is asked for.
+fn check_text(bound: bool) -> Result<ExitCode, Fault> {
+    let (ops, rom) = read_draft(&read_text()?)?;
+    let mut writer = output()?;
+    let (line, status) = match check(&ops, &rom) {
+        Ok(frame) if bound => (
+            format!("ok {} words {} fetches\n", frame.words, frame.bound),
+            ExitCode::SUCCESS,
+        ),
+        Ok(frame) => (format!("ok {} words\n", frame.words), ExitCode::SUCCESS),
+        Err(fault) => (format!("fault {fault}\n"), ExitCode::from(1)),
+    };
+    writer
+        .write_all(line.as_bytes())
+        .and_then(|()| writer.flush())
+        .map_err(|_| Fault::Writer)?;
+    Ok(status)
+}
+
+/// What the options of `play` ask for.
+#[derive(Clone, Copy, Default)]
+struct PlayOptions {
+    all: bool,
+    banked: bool,
+}
+
+/// The options that these words give, each at most once.
+fn play_options(words: &[String]) -> Option<PlayOptions> {
+    let mut options = PlayOptions::default();
+    for word in words {
+        let option = match word.as_str() {
+            "--all" => &mut options.all,
+            "--banked" => &mut options.banked,
+            _ => return None,
+        };
+        if std::mem::replace(option, true) {
+            return None;
+        }
+    }
+    Some(options)
+}
+
+/// Plays the trace that standard input holds as text, and writes its pictures, or all entries, on standard output.
+fn play(options: PlayOptions) -> Result<(), Fault> {
+    let (trace, rom) = read_trace(&read_text()?)?;
+    let image = [0; BYTES];
+    let entries = if options.banked {
+        run::<Banked>(&rom, &image, &trace)
+    } else {
+        run::<Flat>(&rom, &image, &trace)
+    };
+    let mut writer = output()?;
+    write_entries(&entries, options.all, &mut writer)
+        .and_then(|()| writer.flush())
+        .map_err(|_| Fault::Writer)
+}
+
+/// Judges the log that standard input holds as text, and writes what is said of it on standard output.
+fn torn() -> Result<ExitCode, Fault> {
+    let (line, status) = match judge_text(&mut input()?)? {
+        Verdict::NotTorn => ("not torn\n".to_string(), ExitCode::SUCCESS),
+        Verdict::Torn {
+            line,
+            address,
+            byte,
+        } => (
+            format!("torn at line {line}: wrote {address:03X} {byte:02X}\n"),
+            ExitCode::from(1),
+        ),
+    };
+    let mut writer = output()?;
+    writer
+        .write_all(line.as_bytes())
+        .and_then(|()| writer.flush())
+        .map_err(|_| Fault::Writer)?;
+    Ok(status)
+}
+
+/// Writes a line on standard error. The status is the same where it can't be written, and `eprintln!` would panic.
+fn complain(line: fmt::Arguments) {
+    let _ = writeln!(io::stderr(), "{line}");
+}
+
+/// Does what the words ask for. None where they ask for nothing the program can do.
+fn do_job(words: &[String]) -> Option<Result<ExitCode, Fault>> {
+    let (command, options) = words.split_first()?;
+    match command.as_str() {
+        "list" if options.is_empty() => Some(list().map(|()| ExitCode::SUCCESS)),
+        "rom" if options.is_empty() => Some(rom().map(|()| ExitCode::SUCCESS)),
+        "check" if options.is_empty() => Some(check_text(false)),
+        "check" if options == ["--bound"] => Some(check_text(true)),
+        "picture" if options.is_empty() => Some(picture(false)),
+        "picture" if options == ["--all"] => Some(picture(true)),
+        "torn" if options.is_empty() => Some(torn()),
+        "play" => Some(play(play_options(options)?).map(|()| ExitCode::SUCCESS)),
+        _ => None,
+    }
+}
+
+fn main() -> ExitCode {
+    let words: Result<Vec<String>, _> = std::env::args_os()
+        .skip(1)
+        .map(OsString::into_string)
+        .collect();
+    let Ok(words) = words else {
+        complain(format_args!("dvg: the words are no text"));
+        return ExitCode::from(MISUSE);
+    };
+    let Some(done) = do_job(&words) else {
+        complain(format_args!(
+            "usage: dvg list|rom|check [--bound]|play [--all] [--banked]|picture [--all]"
+        ));
+        return ExitCode::from(MISUSE);
+    };
+    match done {
+        Ok(status) => status,
+        Err(fault) => {
+            complain(format_args!("dvg: {fault}"));
+            ExitCode::from(fault.status())
+        }
+    }
+}

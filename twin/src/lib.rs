@@ -1,0 +1,27 @@
+//! What the proved sources do, written a second time in plain Rust, with nothing proved and nothing
+//! taken over: an oracle for tests, and what speeds are compared with.
+
+pub mod driver;
+pub mod frames;
+pub mod generator;
+pub mod judge;
+pub mod lines;
+pub mod listing;
+pub mod memory;
+pub mod picture;
+pub mod port;
+pub mod run;
+pub mod shows;
+pub mod texts;
+pub mod torn;
+pub mod traces;
+pub mod world;
+
+/// Random schedules and images, and a recount of what came of them, by no module above.
+pub mod storm {
+    pub mod drafts;
+    pub mod pictures;
+    pub mod programs;
+    pub mod recount;
+    pub mod schedules;
+}

@@ -1,0 +1,415 @@
+//! The plain twin of the port to C, with the same requests and answers: a static library that is written for speed and
+//! clarity with no proof. It is never refused memory.
+//!
+//! It exports `plain_new`, `plain_turn` and `plain_free`, where the proved archive has `dvg_new`, `dvg_turn` and `dvg_free`, so both
+//! can be linked into one program.
+
+
+
+use crate::driver::{Action, Driver};
+use crate::frames::{FrameFault, Instr, MOST, Op, Place, Rom, check};
+use crate::generator::{GenFault, Generator, Stroke, Taken};
+use crate::memory::{BYTES, Flat};
+use crate::world::{Entry, World};
+
+/// The most bytes that are staged.
+const MOST_STAGED: usize = 6144;
+
+/// The greatest number of a request.
+const LAST_REQUEST: u8 = 20;
+
+/// The word address behind a ROM's last word.
+const ROM_END: usize = 0xC00;
+
+/// A driver alone, with the ROM over which its drafts are checked.
+struct Desk {
+    rom: Rom,
+    driver: Driver,
+}
+
+/// A generator alone, with the byte that was fetched last.
+struct Lone {
+    generator: Generator,
+    last: u8,
+}
+
+/// What is open.
+enum Part {
+    Nothing,
+    World(Box<World<Flat>>),
+    Driver(Box<Desk>),
+    Generator(Lone),
+}
+
+/// A device, in which a world, a driver alone or a generator alone may be open.
+pub struct Device {
+    staged: Vec<u8>,
+    draft: Vec<Op>,
+    picture: Vec<Stroke>,
+    part: Part,
+}
+
+/// An answer: its kind, an address and a value.
+const fn packed(kind: u8, address: u16, value: u16) -> u64 {
+    kind as u64 | (address as u64) << 8 | (value as u64) << 24
+}
+
+const BUSY: u64 = packed(2, 0, 0);
+const STILL: u64 = packed(16, 0, 0);
+const CLEARED: u64 = packed(17, 0, 0);
+const FULL: u64 = packed(20, 0, 0);
+const OPENED: u64 = packed(22, 0, 0);
+const WRONG_SIZE: u64 = packed(23, 0, 0);
+const CLOSED: u64 = packed(24, 0, 0);
+const UNKNOWN: u64 = packed(254, 0, 0);
+
+/// A fault at a place.
+fn placed(fault: u16, place: Place) -> u64 {
+    match place {
+        Place::Op(i) => packed(1, i, fault),
+        Place::Word(a) => packed(1, a, 0x100 | fault),
+    }
+}
+
+fn refusal(fault: FrameFault) -> u64 {
+    match fault {
+        FrameFault::Empty => packed(1, 0, 1),
+        FrameFault::NoLabs => packed(1, 0, 2),
+        FrameFault::TooLong => packed(1, 0, 3),
+        FrameFault::Target(i) => packed(1, i, 4),
+        FrameFault::RunsOff(i) => packed(1, i, 5),
+        FrameFault::OutOfRom(place) => placed(6, place),
+        FrameFault::TooDeep(place) => placed(7, place),
+        FrameFault::NoCaller(place) => placed(8, place),
+        FrameFault::Loops => packed(1, 0, 9),
+    }
+}
+
+fn acted(action: Action) -> u64 {
+    match action {
+        Action::Peek => packed(5, 0, 0),
+        Action::Wrote(address, byte) => packed(6, address, u16::from(byte)),
+        Action::Read(halted) => packed(7, 0, u16::from(halted)),
+        Action::Sent => packed(8, 0, 0),
+        Action::Idle => packed(9, 0, 0),
+    }
+}
+
+/// The answer of an entry. The strokes of a run that came to a HALT take the place of those before them.
+fn told(entry: Entry, picture: &mut Vec<Stroke>) -> u64 {
+    match entry {
+        Entry::Offered => packed(0, 0, 0),
+        Entry::Refused(fault) => refusal(fault),
+        Entry::Busy => BUSY,
+        Entry::Asked => packed(3, 0, 0),
+        Entry::NothingPublished => packed(4, 0, 0),
+        Entry::Acted(action) => acted(action),
+        Entry::Started => packed(10, 0, 0),
+        Entry::NoStrobe => packed(11, 0, 0),
+        Entry::Low(address, byte) => packed(12, address, u16::from(byte)),
+        Entry::Fetched(address, word) => packed(13, address, word),
+        Entry::Done(address, word, strokes) => {
+            *picture = strokes;
+            packed(14, address, word)
+        }
+        Entry::Broke(address, fault) => packed(
+            15,
+            address,
+            match fault {
+                GenFault::StackOver => 1,
+                GenFault::StackUnder => 2,
+                GenFault::Hole => 3,
+            },
+        ),
+        Entry::Still => STILL,
+        Entry::Cleared => CLEARED,
+    }
+}
+
+/// The byte of a request.
+fn byte_of(request: u64) -> u8 {
+    (request >> 16) as u8
+}
+
+/// The flag of a request.
+fn flag_of(request: u64) -> bool {
+    request >> 8 & 1 == 1
+}
+
+/// The operation that a request brings, if its fields are those of one.
+fn operation(request: u64) -> Option<Op> {
+    let [_, kind, scale, z, x0, x1, y0, y1] = request.to_le_bytes();
+    let (x, y) = (u16::from_le_bytes([x0, x1]), u16::from_le_bytes([y0, y1]));
+    let (dx, dy) = (x as i16, y as i16);
+    let most = |move_most: u16| dx.unsigned_abs() <= move_most && dy.unsigned_abs() <= move_most;
+    let (op, fits) = match kind {
+        0 => (
+            Op::Draw(Instr::Vctr { scale, dx, dy, z }),
+            scale <= 9 && z <= 15 && most(1023),
+        ),
+        1 => (
+            Op::Draw(Instr::Svec {
+                scale,
+                dx: dx as i8,
+                dy: dy as i8,
+                z,
+            }),
+            (2..=5).contains(&scale) && z <= 15 && most(3),
+        ),
+        2 => (
+            Op::Draw(Instr::Labs { x, y, scale }),
+            x <= 4095 && y <= 4095 && scale <= 15,
+        ),
+        3 => (Op::Call(x), true),
+        4 => (Op::Jump(x), true),
+        5 => (Op::CallRom(x), x <= 0xFFF),
+        6 => (Op::JumpRom(x), x <= 0xFFF),
+        7 => (Op::Return, true),
+        8 => (Op::Halt, true),
+        _ => return None,
+    };
+    fits.then_some(op)
+}
+
+/// The ROM of these bytes. None where they are neither 2,048 nor 4,096.
+fn rom_of(bytes: &[u8]) -> Option<Rom> {
+    if bytes.len() != 2048 && bytes.len() != 4096 {
+        return None;
+    }
+    let (words, _) = bytes.as_chunks();
+    Some(Rom {
+        first: (ROM_END - words.len()) as u16,
+        words: words.iter().map(|word| u16::from_le_bytes(*word)).collect(),
+    })
+}
+
+impl Lone {
+    fn fetch(&mut self, request: u64, picture: &mut Vec<Stroke>) -> u64 {
+        let Some(address) = self.generator.wants() else {
+            return STILL;
+        };
+        let byte = (!flag_of(request)).then_some(byte_of(request));
+        let taken = self.generator.take_byte(byte);
+        let low = std::mem::replace(&mut self.last, byte.unwrap_or(0));
+        let word = u16::from_le_bytes([low, self.last]);
+        let entry = match taken {
+            Taken::Low => Entry::Low(address, self.last),
+            Taken::Word => Entry::Fetched(address, word),
+            Taken::Done(strokes) => Entry::Done(address, word, strokes),
+            Taken::Broke(fault) => Entry::Broke(address, fault),
+        };
+        told(entry, picture)
+    }
+
+    #[inline]
+    fn ask(&mut self, request: u64, picture: &mut Vec<Stroke>) -> u64 {
+        match request as u8 {
+            3 => {
+                self.generator.start();
+                packed(10, 0, 0)
+            }
+            4 => self.fetch(request, picture),
+            5 => {
+                self.generator.reset();
+                CLEARED
+            }
+            16 => match self.generator.wants() {
+                None => STILL,
+                Some(address) => packed(25, address, u16::from(self.generator.wants_high())),
+            },
+            _ => UNKNOWN,
+        }
+    }
+}
+
+impl Desk {
+    fn offer(&mut self, draft: &[Op]) -> u64 {
+        match check(draft, &self.rom) {
+            Err(fault) => refusal(fault),
+            Ok(frame) => {
+                if self.driver.offer(frame) {
+                    packed(0, 0, 0)
+                } else {
+                    BUSY
+                }
+            }
+        }
+    }
+
+    fn ask(&mut self, request: u64, draft: &[Op]) -> u64 {
+        match request as u8 {
+            0 => self.offer(draft),
+            1 => match self.driver.redraw() {
+                None => packed(4, 0, 0),
+                Some(true) => packed(3, 0, 0),
+                Some(false) => BUSY,
+            },
+            2 => acted(self.driver.tick(flag_of(request), byte_of(request))),
+            6 => {
+                self.driver = Driver::new();
+                CLEARED
+            }
+            _ => UNKNOWN,
+        }
+    }
+}
+
+/// Asks a world.
+#[inline]
+fn ask_world(
+    world: &mut World<Flat>,
+    request: u64,
+    draft: &[Op],
+    staged: &[u8],
+    picture: &mut Vec<Stroke>,
+) -> u64 {
+    let entry = match request as u8 {
+        0 => world.offer(draft),
+        1 => world.redraw(),
+        2 => world.tick(),
+        3 => world.strobe(),
+        4 => world.fetch(),
+        5 => world.reset_generator(),
+        6 => world.reset_processor(),
+        7 => match staged.try_into() {
+            Ok(image) => world.reset_all(image),
+            Err(_) => return WRONG_SIZE,
+        },
+        _ => return UNKNOWN,
+    };
+    told(entry, picture)
+}
+
+impl Device {
+    fn new() -> Device {
+        Device {
+            staged: Vec::new(),
+            draft: Vec::new(),
+            picture: Vec::new(),
+            part: Part::Nothing,
+        }
+    }
+
+    fn push(&mut self, request: u64) -> u64 {
+        let Some(op) = operation(request) else {
+            return packed(19, 0, 0);
+        };
+        if self.draft.len() == MOST {
+            return FULL;
+        }
+        self.draft.push(op);
+        packed(18, 0, (self.draft.len() - 1) as u16)
+    }
+
+    fn stage(&mut self, request: u64) -> u64 {
+        let length = self.staged.len() + usize::from((request >> 24) as u16);
+        if length > MOST_STAGED {
+            return FULL;
+        }
+        self.staged.resize(length, byte_of(request));
+        packed(21, 0, length as u16)
+    }
+
+    fn new_world(&self) -> Option<Part> {
+        let (image, rom) = self.staged.split_first_chunk::<BYTES>()?;
+        Some(Part::World(Box::new(World::new(rom_of(rom)?, image))))
+    }
+
+    fn new_driver(&self) -> Option<Part> {
+        Some(Part::Driver(Box::new(Desk {
+            rom: rom_of(&self.staged)?,
+            driver: Driver::new(),
+        })))
+    }
+
+    fn open(&mut self, part: Option<Part>) -> u64 {
+        let Some(part) = part else {
+            return WRONG_SIZE;
+        };
+        self.part = part;
+        self.picture = Vec::new();
+        OPENED
+    }
+
+    fn stroke(&self, request: u64) -> Option<&Stroke> {
+        self.picture.get((request >> 8) as usize)
+    }
+
+    /// One request, and its answer.
+    #[inline]
+    fn turn(&mut self, request: u64) -> u64 {
+        match request as u8 {
+            8 => self.push(request),
+            9 => {
+                self.draft.clear();
+                CLEARED
+            }
+            10 => self.stage(request),
+            11 => {
+                self.staged = Vec::new();
+                CLEARED
+            }
+            12 => self.open(self.new_world()),
+            13 => self.open(self.new_driver()),
+            14 => self.open(Some(Part::Generator(Lone {
+                generator: Generator::new(),
+                last: 0,
+            }))),
+            15 => {
+                *self = Device::new();
+                CLOSED
+            }
+            17 => self.picture.len() as u64,
+            18 => self.stroke(request).map_or(0, |stroke| {
+                u64::from(stroke.x0) | u64::from(stroke.y0) << 32
+            }),
+            19 => self.stroke(request).map_or(0, |stroke| {
+                u64::from(stroke.x1) | u64::from(stroke.y1) << 32
+            }),
+            20 => self.stroke(request).map_or(0, |stroke| u64::from(stroke.z)),
+            _ => match &mut self.part {
+                Part::Nothing if request as u8 > LAST_REQUEST => UNKNOWN,
+                Part::Nothing => CLOSED,
+                Part::World(world) => {
+                    ask_world(world, request, &self.draft, &self.staged, &mut self.picture)
+                }
+                Part::Driver(desk) => desk.ask(request, &self.draft),
+                Part::Generator(lone) => lone.ask(request, &mut self.picture),
+            },
+        }
+    }
+}
+
+/// Makes a device, and writes it to `out`: 0.
+///
+/// # Safety
+///
+/// `out` is room for a pointer.
+#[unsafe(no_mangle)]
+pub unsafe extern "C" fn plain_new(out: *mut *mut Device) -> u32 {
+    // SAFETY: the caller's word.
+    unsafe { *out = Box::into_raw(Box::new(Device::new())) };
+    0
+}
+
+/// One request, and its answer.
+///
+/// # Safety
+///
+/// `device` is one that `plain_new` wrote and `plain_free` didn't get, and no other call has it.
+#[unsafe(no_mangle)]
+pub unsafe extern "C" fn plain_turn(device: *mut Device, request: u64) -> u64 {
+    // SAFETY: the caller's word.
+    unsafe { (*device).turn(request) }
+}
+
+/// Frees a device.
+///
+/// # Safety
+///
+/// As of `plain_turn`.
+#[unsafe(no_mangle)]
+pub unsafe extern "C" fn plain_free(device: *mut Device) {
+    // SAFETY: the caller's word.
+    drop(unsafe { Box::from_raw(device) });
+}
