@@ -2,7 +2,8 @@
 
 use crate::frames::{Frame, Instr, Op};
 
-/// The bytes of a frame that are still to come, each with its address. It holds the words of one operation.
+/// The bytes of a frame that are still to come, each with its address. It holds the words of one
+/// operation.
 struct Cursor {
     frame: Frame,
     base: u16,
@@ -131,7 +132,8 @@ impl Driver {
         true
     }
 
-    /// Asks for another run of the published frame: None where there is none, and whether the driver was idle.
+    /// Asks for another run of the published frame: None where there is none, and whether the
+    /// driver was idle.
     #[allow(dead_code)]
     pub fn redraw(&mut self) -> Option<bool> {
         if !self.flipped {

@@ -208,7 +208,8 @@ fn look(ops: &[Op], rom: &Rom, place: Place, depth: usize) -> Result<Way, FrameF
     }
 }
 
-/// The pairs of a place and a depth that were come to and not looked at yet, and those that were come to.
+/// The pairs of a place and a depth that were come to and not looked at yet, and those that were
+/// come to.
 struct Pairs<'a> {
     rom: &'a Rom,
     seen: Vec<bool>,
@@ -263,7 +264,8 @@ enum End {
     Return,
 }
 
-/// What is drawn from the places of a draft without the faults 1 to 8: how it ends, and after how many fetches.
+/// What is drawn from the places of a draft without the faults 1 to 8: how it ends, and after how
+/// many fetches.
 struct Drawn<'a> {
     ops: &'a [Op],
     rom: &'a Rom,
@@ -272,10 +274,11 @@ struct Drawn<'a> {
 }
 
 impl Drawn<'_> {
-    /// What is drawn from a place that is come to. None where steps at one depth come back to themselves.
+    /// What is drawn from a place that is come to. None where steps at one depth come back to
+    /// themselves.
     ///
-    /// A place that is come to again while it is open is one of those: if it led to itself through a call, there would be
-    /// a call too deep.
+    /// A place that is come to again while it is open is one of those: if it led to itself through
+    /// a call, there would be a call too deep.
     fn from(&mut self, place: Place) -> Option<(End, u64)> {
         let number = number(self.rom, place);
         match self.ends[number] {
@@ -310,8 +313,8 @@ impl Drawn<'_> {
     }
 }
 
-/// How many words the whole run of a draft without the faults 1 to 8 fetches, word zero included. None where it has a
-/// loop.
+/// How many words the whole run of a draft without the faults 1 to 8 fetches, word zero included.
+/// None where it has a loop.
 fn bound(ops: &[Op], rom: &Rom) -> Option<u64> {
     let mut drawn = Drawn {
         ops,

@@ -1,4 +1,5 @@
-//! The judge of a log in plain Rust, for the plain twin of single parts: where it first shows a torn picture.
+//! The judge of a log in plain Rust, for the plain twin of single parts: where it first shows a
+//! torn picture.
 
 use crate::driver::Action;
 use crate::run::Run;

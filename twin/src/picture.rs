@@ -1,4 +1,5 @@
-//! One run over an image of vector memory in plain Rust, for the plain twin: what it draws, or why that has no end.
+//! One run over an image of vector memory in plain Rust, for the plain twin: what it draws, or why
+//! that has no end.
 
 use crate::generator::{Beam, GenFault, Generator, Stroke, Taken};
 use crate::lines::Line;
@@ -136,8 +137,8 @@ pub fn is_image(bytes: usize) -> bool {
     bytes == 4096 || bytes == 6144
 }
 
-/// Runs a generator over an image, writes how that ends, with `all` behind the instructions that were run, and answers
-/// whether it drew a picture.
+/// Runs a generator over an image, writes how that ends, with `all` behind the instructions that
+/// were run, and answers whether it drew a picture.
 pub fn write_picture(image: &[u8], all: bool, writer: &mut impl Write) -> io::Result<bool> {
     let (ran, ending) = run(image, all);
     for ran in &ran {

@@ -1,10 +1,8 @@
-//! The plain twin of the port to C, with the same requests and answers: a static library that is written for speed and
-//! clarity with no proof. It is never refused memory.
+//! The plain twin of the port to C, with the same requests and answers: a static library that is
+//! written for speed and clarity with no proof. It is never refused memory.
 //!
-//! It exports `plain_new`, `plain_turn` and `plain_free`, where the proved archive has `dvg_new`, `dvg_turn` and `dvg_free`, so both
-//! can be linked into one program.
-
-
+//! It exports `plain_new`, `plain_turn` and `plain_free`, where the proved archive has `dvg_new`,
+//! `dvg_turn` and `dvg_free`, so both can be linked into one program.
 
 use crate::driver::{Action, Driver};
 use crate::frames::{FrameFault, Instr, MOST, Op, Place, Rom, check};
@@ -95,7 +93,8 @@ fn acted(action: Action) -> u64 {
     }
 }
 
-/// The answer of an entry. The strokes of a run that came to a HALT take the place of those before them.
+/// The answer of an entry. The strokes of a run that came to a HALT take the place of those before
+/// them.
 fn told(entry: Entry, picture: &mut Vec<Stroke>) -> u64 {
     match entry {
         Entry::Offered => packed(0, 0, 0),

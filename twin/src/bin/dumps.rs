@@ -1,7 +1,7 @@
-//! Runs random images of vector memory on the program and on its plain twin, and compares what they write. See tests/dumps.
+//! Runs random images of vector memory on the program and on its plain twin, and compares what they
+//! write. See tests/dumps.
 //!
 //! `dumps COUNT SEED PROGRAM TWIN`
-
 
 use std::fmt;
 use std::io::{self, Write};
@@ -45,7 +45,8 @@ impl Image {
             words: vec![0; ROM_END],
             first_rom_word,
         };
-        // The kinds that this image prefers, so that some draw long, some call deep and some go round.
+        // The kinds that this image prefers, so that some draw long, some call deep and some go
+        // round.
         let preferred = image.kind(&mut random);
         let density = 1 + random.below(8);
         let mut place = 0;
@@ -176,8 +177,8 @@ impl fmt::Display for Counts {
         let [over, under, hole] = self.broke;
         write!(
             f,
-            "{} pictures of {} strokes; {over} fifth calls, {under} returns without a call, {hole} holes; {} endless; \
-             {} of a wrong size; {} instructions told, {} of them not canonical",
+            "{} pictures of {} strokes; {over} fifth calls, {under} returns without a call, \
+             {hole} holes; {} endless; {} of a wrong size; {} instructions told, {} of them not canonical",
             self.pictures, self.strokes, self.endless, self.refused, self.instructions, self.stars
         )
     }

@@ -1,14 +1,14 @@
-//! The plain Rust twin of the proved program `dvg_bench`, with the same words and lines: a generator that is handed
-//! one byte a call with a looping display list, and the check of a draft, written for speed and clarity with no proof.
+//! The plain Rust twin of the proved program `dvg_bench`, with the same words and lines: a
+//! generator that is handed one byte a call with a looping display list, and the check of a draft,
+//! written for speed and clarity with no proof.
 
-
+use std::hint::black_box;
 use twin::driver::{Action, Driver};
 use twin::frames::{Instr, Op, Rom, check};
 use twin::generator::{Generator, Taken};
 use twin::judge::first_torn;
 use twin::memory::{BYTES, Flat};
 use twin::world::{Entry, Event, Trace, run};
-use std::hint::black_box;
 
 /// How many steps are made: of each 29, one start and 28 bytes taken, so 2,000,000 bytes in all.
 const STEPS: u32 = 2_071_429;
@@ -95,7 +95,8 @@ const SHORT: [Op; 5] = [
 fn check_often(checks: u32, ops: &[Op], rom: &Rom) {
     let (mut passed, mut laid, mut fetched) = (0u32, 0u32, 0u64);
     for _ in 0..checks {
-        // Neither the draft nor the ROM is known to the compiler, so that no check is made only once.
+        // Neither the draft nor the ROM is known to the compiler, so that no check is made only
+        // once.
         if let Ok(frame) = check(black_box(ops), black_box(rom)) {
             passed = passed.wrapping_add(1);
             laid = laid.wrapping_add(u32::from(frame.words));
@@ -116,7 +117,8 @@ fn run_check(words: usize) {
 /// How often the driver ticks.
 const TICKS: u32 = 1_000_000;
 
-/// The operations of a frame of 511 words: a LABS, then calls, vectors and short vectors by turns, and HALT before a return.
+/// The operations of a frame of 511 words: a LABS, then calls, vectors and short vectors by turns,
+/// and HALT before a return.
 fn full_frame() -> Vec<Op> {
     let mut ops = vec![Op::Draw(Instr::Labs {
         x: 512,
@@ -207,8 +209,8 @@ fn offer_small(vectors: u64, ops: &mut Vec<Op>) -> Event {
     Event::Offer(ops.len() - first)
 }
 
-/// Mixed events: most are ticks and fetches. A fetch of a low byte is followed by one of a high byte, where there is room
-/// for both.
+/// Mixed events: most are ticks and fetches. A fetch of a low byte is followed by one of a high
+/// byte, where there is room for both.
 fn mixed_events() -> Trace {
     let mut random = Random(1979);
     let mut trace = Trace {
@@ -259,7 +261,8 @@ fn run_events() {
 /// How often the log is judged.
 const JUDGED: usize = 400;
 
-/// Judges the log of the events, which is made once: first whole, and then each time without what was its first line.
+/// Judges the log of the events, which is made once: first whole, and then each time without what
+/// was its first line.
 fn run_judge() {
     let rom = Rom::of(0x800, 0xD000);
     let trace = mixed_events();
@@ -286,7 +289,7 @@ fn main() {
         Some("world") => run_events(),
         Some("judge") => run_judge(),
         _ => eprintln!(
-            "usage: plain_parts generator|check|check-large|check-half|check-short|driver|world|judge"
+            "usage: parts generator|check|check-large|check-half|check-short|driver|world|judge"
         ),
     }
 }

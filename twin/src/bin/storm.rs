@@ -1,7 +1,7 @@
-//! Plays random schedules on several programs, and compares and recounts what they write. See tests/storm.
+//! Plays random schedules on several programs, and compares and recounts what they write. See
+//! tests/storm.
 //!
 //! `storm COUNT SEED PROGRAM TWIN JUDGE`
-
 
 use std::io;
 use std::path::Path;
@@ -84,8 +84,8 @@ fn first_difference<'a>(one: &'a str, other: &'a str) -> (&'a str, &'a str) {
 /// Writes what all schedules came to.
 fn print_totals(counts: &Counts) {
     println!(
-        "{} events; {} schedules finish {} pictures of {} frames; of the offers {} accepted, {} refused, {} busy; \
-         {} writes amid runs; strobes and resets: {} amid runs, {} between a flip and its strobe; \
+        "{} events; {} schedules finish {} pictures of {} frames; \
+         of the offers {} accepted, {} refused, {} busy; {} writes amid runs; strobes and resets: {} amid runs, {} between a flip and its strobe; \
          {} events between the two bytes of a word, {} of them flips amid word zero; \
          {} strobes sent in time",
         counts.events,

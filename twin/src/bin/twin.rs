@@ -1,10 +1,17 @@
-//! The plain twin of `dvg`: the same program in plain Rust, with nothing proved, to compare speeds with.
+//! The plain twin of `dvg`: the same program in plain Rust, with nothing proved, to compare speeds
+//! with.
 //!
-//! It has the same limits, texts and statuses, as tests/program sees. Only where standard input or standard output was
-//! closed by the caller do the two differ, as Rust's runtime opens /dev/null in its place, and for words that ask for
-//! help or for nothing the program can do: those it answers with one line and the status 64.
+//! It has the same limits, texts and statuses, as tests/program sees. Only where standard input or
+//! standard output was closed by the caller do the two differ, as Rust's runtime opens /dev/null in
+//! its place, and for words that ask for help or for nothing the program can do: those it answers
+//! with one line and the status 64.
 
-
+use std::ffi::OsString;
+use std::fmt;
+use std::fs::File;
+use std::io::{self, BufWriter, Read, Write};
+use std::os::fd::AsFd;
+use std::process::ExitCode;
 use twin::frames::check;
 use twin::lines::Line;
 use twin::listing::is_first_of_two;
@@ -15,12 +22,6 @@ use twin::texts::{MOST_TEXT_BYTES, TextFault, read_draft};
 use twin::torn::{LogFault, Verdict, judge_text};
 use twin::traces::read_trace;
 use twin::world::run;
-use std::ffi::OsString;
-use std::fmt;
-use std::fs::File;
-use std::io::{self, BufWriter, Read, Write};
-use std::os::fd::AsFd;
-use std::process::ExitCode;
 
 /// The most bytes that `list` takes as its input.
 const MOST_LIST_BYTES: usize = 8192;
@@ -31,7 +32,8 @@ const ROM_BYTES: usize = 2048;
 /// The bytes of the larger ROM.
 const LARGE_ROM_BYTES: usize = 4096;
 
-/// The bytes of an image of vector memory with the larger ROM, the most that `picture` takes as its input.
+/// The bytes of an image of vector memory with the larger ROM, the most that `picture` takes as its
+/// input.
 const MOST_IMAGE_BYTES: usize = 6144;
 
 /// The word address behind a ROM's last word.
@@ -160,8 +162,8 @@ fn write_rom(bytes: &[u8], writer: &mut impl Write) -> Result<(), Fault> {
     Ok(())
 }
 
-// Standard input and standard output are used as files: the handles of `std::io` have buffers of their own, which
-// would only copy once more.
+// Standard input and standard output are used as files: the handles of `std::io` have buffers of
+// their own, which would only copy once more.
 
 /// Standard input.
 fn input() -> Result<File, Fault> {
@@ -242,8 +244,8 @@ fn read_text() -> Result<Vec<u8>, Fault> {
     Ok(text)
 }
 
-/// Checks the draft that standard input holds as text, and writes what is said of it on standard output: with its bound
-/// where that is asked for.
+/// Checks the draft that standard input holds as text, and writes what is said of it on standard
+/// output: with its bound where that is asked for.
 fn check_text(bound: bool) -> Result<ExitCode, Fault> {
     let (ops, rom) = read_draft(&read_text()?)?;
     let mut writer = output()?;
@@ -285,7 +287,8 @@ fn play_options(words: &[String]) -> Option<PlayOptions> {
     Some(options)
 }
 
-/// Plays the trace that standard input holds as text, and writes its pictures, or all entries, on standard output.
+/// Plays the trace that standard input holds as text, and writes its pictures, or all entries, on
+/// standard output.
 fn play(options: PlayOptions) -> Result<(), Fault> {
     let (trace, rom) = read_trace(&read_text()?)?;
     let image = [0; BYTES];
@@ -300,7 +303,8 @@ fn play(options: PlayOptions) -> Result<(), Fault> {
         .map_err(|_| Fault::Writer)
 }
 
-/// Judges the log that standard input holds as text, and writes what is said of it on standard output.
+/// Judges the log that standard input holds as text, and writes what is said of it on standard
+/// output.
 fn torn() -> Result<ExitCode, Fault> {
     let (line, status) = match judge_text(&mut input()?)? {
         Verdict::NotTorn => ("not torn\n".to_string(), ExitCode::SUCCESS),
@@ -321,7 +325,8 @@ fn torn() -> Result<ExitCode, Fault> {
     Ok(status)
 }
 
-/// Writes a line on standard error. The status is the same where it can't be written, and `eprintln!` would panic.
+/// Writes a line on standard error. The status is the same where it can't be written, and
+/// `eprintln!` would panic.
 fn complain(line: fmt::Arguments) {
     let _ = writeln!(io::stderr(), "{line}");
 }

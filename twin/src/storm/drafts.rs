@@ -245,7 +245,8 @@ struct Part<'a> {
     callee: Option<usize>,
 }
 
-/// A draft that passes the check: a main part, and up to two subroutines, of which the first may call the second.
+/// A draft that passes the check: a main part, and up to two subroutines, of which the first may
+/// call the second.
 fn whole_draft(rom: &Rom, random: &mut Random) -> Vec<Op> {
     let longest = match random.below(60) {
         0 => 150,

@@ -32,7 +32,8 @@ const POSITIONS: i64 = 4096 * 512;
 const MOST_STEPS: usize = 100_000;
 
 impl Beam {
-    /// Moves by so many units of 1/512 at scale 0, and answers the line of the stroke, if it is seen.
+    /// Moves by so many units of 1/512 at scale 0, and answers the line of the stroke, if it is
+    /// seen.
     fn moved(&mut self, scale: u32, dx: i64, dy: i64, z: u32) -> Option<String> {
         let unit = match (self.scale + scale) % 16 {
             shown @ 0..=9 => 1 << shown,
@@ -45,7 +46,8 @@ impl Beam {
     }
 }
 
-/// A number of sign and magnitude: so many bits of magnitude from a word's lowest bit on, and the sign above them.
+/// A number of sign and magnitude: so many bits of magnitude from a word's lowest bit on, and the
+/// sign above them.
 fn signed(word: u16, bits: u32) -> i64 {
     let magnitude = i64::from(word % (1 << bits));
     if word & 1 << bits == 0 {

@@ -1,4 +1,5 @@
-//! Asks programs, has work done on all processors, and counts what came of it. For tests/storm.rs and tests/dumps.rs.
+//! Asks programs, has work done on all processors, and counts what came of it. For tests/storm.rs
+//! and tests/dumps.rs.
 
 use std::io::{self, Write};
 use std::num::NonZero;
@@ -8,7 +9,8 @@ use std::process::{Command, Stdio};
 use std::sync::atomic::{AtomicU64, Ordering};
 use std::thread;
 
-/// How many seconds a program has. One that takes longer ends with the status of `timeout`, which is 124.
+/// How many seconds a program has. One that takes longer ends with the status of `timeout`, which
+/// is 124.
 const SECONDS: &str = "10";
 
 /// What a program answered.
@@ -42,7 +44,8 @@ pub fn ask(program: &Path, words: &[&str], input: &[u8]) -> io::Result<Answer> {
     })
 }
 
-/// Does something for each of so many seeds, from the first on, on all processors: each as soon as one is free.
+/// Does something for each of so many seeds, from the first on, on all processors: each as soon as
+/// one is free.
 pub fn for_each_seed(
     count: u64,
     first: u64,

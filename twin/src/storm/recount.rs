@@ -11,8 +11,8 @@
 //! - After a flip, with no reset of the processor or of the whole system, the first tick that finds
 //!   no run open reads `halted`, and the next one sends the strobe.
 //! - An open run that shows a frame of n words in all has had fewer than 2n fetches.
-//! - A run that was begun ends by fetch number 2n, or by a strobe or a reset, and each fetch while it
-//!   is open is one of its own.
+//! - A run that was begun ends by fetch number 2n, or by a strobe or a reset, and each fetch while
+//!   it is open is one of its own.
 
 use crate::storm::drafts::Op;
 use crate::storm::pictures::picture;
@@ -304,7 +304,8 @@ impl<'a> Recount<'a> {
         let wanted = picture(publication.draft, &self.schedule.rom)?;
         if drawn != wanted.strokes || run.words != wanted.words {
             return Err(format!(
-                "the picture isn't that of the frame published at event {}: {} words {:?}, and not {} words {drawn:?}",
+                "the picture isn't that of the frame published at event {}: {} words {:?}, \
+                 and not {} words {drawn:?}",
                 publication.number, wanted.words, wanted.strokes, run.words
             ));
         }

@@ -44,7 +44,8 @@ enum Kind {
     ResetGenerator,
     ResetProcessor,
     ResetAll,
-    /// An offer with the ticks, the strobe and the fetches that a picture takes, and blows amid them.
+    /// An offer with the ticks, the strobe and the fetches that a picture takes, and blows amid
+    /// them.
     Picture,
     /// A run that goes on slowly, while the driver publishes frames and is reset.
     SlowRun,
@@ -216,8 +217,8 @@ impl Schedule {
         }
     }
 
-    /// Adds an offer and what its picture takes, about, with something else amid it. Often the next frame is offered and
-    /// written while this one is drawn.
+    /// Adds an offer and what its picture takes, about, with something else amid it. Often the next
+    /// frame is offered and written while this one is drawn.
     fn picture(&mut self, weather: &Weather, random: &mut Random) {
         let words = self.offer_random(random);
         self.amid(weather, random, 2 * words + 5, |schedule, piece, _| {
