@@ -14,6 +14,17 @@ TOP = os.path.dirname(os.path.dirname(os.path.abspath(__file__)))
 GENERATORS = f"{TOP}/tests/cases/generators.bash"
 MOST_SECONDS = 60
 os.environ["LC_ALL"] = "C"
+running = set()
+
+
+def stop(*_):
+    """Ends what runs, where the suite is ended."""
+    for process in list(running):
+        os.killpg(process.pid, signal.SIGKILL)
+    raise SystemExit(70)
+
+
+signal.signal(signal.SIGTERM, stop)
 
 
 class Command:
@@ -41,7 +52,7 @@ def read_cases(path):
     cases = [Case(text, {})]
     command, indent, empty = None, "", 0
     with open(path, encoding="utf-8") as lines:
-        for line in lines.read().splitlines():
+        for line in lines.read().split("\n"):
             start = re.match(r"( {4,})\$ (.*)", line)
             if start and (not command or start[1] == indent):
                 indent, command, empty = start[1], Command(start[2]), 0
@@ -66,11 +77,13 @@ def add_line(command, line, empty):
 
 
 def add_prose(cases, text, line):
-    note = re.match("(Also with|Program alone): (.*)", line)
+    note = re.match("(Also with|Program alone): (.+)", line)
     if line.startswith("## "):
         cases.append(Case(f"{text}: {line[3:]}", cases[0].notes))
     elif note:
         cases[-1].notes[note[1]] = note[2]
+    elif re.match(r" *\$ |2> |status \d|(?i:also with|program alone)", line):
+        give_up(f"{cases[-1].name} has a line that is no part of a command: '{line}'")
 
 
 def run(script, folder, shell="bash", joined=False):
@@ -78,12 +91,15 @@ def run(script, folder, shell="bash", joined=False):
     process = subprocess.Popen(
         [shell, "-c", script], cwd=folder, stdin=subprocess.DEVNULL, stdout=subprocess.PIPE,
         stderr=subprocess.STDOUT if joined else subprocess.PIPE, start_new_session=True)
+    running.add(process)
     try:
         output, error = process.communicate(timeout=MOST_SECONDS)
     except subprocess.TimeoutExpired:
         os.killpg(process.pid, signal.SIGKILL)
         output, error = process.communicate()
         return f"none after {MOST_SECONDS} seconds", output, error
+    finally:
+        running.discard(process)
     return str(process.returncode), output, error
 
 
