@@ -26,7 +26,9 @@ image() {
 }
 
 # So many bytes, two for each return or halt: `returns 2047`.
+# shellcheck disable=SC2046
 returns() { words $(repeat $((($1 + 1) / 2)) D000) | head -c "$1"; }
+# shellcheck disable=SC2046
 halts() { words $(repeat $((($1 + 1) / 2)) B000) | head -c "$1"; }
 
 # So many bytes by chance, the same each time.
@@ -102,6 +104,7 @@ long_log() { yes "$(ten_runs)" | head -n 7400000; }
 # since opening it to write alone would wait for a reader.
 unread() {
     mkfifo pipe
+    # shellcheck disable=SC2094
     exec 3<>pipe 4>pipe 3>&- && rm pipe
     "$@" >&4
 }
