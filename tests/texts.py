@@ -108,7 +108,7 @@ def generated(script):
     """What a generator prints. One that fails or prints nothing is a mistake of the text."""
     status, output, error = run(f". '{GENERATORS}'\n{script}", TOP)
     if status != "0" or error or not output:
-        raise SystemExit(f"the generator '{script}' ends with status {status}: {error.decode()}")
+        give_up(f"the generator '{script}' ends with status {status}: {error.decode()}")
     return output
 
 
@@ -173,9 +173,10 @@ class Suite:
 
 
 def as_lines(text):
-    if isinstance(text, bytes):
-        text = text.decode("utf-8", "backslashreplace")
-    lines = text.split("\n")
+    """The lines of a text. Of bytes it is told where the last one has no end."""
+    if isinstance(text, str):
+        return text.split("\n")
+    lines = text.decode("utf-8", "backslashreplace").split("\n")
     return lines[:-1] if lines[-1] == "" else lines[:-1] + [lines[-1] + " (without a line end)"]
 
 
