@@ -1,27 +1,31 @@
 -- From what was read of a log to what the reader had.
-use Rattle.std.proofs.Common.{◌≡◌, ◌<◌, ◌≤◌, ◌+◌, ◌-◌, ◌^◌, ℕ, List, [], ◌∷◌, ◌++◌, Option, Some, None, IfSome, length, take, sym, ap, ◌∙◌, subst, arith, append_assoc, append-nil, length-append}
+use Rattle.std.proofs.Common.{◌≡◌, ◌<◌, ◌≤◌, ◌+◌, ◌-◌, ◌^◌, ℕ, List, [], ◌∷◌, ◌++◌, Option, Some, None, IfSome, length, take, sym, ap, ◌∙◌, subst, arith, append_assoc, append-nil, length-append, Bool, true, false, cond}
 use Rattle.std.proofs.Math.Seq.{take-append-add}
 use Rattle.std.proofs.lemmas.Grind.{flat_map-append}
 use Rattle.std.specs.Io.KnownBytes.{Consumes, IsAtEnd}
 use Rattle.dvg_world.specs.Log.{Log}
 use Rattle.dvg_text.specs.Texts.{lines}
-use Rattle.dvg_lines.specs.declared.log_verdict.LogVerdict.TheVariants.{NotTorn}
+use Rattle.dvg_lines.specs.declared.log_verdict.LogCounts.{LogCounts}
+use Rattle.dvg_lines.specs.declared.log_verdict.LogFinding.TheVariants.{NotTorn, NoRunDrew}
+use Rattle.dvg_lines.specs.declared.log_verdict.LogVerdict.{LogVerdict}
 use Rattle.std.specs.Prelude.{Ok}
 use Rattle.dvg_logs.specs.declared.log_reading.LogStop.{LogStop}
 use Rattle.dvg_logs.specs.declared.log_reading.LogStop.TheVariants.{Torn, Syntax, TooLong}
 use Rattle.dvg_logs.specs.declared.log_reading.LogReading.{LogReading}
-use Rattle.dvg_logs.specs.Judging.{Answers, JudgesInput, answer_of}
+use Rattle.dvg_logs.specs.Judging.{Answers, JudgesInput, answer_of, found_in}
+use Rattle.dvg_logs.specs.LogCounts.{counts_of, no_run_drew}
 use Rattle.dvg_logs.specs.LogReading.{HasRead, StopsAt, number_of}
-use Rattle.dvg_logs.specs.LogTexts.{IsUntornLog}
-use Rattle.dvg_logs.specs.Tears.{Takes, TakesUpTo, ended}
+use Rattle.dvg_logs.specs.LogTexts.{IsWhole}
+use Rattle.dvg_logs.specs.Tears.{Takes, TakesFor, TakesUpTo, ended}
+use Rattle.dvg_logs.proofs.OneVerdict.{whole_judged}
 
 answered : (stop : LogStop) (input : List ℕ) → StopsAt stop (lines input) → Answers (answer_of stop) input
-answered (Torn n a byte) input stops = stops
+answered (Torn n a byte counts) input (log, torn, counted) = record { log = log; finds = torn; counts = counted }
 answered (Syntax n) input stops = stops
 answered TooLong input stops = stops
 
 took : (stop : LogStop) (input : List ℕ) (old new : Option (List ℕ)) → TakesUpTo (number_of stop) input old new → Takes (answer_of stop) input old new
-took (Torn n a byte) input old new takes = takes
+took (Torn n a byte counts) input old new takes = takes
 took (Syntax n) input old new takes = takes
 took TooLong input old new takes = takes
 
@@ -55,15 +59,26 @@ stops_input reading stop (Some input) (Some left) (Some rest) text piece read sh
     subst (λ input. JudgesInput (answer_of stop) input (Some input) (Some rest)) (sym is) (stops_known reading stop text piece rest read short later (stops rest))
 
 -- reading comes to the end, of which no byte is left
-pub ends_input : (known now new : Option (List ℕ)) (text : List ℕ) (log : Log) → IsUntornLog log (lines text) → length (lines text) < 2 ^ 64 → Consumes known now text → Consumes now new [] → IsAtEnd new
-    → IfSome known (λ input. JudgesInput (Ok NotTorn) input known new)
-ends_input None now new text log fine fits before takes at_end = tt
-ends_input (Some input) None new text log fine fits before takes at_end = absurd before
-ends_input (Some input) (Some left) None text log fine fits before takes at_end = absurd takes
-ends_input (Some input) (Some left) (Some rest) text log fine fits before takes at_end =
+abbrev pub said_of : LogCounts → LogVerdict
+said_of counts = record { finding = found_in counts; counts = counts }
+
+takes_all : (counts : LogCounts) (text : List ℕ) (rest : List ℕ) → Consumes (Some text) (Some rest) text → IsAtEnd (Some rest) → Takes (Ok (said_of counts)) text (Some text) (Some rest)
+takes_all counts text rest takes at_end = by_case (no_run_drew counts)
+  where
+    by_case : (none : Bool) → TakesFor (cond none NoRunDrew NotTorn) text (Some text) (Some rest)
+    by_case true = (takes, at_end)
+    by_case false = (takes, at_end)
+
+pub ends_input : (counts : LogCounts) (known now new : Option (List ℕ)) (text : List ℕ) (log : Log) → IsWhole (lines text) log → counts ≡ counts_of log → Consumes known now text → Consumes now new [] → IsAtEnd new
+    → IfSome known (λ input. JudgesInput (Ok (said_of counts)) input known new)
+ends_input counts None now new text log whole is before takes at_end = tt
+ends_input counts (Some input) None new text log whole is before takes at_end = absurd before
+ends_input counts (Some input) (Some left) None text log whole is before takes at_end = absurd takes
+ends_input counts (Some input) (Some left) (Some rest) text log whole counted before takes at_end =
     let is : text ≡ input = sym (before ∙ ap (λ l. text ++ l) (takes ∙ at_end) ∙ append-nil text) in
-    let said : JudgesInput (Ok NotTorn) text (Some text) (Some rest) = ((log, fine, fits), (sym (append-nil text) ∙ ap (λ l. text ++ l) (sym at_end), at_end)) in
-    subst (λ input. JudgesInput (Ok NotTorn) input (Some input) (Some rest)) is said
+    let said : JudgesInput (Ok (said_of counts)) text (Some text) (Some rest)
+    = (whole_judged text counts log whole counted, takes_all counts text rest (sym (append-nil text) ∙ ap (λ l. text ++ l) (sym at_end)) at_end) in
+    subst (λ input. JudgesInput (Ok (said_of counts)) input (Some input) (Some rest)) is said
 
 pub stops_at_end : (reading : LogReading) (stop : LogStop) (known now new : Option (List ℕ)) (text : List ℕ) (read : HasRead reading text) → length read.texts < number_of stop
     → StopsAt stop (lines text) → Consumes known now text → Consumes now new [] → IsAtEnd new → IfSome known (λ input. JudgesInput (answer_of stop) input known new)

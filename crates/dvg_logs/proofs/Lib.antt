@@ -1,4 +1,4 @@
 pub mod LogRows
 pub mod LogReads
-pub mod Inputs
 pub mod OneVerdict
+pub mod Inputs

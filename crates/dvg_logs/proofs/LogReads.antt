@@ -16,7 +16,8 @@ use Rattle.dvg_text.proofs.LineEnds.{line_at, line_last}
 use Rattle.dvg_text.proofs.FirstBytes.{IsCutAt, behind}
 use Rattle.dvg_text.proofs.Zips.{zip_length, zip_push}
 use Rattle.dvg_logs.specs.LogLines.{IsLogOf, Tells, passed, told}
-use Rattle.dvg_logs.specs.LogTexts.{IsTornAt, IsUntornLog}
+use Rattle.dvg_logs.specs.LogCounts.{counts_of}
+use Rattle.dvg_logs.specs.LogTexts.{IsTornAt, IsUntornLog, IsWhole}
 use Rattle.dvg_logs.specs.declared.log_reading.JudgedLines.{JudgedLines}
 use Rattle.dvg_logs.specs.LogReading.{IsOpen, IsRead, IsTornLine, HasJudged}
 use Rattle.dvg_logs.specs.Tears.{ended}
@@ -38,8 +39,8 @@ pub fine_more : (log : Log) (before : List (List ℕ)) (line : Line) (text : Lis
 fine_more log before line text fine tells untorn = record { tells = tells_more log before line text fine.tells tells; untorn = untorn_more log line fine.untorn untorn }
 
 pub torn_at : (log : Log) (before : List (List ℕ)) (line : Line) (a byte : ℕ) (text : List ℕ) (after : List (List ℕ)) → line ≡ Tick ⟼ Acted (Wrote a byte) → IsUntornLog log before → Tells line text → IsTornLine log line
-    → (n : ℕ) → n ≡ length before + 1 → IsTornAt (before ++ text ∷ after) n a byte
-torn_at log before line a byte text after is fine tells torn n number =
+    → (n : ℕ) → n ≡ length before + 1 → IsTornAt (before ++ text ∷ after) (line ∷ log) n a byte
+torn_at log before line a byte text after is fine tells torn n number = subst (λ last. IsTornAt (before ++ text ∷ after) (last ∷ log) n a byte) (sym is) (
     let wrote = subst (λ line. Tells line text) is tells in
     record {
       before = before;
@@ -47,11 +48,10 @@ torn_at log before line a byte text after is fine tells torn n number =
       after = after;
       cut = refl;
       number = number;
-      log = (Tick ⟼ Acted (Wrote a byte)) ∷ log;
       tells = tells_more log before (Tick ⟼ Acted (Wrote a byte)) text fine.tells wrote;
       torn = record { later = []; event = Tick; entry = Acted (Wrote a byte); before = log; split = refl; at = log_length log before fine.tells; torn = subst (IsTornLine log) is torn; untorn = fine.untorn };
       wrote = wrote;
-    }
+    })
 
 -- ---- lines of a text
 
@@ -170,17 +170,17 @@ module _ {judged : JudgedLines} {unfinished text : List ℕ} (bytes : List ℕ) 
       (line_read bytes read unended new (subst (λ line. HasJudged new (read.texts ++ line ∷ [])) (sym alone) fine))
 
 -- all lines of a text
-pub all_judged : (judged : JudgedLines) (text : List ℕ) (texts : List (List ℕ)) → lines text ≡ texts → HasJudged judged texts → (log : Log) × IsUntornLog log (lines text) × (length (lines text) < 2 ^ 64)
+pub all_judged : (judged : JudgedLines) (text : List ℕ) (texts : List (List ℕ)) → lines text ≡ texts → HasJudged judged texts → (log : Log) × IsWhole (lines text) log × (judged.counts ≡ counts_of log)
 all_judged judged text texts is fine =
-    (fine.log, subst (IsUntornLog fine.log) (sym is) fine.fine, omega (arith, ap length is, fine.count, fine.fits))
+    (fine.log, record { fine = subst (IsUntornLog fine.log) (sym is) fine.fine; fits = omega (arith, ap length is, fine.count, fine.fits) }, fine.counts)
 
 -- what is said of an error
 pub if_err_weaker : {T E : Type 0} {P Q : E → Type 0} (answer : Result T E) → ((e : E) → P e → Q e) → IfErr answer P → IfErr answer Q
 if_err_weaker (Ok done) f p = tt
 if_err_weaker (Err e) f p = f e p
 
-pub begun : (judged : JudgedLines) → StandsAfter judged.judge [] → judged.count ≡ 0 → HasJudged judged []
-begun judged stands none = record { log = []; fine = record { tells = tt; untorn = tt }; stands = stands; count = none; fits = omega arith }
+pub begun : (judged : JudgedLines) → StandsAfter judged.judge [] → judged.counts ≡ counts_of [] → judged.count ≡ 0 → HasJudged judged []
+begun judged stands nothing none = record { log = []; fine = record { tells = tt; untorn = tt }; stands = stands; counts = nothing; count = none; fits = omega arith }
 
 -- what is said of each, where it is done
 pub on_ok_all : {T E X : Type 0} (H Q : X → Type 0) (answer : Result T E) → ((x : X) → H x → OnOk answer (Q x)) → OnOk answer ((x : X) → H x → Q x)

@@ -1,5 +1,5 @@
 -- The rows of a log, by what a reader knows of a line.
-use Rattle.std.proofs.Common.{◌≡◌, ◌≢◌, ◌≤◌, ◌+◌, ℕ, List, [], ◌∷◌, ◌++◌, Option, Some, None, codes, length, take, drop, refl, sym, ap, ◌∙◌, subst, arith, eqb, true, MatchOption, false, true≢false, IfSome}
+use Rattle.std.proofs.Common.{◌≡◌, ◌≢◌, ◌<◌, ◌≤◌, ◌+◌, ℕ, List, [], ◌∷◌, ◌++◌, Option, Some, None, codes, length, take, drop, refl, sym, ap, ◌∙◌, subst, arith, eqb, true, MatchOption, false, true≢false, IfSome}
 use Rattle.std.specs.Prelude.{◌-◌, unwrap_or}
 use Rattle.std.specs.Borrow.{Bor}
 use Rattle.std.specs.Cmp.Lexicographic.{pointwise}
@@ -57,7 +57,11 @@ abbrev pub low_line : ℕ → ℕ → Line
 low_line a byte = Fetch ⟼ Low a byte
 
 pub wrote_row : {line : Line} {ps : List (List ℕ)} → LogRow line (codes "wrote" ∷ ps) → NumberRow 2 wrote_line line ps
-wrote_row (wrote {a = a} {byte = n} {address = front} {digits = back} h k) = record { a = a; n = n; front = front; back = back; is = refl; split = refl; address = h; number = k }
+wrote_row (wrote {a = a} {byte = n} {address = front} {digits = back} ram h k) = record { a = a; n = n; front = front; back = back; is = refl; split = refl; address = h; number = k }
+
+-- the byte is one of the RAM
+pub wrote_in_ram : {a byte : ℕ} {ps : List (List ℕ)} → LogRow (wrote_line a byte) ps → a < 0x800
+wrote_in_ram (wrote ram h k) = ram
 
 pub fetched_row : {line : Line} {ps : List (List ℕ)} → LogRow line (codes "fetched" ∷ ps) → NumberRow 4 fetched_line line ps
 fetched_row (fetched {a = a} {word = n} {address = front} {digits = back} h k) = record { a = a; n = n; front = front; back = back; is = refl; split = refl; address = h; number = k }
@@ -80,7 +84,7 @@ bare_of : {line : Line} {ps : List (List ℕ)} → LogRow line ps → (text : Li
 bare_of started text e w f l = named_row (codes "started") text (whole text (codes "started" ∷ []) e) started
 bare_of halted text e w f l = named_row (codes "halted") text (whole text (codes "halted" ∷ []) e) halted
 bare_of reset text e w f l = named_row (codes "reset") text (whole text (codes "reset" ∷ []) e) reset
-bare_of (wrote {address = address} {digits = digits} h k) text e w f l = absurd (w (address ++ 32 ∷ digits) (whole text (codes "wrote" ∷ address ∷ digits ∷ []) e))
+bare_of (wrote {address = address} {digits = digits} ram h k) text e w f l = absurd (w (address ++ 32 ∷ digits) (whole text (codes "wrote" ∷ address ∷ digits ∷ []) e))
 bare_of (fetched {address = address} {digits = digits} h k) text e w f l = absurd (f (address ++ 32 ∷ digits) (whole text (codes "fetched" ∷ address ∷ digits ∷ []) e))
 bare_of (low {address = address} {digits = digits} h k) text e w f l = absurd (l (address ++ 32 ∷ digits) (whole text (codes "low" ∷ address ∷ digits ∷ []) e))
 
@@ -90,8 +94,8 @@ bare_row text row w f l = bare_of row text refl w f l
 
 -- ---- what is read of a line with numbers
 
-pub wrote_made : (text rest : List ℕ) {a byte : ℕ} → text ≡ codes "wrote " ++ rest → AreNumbers 2 a byte rest → LogRow (wrote_line a byte) (parts text)
-wrote_made text rest is numbers = subst (LogRow (wrote_line _ _)) (sym (ap parts is ∙ ap (λ ps. codes "wrote" ∷ ps) (number_parts numbers))) (wrote numbers.address numbers.number)
+pub wrote_made : (text rest : List ℕ) {a byte : ℕ} → text ≡ codes "wrote " ++ rest → a < 0x800 → AreNumbers 2 a byte rest → LogRow (wrote_line a byte) (parts text)
+wrote_made text rest is ram numbers = subst (LogRow (wrote_line _ _)) (sym (ap parts is ∙ ap (λ ps. codes "wrote" ∷ ps) (number_parts numbers))) (wrote ram numbers.address numbers.number)
 
 pub fetched_made : (text rest : List ℕ) {a word : ℕ} → text ≡ codes "fetched " ++ rest → AreNumbers 4 a word rest → LogRow (fetched_line a word) (parts text)
 fetched_made text rest is numbers = subst (LogRow (fetched_line _ _)) (sym (ap parts is ∙ ap (λ ps. codes "fetched" ∷ ps) (number_parts numbers))) (fetched numbers.address numbers.number)

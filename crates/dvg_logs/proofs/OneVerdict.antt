@@ -1,5 +1,5 @@
 -- Of the text of a log one verdict is given at most, and none where a line tells nothing.
-use Rattle.std.proofs.Common.{◌≡◌, ◌<◌, ◌+◌, ◌-◌, ℕ, suc, List, [], ◌∷◌, ◌++◌, codes, length, take, drop, reverse, refl, sym, ap, ◌∙◌, subst, arith, append_assoc, length-append, ⊎_elim, inl, inr, Result, Ok, Err, IfErr, OnOk}
+use Rattle.std.proofs.Common.{◌≡◌, ◌<◌, ◌+◌, ◌-◌, ℕ, suc, List, [], ◌∷◌, ◌++◌, codes, length, take, drop, reverse, refl, sym, ap, ◌∙◌, subst, arith, append_assoc, length-append, ⊎_elim, inl, inr, Result, Ok, Err, IfErr, IfOk, Bool, true, false, true≢false, cond}
 use Rattle.std.specs.List.{AllZip}
 use Rattle.std.proofs.lemmas.Bool.{cases_lt}
 use Rattle.std.proofs.lemmas.List.{nil_from_length, reverse-append, reverse-reverse}
@@ -11,8 +11,10 @@ use Rattle.dvg_world.specs.Log.{◌⟼◌, Line, Log, Throughout}
 use Rattle.dvg_world.specs.Torn.{IsUntorn}
 use Rattle.dvg_text.specs.Texts.{IsHex, lines}
 use Rattle.dvg_text.specs.declared.fault.TextFault.TheVariants.{Syntax, TooLong}
+use Rattle.dvg_lines.specs.declared.log_verdict.LogCounts.{LogCounts}
+use Rattle.dvg_lines.specs.declared.log_verdict.LogFinding.{LogFinding}
+use Rattle.dvg_lines.specs.declared.log_verdict.LogFinding.TheVariants.{NotTorn, NoRunDrew, Torn}
 use Rattle.dvg_lines.specs.declared.log_verdict.LogVerdict.{LogVerdict}
-use Rattle.dvg_lines.specs.declared.log_verdict.LogVerdict.TheVariants.{NotTorn, Torn}
 use Rattle.dvg_text.proofs.Zips.{zip_same}
 use Rattle.dvg_logs.specs.LogLines.{IsLogOf, LogRow, Tells, started, fetched, low, wrote, halted, reset, passed, told}
 use Rattle.dvg_logs.specs.declared.log_reading.LogStop.{LogStop}
@@ -20,7 +22,9 @@ use Rattle.dvg_logs.specs.declared.log_reading.LogStop.TheVariants as stop
 use Rattle.dvg_logs.specs.LogLaws.{IsJudged}
 use Rattle.dvg_logs.specs.LogReading.{IsTornLine}
 use Rattle.dvg_logs.specs.LogReading as reading
-use Rattle.dvg_logs.specs.LogTexts.{HasLogFault, IsTornAt, IsUntornLog, JudgesLog, MeetsSyntax}
+use Rattle.dvg_logs.specs.Judging.{found_in}
+use Rattle.dvg_logs.specs.LogCounts.{counts_of, no_run_drew}
+use Rattle.dvg_logs.specs.LogTexts.{Finds, HasLogFault, IsTornAt, IsUntornLog, IsWhole, JudgesLog, MeetsSyntax}
 use Rattle.dvg_logs.proofs.LogReads.{log_length}
 use Rattle.dvg_logs.proofs.LogRows.{NumberRow, fetched_line, fetched_row, low_line, low_row, passed_alone, row_of, wrote_line, wrote_row}
 
@@ -48,7 +52,7 @@ row_once : {line other : Line} {ps : List (List ℕ)} → LogRow line ps → Log
 row_once started row = started_once row
 row_once halted row = halted_once row
 row_once reset row = reset_once row
-row_once (wrote h k) row = numbers_once wrote_line h k (wrote_row row)
+row_once (wrote ram h k) row = numbers_once wrote_line h k (wrote_row row)
 row_once (fetched h k) row = numbers_once fetched_line h k (fetched_row row)
 row_once (low h k) row = numbers_once low_line h k (low_row row)
 
@@ -151,11 +155,11 @@ one_stop {texts} {k} {j} one two =
 syntax_stops : {texts : List (List ℕ)} {n : ℕ} (at_fault : MeetsSyntax texts n) → StopsAt texts (length at_fault.before)
 syntax_stops at_fault = record { before = at_fault.before; line = at_fault.line; after = at_fault.after; cut = at_fault.cut; at = refl; log = at_fault.log; fine = at_fault.fine; stops = λ told tells. absurd (at_fault.wrong told tells) }
 
-torn_stops : {texts : List (List ℕ)} {n address byte : ℕ} (torn : IsTornAt texts n address byte) → StopsAt texts (length torn.before)
-torn_stops torn =
-    let front = front_of torn.log torn.before torn.line [] torn.tells in
+torn_stops : {texts : List (List ℕ)} {log : Log} {n address byte : ℕ} (torn : IsTornAt texts log n address byte) → StopsAt texts (length torn.before)
+torn_stops {log = log} torn =
+    let front = front_of log torn.before torn.line [] torn.tells in
     let first = torn.torn in
-    let whole : length torn.log ≡ length torn.before + 1 = log_length torn.log (torn.before ++ torn.line ∷ []) torn.tells ∙ length-append torn.before (torn.line ∷ []) in
+    let whole : length log ≡ length torn.before + 1 = log_length log (torn.before ++ torn.line ∷ []) torn.tells ∙ length-append torn.before (torn.line ∷ []) in
     let one = ap length front.split ∙ length-append front.later (front.line ∷ front.older) in
     let two = ap length first.split ∙ length-append first.later ((first.event ⟼ first.entry) ∷ first.before) in
     let older = log_length front.older torn.before front.tells_older in
@@ -185,14 +189,28 @@ never_stops log fine stop = stops_none log stop.after stop (subst (IsUntornLog l
 
 -- why the reading of a text stops is its verdict or its fault
 pub judged_at : (text : List ℕ) (stop : LogStop) → reading.StopsAt stop (lines text) → IsJudged text
-judged_at text (stop.Torn n address byte) stops = inl (Torn n address byte, stops)
+judged_at text (stop.Torn n address byte counts) (log, torn, counted) = inl (record { finding = Torn n address byte; counts = counts }, record { log = log; finds = torn; counts = counted })
 judged_at text (stop.Syntax n) stops = inr (Syntax n, stops)
 judged_at text stop.TooLong stops = inr (TooLong, stops)
 
+-- what is found in a log that was read to its end
+pub whole_judged : (text : List ℕ) (counts : LogCounts) (log : Log) → IsWhole (lines text) log → counts ≡ counts_of log → JudgesLog text (record { finding = found_in counts; counts = counts })
+whole_judged text counts log whole is = record {
+  log = log;
+  finds = subst (λ counts. Finds (found_in counts) (lines text) log) (sym is) (found (no_run_drew (counts_of log)) refl);
+  counts = is;
+}
+  where
+    found : (none : Bool) → no_run_drew (counts_of log) ≡ none → Finds (cond none NoRunDrew NotTorn) (lines text) log
+    found true is = (whole, is)
+    found false is = (whole, is)
+
 -- so it is at the end of a text that was read
-pub judged_by : {T : Type 0} (HasRead : List ℕ → Type 0) (text : List ℕ) (answer : Result T LogStop) → HasRead text → IfErr answer (λ stop. (text : List ℕ) → HasRead text → reading.StopsAt stop (lines text))
-    → OnOk answer ((text : List ℕ) → HasRead text → JudgesLog text NotTorn) → IsJudged text
-judged_by HasRead text (Ok value) read stops judged = inl (NotTorn, judged text read)
+pub judged_by : (HasRead : List ℕ → Type 0) (text : List ℕ) (answer : Result LogCounts LogStop) → HasRead text → IfErr answer (λ stop. (text : List ℕ) → HasRead text → reading.StopsAt stop (lines text))
+    → IfOk answer (λ counts. (text : List ℕ) → HasRead text → (log : Log) × IsWhole (lines text) log × (counts ≡ counts_of log)) → IsJudged text
+judged_by HasRead text (Ok counts) read stops judged =
+    let (log, whole, is) = judged text read in
+    inl (record { finding = found_in counts; counts = counts }, whole_judged text counts log whole is)
 judged_by HasRead text (Err why) read stops judged = judged_at text why (stops text read)
 
 -- ---- the laws
@@ -203,19 +221,57 @@ same_lines before other x y after rest one two e =
     let behind : x ∷ after ≡ y ∷ rest = sym (drop-append_seam before (x ∷ after)) ∙ (ap (drop (length before)) (sym one ∙ two) ∙ (ap (λ n. drop n (other ++ y ∷ rest)) e ∙ drop-append_seam other (y ∷ rest))) in
     cc
 
+-- and so is what stands before them
+same_fronts : {texts : List (List ℕ)} (before other : List (List ℕ)) (x y : List ℕ) (after rest : List (List ℕ)) → texts ≡ before ++ x ∷ after → texts ≡ other ++ y ∷ rest → length before ≡ length other → before ≡ other
+same_fronts before other x y after rest one two e =
+    sym (take-append_seam before (x ∷ after)) ∙ (ap (take (length before)) (sym one ∙ two) ∙ (ap (λ n. take n (other ++ y ∷ rest)) e ∙ take-append_seam other (y ∷ rest)))
+
 same_torn : (n m a b x y : ℕ) → n ≡ m → Tick ⟼ Acted (Wrote a b) ≡ Tick ⟼ Acted (Wrote x y) → Torn n a b ≡ Torn m x y
 same_torn n m a b x y e f = let one : a ≡ x = cc in let two : b ≡ y = cc in rw (e, one, two)
 
-pub one_verdict : (text : List ℕ) (one other : LogVerdict) → JudgesLog text one → JudgesLog text other → other ≡ one
-one_verdict text NotTorn NotTorn a b = refl
-one_verdict text NotTorn (Torn n x y) a b = absurd (never_stops a.0 a.1 (torn_stops b))
-one_verdict text (Torn n x y) NotTorn a b = absurd (never_stops b.0 b.1 (torn_stops a))
-one_verdict text (Torn n x y) (Torn m v w) a b =
+-- two findings of one text are the same, and of the same log
+record AreOne (one other : LogFinding) (log older : Log) : Type 0 where
+  pub finding : other ≡ one
+  pub same : older ≡ log
+
+whole_once : (texts : List (List ℕ)) (finding : LogFinding) (log other : Log) → IsWhole texts log → IsWhole texts other → AreOne finding finding log other
+whole_once texts finding log other one two = record { finding = refl; same = log_once other log texts two.fine.tells one.fine.tells }
+
+-- runs drew in a log or didn't
+drew_once : (texts : List (List ℕ)) (log other : Log) → IsWhole texts log → IsWhole texts other → no_run_drew (counts_of log) ≡ true → no_run_drew (counts_of other) ≡ false → ⊥
+drew_once texts log other one two none some =
+    true≢false (sym none ∙ (ap (λ log. no_run_drew (counts_of log)) (log_once log other texts one.fine.tells two.fine.tells) ∙ some))
+
+torn_once : (texts : List (List ℕ)) (log other : Log) (n m x y v w : ℕ) → IsTornAt texts log n x y → IsTornAt texts other m v w → AreOne (Torn n x y) (Torn m v w) log other
+torn_once texts log other n m x y v w a b =
     let at = one_stop (torn_stops b) (torn_stops a) in
     let p = a.number in
     let q = b.number in
     let line = same_lines b.before a.before b.line a.line b.after a.after b.cut a.cut at in
-    same_torn m n v w x y (omega arith) (tells_once (Tick ⟼ Acted (Wrote v w)) (Tick ⟼ Acted (Wrote x y)) a.line (subst (Tells (Tick ⟼ Acted (Wrote v w))) line b.wrote) a.wrote)
+    let before = same_fronts b.before a.before b.line a.line b.after a.after b.cut a.cut at in
+    record {
+      finding = same_torn m n v w x y (omega arith) (tells_once (Tick ⟼ Acted (Wrote v w)) (Tick ⟼ Acted (Wrote x y)) a.line (subst (Tells (Tick ⟼ Acted (Wrote v w))) line b.wrote) a.wrote);
+      same = log_once other log (a.before ++ a.line ∷ []) (subst (IsLogOf other) (ap (λ l. l ++ b.line ∷ []) before ∙ ap (λ l. a.before ++ l ∷ []) line) b.tells) a.tells;
+    }
+
+one_finding : (texts : List (List ℕ)) (one other : LogFinding) (log older : Log) → Finds one texts log → Finds other texts older → AreOne one other log older
+one_finding texts NotTorn NotTorn log older a b = whole_once texts NotTorn log older a.0 b.0
+one_finding texts NoRunDrew NoRunDrew log older a b = whole_once texts NoRunDrew log older a.0 b.0
+one_finding texts NotTorn NoRunDrew log older a b = absurd (drew_once texts older log b.0 a.0 b.1 a.1)
+one_finding texts NoRunDrew NotTorn log older a b = absurd (drew_once texts log older a.0 b.0 a.1 b.1)
+one_finding texts NotTorn (Torn n x y) log older a b = absurd (never_stops log a.0.fine (torn_stops b))
+one_finding texts NoRunDrew (Torn n x y) log older a b = absurd (never_stops log a.0.fine (torn_stops b))
+one_finding texts (Torn n x y) NotTorn log older a b = absurd (never_stops older b.0.fine (torn_stops a))
+one_finding texts (Torn n x y) NoRunDrew log older a b = absurd (never_stops older b.0.fine (torn_stops a))
+one_finding texts (Torn n x y) (Torn m v w) log older a b = torn_once texts log older n m x y v w a b
+
+same_verdict : (one other : LogVerdict) → other.finding ≡ one.finding → other.counts ≡ one.counts → other ≡ one
+same_verdict one other e f = rw (e, f)
+
+pub one_verdict : (text : List ℕ) (one other : LogVerdict) → JudgesLog text one → JudgesLog text other → other ≡ one
+one_verdict text one other a b =
+    let are = one_finding (lines text) one.finding other.finding a.log b.log a.finds b.finds in
+    same_verdict one other are.finding (b.counts ∙ (ap counts_of are.same ∙ sym a.counts))
 
 pub one_fault : (text : List ℕ) (n m : ℕ) → HasLogFault text (Syntax n) → HasLogFault text (Syntax m) → m ≡ n
 one_fault text n m a b =
@@ -224,9 +280,13 @@ one_fault text n m a b =
     let q = b.number in
     omega arith
 
-pub no_verdict_beside_fault : (text : List ℕ) (verdict : LogVerdict) (n : ℕ) → JudgesLog text verdict → ¬ HasLogFault text (Syntax n)
-no_verdict_beside_fault text NotTorn n judged at_fault = never_stops judged.0 judged.1 (syntax_stops at_fault)
-no_verdict_beside_fault text (Torn m x y) n judged at_fault =
+no_finding_beside_fault : (text : List ℕ) (finding : LogFinding) (log : Log) (n : ℕ) → Finds finding (lines text) log → ¬ HasLogFault text (Syntax n)
+no_finding_beside_fault text NotTorn log n found at_fault = never_stops log found.0.fine (syntax_stops at_fault)
+no_finding_beside_fault text NoRunDrew log n found at_fault = never_stops log found.0.fine (syntax_stops at_fault)
+no_finding_beside_fault text (Torn m x y) log n judged at_fault =
     let at = one_stop (torn_stops judged) (syntax_stops at_fault) in
     let line = same_lines judged.before at_fault.before judged.line at_fault.line judged.after at_fault.after judged.cut at_fault.cut at in
     at_fault.wrong (Tick ⟼ Acted (Wrote x y)) (subst (Tells (Tick ⟼ Acted (Wrote x y))) line judged.wrote)
+
+pub no_verdict_beside_fault : (text : List ℕ) (verdict : LogVerdict) (n : ℕ) → JudgesLog text verdict → ¬ HasLogFault text (Syntax n)
+no_verdict_beside_fault text verdict n judged = no_finding_beside_fault text verdict.finding judged.log n judged.finds

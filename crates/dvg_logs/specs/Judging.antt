@@ -1,20 +1,27 @@
 -- What is said of a log before that is written (for private contracts).
-use Rattle.std.specs.Prelude.{ℕ, List, Option, Result, Ok, Err}
+use Rattle.std.specs.Prelude.{ℕ, List, Option, Result, Ok, Err, cond}
 use Rattle.dvg_text.specs.declared.fault.TextFault.TheVariants as of_text
 use Rattle.dvg_lines.specs.declared.log_verdict.LogVerdict.{LogVerdict}
-use Rattle.dvg_lines.specs.declared.log_verdict.LogVerdict.TheVariants as said
+use Rattle.dvg_lines.specs.declared.log_verdict.LogFinding.{LogFinding}
+use Rattle.dvg_lines.specs.declared.log_verdict.LogFinding.TheVariants as found
 use Rattle.dvg_io.specs.declared.fault.ToolFault.{ToolFault}
 use Rattle.dvg_io.specs.declared.fault.ToolFault.TheVariants.{Text, Reader}
 use Rattle.dvg_logs.specs.declared.log_reading.LogStop.{LogStop}
 use Rattle.dvg_logs.specs.declared.log_reading.LogStop.TheVariants.{Torn, Syntax, TooLong}
+use Rattle.dvg_lines.specs.declared.log_verdict.LogCounts.{LogCounts}
+use Rattle.dvg_logs.specs.LogCounts.{no_run_drew}
 use Rattle.dvg_logs.specs.LogTexts.{HasLogFault, JudgesLog}
 use Rattle.dvg_logs.specs.Tears.{Takes}
 
 -- what is answered of a log, the reading of which stops so
 abbrev pub answer_of : LogStop → Result LogVerdict ToolFault
-answer_of (Torn n address byte) = Ok (said.Torn n address byte)
+answer_of (Torn n address byte counts) = Ok (record { finding = found.Torn n address byte; counts = counts })
 answer_of (Syntax n) = Err (Text (of_text.Syntax n))
 answer_of TooLong = Err (Text of_text.TooLong)
+
+-- what is found where no line is torn
+abbrev pub found_in : LogCounts → LogFinding
+found_in counts = cond (no_run_drew counts) found.NoRunDrew found.NotTorn
 
 -- the faults that come while a log is read: its own, and that of the reader
 abbrev pub IsReadingFault : ToolFault → Type 0

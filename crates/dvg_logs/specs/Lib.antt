@@ -1,4 +1,5 @@
 pub mod LogLines
+pub mod LogCounts
 pub mod LogTexts
 pub mod Tears
 pub mod LogLineTells

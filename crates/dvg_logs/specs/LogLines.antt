@@ -1,5 +1,5 @@
 -- The lines of a log's text, and the log that they tell.
-use Rattle.std.specs.Prelude.{◌≡◌, ℕ, ◌≤◌, List, [], ◌∷◌, length, reverse, codes, true, false}
+use Rattle.std.specs.Prelude.{◌≡◌, ℕ, ◌<◌, ◌≤◌, List, [], ◌∷◌, length, reverse, codes, true, false}
 use Rattle.std.specs.List.{AllZip}
 use Rattle.dvg_driver.specs.declared.action.Action.TheVariants.{Wrote, Idle}
 use Rattle.dvg_world.specs.Entries.{Acted, Started, Low, Fetched, Done, Cleared}
@@ -7,12 +7,12 @@ use Rattle.dvg_world.specs.Events.{Tick, Strobe, Fetch, ResetGen}
 use Rattle.dvg_world.specs.Log.{◌⟼◌, Line, Log}
 use Rattle.dvg_text.specs.Texts.{IsHex, is_passed, parts}
 
--- the parts of a line that tells this line of a log; of a HALT it tells no word, no address and no strokes: for these stand 0 and none
+-- the parts of a line that tells this line of a log; a byte is written in the RAM; of a HALT no word, address or stroke is told: for these stand 0 and none
 pub data LogRow : Line → List (List ℕ) → Type 0 where
   started : LogRow (Strobe ⟼ Started) (codes "started" ∷ [])
   fetched : {a word : ℕ} {address digits : List ℕ} → IsHex 3 a address → IsHex 4 word digits → LogRow (Fetch ⟼ Fetched a word) (codes "fetched" ∷ address ∷ digits ∷ [])
   low : {a byte : ℕ} {address digits : List ℕ} → IsHex 3 a address → IsHex 2 byte digits → LogRow (Fetch ⟼ Low a byte) (codes "low" ∷ address ∷ digits ∷ [])
-  wrote : {a byte : ℕ} {address digits : List ℕ} → IsHex 3 a address → IsHex 2 byte digits → LogRow (Tick ⟼ Acted (Wrote a byte)) (codes "wrote" ∷ address ∷ digits ∷ [])
+  wrote : {a byte : ℕ} {address digits : List ℕ} → a < 0x800 → IsHex 3 a address → IsHex 2 byte digits → LogRow (Tick ⟼ Acted (Wrote a byte)) (codes "wrote" ∷ address ∷ digits ∷ [])
   halted : LogRow (Fetch ⟼ Done 0 0 []) (codes "halted" ∷ [])
   reset : LogRow (ResetGen ⟼ Cleared) (codes "reset" ∷ [])
 

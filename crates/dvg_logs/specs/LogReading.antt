@@ -8,6 +8,7 @@ use Rattle.dvg_logs.specs.declared.log_reading.JudgedLines.{JudgedLines}
 use Rattle.dvg_logs.specs.declared.log_reading.LogReading.{LogReading}
 use Rattle.dvg_logs.specs.declared.log_reading.LogStop.{LogStop}
 use Rattle.dvg_logs.specs.declared.log_reading.LogStop.TheVariants.{Torn, Syntax, TooLong}
+use Rattle.dvg_logs.specs.LogCounts.{counts_of}
 use Rattle.dvg_logs.specs.LogTexts.{IsTornAt, IsUntornLog, MeetsSyntax, MeetsTooMany}
 use Rattle.dvg_logs.specs.Tears.{ended}
 
@@ -17,13 +18,13 @@ IsTornLine log (event ⟼ entry) = IsTorn log event entry
 
 -- why the reading of lines stops
 abbrev pub StopsAt : LogStop → List (List ℕ) → Type 0
-StopsAt (Torn n address byte) texts = IsTornAt texts n address byte
+StopsAt (Torn n address byte counts) texts = (log : Log) × IsTornAt texts log n address byte × (counts ≡ counts_of log)
 StopsAt (Syntax n) texts = MeetsSyntax texts n
 StopsAt TooLong texts = MeetsTooMany texts
 
 -- the number of the line that stops it
 abbrev pub number_of : LogStop → ℕ
-number_of (Torn n address byte) = n
+number_of (Torn n address byte counts) = n
 number_of (Syntax n) = n
 number_of TooLong = 2 ^ 64
 
@@ -32,6 +33,7 @@ pub record HasJudged (judged : JudgedLines) (texts : List (List ℕ)) : Type 0 w
   pub log : Log
   pub fine : IsUntornLog log texts
   pub stands : StandsAfter judged.judge log
+  pub counts : judged.counts ≡ counts_of log
   pub count : judged.count ≡ length texts
   pub fits : judged.count < 2 ^ 64
 

@@ -1,5 +1,5 @@
 -- What is said of the text of a log.
-use Rattle.std.specs.Prelude.{◌≡◌, ◌+◌, ◌-◌, ◌^◌, ◌<◌, ℕ, List, [], ◌∷◌, ◌++◌, length}
+use Rattle.std.specs.Prelude.{◌≡◌, ◌+◌, ◌-◌, ◌^◌, ◌<◌, ℕ, List, [], ◌∷◌, ◌++◌, length, true, false}
 use Rattle.dvg_driver.specs.declared.action.Action.TheVariants.{Wrote}
 use Rattle.dvg_world.specs.Entries.{Acted}
 use Rattle.dvg_world.specs.Events.{Tick}
@@ -8,8 +8,10 @@ use Rattle.dvg_world.specs.Torn.{IsFirstTorn, IsUntorn}
 use Rattle.dvg_text.specs.Texts.{lines}
 use Rattle.dvg_text.specs.declared.fault.TextFault.{TextFault}
 use Rattle.dvg_text.specs.declared.fault.TextFault.TheVariants.{TooLong, Syntax}
+use Rattle.dvg_lines.specs.declared.log_verdict.LogFinding.{LogFinding}
+use Rattle.dvg_lines.specs.declared.log_verdict.LogFinding.TheVariants.{NotTorn, NoRunDrew, Torn}
 use Rattle.dvg_lines.specs.declared.log_verdict.LogVerdict.{LogVerdict}
-use Rattle.dvg_lines.specs.declared.log_verdict.LogVerdict.TheVariants.{NotTorn, Torn}
+use Rattle.dvg_logs.specs.LogCounts.{counts_of, no_run_drew}
 use Rattle.dvg_logs.specs.LogLines.{IsLogOf, Tells}
 
 -- the lines tell this log, and none of it is torn
@@ -17,14 +19,13 @@ pub record IsUntornLog (log : Log) (texts : List (List ℕ)) : Type 0 where
   pub tells : IsLogOf log texts
   pub untorn : Throughout IsUntorn log
 
--- line n is the first torn one, and wrote this byte at this byte address
-pub record IsTornAt (texts : List (List ℕ)) (n address byte : ℕ) : Type 0 where
+-- line n is the first torn one, and wrote this byte at this byte address; the lines up to it tell this log
+pub record IsTornAt (texts : List (List ℕ)) (log : Log) (n address byte : ℕ) : Type 0 where
   pub before : List (List ℕ)
   pub line : List ℕ
   pub after : List (List ℕ)
   pub cut : texts ≡ before ++ line ∷ after
   pub number : n ≡ length before + 1
-  pub log : Log
   pub tells : IsLogOf log (before ++ line ∷ [])
   pub torn : IsFirstTorn log (length before)
   pub wrote : Tells (Tick ⟼ Acted (Wrote address byte)) line
@@ -50,10 +51,22 @@ pub record MeetsTooMany (texts : List (List ℕ)) : Type 0 where
   pub log : Log
   pub fine : IsUntornLog log before
 
--- this is said of the text of a log: that none of its lines is torn, or which is the first torn one
-abbrev pub JudgesLog : List ℕ → LogVerdict → Type 0
-JudgesLog text NotTorn = (log : Log) × IsUntornLog log (lines text) × (length (lines text) < 2 ^ 64)
-JudgesLog text (Torn n address byte) = IsTornAt (lines text) n address byte
+-- none of the lines is torn, they tell this log, and they are fewer than 2 ^ 64
+pub record IsWhole (texts : List (List ℕ)) (log : Log) : Type 0 where
+  pub fine : IsUntornLog log texts
+  pub fits : length texts < 2 ^ 64
+
+-- this is found in lines, of which those that are judged tell this log
+abbrev pub Finds : LogFinding → List (List ℕ) → Log → Type 0
+Finds NotTorn texts log = IsWhole texts log × (no_run_drew (counts_of log) ≡ false)
+Finds NoRunDrew texts log = IsWhole texts log × (no_run_drew (counts_of log) ≡ true)
+Finds (Torn n address byte) texts log = IsTornAt texts log n address byte
+
+-- this is said of the text of a log: what is found in it, and what is counted up to there
+pub record JudgesLog (text : List ℕ) (verdict : LogVerdict) : Type 0 where
+  pub log : Log
+  pub finds : Finds verdict.finding (lines text) log
+  pub counts : verdict.counts ≡ counts_of log
 
 -- the fault of a log's text
 abbrev pub HasLogFault : List ℕ → TextFault → Type 0

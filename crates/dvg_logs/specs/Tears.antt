@@ -2,20 +2,21 @@
 use Rattle.std.specs.Prelude.{◌+◌, ◌-◌, ◌^◌, ℕ, List, [], ◌∷◌, ◌++◌, flat_map, length, take, Option, Result, Ok, Err}
 use Rattle.std.specs.Io.KnownBytes.{Appends, Consumes, IsAtEnd}
 use Rattle.dvg_text.specs.Texts.{lines}
-use Rattle.dvg_lines.specs.LogVerdicts.{log_verdict_line}
+use Rattle.dvg_lines.specs.LogVerdicts.{log_verdict_text}
 use Rattle.dvg_text.specs.declared.fault.TextFault.TheVariants.{Syntax}
 use Rattle.dvg_lines.specs.declared.log_verdict.LogVerdict.{LogVerdict}
-use Rattle.dvg_lines.specs.declared.log_verdict.LogVerdict.TheVariants.{NotTorn, Torn}
+use Rattle.dvg_lines.specs.declared.log_verdict.LogFinding.{LogFinding}
+use Rattle.dvg_lines.specs.declared.log_verdict.LogFinding.TheVariants.{NotTorn, NoRunDrew, Torn}
 use Rattle.dvg_io.specs.declared.fault.ToolFault.{ToolFault}
 use Rattle.dvg_io.specs.declared.fault.ToolFault.TheVariants.{Text, Reader, Writer, Memory}
 use Rattle.dvg_io.specs.Watching.{BeginsToWrite, TakesAtMost}
 use Rattle.dvg_logs.specs.LogTexts.{HasLogFault, JudgesLog}
 
--- what `torn` answers of an input, and what went out: the verdict's line, or at `Writer` a beginning of it (that nothing went out at the others is a clause of its own)
+-- what `torn` answers of an input, and what went out: the verdict's text, or at `Writer` a beginning of it (that nothing went out at the others is a clause of its own)
 abbrev pub Tears : Result LogVerdict ToolFault → (input : List ℕ) → Option (List ℕ) → Option (List ℕ) → Type 0
-Tears (Ok verdict) input old new = JudgesLog input verdict × Appends old new (log_verdict_line verdict)
+Tears (Ok verdict) input old new = JudgesLog input verdict × Appends old new (log_verdict_text verdict)
 Tears (Err (Text fault)) input old new = HasLogFault input fault
-Tears (Err Writer) input old new = (verdict : LogVerdict) × JudgesLog input verdict × BeginsToWrite (log_verdict_line verdict) old new
+Tears (Err Writer) input old new = (verdict : LogVerdict) × JudgesLog input verdict × BeginsToWrite (log_verdict_text verdict) old new
 Tears (Err Reader) input old new = Unit {0}
 Tears (Err Memory) input old new = ⊥
 
@@ -27,15 +28,16 @@ ended = flat_map (λ line. line ++ 10 ∷ [])
 abbrev pub TakesUpTo : ℕ → (input : List ℕ) → Option (List ℕ) → Option (List ℕ) → Type 0
 TakesUpTo n input old new = TakesAtMost (length (ended (take (n - 1) (lines input))) + 32832) old new
 
--- what was taken of an input, when this was said: all of it, or up to the torn line
-abbrev pub TakesFor : LogVerdict → (input : List ℕ) → Option (List ℕ) → Option (List ℕ) → Type 0
+-- what was taken of an input, when this was found: all of it, or up to the torn line
+abbrev pub TakesFor : LogFinding → (input : List ℕ) → Option (List ℕ) → Option (List ℕ) → Type 0
 TakesFor NotTorn input old new = Consumes old new input × IsAtEnd new
+TakesFor NoRunDrew input old new = Consumes old new input × IsAtEnd new
 TakesFor (Torn n address byte) input old new = TakesUpTo n input old new
 
 -- what `torn` took of an input, by its answer
 abbrev pub Takes : Result LogVerdict ToolFault → (input : List ℕ) → Option (List ℕ) → Option (List ℕ) → Type 0
-Takes (Ok verdict) input old new = TakesFor verdict input old new
+Takes (Ok verdict) input old new = TakesFor verdict.finding input old new
 Takes (Err (Text (Syntax n))) input old new = TakesUpTo n input old new
 Takes (Err (Text _)) input old new = TakesUpTo (2 ^ 64) input old new
-Takes (Err Writer) input old new = (verdict : LogVerdict) × JudgesLog input verdict × TakesFor verdict input old new
+Takes (Err Writer) input old new = (verdict : LogVerdict) × JudgesLog input verdict × TakesFor verdict.finding input old new
 Takes (Err _) input old new = Unit {0}

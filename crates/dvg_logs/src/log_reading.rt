@@ -1,5 +1,5 @@
 //! The text of a log, as it is read in pieces.
-ghost use Rattle.std.specs.Prelude.{◌≡◌, ◌+◌, ◌^◌, ◌<◌, [], ◌∷◌, ◌++◌, ℕ, List, length, IfErr, IfSome, IsNone, OnOk};
+ghost use Rattle.std.specs.Prelude.{◌≡◌, ◌+◌, ◌-◌, ◌^◌, ◌<◌, [], ◌∷◌, ◌++◌, ℕ, List, length, IfErr, IfOk, IfSome, IsNone, OnOk};
 ghost use Rattle.dvg_driver.specs.declared.action.Action.TheVariants.{Wrote};
 ghost use Rattle.dvg_world.specs.Entries.{Acted};
 ghost use Rattle.dvg_world.specs.Events.{Tick};
@@ -7,12 +7,14 @@ ghost use Rattle.dvg_world.specs.Judging.{StandsAfter};
 ghost use Rattle.dvg_world.specs.Log.{Line, Log, ◌⟼◌};
 ghost use Rattle.dvg_text.specs.Texts.{lines};
 ghost use Rattle.dvg_logs.specs.LogLines.{Tells};
-ghost use Rattle.dvg_logs.specs.LogTexts.{IsUntornLog};
+ghost use Rattle.dvg_logs.specs.LogCounts.{counts_of};
+ghost use Rattle.dvg_logs.specs.LogTexts.{IsWhole};
 ghost use Rattle.dvg_logs.specs.LogLineTells.{line_of};
 ghost use Rattle.dvg_logs.specs.LogReading.{HasJudged, HasRead, IsOpen, IsTornLine, StopsAt, number_of, place_of};
 
 use crate::log_line::{LogLine, MOST_LINE_BYTES, read_log_line};
 use arrayvec::ArrayVec;
+use dvg_lines::LogCounts;
 use dvg_world::Judge;
 use memchr::memchr;
 
@@ -20,7 +22,13 @@ use memchr::memchr;
 #[derive(Clone, Copy, Debug, PartialEq, Eq)]
 pub enum LogStop {
     /// The line of this number, counted from 1, writes a byte, at a byte address, in the half that the open run draws.
-    Torn { line: usize, address: u16, byte: u8 },
+    /// Up to there the lines count so.
+    Torn {
+        line: usize,
+        address: u16,
+        byte: u8,
+        counts: LogCounts,
+    },
     /// The line of this number, counted from 1, tells nothing that a line may.
     Syntax(usize),
     /// There are more lines than are counted.
@@ -48,11 +56,31 @@ fn tell(judge: &mut Judge, told: LogLine) -> Option<(u16, u8)>
     None
 }
 
+// What was counted in some lines, and what one more tells. None of the numbers passes that of the lines, so none
+// saturates.
+fn counted(counts: LogCounts, told: LogLine) -> LogCounts
+    ensures { (log : Log) → counts ≡ counts_of log → length log < 2 ^ 64 - 1 → result ≡ counts_of (line_of told ∷ log) }
+{
+    let mut counts = counts;
+    match told {
+        LogLine::Started => counts.runs = counts.runs.saturating_add(1),
+        LogLine::Wrote(..) => counts.writes = counts.writes.saturating_add(1),
+        LogLine::Fetched(..) => counts.words = counts.words.saturating_add(1),
+        LogLine::Halted => {
+            counts.words = counts.words.saturating_add(1);
+            counts.halted = counts.halted.saturating_add(1);
+        }
+        LogLine::Passed | LogLine::Low(..) | LogLine::Reset => {}
+    }
+    counts
+}
+
 // The lines that have ended. None of them is torn or at fault.
 #[derive(Clone, Copy, Debug, PartialEq, Eq)]
 struct JudgedLines {
     judge: Judge,
     count: usize,
+    counts: LogCounts,
 }
 
 impl JudgedLines {
@@ -81,14 +109,17 @@ impl JudgedLines {
         let Some(told) = read_log_line(line) else {
             return Err(LogStop::Syntax(number));
         };
+        let counts = counted(self.counts, told);
         match tell(&mut self.judge, told) {
             Some((address, byte)) => Err(LogStop::Torn {
                 line: number,
                 address,
                 byte,
+                counts,
             }),
             None => {
                 self.count = number;
+                self.counts = counts;
                 Ok(())
             }
         }
@@ -112,6 +143,12 @@ impl LogReading {
             judged: JudgedLines {
                 judge: Judge::new(),
                 count: 0,
+                counts: LogCounts {
+                    runs: 0,
+                    halted: 0,
+                    writes: 0,
+                    words: 0,
+                },
             },
             unfinished: ArrayVec::new(),
         }
@@ -171,16 +208,19 @@ impl LogReading {
         self.begin_line(rest)
     }
 
-    /// Takes the end of the text, which ends a line that has begun.
-    pub fn finish(self) -> Result<(), LogStop>
-        ensures read { OnOk result ((text : List ℕ) → HasRead self text → (log : Log) × IsUntornLog log (lines text) × (length (lines text) < 2 ^ 64)) }
+    /// Takes the end of the text, which ends a line that has begun. What was counted in all lines.
+    pub fn finish(self) -> Result<LogCounts, LogStop>
+        ensures read { IfOk result (λ counts. (text : List ℕ) → HasRead self text → (log : Log) × IsWhole (lines text) log × (counts ≡ counts_of log)) }
         ensures stop { IfErr result (λ stop. (text : List ℕ) → HasRead self text → StopsAt stop (lines text)) }
         ensures next { IfErr result (λ stop. number_of stop ≡ self.judged.count + 1) }
     {
         let mut judged = self.judged;
         if self.unfinished.is_empty() {
-            return Ok(());
+            return Ok(judged.counts);
         }
-        judged.take(self.unfinished.as_slice())
+        match judged.take(self.unfinished.as_slice()) {
+            Ok(()) => Ok(judged.counts),
+            Err(stop) => Err(stop),
+        }
     }
 }

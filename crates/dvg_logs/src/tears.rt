@@ -1,13 +1,15 @@
 //! The engine `torn`.
-ghost use Rattle.std.specs.Prelude.{◌≡◌, ◌⊎◌, ◌↔◌, ◌≤◌, IfErr, IfSome, IsErrOf};
+ghost use Rattle.std.specs.Prelude.{◌≡◌, ◌⊎◌, ◌↔◌, ◌≤◌, IfErr, IfSome, IsErrOf, OnErr, OnOk};
+ghost use Rattle.std.specs.Io.KnownBytes.{Appends};
 ghost use Rattle.dvg_io.specs.Faults.{StopsBeforeWriting};
-ghost use Rattle.dvg_io.specs.Watching.{device_of, failures_of};
+ghost use Rattle.dvg_io.specs.Watching.{BeginsToWrite, CountsErrors, device_of, failures_of};
+ghost use Rattle.dvg_lines.specs.LogVerdicts.{log_verdict_text};
 ghost use Rattle.dvg_logs.specs.Tears.{Takes, Tears};
-ghost use Rattle.dvg_logs.specs.Judging.{IsReadingFault, JudgesInput, answer_of};
+ghost use Rattle.dvg_logs.specs.Judging.{IsReadingFault, JudgesInput, answer_of, found_in};
 
 use crate::log_reading::{LogReading, LogStop};
-use dvg_io::{ToolFault, Watched, write_whole};
-use dvg_lines::{Line, LogVerdict};
+use dvg_io::{DeviceFailed, ToolFault, Watched, write_whole};
+use dvg_lines::{Line, LogCounts, LogFinding, LogVerdict};
 use dvg_text::TextFault;
 use std::io::{Read, Write};
 
@@ -23,13 +25,33 @@ fn answer(stop: LogStop) -> Result<LogVerdict, ToolFault>
             line,
             address,
             byte,
-        } => Ok(LogVerdict::Torn {
-            line,
-            address,
-            byte,
+            counts,
+        } => Ok(LogVerdict {
+            finding: LogFinding::Torn {
+                line,
+                address,
+                byte,
+            },
+            counts,
         }),
         LogStop::Syntax(line) => Err(ToolFault::Text(TextFault::Syntax(line))),
         LogStop::TooLong => Err(ToolFault::Text(TextFault::TooLong)),
+    }
+}
+
+// What is found in a log of which no line is torn.
+fn found(counts: LogCounts) -> LogFinding
+    ensures { result ≡ found_in counts }
+{
+    let no_run_drew = if counts.runs == 0 {
+        counts.writes != 0
+    } else {
+        counts.words == 0
+    };
+    if no_run_drew {
+        LogFinding::NoRunDrew
+    } else {
+        LogFinding::NotTorn
     }
 }
 
@@ -56,14 +78,39 @@ fn judge_text<R: Read>(reader: &mut Watched<R>) -> Result<LogVerdict, ToolFault>
         }
     }
     match reading.finish() {
-        Ok(()) => Ok(LogVerdict::NotTorn),
+        Ok(counts) => Ok(LogVerdict {
+            finding: found(counts),
+            counts,
+        }),
         Err(stop) => answer(stop),
     }
 }
 
-/// Reads the text of a log, of any length, up to the first line that is torn or at fault, and writes what is said of it:
-/// `not torn`, or `torn at line N: wrote A B` of the first write into the half that the open run draws, by its line,
-/// its byte address and its byte (the text is this project's own choice). It takes no memory.
+// Writes what is said of a log.
+fn write_verdict<W: Write>(writer: &mut Watched<W>, verdict: LogVerdict) -> Result<(), DeviceFailed>
+    ensures ok { OnOk result (Appends (W.contents (device_of writer.old)) (W.contents (device_of writer.new)) (log_verdict_text verdict)) }
+    ensures err { OnErr result (BeginsToWrite (log_verdict_text verdict) (W.contents (device_of writer.old)) (W.contents (device_of writer.new))) }
+    ensures counts { CountsErrors result (failures_of writer.old) (failures_of writer.new) }
+{
+    let mut line = Line::new();
+    line.become_finding(verdict.finding);
+    write_whole(writer, line.as_bytes())?;
+    line.become_runs(verdict.counts);
+    write_whole(writer, line.as_bytes())?;
+    line.become_writes(verdict.counts);
+    write_whole(writer, line.as_bytes())
+}
+
+/// Reads the text of a log, of any length, up to the first line that is torn or at fault, and writes what is said of it
+/// (the text is this project's own choice):
+///
+/// - `not torn: R runs, H halted, W writes`, where no byte was written in the half that the open run draws: so many runs
+///   began, so many ended by a HALT, and so many bytes were written;
+/// - `no run drew:` and the same, where bytes were written and no run began, or runs began and no word was fetched;
+/// - `torn at line N: wrote A B` of the first write in such a half, by its line, its byte address and its byte, and on
+///   a line more `so far:` and the same numbers up to that line.
+///
+/// It takes no memory.
 ///
 /// - `Syntax`: this line is the first that tells nothing that a line may, as `read_log_line` says, none before it being
 ///   torn.
@@ -96,9 +143,7 @@ pub fn torn<R: Read, W: Write>(
         Ok(verdict) => verdict,
         Err(fault) => return Err(fault),
     };
-    let mut line = Line::new();
-    line.become_log_verdict(verdict);
-    if write_whole(writer, line.as_bytes()).is_err() {
+    if write_verdict(writer, verdict).is_err() {
         return Err(ToolFault::Writer);
     }
     Ok(verdict)

@@ -1,12 +1,11 @@
 //! Devices that fail at each call in turn, once or from then on: every failure is told at once, and nothing is tried
 //! again.
 use crate::devices::{Failing, Mishap};
-use crate::tasks::{Task, tasks, written};
+use crate::tasks::{NOT_TORN, Task, tasks, written};
 use dvg_frame::FrameFault;
 use dvg_mem::MEMORY_BYTES;
 use dvg_tool::{
-    BoundedVerdict, Done, LogVerdict, Outcome, TextFault, ToolFault, Verdict, Watched, finish,
-    perform,
+    BoundedVerdict, Done, Outcome, TextFault, ToolFault, Verdict, Watched, finish, perform,
 };
 use std::alloc::Global;
 use std::test::Fail;
@@ -186,7 +185,7 @@ fn a_failing_flush_is_the_writers_fault(rt: HostRuntime) {
         Ok(Done::Bounded(BoundedVerdict::Good { words: 3, bound: 4 })),
         Ok(Done::Judged(Verdict::Refused(FrameFault::Empty))),
         Ok(Done::Drew(Outcome::Endless)),
-        Ok(Done::Searched(LogVerdict::NotTorn)),
+        Ok(Done::Searched(NOT_TORN)),
         Err(ToolFault::Text(TextFault::Cut(4))),
         Err(ToolFault::Reader),
     ] {

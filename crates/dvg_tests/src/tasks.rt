@@ -2,7 +2,8 @@
 use crate::traces::FIRST_PICTURE;
 use dvg_frame::{FrameFault, Place};
 use dvg_tool::{
-    BoundedVerdict, Done, Job, LogVerdict, Outcome, TextFault, ToolFault, Verdict, Watched, perform,
+    BoundedVerdict, Done, Job, LogCounts, LogFinding, LogVerdict, Outcome, TextFault, ToolFault,
+    Verdict, Watched, perform,
 };
 use std::alloc::Global;
 use std::test::Fail;
@@ -59,6 +60,17 @@ const SHORT: BoundedVerdict = BoundedVerdict::Good { words: 3, bound: 4 };
 /// A log that isn't torn, so that it is read to its end.
 const LOG: &str = "started\n\nfetched 000 E201\nhalted\nwrote 402 90\n";
 
+/// What is answered of it.
+pub const NOT_TORN: LogVerdict = LogVerdict {
+    finding: LogFinding::NotTorn,
+    counts: LogCounts {
+        runs: 1,
+        halted: 1,
+        writes: 1,
+        words: 2,
+    },
+};
+
 /// The tasks, of which one reads this ROM, and two this dump, whose first word is a return.
 pub fn tasks<'a>(rom: &'a [u8], dump: &'a [u8]) -> [Task<'a>; 11] {
     let task = |job, input, step, answer| Task {
@@ -104,12 +116,7 @@ pub fn tasks<'a>(rom: &'a [u8], dump: &'a [u8]) -> [Task<'a>; 11] {
         task(ENTRIES, picture, 64, Ok(Done::Written)),
         task(BANKED_PICTURES, picture, 1, Ok(Done::Written)),
         task(BANKED_ENTRIES, picture, 64, Ok(Done::Written)),
-        task(
-            Job::Torn,
-            LOG.as_bytes(),
-            1,
-            Ok(Done::Searched(LogVerdict::NotTorn)),
-        ),
+        task(Job::Torn, LOG.as_bytes(), 1, Ok(Done::Searched(NOT_TORN))),
     ]
 }
 

@@ -5,7 +5,8 @@ use Rattle.dvg_io.specs.declared.fault.ToolFault.TheVariants.{Text, Writer}
 use Rattle.dvg_tool.specs.declared.outcome.Done.{Done}
 use Rattle.dvg_tool.specs.declared.outcome.Done.TheVariants.{Written, Judged, Bounded, Drew, Searched}
 use Rattle.dvg_dump.specs.declared.ending.Outcome.TheVariants as outcomes
-use Rattle.dvg_lines.specs.declared.log_verdict.LogVerdict.TheVariants.{NotTorn, Torn}
+use Rattle.dvg_lines.specs.declared.log_verdict.LogFinding.{LogFinding}
+use Rattle.dvg_lines.specs.declared.log_verdict.LogFinding.TheVariants.{NotTorn}
 use Rattle.dvg_lines.specs.declared.verdict.BoundedVerdict.TheVariants as bounded
 use Rattle.dvg_lines.specs.declared.verdict.Verdict.TheVariants.{Good, Refused}
 use Rattle.dvg_io.specs.Watching.{one_more}
@@ -13,6 +14,11 @@ use Rattle.dvg_io.specs.Watching.{one_more}
 -- the answer stays and no failure was counted, or one was counted and the answer is `Writer`
 abbrev pub FinishesAs : {T : Type 0} → Result T ToolFault → Result T ToolFault → ℕ → ℕ → Type 0
 FinishesAs answer result old new = ((result ≡ answer) × (new ≡ old)) ⊎ ((result ≡ Err Writer) × (new ≡ one_more old))
+
+-- the exit status of what is found in a log
+abbrev pub log_status : LogFinding → ℕ
+log_status NotTorn = 0
+log_status _ = 1
 
 -- the exit status
 abbrev pub status_of : Result Done ToolFault → ℕ
@@ -23,7 +29,6 @@ status_of (Ok (Bounded (bounded.Good words bound))) = 0
 status_of (Ok (Bounded (bounded.Refused fault))) = 1
 status_of (Ok (Drew outcomes.Picture)) = 0
 status_of (Ok (Drew _)) = 1
-status_of (Ok (Searched NotTorn)) = 0
-status_of (Ok (Searched (Torn line address byte))) = 1
+status_of (Ok (Searched verdict)) = log_status verdict.finding
 status_of (Err (Text fault)) = 1
 status_of (Err _) = 2

@@ -1,6 +1,8 @@
-use Rattle.std.proofs.Common.{◌<◌, codes, arith}
+use Rattle.std.proofs.Common.{◌<◌, codes, arith, subst, sym}
+use Rattle.dvg_text.specs.Texts.{parts}
+use Rattle.dvg_logs.specs.LogLines.{LogRow}
 use Rattle.dvg_text.proofs.EventRows.{byte_fits}
-use Rattle.dvg_logs.proofs.LogRows.{bare_parts, bare_row, behind_name, fetched_line, fetched_made, fetched_numbers, low_line, low_made, low_numbers, same_line, without, wrote_line, wrote_made, wrote_numbers}
+use Rattle.dvg_logs.proofs.LogRows.{bare_parts, bare_row, behind_name, fetched_line, fetched_made, fetched_numbers, low_line, low_made, low_numbers, same_line, without, wrote_in_ram, wrote_line, wrote_made, wrote_numbers}
 use Rattle.dvg_logs.proofs.log_line.row.Goals as goal
 
 pub returns-in_err-address-clause-only : goal.returns-in_err-address-clause-only
@@ -14,14 +16,23 @@ returns-in_err-address-clause-only c told row =
 pub overflow_cast-result : goal.overflow_cast-result
 overflow_cast-result c = let small : c.in_ok-address.byte < 256 = byte_fits c.in_ok-address.ensures.found.number in omega arith
 
-pub returns-in_ok-address-clause-found : goal.returns-in_ok-address-clause-found
-returns-in_ok-address-clause-found c =
+pub returns-then-address-ge-RAM_END-clause-only : goal.returns-then-address-ge-RAM_END-clause-only
+returns-then-address-ge-RAM_END-clause-only c told row =
     let line = c.args.line.now in
     let is = behind_name line (codes "wrote ") c.strip_prefix.result c.in-Some.rest c.strip_prefix.ensures.cases c.in-Some.is in
-    wrote_made line c.in-Some.rest.now is c.in_ok-address.ensures.found
+    let spelled = wrote_numbers line c.in-Some.rest.now is row in
+    let same = same_line wrote_line c.in_ok-address.address c.in_ok-address.byte spelled.a spelled.n told (c.in_ok-address.ensures.only spelled.a spelled.n spelled.numbers) spelled.is in
+    let ram = wrote_in_ram (subst (λ told. LogRow told (parts line)) (sym same) row) in
+    absurd (omega (arith, ram, c.if-address-ge-RAM_END.true))
 
-pub returns-in_ok-address-clause-only : goal.returns-in_ok-address-clause-only
-returns-in_ok-address-clause-only c told row =
+pub returns-else-address-ge-RAM_END-clause-found : goal.returns-else-address-ge-RAM_END-clause-found
+returns-else-address-ge-RAM_END-clause-found c =
+    let line = c.args.line.now in
+    let is = behind_name line (codes "wrote ") c.strip_prefix.result c.in-Some.rest c.strip_prefix.ensures.cases c.in-Some.is in
+    wrote_made line c.in-Some.rest.now is (omega (arith, c.if-address-ge-RAM_END.false)) c.in_ok-address.ensures.found
+
+pub returns-else-address-ge-RAM_END-clause-only : goal.returns-else-address-ge-RAM_END-clause-only
+returns-else-address-ge-RAM_END-clause-only c told row =
     let line = c.args.line.now in
     let is = behind_name line (codes "wrote ") c.strip_prefix.result c.in-Some.rest c.strip_prefix.ensures.cases c.in-Some.is in
     let spelled = wrote_numbers line c.in-Some.rest.now is row in
