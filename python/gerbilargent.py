@@ -858,29 +858,37 @@ class Torn(NamedTuple):
 class Verdict(NamedTuple):
     """What is said of a log: its first torn line, or None, and what it tells up to there.
 
-    runs is how many began, halted how many came to a HALT, and writes how many bytes were written.
-    A log in which no run came to a HALT shows little, whatever is said of it.
+    runs is how many began, halted how many came to a HALT, writes how many bytes were written, and
+    words how many words were fetched. A log in which no run came to a HALT shows little, whatever
+    is said of it. As text it is what `dvg torn` writes.
     """
 
     torn: Optional[Torn]
     runs: int
     halted: int
     writes: int
+    words: int
+
+    @property
+    def drew(self) -> bool:
+        """Whether runs fetched words, if there was anything to see: a run, or a write."""
+        return self.words > 0 if self.runs else self.writes == 0
 
     def __str__(self) -> str:
-        return str(self.torn) if self.torn else "not torn"
+        found = f"{self.torn}\nso far" if self.torn else "not torn" if self.drew else "no run drew"
+        return f"{found}: {self.runs} runs, {self.halted} halted, {self.writes} writes"
 
 
 class Judge:
     """Judges a log whose lines come one at a time, of a driver and a generator of any kind.
 
     A run draws a half where the first word that it fetched is the one at 000, a jump to a word of
-    that half: from then on, until it ends. `runs`, `halted` and `writes` count. This is the rule of
-    `dvg torn`, written once more in Python: it is tested against that.
+    that half: from then on, until it ends. `runs`, `halts`, `writes` and `words` count. This is the
+    rule of `dvg torn`, written once more in Python: it is tested against that.
     """
 
     def __init__(self) -> None:
-        self.runs = self.halts = self.writes = 0
+        self.runs = self.halts = self.writes = self.words = 0
         self._begun = False
         self._half: Optional[int] = None
 
@@ -891,6 +899,7 @@ class Judge:
 
     def fetched(self, address: int, word: int) -> None:
         """A word was fetched, at a word address, 000 to FFF, and the run goes on."""
+        self.words += 1
         if self._begun:
             self._begun = False
             jumps = address == 0 and word >> 12 == 0xE
@@ -899,6 +908,7 @@ class Judge:
     def halted(self) -> None:
         """The run ended by a HALT."""
         self.halts += 1
+        self.words += 1
         self.reset()
 
     def reset(self) -> None:
@@ -958,7 +968,7 @@ def judge(log: Union[str, Iterable[str]]) -> Verdict:
         if found:
             torn = Torn(number, *found)
             break
-    return Verdict(torn, judge_of.runs, judge_of.halts, judge_of.writes)
+    return Verdict(torn, judge_of.runs, judge_of.halts, judge_of.writes, judge_of.words)
 
 
 # --- Pictures ---
@@ -1031,7 +1041,7 @@ def main(words: Optional["list[str]"] = None) -> int:
             with open(asked.log, encoding="ascii", errors="replace", newline="\n") as log:
                 verdict = judge(log)
             print(verdict)
-            return 1 if verdict.torn else 0
+            return 0 if verdict.drew and not verdict.torn else 1
         drawn = picture(Path(asked.dump).read_bytes()) if asked.dump else _first_picture()
     except LibraryMissing as error:
         print(f"gerbilargent: {error}", file=sys.stderr)

@@ -700,13 +700,11 @@ def log_text(log):
 
 
 def test_logs(count):
-    kinds = {"not": 0, "torn": 0, "": 0}
+    kinds = {"not": 0, "no": 0, "torn": 0, "": 0}
     for number in range(count):
         log = random_log(random.Random(SEED + number))
         out, error, _ = dvg("torn", text=log)
-        # The program may tell more after this, of what it saw.
-        verdict = re.match(r"torn at line \d+: wrote ... ..|not torn|no run drew|", out)[0]
-        verdict = "not torn" if verdict == "no run drew" else verdict
+        verdict = out.removesuffix("\n")
         fault = re.match(r"dvg: syntax at line \d+|", error)[0]
         kinds[verdict.split(" ")[0]] += 1
         expect_same((verdict, fault), log_text(log), f"log {SEED + number}")
@@ -715,12 +713,16 @@ def test_logs(count):
     verdict = g.judge(
         "started\nfetched 000 E201\nwrote 002 00\nhalted\nstarted\nreset\nwrote 402 00\n"
     )
-    expect_same(g.Verdict(None, 2, 1, 2), verdict, "what a log tells is counted")
+    expect_same(g.Verdict(None, 2, 1, 2, 2), verdict, "what a log tells is counted")
+    expect_same("not torn: 2 runs, 1 halted, 2 writes", str(verdict), "and written")
+    for log in ("started\n", "wrote 402 90\n"):
+        expect_same(False, g.judge(log).drew, "a log in which no run drew")
     verdict = g.judge("started\nfetched 000 E201\nwrote 402 90\nhalted\n")
     expect_same(
         (g.Torn(3, 0x402, 0x90), 0), (verdict.torn, verdict.halted), "nothing is read after a tear"
     )
-    expect_same("torn at line 3: wrote 402 90", str(verdict), "its text")
+    text = "torn at line 3: wrote 402 90\nso far: 1 runs, 0 halted, 1 writes"
+    expect_same(text, str(verdict), "its text")
     expect_same(
         2,
         expect_raises(g.BadLog, lambda: g.judge("started\nwrote 800 00\n")).line,
@@ -785,11 +787,14 @@ def test_script():
         expect_same(1, script("--dump", str(dump))[2], "a dump of a wrong size")
         expect_same(1, script("--dump", str(bad))[2], "a dump that isn't there")
         log.write_text("started\nfetched 000 E001\nwrote 002 00\n")
-        expect_same(
-            ("torn at line 3: wrote 002 00\n", "", 1), script("--log", str(log)), "a torn log"
-        )
+        told = "torn at line 3: wrote 002 00\nso far: 1 runs, 0 halted, 1 writes\n"
+        expect_same((told, "", 1), script("--log", str(log)), "a torn log")
         log.write_text("started\nhalted\n")
-        expect_same(("not torn\n", "", 0), script("--log", str(log)), "a log that isn't torn")
+        told = "not torn: 1 runs, 1 halted, 0 writes\n"
+        expect_same((told, "", 0), script("--log", str(log)), "a log that isn't torn")
+        log.write_text("started\n")
+        told = "no run drew: 1 runs, 0 halted, 0 writes\n"
+        expect_same((told, "", 1), script("--log", str(log)), "a log in which no run drew")
         log.write_bytes(b"started\r\n\xff")
         out, error, status = script("--log", str(log))
         expect(status == 1 and "syntax at line 1" in error and out == "", "a log at fault")

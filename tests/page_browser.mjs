@@ -321,7 +321,7 @@ async function testFiles() {
   await tab.click('file-close');
   expect('the board is back', /^Picture /, await tab.text('picture-text'));
   for (const [name, said] of [['tears.log', /^dvg torn: torn at line/],
-    ['waits.log', /^dvg torn: not torn$/]]) {
+    ['waits.log', /^dvg torn: not torn: \d+ runs, \d+ halted, \d+ writes$/]]) {
     const log = `${top}examples/logs/${name}`;
     await tab.drop('textA', log);
     await tab.until(`document.getElementById('file-title').textContent === 'The log ${name}'`);

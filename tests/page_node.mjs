@@ -127,8 +127,8 @@ function testSchedules() {
     for (let seed = 1; seed <= seeds; seed++) {
       const board = runBoard(make(seed), events), trace = traceOf(board), log = board.log();
       expect(`${how}, seed ${seed}: the program's log`, runProgram(['play', '--all'], trace), log);
-      expect(`${how}, seed ${seed}: the program's verdict`, 'not torn\n',
-        runProgram(['torn'], board.told.text));
+      expect(`${how}, seed ${seed}: the program's verdict`, 'not torn',
+        runProgram(['torn'], board.told.text).split(':')[0]);
       expect(`${how}, seed ${seed}: no byte is torn`, 0, board.tears);
       expect(`${how}, seed ${seed}: pictures come`, true, board.pictures.length > events / 10000);
       testLog(`${how}, seed ${seed}`, trace, log, board);

@@ -9,10 +9,38 @@ const MOST_LINE_BYTES: usize = 64;
 /// The most bytes that one read takes.
 const PIECE: usize = 32_768;
 
+/// The byte addresses of the RAM end here.
+const RAM_END: u16 = 0x800;
+
+/// What a log shows up to a line.
+#[derive(Default)]
+pub struct Seen {
+    pub runs: u64,
+    pub halted: u64,
+    pub writes: u64,
+    words: u64,
+}
+
+impl Seen {
+    /// Whether runs were to be seen, or writes that want one, and no run drew a word.
+    pub fn is_undrawn(&self) -> bool {
+        let wants_a_run = self.writes > 0 && self.runs == 0;
+        let fetched_nothing = self.runs > 0 && self.words == 0;
+        wants_a_run || fetched_nothing
+    }
+}
+
+/// A write that tears a picture.
+pub struct Torn {
+    pub line: usize,
+    pub address: u16,
+    pub byte: u8,
+}
+
 /// What is said of a log.
-pub enum Verdict {
-    NotTorn,
-    Torn { line: usize, address: u16, byte: u8 },
+pub struct Verdict {
+    pub torn: Option<Torn>,
+    pub seen: Seen,
 }
 
 /// Why nothing is said of it.
@@ -33,7 +61,8 @@ enum LogLine {
     Started,
     Fetched(u16, u16),
     Wrote(u16, u8),
-    Ended,
+    Halted,
+    Reset,
 }
 
 /// The number that hexadecimal digits spell.
@@ -59,7 +88,7 @@ fn read_line(line: &[u8]) -> Option<LogLine> {
     }
     if let Some(rest) = line.strip_prefix(b"wrote ") {
         let (address, byte) = numbers(rest, 2)?;
-        return Some(LogLine::Wrote(address, byte as u8));
+        return (address < RAM_END).then_some(LogLine::Wrote(address, byte as u8));
     }
     if let Some(rest) = line.strip_prefix(b"fetched ") {
         let (address, word) = numbers(rest, 4)?;
@@ -72,7 +101,8 @@ fn read_line(line: &[u8]) -> Option<LogLine> {
     match line {
         [] | [b'#', ..] => Some(LogLine::Nothing),
         b"started" => Some(LogLine::Started),
-        b"halted" | b"reset" => Some(LogLine::Ended),
+        b"halted" => Some(LogLine::Halted),
+        b"reset" => Some(LogLine::Reset),
         _ => None,
     }
 }
@@ -81,20 +111,33 @@ fn read_line(line: &[u8]) -> Option<LogLine> {
 struct Judge {
     run: Run,
     lines: usize,
+    seen: Seen,
 }
 
 impl Judge {
     /// Takes the next line. Some where it is torn.
-    fn take(&mut self, line: &[u8]) -> Result<Option<Verdict>, LogFault> {
+    fn take(&mut self, line: &[u8]) -> Result<Option<Torn>, LogFault> {
         self.lines += 1;
         match read_line(line).ok_or(LogFault::Syntax(self.lines))? {
             LogLine::Nothing => {}
-            LogLine::Started => self.run = Run::Begun,
-            LogLine::Fetched(address, word) => self.run = self.run.after_fetch(address, word),
-            LogLine::Ended => self.run = Run::Closed,
+            LogLine::Started => {
+                self.seen.runs += 1;
+                self.run = Run::Begun;
+            }
+            LogLine::Fetched(address, word) => {
+                self.seen.words += 1;
+                self.run = self.run.after_fetch(address, word);
+            }
+            LogLine::Halted => {
+                self.seen.words += 1;
+                self.seen.halted += 1;
+                self.run = Run::Closed;
+            }
+            LogLine::Reset => self.run = Run::Closed,
             LogLine::Wrote(address, byte) => {
+                self.seen.writes += 1;
                 if self.run.is_torn_by(address) {
-                    return Ok(Some(Verdict::Torn {
+                    return Ok(Some(Torn {
                         line: self.lines,
                         address,
                         byte,
@@ -104,6 +147,36 @@ impl Judge {
         }
         Ok(None)
     }
+
+    /// Reads a log to its end, or to the line that is torn.
+    fn read(&mut self, reader: &mut impl Read) -> Result<Option<Torn>, LogFault> {
+        // An unfinished line stands at the front, and what is read after it.
+        let mut buffer = [0; MOST_LINE_BYTES + PIECE];
+        let mut held = 0;
+        loop {
+            let count = reader.read(&mut buffer[held..held + PIECE])?;
+            if count == 0 {
+                break;
+            }
+            let mut rest = &buffer[..held + count];
+            while let Some(end) = rest.iter().position(|byte| *byte == b'\n') {
+                if let Some(torn) = self.take(&rest[..end])? {
+                    return Ok(Some(torn));
+                }
+                rest = &rest[end + 1..];
+            }
+            if rest.len() > MOST_LINE_BYTES {
+                return Err(LogFault::Syntax(self.lines + 1));
+            }
+            let begin = held + count - rest.len();
+            held = rest.len();
+            buffer.copy_within(begin..begin + held, 0);
+        }
+        if held == 0 {
+            return Ok(None);
+        }
+        self.take(&buffer[..held])
+    }
 }
 
 /// What is said of the log that a reader tells.
@@ -111,33 +184,11 @@ pub fn judge_text(reader: &mut impl Read) -> Result<Verdict, LogFault> {
     let mut judge = Judge {
         run: Run::Closed,
         lines: 0,
+        seen: Seen::default(),
     };
-    // An unfinished line stands at the front, and what is read behind it.
-    let mut buffer = [0; MOST_LINE_BYTES + PIECE];
-    let mut held = 0;
-    loop {
-        let count = reader.read(&mut buffer[held..held + PIECE])?;
-        if count == 0 {
-            break;
-        }
-        let mut rest = &buffer[..held + count];
-        while let Some(end) = rest.iter().position(|byte| *byte == b'\n') {
-            if let Some(verdict) = judge.take(&rest[..end])? {
-                return Ok(verdict);
-            }
-            rest = &rest[end + 1..];
-        }
-        if rest.len() > MOST_LINE_BYTES {
-            return Err(LogFault::Syntax(judge.lines + 1));
-        }
-        let begin = held + count - rest.len();
-        held = rest.len();
-        buffer.copy_within(begin..begin + held, 0);
-    }
-    if held > 0
-        && let Some(verdict) = judge.take(&buffer[..held])?
-    {
-        return Ok(verdict);
-    }
-    Ok(Verdict::NotTorn)
+    let torn = judge.read(reader)?;
+    Ok(Verdict {
+        torn,
+        seen: judge.seen,
+    })
 }

@@ -19,7 +19,7 @@ use twin::memory::{BYTES, Banked, Flat};
 use twin::picture::{is_image, write_picture};
 use twin::shows::write_entries;
 use twin::texts::{MOST_TEXT_BYTES, TextFault, read_draft};
-use twin::torn::{LogFault, Verdict, judge_text};
+use twin::torn::{LogFault, Torn, judge_text};
 use twin::traces::read_trace;
 use twin::world::run;
 
@@ -306,20 +306,22 @@ fn play(options: PlayOptions) -> Result<(), Fault> {
 /// Judges the log that standard input holds as text, and writes what is said of it on standard
 /// output.
 fn torn() -> Result<ExitCode, Fault> {
-    let (line, status) = match judge_text(&mut input()?)? {
-        Verdict::NotTorn => ("not torn\n".to_string(), ExitCode::SUCCESS),
-        Verdict::Torn {
-            line,
-            address,
-            byte,
-        } => (
-            format!("torn at line {line}: wrote {address:03X} {byte:02X}\n"),
-            ExitCode::from(1),
-        ),
+    let verdict = judge_text(&mut input()?)?;
+    let undrawn = verdict.seen.is_undrawn();
+    let found = match &verdict.torn {
+        Some(Torn { line, address, byte }) => {
+            format!("torn at line {line}: wrote {address:03X} {byte:02X}\nso far")
+        }
+        None if undrawn => "no run drew".to_string(),
+        None => "not torn".to_string(),
     };
+    let seen = &verdict.seen;
+    let (runs, halted, writes) = (seen.runs, seen.halted, seen.writes);
+    let text = format!("{found}: {runs} runs, {halted} halted, {writes} writes\n");
+    let status = ExitCode::from(u8::from(verdict.torn.is_some() || undrawn));
     let mut writer = output()?;
     writer
-        .write_all(line.as_bytes())
+        .write_all(text.as_bytes())
         .and_then(|()| writer.flush())
         .map_err(|_| Fault::Writer)?;
     Ok(status)

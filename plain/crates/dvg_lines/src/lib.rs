@@ -11,5 +11,5 @@ mod run_line;
 mod verdict;
 
 pub use line::Line;
-pub use log_verdict::LogVerdict;
+pub use log_verdict::{LogCounts, LogFinding, LogVerdict};
 pub use verdict::{BoundedVerdict, Verdict};

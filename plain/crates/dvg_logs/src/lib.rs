@@ -8,6 +8,6 @@ mod log_line;
 mod log_reading;
 mod tears;
 
-pub use dvg_lines::LogVerdict;
+pub use dvg_lines::{LogCounts, LogFinding, LogVerdict};
 pub use log_line::{LogLine, MOST_LINE_BYTES, read_log_line};
 pub use tears::torn;

@@ -1,6 +1,9 @@
 //! Lines of logs.
 use dvg_text::{hex, is_passed};
 
+/// The first byte address that isn't one of the RAM.
+const RAM_END: u16 = 0x800;
+
 /// The most bytes of a line, without its end (this project's own choice).
 pub const MOST_LINE_BYTES: usize = 64;
 
@@ -24,8 +27,8 @@ pub enum LogLine {
 }
 
 /// What a line of a log tells. None exactly where it tells nothing that a line may: it is `started`, `fetched` with a
-/// word address and the word there, `low` with a word address and a byte, `wrote` with a byte address and the byte,
-/// `halted` or `reset`, one space between the parts; or it is passed over, as it is empty or begins with `#`. An
+/// word address and the word there, `low` with a word address and a byte, `wrote` with a byte address of the RAM, 000 to
+/// 7FF, and the byte, `halted` or `reset`, one space between the parts; or it is passed over, as it is empty or begins with `#`. An
 /// address has three hexadecimal digits, a word four and a byte two, of either case. It has at most 64 bytes.
 pub fn read_log_line(line: &[u8]) -> Option<LogLine> {
     if line.len() > MOST_LINE_BYTES {
@@ -41,6 +44,9 @@ pub fn read_log_line(line: &[u8]) -> Option<LogLine> {
 fn row(line: &[u8]) -> Option<LogLine> {
     if let Some(rest) = line.strip_prefix(b"wrote ") {
         let (address, byte) = numbers(rest, 2)?;
+        if address >= RAM_END {
+            return None;
+        }
         Some(LogLine::Wrote(address, byte as u8))
     } else if let Some(rest) = line.strip_prefix(b"fetched ") {
         let (address, word) = numbers(rest, 4)?;

@@ -1,6 +1,7 @@
 //! The text of a log, as it is read in pieces.
 use crate::log_line::{LogLine, MOST_LINE_BYTES, read_log_line};
 use arrayvec::ArrayVec;
+use dvg_lines::LogCounts;
 use dvg_world::Judge;
 use memchr::memchr;
 
@@ -8,7 +9,13 @@ use memchr::memchr;
 #[derive(Clone, Copy, Debug, PartialEq, Eq)]
 pub enum LogStop {
     /// The line of this number, counted from 1, writes a byte, at a byte address, in the half that the open run draws.
-    Torn { line: usize, address: u16, byte: u8 },
+    /// Up to there the lines count so.
+    Torn {
+        line: usize,
+        address: u16,
+        byte: u8,
+        counts: LogCounts,
+    },
     /// The line of this number, counted from 1, tells nothing that a line may.
     Syntax(usize),
     /// There are more lines than are counted.
@@ -32,11 +39,29 @@ fn tell(judge: &mut Judge, told: LogLine) -> Option<(u16, u8)> {
     None
 }
 
+// What was counted in some lines, and what one more tells. None of the numbers passes that of the lines, so none
+// saturates.
+fn counted(counts: LogCounts, told: LogLine) -> LogCounts {
+    let mut counts = counts;
+    match told {
+        LogLine::Started => counts.runs = counts.runs.saturating_add(1),
+        LogLine::Wrote(..) => counts.writes = counts.writes.saturating_add(1),
+        LogLine::Fetched(..) => counts.words = counts.words.saturating_add(1),
+        LogLine::Halted => {
+            counts.words = counts.words.saturating_add(1);
+            counts.halted = counts.halted.saturating_add(1);
+        }
+        LogLine::Passed | LogLine::Low(..) | LogLine::Reset => {}
+    }
+    counts
+}
+
 // The lines that have ended. None of them is torn or at fault.
 #[derive(Clone, Copy, Debug, PartialEq, Eq)]
 struct JudgedLines {
     judge: Judge,
     count: usize,
+    counts: LogCounts,
 }
 
 impl JudgedLines {
@@ -57,14 +82,17 @@ impl JudgedLines {
         let Some(told) = read_log_line(line) else {
             return Err(LogStop::Syntax(number));
         };
+        let counts = counted(self.counts, told);
         match tell(&mut self.judge, told) {
             Some((address, byte)) => Err(LogStop::Torn {
                 line: number,
                 address,
                 byte,
+                counts,
             }),
             None => {
                 self.count = number;
+                self.counts = counts;
                 Ok(())
             }
         }
@@ -85,6 +113,12 @@ impl LogReading {
             judged: JudgedLines {
                 judge: Judge::new(),
                 count: 0,
+                counts: LogCounts {
+                    runs: 0,
+                    halted: 0,
+                    writes: 0,
+                    words: 0,
+                },
             },
             unfinished: ArrayVec::new(),
         }
@@ -125,12 +159,15 @@ impl LogReading {
         self.begin_line(rest)
     }
 
-    /// Takes the end of the text, which ends a line that has begun.
-    pub fn finish(self) -> Result<(), LogStop> {
+    /// Takes the end of the text, which ends a line that has begun. What was counted in all lines.
+    pub fn finish(self) -> Result<LogCounts, LogStop> {
         let mut judged = self.judged;
         if self.unfinished.is_empty() {
-            return Ok(());
+            return Ok(judged.counts);
         }
-        judged.take(self.unfinished.as_slice())
+        match judged.take(self.unfinished.as_slice()) {
+            Ok(()) => Ok(judged.counts),
+            Err(stop) => Err(stop),
+        }
     }
 }

@@ -1,7 +1,7 @@
 //! The engine `torn`.
 use crate::log_reading::{LogReading, LogStop};
-use dvg_io::{ToolFault, Watched, write_whole};
-use dvg_lines::{Line, LogVerdict};
+use dvg_io::{DeviceFailed, ToolFault, Watched, write_whole};
+use dvg_lines::{Line, LogCounts, LogFinding, LogVerdict};
 use dvg_text::TextFault;
 use std::io::{Read, Write};
 
@@ -15,13 +15,31 @@ fn answer(stop: LogStop) -> Result<LogVerdict, ToolFault> {
             line,
             address,
             byte,
-        } => Ok(LogVerdict::Torn {
-            line,
-            address,
-            byte,
+            counts,
+        } => Ok(LogVerdict {
+            finding: LogFinding::Torn {
+                line,
+                address,
+                byte,
+            },
+            counts,
         }),
         LogStop::Syntax(line) => Err(ToolFault::Text(TextFault::Syntax(line))),
         LogStop::TooLong => Err(ToolFault::Text(TextFault::TooLong)),
+    }
+}
+
+// What is found in a log of which no line is torn.
+fn found(counts: LogCounts) -> LogFinding {
+    let no_run_drew = if counts.runs == 0 {
+        counts.writes != 0
+    } else {
+        counts.words == 0
+    };
+    if no_run_drew {
+        LogFinding::NoRunDrew
+    } else {
+        LogFinding::NotTorn
     }
 }
 
@@ -42,14 +60,35 @@ fn judge_text<R: Read>(reader: &mut Watched<R>) -> Result<LogVerdict, ToolFault>
         }
     }
     match reading.finish() {
-        Ok(()) => Ok(LogVerdict::NotTorn),
+        Ok(counts) => Ok(LogVerdict {
+            finding: found(counts),
+            counts,
+        }),
         Err(stop) => answer(stop),
     }
 }
 
-/// Reads the text of a log, of any length, up to the first line that is torn or at fault, and writes what is said of it:
-/// `not torn`, or `torn at line N: wrote A B` of the first write into the half that the open run draws, by its line,
-/// its byte address and its byte (the text is this project's own choice). It takes no memory.
+// Writes what is said of a log.
+fn write_verdict<W: Write>(writer: &mut Watched<W>, verdict: LogVerdict) -> Result<(), DeviceFailed> {
+    let mut line = Line::new();
+    line.become_finding(verdict.finding);
+    write_whole(writer, line.as_bytes())?;
+    line.become_runs(verdict.counts);
+    write_whole(writer, line.as_bytes())?;
+    line.become_writes(verdict.counts);
+    write_whole(writer, line.as_bytes())
+}
+
+/// Reads the text of a log, of any length, up to the first line that is torn or at fault, and writes what is said of it
+/// (the text is this project's own choice):
+///
+/// - `not torn: R runs, H halted, W writes`, where no byte was written in the half that the open run draws: so many runs
+///   began, so many ended by a HALT, and so many bytes were written;
+/// - `no run drew:` and the same, where bytes were written and no run began, or runs began and no word was fetched;
+/// - `torn at line N: wrote A B` of the first write in such a half, by its line, its byte address and its byte, and on
+///   a line more `so far:` and the same numbers up to that line.
+///
+/// It takes no memory.
 ///
 /// - `Syntax`: this line is the first that tells nothing that a line may, as `read_log_line` says, none before it being
 ///   torn.
@@ -66,9 +105,7 @@ pub fn torn<R: Read, W: Write>(
         Ok(verdict) => verdict,
         Err(fault) => return Err(fault),
     };
-    let mut line = Line::new();
-    line.become_log_verdict(verdict);
-    if write_whole(writer, line.as_bytes()).is_err() {
+    if write_verdict(writer, verdict).is_err() {
         return Err(ToolFault::Writer);
     }
     Ok(verdict)

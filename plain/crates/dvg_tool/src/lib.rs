@@ -19,7 +19,7 @@ mod shows;
 pub use checks::{check_bound, check_text};
 pub use dvg_io::{DeviceFailed, ToolFault, Watched};
 pub use dvg_lines::{BoundedVerdict, Verdict};
-pub use dvg_logs::{LogVerdict, torn};
+pub use dvg_logs::{LogCounts, LogFinding, LogVerdict, torn};
 pub use dvg_picture::{Outcome, picture};
 pub use dvg_text::{MOST_TEXT_BYTES, TextFault};
 pub use dvg_words::{Job, job, words_status};

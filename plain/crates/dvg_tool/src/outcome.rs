@@ -1,7 +1,7 @@
 //! How the program ends.
 use dvg_io::{ToolFault, Watched};
 use dvg_lines::{BoundedVerdict, Verdict};
-use dvg_logs::LogVerdict;
+use dvg_logs::{LogFinding, LogVerdict};
 use dvg_picture::Outcome;
 use std::io::Write;
 
@@ -16,7 +16,7 @@ pub enum Done {
     Bounded(BoundedVerdict),
     /// The run over a dump came to this, and its text was written.
     Drew(Outcome),
-    /// This was said of a log, and the line of it was written.
+    /// This was said of a log, and the text of it was written.
     Searched(LogVerdict),
 }
 
@@ -33,8 +33,9 @@ pub fn finish<W: Write>(
 }
 
 /// The program's exit status: 0 where the job is done, 1 for a fault of the text, and where what was asked about isn't
-/// good: a draft that `check` refuses, a dump that draws no picture, a log with a torn picture; 2 for a device that failed or want of memory; words that ask for no job are 64, which
-/// is not an answer of an engine (this project's own choice).
+/// good: a draft that `check` refuses, a dump that draws no picture, a log with a torn picture or of which no run drew;
+/// 2 for a device that failed or want of memory; words that ask for no job are 64, which is not an answer of an engine
+/// (this project's own choice).
 pub fn status(answer: &Result<Done, ToolFault>) -> u8 {
     match answer {
         Ok(
@@ -42,13 +43,23 @@ pub fn status(answer: &Result<Done, ToolFault>) -> u8 {
             | Done::Judged(Verdict::Good(_))
             | Done::Bounded(BoundedVerdict::Good { .. })
             | Done::Drew(Outcome::Picture)
-            | Done::Searched(LogVerdict::NotTorn),
+            | Done::Searched(
+                LogVerdict {
+                    finding: LogFinding::NotTorn,
+                    ..
+                },
+            ),
         ) => 0,
         Ok(
             Done::Judged(Verdict::Refused(_))
             | Done::Bounded(BoundedVerdict::Refused(_))
             | Done::Drew(Outcome::Broke | Outcome::Endless)
-            | Done::Searched(LogVerdict::Torn { .. }),
+            | Done::Searched(
+                LogVerdict {
+                    finding: LogFinding::NoRunDrew | LogFinding::Torn { .. },
+                    ..
+                },
+            ),
         )
         | Err(ToolFault::Text(_)) => 1,
         Err(ToolFault::Reader | ToolFault::Writer | ToolFault::Memory) => 2,

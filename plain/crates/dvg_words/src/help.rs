@@ -193,7 +193,8 @@ line per event:
   fetched HHH HHHH  it fetched the word at HHH, or the high byte of it
   halted            the run ended
   reset             the generator was reset, so the run is over
-  wrote HHH HH      a byte was written in the RAM, at this byte address
+  wrote HHH HH      a byte was written in the RAM, at this byte address, 000
+                    to 7FF
 
 A line has at most 64 bytes. Numbers are hexadecimal, with as many digits as
 here. An empty line and a line that begins with `#` are passed over.
@@ -203,13 +204,16 @@ that is word 000, a jump to the half, until the run ends. Half 0 is bytes 002 to
 3FF, half 1 is bytes 402 to 7FF.
 
 Standard output: `torn at line N: wrote HHH HH` for the first byte that is
-written in the half being drawn, else `not torn`. Lines are numbered from 1.
-Nothing is judged behind the first line that is torn or at fault.
+written in the half being drawn, and on a line of its own what was seen so far;
+else `not torn: R runs, H halted, W writes`, or `no run drew: ..` where bytes
+were written and no run began, or runs began and no word was fetched. Lines are
+numbered from 1. Nothing is judged after the first line that is torn or at fault.
 
 Fault: `syntax at line N`.
 
 Example:
   $ printf 'started\\nfetched 000 E201\\nwrote 402 90\\n' | dvg torn
   torn at line 3: wrote 402 90
+  so far: 1 runs, 0 halted, 1 writes
   $ printf 'started\\nfetched 000 E201\\nhalted\\nwrote 402 90\\n' | dvg torn
-  not torn";
+  not torn: 1 runs, 1 halted, 1 writes";
