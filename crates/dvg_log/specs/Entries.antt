@@ -8,8 +8,8 @@ use Rattle.dvg_gen.specs.declared.taken.Taken.{Taken}
 use Rattle.dvg_gen.specs.declared.taken.Taken.TheVariants as taken
 use Rattle.dvg_frame.specs.declared.place.FrameFault.{FrameFault}
 use Rattle.dvg_driver.specs.declared.action.Action.{Action}
-use Rattle.dvg_world.specs.declared.entry.Entry.{Entry}
-use Rattle.dvg_world.specs.declared.entry.Entry.TheVariants as code
+use Rattle.dvg_log.specs.declared.entry.Entry.{Entry}
+use Rattle.dvg_log.specs.declared.entry.Entry.TheVariants as code
 
 -- an entry whose strokes are a list
 pub data Shown : Type 0 where

@@ -1,9 +1,9 @@
 use Rattle.std.proofs.Common.{rules, ◌≡◌, ◌∷◌, ◌++◌, [], length, ap, ◌∙◌}
-use Rattle.dvg_world.specs.declared.trace.Step.TheVariants as step
-use Rattle.dvg_world.specs.Events.{Offer}
-use Rattle.dvg_world.specs.Traces.{step_events}
-use Rattle.dvg_world.proofs.Traces.{one_offer_more}
-use Rattle.dvg_world.proofs.trace.Trace.push_offer.Goals as goal
+use Rattle.dvg_log.specs.declared.trace.Step.TheVariants as step
+use Rattle.dvg_log.specs.Events.{Offer}
+use Rattle.dvg_log.specs.Traces.{step_events}
+use Rattle.dvg_log.proofs.Traces.{one_offer_more}
+use Rattle.dvg_log.proofs.trace.Trace.push_offer.Goals as goal
 
 pub returns-clause-pushed : goal.returns-clause-pushed
 returns-clause-pushed g c =

@@ -3,8 +3,8 @@ use Rattle.std.specs.Prelude.{ℕ, List}
 use Rattle.dvg_mem.specs.Memory.{IsImage}
 use Rattle.dvg_frame.specs.declared.op.OpKind.{OpKind}
 use Rattle.dvg_frame.specs.Ops.{IsDraft}
-use Rattle.dvg_world.specs.declared.event.Event.{Event}
-use Rattle.dvg_world.specs.declared.event.Event.TheVariants as code
+use Rattle.dvg_log.specs.declared.event.Event.{Event}
+use Rattle.dvg_log.specs.declared.event.Event.TheVariants as code
 
 -- an event whose draft is the list of its operations, and whose image is the list of its bytes
 pub data Happening : Type 0 where

@@ -1,7 +1,7 @@
 //! What a log shows of an event.
 ghost use Rattle.std.specs.Prelude.{◌≡◌};
 ghost use Rattle.dvg_gen.specs.Bytes.{met};
-ghost use Rattle.dvg_world.specs.Entries.{entry_by, shown_of};
+ghost use Rattle.dvg_log.specs.Entries.{entry_by, shown_of};
 
 use dvg_driver::Action;
 use dvg_frame::FrameFault;

@@ -1,5 +1,5 @@
-use Rattle.dvg_world.proofs.Traces.{event_at}
-use Rattle.dvg_world.proofs.trace.Trace.event.Goals as goal
+use Rattle.dvg_log.proofs.Traces.{event_at}
+use Rattle.dvg_log.proofs.trace.Trace.event.Goals as goal
 
 pub returns-in-Offer-clause-value : goal.returns-in-Offer-clause-value
 returns-in-Offer-clause-value g c = rw (c.from.ensures, c.deref.ensures.value) (event_at c.self.invariant c.self.view_is c.requires c.index.ensures c.in-Offer.is)

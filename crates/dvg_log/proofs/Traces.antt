@@ -1,23 +1,18 @@
 -- The events of lists and of traces, by their numbers.
-use Rattle.std.proofs.Common.{◌≡◌, ℕ, zero, suc, ◌+◌, ◌-◌, ◌<◌, ◌≤◌, List, [], ◌∷◌, ◌++◌, map, length, take, drop, get_or, slice_get, slice_range, All, Some, Result, Ok, Err, IfOk, OnErr, refl, sym, ap, ◌∙◌, subst, arith, not-suc-le-zero, le_of_suc-le-suc}
-use Rattle.std.proofs.lemmas.Option.{get_or_from_slice_get, same_Some, slice_get_within}
-use Rattle.std.proofs.lemmas.List.{append_assoc, append-nil, get_or_append_left, map-append, take_more, take-append-le, drop-append-le, length-drop}
+use Rattle.std.proofs.Common.{◌≡◌, ℕ, zero, suc, ◌+◌, ◌-◌, ◌<◌, ◌≤◌, List, [], ◌∷◌, ◌++◌, map, length, take, drop, get_or, slice_get, slice_range, All, Some, refl, sym, ap, ◌∙◌, subst, arith, not-suc-le-zero, le_of_suc-le-suc}
+use Rattle.std.proofs.lemmas.Option.{same_Some}
+use Rattle.std.proofs.lemmas.List.{append-nil, get_or_append_left, map-append, take-append-le, drop-append-le, length-drop}
 use Rattle.std.proofs.lemmas.List.Elements.{All-head, All-tail}
 use Rattle.std.proofs.Math.Seq.{drop-append_seam, get_or-append_seam, take-length}
 use Rattle.dvg_frame.specs.declared.op.OpKind.{OpKind}
-use Rattle.dvg_world.specs.declared.entry.Entry.{Entry}
-use Rattle.dvg_world.specs.declared.trace.Step.{Step}
-use Rattle.dvg_world.specs.declared.trace.Step.TheVariants as step
-use Rattle.dvg_world.specs.Entries.{shown_of}
-use Rattle.dvg_world.specs.Events.{Happening, Offer, ResetAll}
-use Rattle.dvg_world.specs.Log.{Log}
-use Rattle.dvg_world.specs.Standing.{State, WorldAfter, AddsLine}
-use Rattle.dvg_world.specs.Stepping.{AddsEvent, WantsMemory}
-use Rattle.dvg_world.specs.Traces.{IsTrace, IsWithin, step_event, step_events}
-use Rattle.dvg_world.specs.Wanting.{TakesMemory}
+use Rattle.dvg_log.specs.declared.trace.Step.{Step}
+use Rattle.dvg_log.specs.declared.trace.Step.TheVariants as step
+use Rattle.dvg_log.specs.Events.{Happening, Offer, ResetAll}
+use Rattle.dvg_log.specs.Traces.{step_event, step_events}
+use Rattle.dvg_log.specs.own.Kept.{IsTrace, IsWithin}
 
 -- the event of an item is the one that its number has
-same_event : {X : Type 0} (f : X → Happening) (xs : List X) (n : ℕ) (x d : X) (event : Happening) → n < length (map f xs) → x ≡ get_or xs n d → slice_get (map f xs) n ≡ Some event → f x ≡ event
+pub same_event : {X : Type 0} (f : X → Happening) (xs : List X) (n : ℕ) (x d : X) (event : Happening) → n < length (map f xs) → x ≡ get_or xs n d → slice_get (map f xs) n ≡ Some event → f x ≡ event
 same_event f [] n x d event low item at = absurd (not-suc-le-zero low)
 same_event f (y ∷ xs) zero x d event low item at = ap f item ∙ same_Some (f y) event at
 same_event f (y ∷ xs) (suc n) x d event low item at = same_event f xs n x d event (le_of_suc-le-suc low) item at
@@ -33,18 +28,6 @@ pub event_at : {steps : List Step} {ops : List OpKind} {images : List (List ℕ)
     → slice_get events number ≡ Some (step_event ops images s)
 event_at {steps} {ops} {images} {number = number} {found} trace view low item is =
     rw (← view) (rw is at (number_of (step_event ops images) steps number found found (rw (← view) at low) item))
-
--- a line of an item's event is one of the event that its number has
-pub adds : {A E X : Type 0} (old new : State) (answer : Result (Entry A) E) (f : X → Happening) (xs : List X) (n : ℕ) (x d : X) → n < length (map f xs) → x ≡ get_or xs n d
-    → IfOk answer (λ entry. AddsLine old (f x) (shown_of entry) new) → IfOk answer (λ entry. AddsEvent (map f xs) n old (shown_of entry) new)
-adds old new (Ok entry) f xs n x d low item line = λ event at. subst (λ event. AddsLine old event (shown_of entry) new) (same_event f xs n x d event low item at) line
-adds old new (Err e) f xs n x d low item line = tt
-
--- where it takes memory, the event that its number has does
-pub wants : {T E X : Type 0} {world : State} (answer : Result T E) (f : X → Happening) (xs : List X) (n : ℕ) (x d : X) → n < length (map f xs) → x ≡ get_or xs n d
-    → ((R image : List ℕ) (log : Log) → WorldAfter R image log world → OnErr answer (TakesMemory R image log (f x))) → OnErr answer (WantsMemory (map f xs) n world)
-wants (Ok y) f xs n x d low item room = tt
-wants (Err e) f xs n x d low item room = λ R image log event after at. subst (TakesMemory R image log) (same_event f xs n x d event low item at) (room R image log after)
 
 -- more operations change no offer before them
 same_range : (ops more : List OpKind) (first count : ℕ) → first + count ≤ length ops → slice_range (ops ++ more) first (first + count) ≡ slice_range ops first (first + count)
@@ -97,9 +80,3 @@ one_step_again f steps more old n s d event view low item added at =
     let inside = subst (λ old. n < length old) (sym view) low in
     let there = subst (λ old. slice_get old n ≡ Some event) (sym view) at in
     ap (map f) added ∙ (map-append f steps (s ∷ []) ∙ (ap (λ event. map f steps ++ event ∷ []) (same_event f steps n s d event inside item there) ∙ ap (λ events. events ++ event ∷ []) view))
-
--- one operation more was added
-pub one_op_more : (front F items : List OpKind) (i : ℕ) (op : OpKind) (more : List OpKind) → items ≡ front ++ take i F → slice_get F i ≡ Some op → more ≡ items ++ op ∷ [] → more ≡ front ++ take (i + 1) F
-one_op_more front F items i op more e at added =
-    let last : take (i + 1) F ≡ take i F ++ op ∷ [] = take_more F i op (slice_get_within F i op at) ∙ ap (λ x. take i F ++ x ∷ []) (get_or_from_slice_get F i op op at) in
-    added ∙ (ap (λ l. l ++ op ∷ []) e ∙ (append_assoc front (take i F) (op ∷ []) ∙ ap (λ l. front ++ l) (sym last)))

@@ -1,11 +1,11 @@
 -- The events of traces.
-use Rattle.std.specs.Prelude.{◌+◌, ◌*◌, ◌<◌, ◌≤◌, ℕ, List, [], All, get_or, length, map, slice_range}
+use Rattle.std.specs.Prelude.{◌+◌, ◌≤◌, ℕ, List, [], get_or, length, map, slice_range}
 use Rattle.dvg_frame.specs.declared.op.OpKind.{OpKind}
-use Rattle.dvg_world.specs.declared.trace.Step.{Step}
-use Rattle.dvg_world.specs.declared.trace.Step.TheVariants as step
-use Rattle.dvg_world.specs.declared.trace.TraceEvent.{TraceEvent}
-use Rattle.dvg_world.specs.declared.trace.TraceEvent.TheVariants as seen
-use Rattle.dvg_world.specs.Events.{Happening, Offer, Redraw, Tick, Strobe, Fetch, ResetGen, ResetCpu, ResetAll}
+use Rattle.dvg_log.specs.declared.trace.Step.{Step}
+use Rattle.dvg_log.specs.declared.trace.Step.TheVariants as step
+use Rattle.dvg_log.specs.declared.trace.TraceEvent.{TraceEvent}
+use Rattle.dvg_log.specs.declared.trace.TraceEvent.TheVariants as seen
+use Rattle.dvg_log.specs.Events.{Happening, Offer, Redraw, Tick, Strobe, Fetch, ResetGen, ResetCpu, ResetAll}
 
 -- the event of a step, by the operations of all offers and the images of all resets
 abbrev pub step_event : List OpKind → List (List ℕ) → Step → Happening
@@ -21,19 +21,6 @@ step_event ops images (step.ResetAll number) = ResetAll (get_or images number []
 -- the events of steps
 abbrev pub step_events : List Step → List OpKind → List (List ℕ) → List Happening
 step_events steps ops images = map (step_event ops images) steps
-
--- an offer's operations are among all of them, and a draft can hold them; a reset's image is among all of them
-abbrev pub IsWithin : List OpKind → List (List ℕ) → Step → Type 0
-IsWithin ops images (step.Offer first count) = (first + count ≤ length ops) × (count ≤ 511)
-IsWithin ops images (step.ResetAll number) = number < length images
-IsWithin ops images step = Unit {0}
-
--- steps, the operations of their offers, and the images of their resets
-pub record IsTrace (steps : List Step) (ops : List OpKind) (images : List (List ℕ)) : Type 0 where
-  pub count : length steps ≤ 65536
-  pub few : length ops ≤ 511 * length steps
-  pub reset : length images ≤ length steps
-  pub within : All (IsWithin ops images) steps
 
 -- an event of a trace, as it lies there
 abbrev pub seen_as : {A : Type 0} → TraceEvent A → Happening

@@ -1,7 +1,7 @@
 use Rattle.std.proofs.Common.{rules, ◌≡◌, ◌∷◌, ◌++◌, []}
-use Rattle.dvg_world.specs.Traces.{step_event}
-use Rattle.dvg_world.proofs.Traces.{one_step_again}
-use Rattle.dvg_world.proofs.trace.Trace.push_again.Goals as goal
+use Rattle.dvg_log.specs.Traces.{step_event}
+use Rattle.dvg_log.proofs.Traces.{one_step_again}
+use Rattle.dvg_log.proofs.trace.Trace.push_again.Goals as goal
 
 pub returns-clause-pushed : goal.returns-clause-pushed
 returns-clause-pushed g c event at =

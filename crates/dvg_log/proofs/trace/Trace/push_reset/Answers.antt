@@ -1,9 +1,9 @@
 use Rattle.std.proofs.Common.{rules, ◌≡◌, ◌∷◌, ◌++◌, [], length, ap, ◌∙◌}
-use Rattle.dvg_world.specs.declared.trace.Step.TheVariants as step
-use Rattle.dvg_world.specs.Events.{ResetAll}
-use Rattle.dvg_world.specs.Traces.{step_events}
-use Rattle.dvg_world.proofs.Traces.{one_reset_more}
-use Rattle.dvg_world.proofs.trace.Trace.push_reset.Goals as goal
+use Rattle.dvg_log.specs.declared.trace.Step.TheVariants as step
+use Rattle.dvg_log.specs.Events.{ResetAll}
+use Rattle.dvg_log.specs.Traces.{step_events}
+use Rattle.dvg_log.proofs.Traces.{one_reset_more}
+use Rattle.dvg_log.proofs.trace.Trace.push_reset.Goals as goal
 
 pub returns-clause-pushed : goal.returns-clause-pushed
 returns-clause-pushed g c =

@@ -1,16 +1,13 @@
 //! Lists of events that take little room.
-ghost use Rattle.std.specs.Prelude.{◌≡◌, ◌+◌, ◌<◌, ◌≤◌, ◌↔◌, ◌++◌, ◌∷◌, [], List, Some, length, slice_get, vec_capacity, vec_len, IfOk, IsTrue, OnErr, OnOk};
-ghost use Rattle.dvg_world.specs.Entries.{shown_of};
-ghost use Rattle.dvg_world.specs.Events.{Happening, Offer, ResetAll, happening_of};
-ghost use Rattle.dvg_world.specs.Stepping.{AddsEvent, WantsMemory};
-ghost use Rattle.dvg_world.specs.Traces.{FitsInDraft, IsTrace, step_events, seen_as};
+ghost use Rattle.std.specs.Prelude.{◌≡◌, ◌+◌, ◌<◌, ◌≤◌, ◌↔◌, ◌++◌, ◌∷◌, [], List, Some, length, slice_get, vec_capacity, vec_len, IsTrue, OnErr, OnOk};
+ghost use Rattle.dvg_log.specs.Events.{Happening, Offer, ResetAll, happening_of};
+ghost use Rattle.dvg_log.specs.Traces.{FitsInDraft, step_events, seen_as};
+ghost use Rattle.dvg_log.specs.own.Kept.{IsTrace};
 
-use crate::entry::Entry;
 use crate::event::Event;
-use crate::world::World;
 use dvg_code::OutOfMemory;
 use dvg_frame::{Draft, Op};
-use dvg_mem::{Image, Store};
+use dvg_mem::Image;
 use std::alloc::{Allocator, Global};
 use std::marker::Model;
 
@@ -186,40 +183,5 @@ impl<A: Allocator> Trace<A> {
         self.images.push_reserved(image);
         self.steps.push_reserved(Step::ResetAll(number));
         Ok(())
-    }
-}
-
-// Takes these operations in place of a draft's own.
-fn fill(draft: &mut Draft, ops: &[Op])
-    requires { length ops.now ≤ 511 }
-    ensures { draft.new ≡ ops.now }
-{
-    draft.clear();
-    draft.try_extend_from_slice(ops).unwrap();
-}
-
-// Lets the event of this number of a trace happen to a world. The draft of an offer is made in `draft`.
-pub(crate) fn happen_of<S: Store>(
-    trace: &Trace<S::Alloc>,
-    number: usize,
-    draft: &mut Draft,
-    world: &mut World<S>,
-) -> Result<Entry<S::Alloc>, OutOfMemory>
-    requires { number < length trace.now }
-    ensures stands { IfOk result (λ entry. AddsEvent trace.now number world.old (shown_of entry) world.new) }
-    ensures room { OnErr result (WantsMemory trace.now number world.old) }
-{
-    match trace.event(number) {
-        TraceEvent::Offer(ops) => {
-            fill(draft, ops);
-            Ok(world.offer(draft))
-        }
-        TraceEvent::Redraw => Ok(world.redraw()),
-        TraceEvent::Tick => Ok(world.tick()),
-        TraceEvent::Strobe => Ok(world.strobe()),
-        TraceEvent::Fetch => world.fetch(),
-        TraceEvent::ResetGen => Ok(world.reset_generator()),
-        TraceEvent::ResetCpu => Ok(world.reset_processor()),
-        TraceEvent::ResetAll(image) => Ok(world.reset_all(image)),
     }
 }

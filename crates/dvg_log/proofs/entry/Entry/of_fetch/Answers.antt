@@ -1,6 +1,6 @@
 use Rattle.std.proofs.Common.{◌≡◌, ◌+◌, ◌*◌, refl, ap, inl, inr, arith}
-use Rattle.dvg_world.specs.Entries.{Fetched, Done}
-use Rattle.dvg_world.proofs.entry.Entry.of_fetch.Goals as goal
+use Rattle.dvg_log.specs.Entries.{Fetched, Done}
+use Rattle.dvg_log.proofs.entry.Entry.of_fetch.Goals as goal
 
 pub returns-in_default : goal.returns-in_default
 returns-in_default g c = rw c.in_default.is refl

@@ -9,8 +9,8 @@ use Rattle.dvg_frame.specs.declared.op.OpKind.{OpKind}
 use Rattle.dvg_driver.specs.declared.action.Action.TheVariants.{Wrote, Sent}
 use Rattle.dvg_driver.specs.Script
 use Rattle.dvg_driver.specs.Script.{Item, Did}
-use Rattle.dvg_world.specs.Events.{Happening, Offer, ResetGen, ResetCpu, ResetAll}
-use Rattle.dvg_world.specs.Entries.{Shown, Offered, Asked, Acted, Started, Low, Fetched, Done, Broke}
+use Rattle.dvg_log.specs.Events.{Happening, Offer, ResetGen, ResetCpu, ResetAll}
+use Rattle.dvg_log.specs.Entries.{Shown, Offered, Asked, Acted, Started, Low, Fetched, Done, Broke}
 
 -- an event and its entry
 infix 30 ◌⟼◌
