@@ -2,9 +2,9 @@
 use Rattle.std.specs.Prelude.{ℕ, Bool, true, List, Some, slice_get, slice_set, ◌≡◌}
 use Rattle.dvg_driver.specs.declared.action.Action.{Action}
 use Rattle.dvg_driver.specs.declared.action.Action.TheVariants.{Wrote, Sent}
-use Rattle.dvg_world.specs.Events.{Happening}
-use Rattle.dvg_world.specs.Entries.{Shown}
-use Rattle.dvg_world.specs.Log.{Log}
+use Rattle.dvg_log.specs.Events.{Happening}
+use Rattle.dvg_log.specs.Entries.{Shown}
+use Rattle.dvg_log.specs.Log.{Log}
 use Rattle.dvg_world.specs.Standing.{State, WorldAfter, AddsLine}
 use Rattle.dvg_world.specs.Wanting.{TakesMemory}
 
