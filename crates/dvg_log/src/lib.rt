@@ -1,7 +1,7 @@
-//! What happens to the vector RAM, and what it leads to: events, entries and the logs that they make.
+//! What happens to the vector RAM, and what it leads to: events, entries, and the logs of both.
 //!
-//! Its `specs/` say which logs the rules allow, which lines tear a picture, and what the headline says of a
-//! line. Nothing here makes a log.
+//! Its `specs/` say which logs the rules allow, which lines tear a picture, and what the headline
+//! says of a line. Nothing here makes a log.
 #![tactic(auto)]
 
 mod entry;

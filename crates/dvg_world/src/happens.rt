@@ -18,7 +18,8 @@ fn fill(draft: &mut Draft, ops: &[Op])
     draft.try_extend_from_slice(ops).unwrap();
 }
 
-// Lets the event of this number of a trace happen to a world. The draft of an offer is made in `draft`.
+// Lets the event of this number of a trace happen to a world. The draft of an offer is made in
+// `draft`.
 pub(crate) fn happen_of<S: Store>(
     trace: &Trace<S::Alloc>,
     number: usize,
