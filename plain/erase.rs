@@ -9,8 +9,8 @@
 //!
 //! 1. It takes away: `ghost` items, fields and uses; the clauses `requires` and `ensures`; `impl
 //!    Model` and the use of `Model`; `tactic` attributes; `Drop` among derives; `derive_where` with
-//!    a parameter; the module `laws` and modules of tests. A comment right before one of these
-//!    items goes with it.
+//!    a parameter; the module `laws`, also that of another crate, and modules of tests. A comment
+//!    right before one of these items goes with it.
 //! 2. It writes otherwise: `derive_where(X)` as `derive(X)`; `rattlefmt::skip` as `rustfmt::skip`;
 //!    the signature of `Display::fmt`; `main`, which gets its runtime by a line of its own.
 //! 3. It puts in: the lines of `HEAD` at the head of a crate; `PRELUDE` in a file that names one of
@@ -342,14 +342,16 @@ impl<'a> Eraser<'a> {
         Ok(())
     }
 
-    /// A module. One of laws has no code.
+    /// A module. One of laws has no code, and nor has that of another crate.
     fn module(&mut self, end: usize) {
-        for line in ["pub mod laws;", "mod laws;"] {
-            if self.begins(line) {
-                return self.drop_line(self.at + line.len());
-            }
+        let mut lines = self.text[self.at..].split_inclusive(|byte| *byte == b';');
+        let line = lines.next().unwrap_or_default();
+        let is_theirs = line.starts_with(b"pub use ") && line.ends_with(b"::laws;");
+        if is_theirs || line == b"pub mod laws;" || line == b"mod laws;" {
+            self.drop_line(self.at + line.len());
+        } else {
+            self.copy_word(end);
         }
-        self.copy_word(end);
     }
 
     /// A `use`. That of `Model` goes.
@@ -788,6 +790,8 @@ mod tests {
     #[test]
     fn laws_and_tests_go() {
         leaves("mod a;\npub mod laws;\nmod b;\n", "mod a;\nmod b;\n");
+        leaves("pub use a::B;\npub use b::laws;\n", "pub use a::B;\n");
+        stays("pub use a::laws::B;\npub use a::outlaws;\n");
         leaves("mod a;\n\n#[cfg(test)]\nmod tests;\n", "mod a;\n");
     }
 

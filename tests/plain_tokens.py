@@ -93,7 +93,10 @@ class Source:
 
     def skipped_line(self):
         """A line that goes whole, or nothing."""
-        lines = ("use std::marker::Model;", "pub mod laws;", "mod laws;")
+        lines = ["use std::marker::Model;", "pub mod laws;", "mod laws;"]
+        if self.next_is("pub", "use"):
+            crate = self.tokens[self.at + 2]
+            lines.append(f"pub use {crate}::laws;")
         return next((line for line in map(words, lines) if self.next_is(*line)), None)
 
     def step(self):

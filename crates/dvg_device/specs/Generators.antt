@@ -7,7 +7,7 @@ use Rattle.dvg_gen.specs.Bytes.{met}
 use Rattle.dvg_gen.specs.Completing.{DrawsNothing}
 use Rattle.dvg_gen.specs.Machine.{Machine, HasTaken, Answers}
 use Rattle.dvg_gen.specs.Told.{Told, Start, Reset, Newest, wants}
-use Rattle.dvg_world.specs.Entries.{Shown, entry_by}
+use Rattle.dvg_log.specs.Entries.{Shown, entry_by}
 use Rattle.dvg_device.specs.Replies.{told_by, picture_by}
 use Rattle.dvg_device.specs.declared.reply.Reply.{Reply}
 use Rattle.dvg_device.specs.declared.reply.Reply.TheVariants.{Started, Cleared, Still, Wants, Unknown, NoMemory}

@@ -8,8 +8,8 @@ use Rattle.dvg_frame.specs.declared.place.FrameFault.{FrameFault}
 use Rattle.dvg_frame.specs.declared.place.FrameFault.TheVariants.{Empty, NoLabs, TooLong, Target, RunsOff, OutOfRom, TooDeep, NoCaller, Loops}
 use Rattle.dvg_frame.specs.declared.place.Place.{Place}
 use Rattle.dvg_frame.specs.declared.place.Place.TheVariants.{InFrame, InRom}
-use Rattle.dvg_world.specs.Entries as entries
-use Rattle.dvg_world.specs.Entries.{Shown}
+use Rattle.dvg_log.specs.Entries as entries
+use Rattle.dvg_log.specs.Entries.{Shown}
 use Rattle.dvg_device.specs.declared.reply.Reply.{Reply}
 use Rattle.dvg_device.specs.declared.reply.Reply.TheVariants.{Offered, Refused, Busy, Asked, NothingPublished, Acted, Started, NoStrobe, Low, Fetched, Done, Broke, Still, Cleared, Pushed, NoOperation, Full, Staged, Opened, WrongSize, Closed, Wants, Count, Point, Intensity, Unknown, NoMemory}
 

@@ -6,7 +6,7 @@ ghost use Rattle.dvg_device.specs.Generators.{Fetches, GeneratorAnswers, LacksRo
 use crate::reply::{Reply, told};
 use crate::request::Request;
 use dvg_gen::{Generator, Stroke};
-use dvg_world::Entry;
+use dvg_log::Entry;
 use std::alloc::Global;
 
 // Asks a generator. The strokes are those of the newest run that came to a HALT.

@@ -1,12 +1,12 @@
 //! What a device answers.
 ghost use Rattle.std.specs.Prelude.{◌≡◌};
-ghost use Rattle.dvg_world.specs.Entries.{shown_of};
+ghost use Rattle.dvg_log.specs.Entries.{shown_of};
 ghost use Rattle.dvg_device.specs.Replies.{acted, number_of, packed, picture_by, placed, refusal, told_by};
 
 use dvg_driver::Action;
 use dvg_frame::{FrameFault, Place};
 use dvg_gen::{GenFault, Stroke};
-use dvg_world::Entry;
+use dvg_log::Entry;
 
 /// What a device answers. As a number, its lowest byte is the kind, which stands first here, an address stands in bits 8
 /// to 23, and a value from bit 24 on; but the answers to questions for strokes are what was asked for, and nothing else.

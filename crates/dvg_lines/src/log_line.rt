@@ -1,13 +1,13 @@
 //! Lines of what a log shows.
 ghost use Rattle.std.specs.Prelude.{◌≡◌, ◌≤◌, ◌+◌, ◌++◌, ◌∷◌, [], ℕ, length, codes, decimal};
-ghost use Rattle.dvg_world.specs.Entries.{shown_of};
+ghost use Rattle.dvg_log.specs.Entries.{shown_of};
 ghost use Rattle.dvg_lines.specs.Lines.{hex_3, hex_4, spaced};
 ghost use Rattle.dvg_lines.specs.Shows.{action_parts, entry_line, entry_parts, stroke_line};
 
 use crate::line::Line;
 use dvg_driver::Action;
 use dvg_gen::Stroke;
-use dvg_world::Entry;
+use dvg_log::Entry;
 use std::alloc::Allocator;
 
 impl Line {

@@ -3,7 +3,7 @@ use Rattle.std.proofs.Common.{◌≡◌, ◌<◌, ◌≤◌, ◌+◌, ◌-◌, �
 use Rattle.std.proofs.Math.Seq.{take-append-add}
 use Rattle.std.proofs.lemmas.Grind.{flat_map-append}
 use Rattle.std.specs.Io.KnownBytes.{Consumes, IsAtEnd}
-use Rattle.dvg_world.specs.Log.{Log}
+use Rattle.dvg_log.specs.Log.{Log}
 use Rattle.dvg_text.specs.Texts.{lines}
 use Rattle.dvg_lines.specs.declared.log_verdict.LogCounts.{LogCounts}
 use Rattle.dvg_lines.specs.declared.log_verdict.LogFinding.TheVariants.{NotTorn, NoRunDrew}

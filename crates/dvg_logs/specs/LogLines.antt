@@ -2,9 +2,9 @@
 use Rattle.std.specs.Prelude.{◌≡◌, ℕ, ◌<◌, ◌≤◌, List, [], ◌∷◌, length, reverse, codes, true, false}
 use Rattle.std.specs.List.{AllZip}
 use Rattle.dvg_driver.specs.declared.action.Action.TheVariants.{Wrote, Idle}
-use Rattle.dvg_world.specs.Entries.{Acted, Started, Low, Fetched, Done, Cleared}
-use Rattle.dvg_world.specs.Events.{Tick, Strobe, Fetch, ResetGen}
-use Rattle.dvg_world.specs.Log.{◌⟼◌, Line, Log}
+use Rattle.dvg_log.specs.Entries.{Acted, Started, Low, Fetched, Done, Cleared}
+use Rattle.dvg_log.specs.Events.{Tick, Strobe, Fetch, ResetGen}
+use Rattle.dvg_log.specs.Log.{◌⟼◌, Line, Log}
 use Rattle.dvg_text.specs.Texts.{IsHex, is_passed, parts}
 
 -- the parts of a line that tells this line of a log; a byte is written in the RAM; of a HALT no word, address or stroke is told: for these stand 0 and none

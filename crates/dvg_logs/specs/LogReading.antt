@@ -1,8 +1,8 @@
 -- How a log's text is read (for private contracts).
 use Rattle.std.specs.Prelude.{◌≡◌, ◌==◌, ◌+◌, ◌*◌, ◌^◌, ◌<◌, ◌≤◌, ℕ, List, ◌++◌, length, false, All}
 use Rattle.dvg_world.specs.Judging.{StandsAfter}
-use Rattle.dvg_world.specs.Log.{◌⟼◌, Line, Log}
-use Rattle.dvg_world.specs.Torn.{IsTorn}
+use Rattle.dvg_log.specs.Log.{◌⟼◌, Line, Log}
+use Rattle.dvg_log.specs.Torn.{IsTorn}
 use Rattle.dvg_text.specs.Texts.{lines}
 use Rattle.dvg_logs.specs.declared.log_reading.JudgedLines.{JudgedLines}
 use Rattle.dvg_logs.specs.declared.log_reading.LogReading.{LogReading}

@@ -1,7 +1,7 @@
 //! Lines of logs.
 ghost use Rattle.std.specs.Prelude.{◌≡◌, ◌≤◌, [], ◌∷◌, ℕ, IfSome, IsSomeAnd, Some};
 ghost use Rattle.dvg_text.specs.Texts.{parts};
-ghost use Rattle.dvg_world.specs.Log.{Line};
+ghost use Rattle.dvg_log.specs.Log.{Line};
 ghost use Rattle.dvg_logs.specs.LogLines.{LogRow, Tells};
 ghost use Rattle.dvg_logs.specs.LogLineTells.{AreNumbers, line_of};
 

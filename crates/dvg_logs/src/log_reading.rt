@@ -1,10 +1,10 @@
 //! The text of a log, as it is read in pieces.
 ghost use Rattle.std.specs.Prelude.{◌≡◌, ◌+◌, ◌-◌, ◌^◌, ◌<◌, [], ◌∷◌, ◌++◌, ℕ, List, length, IfErr, IfOk, IfSome, IsNone, OnOk};
 ghost use Rattle.dvg_driver.specs.declared.action.Action.TheVariants.{Wrote};
-ghost use Rattle.dvg_world.specs.Entries.{Acted};
-ghost use Rattle.dvg_world.specs.Events.{Tick};
+ghost use Rattle.dvg_log.specs.Entries.{Acted};
+ghost use Rattle.dvg_log.specs.Events.{Tick};
 ghost use Rattle.dvg_world.specs.Judging.{StandsAfter};
-ghost use Rattle.dvg_world.specs.Log.{Line, Log, ◌⟼◌};
+ghost use Rattle.dvg_log.specs.Log.{Line, Log, ◌⟼◌};
 ghost use Rattle.dvg_text.specs.Texts.{lines};
 ghost use Rattle.dvg_logs.specs.LogLines.{Tells};
 ghost use Rattle.dvg_logs.specs.LogCounts.{counts_of};

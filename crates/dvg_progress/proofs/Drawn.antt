@@ -5,12 +5,12 @@ use Rattle.std.proofs.lemmas.Option.{none-some}
 use Rattle.dvg_gen.specs.declared.stroke.Stroke.{Stroke}
 use Rattle.dvg_frame.specs.declared.op.OpKind.{OpKind}
 use Rattle.dvg_frame.specs.Picture.{IsPicture}
-use Rattle.dvg_world.specs.Events.{Happening, Offer, Redraw, Tick, Strobe, Fetch, ResetGen, ResetCpu, ResetAll}
-use Rattle.dvg_world.specs.Entries.{Shown, Offered, Refused, Busy, Asked, NothingPublished, Acted, Started, Low, Fetched, Done, Broke, Still, Cleared}
-use Rattle.dvg_world.specs.Log.{◌⟼◌, Log, Throughout, history, open_run}
-use Rattle.dvg_world.specs.Legal.{IsLegal, IsWanted}
-use Rattle.dvg_world.proofs.Headline.{always_in_time, draws_published, never_faults}
-use Rattle.dvg_world.proofs.Linked.{wanting}
+use Rattle.dvg_log.specs.Events.{Happening, Offer, Redraw, Tick, Strobe, Fetch, ResetGen, ResetCpu, ResetAll}
+use Rattle.dvg_log.specs.Entries.{Shown, Offered, Refused, Busy, Asked, NothingPublished, Acted, Started, Low, Fetched, Done, Broke, Still, Cleared}
+use Rattle.dvg_log.specs.Log.{◌⟼◌, Log, Throughout, history, open_run}
+use Rattle.dvg_log.specs.Legal.{IsLegal, IsWanted}
+use Rattle.dvg_theorem.proofs.Headline.{always_in_time, draws_published, never_faults}
+use Rattle.dvg_theorem.proofs.Linked.{wanting}
 use Rattle.dvg_progress.specs.Progress.{DrawsOnce, DrawnInTime}
 use Rattle.dvg_progress.proofs.Lives.{RunsOn, runs_on}
 use Rattle.dvg_progress.proofs.Halting.{counted}

@@ -14,12 +14,12 @@ use Rattle.dvg_driver.specs.Script.{Did}
 use Rattle.dvg_driver.specs.Place.{Place, place_of_life}
 use Rattle.dvg_driver.specs.Stands.{Tells}
 use Rattle.dvg_driver.proofs.Shapes.{place_life}
-use Rattle.dvg_world.specs.Events.{Offer, Tick, Strobe, Fetch, ResetGen, ResetCpu}
-use Rattle.dvg_world.specs.Entries.{Offered, Acted, Started, Low, Fetched, Done}
-use Rattle.dvg_world.specs.Log.{◌⟼◌, Log, Throughout, life, open_run, published}
-use Rattle.dvg_world.specs.Legal.{IsLegal}
-use Rattle.dvg_world.proofs.Headline.{draws_published}
-use Rattle.dvg_world.proofs.Rows.{first_picture}
+use Rattle.dvg_log.specs.Events.{Offer, Tick, Strobe, Fetch, ResetGen, ResetCpu}
+use Rattle.dvg_log.specs.Entries.{Offered, Acted, Started, Low, Fetched, Done}
+use Rattle.dvg_log.specs.Log.{◌⟼◌, Log, Throughout, life, open_run, published}
+use Rattle.dvg_log.specs.Legal.{IsLegal}
+use Rattle.dvg_theorem.proofs.Headline.{draws_published}
+use Rattle.dvg_theorem.proofs.Rows.{first_picture}
 use Rattle.dvg_progress.specs.Progress.{Without, fetched_since, DrawsOnce}
 use Rattle.dvg_progress.proofs.Drawn.{drawn_in_time}
 use Rattle.dvg_progress.proofs.Halting.{halts_in_time}

@@ -11,8 +11,8 @@ use Rattle.dvg_driver.specs.declared.action.Action.TheVariants.{Peek, Wrote, Rea
 use Rattle.dvg_driver.specs.Script.{Item, Offered, Asked, Did, flips, has_flip, word_zero, frame_writes}
 use Rattle.dvg_driver.specs.Place.{Place, Start, Booting, Resting, Writing, Waiting, Sending, next_place, place_of_life, with_left}
 use Rattle.dvg_driver.proofs.Places.{place_before}
-use Rattle.dvg_world.proofs.Flips.{no_flip}
-use Rattle.dvg_world.proofs.Writes.{written}
+use Rattle.dvg_theorem.proofs.Flips.{no_flip}
+use Rattle.dvg_theorem.proofs.Writes.{written}
 
 -- the last of these writes is a flip
 pub data EndsInFlip : List (ℕ × ℕ) → Type 0 where

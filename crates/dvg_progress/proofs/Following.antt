@@ -12,15 +12,15 @@ use Rattle.dvg_mem.specs.Memory.{fetched, fetched_byte}
 use Rattle.dvg_frame.specs.declared.op.OpKind.{OpKind}
 use Rattle.dvg_frame.specs.Picture.{IsPicture}
 use Rattle.dvg_frame.proofs.Bounded.{some_picture}
-use Rattle.dvg_world.specs.Events.{Strobe, Fetch, ResetGen, ResetAll}
-use Rattle.dvg_world.specs.Entries.{Shown, Started, Low, Fetched, Done, Broke}
-use Rattle.dvg_world.specs.Log.{◌⟼◌, Log, ram, low_byte, meets, history, life, strobed, before_flip, published}
-use Rattle.dvg_world.specs.Legal.{IsWanted, IsLegal}
-use Rattle.dvg_world.proofs.Kept.{kept, zero_jumps}
-use Rattle.dvg_world.proofs.Least.{Checked, fits, frame_memory, least_draws, least_once, Lies, agrees}
-use Rattle.dvg_world.proofs.Later.{shows}
-use Rattle.dvg_world.proofs.Bytes.{byte}
-use Rattle.dvg_world.proofs.Words.{words_are_whole}
+use Rattle.dvg_log.specs.Events.{Strobe, Fetch, ResetGen, ResetAll}
+use Rattle.dvg_log.specs.Entries.{Shown, Started, Low, Fetched, Done, Broke}
+use Rattle.dvg_log.specs.Log.{◌⟼◌, Log, ram, low_byte, meets, history, life, strobed, before_flip, published}
+use Rattle.dvg_log.specs.Legal.{IsWanted, IsLegal}
+use Rattle.dvg_theorem.proofs.Kept.{kept, zero_jumps}
+use Rattle.dvg_theorem.proofs.Least.{Checked, fits, frame_memory, least_draws, least_once, Lies, agrees}
+use Rattle.dvg_theorem.proofs.Later.{shows}
+use Rattle.dvg_theorem.proofs.Bytes.{byte}
+use Rattle.dvg_theorem.proofs.Words.{words_are_whole}
 
 -- each legal log leaves a run
 pub leaves_of : (R image : List ℕ) (log : Log) → IsLegal R image log → (run : Newest)

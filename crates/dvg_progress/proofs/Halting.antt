@@ -6,14 +6,14 @@ use Rattle.dvg_gen.specs.declared.stroke.Stroke.{Stroke}
 use Rattle.dvg_frame.specs.declared.op.OpKind.{OpKind}
 use Rattle.dvg_frame.specs.Picture.{IsBound}
 use Rattle.dvg_frame.proofs.Pictures.{one_picture}
-use Rattle.dvg_world.specs.Events.{Happening, Offer, Redraw, Tick, Strobe, Fetch, ResetGen, ResetCpu, ResetAll}
-use Rattle.dvg_world.specs.Entries.{Shown, Offered, Refused, Busy, Asked, NothingPublished, Acted, Started, NoStrobe, Low, Fetched, Done, Broke, Still, Cleared}
-use Rattle.dvg_world.specs.Log.{◌⟼◌, Log, open_run, low_byte, published}
-use Rattle.dvg_world.specs.Legal.{IsLegal}
-use Rattle.dvg_world.specs.Headline.{IsShown, fetch_count, EndsAt, KeepsTime}
-use Rattle.dvg_world.proofs.Headline.{always_in_time}
-use Rattle.dvg_world.proofs.Shows.{at_zero_fetched}
-use Rattle.dvg_world.proofs.Words.{words_are_paired}
+use Rattle.dvg_log.specs.Events.{Happening, Offer, Redraw, Tick, Strobe, Fetch, ResetGen, ResetCpu, ResetAll}
+use Rattle.dvg_log.specs.Entries.{Shown, Offered, Refused, Busy, Asked, NothingPublished, Acted, Started, NoStrobe, Low, Fetched, Done, Broke, Still, Cleared}
+use Rattle.dvg_log.specs.Log.{◌⟼◌, Log, open_run, low_byte, published}
+use Rattle.dvg_log.specs.Legal.{IsLegal}
+use Rattle.dvg_log.specs.Headline.{IsShown, fetch_count, EndsAt, KeepsTime}
+use Rattle.dvg_theorem.proofs.Headline.{always_in_time}
+use Rattle.dvg_theorem.proofs.Shows.{at_zero_fetched}
+use Rattle.dvg_theorem.proofs.Words.{words_are_paired}
 use Rattle.dvg_progress.specs.Progress.{fetched_since, HaltsInTime}
 
 -- a run with one more fetch had the others

@@ -6,11 +6,11 @@ use Rattle.dvg_driver.specs.Script.{Did, IsWhole}
 use Rattle.dvg_driver.specs.Place.{Place, Resting, next_place, place_of_life}
 use Rattle.dvg_driver.specs.Stands.{Tells}
 use Rattle.dvg_driver.proofs.Places.{whole_rests, life_place, place_before}
-use Rattle.dvg_world.specs.Events.{Happening, Offer, Redraw, Tick, Strobe, Fetch, ResetGen, ResetCpu, ResetAll}
-use Rattle.dvg_world.specs.Entries.{Shown, Offered, Refused, Busy, Asked, NothingPublished, Acted, Started, NoStrobe, Low, Fetched, Done, Broke, Still, Cleared}
-use Rattle.dvg_world.specs.Log.{◌⟼◌, Log, Throughout, open_run, life, strobed, offered, before_flip}
-use Rattle.dvg_world.specs.Legal.{IsLegal}
-use Rattle.dvg_world.proofs.Kept.{same_place}
+use Rattle.dvg_log.specs.Events.{Happening, Offer, Redraw, Tick, Strobe, Fetch, ResetGen, ResetCpu, ResetAll}
+use Rattle.dvg_log.specs.Entries.{Shown, Offered, Refused, Busy, Asked, NothingPublished, Acted, Started, NoStrobe, Low, Fetched, Done, Broke, Still, Cleared}
+use Rattle.dvg_log.specs.Log.{◌⟼◌, Log, Throughout, open_run, life, strobed, offered, before_flip}
+use Rattle.dvg_log.specs.Legal.{IsLegal}
+use Rattle.dvg_theorem.proofs.Kept.{same_place}
 use Rattle.dvg_progress.specs.Progress.{Without, ticks}
 
 -- neither the processor nor the whole system is reset

@@ -17,11 +17,11 @@ use Rattle.dvg_driver.specs.declared.action.Action.{Action}
 use Rattle.dvg_driver.specs.declared.action.Action.TheVariants.{Peek, Wrote, Read, Sent, Idle}
 use Rattle.dvg_driver.specs.Script.{Did, wrote, frame_writes}
 use Rattle.dvg_driver.specs.Place.{Booting, Resting, Waiting, next_place, place_of_life}
-use Rattle.dvg_world.specs.Events.{Happening, Offer, Strobe, Fetch, Tick, ResetGen, ResetCpu, ResetAll}
-use Rattle.dvg_world.specs.Entries.{Shown, Offered, Acted, Started, NoStrobe, Low, Done, Still, Cleared}
-use Rattle.dvg_world.specs.Log.{◌⟼◌, Log, Throughout, meets, history, life, free_half, open_run, strobed, published}
-use Rattle.dvg_world.specs.Legal.{IsLegal, IsWanted}
-use Rattle.dvg_world.proofs.Rows.{flip_between_the_bytes, restarted_run}
+use Rattle.dvg_log.specs.Events.{Happening, Offer, Strobe, Fetch, Tick, ResetGen, ResetCpu, ResetAll}
+use Rattle.dvg_log.specs.Entries.{Shown, Offered, Acted, Started, NoStrobe, Low, Done, Still, Cleared}
+use Rattle.dvg_log.specs.Log.{◌⟼◌, Log, Throughout, meets, history, life, free_half, open_run, strobed, published}
+use Rattle.dvg_log.specs.Legal.{IsLegal, IsWanted}
+use Rattle.dvg_theorem.proofs.Rows.{flip_between_the_bytes, restarted_run}
 use Rattle.dvg_progress.specs.Progress.{Without, ticks, fetched_since, DrawsOnce}
 use Rattle.dvg_progress.proofs.FirstPicture.{zeros, booted, frame, stroke, did, first_writes, all_writes, writes, accepted, accepted_legal, sending, sends, begun, begun_legal, fetched, words, but_last, draws, legal, ticks_apart, waits_apart, draws_apart, NoFrame, ticks_accept, fetches_accept, is_shown, did_more}
 

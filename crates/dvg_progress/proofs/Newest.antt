@@ -9,12 +9,12 @@ use Rattle.dvg_driver.specs.Script
 use Rattle.dvg_driver.specs.Script.{Did}
 use Rattle.dvg_driver.specs.Place.{Place, Start, Booting, Resting, Writing, Waiting, Sending, next_place, place_of_life}
 use Rattle.dvg_driver.proofs.Places.{whole_rests}
-use Rattle.dvg_world.specs.Events.{Happening, Offer, Redraw, Tick, Strobe, Fetch, ResetGen, ResetCpu, ResetAll}
-use Rattle.dvg_world.specs.Entries.{Shown, Offered, Refused, Busy, Asked, NothingPublished, Acted, Started, NoStrobe, Low, Fetched, Done, Broke, Still, Cleared}
-use Rattle.dvg_world.specs.Log.{◌⟼◌, Log, Throughout, open_run, life, has_fetched, at_zero, published}
-use Rattle.dvg_world.specs.Legal.{IsLegal}
-use Rattle.dvg_world.specs.Headline.{IsShown}
-use Rattle.dvg_world.proofs.Shows.{at_zero_fetched, at_zero_open}
+use Rattle.dvg_log.specs.Events.{Happening, Offer, Redraw, Tick, Strobe, Fetch, ResetGen, ResetCpu, ResetAll}
+use Rattle.dvg_log.specs.Entries.{Shown, Offered, Refused, Busy, Asked, NothingPublished, Acted, Started, NoStrobe, Low, Fetched, Done, Broke, Still, Cleared}
+use Rattle.dvg_log.specs.Log.{◌⟼◌, Log, Throughout, open_run, life, has_fetched, at_zero, published}
+use Rattle.dvg_log.specs.Legal.{IsLegal}
+use Rattle.dvg_log.specs.Headline.{IsShown}
+use Rattle.dvg_theorem.proofs.Shows.{at_zero_fetched, at_zero_open}
 use Rattle.dvg_progress.proofs.Lives.{ticked}
 
 -- no byte is being written

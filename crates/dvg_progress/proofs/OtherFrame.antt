@@ -22,10 +22,10 @@ use Rattle.dvg_driver.specs.declared.action.Action.TheVariants.{Wrote, Read, Sen
 use Rattle.dvg_driver.specs.Place.{Place as Point, place_of_life}
 use Rattle.dvg_driver.specs.Stands.{Tells}
 use Rattle.dvg_driver.proofs.Shapes.{rests_whole}
-use Rattle.dvg_world.specs.Events.{Offer, Strobe, Fetch, ResetGen, ResetCpu}
-use Rattle.dvg_world.specs.Entries.{Offered, Started, Low, Done}
-use Rattle.dvg_world.specs.Log.{◌⟼◌, Log, life, open_run}
-use Rattle.dvg_world.specs.Legal.{IsLegal}
+use Rattle.dvg_log.specs.Events.{Offer, Strobe, Fetch, ResetGen, ResetCpu}
+use Rattle.dvg_log.specs.Entries.{Offered, Started, Low, Done}
+use Rattle.dvg_log.specs.Log.{◌⟼◌, Log, life, open_run}
+use Rattle.dvg_log.specs.Legal.{IsLegal}
 use Rattle.dvg_progress.specs.Progress.{DrawsOnce}
 use Rattle.dvg_progress.proofs.Drawn.{drawn_in_time}
 use Rattle.dvg_progress.proofs.FirstPicture.{zeros, frame, did, did_more, all_writes, writes, sending, sends, begun_legal, fetched, ticks_apart, waits_apart, fetches_apart}

@@ -4,10 +4,10 @@ use Rattle.std.specs.Prelude.{is_none, if◌then◌else◌}
 use Rattle.std.proofs.lemmas.Bool.{true≢false}
 use Rattle.dvg_driver.specs.declared.action.Action.TheVariants.{Sent}
 use Rattle.dvg_driver.specs.Place.{Waiting, Sending, place_of_life}
-use Rattle.dvg_world.specs.Events.{Happening, Tick, ResetAll}
-use Rattle.dvg_world.specs.Entries.{Shown, Acted}
-use Rattle.dvg_world.specs.Log.{◌⟼◌, Log, Throughout, open_run, life, strobed}
-use Rattle.dvg_world.specs.Legal.{IsLegal}
+use Rattle.dvg_log.specs.Events.{Happening, Tick, ResetAll}
+use Rattle.dvg_log.specs.Entries.{Shown, Acted}
+use Rattle.dvg_log.specs.Log.{◌⟼◌, Log, Throughout, open_run, life, strobed}
+use Rattle.dvg_log.specs.Legal.{IsLegal}
 use Rattle.dvg_progress.specs.Progress.{ticks}
 use Rattle.dvg_progress.proofs.Lives.{LivesOn, quiet}
 use Rattle.dvg_progress.proofs.Newest.{NotStrobe, none_stays}

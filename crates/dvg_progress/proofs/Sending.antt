@@ -8,15 +8,15 @@ use Rattle.dvg_driver.specs.declared.action.Action.TheVariants.{Wrote, Read, Sen
 use Rattle.dvg_driver.specs.Script.{Did}
 use Rattle.dvg_driver.specs.Place.{Place, Resting, Writing, Waiting, Sending, next_place, place_of_life}
 use Rattle.dvg_driver.specs.Stands.{Tells}
-use Rattle.dvg_world.specs.Events.{Happening, Tick, ResetCpu}
-use Rattle.dvg_world.specs.Entries.{Shown, Acted}
-use Rattle.dvg_world.specs.Log.{◌⟼◌, Log, Throughout, open_run, free_half, life}
-use Rattle.dvg_world.specs.Legal.{IsLegal}
-use Rattle.dvg_world.proofs.Bytes.{byte}
-use Rattle.dvg_world.proofs.Drawing.{past_zero}
-use Rattle.dvg_world.proofs.Kept.{KeptBy, kept}
-use Rattle.dvg_world.proofs.Todo.{IsWrite, to_half, to_zero, to_one, is_write}
-use Rattle.dvg_world.proofs.Words.{words_are_whole}
+use Rattle.dvg_log.specs.Events.{Happening, Tick, ResetCpu}
+use Rattle.dvg_log.specs.Entries.{Shown, Acted}
+use Rattle.dvg_log.specs.Log.{◌⟼◌, Log, Throughout, open_run, free_half, life}
+use Rattle.dvg_log.specs.Legal.{IsLegal}
+use Rattle.dvg_theorem.proofs.Bytes.{byte}
+use Rattle.dvg_theorem.proofs.Drawing.{past_zero}
+use Rattle.dvg_theorem.proofs.Kept.{KeptBy, kept}
+use Rattle.dvg_theorem.proofs.Todo.{IsWrite, to_half, to_zero, to_one, is_write}
+use Rattle.dvg_theorem.proofs.Words.{words_are_whole}
 use Rattle.dvg_progress.specs.Progress.{ticks, SentInTime}
 use Rattle.dvg_progress.proofs.Lives.{IsBusy, LivesOn, lives_on, newer, older, quiet, ticked}
 

@@ -8,10 +8,10 @@ use Rattle.dvg_frame.specs.Layout.{size}
 use Rattle.dvg_frame.specs.Picture.{IsBound}
 use Rattle.dvg_driver.specs.Script.{has_flip}
 use Rattle.dvg_driver.specs.declared.action.Action.TheVariants.{Sent}
-use Rattle.dvg_world.specs.Events.{Offer, Tick, Strobe, ResetGen, ResetCpu, ResetAll}
-use Rattle.dvg_world.specs.Entries.{Shown, Offered, Acted, Started, NoStrobe, Cleared}
-use Rattle.dvg_world.specs.Log.{◌⟼◌, Log, Throughout, open_run, life, strobed}
-use Rattle.dvg_world.specs.Legal.{IsLegal}
+use Rattle.dvg_log.specs.Events.{Offer, Tick, Strobe, ResetGen, ResetCpu, ResetAll}
+use Rattle.dvg_log.specs.Entries.{Shown, Offered, Acted, Started, NoStrobe, Cleared}
+use Rattle.dvg_log.specs.Log.{◌⟼◌, Log, Throughout, open_run, life, strobed}
+use Rattle.dvg_log.specs.Legal.{IsLegal}
 use Rattle.dvg_progress.specs.Progress.{Without, ticks, fetched_since, DrawsOnce}
 use Rattle.dvg_progress.proofs.Lives.{LivesOn, lives_on, runs_on}
 use Rattle.dvg_progress.proofs.Newest.{Newest, newest_step, newest_on, none_stays}

@@ -14,19 +14,19 @@ use Rattle.dvg_driver.specs.Place.{Place, Start, Booting, Resting, Writing, Wait
 use Rattle.dvg_driver.specs.Stands.{Tells}
 use Rattle.dvg_driver.proofs.OneAction.{one_action}
 use Rattle.dvg_driver.proofs.Shapes.{place_life}
-use Rattle.dvg_world.specs.Events.{Tick}
-use Rattle.dvg_world.specs.Entries.{Acted}
-use Rattle.dvg_world.specs.Log.{◌⟼◌, Log, open_run, life}
-use Rattle.dvg_world.specs.Legal.{IsLegal}
-use Rattle.dvg_world.proofs.Kept.{kept}
-use Rattle.dvg_world.proofs.Later.{shows}
-use Rattle.dvg_world.proofs.Least.{fits}
-use Rattle.dvg_world.proofs.Words.{words_are_whole}
+use Rattle.dvg_log.specs.Events.{Tick}
+use Rattle.dvg_log.specs.Entries.{Acted}
+use Rattle.dvg_log.specs.Log.{◌⟼◌, Log, open_run, life}
+use Rattle.dvg_log.specs.Legal.{IsLegal}
+use Rattle.dvg_theorem.proofs.Kept.{kept}
+use Rattle.dvg_theorem.proofs.Later.{shows}
+use Rattle.dvg_theorem.proofs.Least.{fits}
+use Rattle.dvg_theorem.proofs.Words.{words_are_whole}
 use Rattle.dvg_progress.specs.Progress.{ticks}
 use Rattle.dvg_progress.proofs.Lives.{ticked}
 use Rattle.dvg_progress.proofs.Sending.{waiting_next, sending_next}
 use Rattle.dvg_progress.proofs.Writing.{frame_time, next_wrote}
-use Rattle.dvg_world.proofs.Writes.{written}
+use Rattle.dvg_theorem.proofs.Writes.{written}
 
 -- ticks alone
 pub data Ticks : Log → Type 0 where

@@ -10,17 +10,17 @@ use Rattle.dvg_frame.proofs.Bounded.{some_picture}
 use Rattle.dvg_frame.proofs.Pictures.{one_picture}
 use Rattle.dvg_driver.specs.Script.{has_flip}
 use Rattle.dvg_driver.specs.Place.{Waiting, with_left}
-use Rattle.dvg_world.specs.Events.{Happening, Tick, Strobe, Fetch, ResetCpu, ResetAll}
-use Rattle.dvg_world.specs.Entries.{Shown, Offered, Started, NoStrobe, Done}
-use Rattle.dvg_world.specs.Log.{◌⟼◌, Log, Throughout, open_run, life, strobed, published}
-use Rattle.dvg_world.specs.Legal.{IsLegal, Fits}
-use Rattle.dvg_world.specs.Headline.{IsShown}
-use Rattle.dvg_world.proofs.Kept.{kept}
-use Rattle.dvg_world.proofs.Later.{shows}
-use Rattle.dvg_world.proofs.Least.{Checked}
-use Rattle.dvg_world.proofs.Linked.{wanting}
-use Rattle.dvg_world.proofs.Shows.{at_zero_open}
-use Rattle.dvg_world.proofs.Words.{words_are_whole}
+use Rattle.dvg_log.specs.Events.{Happening, Tick, Strobe, Fetch, ResetCpu, ResetAll}
+use Rattle.dvg_log.specs.Entries.{Shown, Offered, Started, NoStrobe, Done}
+use Rattle.dvg_log.specs.Log.{◌⟼◌, Log, Throughout, open_run, life, strobed, published}
+use Rattle.dvg_log.specs.Legal.{IsLegal, Fits}
+use Rattle.dvg_log.specs.Headline.{IsShown}
+use Rattle.dvg_theorem.proofs.Kept.{kept}
+use Rattle.dvg_theorem.proofs.Later.{shows}
+use Rattle.dvg_theorem.proofs.Least.{Checked}
+use Rattle.dvg_theorem.proofs.Linked.{wanting}
+use Rattle.dvg_theorem.proofs.Shows.{at_zero_open}
+use Rattle.dvg_theorem.proofs.Words.{words_are_whole}
 use Rattle.dvg_progress.specs.Progress.{Without, ticks, fetched_since, DrawsOnce, ShownInTime}
 use Rattle.dvg_progress.proofs.Drawn.{run_on, at_end}
 use Rattle.dvg_progress.proofs.Halting.{halts_in_time}

@@ -13,12 +13,12 @@ use Rattle.dvg_frame.proofs.Pictures.{one_picture}
 use Rattle.dvg_driver.specs.Script.{has_flip}
 use Rattle.dvg_driver.specs.Place.{Resting, place_of_life}
 use Rattle.dvg_driver.proofs.Shapes.{rests_whole}
-use Rattle.dvg_world.specs.Events.{Happening, Offer, Strobe, Fetch, ResetGen, ResetCpu, ResetAll}
-use Rattle.dvg_world.specs.Entries.{Offered, Started, Done}
-use Rattle.dvg_world.specs.Log.{Line, ◌⟼◌, Log, Throughout, open_run, life, strobed, published}
-use Rattle.dvg_world.specs.Legal.{IsLegal}
-use Rattle.dvg_world.proofs.Kept.{kept}
-use Rattle.dvg_world.proofs.Words.{words_are_whole}
+use Rattle.dvg_log.specs.Events.{Happening, Offer, Strobe, Fetch, ResetGen, ResetCpu, ResetAll}
+use Rattle.dvg_log.specs.Entries.{Offered, Started, Done}
+use Rattle.dvg_log.specs.Log.{Line, ◌⟼◌, Log, Throughout, open_run, life, strobed, published}
+use Rattle.dvg_log.specs.Legal.{IsLegal}
+use Rattle.dvg_theorem.proofs.Kept.{kept}
+use Rattle.dvg_theorem.proofs.Words.{words_are_whole}
 use Rattle.dvg_progress.specs.Progress.{Without, ticks, NeverStuck}
 use Rattle.dvg_progress.proofs.Following.{Fetches, no_fetches, one_fetch, can_draw, Draws}
 use Rattle.dvg_progress.proofs.Lives.{LivesOn}

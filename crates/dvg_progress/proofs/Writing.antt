@@ -17,15 +17,15 @@ use Rattle.dvg_driver.specs.Script
 use Rattle.dvg_driver.specs.Script.{Item, Did, has_flip, word_zero, frame_writes, wrote}
 use Rattle.dvg_driver.specs.Place.{Place, Writing, Waiting, next_place, place_of_life, with_left, after_write}
 use Rattle.dvg_driver.proofs.Places.{whole_rests, with_left-append}
-use Rattle.dvg_world.specs.Events.{Happening, Offer, Tick}
-use Rattle.dvg_world.specs.Entries.{Shown, Offered, Acted}
-use Rattle.dvg_world.specs.Log.{◌⟼◌, Log, Throughout, free_half, life, offered, published}
-use Rattle.dvg_world.specs.Legal.{IsLegal}
-use Rattle.dvg_world.proofs.Bytes.{byte}
-use Rattle.dvg_world.proofs.Kept.{KeptBy, kept, same_place}
-use Rattle.dvg_world.proofs.Todo.{IsWrite, to_half, to_zero, to_one, is_write}
-use Rattle.dvg_world.proofs.Words.{words_are_whole}
-use Rattle.dvg_world.proofs.Writes.{written_at}
+use Rattle.dvg_log.specs.Events.{Happening, Offer, Tick}
+use Rattle.dvg_log.specs.Entries.{Shown, Offered, Acted}
+use Rattle.dvg_log.specs.Log.{◌⟼◌, Log, Throughout, free_half, life, offered, published}
+use Rattle.dvg_log.specs.Legal.{IsLegal}
+use Rattle.dvg_theorem.proofs.Bytes.{byte}
+use Rattle.dvg_theorem.proofs.Kept.{KeptBy, kept, same_place}
+use Rattle.dvg_theorem.proofs.Todo.{IsWrite, to_half, to_zero, to_one, is_write}
+use Rattle.dvg_theorem.proofs.Words.{words_are_whole}
+use Rattle.dvg_theorem.proofs.Writes.{written_at}
 use Rattle.dvg_progress.specs.Progress.{ticks, PublishedInTime}
 use Rattle.dvg_progress.proofs.Flipped.{EndsInFlip, here, past, frame_ends, rests_flipped}
 use Rattle.dvg_progress.proofs.Lives.{IsBusy, LivesOn, lives_on, quiet, ticked}

@@ -9,11 +9,11 @@ use Rattle.dvg_frame.specs.Faults.{Accepts}
 use Rattle.dvg_frame.specs.Picture.{IsPicture, IsBound}
 use Rattle.dvg_driver.specs.declared.action.Action.TheVariants.{Wrote, Read, Sent}
 use Rattle.dvg_driver.specs.Script.{has_flip, frame_writes, wrote}
-use Rattle.dvg_world.specs.Events.{Happening, Offer, Tick, Strobe, Fetch, ResetGen, ResetCpu, ResetAll}
-use Rattle.dvg_world.specs.Entries.{Shown, Offered, Acted, Started, Done}
-use Rattle.dvg_world.specs.Log.{◌⟼◌, Log, Throughout, open_run, free_half, life, published}
-use Rattle.dvg_world.specs.Headline.{IsShown}
-use Rattle.dvg_world.specs.Legal.{IsLegal}
+use Rattle.dvg_log.specs.Events.{Happening, Offer, Tick, Strobe, Fetch, ResetGen, ResetCpu, ResetAll}
+use Rattle.dvg_log.specs.Entries.{Shown, Offered, Acted, Started, Done}
+use Rattle.dvg_log.specs.Log.{◌⟼◌, Log, Throughout, open_run, free_half, life, published}
+use Rattle.dvg_log.specs.Headline.{IsShown}
+use Rattle.dvg_log.specs.Legal.{IsLegal}
 
 -- none of these events comes, and no reset of the whole system
 abbrev pub Without : List Happening → Log → Type 0

@@ -2,7 +2,7 @@
 use Rattle.std.proofs.Common.{◌≡◌, ◌<◌, ◌≤◌, ℕ, List, [], ◌∷◌, Some, ◌⊎◌, inl, inr, length, replicate, get_or, refl, sym, ap, subst, ◌∙◌, arith, codes, decimal}
 use Rattle.std.proofs.lemmas.Fmt.{decimal_injective}
 use Rattle.std.proofs.lemmas.List.{length-replicate}
-use Rattle.dvg_world.specs.Events.{Happening, Offer, Redraw, Tick, Strobe, Fetch, ResetGen, ResetCpu, ResetAll}
+use Rattle.dvg_log.specs.Events.{Happening, Offer, Redraw, Tick, Strobe, Fetch, ResetGen, ResetCpu, ResetAll}
 use Rattle.std.proofs.lemmas.Int.Digits.{digits_value-lt}
 use Rattle.dvg_text.specs.EventLines.{TakesCount, IsNamed}
 use Rattle.dvg_text.specs.Texts.{IsHex}

@@ -1,7 +1,7 @@
 -- The text of a trace denotes one list of events at most or has one fault at most, and not both.
 use Rattle.std.proofs.Common.{◌≡◌, ◌<◌, ◌≤◌, ℕ, List, [], ◌∷◌, ◌++◌, length, refl, sym, ap, subst, arith, Option, Some, None, IfSome}
 use Rattle.dvg_frame.specs.declared.op.OpKind.{OpKind}
-use Rattle.dvg_world.specs.Events.{Happening}
+use Rattle.dvg_log.specs.Events.{Happening}
 use Rattle.dvg_text.specs.declared.fault.TextFault.{TextFault}
 use Rattle.dvg_text.specs.declared.fault.TextFault.TheVariants.{TooLong, Syntax, Full, Many, Unended}
 use Rattle.dvg_text.specs.Texts.{lines, told}

@@ -2,7 +2,7 @@
 use Rattle.std.proofs.Common.{◌≡◌, ◌≤◌, ◌+◌, ℕ, List, [], ◌∷◌, ◌++◌, length, refl, sym, ap, subst, ◌∙◌, arith, append-nil, length-append, Bool, true, false, Option, Some, None}
 use Rattle.std.specs.Option.{is_some}
 use Rattle.dvg_frame.specs.declared.op.OpKind.{OpKind}
-use Rattle.dvg_world.specs.Events.{Happening}
+use Rattle.dvg_log.specs.Events.{Happening}
 use Rattle.dvg_text.specs.declared.trace_text.LineFault.{LineFault}
 use Rattle.dvg_text.specs.declared.trace_text.LineFault.TheVariants.{Syntax, Full, Many, Memory}
 use Rattle.dvg_text.specs.Texts.{is_passed, lines, told}

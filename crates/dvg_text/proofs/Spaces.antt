@@ -6,7 +6,7 @@ use Rattle.std.specs.Str.Parse.{AllDigits}
 use Rattle.std.proofs.lemmas.Bool.{eqb-true, false_from_ne_true}
 use Rattle.std.proofs.lemmas.List.{get_or_default}
 use Rattle.std.proofs.lemmas.List.Splits.{slice_split_none, slice_split_at, length-slice_split, join_with_byte-slice_split}
-use Rattle.dvg_world.specs.Events.{Happening}
+use Rattle.dvg_log.specs.Events.{Happening}
 use Rattle.dvg_text.specs.EventLines.{happenings}
 use Rattle.dvg_text.specs.declared.event_line.EventLine.{EventLine}
 use Rattle.dvg_text.specs.Texts.{parts}

@@ -1,7 +1,7 @@
 -- How the lines of a trace's text are followed without keeping its events (for private contracts).
 use Rattle.std.specs.Prelude.{◌≡◌, ℕ, List, length, Option}
 use Rattle.dvg_frame.specs.declared.op.OpKind.{OpKind}
-use Rattle.dvg_world.specs.Events.{Happening}
+use Rattle.dvg_log.specs.Events.{Happening}
 use Rattle.dvg_text.specs.declared.fault.TraceFault.{TraceFault}
 use Rattle.dvg_text.specs.declared.fault.TraceFault.TheVariants.{Text, Memory}
 use Rattle.dvg_text.specs.declared.trace_following.Following.{Following}

@@ -1,6 +1,6 @@
 -- Laws of the texts of traces.
 use Rattle.std.specs.Prelude.{◌≡◌, ◌⊎◌, ℕ, List}
-use Rattle.dvg_world.specs.Events.{Happening}
+use Rattle.dvg_log.specs.Events.{Happening}
 use Rattle.dvg_text.specs.declared.fault.TextFault.{TextFault}
 use Rattle.dvg_text.specs.RomTexts.{RomText}
 use Rattle.dvg_text.specs.TraceGives.{GivesTrace}

@@ -1,12 +1,12 @@
 //! Lines that spell events by themselves.
 ghost use Rattle.std.specs.Prelude.{◌≡◌, ◌↔◌, ℕ, ◌≤◌, List, [], ◌∷◌, decimal, length, IfSome, IsSomeAnd, IsTrue, Some};
-ghost use Rattle.dvg_world.specs.Events.{Happening, happening_of};
+ghost use Rattle.dvg_log.specs.Events.{Happening, happening_of};
 ghost use Rattle.dvg_text.specs.Texts.{IsHex, parts};
 ghost use Rattle.dvg_text.specs.EventLines.{TakesCount, IsNamed, happenings};
 ghost use Rattle.dvg_text.specs.TraceTexts.{EventParts};
 
 use crate::number::{hex, natural};
-use dvg_world::Event;
+use dvg_log::Event;
 use memchr::memchr;
 use std::alloc::Allocator;
 

@@ -16,7 +16,7 @@ mod trace_following;
 mod trace_text;
 
 pub use draft_text::{DraftText, MOST_TEXT_BYTES, read_draft};
-pub use dvg_world::MOST_EVENTS;
+pub use dvg_log::MOST_EVENTS;
 pub use fault::{TextFault, TraceFault};
 pub use number::hex;
 pub use text_lines::is_passed;

@@ -10,7 +10,7 @@ use crate::rom_text::RomReading;
 use crate::text_lines::{TextLines, is_passed};
 use crate::trace_text::{LineFault, add_op, at_line, count};
 use dvg_frame::Draft;
-use dvg_world::MOST_EVENTS;
+use dvg_log::MOST_EVENTS;
 use std::alloc::Global;
 
 /// Follows the text of a trace to its end, or to its fault.

@@ -4,7 +4,7 @@ ghost use Rattle.dvg_frame.specs.declared.op.OpKind.{OpKind};
 ghost use Rattle.dvg_text.specs.EventLines.{happenings};
 ghost use Rattle.dvg_text.specs.OpLines.{IsOpLine};
 ghost use Rattle.dvg_text.specs.TraceGives.{AreResets, GivesTrace, IsHeld, ReadsLine, StopsEvents, StopsLine, StopsOperation, StopsReading, events_read, fault_at, opened_of};
-ghost use Rattle.dvg_world.specs.Events.{ResetAll, happening_of};
+ghost use Rattle.dvg_log.specs.Events.{ResetAll, happening_of};
 
 use crate::draft_text::MOST_TEXT_BYTES;
 use crate::event_line::{EventLine, read_event_line};
@@ -15,8 +15,8 @@ use crate::text_lines::{TextLines, is_passed};
 use arrayvec::ArrayVec;
 use dvg_code::OutOfMemory;
 use dvg_frame::Draft;
+use dvg_log::{Event, MOST_EVENTS, Trace};
 use dvg_mem::{Image, LARGE_ROM_BYTES, MEMORY_BYTES};
-use dvg_world::{Event, MOST_EVENTS, Trace};
 use std::alloc::{Allocator, Global};
 
 /// What the text of a trace denotes.

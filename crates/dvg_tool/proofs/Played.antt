@@ -5,14 +5,14 @@ use Rattle.std.proofs.lemmas.List.Elements.{All-replicate}
 use Rattle.dvg_mem.specs.Memory.{IsImage, IsRom}
 use Rattle.std.proofs.lemmas.Option.{slice_get_within, get_or_from_slice_get}
 use Rattle.std.specs.List.{zip}
-use Rattle.dvg_world.specs.declared.entry.Entry.{Entry}
+use Rattle.dvg_log.specs.declared.entry.Entry.{Entry}
 use Rattle.dvg_world.specs.declared.stopped.Stopped.{Stopped}
-use Rattle.dvg_world.specs.Events.{Happening}
-use Rattle.dvg_world.specs.Entries.{shown_of}
-use Rattle.dvg_world.specs.Legal.{IsLegal}
-use Rattle.dvg_world.specs.Log.{Line, Log, Throughout, ◌⟼◌}
+use Rattle.dvg_log.specs.Events.{Happening}
+use Rattle.dvg_log.specs.Entries.{shown_of}
+use Rattle.dvg_log.specs.Legal.{IsLegal}
+use Rattle.dvg_log.specs.Log.{Line, Log, Throughout, ◌⟼◌}
 use Rattle.dvg_world.specs.Runs.{IsStop, log_of}
-use Rattle.dvg_world.specs.Headline.{KeepsHeadline}
+use Rattle.dvg_log.specs.Headline.{KeepsHeadline}
 use Rattle.dvg_world.proofs.WholeRuns.{log_of-none}
 use Rattle.dvg_tool.specs.Plays.{IsPlayed, StopsNext, entry_of, event_of, log_text, zeros}
 use Rattle.dvg_lines.specs.Shows.{shown}

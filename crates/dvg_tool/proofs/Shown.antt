@@ -2,9 +2,9 @@
 use Rattle.std.proofs.Common.{◌≡◌, ℕ, ◌+◌, ◌<◌, List, [], ◌∷◌, ◌++◌, map, length, drop, get_or, Bool, refl, sym, ap, ◌∙◌, Vec, add-one}
 use Rattle.std.proofs.lemmas.List.{drop_more}
 use Rattle.dvg_gen.specs.declared.stroke.Stroke.{Stroke}
-use Rattle.dvg_world.specs.declared.entry.Entry.{Entry}
-use Rattle.dvg_world.specs.declared.entry.Entry.TheVariants.{Done}
-use Rattle.dvg_world.specs.Entries.{shown_of}
+use Rattle.dvg_log.specs.declared.entry.Entry.{Entry}
+use Rattle.dvg_log.specs.declared.entry.Entry.TheVariants.{Done}
+use Rattle.dvg_log.specs.Entries.{shown_of}
 use Rattle.dvg_lines.specs.Shows.{picture_line, shown, shown_entry, strokes_of}
 
 -- the entry isn't one of a finished run

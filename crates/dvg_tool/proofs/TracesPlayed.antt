@@ -1,8 +1,8 @@
 -- From what was read of a trace to what the reader had.
 use Rattle.std.proofs.Common.{◌≡◌, ℕ, List, [], ◌⊎◌, inl, inr, ⊎_elim, Bool, Option, None, Some, IfSome, Result, Ok, Err, length, take, length-take, ap, refl, subst, sym, ◌∙◌, arith}
 use Rattle.std.specs.Io.KnownBytes.{Appends}
-use Rattle.dvg_world.specs.Events.{Happening}
-use Rattle.dvg_world.specs.Log.{Log}
+use Rattle.dvg_log.specs.Events.{Happening}
+use Rattle.dvg_log.specs.Log.{Log}
 use Rattle.dvg_text.specs.declared.fault.TextFault.{TextFault}
 use Rattle.dvg_text.specs.declared.fault.TextFault.TheVariants.{TooLong, Syntax, Full, Many, Unended}
 use Rattle.dvg_io.specs.declared.fault.ToolFault.{ToolFault}

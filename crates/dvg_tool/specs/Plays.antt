@@ -1,11 +1,11 @@
 -- What `play` answers and writes.
 use Rattle.std.specs.Prelude.{◌≡◌, ℕ, ◌⊎◌, List, [], ◌∷◌, ◌++◌, map, replicate, reverse, Bool, Option, Result, Ok, Err}
 use Rattle.std.specs.Io.KnownBytes.{Appends}
-use Rattle.dvg_world.specs.Entries.{Shown}
-use Rattle.dvg_world.specs.Events.{Happening}
-use Rattle.dvg_world.specs.Headline.{KeepsHeadline}
-use Rattle.dvg_world.specs.Legal.{IsLegal}
-use Rattle.dvg_world.specs.Log.{Line, Log, Throughout, ◌⟼◌}
+use Rattle.dvg_log.specs.Entries.{Shown}
+use Rattle.dvg_log.specs.Events.{Happening}
+use Rattle.dvg_log.specs.Headline.{KeepsHeadline}
+use Rattle.dvg_log.specs.Legal.{IsLegal}
+use Rattle.dvg_log.specs.Log.{Line, Log, Throughout, ◌⟼◌}
 use Rattle.dvg_world.specs.Wanting.{TakesMemory}
 use Rattle.dvg_io.specs.declared.fault.ToolFault.{ToolFault}
 use Rattle.dvg_io.specs.declared.fault.ToolFault.TheVariants.{Text, Reader, Writer, Memory}

@@ -1,9 +1,9 @@
 //! The engine `play`.
 ghost use Rattle.std.specs.Prelude.{◌≡◌, ◌↔◌, ◌≤◌, [], length, IfErr, IfOk, IfSome, IsErrOf};
 ghost use Rattle.dvg_mem.specs.Memory.{IsRom};
-ghost use Rattle.dvg_world.specs.Headline.{KeepsHeadline};
-ghost use Rattle.dvg_world.specs.Legal.{IsLegal};
-ghost use Rattle.dvg_world.specs.Log.{Throughout};
+ghost use Rattle.dvg_log.specs.Headline.{KeepsHeadline};
+ghost use Rattle.dvg_log.specs.Legal.{IsLegal};
+ghost use Rattle.dvg_log.specs.Log.{Throughout};
 ghost use Rattle.dvg_world.specs.Runs.{IsStop, log_by};
 ghost use Rattle.dvg_tool.specs.Plays.{Plays, StopsBeforeShowing, zeros};
 ghost use Rattle.dvg_text.specs.TraceGives.{GivesTrace, StopsReading};
@@ -11,9 +11,10 @@ ghost use Rattle.dvg_io.specs.Watching.{TakesAtMost, device_of, failures_of};
 
 use crate::shows::write_entries;
 use dvg_io::{ToolFault, Watched, read_up_to};
+use dvg_log::Entry;
 use dvg_mem::{Flat, Image, MEMORY_BYTES, Rom, Store};
 use dvg_text::{MOST_TEXT_BYTES, TraceText, read_trace};
-use dvg_world::{Entry, Stopped, run_trace};
+use dvg_world::{Stopped, run_trace};
 use std::alloc::Allocator;
 use std::io::{Read, Write};
 

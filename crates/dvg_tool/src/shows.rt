@@ -1,14 +1,14 @@
 //! What is written of a log's entries.
 ghost use Rattle.std.specs.Prelude.{◌≡◌, ◌↔◌, ◌≤◌, flat_map, map, IsErrOf, OnErr, OnOk};
 ghost use Rattle.std.specs.Io.KnownBytes.{Appends};
-ghost use Rattle.dvg_world.specs.Entries.{shown_of};
+ghost use Rattle.dvg_log.specs.Entries.{shown_of};
 ghost use Rattle.dvg_io.specs.Faults.{WritesText};
 ghost use Rattle.dvg_lines.specs.Shows.{head_line, shown, shown_entry, stroke_line, strokes_of};
 ghost use Rattle.dvg_io.specs.Watching.{BeginsToWrite, CountsErrors, device_of, failures_of};
 
 use dvg_io::{DeviceFailed, ToolFault, Watched, write_strokes, write_whole};
 use dvg_lines::Line;
-use dvg_world::Entry;
+use dvg_log::Entry;
 use std::alloc::Allocator;
 use std::io::Write;
 

@@ -8,20 +8,21 @@ use Rattle.std.proofs.Math.ListN.{drop_of_length-le, get_or-map}
 use Rattle.dvg_mem.specs.declared.half.Half.{Half}
 use Rattle.dvg_mem.specs.Areas.{IsInHalf}
 use Rattle.dvg_driver.specs.declared.action.Action.TheVariants.{Wrote}
-use Rattle.dvg_world.specs.declared.entry.Entry.{Entry}
+use Rattle.dvg_log.specs.declared.entry.Entry.{Entry}
 use Rattle.dvg_world.specs.declared.judge.Drawing.{Drawing}
 use Rattle.dvg_world.specs.declared.judge.Drawing.TheVariants.{Nothing, Begun, Within}
 use Rattle.dvg_world.specs.declared.judge.Judge.{Judge}
-use Rattle.dvg_world.specs.declared.event.Event.{Event}
-use Rattle.dvg_world.specs.Events.{Happening, happening_of, ResetGen, ResetAll}
-use Rattle.dvg_world.specs.Entries.{Shown, shown_of, Acted, Started}
-use Rattle.dvg_world.specs.Headline.{SparesDrawn}
-use Rattle.dvg_world.specs.Log.{◌⟼◌, Line, Log, Throughout, open_run, IsBeingDrawn}
-use Rattle.dvg_world.specs.Legal.{IsLegal}
+use Rattle.dvg_log.specs.declared.event.Event.{Event}
+use Rattle.dvg_log.specs.Events.{Happening, happening_of, ResetGen, ResetAll}
+use Rattle.dvg_log.specs.Entries.{Shown, shown_of, Acted, Started}
+use Rattle.dvg_log.specs.Headline.{SparesDrawn}
+use Rattle.dvg_log.specs.Log.{◌⟼◌, Line, Log, Throughout, open_run, IsBeingDrawn}
+use Rattle.dvg_log.specs.Legal.{IsLegal}
 use Rattle.dvg_world.specs.Runs.{log_of}
-use Rattle.dvg_world.specs.Torn.{IsFirstTorn, IsTorn, IsUntorn}
-use Rattle.dvg_world.specs.Judging.{FitsRun, IsRunIn, StandsAfter, behind, left_by}
-use Rattle.dvg_world.proofs.Headline.{never_torn}
+use Rattle.dvg_log.specs.Torn.{IsFirstTorn, IsTorn, IsUntorn}
+use Rattle.dvg_world.specs.Judging.{FitsRun, IsRunIn, StandsAfter}
+use Rattle.dvg_world.specs.own.Leaving.{behind, left_by}
+use Rattle.dvg_theorem.proofs.Headline.{never_torn}
 use Rattle.dvg_world.proofs.WholeRuns.{log_of-more, log_of-none}
 
 abbrev Run : Type 0

@@ -26,14 +26,14 @@ use Rattle.dvg_driver.specs.Script as script
 use Rattle.dvg_driver.specs.Script.{Item, Did, IsWhole, IsLife, has_flip}
 use Rattle.dvg_driver.specs.Stands as driver
 use Rattle.dvg_driver.specs.Stands.{Stage, Tells, byte1_of, peeked_after}
-use Rattle.dvg_world.specs.Events.{Happening, Offer, Redraw, Tick, Strobe, Fetch, ResetGen, ResetCpu, ResetAll}
-use Rattle.dvg_world.specs.Entries.{Shown, Offered, Refused, Busy, Asked, NothingPublished, Acted, Started, NoStrobe, Still, Cleared, entry_by}
-use Rattle.dvg_world.specs.Log.{◌⟼◌, Log, ram, low_byte, meets, history, open_run, life, strobed}
-use Rattle.dvg_world.specs.Legal.{Fits}
+use Rattle.dvg_log.specs.Events.{Happening, Offer, Redraw, Tick, Strobe, Fetch, ResetGen, ResetCpu, ResetAll}
+use Rattle.dvg_log.specs.Entries.{Shown, Offered, Refused, Busy, Asked, NothingPublished, Acted, Started, NoStrobe, Still, Cleared, entry_by}
+use Rattle.dvg_log.specs.Log.{◌⟼◌, Log, ram, low_byte, meets, history, open_run, life, strobed}
+use Rattle.dvg_log.specs.Legal.{Fits}
 use Rattle.dvg_world.specs.Standing.{State, StandsAt, WorldAfter, AddsLine, KeepsHeadlineAfter, DrawsNow}
-use Rattle.dvg_world.specs.Stepping.{ram_by, sent_by}
-use Rattle.dvg_world.proofs.Headline.{headline}
-use Rattle.dvg_world.proofs.Linked.{opened}
+use Rattle.dvg_world.specs.own.Stepping.{ram_by, sent_by}
+use Rattle.dvg_theorem.proofs.Headline.{headline}
+use Rattle.dvg_theorem.proofs.Linked.{opened}
 
 -- a world of these parts
 abbrev pub world_of : List ℕ → List ℕ → Machine → Stage → Bool → State

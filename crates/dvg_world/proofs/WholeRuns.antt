@@ -3,14 +3,14 @@ use Rattle.std.proofs.Common.{◌≡◌, ℕ, ◌+◌, ◌<◌, List, [], ◌∷
 use Rattle.std.proofs.lemmas.List.{reverse-append, map-append}
 use Rattle.std.proofs.lemmas.Option.{get_or_from_slice_get, slice_get-get_or}
 use Rattle.std.specs.List.{zip}
-use Rattle.dvg_world.specs.declared.entry.Entry.{Entry}
-use Rattle.dvg_world.specs.Events.{Happening, Tick}
-use Rattle.dvg_world.specs.Entries.{shown_of}
-use Rattle.dvg_world.specs.Log.{◌⟼◌}
-use Rattle.dvg_world.specs.Legal.{IsLegal}
+use Rattle.dvg_log.specs.declared.entry.Entry.{Entry}
+use Rattle.dvg_log.specs.Events.{Happening, Tick}
+use Rattle.dvg_log.specs.Entries.{shown_of}
+use Rattle.dvg_log.specs.Log.{◌⟼◌}
+use Rattle.dvg_log.specs.Legal.{IsLegal}
 use Rattle.dvg_world.specs.Runs.{log_of, IsStop}
 use Rattle.dvg_world.specs.Standing.{State, WorldAfter}
-use Rattle.dvg_world.specs.Stepping.{AddsEvent, WantsMemory}
+use Rattle.dvg_world.specs.own.Stepping.{AddsEvent, WantsMemory}
 
 -- one item more on the right takes the next one on the left
 zip-more : {A B : Type 0} (xs : List A) (ys : List B) (x : A) (y : B) → length ys < length xs → x ≡ get_or xs (length ys) x → zip xs (ys ++ y ∷ []) ≡ zip xs ys ++ (x, y) ∷ []

@@ -1,13 +1,11 @@
 -- What a judge keeps of a log's open run.
-use Rattle.std.specs.Prelude.{◌≡◌, ◌≢◌, ◌+◌, ◌++◌, ◌∷◌, [], ℕ, List, Option, Some, None, option_map}
+use Rattle.std.specs.Prelude.{◌≡◌, ◌≢◌, ◌+◌, ◌++◌, ◌∷◌, [], ℕ, List, Option, Some}
 use Rattle.dvg_mem.specs.declared.half.Half.{Half}
 use Rattle.dvg_mem.specs.Areas.{IsInHalf}
 use Rattle.dvg_world.specs.declared.judge.Drawing.{Drawing}
 use Rattle.dvg_world.specs.declared.judge.Judge.{Judge}
 use Rattle.dvg_world.specs.declared.judge.Drawing.TheVariants.{Nothing, Begun, Within}
-use Rattle.dvg_world.specs.Entries.{Shown, Started, Fetched, Done, Broke}
-use Rattle.dvg_world.specs.Events.{Happening, ResetGen, ResetAll}
-use Rattle.dvg_world.specs.Log.{Log, open_run}
+use Rattle.dvg_log.specs.Log.{Log, open_run}
 
 -- the run's first word is that at 000, a jump to an address in the half
 pub record IsRunIn (run : Option (List (ℕ × ℕ))) (half : Half) : Type 0 where
@@ -21,20 +19,6 @@ abbrev pub FitsRun : Drawing → Option (List (ℕ × ℕ)) → Type 0
 FitsRun Nothing run = (run ≢ Some []) × ((half : Half) → ¬ IsRunIn run half)
 FitsRun Begun run = run ≡ Some []
 FitsRun (Within half) run = IsRunIn run half
-
--- the run that an event leaves
-abbrev pub left_by : Happening → Option (List (ℕ × ℕ)) → Option (List (ℕ × ℕ))
-left_by ResetGen run = None
-left_by (ResetAll bytes) run = None
-left_by event run = run
-
--- the run behind an entry
-abbrev pub behind : Shown → Option (List (ℕ × ℕ)) → Option (List (ℕ × ℕ))
-behind Started run = Some []
-behind (Fetched address word) run = option_map (λ fetches. (address, word) ∷ fetches) run
-behind (Done address word strokes) run = None
-behind (Broke address fault) run = None
-behind entry run = run
 
 -- the judge was told this log: it knows what the open run draws
 abbrev pub StandsAfter : Judge → Log → Type 0

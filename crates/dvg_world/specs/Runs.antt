@@ -1,11 +1,11 @@
 -- What `run` answers.
 use Rattle.std.specs.Prelude.{◌≡◌, ℕ, ◌⊎◌, List, map, reverse, Some, slice_get, Result, Ok, Err, Vec}
 use Rattle.std.specs.List.{zip}
-use Rattle.dvg_world.specs.declared.entry.Entry.{Entry}
+use Rattle.dvg_log.specs.declared.entry.Entry.{Entry}
 use Rattle.dvg_world.specs.declared.stopped.Stopped.{Stopped}
-use Rattle.dvg_world.specs.Events.{Happening}
-use Rattle.dvg_world.specs.Entries.{shown_of}
-use Rattle.dvg_world.specs.Log.{Log, ◌⟼◌}
+use Rattle.dvg_log.specs.Events.{Happening}
+use Rattle.dvg_log.specs.Entries.{shown_of}
+use Rattle.dvg_log.specs.Log.{Log, ◌⟼◌}
 use Rattle.dvg_world.specs.Wanting.{TakesMemory}
 
 -- the entries that were answered, oldest first: all of them, or those of the events before the one at which the run stopped

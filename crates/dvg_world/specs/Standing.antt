@@ -6,11 +6,11 @@ use Rattle.dvg_gen.specs.Told.{Told}
 use Rattle.dvg_driver.specs.Script.{Item}
 use Rattle.dvg_driver.specs.Stands as driver
 use Rattle.dvg_driver.specs.Stands.{Stage, byte1_of}
-use Rattle.dvg_world.specs.Events.{Happening}
-use Rattle.dvg_world.specs.Entries.{Shown}
-use Rattle.dvg_world.specs.Headline.{KeepsHeadline}
-use Rattle.dvg_world.specs.Log.{Log, ◌⟼◌, ram, low_byte, history, life, strobed}
-use Rattle.dvg_world.specs.Legal.{IsLegal}
+use Rattle.dvg_log.specs.Events.{Happening}
+use Rattle.dvg_log.specs.Entries.{Shown}
+use Rattle.dvg_log.specs.Headline.{KeepsHeadline}
+use Rattle.dvg_log.specs.Log.{Log, ◌⟼◌, ram, low_byte, history, life, strobed}
+use Rattle.dvg_log.specs.Legal.{IsLegal}
 use Rattle.dvg_world.specs.Wanting.{DrawsNext}
 
 -- what contracts see of a world: the ROM, the RAM, the generator, the driver, and whether a strobe was sent

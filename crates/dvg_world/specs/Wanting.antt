@@ -3,8 +3,8 @@ use Rattle.std.specs.Prelude.{◌≡◌, ◌≢◌, ℕ, List, Some, None}
 use Rattle.dvg_gen.specs.Bytes.{Whole}
 use Rattle.dvg_gen.specs.Run.{Visit, Adds, strokes}
 use Rattle.dvg_gen.specs.Told.{Newest, Leaves, wants}
-use Rattle.dvg_world.specs.Events.{Happening, Fetch}
-use Rattle.dvg_world.specs.Log.{Log, meets, history}
+use Rattle.dvg_log.specs.Events.{Happening, Fetch}
+use Rattle.dvg_log.specs.Log.{Log, meets, history}
 
 -- the next fetch of the open run adds a stroke: by the word that it meets at the address that is wanted
 pub record DrawsNext (R image : List ℕ) (log : Log) : Type 0 where

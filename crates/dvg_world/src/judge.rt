@@ -2,17 +2,17 @@
 ghost use Rattle.std.specs.Prelude.{◌≡◌, ◌↔◌, ◌∷◌, [], List, ℕ, map, IfSome, IsNone, IsTrue, None, Option, Some};
 ghost use Rattle.dvg_driver.specs.declared.action.Action.TheVariants.{Wrote};
 ghost use Rattle.dvg_gen.specs.declared.stroke.Stroke.{Stroke};
-ghost use Rattle.dvg_world.specs.Entries.{Acted, Cleared, Done, Fetched, Started, shown_of};
-ghost use Rattle.dvg_world.specs.Events.{Fetch, Happening, ResetGen, Strobe, Tick, happening_of};
-ghost use Rattle.dvg_world.specs.Legal.{IsLegal};
-ghost use Rattle.dvg_world.specs.Log.{Log, Throughout, open_run, ◌⟼◌};
+ghost use Rattle.dvg_log.specs.Entries.{Acted, Cleared, Done, Fetched, Started, shown_of};
+ghost use Rattle.dvg_log.specs.Events.{Fetch, Happening, ResetGen, Strobe, Tick, happening_of};
+ghost use Rattle.dvg_log.specs.Legal.{IsLegal};
+ghost use Rattle.dvg_log.specs.Log.{Log, Throughout, open_run, ◌⟼◌};
 ghost use Rattle.dvg_world.specs.Runs.{log_of};
-ghost use Rattle.dvg_world.specs.Torn.{IsFirstTorn, IsTorn, IsUntorn};
-ghost use Rattle.dvg_world.specs.Judging.{FitsRun, StandsAfter, behind, left_by};
+ghost use Rattle.dvg_log.specs.Torn.{IsFirstTorn, IsTorn, IsUntorn};
+ghost use Rattle.dvg_world.specs.Judging.{FitsRun, StandsAfter};
+ghost use Rattle.dvg_world.specs.own.Leaving.{behind, left_by};
 
-use crate::entry::Entry;
-use crate::event::Event;
 use dvg_driver::Action;
+use dvg_log::{Entry, Event};
 use dvg_mem::Half;
 use std::alloc::Allocator;
 

@@ -1,20 +1,19 @@
 //! Whole runs.
 ghost use Rattle.std.specs.Prelude.{◌≡◌, ◌<◌, List, length, map, IfErr, IfOk, OnErr};
-ghost use Rattle.dvg_world.specs.Entries.{shown_of};
-ghost use Rattle.dvg_world.specs.Events.{Happening, happening_of};
-ghost use Rattle.dvg_world.specs.Headline.{KeepsHeadline};
-ghost use Rattle.dvg_world.specs.Legal.{IsLegal};
-ghost use Rattle.dvg_world.specs.Log.{Throughout};
+ghost use Rattle.dvg_log.specs.Entries.{shown_of};
+ghost use Rattle.dvg_log.specs.Events.{Happening, happening_of};
+ghost use Rattle.dvg_log.specs.Headline.{KeepsHeadline};
+ghost use Rattle.dvg_log.specs.Legal.{IsLegal};
+ghost use Rattle.dvg_log.specs.Log.{Throughout};
 ghost use Rattle.dvg_world.specs.Runs.{IsStop, log_by};
-ghost use Rattle.dvg_world.specs.Stepping.{AddsEvent, WantsMemory};
+ghost use Rattle.dvg_world.specs.own.Stepping.{AddsEvent, WantsMemory};
 
-use crate::entry::Entry;
-use crate::event::Event;
+use crate::happens::happen_of;
 use crate::stopped::Stopped;
-use crate::trace::{Trace, happen_of};
 use crate::world::World;
 use dvg_code::OutOfMemory;
 use dvg_frame::Draft;
+use dvg_log::{Entry, Event, Trace};
 use dvg_mem::{Image, Rom, Store};
 use std::alloc::Allocator;
 

@@ -1,5 +1,5 @@
 //! Runs that stop early.
-use crate::entry::Entry;
+use dvg_log::Entry;
 use std::alloc::{Allocator, Global};
 use thiserror::Error;
 

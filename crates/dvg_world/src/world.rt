@@ -1,20 +1,19 @@
 //! The world: both ends of the vector RAM, one event at a time.
 ghost use Rattle.std.specs.Prelude.{◌≡◌, ◌≢◌, ◌↔◌, ℕ, List, [], length, IfOk, IsErrOf, IsOk, OnErr, OnOk};
 ghost use Rattle.dvg_driver.specs.Stands.{IsInRam};
-ghost use Rattle.dvg_world.specs.Entries.{shown_of};
-ghost use Rattle.dvg_world.specs.Events.{Offer, Redraw, Tick, Strobe, Fetch, ResetGen, ResetCpu, ResetAll, happening_of};
-ghost use Rattle.dvg_world.specs.Legal.{IsLegal};
-ghost use Rattle.dvg_world.specs.Log.{Log};
+ghost use Rattle.dvg_log.specs.Entries.{shown_of};
+ghost use Rattle.dvg_log.specs.Events.{Offer, Redraw, Tick, Strobe, Fetch, ResetGen, ResetCpu, ResetAll, happening_of};
+ghost use Rattle.dvg_log.specs.Legal.{IsLegal};
+ghost use Rattle.dvg_log.specs.Log.{Log};
 ghost use Rattle.dvg_world.specs.Standing.{AddsLine, DrawsNow, KeepsHeadlineAfter, WorldAfter};
-ghost use Rattle.dvg_world.specs.Stepping.{ram_by, sent_by};
+ghost use Rattle.dvg_world.specs.own.Stepping.{ram_by, sent_by};
 ghost use Rattle.dvg_world.specs.Wanting.{TakesMemory};
 
-use crate::entry::Entry;
-use crate::event::Event;
 use dvg_code::OutOfMemory;
 use dvg_driver::{Action, Driver, DriverFault};
 use dvg_frame::{Checker, Draft};
 use dvg_gen::Generator;
+use dvg_log::{Entry, Event};
 use dvg_mem::{Image, MemFault, Rom, Store, fetch_byte};
 use std::marker::Model;
 
@@ -158,7 +157,7 @@ impl<S: Store> World<S> {
     }
 
     /// The driver is asked to have the published frame drawn again, as by `Event::Redraw`.
-    #[tactic(auto, using(crate::proofs::Headline::draws_a_half))]
+    #[tactic(auto, using(dvg_theorem::proofs::Headline::draws_a_half))]
     pub fn redraw(&mut self) -> Entry<S::Alloc>
         ensures stands { AddsLine self.old Redraw (shown_of result) self.new }
         ensures headline { KeepsHeadlineAfter self.old Redraw (shown_of result) }

@@ -2,7 +2,7 @@
 use crate::line::Line;
 use dvg_driver::Action;
 use dvg_gen::Stroke;
-use dvg_world::Entry;
+use dvg_log::Entry;
 use std::alloc::Allocator;
 
 impl Line {

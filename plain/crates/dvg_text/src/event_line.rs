@@ -1,6 +1,6 @@
 //! Lines that spell events by themselves.
 use crate::number::{hex, natural};
-use dvg_world::Event;
+use dvg_log::Event;
 use memchr::memchr;
 use std::alloc::Allocator;
 

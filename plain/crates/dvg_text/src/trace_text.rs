@@ -8,8 +8,8 @@ use crate::text_lines::{TextLines, is_passed};
 use arrayvec::ArrayVec;
 use dvg_code::OutOfMemory;
 use dvg_frame::Draft;
+use dvg_log::{Event, MOST_EVENTS, Trace};
 use dvg_mem::{Image, LARGE_ROM_BYTES, MEMORY_BYTES};
-use dvg_world::{Event, MOST_EVENTS, Trace};
 use std::alloc::{Allocator, Global};
 
 /// What the text of a trace denotes.

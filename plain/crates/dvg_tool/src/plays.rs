@@ -3,9 +3,10 @@ use std::prelude::*;
 
 use crate::shows::write_entries;
 use dvg_io::{ToolFault, Watched, read_up_to};
+use dvg_log::Entry;
 use dvg_mem::{Flat, Image, MEMORY_BYTES, Rom, Store};
 use dvg_text::{MOST_TEXT_BYTES, TraceText, read_trace};
-use dvg_world::{Entry, Stopped, run_trace};
+use dvg_world::{Stopped, run_trace};
 use std::alloc::Allocator;
 use std::io::{Read, Write};
 

@@ -1,7 +1,7 @@
 //! What is written of a log's entries.
 use dvg_io::{DeviceFailed, ToolFault, Watched, write_strokes, write_whole};
 use dvg_lines::Line;
-use dvg_world::Entry;
+use dvg_log::Entry;
 use std::alloc::Allocator;
 use std::io::Write;
 

@@ -1,7 +1,6 @@
 //! A judge of logs, whoever made them.
-use crate::entry::Entry;
-use crate::event::Event;
 use dvg_driver::Action;
+use dvg_log::{Entry, Event};
 use dvg_mem::Half;
 use std::alloc::Allocator;
 

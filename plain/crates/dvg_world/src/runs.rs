@@ -1,13 +1,12 @@
 //! Whole runs.
 use std::prelude::*;
 
-use crate::entry::Entry;
-use crate::event::Event;
+use crate::happens::happen_of;
 use crate::stopped::Stopped;
-use crate::trace::{Trace, happen_of};
 use crate::world::World;
 use dvg_code::OutOfMemory;
 use dvg_frame::Draft;
+use dvg_log::{Entry, Event, Trace};
 use dvg_mem::{Image, Rom, Store};
 use std::alloc::Allocator;
 

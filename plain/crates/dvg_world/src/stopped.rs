@@ -1,7 +1,7 @@
 //! Runs that stop early.
 use std::prelude::*;
 
-use crate::entry::Entry;
+use dvg_log::Entry;
 use std::alloc::{Allocator, Global};
 use thiserror::Error;
 

@@ -1,12 +1,11 @@
 //! The world: both ends of the vector RAM, one event at a time.
 use std::prelude::*;
 
-use crate::entry::Entry;
-use crate::event::Event;
 use dvg_code::OutOfMemory;
 use dvg_driver::{Action, Driver, DriverFault};
 use dvg_frame::{Checker, Draft};
 use dvg_gen::Generator;
+use dvg_log::{Entry, Event};
 use dvg_mem::{Image, MemFault, Rom, Store, fetch_byte};
 
 /// Both ends of the vector RAM: the driver that writes frames into it, and the generator that draws out of

@@ -1,6 +1,6 @@
 use Rattle.std.proofs.Common.{sym, ap, ◌∙◌, inl}
 use Rattle.dvg_gen.specs.Bytes.{met}
-use Rattle.dvg_world.specs.Entries.{entry_by, shown_of}
+use Rattle.dvg_log.specs.Entries.{entry_by, shown_of}
 use Rattle.dvg_device.proofs.lone.fetch.Goals as goal
 
 pub returns-in-Ok : goal.returns-in-Ok

@@ -1,5 +1,5 @@
 use Rattle.dvg_text.proofs.EventRows.{alone_made, alone_row}
-use Rattle.dvg_world.specs.Events.{happening_of}
+use Rattle.dvg_log.specs.Events.{happening_of}
 use Rattle.dvg_text.proofs.event_line.once.Goals as goal
 
 pub returns-in_err-event_named-clause-only : goal.returns-in_err-event_named-clause-only

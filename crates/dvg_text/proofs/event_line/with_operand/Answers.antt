@@ -1,5 +1,5 @@
 use Rattle.std.proofs.Common.{◌≡◌, codes, rules, ⊎_elim}
-use Rattle.dvg_world.specs.Events.{happening_of}
+use Rattle.dvg_log.specs.Events.{happening_of}
 use Rattle.dvg_text.specs.EventLines.{TakesCount}
 use Rattle.dvg_text.proofs.EventRows.{operand_row, resetall_made, resetall_only, times_made}
 use Rattle.dvg_text.proofs.event_line.with_operand.Goals as goal

@@ -1,5 +1,5 @@
 use Rattle.std.proofs.Common.{◌≡◌, Some, slice_get, arith}
-use Rattle.dvg_world.specs.Events.{happening_of}
+use Rattle.dvg_log.specs.Events.{happening_of}
 use Rattle.dvg_text.proofs.TraceMoves.{first_stays, once_more}
 use Rattle.dvg_text.proofs.trace_text.add_times.Goals as goal
 

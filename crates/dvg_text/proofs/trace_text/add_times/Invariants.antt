@@ -1,5 +1,5 @@
 use Rattle.std.proofs.Common.{◌≡◌, ◌++◌, replicate}
-use Rattle.dvg_world.specs.Events.{happening_of}
+use Rattle.dvg_log.specs.Events.{happening_of}
 use Rattle.dvg_text.proofs.trace_text.add_times.Given as goal
 
 abbrev pub invariant-loop-time : goal.invariant-loop-time

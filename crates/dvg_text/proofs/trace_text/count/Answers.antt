@@ -1,6 +1,6 @@
 use Rattle.std.proofs.Common.{sym, ◌∙◌, ap, length}
 use Rattle.std.proofs.lemmas.List.{length-replicate}
-use Rattle.dvg_world.specs.Events.{happening_of}
+use Rattle.dvg_log.specs.Events.{happening_of}
 use Rattle.dvg_text.specs.EventLines.{happenings}
 use Rattle.dvg_text.proofs.trace_text.count.Goals as goal
 

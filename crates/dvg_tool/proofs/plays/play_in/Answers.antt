@@ -1,6 +1,6 @@
 use Rattle.std.proofs.Common.{rules, subst, ap, ◌∙◌, Err, map, arith}
 use Rattle.std.proofs.lemmas.Result.{err_from_is_err_and}
-use Rattle.dvg_world.specs.Entries.{shown_of}
+use Rattle.dvg_log.specs.Entries.{shown_of}
 use Rattle.dvg_io.specs.Faults.{called}
 use Rattle.dvg_io.specs.Faults.{StopsWriting, WritesText}
 use Rattle.dvg_lines.specs.Shows.{shown}

@@ -1,7 +1,7 @@
 use Rattle.std.proofs.Common.{IfErr, subst, ◌∙◌}
-use Rattle.dvg_world.specs.Headline.{KeepsHeadline}
-use Rattle.dvg_world.specs.Legal.{IsLegal}
-use Rattle.dvg_world.specs.Log.{Throughout}
+use Rattle.dvg_log.specs.Headline.{KeepsHeadline}
+use Rattle.dvg_log.specs.Legal.{IsLegal}
+use Rattle.dvg_log.specs.Log.{Throughout}
 use Rattle.dvg_world.specs.Runs.{IsStop, log_by}
 use Rattle.dvg_tool.specs.Plays.{zeros}
 use Rattle.dvg_tool.proofs.Played.{headline_at_once, legal_at_once}

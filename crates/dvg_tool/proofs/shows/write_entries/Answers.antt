@@ -1,5 +1,5 @@
 use Rattle.std.proofs.Common.{rules, ◌+◌, drop, map}
-use Rattle.dvg_world.specs.Entries.{shown_of}
+use Rattle.dvg_log.specs.Entries.{shown_of}
 use Rattle.dvg_lines.specs.Shows.{shown, shown_entry}
 use Rattle.dvg_io.specs.Watching.{BeginsToWrite, device_of}
 use Rattle.dvg_tool.proofs.Shown.{next_entry}

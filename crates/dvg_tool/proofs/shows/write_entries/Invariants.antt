@@ -1,5 +1,5 @@
 use Rattle.std.proofs.Common.{◌≡◌, drop, map}
-use Rattle.dvg_world.specs.Entries.{shown_of}
+use Rattle.dvg_log.specs.Entries.{shown_of}
 use Rattle.dvg_lines.specs.Shows.{shown}
 use Rattle.dvg_io.specs.Watching.{device_of, failures_of}
 use Rattle.dvg_io.proofs.Went.{Went}

@@ -1,6 +1,6 @@
 use Rattle.std.proofs.Common.{ap, refl, subst, sym, ◌∙◌}
 use Rattle.std.specs.Io.KnownBytes.{Appends}
-use Rattle.dvg_world.specs.Entries.{shown_of}
+use Rattle.dvg_log.specs.Entries.{shown_of}
 use Rattle.dvg_lines.specs.Shows.{head_line}
 use Rattle.dvg_io.specs.Watching.{device_of}
 use Rattle.dvg_io.proofs.Known.{Appends-nil}

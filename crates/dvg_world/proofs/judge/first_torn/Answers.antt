@@ -1,5 +1,5 @@
 use Rattle.std.proofs.Common.{rules, map, ◌<◌, ◌∙◌, sym, subst, true≢false}
-use Rattle.dvg_world.specs.Events.{happening_of}
+use Rattle.dvg_log.specs.Events.{happening_of}
 use Rattle.dvg_world.proofs.Judging.{all_judged, before, judged_more, legal_is_untorn, none_judged, torn_here}
 use Rattle.dvg_world.proofs.judge.first_torn.Goals as goal
 

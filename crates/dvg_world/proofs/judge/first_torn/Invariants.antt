@@ -1,5 +1,5 @@
 use Rattle.std.proofs.Common.{map}
-use Rattle.dvg_world.specs.Events.{happening_of}
+use Rattle.dvg_log.specs.Events.{happening_of}
 use Rattle.dvg_world.proofs.Judging.{IsJudged}
 use Rattle.dvg_world.proofs.judge.first_torn.Given as goal
 

@@ -1,4 +1,4 @@
-use Rattle.dvg_world.proofs.Headline.{headline}
+use Rattle.dvg_theorem.proofs.Headline.{headline}
 use Rattle.dvg_world.proofs.runs.run.Goals as goal
 
 pub returns-clause-headline : goal.returns-clause-headline

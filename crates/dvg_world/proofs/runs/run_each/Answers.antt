@@ -1,6 +1,6 @@
 use Rattle.std.proofs.Common.{rules, ◌<◌, length, refl, ◌∙◌, subst}
-use Rattle.dvg_world.specs.Entries.{shown_of}
-use Rattle.dvg_world.specs.Stepping.{AddsEvent, WantsMemory}
+use Rattle.dvg_log.specs.Entries.{shown_of}
+use Rattle.dvg_world.specs.own.Stepping.{AddsEvent, WantsMemory}
 use Rattle.dvg_world.proofs.WholeRuns.{begins_so_far, legal_none, one_more, stops_at}
 use Rattle.dvg_world.proofs.runs.run_each.Goals as goal
 

@@ -1,5 +1,5 @@
 use Rattle.std.proofs.Common.{◌≡◌, List, [], Some, codes, ap, sym, subst, rules}
-use Rattle.dvg_world.specs.Events.{Happening}
+use Rattle.dvg_log.specs.Events.{Happening}
 use Rattle.dvg_text.specs.declared.trace_text.Reading.{Reading}
 use Rattle.dvg_text.specs.EventLines.{happenings}
 use Rattle.dvg_text.specs.Texts.{parts}

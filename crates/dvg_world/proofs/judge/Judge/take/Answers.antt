@@ -1,5 +1,5 @@
-use Rattle.dvg_world.specs.Entries.{shown_of}
-use Rattle.dvg_world.specs.Events.{happening_of}
+use Rattle.dvg_log.specs.Entries.{shown_of}
+use Rattle.dvg_log.specs.Events.{happening_of}
 use Rattle.dvg_world.proofs.Judging.{drawn_behind}
 use Rattle.dvg_world.proofs.judge.Judge.take.Goals as goal
 

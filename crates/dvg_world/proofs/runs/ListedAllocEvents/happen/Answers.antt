@@ -1,7 +1,7 @@
 use Rattle.std.proofs.Common.{◌<◌, get_or, refl, subst}
 use Rattle.std.proofs.lemmas.List.{length-map}
-use Rattle.dvg_world.specs.Events.{happening_of}
-use Rattle.dvg_world.proofs.Traces.{adds, wants}
+use Rattle.dvg_log.specs.Events.{happening_of}
+use Rattle.dvg_world.proofs.Numbered.{adds, wants}
 use Rattle.dvg_world.proofs.runs.ListedAllocEvents.happen.Goals as goal
 
 pub returns-clause-stands : goal.returns-clause-stands

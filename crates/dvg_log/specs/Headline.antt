@@ -1,0 +1,114 @@
+-- What every legal log shows.
+use Rattle.std.specs.Prelude.{◌≡◌, ℕ, suc, ◌+◌, ◌*◌, ◌/◌, ◌^◌, ◌≤◌, ◌<◌, true, List, [], ◌∷◌, length, Option, Some, None}
+use Rattle.dvg_mem.specs.declared.half.Half.{Half}
+use Rattle.dvg_mem.specs.Areas.{IsInHalf}
+use Rattle.dvg_gen.specs.declared.stroke.Stroke.{Stroke}
+use Rattle.dvg_frame.specs.declared.op.OpKind.{OpKind}
+use Rattle.dvg_frame.specs.Ops.{IsDraft}
+use Rattle.dvg_frame.specs.Steps.{Closed}
+use Rattle.dvg_frame.specs.Faults.{Accepts}
+use Rattle.dvg_frame.specs.Picture.{IsPicture}
+use Rattle.dvg_driver.specs.declared.action.Action.TheVariants.{Wrote}
+use Rattle.dvg_log.specs.Events.{Happening, Fetch}
+use Rattle.dvg_log.specs.Entries.{Shown, Acted, Started, Done, Broke}
+use Rattle.dvg_log.specs.Held.{HoldsDraft, HoldsFrame}
+use Rattle.dvg_log.specs.Log.{◌⟼◌, Log, Throughout, ram, low_byte, open_run, IsBeingDrawn, published, publication, has_fetched, at_zero}
+use Rattle.dvg_log.specs.Legal.{IsLegal}
+
+-- a byte that is written isn't in a half being drawn
+abbrev pub SparesDrawn : Log → Happening → Shown → Type 0
+SparesDrawn log event (Acted (Wrote a byte)) = (half : Half) → IsBeingDrawn log half → ¬ IsInHalf half (a / 2)
+SparesDrawn log event entry = Unit {0}
+
+-- the generator doesn't fault
+abbrev pub NoFault : Log → Happening → Shown → Type 0
+NoFault log event (Broke address fault) = ⊥
+NoFault log event entry = Unit {0}
+
+-- the open run shows this draft: the one newest published when it fetched word zero
+abbrev pub IsShown : Log → List OpKind → Type 0
+IsShown log F = published (at_zero log) ≡ Some F
+
+-- a run that is finished by its next word drew exactly the picture of what it shows, in as many words
+pub record DrewPicture (R : List ℕ) (log : Log) (drew : List Stroke) : Type 0 where
+  pub draft : List OpKind
+  pub shown : IsShown log draft
+  pub accepts : Accepts draft R
+  pub fetches : List (ℕ × ℕ)
+  pub open_now : open_run log ≡ Some fetches
+  pub picture : IsPicture draft R drew (suc (length fetches))
+
+-- a run that reaches HALT drew it
+abbrev pub DrewPublished : List ℕ → Log → Happening → Shown → Type 0
+DrewPublished R log event (Done address word drew) = DrewPicture R log drew
+DrewPublished R log event entry = Unit {0}
+
+-- a run that reaches HALT shows no publication with a number above n
+abbrev pub IsNoLater : ℕ → Log → Happening → Shown → Type 0
+IsNoLater n log event (Done address word drew) = (m : ℕ) → publication (at_zero log) ≡ Some m → m ≤ n
+IsNoLater n log event entry = Unit {0}
+
+-- a run that reaches HALT shows no publication older than one that was shown before
+abbrev pub IsNoOlder : Log → Happening → Shown → Type 0
+IsNoOlder log event (Done address word drew) = (n : ℕ) → publication (at_zero log) ≡ Some n → Throughout (IsNoLater n) log
+IsNoOlder log event entry = Unit {0}
+
+-- how many bytes the open run has fetched: two a word, and the low byte that waits
+abbrev pub fetch_count : List (ℕ × ℕ) → Option ℕ → ℕ
+fetch_count words None = 2 * length words
+fetch_count words (Some low) = 2 * length words + 1
+
+-- a fetch of this number, in a run whose picture has n words: the run goes on, or it is the last one and drew the picture
+abbrev pub EndsAt : ℕ → List Stroke → ℕ → Shown → Type 0
+EndsAt number drew n (Done address word strokes) = (number ≡ 2 * n) × (strokes ≡ drew)
+EndsAt number drew n (Broke address fault) = ⊥
+EndsAt number drew n entry = number < 2 * n
+
+-- what the open run shows has a picture, of n words, and the run's fetch number 2n is the one that finishes it, with the picture's strokes
+abbrev pub KeepsTime : List ℕ → Log → Happening → Shown → Type 0
+KeepsTime R log Fetch entry = (words : List (ℕ × ℕ)) (F : List OpKind) → open_run log ≡ Some words → IsShown log F
+    → (drew : List Stroke) × (n : ℕ) × IsPicture F R drew n × (n < 2 ^ 63) × EndsAt (suc (fetch_count words (low_byte log))) drew n entry
+KeepsTime R log event entry = Unit {0}
+
+-- no byte was written since the newest run began
+abbrev pub IsUntouched : Log → Type 0
+IsUntouched [] = Unit {0}
+IsUntouched ((event ⟼ Started) ∷ log) = Unit {0}
+IsUntouched ((event ⟼ Acted (Wrote a byte)) ∷ log) = ⊥
+IsUntouched (line ∷ log) = IsUntouched log
+
+-- where the RAM holds a checked frame with the jump to it, and has done so since the run began, a run that reaches HALT drew the picture of the frame's draft, in as many words
+abbrev pub DrewHeld : List ℕ → List ℕ → Log → Happening → Shown → Type 0
+DrewHeld R image log event (Done address word drew) = (half : Half) (F : List OpKind) (fetches : List (ℕ × ℕ)) → IsDraft F → Closed F R → HoldsFrame (ram image log) half F → IsUntouched log
+    → open_run log ≡ Some fetches → IsPicture F R drew (suc (length fetches))
+DrewHeld R image log event entry = Unit {0}
+
+-- the open run is drawing a half, shows a draft that was accepted, and the half holds it
+pub record DrawsHalf (R image : List ℕ) (log : Log) : Type 0 where
+  pub half : Half
+  pub drawn : IsBeingDrawn log half
+  pub draft : List OpKind
+  pub shown : IsShown log draft
+  pub accepts : Accepts draft R
+  pub holds : HoldsDraft (ram image log) half draft
+
+-- the headline, of one line of a log: its event and its entry, over the log before it
+pub record KeepsHeadline (R image : List ℕ) (log : Log) (event : Happening) (entry : Shown) : Type 0 where
+  -- no byte is written in the half being drawn
+  pub never_torn : SparesDrawn log event entry
+  -- the generator doesn't fault
+  pub never_faults : NoFault log event entry
+  -- a run that reaches HALT drew exactly the picture of the frame that was newest published when it fetched word zero
+  pub draws_published : DrewPublished R log event entry
+  -- and shows no older publication than a run before it did
+  pub never_older : IsNoOlder log event entry
+  -- what a run shows has a picture, at whose last fetch the run is finished: after two bytes for each of its words
+  pub always_in_time : KeepsTime R log event entry
+  -- a run that reaches HALT, during which nothing was written and the RAM held a checked frame, drew that frame's picture
+  pub draws_undisturbed : DrewHeld R image log event entry
+  -- after the line, an open run that has fetched word zero is drawing a half, which holds the draft that the run shows
+  pub draws_a_half : has_fetched (open_run ((event ⟼ entry) ∷ log)) ≡ true → DrawsHalf R image ((event ⟼ entry) ∷ log)
+
+-- a run that has fetched word zero is drawing a half, which holds the draft that the run shows
+abbrev pub DrawsAHalf : Type 0
+DrawsAHalf = (R image : List ℕ) (log : Log) → IsLegal R image log → has_fetched (open_run log) ≡ true → DrawsHalf R image log

@@ -1,0 +1,9 @@
+pub mod Events
+pub mod Entries
+pub mod Log
+pub mod Legal
+pub mod Held
+pub mod Headline
+pub mod Torn
+pub mod Traces
+pub mod own

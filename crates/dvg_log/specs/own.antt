@@ -1,0 +1,2 @@
+-- What only private contracts and invariants cite.
+pub mod Kept

@@ -1,0 +1,18 @@
+-- What a trace keeps.
+use Rattle.std.specs.Prelude.{◌+◌, ◌*◌, ◌<◌, ◌≤◌, ℕ, List, All, length}
+use Rattle.dvg_frame.specs.declared.op.OpKind.{OpKind}
+use Rattle.dvg_log.specs.declared.trace.Step.{Step}
+use Rattle.dvg_log.specs.declared.trace.Step.TheVariants as step
+
+-- an offer's operations are among all of them, and a draft can hold them; a reset's image is among all of them
+abbrev pub IsWithin : List OpKind → List (List ℕ) → Step → Type 0
+IsWithin ops images (step.Offer first count) = (first + count ≤ length ops) × (count ≤ 511)
+IsWithin ops images (step.ResetAll number) = number < length images
+IsWithin ops images step = Unit {0}
+
+-- steps, the operations of their offers, and the images of their resets
+pub record IsTrace (steps : List Step) (ops : List OpKind) (images : List (List ℕ)) : Type 0 where
+  pub count : length steps ≤ 65536
+  pub few : length ops ≤ 511 * length steps
+  pub reset : length images ≤ length steps
+  pub within : All (IsWithin ops images) steps

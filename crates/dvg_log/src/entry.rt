@@ -1,0 +1,67 @@
+//! What a log shows of an event.
+ghost use Rattle.std.specs.Prelude.{◌≡◌};
+ghost use Rattle.dvg_gen.specs.Bytes.{met};
+ghost use Rattle.dvg_log.specs.Entries.{entry_by, shown_of};
+
+use dvg_driver::Action;
+use dvg_frame::FrameFault;
+use dvg_gen::{GenFault, Stroke, Taken};
+use std::alloc::{Allocator, Global};
+
+/// What an event led to. Each event has exactly one entry.
+#[derive(Drop)]
+#[derive_where(Debug, PartialEq, Eq)]
+#[derive_where(Clone; A)]
+pub enum Entry<A: Allocator = Global> {
+    /// The draft was checked, and the driver took its frame.
+    Offered,
+    /// The check refused the draft.
+    Refused(FrameFault),
+    /// The driver isn't idle. The frame was dropped, or there is no redraw.
+    Busy,
+    /// The driver took the redraw.
+    Asked,
+    /// There is no redraw, as the driver hasn't published a frame since its reset.
+    NothingPublished,
+    /// The driver did this action. A byte that it wrote stands in the RAM.
+    Acted(Action),
+    /// The strobe began a run, at word zero. A run that was open is abandoned.
+    Started,
+    /// The strobe had no effect: the driver hasn't sent one since the last reset of the whole system, or
+    /// the beginning.
+    NoStrobe,
+    /// The generator fetched the low byte of the word at this word address.
+    Low(u16, u8),
+    /// The generator fetched the high byte at this word address. This is the word, and its run goes on.
+    Fetched(u16, u16),
+    /// The generator fetched the high byte at this word address. This is the word, a HALT. Its run is
+    /// finished, and drew these strokes, in this order.
+    Done(u16, u16, Vec<Stroke, A>),
+    /// The fetch at this word address broke the run.
+    Broke(u16, GenFault),
+    /// Nothing was fetched, as no run is open.
+    Still,
+    /// A reset was done.
+    Cleared,
+}
+
+impl<A: Allocator> Entry<A> {
+    /// The entry of a fetch at this word address, of a byte behind this low one, or of a hole, by what the generator
+    /// answers to it.
+    pub fn of_fetch(address: u16, low: Option<u8>, byte: Option<u8>, taken: Taken<A>) -> Entry<A>
+        ensures { shown_of result ≡ entry_by address (met low byte) taken }
+    {
+        let Some(byte) = byte else {
+            return Entry::Broke(address, GenFault::Hole);
+        };
+        let Some(low) = low else {
+            return Entry::Low(address, byte);
+        };
+        let word = u16::from_le_bytes([low, byte]);
+        match taken {
+            Taken::Low | Taken::Word => Entry::Fetched(address, word),
+            Taken::Done(strokes) => Entry::Done(address, word, strokes),
+            Taken::Broke(fault) => Entry::Broke(address, fault),
+        }
+    }
+}

@@ -1,5 +1,0 @@
-use Rattle.dvg_world.proofs.Headline.{draws_a_half}
-use Rattle.dvg_world.proofs.laws.draws_a_half.Goals as goal
-
-pub returns : goal.returns
-returns c = draws_a_half

@@ -1,5 +1,0 @@
-use Rattle.dvg_world.proofs.OneFrame.{draws_in_range}
-use Rattle.dvg_world.proofs.laws.draws_in_range.Goals as goal
-
-pub returns : goal.returns
-returns c = draws_in_range

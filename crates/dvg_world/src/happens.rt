@@ -1,0 +1,46 @@
+//! Events of traces that happen to a world.
+ghost use Rattle.std.specs.Prelude.{◌≡◌, ◌<◌, ◌≤◌, length, IfOk, OnErr};
+ghost use Rattle.dvg_log.specs.Entries.{shown_of};
+ghost use Rattle.dvg_world.specs.own.Stepping.{AddsEvent, WantsMemory};
+
+use crate::world::World;
+use dvg_code::OutOfMemory;
+use dvg_frame::{Draft, Op};
+use dvg_log::{Entry, Trace, TraceEvent};
+use dvg_mem::Store;
+
+// Takes these operations in place of a draft's own.
+fn fill(draft: &mut Draft, ops: &[Op])
+    requires { length ops.now ≤ 511 }
+    ensures { draft.new ≡ ops.now }
+{
+    draft.clear();
+    draft.try_extend_from_slice(ops).unwrap();
+}
+
+// Lets the event of this number of a trace happen to a world. The draft of an offer is made in
+// `draft`.
+pub(crate) fn happen_of<S: Store>(
+    trace: &Trace<S::Alloc>,
+    number: usize,
+    draft: &mut Draft,
+    world: &mut World<S>,
+) -> Result<Entry<S::Alloc>, OutOfMemory>
+    requires { number < length trace.now }
+    ensures stands { IfOk result (λ entry. AddsEvent trace.now number world.old (shown_of entry) world.new) }
+    ensures room { OnErr result (WantsMemory trace.now number world.old) }
+{
+    match trace.event(number) {
+        TraceEvent::Offer(ops) => {
+            fill(draft, ops);
+            Ok(world.offer(draft))
+        }
+        TraceEvent::Redraw => Ok(world.redraw()),
+        TraceEvent::Tick => Ok(world.tick()),
+        TraceEvent::Strobe => Ok(world.strobe()),
+        TraceEvent::Fetch => world.fetch(),
+        TraceEvent::ResetGen => Ok(world.reset_generator()),
+        TraceEvent::ResetCpu => Ok(world.reset_processor()),
+        TraceEvent::ResetAll(image) => Ok(world.reset_all(image)),
+    }
+}

@@ -1,0 +1,15 @@
+//! What happens to the vector RAM, and what it leads to: events, entries, and the logs of both.
+//!
+//! Its `specs/` say which logs the rules allow, which lines tear a picture, and what the headline
+//! says of a line. Nothing here makes a log.
+#![no_std]
+
+extern crate plain_std as std;
+
+mod entry;
+mod event;
+mod trace;
+
+pub use entry::Entry;
+pub use event::Event;
+pub use trace::{MOST_EVENTS, Trace, TraceEvent};

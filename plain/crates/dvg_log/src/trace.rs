@@ -1,0 +1,144 @@
+//! Lists of events that take little room.
+use std::prelude::*;
+
+use crate::event::Event;
+use dvg_code::OutOfMemory;
+use dvg_frame::{Draft, Op};
+use dvg_mem::Image;
+use std::alloc::{Allocator, Global};
+
+/// The most events of a trace (this project's own choice).
+pub const MOST_EVENTS: usize = 65_536;
+
+/// Events in order, at most 65,536 of them, in little room: the operations of all its offers lie in one list, so
+/// an offer takes what its own operations want, where a `Draft` has room for 511. The images of its resets lie in
+/// another, and an event that is pushed again has the operations or the image of the one before.
+pub struct Trace<A: Allocator = Global> {
+    steps: Vec<Step, A>,
+    /// The operations of all offers.
+    ops: Vec<Op, A>,
+    /// The images of the resets of the whole system.
+    images: Vec<Image<A>, A>,
+}
+
+/// An event of a trace.
+#[derive(Clone, Copy)]
+pub(crate) enum Step {
+    /// An offer: the number of its first operation among those of all offers, and how many it has.
+    Offer(u32, u16),
+    Redraw,
+    Tick,
+    Strobe,
+    Fetch,
+    ResetGen,
+    ResetCpu,
+    /// A reset of the whole system: the number of its image among all.
+    ResetAll(u32),
+}
+
+/// An event of a trace, as it lies there.
+#[derive(Clone, Copy)]
+pub enum TraceEvent<'a, A: Allocator = Global> {
+    /// The driver is handed a draft of these operations.
+    Offer(&'a [Op]),
+    /// As `Event::Redraw`.
+    Redraw,
+    /// As `Event::Tick`.
+    Tick,
+    /// As `Event::Strobe`.
+    Strobe,
+    /// As `Event::Fetch`.
+    Fetch,
+    /// As `Event::ResetGen`.
+    ResetGen,
+    /// As `Event::ResetCpu`.
+    ResetCpu,
+    /// A reset of the whole system, behind which the RAM holds these bytes.
+    ResetAll(&'a Image<A>),
+}
+
+impl<A: Allocator + Copy> Trace<A> {
+    /// No events.
+    pub fn new(alloc: A) -> Trace<A> {
+        Trace {
+            steps: Vec::new(alloc),
+            ops: Vec::new(alloc),
+            images: Vec::new(alloc),
+        }
+    }
+}
+
+impl<A: Allocator> Trace<A> {
+    /// How many events there are.
+    pub fn len(&self) -> usize {
+        self.steps.len()
+    }
+
+    /// Whether there is no event.
+    pub fn is_empty(&self) -> bool {
+        self.steps.is_empty()
+    }
+
+    /// The event of this number, counted from 0. An offer has at most 511 operations.
+    pub fn event(&self, number: usize) -> TraceEvent<'_, A> {
+        match &self.steps[number] {
+            Step::Offer(first, count) => {
+                let first = *first as usize;
+                TraceEvent::Offer(&self.ops[first..first + usize::from(*count)])
+            }
+            Step::Redraw => TraceEvent::Redraw,
+            Step::Tick => TraceEvent::Tick,
+            Step::Strobe => TraceEvent::Strobe,
+            Step::Fetch => TraceEvent::Fetch,
+            Step::ResetGen => TraceEvent::ResetGen,
+            Step::ResetCpu => TraceEvent::ResetCpu,
+            Step::ResetAll(image) => TraceEvent::ResetAll(&self.images[*image as usize]),
+        }
+    }
+
+    /// Adds an event at the end of fewer than 65,536. An error is want of memory, and then nothing has changed.
+    pub fn push(&mut self, event: Event<A>) -> Result<(), OutOfMemory> {
+        let step = match event {
+            Event::Offer(draft) => return self.push_offer(&draft),
+            Event::Redraw => Step::Redraw,
+            Event::Tick => Step::Tick,
+            Event::Strobe => Step::Strobe,
+            Event::Fetch => Step::Fetch,
+            Event::ResetGen => Step::ResetGen,
+            Event::ResetCpu => Step::ResetCpu,
+            Event::ResetAll(image) => return self.push_reset(image),
+        };
+        self.steps.push(step)?;
+        Ok(())
+    }
+
+    /// Adds an offer of a draft, which is copied, at the end of fewer than 65,536 events. An error is want of
+    /// memory, and then nothing has changed.
+    pub fn push_offer(&mut self, draft: &Draft) -> Result<(), OutOfMemory> {
+        let first = self.ops.len() as u32;
+        let count = draft.len();
+        self.ops.reserve(count)?;
+        self.steps.reserve(1)?;
+        self.ops.extend_from_slice(draft.ops()).unwrap();
+        self.steps.push_reserved(Step::Offer(first, count as u16));
+        Ok(())
+    }
+
+    /// Adds the event of this number, counted from 0, once more at the end of fewer than 65,536 events. Its draft or
+    /// image isn't copied. An error is want of memory, and then nothing has changed.
+    pub fn push_again(&mut self, number: usize) -> Result<(), OutOfMemory> {
+        let step = self.steps[number];
+        self.steps.push(step)?;
+        Ok(())
+    }
+
+    // Adds a reset of the whole system, and keeps its image.
+    fn push_reset(&mut self, image: Image<A>) -> Result<(), OutOfMemory> {
+        let number = self.images.len() as u32;
+        self.images.reserve(1)?;
+        self.steps.reserve(1)?;
+        self.images.push_reserved(image);
+        self.steps.push_reserved(Step::ResetAll(number));
+        Ok(())
+    }
+}

@@ -1,0 +1,35 @@
+//! Events of traces that happen to a world.
+use crate::world::World;
+use dvg_code::OutOfMemory;
+use dvg_frame::{Draft, Op};
+use dvg_log::{Entry, Trace, TraceEvent};
+use dvg_mem::Store;
+
+// Takes these operations in place of a draft's own.
+fn fill(draft: &mut Draft, ops: &[Op]) {
+    draft.clear();
+    draft.try_extend_from_slice(ops).unwrap();
+}
+
+// Lets the event of this number of a trace happen to a world. The draft of an offer is made in
+// `draft`.
+pub(crate) fn happen_of<S: Store>(
+    trace: &Trace<S::Alloc>,
+    number: usize,
+    draft: &mut Draft,
+    world: &mut World<S>,
+) -> Result<Entry<S::Alloc>, OutOfMemory> {
+    match trace.event(number) {
+        TraceEvent::Offer(ops) => {
+            fill(draft, ops);
+            Ok(world.offer(draft))
+        }
+        TraceEvent::Redraw => Ok(world.redraw()),
+        TraceEvent::Tick => Ok(world.tick()),
+        TraceEvent::Strobe => Ok(world.strobe()),
+        TraceEvent::Fetch => world.fetch(),
+        TraceEvent::ResetGen => Ok(world.reset_generator()),
+        TraceEvent::ResetCpu => Ok(world.reset_processor()),
+        TraceEvent::ResetAll(image) => Ok(world.reset_all(image)),
+    }
+}
