@@ -1,21 +1,11 @@
 # What tests/storm and tests/dumps have in common: the program and its twin are built, and named.
-set -u
-export LC_ALL=C
-tests=$(dirname "$(readlink -f "$0")") || exit 1
-top=${tests%/*}
+. "$(dirname "$(readlink -f "$0")")/counts.bash"
 built=$top/twin/target/release
 
 if [ $# -ne 2 ]; then
     echo "usage: tests/${0##*/} COUNT SEED" >&2
     exit 64
 fi
-
-# Says what could not be built, and ends.
-give_up() {
-    echo "FAILED: $1"
-    echo "0 passed, 1 failed"
-    exit 1
-}
 
 program=${STORM_PROGRAM:-$top/crates/dvg/out/dvg}
 twin=${STORM_TWIN:-$built/twin}
