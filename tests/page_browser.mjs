@@ -31,6 +31,12 @@ function runProgram(words, input) {
   return spawnSync(program, words, { input, maxBuffer: 1 << 28 }).stdout.toString();
 }
 
+// What `dvg torn` says of a log that isn't torn, and what it counts besides.
+const SEEN = '[0-9]+ runs, [0-9]+ halted, [0-9]+ writes';
+const NOT_TORN = new RegExp(`^not torn: ${SEEN}$`);
+const TORN = new RegExp(
+  `^torn at line [0-9]+: wrote [0-9A-F]{3} [0-9A-F]{2} \\(event [0-9]+\\), so far: ${SEEN}$`);
+
 const browser = await startChromium(chromium);
 let tab = await browser.newTab();
 await browser.send('Browser.setDownloadBehavior',
@@ -81,7 +87,7 @@ async function testBeginning() {
     await tab.value('document.querySelector(".proved").textContent'));
   expect('a newcomer sees a picture', /^Picture [0-9]+, .* whole\. It is frame [AB]\./,
     await tab.text('picture-text'));
-  expect('and no torn one', 'not torn', await tab.text('judged'));
+  expect('and no torn one', NOT_TORN, await tab.text('judged'));
   for (const width of [1500, 700, 1280]) {
     await tab.size(width, 1000);
     await tab.settle();
@@ -162,7 +168,7 @@ async function testSeeds() {
     await tab.click('compare');
     expect(`seed ${seed}: compared with play`,
       new RegExp(`^the same: ${events} events, [0-9]+ lines$`), await tab.text('compared'));
-    expect(`seed ${seed}: torn`, 'not torn', await tab.text('judged'));
+    expect(`seed ${seed}: torn`, NOT_TORN, await tab.text('judged'));
     const trace = await saved('trace.txt', 'save-trace'), log = await saved('log.txt', 'save-log');
     expect(`seed ${seed}: each line is that of the program`, true,
       log === runProgram(['play', '--all'], trace));
@@ -202,8 +208,7 @@ async function testCutWire() {
   await runSeed(1);
   expect('torn pictures are counted',
     /[0-9]+ pictures? · [1-9][0-9]* torn · [1-9][0-9]* bytes? written/, await tab.text('counts'));
-  expect('torn finds it', /^torn at line [0-9]+: wrote [0-9A-F]{3} [0-9A-F]{2} \(event [0-9]+\)$/,
-    await tab.text('judged'));
+  expect('torn finds it', TORN, await tab.text('judged'));
   const named =
     await textsOf('#torn-list button');
   expect('torn pictures are named', true,
@@ -268,7 +273,7 @@ async function testLessonsNow() {
     const text = await tab.text('picture-text');
     if (k === 5) expect('the cut wire tears',
       /torn: 16 bytes were written into its half while .* It is no frame that was offered/, text);
-    else expect(`lesson ${title}: nothing is torn`, 'not torn', await tab.text('judged'));
+    else expect(`lesson ${title}: nothing is torn`, NOT_TORN, await tab.text('judged'));
   }
 }
 

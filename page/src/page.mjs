@@ -165,10 +165,10 @@ function run() {
 function judge() {
   judgedAt = performance.now();
   const got = engine.run(COMMAND.torn, board.told.text);
-  const said = got.output.trim();
+  const [said, seen] = got.output.trim().split('\n');
   const line = /^torn at line ([0-9]+)/.exec(said);
   const event = line ? board.told.eventOf[Number(line[1]) - 1] : null;
-  byId('judged').textContent = event === null ? said : `${said} (event ${event})`;
+  byId('judged').textContent = event === null ? said : `${said} (event ${event}), ${seen}`;
   byId('judged').className = event === null ? 'good' : 'bad';
   byId('judged-go').hidden = event === null;
   byId('judged-go').onclick = () => goTo(event + 1);
