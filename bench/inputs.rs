@@ -5,11 +5,11 @@
 pub const SMALLEST: &[u8] = b"labs 0 0 0\nhalt\n";
 
 /// A small linear congruential generator (Knuth's MMIX constants), of which the high bits are used.
-struct Random(u64);
+pub struct Random(pub u64);
 
 impl Random {
     /// A number below `limit`.
-    fn below(&mut self, limit: u16) -> u16 {
+    pub fn below(&mut self, limit: u16) -> u16 {
         self.0 = self
             .0
             .wrapping_mul(6364136223846793005)
@@ -18,7 +18,7 @@ impl Random {
     }
 
     /// True once in so many times.
-    fn once_in(&mut self, times: u16) -> bool {
+    pub fn once_in(&mut self, times: u16) -> bool {
         self.below(times) == 0
     }
 }

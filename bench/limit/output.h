@@ -1,4 +1,5 @@
-/* What goes out: standard output by a buffer, faults by standard error, and how the program ends. */
+/* What goes out: standard output by a buffer, faults by standard error, and the end of the
+ * program. */
 #ifndef LIMIT_OUTPUT_H
 #define LIMIT_OUTPUT_H
 

@@ -207,8 +207,8 @@ INLINE void fill_ram(void)
     }
 }
 
-/* Offers the draft at a place of the text. Of one that is refused, or finds the driver busy, nothing
- * but a line is ever seen: so it is only read where the driver takes it. */
+/* Offers the draft at a place of the text. Of one that is refused, or finds the driver busy,
+ * nothing but a line is ever seen: so it is only read where the driver takes it. */
 INLINE void offer(const u8 *at, u32 fault, bool all)
 {
     if (all && fault != NO_FAULT) {

@@ -121,7 +121,7 @@ INLINE u32 take_number(struct cursor *cursor, u32 most)
     u32 digits = others != 0 ? (u32)__builtin_ctzll(others) / 8 : 8;
     cursor->bad |= (digits - 1 > 4) | ((digits > 1) & ((bytes & 0xFF) == 0));
     cursor->at += digits;
-    /* The digits go up to the eighth place. Then pairs are summed, and these by fours and eights. */
+    /* The digits go up to the eighth place. Then pairs are summed, then fours, then eights. */
     bytes <<= 64 - 8 * (digits != 0 ? digits : 1);
     bytes = bytes * 10 + (bytes >> 8);
     u64 first = (bytes & 0x000000FF000000FF) * 0x000F424000000064;

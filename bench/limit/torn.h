@@ -63,30 +63,74 @@ INLINE u32 hex_number(const u8 *digits, u32 count)
     return take_hex(&cursor, count);
 }
 
-/* How many line ends there are, 32 bytes at once. */
+#ifdef __AVX2__
+
+/* Which of 32 bytes are line ends, a bit each. */
+INLINE u32 line_ends(const u8 *bytes)
+{
+    __m256i loaded = _mm256_loadu_si256((const __m256i *)(const void *)bytes);
+    return (u32)_mm256_movemask_epi8(_mm256_cmpeq_epi8(loaded, _mm256_set1_epi8('\n')));
+}
+
+/* How many line ends there are among so many times 32 bytes, at most 255. Each byte counts by
+ * itself. */
+INLINE u64 count_in_steps(const u8 *bytes, u32 steps)
+{
+    __m256i counts = _mm256_setzero_si256();
+    for (; steps > 0; steps--, bytes += 32) {
+        __m256i loaded = _mm256_loadu_si256((const __m256i *)(const void *)bytes);
+        __m256i ends = _mm256_cmpeq_epi8(loaded, _mm256_set1_epi8('\n'));
+        counts = _mm256_sub_epi8(counts, ends);
+    }
+    u64 sums[4];
+    counts = _mm256_sad_epu8(counts, _mm256_setzero_si256());
+    memcpy(sums, &counts, sizeof sums);
+    return sums[0] + sums[1] + sums[2] + sums[3];
+}
+
+#else
+
+INLINE __m128i are_ends(const u8 *bytes)
+{
+    __m128i loaded = _mm_loadu_si128((const __m128i *)(const void *)bytes);
+    return _mm_cmpeq_epi8(loaded, _mm_set1_epi8('\n'));
+}
+
+INLINE u32 line_ends(const u8 *bytes)
+{
+    u32 low = (u32)_mm_movemask_epi8(are_ends(bytes));
+    return low | (u32)_mm_movemask_epi8(are_ends(bytes + 16)) << 16;
+}
+
+INLINE u64 count_in_steps(const u8 *bytes, u32 steps)
+{
+    __m128i low = _mm_setzero_si128(), high = low;
+    for (; steps > 0; steps--, bytes += 32) {
+        low = _mm_sub_epi8(low, are_ends(bytes));
+        high = _mm_sub_epi8(high, are_ends(bytes + 16));
+    }
+    u64 sums[2];
+    __m128i zero = _mm_setzero_si128();
+    low = _mm_add_epi64(_mm_sad_epu8(low, zero), _mm_sad_epu8(high, zero));
+    memcpy(sums, &low, sizeof sums);
+    return sums[0] + sums[1];
+}
+
+#endif
+
+/* How many line ends there are. */
 static u64 count_lines(const u8 *from, const u8 *to)
 {
-    const __m128i line_end = _mm_set1_epi8('\n');
-    __m128i total = _mm_setzero_si128();
     u64 lines = 0;
     while (to - from >= 32) {
-        /* Each byte counts by itself, up to 2 a step. */
-        u32 steps = least((u32)(to - from) / 32, 127);
-        __m128i counts = _mm_setzero_si128();
-        for (; steps > 0; steps--, from += 32) {
-            const __m128i *bytes = (const __m128i *)(const void *)from;
-            __m128i first = _mm_cmpeq_epi8(_mm_loadu_si128(bytes), line_end);
-            __m128i second = _mm_cmpeq_epi8(_mm_loadu_si128(bytes + 1), line_end);
-            counts = _mm_sub_epi8(counts, _mm_add_epi8(first, second));
-        }
-        total = _mm_add_epi64(total, _mm_sad_epu8(counts, _mm_setzero_si128()));
+        u32 steps = least((u32)(to - from) / 32, 255);
+        lines += count_in_steps(from, steps);
+        from += 32 * steps;
     }
     for (; from < to; from++) {
         lines += *from == '\n';
     }
-    u64 halves[2];
-    memcpy(halves, &total, sizeof halves);
-    return lines + halves[0] + halves[1];
+    return lines;
 }
 
 /* Ends the program: a write into the half that is drawn, in this line of those that are judged. */
@@ -130,12 +174,7 @@ static u32 drawn_after(const u8 *line)
 /* The place after a line that is passed over; null where it is too long. */
 INLINE const u8 *after_comment(const u8 *line)
 {
-    u64 ends = 0;
-    for (u32 i = 0; i < 4; i++) {
-        const __m128i *bytes = (const __m128i *)(const void *)line + i;
-        __m128i is_end = _mm_cmpeq_epi8(_mm_loadu_si128(bytes), _mm_set1_epi8('\n'));
-        ends |= (u64)(u32)_mm_movemask_epi8(is_end) << 16 * i;
-    }
+    u64 ends = line_ends(line) | (u64)line_ends(line + 32) << 32;
     if (ends != 0) {
         return line + __builtin_ctzll(ends) + 1;
     }

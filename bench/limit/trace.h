@@ -7,7 +7,8 @@
 enum { MOST_EVENTS = 65536 };
 
 /* What an event is. Of NO_EVENT there is none. */
-enum { TICK, FETCH, STROBE, REDRAW, RESET_GENERATOR, RESET_DRIVER, RESET_ALL, OFFER, NO_EVENT = 15 };
+enum { TICK, FETCH, STROBE, REDRAW, RESET_GENERATOR, RESET_DRIVER, RESET_ALL, OFFER,
+       NO_EVENT = 15 };
 
 /* Runs, from the second number on: what the events are in the highest four bits, and how many there
  * are below. Below RESET_ALL is the byte of its RAM. Below OFFER is where in the text its draft
@@ -15,8 +16,13 @@ enum { TICK, FETCH, STROBE, REDRAW, RESET_GENERATOR, RESET_DRIVER, RESET_ALL, OF
 static u32 runs[2 * MOST_EVENTS + 16];
 static u32 last_run;
 
-/* How many events there are, and what the newest run is of; NO_EVENT where no event joins it. */
-static u32 events, newest;
+/* While a trace is read: how many events there are, where the newest run stands, and what it is of;
+ * NO_EVENT where no event joins it. The compiler keeps all three in registers. */
+struct reader {
+    u32 events;
+    u32 run;
+    u32 newest;
+};
 
 static struct draft draft;
 static struct memory memory;
@@ -30,30 +36,30 @@ RARE __attribute__((noreturn)) void fail_at_line(const char *fault, const u8 *li
 }
 
 /* Counts events that a line brings. */
-INLINE void bring_events(u32 count, const u8 *line)
+INLINE void bring_events(struct reader *reader, u32 count, const u8 *line)
 {
-    events += count;
-    if (unlikely(events > MOST_EVENTS)) {
+    reader->events += count;
+    if (unlikely(reader->events > MOST_EVENTS)) {
         fail_at_line("too many events at line ", line);
     }
 }
 
 /* Adds events to the newest run, or begins another one, without a branch on which. */
-INLINE void add_events(u32 kind, u32 count)
+INLINE void add_events(struct reader *reader, u32 kind, u32 count)
 {
-    u32 joins = kind == newest;
+    u32 joins = kind == reader->newest;
     __asm__("" : "+r"(joins));
-    u32 before = (runs[last_run] & -joins) | (kind << KIND & (joins - 1));
-    last_run += 1 - joins;
-    runs[last_run] = before + count;
-    newest = kind;
+    u32 before = (runs[reader->run] & -joins) | (kind << KIND & (joins - 1));
+    reader->run += 1 - joins;
+    runs[reader->run] = before + count;
+    reader->newest = kind;
 }
 
 /* Adds an event that is a run of its own. */
-INLINE void add_alone(u32 kind, u32 rest)
+INLINE void add_alone(struct reader *reader, u32 kind, u32 rest)
 {
-    runs[++last_run] = kind << KIND | rest;
-    newest = NO_EVENT;
+    runs[++reader->run] = kind << KIND | rest;
+    reader->newest = NO_EVENT;
 }
 
 /* What the text of an offer wants where it isn't an operation: answers the next line, and null
@@ -98,17 +104,17 @@ APART const u8 *read_offer(const u8 *line)
 }
 
 /* `offer`: the draft is checked where its fault is asked for. */
-INLINE const u8 *read_offer_event(const u8 *line, bool with_fault)
+INLINE const u8 *read_offer_event(struct reader *reader, const u8 *line, bool with_fault)
 {
     const u8 *first = line + 6, *after = read_offer(first);
-    bring_events(1, after - 4);
-    add_alone(OFFER, (u32)(first - text));
-    runs[++last_run] = with_fault ? check(&checker) : NO_FAULT;
+    bring_events(reader, 1, after - 4);
+    add_alone(reader, OFFER, (u32)(first - text));
+    runs[++reader->run] = with_fault ? check(&checker) : NO_FAULT;
     return after;
 }
 
 /* `resetall HH`. */
-static const u8 *read_reset_all(const u8 *line)
+INLINE const u8 *read_reset_all(struct reader *reader, const u8 *line)
 {
     struct cursor cursor = {line + 8, 0};
     take_character(&cursor, ' ');
@@ -117,13 +123,13 @@ static const u8 *read_reset_all(const u8 *line)
     if (cursor.bad) {
         return NULL;
     }
-    bring_events(1, line);
-    add_alone(RESET_ALL, byte);
+    bring_events(reader, 1, line);
+    add_alone(reader, RESET_ALL, byte);
     return cursor.at;
 }
 
 /* A name of this event, with a space and N after it: so many of them. */
-static const u8 *read_repeated(const u8 *line, u32 kind, u32 length)
+INLINE const u8 *read_repeated(struct reader *reader, const u8 *line, u32 kind, u32 length)
 {
     struct cursor cursor = {line + length, 0};
     take_character(&cursor, ' ');
@@ -132,46 +138,47 @@ static const u8 *read_repeated(const u8 *line, u32 kind, u32 length)
     if (cursor.bad || count == 0) {
         return NULL;
     }
-    bring_events(count, line);
-    add_events(kind, count);
+    bring_events(reader, count, line);
+    add_events(reader, kind, count);
     return cursor.at;
 }
 
 /* `resetgen` or `resetcpu`. */
-static const u8 *read_reset(const u8 *line, u32 kind)
+INLINE const u8 *read_reset(struct reader *reader, const u8 *line, u32 kind)
 {
     if (line[8] != '\n') {
         return NULL;
     }
-    bring_events(1, line);
-    add_events(kind, 1);
+    bring_events(reader, 1, line);
+    add_events(reader, kind, 1);
     return line + 9;
 }
 
 /* Reads a line that is no bare name of four, and answers the place after it; null where it is none
  * at all. */
-INLINE const u8 *read_event(const u8 *line, bool with_fault)
+INLINE const u8 *read_event(struct reader *reader, const u8 *line, bool with_fault)
 {
     u64 name = load64(line);
-    switch (name) {
-    case EIGHT('r', 'e', 's', 'e', 't', 'a', 'l', 'l'):
-        return read_reset_all(line);
-    case EIGHT('r', 'e', 's', 'e', 't', 'g', 'e', 'n'):
-        return read_reset(line, RESET_GENERATOR);
-    case EIGHT('r', 'e', 's', 'e', 't', 'c', 'p', 'u'):
-        return read_reset(line, RESET_DRIVER);
+    if (name == EIGHT('r', 'e', 's', 'e', 't', 'a', 'l', 'l')) {
+        return read_reset_all(reader, line);
+    }
+    if (name == EIGHT('r', 'e', 's', 'e', 't', 'g', 'e', 'n')) {
+        return read_reset(reader, line, RESET_GENERATOR);
+    }
+    if (name == EIGHT('r', 'e', 's', 'e', 't', 'c', 'p', 'u')) {
+        return read_reset(reader, line, RESET_DRIVER);
     }
     if ((name & 0xFFFFFFFFFFFF) == EIGHT('o', 'f', 'f', 'e', 'r', '\n', 0, 0)) {
-        return read_offer_event(line, with_fault);
+        return read_offer_event(reader, line, with_fault);
     }
     if ((u32)name == FOUR('t', 'i', 'c', 'k')) {
-        return read_repeated(line, TICK, 4);
+        return read_repeated(reader, line, TICK, 4);
     }
     if ((name & 0xFFFFFFFFFF) == EIGHT('f', 'e', 't', 'c', 'h', 0, 0, 0)) {
-        return read_repeated(line, FETCH, 5);
+        return read_repeated(reader, line, FETCH, 5);
     }
     if ((name & 0xFFFFFFFFFFFF) == EIGHT('s', 't', 'r', 'o', 'b', 'e', 0, 0)) {
-        return read_repeated(line, STROBE, 6);
+        return read_repeated(reader, line, STROBE, 6);
     }
     if (*line == '\n') {
         return line + 1;
@@ -179,7 +186,7 @@ INLINE const u8 *read_event(const u8 *line, bool with_fault)
     if (*line == '#') {
         return next_line(line);
     }
-    return events == 0 ? read_rom_line(&memory, line) : NULL;
+    return reader->events == 0 ? read_rom_line(&memory, line) : NULL;
 }
 
 /* The bare names of which a trace has the most, each with its line end, found by a hash of the
@@ -220,26 +227,27 @@ static void make_names(void)
 static void read_trace(bool with_faults)
 {
     const u8 *line = text;
+    struct reader reader = {0, 0, NO_EVENT};
     make_names();
-    newest = NO_EVENT;
     for (;;) {
         u64 characters = load64(line);
         const struct name *name = name_of(characters);
         if (likely((characters & name->mask) == name->text)) {
-            bring_events(1, line);
-            add_events(name->kind, 1);
+            bring_events(&reader, 1, line);
+            add_events(&reader, name->kind, 1);
             line += name->length;
             continue;
         }
         if (line >= text_end) {
-            return;
+            break;
         }
-        const u8 *next = read_event(line, with_faults);
+        const u8 *next = read_event(&reader, line, with_faults);
         if (next == NULL) {
             fail_at_line("syntax at line ", line);
         }
         line = next;
     }
+    last_run = reader.run;
 }
 
 #endif
