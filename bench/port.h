@@ -1,4 +1,5 @@
-/* What a round of requests through the port to C takes: what bench/port_round.c fills in, and bench/port.c compares. */
+/* What a round of requests through the port to C takes: what bench/port_round.c fills in, and
+ * bench/port.c compares. */
 #ifndef PORT_H
 #define PORT_H
 
@@ -27,8 +28,9 @@ struct port_round {
     uint64_t sum;
 };
 
-/* A round by the proved archive, and one by its plain twin. */
+/* A round by the proved archive, one by its plain twin, and one by the limit. */
 void proved_round(struct port_round *round);
 void plain_round(struct port_round *round);
+void limit_round(struct port_round *round);
 
 #endif

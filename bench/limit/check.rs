@@ -1,9 +1,9 @@
 //! Compares the limit with the program `dvg` over many inputs: standard output, standard error and
 //! status must be the same, byte for byte.
 //!
-//! `check LIMIT PROGRAM CASES FOLDER COUNT SEED`: CASES is the folder of the cases of tests/program,
-//! FOLDER is for its own files, and COUNT says how many random texts of each kind there are. What
-//! passes prints nothing. The last line is 'N passed, M failed'.
+//! `check LIMIT PROGRAM CASES FOLDER COUNT SEED`: CASES is the folder of the cases of
+//! tests/program, FOLDER is for its own files, and COUNT says how many random texts of each kind
+//! there are. What passes prints nothing. The last line is 'N passed, M failed'.
 
 #[path = "../inputs.rs"]
 mod inputs;
