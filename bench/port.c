@@ -1,6 +1,6 @@
 /* Compares the archive of the port to C with its plain twin and with the limit behind the same
- * port, in one process: rounds of each by turns, with the same requests, whose answers must have the
- * same sum. Prints nanoseconds each, and the ratios of the proved one. */
+ * port, in one process: rounds of each by turns, with the same requests, whose answers must have
+ * the same sum. Prints nanoseconds each, and the ratios of the proved one. */
 #include "port.h"
 
 #include <stdio.h>

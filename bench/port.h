@@ -21,7 +21,8 @@ enum port_row {
     PORT_ROWS
 };
 
-/* For each row how long all of it took, how often it was done, and a sum over the answers of all. */
+/* For each row how long all of it took, how often it was done, and a sum over the answers of
+ * all. */
 struct port_round {
     double nanoseconds[PORT_ROWS];
     uint64_t count[PORT_ROWS];

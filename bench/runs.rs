@@ -161,7 +161,8 @@ unsafe extern "C" {
 fn wait_for(process: u32) -> io::Result<(ExitStatus, Usage)> {
     let mut status = 0;
     let mut usage = Usage::default();
-    // SAFETY: both pointers are to values that live through the call, laid out as 64-bit Linux has them.
+    // SAFETY: both pointers are to values that live through the call, laid out as 64-bit Linux has
+    // them.
     let ended = unsafe { wait4(process as i32, &mut status, 0, &mut usage) };
     if ended < 0 {
         return Err(io::Error::last_os_error());

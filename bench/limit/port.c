@@ -255,35 +255,21 @@ INLINE u64 ask_generator(struct device *device, u64 request)
 
 /* --- The port --- */
 
-/* A stroke that is asked for, by parts; 0 where there is none. */
-static u64 tell_stroke(const struct device *device, u64 request)
+/* The stroke that is asked for; nothing but zeros where there is none. */
+INLINE const struct stroke *asked_stroke(const struct device *device, u64 request)
 {
+    static const struct stroke none;
     u64 number = request >> 8;
-    if (number >= device->picture.count) {
-        return 0;
-    }
-    struct stroke stroke = device->picture.list[number];
-    switch (request & 0xFF) {
-    case STROKE_FROM:
-        return stroke.x0 | (u64)stroke.y0 << 32;
-    case STROKE_TO:
-        return stroke.x1 | (u64)stroke_y1(stroke) << 32;
-    default:
-        return stroke_z(stroke);
-    }
+    return likely(number < device->picture.count) ? &device->picture.list[number] : &none;
 }
 
-/* A request of all that need nothing open. */
-APART u64 turn_device(struct device *device, u64 request)
+/* A request that is seldom made, and needs nothing open. */
+APART u64 turn_seldom(struct device *device, u64 request)
 {
     switch (request & 0xFF) {
-    case PUSH:
-        return push(device, request);
     case CLEAR:
         clear_draft(&device->draft);
         return answer(CLEARED, 0, 0);
-    case STAGE:
-        return stage(device, request);
     case UNSTAGE:
         device->staged_count = 0;
         return answer(CLEARED, 0, 0);
@@ -293,21 +279,14 @@ APART u64 turn_device(struct device *device, u64 request)
         return open_driver(device);
     case OPEN_GENERATOR:
         return open_part(device, GENERATOR_ALONE);
-    case SHUT:
-        return shut(device);
-    case STROKES:
-        return device->picture.count;
     default:
-        return tell_stroke(device, request);
+        return shut(device);
     }
 }
 
-u64 limit_turn(struct device *device, u64 request)
+/* A request of what is open. */
+INLINE u64 ask_open(struct device *device, u64 request)
 {
-    u32 asked = request & 0xFF;
-    if (asked >= EVENTS && asked != WANTS && asked <= STROKE_INTENSITY) {
-        return turn_device(device, request);
-    }
     switch (device->open) {
     case WORLD:
         return ask_world(device, request);
@@ -316,7 +295,40 @@ u64 limit_turn(struct device *device, u64 request)
     case GENERATOR_ALONE:
         return ask_generator(device, request);
     default:
-        return answer(asked > STROKE_INTENSITY ? UNKNOWN_REQUEST : CLOSED, 0, 0);
+        return answer((request & 0xFF) > STROKE_INTENSITY ? UNKNOWN_REQUEST : CLOSED, 0, 0);
+    }
+}
+
+u64 limit_turn(struct device *device, u64 request)
+{
+    const struct stroke *stroke;
+    if (likely((request & 0xFF) < EVENTS)) {
+        return ask_open(device, request);
+    }
+    switch (request & 0xFF) {
+    case PUSH:
+        return push(device, request);
+    case STAGE:
+        return stage(device, request);
+    case STROKES:
+        return device->picture.count;
+    case STROKE_FROM:
+        stroke = asked_stroke(device, request);
+        return stroke->x0 | (u64)stroke->y0 << 32;
+    case STROKE_TO:
+        stroke = asked_stroke(device, request);
+        return stroke->x1 | (u64)stroke_y1(*stroke) << 32;
+    case STROKE_INTENSITY:
+        return stroke_z(*asked_stroke(device, request));
+    case CLEAR:
+    case UNSTAGE:
+    case OPEN_WORLD:
+    case OPEN_DRIVER:
+    case OPEN_GENERATOR:
+    case SHUT:
+        return turn_seldom(device, request);
+    default:
+        return ask_open(device, request);
     }
 }
 
