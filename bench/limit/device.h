@@ -56,9 +56,7 @@ INLINE u64 refusal(u32 fault)
 
 static u64 offer_draft(struct device *device)
 {
-    device->checker.draft = &device->draft;
-    device->checker.memory = &device->memory;
-    u32 fault = check(&device->checker);
+    u32 fault = check(&device->checker, &device->draft, &device->memory);
     if (fault != NO_FAULT) {
         return refusal(fault);
     }

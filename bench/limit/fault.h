@@ -94,11 +94,12 @@ static void forget_places(struct checker *checker)
     memset(checker->state, UNKNOWN, sizeof checker->state);
 }
 
-/* Checks a draft. Where it is accepted, fetches[0] is the number of its run's words but for word
- * zero. */
-APART u32 check(struct checker *checker)
+/* Checks a draft over the ROM of a memory. Where it is accepted, fetches[0] is the number of its
+ * run's words but for word zero. */
+APART u32 check(struct checker *checker, const struct draft *draft, const struct memory *memory)
 {
-    const struct draft *draft = checker->draft;
+    checker->draft = draft;
+    checker->memory = memory;
     if (draft->count == 0) {
         return EMPTY;
     }

@@ -54,7 +54,7 @@ static __attribute__((noreturn)) void check_text(bool bound)
         add_operation(&draft, operation);
         line = next;
     }
-    tell_verdict(check(&checker), bound);
+    tell_verdict(check(&checker, &draft, &memory), bound);
 }
 
 static bool same(const char *a, const char *b)

@@ -26,10 +26,9 @@ INLINE void add_signed(i32 value)
     out = put_decimal(out + (value < 0), (u32)(value < 0 ? -value : value));
 }
 
-/* The name of a vector and its numbers. */
-static void add_vector(const char *name, u32 scale, i32 dx, i32 dy, u32 z)
+/* The numbers of a vector. */
+INLINE void add_vector(u32 scale, i32 dx, i32 dy, u32 z)
 {
-    add_text(name);
     out = put_decimal(out, scale);
     add_space();
     add_signed(dx);
@@ -49,12 +48,12 @@ INLINE bool is_minus_zero(u32 word, u32 bits)
 static bool add_two_words(u32 first, u32 second)
 {
     if (first < 0xA000) {
-        add_vector(" VCTR ", first >> 12, signed_number(second, 10), signed_number(first, 10),
-                   second >> 12);
+        ADD(" VCTR ");
+        add_vector(first >> 12, signed_number(second, 10), signed_number(first, 10), second >> 12);
         return ((first | second) & 0x800) == 0 && !is_minus_zero(first, 10)
                && !is_minus_zero(second, 10);
     }
-    add_text(" LABS ");
+    ADD(" LABS ");
     out = put_decimal(out, second & 0xFFF);
     add_space();
     out = put_decimal(out, first & 0xFFF);
@@ -68,21 +67,22 @@ static bool add_one_word(u32 word)
 {
     switch (word >> 12) {
     case 0xB:
-        add_text(" HALT");
+        ADD(" HALT");
         return word == HALT;
     case 0xC:
-        add_text(" JSRL ");
+        ADD(" JSRL ");
         add_hex(word & 0xFFF);
         return true;
     case 0xD:
-        add_text(" RTSL");
+        ADD(" RTSL");
         return word == RETURN;
     case 0xE:
-        add_text(" JMPL ");
+        ADD(" JMPL ");
         add_hex(word & 0xFFF);
         return true;
     default:
-        add_vector(" SVEC ", 2 + 2 * (word >> 3 & 1) + (word >> 11 & 1), signed_number(word, 2),
+        ADD(" SVEC ");
+        add_vector(2 + 2 * (word >> 3 & 1) + (word >> 11 & 1), signed_number(word, 2),
                    signed_number(word >> 8, 2), word >> 4 & 15);
         return !is_minus_zero(word, 2) && !is_minus_zero(word >> 8, 2);
     }
@@ -94,7 +94,7 @@ static void add_instruction(u32 place, u32 first, u32 second)
     add_hex(place);
     bool canonical = first < 0xB000 ? add_two_words(first, second) : add_one_word(first);
     if (!canonical) {
-        add_text(" *");
+        ADD(" *");
     }
 }
 
@@ -131,10 +131,10 @@ static __attribute__((noreturn)) void rom(void)
         fail("rom size", 1);
     }
     if (bytes == LARGE_ROM_BYTES) {
-        add_text("map 4096\n");
+        ADD("map 4096\n");
     }
     for (u32 place = 0; place < count; place += 8) {
-        add_text("rom ");
+        ADD("rom ");
         add_hex(ROM_END - count + place);
         for (u32 i = place; i < place + 8; i++) {
             add_space();

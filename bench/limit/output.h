@@ -36,6 +36,9 @@ static void add_text(const char *text)
     }
 }
 
+/* Adds a text that is written out in the call. */
+#define ADD(text) (memcpy(out, text, sizeof(text) - 1), out += sizeof(text) - 1)
+
 /* A decimal number of any size, digit by digit. */
 RARE void add_number(u64 number)
 {

@@ -8,7 +8,7 @@
 
 static struct memory memory;
 static struct draft draft;
-static struct checker checker = {.draft = &draft, .memory = &memory};
+static struct checker checker;
 static struct driver driver;
 
 /* Keeps the compiler from knowing what stands in memory, so that nothing is done only once. */
@@ -82,7 +82,7 @@ static void check_often(u32 times, bool anew)
         if (anew) {
             forget_places(&checker);
         }
-        if (check(&checker) == NO_FAULT) {
+        if (check(&checker, &draft, &memory) == NO_FAULT) {
             passed++;
             words += draft.words;
             fetches += checker.fetches[0] + 1;
@@ -179,7 +179,7 @@ INLINE void tick_once(void)
         driver.phase = RESTING;
         return;
     default:
-        if (check(&checker) == NO_FAULT) {
+        if (check(&checker, &draft, &memory) == NO_FAULT) {
             take_frame(&driver, &draft);
             frames++;
         }

@@ -25,7 +25,7 @@ static void read_dump(void)
 static void ran_lines(u32 address, u32 first, u32 second, u32 before)
 {
     add_instruction(address, first, second);
-    add_text(" at ");
+    ADD(" at ");
     out = put_point(out, generator.x, generator.y);
     out = put_decimal(out, generator.scale);
     *out++ = '\n';
@@ -58,7 +58,7 @@ INLINE int draw_picture(bool all)
             return 0;
         }
         if (taken != GOES_ON) {
-            add_text("broke ");
+            ADD("broke ");
             add_hex(address);
             add_space();
             *out++ = (u8)('0' + taken);
@@ -66,7 +66,7 @@ INLINE int draw_picture(bool all)
             return 1;
         }
     }
-    add_text("endless\n");
+    ADD("endless\n");
     return 1;
 }
 

@@ -8,7 +8,7 @@
 
 static struct stroke strokes[MOST_EVENTS];
 static struct generator generator = {.list = strokes};
-static struct driver driver = {.base = HALF_0};
+static struct driver driver;
 
 /* Whether a strobe was sent since the last reset of the whole system. */
 static u32 strobe_was_sent;
@@ -225,7 +225,7 @@ INLINE void offer(const u8 *at, u32 fault, bool all)
         return;
     }
     read_offer(at);
-    if (!all && check(&checker) != NO_FAULT) {
+    if (!all && check(&checker, &draft, &memory) != NO_FAULT) {
         return;
     }
     if (all) {
@@ -333,6 +333,7 @@ static __attribute__((noreturn)) void play(bool all)
 {
     read_text();
     clear_rom(&memory, SMALL_ROM);
+    reset_driver(&driver);
     read_trace(all);
     if (all) {
         play_shown();

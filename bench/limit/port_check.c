@@ -81,9 +81,11 @@ static void push(uint32_t kind)
     if (kind > 4) {
         x = 0x800 + below(0x400);
     }
+    if (below(60) == 0) {
+        scale = below(2) ? below(12) : below(256);
+    }
     if (below(200) == 0) {
         x = below(0x10000);
-        scale = below(256);
     }
     ask(DVG_REQUEST_PUSH | (uint64_t)kind << 8 | (uint64_t)scale << 16 | (uint64_t)below(16) << 24
         | (uint64_t)x << 32 | (uint64_t)y << 48);
@@ -123,9 +125,9 @@ static void tell_strokes(void)
 {
     uint64_t strokes = ask(DVG_REQUEST_STROKES);
     for (uint64_t i = 0; i < strokes + 2; i++) {
-        for (uint64_t part = DVG_REQUEST_STROKE_FROM; part <= DVG_REQUEST_STROKE_INTENSITY; part++) {
-            ask(part | i << 8);
-        }
+        ask(DVG_REQUEST_STROKE_FROM | i << 8);
+        ask(DVG_REQUEST_STROKE_TO | i << 8);
+        ask(DVG_REQUEST_STROKE_INTENSITY | i << 8);
     }
 }
 

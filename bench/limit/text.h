@@ -7,6 +7,7 @@
 
 #include <emmintrin.h>
 #include <sys/mman.h>
+#include <sys/stat.h>
 
 /* The most bytes of a text, and how many zeros stand after it at least: whoever looks at a line may
  * load so much more. */
@@ -23,24 +24,33 @@ INLINE bool leaves_slack(size_t count)
     return count % PAGE != 0 && count % PAGE <= PAGE - SLACK;
 }
 
-/* Maps standard input, where it is a file that stands at its beginning, is long enough to gain by
- * it, and ends so that nothing has to be added. */
+/* How many bytes a file has that is worth to be mapped; 0 of another one. */
+static size_t mapped_size(void)
+{
+    struct stat file;
+    if (fstat(0, &file) != 0 || !S_ISREG(file.st_mode) || file.st_size <= 32768
+        || file.st_size > MOST_TEXT || !leaves_slack((size_t)file.st_size)) {
+        return 0;
+    }
+    return (size_t)file.st_size;
+}
+
+/* Maps standard input, where it is such a file, stands at its beginning, and ends so that nothing
+ * has to be added. */
 static bool map_text(void)
 {
-    if (lseek(0, 0, SEEK_CUR) != 0) {
+    size_t count = mapped_size();
+    if (count == 0 || lseek(0, 0, SEEK_CUR) != 0) {
         return false;
     }
-    off_t end = lseek(0, 0, SEEK_END);
-    if (end > 32768 && end <= MOST_TEXT && leaves_slack((size_t)end)) {
-        const u8 *at = mmap(NULL, (size_t)end, PROT_READ, MAP_PRIVATE | MAP_POPULATE, 0, 0);
-        if (at != MAP_FAILED && at[end - 1] == '\n') {
-            text = at;
-            text_end = at + end;
-            return true;
-        }
+    const u8 *at = mmap(NULL, count, PROT_READ, MAP_PRIVATE | MAP_POPULATE, 0, 0);
+    if (at == MAP_FAILED || at[count - 1] != '\n') {
+        return false;
     }
-    lseek(0, 0, SEEK_SET);
-    return false;
+    lseek(0, 0, SEEK_END);
+    text = at;
+    text_end = at + count;
+    return true;
 }
 
 /* Reads standard input up to so many bytes, and answers how many there were. */

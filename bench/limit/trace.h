@@ -26,7 +26,7 @@ struct reader {
 
 static struct draft draft;
 static struct memory memory;
-static struct checker checker = {.draft = &draft, .memory = &memory};
+static struct checker checker;
 
 enum { KIND = 28, REST = (1 << KIND) - 1 };
 
@@ -109,7 +109,7 @@ INLINE const u8 *read_offer_event(struct reader *reader, const u8 *line, bool wi
     const u8 *first = line + 6, *after = read_offer(first);
     bring_events(reader, 1, after - 4);
     add_alone(reader, OFFER, (u32)(first - text));
-    runs[++reader->run] = with_fault ? check(&checker) : NO_FAULT;
+    runs[++reader->run] = with_fault ? check(&checker, &draft, &memory) : NO_FAULT;
     return after;
 }
 
