@@ -59,6 +59,14 @@ impl Programs<'_> {
     }
 }
 
+/// What a row's runs took of each program: their times, the times of as many starts between them,
+/// and their memory.
+struct Measures {
+    timed: Measured,
+    starts: Measured,
+    memory: Measured,
+}
+
 /// One way to run a program.
 type Run = fn(&Contender) -> io::Result<(Answer, Cost)>;
 
@@ -93,28 +101,49 @@ fn run_each(
     Ok(())
 }
 
-/// Measures a row: times for so long, and memory.
-fn measure(
-    row: &Row,
-    contenders: &[Contender],
-    time: Duration,
-) -> io::Result<(Measured, Measured)> {
+/// Measures a row: times for so long, and memory. Where `parts` isn't set, each program is started
+/// once between its runs, too.
+fn measure(row: &Row, programs: &Programs, time: Duration, parts: bool) -> io::Result<Measures> {
+    let contenders = programs.contenders(row);
+    let starting = Row {
+        against: row.against,
+        ..START_UP
+    };
+    let starters: Vec<Contender> = programs
+        .contenders(&starting)
+        .into_iter()
+        .map(Contender::of_nothing)
+        .collect();
     let nothing = || vec![Vec::new(); contenders.len()];
-    let (mut warm, mut timed, mut memory) = (nothing(), nothing(), nothing());
+    let (mut warm, mut timed, mut starts, mut memory) =
+        (nothing(), nothing(), nothing(), nothing());
     contenders[0].write_input(&(row.input)())?;
     for _ in 0..WARM_UP_RUNS {
-        run_each(row, Contender::timed_run, contenders, 0, &mut warm)?;
+        run_each(row, Contender::timed_run, &contenders, 0, &mut warm)?;
     }
     let start = Instant::now();
     while timed[0].len() < LEAST_TIMED_RUNS || start.elapsed() < time {
         // The order changes each time, so that whatever else the machine does meets all alike.
         let first = timed[0].len() % contenders.len();
-        run_each(row, Contender::timed_run, contenders, first, &mut timed)?;
+        run_each(row, Contender::timed_run, &contenders, first, &mut timed)?;
+        if !parts {
+            run_each(
+                &starting,
+                Contender::timed_run,
+                &starters,
+                first,
+                &mut starts,
+            )?;
+        }
     }
     for _ in 0..MEMORY_RUNS {
-        run_each(row, Contender::memory_run, contenders, 0, &mut memory)?;
+        run_each(row, Contender::memory_run, &contenders, 0, &mut memory)?;
     }
-    Ok((timed, memory))
+    Ok(Measures {
+        timed,
+        starts,
+        memory,
+    })
 }
 
 /// The median and the least of some numbers.
@@ -147,20 +176,21 @@ fn print_measure(
     }
 }
 
-/// The least processor time of each program.
-fn least_times(timed: &Measured) -> Vec<f64> {
-    timed
-        .iter()
-        .map(|costs| median_and_least(costs.iter().map(|cost| cost.processor_ms)).1)
-        .collect()
+/// The least processor time of each program; 0 without runs.
+fn least_times(runs: &Measured) -> Vec<f64> {
+    let least = |costs: &Vec<Cost>| {
+        let times = costs.iter().map(|cost| cost.processor_ms);
+        times.min_by(f64::total_cmp).unwrap_or(0.0)
+    };
+    runs.iter().map(least).collect()
 }
 
 /// Prints how many times the limit's processor time the proved program takes, each by the least and
 /// without its start-up, and what is wanted. A limit that is as good as nothing has no such number.
-fn print_beyond(row: &Row, timed: &Measured, start_up: &[f64]) {
-    let beyond: Vec<f64> = least_times(timed)
+fn print_beyond(row: &Row, measures: &Measures) {
+    let beyond: Vec<f64> = least_times(&measures.timed)
         .iter()
-        .zip(start_up)
+        .zip(least_times(&measures.starts))
         .map(|(all, start)| all - start)
         .collect();
     match beyond[..] {
@@ -174,14 +204,17 @@ fn print_beyond(row: &Row, timed: &Measured, start_up: &[f64]) {
 }
 
 /// Prints the three lines of a row.
-fn print_row(row: &Row, timed: &Measured, memory: &Measured, start_up: &[f64]) {
+fn print_row(row: &Row, measures: &Measures) {
+    let timed = &measures.timed;
     print_measure(row.name, "wall ms", 3, timed, |cost| cost.wall_ms);
     println!();
     let runs = format!("  {} runs each", timed[0].len());
     print_measure(&runs, "processor ms", 3, timed, |cost| cost.processor_ms);
-    print_beyond(row, timed, start_up);
+    print_beyond(row, measures);
     println!();
-    print_measure("", "memory KiB", 0, memory, |cost| cost.memory_kib);
+    print_measure("", "memory KiB", 0, &measures.memory, |cost| {
+        cost.memory_kib
+    });
     println!();
 }
 
@@ -196,14 +229,8 @@ fn compare(rows: &[Row], programs: &Programs, parts: bool) -> io::Result<()> {
         "row", "measure", "proved", "plain", "ratio", "least", "limit", "beyond", "wanted"
     );
     let time = TIMED / rows.len() as u32;
-    let start_up = if parts {
-        vec![0.0; 3]
-    } else {
-        least_times(&measure(&START_UP, &programs.contenders(&START_UP), time)?.0)
-    };
     for row in rows {
-        let (timed, memory) = measure(row, &programs.contenders(row), time)?;
-        print_row(row, &timed, &memory, &start_up);
+        print_row(row, &measure(row, programs, time, parts)?);
     }
     Ok(())
 }
