@@ -1,4 +1,5 @@
-/* What a round of requests through the port to C takes: what bench/port_round.c fills in, and bench/port.c compares. */
+/* What a round of requests through the port to C takes: what bench/port_round.c fills in, and
+ * bench/port.c compares. */
 #ifndef PORT_H
 #define PORT_H
 
@@ -20,15 +21,17 @@ enum port_row {
     PORT_ROWS
 };
 
-/* For each row how long all of it took, how often it was done, and a sum over the answers of all. */
+/* For each row how long all of it took, how often it was done, and a sum over the answers of
+ * all. */
 struct port_round {
     double nanoseconds[PORT_ROWS];
     uint64_t count[PORT_ROWS];
     uint64_t sum;
 };
 
-/* A round by the proved archive, and one by its plain twin. */
+/* A round by the proved archive, one by its plain twin, and one by the limit. */
 void proved_round(struct port_round *round);
 void plain_round(struct port_round *round);
+void limit_round(struct port_round *round);
 
 #endif

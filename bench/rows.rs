@@ -1,0 +1,268 @@
+//! The rows of the comparisons.
+
+use crate::inputs::*;
+
+/// One comparison.
+pub struct Row {
+    pub name: &'static str,
+    /// The words that the programs are called with.
+    pub words: &'static [&'static str],
+    /// Makes what they read.
+    pub input: fn() -> Vec<u8>,
+    /// The exit status that they end with.
+    pub status: i32,
+    pub against: Against,
+    /// How many times the limit's processor time is wanted of the proved program at most, each
+    /// without its start-up; none where nothing is.
+    pub wanted: Option<f64>,
+    /// What instructions are counted of; none where they aren't.
+    pub unit: Option<Unit>,
+}
+
+/// What the proved program is compared with.
+#[derive(Clone, Copy)]
+pub enum Against {
+    /// The plain program, and the limit where it has that row, with the same words.
+    Others,
+    /// The plain program alone: the limit has no such row.
+    Plain,
+    /// Itself, with these words.
+    Itself(&'static [&'static str]),
+}
+
+/// What instructions are counted of, and how many of it there are.
+#[derive(Clone, Copy)]
+pub struct Unit {
+    pub name: &'static str,
+    pub count: usize,
+    /// Makes what is read while instructions are counted, where that isn't the row's input.
+    pub input: Option<fn() -> Vec<u8>>,
+}
+
+const fn row(name: &'static str, words: &'static [&'static str], input: fn() -> Vec<u8>) -> Row {
+    Row {
+        name,
+        words,
+        input,
+        status: 0,
+        against: Against::Others,
+        wanted: None,
+        unit: None,
+    }
+}
+
+impl Row {
+    /// This row, with what is wanted of it.
+    const fn wanted(self, most: f64) -> Row {
+        Row {
+            wanted: Some(most),
+            ..self
+        }
+    }
+
+    /// This row, with its unit.
+    const fn each(self, name: &'static str, count: usize) -> Row {
+        Row {
+            unit: Some(Unit {
+                name,
+                count,
+                input: None,
+            }),
+            ..self
+        }
+    }
+
+    /// This row, with its unit and another input that has so many of them.
+    const fn each_of(self, name: &'static str, count: usize, input: fn() -> Vec<u8>) -> Row {
+        Row {
+            unit: Some(Unit {
+                name,
+                count,
+                input: Some(input),
+            }),
+            ..self
+        }
+    }
+
+    /// This row, whose programs end with the status 1.
+    const fn refused(self) -> Row {
+        Row { status: 1, ..self }
+    }
+
+    /// This row, compared with something else.
+    const fn against(self, against: Against) -> Row {
+        Row { against, ..self }
+    }
+}
+
+/// What each program does first: it starts and ends. Of the programs of single parts that isn't
+/// known, and is little.
+pub const START_UP: Row = row("start-up: list, no input", &["list"], Vec::new);
+
+/// What is compared of the program `dvg`.
+pub const DVG_ROWS: &[Row] = &[
+    START_UP,
+    row("list, 8,192 bytes of VCTR", &["list"], || vectors(2048)).each("line", 2048),
+    row("list, 8,192 bytes of mixed instructions", &["list"], || {
+        instructions(4096)
+    })
+    .each("word", 4096),
+    row("rom, 2,048 random bytes", &["rom"], || random_bytes(2048)).each("word", 1024),
+    row("check, 510 operations, 511 words", &["check"], || {
+        operations(510)
+    })
+    .wanted(2.0)
+    .each("operation", 510),
+    row("check, 511 operations: too long", &["check"], || {
+        operations(511)
+    })
+    .refused(),
+    row(
+        "check, 1,024 ROM words at 5 depths",
+        &["check"],
+        nested_over_rom,
+    )
+    .wanted(2.0)
+    .each("ROM word", 1024),
+    row(
+        "check --bound, 510 operations",
+        &["check", "--bound"],
+        || operations(510),
+    ),
+    row("torn, a log of 100 MB", &["torn"], || game_log(100_000_000))
+        .wanted(1.5)
+        .each_of("line", 241_000, || game_log(3_250_000)),
+    row("torn, 100 MB of comments", &["torn"], || {
+        comments(100_000_000)
+    })
+    .each_of("line", 50_000, || comments(3_200_000)),
+];
+
+/// What is compared of the command `picture`.
+pub const PICTURE_ROWS: &[Row] = &[
+    row("picture, 254 strokes", &["picture"], image_of_a_picture).each("stroke", 254),
+    row(
+        "picture --all, 254 strokes",
+        &["picture", "--all"],
+        image_of_a_picture,
+    )
+    .each("stroke", 254),
+    row("picture, endless", &["picture"], image_without_end)
+        .refused()
+        .each("word", 65_536),
+    row(
+        "picture --all, endless",
+        &["picture", "--all"],
+        image_without_end,
+    )
+    .refused()
+    .each("word", 65_536),
+];
+
+/// What is compared of the command `play`.
+pub const PLAY_ROWS: &[Row] = &[
+    row("play, 65,536 mixed events", &["play"], mixed_events)
+        .wanted(2.0)
+        .each("event", 65_536),
+    row(
+        "play --all, 65,536 mixed events",
+        &["play", "--all"],
+        mixed_events,
+    )
+    .wanted(2.0)
+    .each("event", 65_536),
+    row(
+        "play --banked, 65,536 mixed events",
+        &["play", "--banked"],
+        mixed_events,
+    ),
+    row(
+        "proved play --banked / proved play",
+        &["play", "--banked"],
+        mixed_events,
+    )
+    .against(Against::Itself(&["play"])),
+    row("play, 65,536 ticks", &["play"], ticks).each("event", 65_536),
+    row("play --all, 65,536 ticks", &["play", "--all"], ticks)
+        .wanted(3.0)
+        .each("event", 65_536),
+    row("play, 65,536 resets", &["play"], resets)
+        .wanted(2.5)
+        .each("event", 65_536),
+    row("play, 62 pictures of 254 strokes", &["play"], pictures)
+        .wanted(2.0)
+        .each("event", 64_579),
+    row(
+        "play --all, 62 pictures of 254 strokes",
+        &["play", "--all"],
+        pictures,
+    )
+    .wanted(2.0)
+    .each("event", 64_579),
+    row(
+        "play, 1 MiB of offers, 510 operations each",
+        &["play"],
+        || offers(&operations(510)),
+    )
+    .wanted(2.5)
+    .each("operation", OFFERED_OPERATIONS),
+    row(
+        "play --all, 1 MiB of offers, 510 operations each",
+        &["play", "--all"],
+        || offers(&operations(510)),
+    )
+    .wanted(2.5)
+    .each("operation", OFFERED_OPERATIONS),
+    row(
+        "play, 1 MiB of offers, 2 operations each",
+        &["play"],
+        || offers(SMALLEST),
+    )
+    .wanted(2.5)
+    .each("offer", SMALLEST_OFFERS),
+    row(
+        "play --all, 1 MiB of offers, 2 operations each",
+        &["play", "--all"],
+        || offers(SMALLEST),
+    )
+    .wanted(2.5)
+    .each("offer", SMALLEST_OFFERS),
+];
+
+/// How many operations there are in 1 MiB of offers of 510 each.
+const OFFERED_OPERATIONS: usize = 175 * 510;
+
+/// How many offers of the smallest draft have room in 1 MiB.
+const SMALLEST_OFFERS: usize = 1_048_576 / (SMALLEST.len() + 10);
+
+/// What is compared of single parts, each of which runs many times in one process and reads
+/// nothing.
+pub const PART_ROWS: &[Row] = &[
+    row("generator, 2,000,000 bytes", &["generator"], Vec::new)
+        .wanted(1.5)
+        .each("byte", 2_000_000),
+    row(
+        "200 checks, 1,024 ROM words at 5 depths",
+        &["check"],
+        Vec::new,
+    )
+    .each("check", 200),
+    row(
+        "200 checks, 2,048 ROM words at 5 depths",
+        &["check-large"],
+        Vec::new,
+    )
+    .each("check", 200),
+    row(
+        "200 checks, 512 ROM words at 5 depths",
+        &["check-half"],
+        Vec::new,
+    )
+    .each("check", 200),
+    row("200,000 checks, 5 operations", &["check-short"], Vec::new).each("check", 200_000),
+    row("driver, 1,000,000 ticks", &["driver"], Vec::new)
+        .wanted(1.5)
+        .each("tick", 1_000_000),
+    row("100 runs of 65,536 mixed events", &["world"], Vec::new).against(Against::Plain),
+    row("400 times first_torn, 65,536 entries", &["judge"], Vec::new).against(Against::Plain),
+];
