@@ -1,17 +1,20 @@
-"""What tools/believe and tools/clauses read alike: the crates that have contracts, and the items of their Rust text."""
+"""What programs of tools/ share: which crates there are, and the items of their Rust text."""
 import re
+import sys
 from pathlib import Path
 
+# The crates that have contracts.
 CRATES = """
-    dvg_code dvg_mem dvg_gen dvg_frame dvg_sketch dvg_driver dvg_log dvg_theorem dvg_world dvg_progress
+    dvg_code dvg_mem dvg_gen dvg_frame dvg_sketch dvg_driver dvg_log dvg_theorem dvg_world
+    dvg_progress
     dvg_device dvg_c dvg_text dvg_lines dvg_io dvg_dump dvg_picture dvg_logs dvg_words dvg_tool
 """.split()
 ROOT = Path(__file__).resolve().parent.parent
-CLAUSE = re.compile(r"\b(?:requires|ensures)(?:\*|(?: \w+)?)$|^ghost (?!use)")
+CLAUSE = re.compile(r"\b(?:requires|ensures)(?:\*|(?: \w+)?)$|^ghost (?!use)|\n\s*ghost \w+:$")
 
 
 def items(text):
-    """The items of Rust text: each is a list of heads with their blocks, where a clause has a block of its own."""
+    """The items of Rust text: each is a list of heads with their blocks, one a clause."""
     item, start, opened, depth = [], 0, 0, 0
     for at, sign in enumerate(text):
         if sign in "([{":
@@ -20,7 +23,8 @@ def items(text):
         elif sign in ")]}":
             depth -= 1
         if depth == 0 and sign in ";}":
-            item.append((text[start : opened if sign == "}" else at].strip(), text[opened + 1 : at]))
+            end = opened if sign == "}" else at
+            item.append((text[start:end].strip(), text[opened + 1 : at]))
             start = at + 1
             if sign == ";" or not re.search(CLAUSE.pattern + "|^ghost", item[-1][0]):
                 yield item
@@ -28,10 +32,30 @@ def items(text):
 
 
 def exports_of(crate):
-    """The files of a crate's code, each with the names that the crate exports of it, or None where those are all."""
+    """The files of a crate's code, each with the names that the crate exports, or None for all."""
     sources = ROOT / "crates" / crate / "src"
     text = (sources / "lib.rt").read_text()
     exports = set(re.findall(r"\w+", " ".join(re.findall(r"^pub use \w+::([^;]*);", text, re.M))))
     modules = re.findall(r"^(pub )?mod (\w+);", re.sub(r"#\[cfg\(test\)\]\nmod.*", "", text), re.M)
     files = [("lib", None), *((name, None if public else exports) for public, name in modules)]
     return [(sources / f"{name}.rt", exported) for name, exported in files]
+
+
+def all_crates():
+    """The crates of this repository, each after those that it uses."""
+    lines = (ROOT / "crates.txt").read_text().splitlines()
+    return [line.split(":")[0].split()[0] for line in lines if line.strip()]
+
+
+def crates_asked(program, help_text, crates):
+    """Those of these crates that the command line names, or all. It may ask for help instead."""
+    asked = sys.argv[1:]
+    if asked in (["--help"], ["-h"]):
+        print(help_text.strip())
+        sys.exit()
+    for name in asked:
+        if name not in crates:
+            hint = f"tools/{program} --help tells what there is"
+            print(f"{program}: there is no crate {name} here; {hint}", file=sys.stderr)
+            sys.exit(64)
+    return [crate for crate in crates if crate in asked or not asked]
