@@ -1,0 +1,15 @@
+pub mod Running
+pub mod Memory
+pub mod ShortTicks
+pub mod StoredByte
+pub mod FedByte
+pub mod Moving
+pub mod Told
+pub mod Begun
+pub mod Acting
+pub mod TableTick
+pub mod Ticking
+pub mod OfferRun
+pub mod Offering
+pub mod Growing
+pub mod Sessions

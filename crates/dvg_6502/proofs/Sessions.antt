@@ -1,0 +1,576 @@
+-- What many calls make.
+use Rattle.std.proofs.Common.{◌≡◌, ◌≢◌, ℕ, inl, inr, ◌+◌, ◌-◌, ◌*◌, ◌%◌, ◌<◌, ◌≤◌, Bool, true, false, not, List, [], ◌∷◌, ◌++◌, length, refl, sym, ap, ◌∙◌, subst, arith, Some, eqb-true, eq-eqb}
+use Rattle.std.proofs.lemmas.Bool.{eqb-false, ne_eqb}
+use Rattle.std.specs.Prelude.{nat_eq, ◌⊎◌, ◌&&◌, option_and_then, if◌then◌else◌}
+use Rattle.dvg_mem.specs.declared.half.Half.{Half}
+use Rattle.dvg_mem.specs.declared.half.Half.TheVariants.{H0}
+use Rattle.dvg_mem.specs.Areas.{other, half_of_high}
+use Rattle.dvg_frame.specs.declared.op.OpKind.{OpKind}
+use Rattle.dvg_frame.specs.Bytes.{addressed}
+use Rattle.dvg_driver.specs.declared.action.Action.{Action}
+use Rattle.dvg_driver.specs.declared.action.Action.TheVariants.{Peek, Wrote, Read, Sent, Idle}
+use Rattle.dvg_driver.specs.Script.{Item, Offered, Asked, Did, IsWhole, has_flip, word_zero, frame_writes}
+use Rattle.dvg_driver.specs.Place.{Place, Start, Booting, Resting, Writing, Waiting, Sending, place_of_life, next_place}
+use Rattle.dvg_driver.specs.Stands.{Stage, StandsAfter, KnowsHalf, byte1_of, peeked_after}
+use Rattle.dvg_driver.proofs.Places.{place_before, whole_rests, some_same}
+use Rattle.dvg_driver.proofs.Shapes.{place_life}
+use Rattle.dvg_6502.specs.Processor.{Cpu, Access, Reads, Writes, run, at_return}
+use Rattle.dvg_6502.specs.Board.{IsLoaded, seen, is_own, is_ram, is_device, source_in, goal_in, tells_halted}
+use Rattle.dvg_6502.specs.Feed.{fed}
+use Rattle.dvg_6502.specs.Holds.{Holds, HoldsPlace, IsFeeding, publish_byte}
+use Rattle.dvg_6502.specs.Tables.{HasTable, table_of}
+use Rattle.dvg_6502.specs.Routines.{Enters, Shows, Ticks, Answers, IsBusy, acted}
+use Rattle.dvg_6502.specs.Calls
+use Rattle.dvg_6502.specs.Calls.{Routine, Call, after, has_returned, is_taken, bounds, IsUntouched, IsSession, AreShown, Adds, IsLifeOf, CallsLive, OneLife, RefusesBusy, RefusesRedraw}
+use Rattle.dvg_6502.proofs.Growing.{GoesOn, within, same_end}
+use Rattle.dvg_6502.proofs.Ticking.{tick_refines}
+use Rattle.dvg_6502.proofs.Offering.{reset_refines, offer_is_taken, offer_is_refused, redraw_is_taken, redraw_is_refused}
+
+-- what stands in other memories: where the driver's bytes are the same, and a table while it is written
+module _ (mem now : ℕ → ℕ) (begin stop : ℕ) (own : (b : ℕ) → is_own b ≡ true → now b ≡ mem b)
+    (table : mem 0x10 ≡ 0x80 → (b : ℕ) → begin ≤ b → b < stop → now b ≡ mem b) where
+  source_same : source_in now ≡ source_in mem
+  source_same = let a = own 0x13 refl in let b = own 0x19 refl in let c = own 0x1A refl in omega arith
+
+  goal_same : goal_in now ≡ goal_in mem
+  goal_same = let a = own 0x13 refl in let b = own 0x14 refl in let c = own 0x15 refl in omega arith
+
+  feeds_on : (half : Half) (flipped : Bool) (writes : List (ℕ × ℕ)) → IsFeeding mem begin stop half flipped writes → IsFeeding now begin stop half flipped writes
+  feeds_on half flipped writes f =
+      let place = own 0x13 refl in let pages = own 0x16 refl in let end = own 0x17 refl in
+      record {
+        phase = own 0x10 refl ∙ f.phase;
+        rest = f.rest;
+        odd = f.odd;
+        second = f.second;
+        parity = ap (λ p. nat_eq (p % 2) 1) place ∙ f.parity;
+        mark = own 0x18 refl ∙ f.mark;
+        some = f.some;
+        left = omega (arith, place, pages, end, f.left);
+        reads = λ k h. ap now (moved k) ∙ table f.phase (source_in mem + k) (omega (arith, f.after)) (omega (arith, h, f.ends)) ∙ f.reads k h;
+        far = λ k h. subst (λ q. (0x200 ≤ q) × (is_device q ≡ false)) (sym (moved k)) (f.far k h);
+        after = omega (arith, source_same, f.after);
+        ends = omega (arith, source_same, f.ends);
+        top = f.top;
+        low = omega (arith, goal_same, f.low);
+        high = omega (arith, goal_same, f.high);
+        are = f.are ∙ ap (λ p. addressed (p - 0x4000) (fed (mem 0x11) f.odd f.second f.rest) ++ word_zero (other half) (not flipped)) (sym goal_same)
+            ∙ ap (λ b. addressed (goal_in now - 0x4000) (fed b f.odd f.second f.rest) ++ word_zero (other half) (not flipped)) (sym (own 0x11 refl));
+      }
+    where
+      moved : (k : ℕ) → source_in now + k ≡ source_in mem + k
+      moved k = omega (arith, source_same)
+
+  place_on : (place : Place) (half : Half) (flipped : Bool) → HoldsPlace mem begin stop place half flipped → HoldsPlace now begin stop place half flipped
+  place_on Start half flipped h = (own 0x10 refl ∙ h.0, h.1)
+  place_on Booting half flipped h = (own 0x10 refl ∙ h.0, own 0x11 refl ∙ h.1, h.2)
+  place_on (Resting first) half flipped h = (own 0x10 refl ∙ h.0, own 0x11 refl ∙ h.1, h.2)
+  place_on (Writing writes) half flipped h = (own 0x11 refl ∙ h.0, by h.1)
+    where
+      by : IsFeeding mem begin stop half flipped writes ⊎ ((mem 0x10 ≡ 3) × (writes ≡ word_zero (other half) true)) ⊎ ((mem 0x10 ≡ 4) × (writes ≡ word_zero (other half) false))
+          → IsFeeding now begin stop half flipped writes ⊎ ((now 0x10 ≡ 3) × (writes ≡ word_zero (other half) true)) ⊎ ((now 0x10 ≡ 4) × (writes ≡ word_zero (other half) false))
+      by (inl f) = inl (feeds_on half flipped writes f)
+      by (inr (inl is)) = inr (inl (own 0x10 refl ∙ is.0, is.1))
+      by (inr (inr is)) = inr (inr (own 0x10 refl ∙ is.0, is.1))
+  place_on (Waiting first) half flipped h = (own 0x10 refl ∙ h.0, own 0x11 refl ∙ h.1, h.2)
+  place_on (Sending first) half flipped h = (own 0x10 refl ∙ h.0, own 0x11 refl ∙ h.1, h.2)
+
+  pub holds_on : (stage : Stage) → Holds mem begin stop stage → Holds now begin stop stage
+  holds_on stage h = record { flipped = own 0x12 refl ∙ h.flipped; place = place_on stage.place stage.half stage.flipped h.place }
+
+-- a driver of this memory stands after a life; byte 001 is what the life tells
+pub record Stood (mem : ℕ → ℕ) (begin stop : ℕ) (life : List Item) : Type 0 where
+  pub stage : Stage
+  pub peeked : ℕ
+  pub stands : StandsAfter stage peeked life
+  pub holds : Holds mem begin stop stage
+  pub byte1 : mem 0x4001 ≡ byte1_of peeked life
+  pub loaded : IsLoaded mem
+
+pub stood_on : (mem now : ℕ → ℕ) (begin stop : ℕ) (life : List Item) → Stood mem begin stop life → IsLoaded now
+    → ((b : ℕ) → is_own b ≡ true → now b ≡ mem b) → ((b : ℕ) → is_ram b ≡ true → now b ≡ mem b)
+    → (mem 0x10 ≡ 0x80 → (b : ℕ) → begin ≤ b → b < stop → now b ≡ mem b) → Stood now begin stop life
+stood_on mem now begin stop life stood load own ram table = record {
+  stage = stood.stage;
+  peeked = stood.peeked;
+  stands = stood.stands;
+  holds = holds_on mem now begin stop own table stood.stage stood.holds;
+  byte1 = ram 0x4001 refl ∙ stood.byte1;
+  loaded = load;
+}
+
+-- the place before newer items
+pub place_of_rest : (more life : List Item) (place : Place) → place_of_life (more ++ life) ≡ Some place → (before : Place) × (place_of_life life ≡ Some before)
+place_of_rest [] life place is = (place, is)
+place_of_rest (item ∷ more) life place is = let one = place_before item (more ++ life) place is in place_of_rest more life one.0 one.1
+
+-- the items of older accesses
+pub shown_rest : (items : List Item) (pre log : List Access) → AreShown items (pre ++ log) → (more : List Item) × (rest : List Item) × (items ≡ more ++ rest) × AreShown rest log
+shown_rest items [] log shown = ([], items, refl, shown)
+shown_rest [] (access ∷ pre) log shown = absurd shown
+shown_rest (Offered half F ∷ items) (access ∷ pre) log shown = absurd shown
+shown_rest (Asked ∷ items) (access ∷ pre) log shown = absurd shown
+shown_rest (Did action ∷ items) (access ∷ pre) log shown =
+    let on = shown_rest items pre log shown.1 in (Did action ∷ on.0, on.1, ap (λ l. Did action ∷ l) on.2, on.3)
+
+-- an action's access, as items
+abbrev items_of : Action → List Item
+items_of Idle = []
+items_of Peek = Did Peek ∷ []
+items_of (Wrote a byte) = Did (Wrote a byte) ∷ []
+items_of (Read halted) = Did (Read halted) ∷ []
+items_of Sent = Did Sent ∷ []
+
+shown_items : (action : Action) (accesses : List Access) → Shows action accesses → AreShown (items_of action) accesses
+shown_items Idle accesses is = subst (λ l. AreShown [] l) (sym is) tt
+shown_items Peek accesses is = subst (λ l. AreShown (Did Peek ∷ []) l) (sym is.1) ((is.0, refl), tt)
+shown_items (Wrote a byte) accesses is = subst (λ l. AreShown (Did (Wrote a byte) ∷ []) l) (sym is) (refl, tt)
+shown_items (Read halted) accesses is = subst (λ l. AreShown (Did (Read halted) ∷ []) l) (sym is.1) ((is.0, refl, is.2), tt)
+shown_items Sent accesses is = subst (λ l. AreShown (Did Sent ∷ []) l) (sym is.1) ((is.0, refl), tt)
+
+-- an idle tick leaves a life as it was
+rests_as : (before place : Place) → next_place before (Did Idle) ≡ Some place → before ≡ place
+rests_as Start place is = absurd (cc)
+rests_as Booting place is = absurd (cc)
+rests_as (Resting first) place is = some_same is
+rests_as (Writing writes) place is = absurd (cc)
+rests_as (Waiting first) place is = absurd (cc)
+rests_as (Sending first) place is = absurd (cc)
+
+without_idle : (new : Stage) (peeked : ℕ) (life : List Item) → StandsAfter new peeked (Did Idle ∷ life) → StandsAfter new peeked life
+without_idle new peeked life stands =
+    let one = place_before (Did Idle) life new.place stands.place in
+    record { place = one.1 ∙ ap Some (rests_as one.0 new.place one.2); half = stands.half; flipped = stands.flipped }
+
+stands_items : (action : Action) (new : Stage) (peeked : ℕ) (life : List Item) → StandsAfter new peeked (Did action ∷ life) → StandsAfter new peeked (items_of action ++ life)
+stands_items Idle new peeked life stands = without_idle new peeked life stands
+stands_items Peek new peeked life stands = stands
+stands_items (Wrote a byte) new peeked life stands = stands
+stands_items (Read halted) new peeked life stands = stands
+stands_items Sent new peeked life stands = stands
+
+-- byte 001 after an action
+same_place : (a : ℕ) → nat_eq 0x4001 (0x4000 + a) ≡ nat_eq a 1
+same_place a = by (nat_eq a 1) refl
+  where
+    by : (t : Bool) → nat_eq a 1 ≡ t → nat_eq 0x4001 (0x4000 + a) ≡ t
+    by true is = let e : a ≡ 1 = eqb-true a 1 is in let f : 0x4001 ≡ 0x4000 + a = omega arith in eq-eqb 0x4001 (0x4000 + a) f
+    by false is = let n : a ≢ 1 = eqb-false a 1 is in ne_eqb 0x4001 (0x4000 + a) (λ e. n (omega arith))
+
+byte1_after : (action : Action) (mem : ℕ → ℕ) (peeked : ℕ) (life : List Item) → mem 0x4001 ≡ byte1_of peeked life
+    → acted action mem 0x4001 ≡ byte1_of (peeked_after action (mem 0x4001) peeked) (items_of action ++ life)
+byte1_after Idle mem peeked life is = is
+byte1_after Peek mem peeked life is = refl
+byte1_after (Wrote a byte) mem peeked life is =
+    ap (λ (t : Bool). if t then byte else mem 0x4001) (same_place a) ∙ ap (λ m. if nat_eq a 1 then byte else m) is
+byte1_after (Read halted) mem peeked life is = is
+byte1_after Sent mem peeked life is = is
+
+-- what stands after a tick
+stood_tick : (cpu : Cpu) (begin stop peeked : ℕ) (life : List Item) → cpu.mem 0x4001 ≡ byte1_of peeked life → (did : Ticks cpu begin stop peeked life)
+    → Stood (run cpu.s did.steps cpu).mem begin stop (items_of did.action ++ life)
+stood_tick cpu begin stop peeked life byte1 did = record {
+  stage = did.new;
+  peeked = peeked_after did.action (cpu.mem 0x4001) peeked;
+  stands = stands_items did.action did.new (peeked_after did.action (cpu.mem 0x4001) peeked) life did.stands;
+  holds = did.holds;
+  byte1 = did.kept 0x4001 refl (λ same. absurd (omega arith)) ∙ byte1_after did.action cpu.mem peeked life byte1;
+  loaded = did.loaded;
+}
+
+-- what calls make: a life with a place, and where the newest one has returned, a driver that stands after it
+abbrev Outcome : List Call → Type 0
+Outcome [] = ⊥
+Outcome (call ∷ calls) = (life : List Item) × IsLifeOf (call ∷ calls) life × ((place : Place) × (place_of_life life ≡ Some place))
+    × (has_returned call ≡ true → Stood (after call).mem (bounds (call ∷ calls)).0 (bounds (call ∷ calls)).1 life)
+
+-- what is quiet to its end is quiet before
+none_before : (pre log : List Access) → [] ≡ pre ++ log → log ≡ []
+none_before [] log is = sym is
+none_before (access ∷ pre) log is = absurd (cc)
+
+quiet_before : (s k n : ℕ) (cpu : Cpu) → at_return s (run s n cpu) ≡ true → seen (run s n cpu).log ≡ [] → seen (run s k cpu).log ≡ []
+quiet_before s k n cpu is quiet = by (within s k n cpu is)
+  where
+    by : (run s k cpu ≡ run s n cpu) ⊎ GoesOn (seen (run s n cpu).log) (seen (run s k cpu).log) → seen (run s k cpu).log ≡ []
+    by (inl same) = ap (λ (c : Cpu). seen c.log) same ∙ quiet
+    by (inr on) = none_before on.0 (seen (run s k cpu).log) (sym quiet ∙ on.1)
+
+append_assoc : (a b c : List Item) → (a ++ b) ++ c ≡ a ++ (b ++ c)
+append_assoc [] b c = refl
+append_assoc (x ∷ a) b c = ap (λ l. x ∷ l) (append_assoc a b c)
+
+-- a call, over what stood before it
+module _ (from : Cpu) (steps : ℕ) (calls : List Call) (life : List Item) (is_life : IsLifeOf calls life) where
+  abbrev call_of : Routine → Call
+  call_of routine = record { routine = routine; from = from; steps = steps }
+
+  abbrev end : Cpu
+  end = run from.s steps from
+
+  -- where the call has returned, it is at its end
+  at_end : (n : ℕ) → at_return from.s end ≡ true → at_return from.s (run from.s n from) ≡ true → end ≡ run from.s n from
+  at_end n here there = same_end from.s steps n from here there
+
+  tick_outcome : Enters from 0x686A → Stood from.mem (bounds calls).0 (bounds calls).1 life → Outcome (call_of Calls.Tick ∷ calls)
+  tick_outcome enters stood = by (at_return from.s end) refl
+    where
+      did : Ticks from (bounds calls).0 (bounds calls).1 stood.peeked life
+      did = tick_refines from (bounds calls).0 (bounds calls).1 stood.stage stood.peeked life enters stood.holds stood.stands
+
+      shown : AreShown (items_of did.action) (seen (run from.s did.steps from).log)
+      shown = shown_items did.action (seen (run from.s did.steps from).log) did.shows
+
+      new : Stood (run from.s did.steps from).mem (bounds calls).0 (bounds calls).1 (items_of did.action ++ life)
+      new = stood_tick from (bounds calls).0 (bounds calls).1 stood.peeked life stood.byte1 did
+
+      -- of items that are shown so far
+      so_far : (items : List Item) → AreShown items (seen end.log) → ((place : Place) × (place_of_life (items ++ life) ≡ Some place))
+          → (at_return from.s end ≡ true → Stood end.mem (bounds calls).0 (bounds calls).1 (items ++ life)) → Outcome (call_of Calls.Tick ∷ calls)
+      so_far items shown placed stands = (items ++ life, (items, life, refl, shown, is_life), placed, stands)
+
+      by : (t : Bool) → at_return from.s end ≡ t → Outcome (call_of Calls.Tick ∷ calls)
+      by true here =
+          let same = at_end did.steps here did.returns in
+          so_far (items_of did.action) (subst (λ (c : Cpu). AreShown (items_of did.action) (seen c.log)) (sym same) shown) (new.stage.place, new.stands.place)
+          (λ again. subst (λ (c : Cpu). Stood c.mem (bounds calls).0 (bounds calls).1 (items_of did.action ++ life)) (sym same) new)
+      by false unfinished = part (within from.s steps did.steps from did.returns)
+        where
+          part : (end ≡ run from.s did.steps from) ⊎ GoesOn (seen (run from.s did.steps from).log) (seen end.log) → Outcome (call_of Calls.Tick ∷ calls)
+          part (inl same) = absurd (let e = ap (at_return from.s) same ∙ did.returns in cc)
+          part (inr on) =
+              let rest = shown_rest (items_of did.action) on.0 (seen end.log) (subst (λ l. AreShown (items_of did.action) l) on.1 shown) in
+              so_far rest.1 rest.3
+              (place_of_rest rest.0 (rest.1 ++ life) new.stage.place (sym (ap place_of_life (ap (λ l. l ++ life) rest.2 ∙ append_assoc rest.0 rest.1 life)) ∙ new.stands.place))
+              (λ here. absurd (cc))
+
+  -- what is at the end of an answer
+  module _ (c : Bool) (begin stop : ℕ) (new : Stage) (did : Answers from c begin stop new) where
+    quiet : seen end.log ≡ []
+    quiet = quiet_before from.s steps did.steps from did.returns did.shows
+
+    carry : at_return from.s end ≡ true → end.c ≡ c
+    carry here = ap (λ (k : Cpu). k.c) (at_end did.steps here did.returns) ∙ did.carry
+
+    stood_answer : (peeked : ℕ) (after : List Item) → at_return from.s end ≡ true → StandsAfter new peeked after → from.mem 0x4001 ≡ byte1_of peeked after
+        → Stood end.mem begin stop after
+    stood_answer peeked after here stands byte1 =
+        subst (λ (k : Cpu). Stood k.mem begin stop after) (sym (at_end did.steps here did.returns))
+        (record { stage = new; peeked = peeked; stands = stands; holds = did.holds; byte1 = did.kept 0x4001 refl ∙ byte1; loaded = did.loaded })
+
+  taken_if : (t u : Bool) → at_return from.s end ≡ t → end.c ≡ u → (at_return from.s end && not end.c) ≡ (t && not u)
+  taken_if t u here carry = ap (λ (b : Bool). b && not end.c) here ∙ ap (λ (b : Bool). t && not b) carry
+
+  untaken : at_return from.s end ≡ false → (at_return from.s end && not end.c) ≡ false
+  untaken here = ap (λ (b : Bool). b && not end.c) here
+
+  offer_outcome : (F : List OpKind) → Enters from 0x68FE → HasTable from.mem (from.a + 256 * from.x) F → Stood from.mem (bounds calls).0 (bounds calls).1 life
+      → Outcome (call_of (Calls.Offer F) ∷ calls)
+  offer_outcome F enters table stood = by stood.stage.place refl (at_return from.s end) refl
+    where
+      t : ℕ
+      t = from.a + 256 * from.x + 2
+
+      half : Half
+      half = other (half_of_high (from.mem 0x4001))
+
+      -- what is added, by whether it is taken
+      Made : Bool → Type 0
+      Made taken = (life' : List Item) × ((new : List Item) × (old : List Item) × (life' ≡ new ++ old)
+          × ((seen end.log ≡ []) × (new ≡ (if taken then Offered half F ∷ [] else []))) × IsLifeOf calls old)
+          × ((place : Place) × (place_of_life life' ≡ Some place))
+          × (at_return from.s end ≡ true → Stood end.mem (if taken then (t, t + length (table_of F)) else bounds calls).0 (if taken then (t, t + length (table_of F)) else bounds calls).1 life')
+
+      as_made : (taken : Bool) → (at_return from.s end && not end.c) ≡ taken → Made taken → Outcome (call_of (Calls.Offer F) ∷ calls)
+      as_made taken is made = subst Made (sym is) made
+
+      busy : IsBusy stood.stage.place → (t : Bool) → at_return from.s end ≡ t → Outcome (call_of (Calls.Offer F) ∷ calls)
+      busy is_busy = ended
+        where
+          did : Answers from true (bounds calls).0 (bounds calls).1 stood.stage
+          did = offer_is_refused from (bounds calls).0 (bounds calls).1 stood.stage enters stood.holds is_busy
+
+          ended : (t : Bool) → at_return from.s end ≡ t → Outcome (call_of (Calls.Offer F) ∷ calls)
+          ended true here = as_made false (taken_if true true here (carry true _ _ _ did here)) (
+            life,
+            ([], life, refl, (quiet true _ _ _ did, refl), is_life),
+            (stood.stage.place, stood.stands.place),
+            (λ again. stood_answer true _ _ stood.stage did stood.peeked life here stood.stands stood.byte1),
+          )
+          ended false here = as_made false (untaken here)
+              (life, ([], life, refl, (quiet true _ _ _ did, refl), is_life), (stood.stage.place, stood.stands.place), (λ again. absurd (cc)))
+
+      rests : (first : Bool) → stood.stage.place ≡ Resting first → (u : Bool) → at_return from.s end ≡ u → Outcome (call_of (Calls.Offer F) ∷ calls)
+      rests first is = ended
+        where
+          was : Half
+          was = stood.stage.half
+
+          set : Bool
+          set = stood.stage.flipped
+
+          new : Stage
+          new = record { place = Writing (frame_writes (other was) F (not set)); half = was; flipped = set }
+
+          holds : Holds from.mem (bounds calls).0 (bounds calls).1 (record { place = Resting first; half = was; flipped = set })
+          holds = record { flipped = stood.holds.flipped; place = subst (λ place. HoldsPlace from.mem (bounds calls).0 (bounds calls).1 place was set) is stood.holds.place }
+
+          did : Answers from false t (t + length (table_of F)) new
+          did = offer_is_taken from (bounds calls).0 (bounds calls).1 was set first F enters holds table
+
+          half_is : was ≡ half_of_high (from.mem 0x4001)
+          half_is = (subst (λ place. KnowsHalf place was (byte1_of stood.peeked life)) is stood.stands.half) ∙ ap half_of_high (sym stood.byte1)
+
+          stands : StandsAfter new stood.peeked (Offered half F ∷ life)
+          stands = record {
+            place = ap (option_and_then (λ place. next_place place (Offered half F))) (stood.stands.place ∙ ap Some is)
+                ∙ ap (λ (first : Bool). Some (Writing (frame_writes half F first))) holds.place.2
+                ∙ ap (λ (now : Half). Some (Writing (frame_writes (other now) F (not set)))) (sym half_is);
+            half = subst (λ place. KnowsHalf place was (byte1_of stood.peeked life)) is stood.stands.half;
+            flipped = stood.stands.flipped;
+          }
+
+          ended : (u : Bool) → at_return from.s end ≡ u → Outcome (call_of (Calls.Offer F) ∷ calls)
+          ended true here = as_made true (taken_if true false here (carry false _ _ _ did here)) (
+            Offered half F ∷ life,
+            (Offered half F ∷ [], life, refl, (quiet false _ _ _ did, refl), is_life),
+            (new.place, stands.place),
+            (λ again. stood_answer false _ _ new did stood.peeked (Offered half F ∷ life) here stands stood.byte1),
+          )
+          ended false here = as_made false (untaken here)
+              (life, ([], life, refl, (quiet false _ _ _ did, refl), is_life), (stood.stage.place, stood.stands.place), (λ again. absurd (cc)))
+
+      by : (place : Place) → stood.stage.place ≡ place → (u : Bool) → at_return from.s end ≡ u → Outcome (call_of (Calls.Offer F) ∷ calls)
+      by Start is = busy (subst IsBusy (sym is) tt)
+      by Booting is = busy (subst IsBusy (sym is) tt)
+      by (Resting first) is = rests first is
+      by (Writing writes) is = busy (subst IsBusy (sym is) tt)
+      by (Waiting first) is = busy (subst IsBusy (sym is) tt)
+      by (Sending first) is = busy (subst IsBusy (sym is) tt)
+
+  redraw_outcome : Enters from 0x6943 → Stood from.mem (bounds calls).0 (bounds calls).1 life → Outcome (call_of Calls.Redraw ∷ calls)
+  redraw_outcome enters stood = by stood.stage.flipped refl stood.stage.place refl (at_return from.s end) refl
+    where
+      -- what is added, by whether it is taken
+      Made : Bool → Type 0
+      Made taken = (life' : List Item) × ((new : List Item) × (old : List Item) × (life' ≡ new ++ old)
+          × ((seen end.log ≡ []) × (new ≡ (if taken then Asked ∷ [] else []))) × IsLifeOf calls old)
+          × ((place : Place) × (place_of_life life' ≡ Some place)) × (at_return from.s end ≡ true → Stood end.mem (bounds calls).0 (bounds calls).1 life')
+
+      as_made : (taken : Bool) → (at_return from.s end && not end.c) ≡ taken → Made taken → Outcome (call_of Calls.Redraw ∷ calls)
+      as_made taken is made = subst Made (sym is) made
+
+      busy : (stood.stage.flipped ≡ true → IsBusy stood.stage.place) → (t : Bool) → at_return from.s end ≡ t → Outcome (call_of Calls.Redraw ∷ calls)
+      busy is_busy = ended
+        where
+          did : Answers from true (bounds calls).0 (bounds calls).1 stood.stage
+          did = redraw_is_refused from (bounds calls).0 (bounds calls).1 stood.stage enters stood.holds is_busy
+
+          ended : (t : Bool) → at_return from.s end ≡ t → Outcome (call_of Calls.Redraw ∷ calls)
+          ended true here = as_made false (taken_if true true here (carry true _ _ _ did here)) (
+            life,
+            ([], life, refl, (quiet true _ _ _ did, refl), is_life),
+            (stood.stage.place, stood.stands.place),
+            (λ again. stood_answer true _ _ stood.stage did stood.peeked life here stood.stands stood.byte1),
+          )
+          ended false here = as_made false (untaken here)
+              (life, ([], life, refl, (quiet true _ _ _ did, refl), is_life), (stood.stage.place, stood.stands.place), (λ again. absurd (cc)))
+
+      rests : (first : Bool) → stood.stage.place ≡ Resting first → stood.stage.flipped ≡ true → (u : Bool) → at_return from.s end ≡ u → Outcome (call_of Calls.Redraw ∷ calls)
+      rests first is set = ended
+        where
+          was : Half
+          was = stood.stage.half
+
+          new : Stage
+          new = record { place = Waiting first; half = was; flipped = true }
+
+          holds : Holds from.mem (bounds calls).0 (bounds calls).1 (record { place = Resting first; half = was; flipped = true })
+          holds = record {
+            flipped = stood.holds.flipped ∙ ap publish_byte set;
+            place = subst (λ (t : Bool). HoldsPlace from.mem (bounds calls).0 (bounds calls).1 (Resting first) was t) set
+                (subst (λ place. HoldsPlace from.mem (bounds calls).0 (bounds calls).1 place was stood.stage.flipped) is stood.holds.place);
+          }
+
+          did : Answers from false (bounds calls).0 (bounds calls).1 new
+          did = redraw_is_taken from (bounds calls).0 (bounds calls).1 was first enters holds
+
+          stands : StandsAfter new stood.peeked (Asked ∷ life)
+          stands = record {
+            place = ap (option_and_then (λ place. next_place place Asked)) (stood.stands.place ∙ ap Some is);
+            half = subst (λ place. KnowsHalf place was (byte1_of stood.peeked life)) is stood.stands.half;
+            flipped = stood.stands.flipped ∙ set;
+          }
+
+          ended : (u : Bool) → at_return from.s end ≡ u → Outcome (call_of Calls.Redraw ∷ calls)
+          ended true here = as_made true (taken_if true false here (carry false _ _ _ did here)) (
+            Asked ∷ life,
+            (Asked ∷ [], life, refl, (quiet false _ _ _ did, refl), is_life),
+            (new.place, stands.place),
+            (λ again. stood_answer false _ _ new did stood.peeked (Asked ∷ life) here stands stood.byte1),
+          )
+          ended false here = as_made false (untaken here)
+              (life, ([], life, refl, (quiet false _ _ _ did, refl), is_life), (stood.stage.place, stood.stands.place), (λ again. absurd (cc)))
+
+      by : (flipped : Bool) → stood.stage.flipped ≡ flipped → (place : Place) → stood.stage.place ≡ place → (u : Bool) → at_return from.s end ≡ u → Outcome (call_of Calls.Redraw ∷ calls)
+      by false set place is = busy (λ flipped. absurd (let e = sym set ∙ flipped in cc))
+      by true set Start is = busy (λ flipped. subst IsBusy (sym is) tt)
+      by true set Booting is = busy (λ flipped. subst IsBusy (sym is) tt)
+      by true set (Resting first) is = rests first is set
+      by true set (Writing writes) is = busy (λ flipped. subst IsBusy (sym is) tt)
+      by true set (Waiting first) is = busy (λ flipped. subst IsBusy (sym is) tt)
+      by true set (Sending first) is = busy (λ flipped. subst IsBusy (sym is) tt)
+
+-- a reset, over anything
+module _ (from : Cpu) (steps : ℕ) (calls : List Call) (enters : Enters from 0x6800) where
+  abbrev start : Stage
+  start = record { place = Start; half = H0; flipped = false }
+
+  reset_did : Answers from from.c (bounds calls).0 (bounds calls).1 start
+  reset_did = reset_refines from (bounds calls).0 (bounds calls).1 H0 enters
+
+  reset_outcome : Outcome (record { routine = Calls.Reset; from = from; steps = steps } ∷ calls)
+  reset_outcome = (
+    [],
+    ([], [], refl, (quiet_before from.s steps reset_did.steps from reset_did.returns reset_did.shows, refl), refl),
+    (Start, refl),
+    (λ here. subst (λ (k : Cpu). Stood k.mem (bounds calls).0 (bounds calls).1 []) (sym (same_end from.s steps reset_did.steps from here reset_did.returns))
+        (record {
+          stage = start;
+          peeked = (run from.s reset_did.steps from).mem 0x4001;
+          stands = record { place = refl; half = tt; flipped = refl };
+          holds = reset_did.holds;
+          byte1 = refl;
+          loaded = reset_did.loaded;
+        })),
+  )
+
+-- what stands at a call that follows others
+pub record Before (call : Call) (calls : List Call) : Type 0 where
+  pub life : List Item
+  pub is_life : IsLifeOf calls life
+  pub stood : Stood call.from.mem (bounds calls).0 (bounds calls).1 life
+
+before : (call : Call) (calls : List Call) → Calls.Follows call calls → IsLoaded call.from.mem → Outcome calls → Before call calls
+before call [] follows load outcome = absurd follows
+before call (older ∷ calls) follows load outcome =
+    let untouched = follows.1 in
+    record {
+      life = outcome.0;
+      is_life = outcome.1;
+      stood = stood_on (after older).mem call.from.mem (bounds (older ∷ calls)).0 (bounds (older ∷ calls)).1 outcome.0 (outcome.3 follows.0) load
+          untouched.own untouched.ram untouched.table;
+    }
+
+pub outcome : (calls : List Call) → IsSession calls → Outcome calls
+outcome [] session = absurd session
+outcome (call ∷ calls) session = by call.routine call.from call.steps session.0 session.1 session.2 (outcome calls)
+  where
+    by : (routine : Routine) (from : Cpu) (steps : ℕ) → Enters from (Calls.entry routine) → Calls.OffersTable routine from
+        → Calls.UnlessReset routine (Calls.Follows (record { routine = routine; from = from; steps = steps }) calls × IsSession calls)
+        → (IsSession calls → Outcome calls) → Outcome (record { routine = routine; from = from; steps = steps } ∷ calls)
+    by Calls.Reset from steps enters table rest older = reset_outcome from steps calls enters
+    by Calls.Tick from steps enters table rest older =
+        let was = before (record { routine = Calls.Tick; from = from; steps = steps }) calls rest.0 enters.loaded (older rest.1) in
+        tick_outcome from steps calls was.life was.is_life enters was.stood
+    by (Calls.Offer F) from steps enters table rest older =
+        let was = before (record { routine = Calls.Offer F; from = from; steps = steps }) calls rest.0 enters.loaded (older rest.1) in
+        offer_outcome from steps calls was.life was.is_life F enters table was.stood
+    by Calls.Redraw from steps enters table rest older =
+        let was = before (record { routine = Calls.Redraw; from = from; steps = steps }) calls rest.0 enters.loaded (older rest.1) in
+        redraw_outcome from steps calls was.life was.is_life enters was.stood
+
+pub calls_live : CallsLive
+calls_live [] session = absurd session
+calls_live (call ∷ calls) session =
+    let made = outcome (call ∷ calls) session in (made.0, made.1, place_life made.0 made.2.0 made.2.1)
+
+-- an access is one action
+abbrev kind_of : Access → Action
+kind_of (Reads a byte) = if nat_eq a 0x4001 then Peek else Read (tells_halted byte)
+kind_of (Writes a byte) = if nat_eq a 0x3000 then Sent else Wrote (a - 0x4000) byte
+
+head_same : (x y : Access) → ◌≡◌ {A = List Access} (x ∷ []) (y ∷ []) → x ≡ y
+head_same x y is = cc
+
+is_kind : (action : Action) (access : Access) → Shows action (access ∷ []) → action ≡ kind_of access
+is_kind Peek access is = sym (ap kind_of (head_same access (Reads 0x4001 is.0) is.1))
+is_kind (Wrote a byte) access is =
+    let differ : nat_eq (0x4000 + a) 0x3000 ≡ false = ne_eqb (0x4000 + a) 0x3000 (λ e. absurd (omega arith)) in
+    let back : 0x4000 + a - 0x4000 ≡ a = omega arith in
+    sym (ap kind_of (head_same access (Writes (0x4000 + a) byte) is) ∙ ap (λ (t : Bool). if t then Sent else Wrote (0x4000 + a - 0x4000) byte) differ ∙ ap (λ b. Wrote b byte) back)
+is_kind (Read halted) access is = ap Read is.2 ∙ sym (ap kind_of (head_same access (Reads 0x2002 is.0) is.1))
+is_kind Sent access is = sym (ap kind_of (head_same access (Writes 0x3000 is.0) is.1))
+is_kind Idle access is = absurd (cc)
+
+one_shown : (log : List Access) (one other : List Item) → AreShown one log → AreShown other log → one ≡ other
+one_shown [] [] [] a b = refl
+one_shown [] [] (Did action ∷ other) a b = absurd b
+one_shown [] [] (Offered half F ∷ other) a b = absurd b
+one_shown [] [] (Asked ∷ other) a b = absurd b
+one_shown [] (Did action ∷ one) other a b = absurd a
+one_shown [] (Offered half F ∷ one) other a b = absurd a
+one_shown [] (Asked ∷ one) other a b = absurd a
+one_shown (access ∷ log) [] other a b = absurd a
+one_shown (access ∷ log) (Offered half F ∷ one) other a b = absurd a
+one_shown (access ∷ log) (Asked ∷ one) other a b = absurd a
+one_shown (access ∷ log) (Did action ∷ one) [] a b = absurd b
+one_shown (access ∷ log) (Did action ∷ one) (Offered half F ∷ other) a b = absurd b
+one_shown (access ∷ log) (Did action ∷ one) (Asked ∷ other) a b = absurd b
+one_shown (access ∷ log) (Did action ∷ one) (Did also ∷ other) a b =
+    ap (λ (k : Action). Did k ∷ one) (is_kind action access a.0 ∙ sym (is_kind also access b.0)) ∙ ap (λ l. Did also ∷ l) (one_shown log one other a.1 b.1)
+
+one_added : (routine : Routine) (call : Call) (one other : List Item) → Adds routine call one → Adds routine call other → one ≡ other
+one_added Calls.Reset call one other a b = a.1 ∙ sym b.1
+one_added Calls.Tick call one other a b = one_shown (seen (after call).log) one other a b
+one_added (Calls.Offer F) call one other a b = a.1 ∙ sym b.1
+one_added Calls.Redraw call one other a b = a.1 ∙ sym b.1
+
+one_since : (routine : Routine) (one other : List Item) (P : List Item → Type 0) → (P one → P other → one ≡ other)
+    → Calls.SinceReset routine one (P one) → Calls.SinceReset routine other (P other) → one ≡ other
+one_since Calls.Reset one other P same a b = a ∙ sym b
+one_since Calls.Tick one other P same a b = same a b
+one_since (Calls.Offer F) one other P same a b = same a b
+one_since Calls.Redraw one other P same a b = same a b
+
+pub one_life : OneLife
+one_life [] one other a b = absurd a
+one_life (call ∷ calls) one other a b =
+    a.2 ∙ ap (λ l. l ++ a.1) (one_added call.routine call a.0 b.0 a.3 b.3)
+    ∙ ap (λ l. b.0 ++ l) (one_since call.routine a.1 b.1 (λ l. IsLifeOf calls l) (one_life calls a.1 b.1) a.4 b.4) ∙ sym b.2
+
+-- a call that is refused, after a life: that life, and what stands at its entry
+pub refuses_busy : RefusesBusy
+refuses_busy F from steps calls life session here set is_life whole =
+    let was = before (record { routine = Calls.Offer F; from = from; steps = steps }) calls session.2.0 session.0.loaded (outcome calls session.2.1) in
+    let untaken : (at_return from.s (run from.s steps from) && not (run from.s steps from).c) ≡ false = ap (λ (t : Bool). t && not (run from.s steps from).c) here ∙ ap (λ (t : Bool). true && not t) set in
+    let none : is_life.0 ≡ [] = is_life.3.1 ∙ ap (λ (t : Bool). if t then Offered (other (half_of_high (from.mem 0x4001))) F ∷ [] else []) untaken in
+    let old : is_life.1 ≡ was.life = one_life calls is_life.1 was.life is_life.4 was.is_life in
+    let same : life ≡ was.life = is_life.2 ∙ ap (λ l. l ++ is_life.1) none ∙ old in
+    let rests = whole_rests was.life (subst IsWhole same whole) in
+    let stood = was.stood in
+    let is : stood.stage.place ≡ Resting rests.0 = some_same (sym stood.stands.place ∙ rests.1) in
+    let did = offer_is_taken from (bounds calls).0 (bounds calls).1 stood.stage.half stood.stage.flipped rests.0 F session.0
+    (record { flipped = stood.holds.flipped; place = subst (λ place. HoldsPlace from.mem (bounds calls).0 (bounds calls).1 place stood.stage.half stood.stage.flipped) is stood.holds.place }) session.1 in
+    let clear = ap (λ (k : Cpu). k.c) (same_end from.s steps did.steps from here did.returns) ∙ did.carry in
+    let e = sym set ∙ clear in absurd (cc)
+
+pub refuses_redraw : RefusesRedraw
+refuses_redraw from steps calls life session here set is_life flip whole =
+    let was = before (record { routine = Calls.Redraw; from = from; steps = steps }) calls session.2.0 session.0.loaded (outcome calls session.2.1) in
+    let untaken : (at_return from.s (run from.s steps from) && not (run from.s steps from).c) ≡ false = ap (λ (t : Bool). t && not (run from.s steps from).c) here ∙ ap (λ (t : Bool). true && not t) set in
+    let none : is_life.0 ≡ [] = is_life.3.1 ∙ ap (λ (t : Bool). if t then Asked ∷ [] else []) untaken in
+    let old : is_life.1 ≡ was.life = one_life calls is_life.1 was.life is_life.4 was.is_life in
+    let same : life ≡ was.life = is_life.2 ∙ ap (λ l. l ++ is_life.1) none ∙ old in
+    let rests = whole_rests was.life (subst IsWhole same whole) in
+    let stood = was.stood in
+    let is : stood.stage.place ≡ Resting rests.0 = some_same (sym stood.stands.place ∙ rests.1) in
+    let flipped : stood.stage.flipped ≡ true = sym stood.stands.flipped ∙ ap has_flip (sym same) ∙ flip in
+    let did = redraw_is_taken from (bounds calls).0 (bounds calls).1 stood.stage.half rests.0 session.0
+    (record {
+      flipped = stood.holds.flipped ∙ ap publish_byte flipped;
+      place = subst (λ (t : Bool). HoldsPlace from.mem (bounds calls).0 (bounds calls).1 (Resting rests.0) stood.stage.half t) flipped
+          (subst (λ place. HoldsPlace from.mem (bounds calls).0 (bounds calls).1 place stood.stage.half stood.stage.flipped) is stood.holds.place);
+    }) in
+    let clear = ap (λ (k : Cpu). k.c) (same_end from.s steps did.steps from here did.returns) ∙ did.carry in
+    let e = sym set ∙ clear in absurd (cc)
