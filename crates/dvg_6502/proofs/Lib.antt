@@ -13,3 +13,4 @@ pub mod OfferRun
 pub mod Offering
 pub mod Growing
 pub mod Sessions
+pub mod Joined

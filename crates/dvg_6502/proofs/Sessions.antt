@@ -13,7 +13,7 @@ use Rattle.dvg_driver.specs.Script.{Item, Offered, Asked, Did, IsWhole, has_flip
 use Rattle.dvg_driver.specs.Place.{Place, Start, Booting, Resting, Writing, Waiting, Sending, place_of_life, next_place}
 use Rattle.dvg_driver.specs.Stands.{Stage, StandsAfter, KnowsHalf, byte1_of, peeked_after}
 use Rattle.dvg_driver.proofs.Places.{place_before, whole_rests, some_same}
-use Rattle.dvg_driver.proofs.Shapes.{place_life}
+use Rattle.dvg_driver.proofs.Shapes.{place_life, rests_whole}
 use Rattle.dvg_6502.specs.Processor.{Cpu, Access, Reads, Writes, run, at_return}
 use Rattle.dvg_6502.specs.Board.{IsLoaded, seen, is_own, is_ram, is_device, source_in, goal_in, tells_halted}
 use Rattle.dvg_6502.specs.Feed.{fed}
@@ -21,7 +21,7 @@ use Rattle.dvg_6502.specs.Holds.{Holds, HoldsPlace, IsFeeding, publish_byte}
 use Rattle.dvg_6502.specs.Tables.{HasTable, table_of}
 use Rattle.dvg_6502.specs.Routines.{Enters, Shows, Ticks, Answers, IsBusy, acted}
 use Rattle.dvg_6502.specs.Calls
-use Rattle.dvg_6502.specs.Calls.{Routine, Call, after, has_returned, is_taken, bounds, IsUntouched, IsSession, AreShown, Adds, IsLifeOf, CallsLive, OneLife, RefusesBusy, RefusesRedraw}
+use Rattle.dvg_6502.specs.Calls.{Routine, Call, after, has_returned, is_taken, bounds, IsUntouched, IsSession, AreShown, Adds, IsLifeOf, CallsLive, OneLife, IsAnswered, OfferAnswers, RedrawAnswers}
 use Rattle.dvg_6502.proofs.Growing.{GoesOn, within, same_end}
 use Rattle.dvg_6502.proofs.Ticking.{tick_refines}
 use Rattle.dvg_6502.proofs.Offering.{reset_refines, offer_is_taken, offer_is_refused, redraw_is_taken, redraw_is_refused}
@@ -539,38 +539,82 @@ one_life (call ∷ calls) one other a b =
     a.2 ∙ ap (λ l. l ++ a.1) (one_added call.routine call a.0 b.0 a.3 b.3)
     ∙ ap (λ l. b.0 ++ l) (one_since call.routine a.1 b.1 (λ l. IsLifeOf calls l) (one_life calls a.1 b.1) a.4 b.4) ∙ sym b.2
 
--- a call that is refused, after a life: that life, and what stands at its entry
-pub refuses_busy : RefusesBusy
-refuses_busy F from steps calls life session here set is_life whole =
-    let was = before (record { routine = Calls.Offer F; from = from; steps = steps }) calls session.2.0 session.0.loaded (outcome calls session.2.1) in
-    let untaken : (at_return from.s (run from.s steps from) && not (run from.s steps from).c) ≡ false = ap (λ (t : Bool). t && not (run from.s steps from).c) here ∙ ap (λ (t : Bool). true && not t) set in
-    let none : is_life.0 ≡ [] = is_life.3.1 ∙ ap (λ (t : Bool). if t then Offered (other (half_of_high (from.mem 0x4001))) F ∷ [] else []) untaken in
-    let old : is_life.1 ≡ was.life = one_life calls is_life.1 was.life is_life.4 was.is_life in
-    let same : life ≡ was.life = is_life.2 ∙ ap (λ l. l ++ is_life.1) none ∙ old in
-    let rests = whole_rests was.life (subst IsWhole same whole) in
-    let stood = was.stood in
-    let is : stood.stage.place ≡ Resting rests.0 = some_same (sym stood.stands.place ∙ rests.1) in
-    let did = offer_is_taken from (bounds calls).0 (bounds calls).1 stood.stage.half stood.stage.flipped rests.0 F session.0
-    (record { flipped = stood.holds.flipped; place = subst (λ place. HoldsPlace from.mem (bounds calls).0 (bounds calls).1 place stood.stage.half stood.stage.flipped) is stood.holds.place }) session.1 in
-    let clear = ap (λ (k : Cpu). k.c) (same_end from.s steps did.steps from here did.returns) ∙ did.carry in
-    let e = sym set ∙ clear in absurd (cc)
+-- what stood before a call of a session, after the life that the calls before it make
+stood_of : (routine : Routine) (from : Cpu) (steps : ℕ) (calls : List Call) (life : List Item) → Enters from (Calls.entry routine)
+    → Calls.Follows (record { routine = routine; from = from; steps = steps }) calls → IsSession calls → IsLifeOf calls life
+    → Stood from.mem (bounds calls).0 (bounds calls).1 life
+stood_of routine from steps calls life enters follows session makes =
+    let was = before (record { routine = routine; from = from; steps = steps }) calls follows enters.loaded (outcome calls session) in
+    subst (λ l. Stood from.mem (bounds calls).0 (bounds calls).1 l) (one_life calls was.life life was.is_life makes) was.stood
 
-pub refuses_redraw : RefusesRedraw
-refuses_redraw from steps calls life session here set is_life flip whole =
-    let was = before (record { routine = Calls.Redraw; from = from; steps = steps }) calls session.2.0 session.0.loaded (outcome calls session.2.1) in
-    let untaken : (at_return from.s (run from.s steps from) && not (run from.s steps from).c) ≡ false = ap (λ (t : Bool). t && not (run from.s steps from).c) here ∙ ap (λ (t : Bool). true && not t) set in
-    let none : is_life.0 ≡ [] = is_life.3.1 ∙ ap (λ (t : Bool). if t then Asked ∷ [] else []) untaken in
-    let old : is_life.1 ≡ was.life = one_life calls is_life.1 was.life is_life.4 was.is_life in
-    let same : life ≡ was.life = is_life.2 ∙ ap (λ l. l ++ is_life.1) none ∙ old in
-    let rests = whole_rests was.life (subst IsWhole same whole) in
-    let stood = was.stood in
-    let is : stood.stage.place ≡ Resting rests.0 = some_same (sym stood.stands.place ∙ rests.1) in
-    let flipped : stood.stage.flipped ≡ true = sym stood.stands.flipped ∙ ap has_flip (sym same) ∙ flip in
-    let did = redraw_is_taken from (bounds calls).0 (bounds calls).1 stood.stage.half rests.0 session.0
-    (record {
-      flipped = stood.holds.flipped ∙ ap publish_byte flipped;
-      place = subst (λ (t : Bool). HoldsPlace from.mem (bounds calls).0 (bounds calls).1 (Resting rests.0) stood.stage.half t) flipped
-          (subst (λ place. HoldsPlace from.mem (bounds calls).0 (bounds calls).1 place stood.stage.half stood.stage.flipped) is stood.holds.place);
-    }) in
-    let clear = ap (λ (k : Cpu). k.c) (same_end from.s steps did.steps from here did.returns) ∙ did.carry in
-    let e = sym set ∙ clear in absurd (cc)
+-- C at the end of an answer
+module _ (from : Cpu) (steps : ℕ) (here : at_return from.s (run from.s steps from) ≡ true) where
+  carried : (c d : Bool) (begin stop : ℕ) (new : Stage) → Answers from c begin stop new → (run from.s steps from).c ≡ d → d ≡ c
+  carried c d begin stop new did is = sym is ∙ ap (λ (k : Cpu). k.c) (same_end from.s steps did.steps from here did.returns) ∙ did.carry
+
+module _ (F : List OpKind) (life : List Item) where
+  offer_stood : (c : Bool) → (a : IsAnswered (Calls.Offer F) c life) → Stood a.from.mem (bounds a.calls).0 (bounds a.calls).1 life
+  offer_stood c a = stood_of (Calls.Offer F) a.from a.steps a.calls life a.session.0 a.session.2.0 a.session.2.1 a.makes
+
+  offer_taken : (a : IsAnswered (Calls.Offer F) false life) → IsWhole life
+  offer_taken a = by stood.stage.place refl
+    where
+      stood : Stood a.from.mem (bounds a.calls).0 (bounds a.calls).1 life
+      stood = offer_stood false a
+      busy : IsBusy stood.stage.place → IsWhole life
+      busy is_busy = absurd (let e = carried a.from a.steps a.returns true false _ _ stood.stage (offer_is_refused a.from _ _ stood.stage a.session.0 stood.holds is_busy) a.carry in cc)
+      by : (place : Place) → stood.stage.place ≡ place → IsWhole life
+      by Start is = busy (subst IsBusy (sym is) tt)
+      by Booting is = busy (subst IsBusy (sym is) tt)
+      by (Resting first) is = rests_whole life first (stood.stands.place ∙ ap Some is)
+      by (Writing writes) is = busy (subst IsBusy (sym is) tt)
+      by (Waiting first) is = busy (subst IsBusy (sym is) tt)
+      by (Sending first) is = busy (subst IsBusy (sym is) tt)
+
+  offer_refused : (a : IsAnswered (Calls.Offer F) true life) → ¬ IsWhole life
+  offer_refused a whole =
+      let stood = offer_stood true a in
+      let rests = whole_rests life whole in
+      let is : stood.stage.place ≡ Resting rests.0 = some_same (sym stood.stands.place ∙ rests.1) in
+      let did = offer_is_taken a.from (bounds a.calls).0 (bounds a.calls).1 stood.stage.half stood.stage.flipped rests.0 F a.session.0
+          (record { flipped = stood.holds.flipped; place = subst (λ place. HoldsPlace a.from.mem (bounds a.calls).0 (bounds a.calls).1 place stood.stage.half stood.stage.flipped) is stood.holds.place })
+          a.session.1 in
+      let e = carried a.from a.steps a.returns false true _ _ _ did a.carry in absurd (cc)
+
+pub offer_answers : OfferAnswers
+offer_answers F life = (offer_taken F life, offer_refused F life)
+
+module _ (life : List Item) where
+  redraw_stood : (c : Bool) → (a : IsAnswered Calls.Redraw c life) → Stood a.from.mem (bounds a.calls).0 (bounds a.calls).1 life
+  redraw_stood c a = stood_of Calls.Redraw a.from a.steps a.calls life a.session.0 a.session.2.0 a.session.2.1 a.makes
+
+  redraw_taken : (a : IsAnswered Calls.Redraw false life) → (has_flip life ≡ true) × IsWhole life
+  redraw_taken a = by stood.stage.flipped refl stood.stage.place refl
+    where
+      stood : Stood a.from.mem (bounds a.calls).0 (bounds a.calls).1 life
+      stood = redraw_stood false a
+      busy : (stood.stage.flipped ≡ true → IsBusy stood.stage.place) → (has_flip life ≡ true) × IsWhole life
+      busy is_busy = absurd (let e = carried a.from a.steps a.returns true false _ _ stood.stage (redraw_is_refused a.from _ _ stood.stage a.session.0 stood.holds is_busy) a.carry in cc)
+      by : (flipped : Bool) → stood.stage.flipped ≡ flipped → (place : Place) → stood.stage.place ≡ place → (has_flip life ≡ true) × IsWhole life
+      by false set place is = busy (λ flipped. absurd (let e = sym set ∙ flipped in cc))
+      by true set Start is = busy (λ flipped. subst IsBusy (sym is) tt)
+      by true set Booting is = busy (λ flipped. subst IsBusy (sym is) tt)
+      by true set (Resting first) is = (stood.stands.flipped ∙ set, rests_whole life first (stood.stands.place ∙ ap Some is))
+      by true set (Writing writes) is = busy (λ flipped. subst IsBusy (sym is) tt)
+      by true set (Waiting first) is = busy (λ flipped. subst IsBusy (sym is) tt)
+      by true set (Sending first) is = busy (λ flipped. subst IsBusy (sym is) tt)
+
+  redraw_refused : (a : IsAnswered Calls.Redraw true life) → has_flip life ≡ true → ¬ IsWhole life
+  redraw_refused a flip whole =
+      let stood = redraw_stood true a in
+      let rests = whole_rests life whole in
+      let is : stood.stage.place ≡ Resting rests.0 = some_same (sym stood.stands.place ∙ rests.1) in
+      let flipped : stood.stage.flipped ≡ true = sym stood.stands.flipped ∙ flip in
+      let did = redraw_is_taken a.from (bounds a.calls).0 (bounds a.calls).1 stood.stage.half rests.0 a.session.0
+          (record { flipped = stood.holds.flipped ∙ ap publish_byte flipped;
+            place = subst (λ (t : Bool). HoldsPlace a.from.mem (bounds a.calls).0 (bounds a.calls).1 (Resting rests.0) stood.stage.half t) flipped
+                (subst (λ place. HoldsPlace a.from.mem (bounds a.calls).0 (bounds a.calls).1 place stood.stage.half stood.stage.flipped) is stood.holds.place) }) in
+      let e = carried a.from a.steps a.returns false true _ _ _ did a.carry in absurd (cc)
+
+pub redraw_answers : RedrawAnswers
+redraw_answers life = (redraw_taken life, redraw_refused life)

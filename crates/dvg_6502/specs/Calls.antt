@@ -1,5 +1,5 @@
 -- Many calls of the routines, and the life that their accesses make.
-use Rattle.std.specs.Prelude.{◌≡◌, ℕ, ◌+◌, ◌*◌, ◌<◌, ◌≤◌, ◌&&◌, Bool, true, not, List, [], ◌∷◌, ◌++◌, length, if◌then◌else◌}
+use Rattle.std.specs.Prelude.{◌≡◌, ℕ, ◌+◌, ◌*◌, ◌<◌, ◌≤◌, ◌&&◌, Bool, true, false, not, List, [], ◌∷◌, ◌++◌, length, if◌then◌else◌}
 use Rattle.dvg_mem.specs.Areas.{other, half_of_high}
 use Rattle.dvg_frame.specs.declared.op.OpKind.{OpKind}
 use Rattle.dvg_driver.specs.Script.{Item, Offered, Asked, Did, IsLife, IsWhole, has_flip}
@@ -113,15 +113,22 @@ CallsLive = (calls : List Call) → IsSession calls → (life : List Item) × Is
 abbrev pub OneLife : Type 0
 OneLife = (calls : List Call) (one other : List Item) → IsLifeOf calls one → IsLifeOf calls other → one ≡ other
 
--- an offer that returns with C set meets a life that isn't whole
-abbrev pub RefusesBusy : Type 0
-RefusesBusy = (F : List OpKind) (from : Cpu) (steps : ℕ) (calls : List Call) (life : List Item)
-    → let call : Call = record { routine = Offer F; from = from; steps = steps } in
-    IsSession (call ∷ calls) → has_returned call ≡ true → (after call).c ≡ true → IsLifeOf (call ∷ calls) life → ¬ IsWhole life
+-- after calls that make this life, a call of the routine returns with C so
+pub record IsAnswered (routine : Routine) (c : Bool) (life : List Item) : Type 0 where
+  pub from : Cpu
+  pub steps : ℕ
+  pub calls : List Call
+  pub session : IsSession (record { routine = routine; from = from; steps = steps } ∷ calls)
+  pub makes : IsLifeOf calls life
+  pub returns : at_return from.s (run from.s steps from) ≡ true
+  pub carry : (run from.s steps from).c ≡ c
 
--- a redraw that returns with C set meets one that isn't whole, or that has no flip
-abbrev pub RefusesRedraw : Type 0
-RefusesRedraw = (from : Cpu) (steps : ℕ) (calls : List Call) (life : List Item)
-    → let call : Call = record { routine = Redraw; from = from; steps = steps } in
-    IsSession (call ∷ calls) → has_returned call ≡ true → (after call).c ≡ true → IsLifeOf (call ∷ calls) life
-    → has_flip life ≡ true → ¬ IsWhole life
+-- an offer is taken, with C clear, exactly where the life is whole
+abbrev pub OfferAnswers : Type 0
+OfferAnswers = (F : List OpKind) (life : List Item) →
+    (IsAnswered (Offer F) false life → IsWhole life) × (IsAnswered (Offer F) true life → ¬ IsWhole life)
+
+-- a redraw is taken exactly where it is whole and has a flip
+abbrev pub RedrawAnswers : Type 0
+RedrawAnswers = (life : List Item) → (IsAnswered Redraw false life → (has_flip life ≡ true) × IsWhole life)
+    × (IsAnswered Redraw true life → has_flip life ≡ true → ¬ IsWhole life)

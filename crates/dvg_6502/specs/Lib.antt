@@ -6,3 +6,4 @@ pub mod Holds
 pub mod Tables
 pub mod Routines
 pub mod Calls
+pub mod Joined

@@ -2,7 +2,8 @@
 //! There is no code here. Each law is the contract of a function that does nothing.
 #![tactic(auto)]
 
-ghost use Rattle.dvg_6502.specs.Calls.{CallsLive, OneLife, RefusesBusy, RefusesRedraw};
+ghost use Rattle.dvg_6502.specs.Calls.{CallsLive, OfferAnswers, OneLife, RedrawAnswers};
+ghost use Rattle.dvg_6502.specs.Joined.{BoardKeeps};
 ghost use Rattle.dvg_6502.specs.Routines.{OfferRefuses, OfferTakes, RedrawRefuses, RedrawTakes};
 ghost use Rattle.dvg_6502.specs.Routines.{ResetRefines, TickRefines};
 ghost use Rattle.dvg_6502.specs.Tables.{TableLaw, TableMisses};
@@ -51,8 +52,15 @@ pub fn one_life()
     ensures { OneLife }
 {}
 
-/// A call that is refused meets a driver that is busy, or one that has published nothing.
-pub fn refusals()
-    ensures offer { RefusesBusy }
-    ensures redraw { RefusesRedraw }
+/// Of all calls, an offer is taken exactly where the life is whole, and a redraw where it has a flip, too.
+pub fn answers()
+    ensures offer { OfferAnswers }
+    ensures redraw { RedrawAnswers }
+{}
+
+/// A log whose driver's lines are accesses and answers of the machine code is legal, and keeps the
+/// headline: no byte is written in the half being drawn, and each picture is that of the frame newest
+/// published.
+pub fn board_keeps()
+    ensures { BoardKeeps }
 {}
