@@ -27,6 +27,7 @@ pub record BeginsTable (mem : ℕ → ℕ) (t : ℕ) (half : Half) (F : List OpK
   pub some : 1 ≤ length (table_of F)
   pub fits : length (table_of F) ≤ 1022
   pub counted : 256 * mem 0x16 + mem 0x17 ≡ 2 + length (table_of F)
+  pub even : mem 0x17 % 2 ≡ 0
   pub table : (k : ℕ) → k < length (table_of F) → mem (t + k) ≡ slice_index (table_of F) k
   pub far : (k : ℕ) → k < length (table_of F) → is_device (t + k) ≡ false
   pub low : 0x202 ≤ t
@@ -47,6 +48,7 @@ feeds mem t half flipped F b = record {
   mark = b.mark;
   some = b.some;
   left = omega (arith, b.place, b.counted);
+  even = b.even;
   reads = λ k h. ap mem (from k) ∙ b.table k h;
   far = λ k h. (omega (arith, from k, b.low), subst (λ q. is_device q ≡ false) (sym (from k)) (b.far k h));
   after = omega (arith, b.place, b.from);

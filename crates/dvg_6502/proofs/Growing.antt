@@ -85,10 +85,10 @@ stays s zero cpu is = refl
 stays s (suc n) cpu is = ap (run s n) (stays_once s cpu is) ∙ stays s n cpu is
 
 -- of two numbers of steps one is the larger one
-abbrev Splits : (k n : ℕ) → Type 0
+abbrev pub Splits : (k n : ℕ) → Type 0
 Splits k n = ((more : ℕ) × (n ≡ more + k)) ⊎ ((more : ℕ) × (k ≡ more + n))
 
-split : (k n : ℕ) → Splits k n
+pub split : (k n : ℕ) → Splits k n
 split k n = by (nat_le k n) refl
   where
     by : (t : Bool) → nat_le k n ≡ t → Splits k n

@@ -12,5 +12,8 @@ pub mod Ticking
 pub mod OfferRun
 pub mod Offering
 pub mod Growing
+pub mod Standing
+pub mod Going
+pub mod TickCall
 pub mod Sessions
 pub mod Joined

@@ -115,6 +115,10 @@ module _ (a x y s : ℕ) (n z c v : Bool) (mem flags : ℕ → ℕ) (load : IsLo
       (record { flipped = refl; place = (refl, holds.place.1, holds.place.2) })
       (λ b own. same_out (page 5 (mem 0x11) 4) (page_in mem) mem b own)
 
+-- the end's byte is even
+even_end : (wl wh len : ℕ) → wl < 256 → len ≤ 1022 → 2 * (wl + 256 * wh) ≡ len → ((2 * wl % 256 + 1) % 256 + 1) % 256 % 2 ≡ 0
+even_end wl wh len small fits is = omega arith
+
 -- the count, doubled, and its own two bytes
 counted : (wl wh len e2 : ℕ) (t u : Bool) → wl < 256 → len ≤ 1022 → 2 * (wl + 256 * wh) ≡ len → e2 ≡ ((2 * wl % 256 + 1) % 256 + 1) % 256
     → nat_le 128 wl ≡ t → nat_eq e2 0 ≡ u
@@ -188,6 +192,7 @@ module _ (a x y s : ℕ) (n z c v : Bool) (mem flags : ℕ → ℕ) (load : IsLo
     some = table.some;
     fits = table.fits;
     counted = counted wl wh len e2 (nat_le 128 wl) (nat_eq e2 0) (load.bytes t) table.fits table.count refl refl refl;
+    even = even_end wl wh len (load.bytes t) table.fits table.count;
     table = λ k less. let low : 0x200 ≤ t + 2 + k = omega (arith, table.low) in reads final (t + 2 + k) low ∙ table.table k less;
     far = table.far;
     low = omega (arith, table.low);

@@ -86,7 +86,7 @@ module _ (q a x y s : ℕ) (n z c v : Bool) (mem flags : ℕ → ℕ) (log : Lis
   from phase free mark = at 0x686A a x y s n z c v (laid (page_of phase free (mem 0x12) (mem 0x13) (mem 0x14) (mem 0x15) (mem 0x16) (mem 0x17) mark (mem 0x19) (mem 0x1A)) mem) flags log
 
   module _ (half : Half) (set odd second : Bool) (byte : ℕ) (more : List ℕ) (list : List (ℕ × ℕ)) (is_free : mem 0x11 ≡ high (other half)) (clear : mem 0x12 ≡ publish_byte set)
-      (parity : nat_eq (mem 0x13 % 2) 1 ≡ odd) (left : mem 0x13 + suc (length more) ≡ 256 * mem 0x16 + mem 0x17)
+      (parity : nat_eq (mem 0x13 % 2) 1 ≡ odd) (even : mem 0x17 % 2 ≡ 0) (left : mem 0x13 + suc (length more) ≡ 256 * mem 0x16 + mem 0x17)
       (reads : (k : ℕ) → k < suc (length more) → mem (source_in mem + k) ≡ slice_index (byte ∷ more) k)
       (far : (k : ℕ) → k < suc (length more) → (0x200 ≤ source_in mem + k) × (is_device (source_in mem + k) ≡ false))
       (after : begin ≤ source_in mem) (ends : source_in mem + suc (length more) ≡ stop) (top : stop ≤ 65536)
@@ -157,6 +157,7 @@ module _ (q a x y s : ℕ) (n z c v : Bool) (mem flags : ℕ → ℕ) (log : Lis
       mark = refl;
       some = some;
       left = left';
+      even = even;
       reads = λ k h. on_reads k h;
       far = λ k h. subst (λ q. (0x200 ≤ q) × (is_device q ≡ false)) (sym (next_is k)) (far (suc k) (omega (arith, h)));
       after = omega (arith, source', after);

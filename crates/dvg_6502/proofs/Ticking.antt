@@ -35,17 +35,17 @@ module _ (q a x y s : ℕ) (n z c v : Bool) (mem flags : ℕ → ℕ) (log : Lis
   of_phase phase is ticks = subst (λ ph. Goal (with_phase ph (mem 0x11))) (sym is) ticks
 
   fed_tick : (half : Half) (set odd second : Bool) (rest : List ℕ) (list : List (ℕ × ℕ)) → mem 0x10 ≡ 0x80 → mem 0x11 ≡ high (other half) → mem 0x12 ≡ publish_byte set
-      → nat_eq (mem 0x13 % 2) 1 ≡ odd → mem 0x18 ≡ second_byte second → 1 ≤ length rest → mem 0x13 + length rest ≡ 256 * mem 0x16 + mem 0x17
+      → nat_eq (mem 0x13 % 2) 1 ≡ odd → mem 0x17 % 2 ≡ 0 → mem 0x18 ≡ second_byte second → 1 ≤ length rest → mem 0x13 + length rest ≡ 256 * mem 0x16 + mem 0x17
       → ((k : ℕ) → k < length rest → mem (source_in mem + k) ≡ slice_index rest k)
       → ((k : ℕ) → k < length rest → (0x200 ≤ source_in mem + k) × (is_device (source_in mem + k) ≡ false))
       → begin ≤ source_in mem → source_in mem + length rest ≡ stop → stop ≤ 65536 → 0x4002 ≤ goal_in mem → goal_in mem + length rest ≤ 0x4800
       → list ≡ addressed (goal_in mem - 0x4000) (fed (mem 0x11) odd second rest) ++ word_zero (other half) (not set)
       → StandsAfter (stage (Writing list) half set) peeked life → Goal from
-  fed_tick half set odd second [] list phase free clear parity mark some left reads far after ends top low high are stands = absurd (omega arith)
-  fed_tick half set odd second (byte ∷ more) list phase free clear parity mark some left reads far after ends top low high are stands =
+  fed_tick half set odd second [] list phase free clear parity even mark some left reads far after ends top low high are stands = absurd (omega arith)
+  fed_tick half set odd second (byte ∷ more) list phase free clear parity even mark some left reads far after ends top low high are stands =
       of_phase 0x80 phase
       (subst (λ m. Goal (at 0x686A a x y s n z c v (laid (page_of 0x80 (mem 0x11) (mem 0x12) (mem 0x13) (mem 0x14) (mem 0x15) (mem 0x16) (mem 0x17) m (mem 0x19) (mem 0x1A)) mem) flags log)) (sym mark)
-      (tick q a x y s n z c v mem flags log load begin stop peeked life half set odd second byte more list free clear parity left reads far after ends top low high are stands))
+      (tick q a x y s n z c v mem flags log load begin stop peeked life half set odd second byte more list free clear parity even left reads far after ends top low high are stands))
 
   core : (place : Place) (half : Half) (set : Bool) → HoldsPlace mem begin stop place half set → mem 0x12 ≡ publish_byte set → StandsAfter (stage place half set) peeked life → Goal from
   core Start half set holds clear stands =
@@ -57,7 +57,7 @@ module _ (q a x y s : ℕ) (n z c v : Bool) (mem flags : ℕ → ℕ) (log : Lis
   core (Writing list) half set holds clear stands = by holds.1
     where
       by : IsFeeding mem begin stop half set list ⊎ ((mem 0x10 ≡ 3) × (list ≡ word_zero (other half) true)) ⊎ ((mem 0x10 ≡ 4) × (list ≡ word_zero (other half) false)) → Goal from
-      by (inl f) = fed_tick half set f.odd f.second f.rest list f.phase holds.0 clear f.parity f.mark f.some f.left f.reads f.far f.after f.ends f.top f.low f.high f.are stands
+      by (inl f) = fed_tick half set f.odd f.second f.rest list f.phase holds.0 clear f.parity f.even f.mark f.some f.left f.reads f.far f.after f.ends f.top f.low f.high f.are stands
       by (inr (inl is)) = of_phase 3 is.0 (acting.zero_tick q a x y s n z c v mem flags log load.bytes begin stop peeked life half (mem 0x11) set holds.0 (subst (λ l. StandsAfter (stage (Writing l) half set) peeked life) is.1 stands) clear)
       by (inr (inr is)) = of_phase 4 is.0 (subst (λ free. Goal (with_phase 4 free)) (sym holds.0)
           (acting.flip q a x y s n z c v mem flags log load.bytes begin stop peeked life half set (subst (λ l. StandsAfter (stage (Writing l) half set) peeked life) is.1 stands)))
@@ -76,7 +76,7 @@ acts q cpu begin stop stage peeked life at_entry load holds stands =
     subst (λ (c : Cpu). Acts q c begin stop peeked life) is
     (core q cpu.a cpu.x cpu.y cpu.s cpu.n cpu.z cpu.c cpu.v cpu.mem cpu.flags cpu.log load begin stop peeked life stage.place stage.half stage.flipped holds.place holds.flipped stands)
 
-append_none : {A : Type 0} (l : List A) → l ++ [] ≡ l
+pub append_none : {A : Type 0} (l : List A) → l ++ [] ≡ l
 append_none [] = refl
 append_none (x ∷ l) = ap (λ r. x ∷ r) (append_none l)
 

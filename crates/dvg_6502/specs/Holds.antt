@@ -24,6 +24,7 @@ pub record IsFeeding (mem : ℕ → ℕ) (begin stop : ℕ) (half : Half) (flipp
   pub mark : second_in mem ≡ second_byte second
   pub some : 1 ≤ length rest
   pub left : place_in mem + length rest ≡ 256 * pages_in mem + end_in mem
+  pub even : end_in mem % 2 ≡ 0
   pub reads : (k : ℕ) → k < length rest → mem (source_in mem + k) ≡ slice_index rest k
   pub far : (k : ℕ) → k < length rest → (0x200 ≤ source_in mem + k) × (is_device (source_in mem + k) ≡ false)
   pub after : begin ≤ source_in mem
