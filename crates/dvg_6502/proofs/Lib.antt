@@ -15,5 +15,7 @@ pub mod Growing
 pub mod Standing
 pub mod Going
 pub mod TickCall
+pub mod TicksRun
+pub mod BurstRun
 pub mod Sessions
 pub mod Joined

@@ -20,8 +20,8 @@ found : (p v : ℕ) (page : List ℕ) (mem : ℕ → ℕ) → in_page p ≡ fals
 found p v page mem not_page not_code = sym (ap (λ (m : ℕ → ℕ). m p) (put_out p v page mem not_page not_code)) ∙ ap (λ (t : Bool). if t then v else laid page mem p) (eq-eqb p p refl)
 
 -- and nothing else is changed
-past : (p v : ℕ) (page : List ℕ) (mem : ℕ → ℕ) → in_page p ≡ false → in_code p ≡ false → (b : ℕ) → b ≢ p → laid page (put p v mem) b ≡ laid page mem b
-past p v page mem not_page not_code b not = sym (ap (λ (m : ℕ → ℕ). m b) (put_out p v page mem not_page not_code)) ∙ ap (λ (t : Bool). if t then v else laid page mem b) (ne_eqb b p not)
+pub past_low : (p v : ℕ) (page : List ℕ) (mem : ℕ → ℕ) → in_page p ≡ false → in_code p ≡ false → (b : ℕ) → b ≢ p → laid page (put p v mem) b ≡ laid page mem b
+past_low p v page mem not_page not_code b not = sym (ap (λ (m : ℕ → ℕ). m b) (put_out p v page mem not_page not_code)) ∙ ap (λ (t : Bool). if t then v else laid page mem b) (ne_eqb b p not)
 
 on_stack : (p : ℕ) → 0x100 ≤ p → p < 0x200 → (in_page p ≡ false) × (in_code p ≡ false)
 on_stack p low high =
@@ -104,8 +104,8 @@ module _ (q a x y : ℕ) (n z c v : Bool) (mem flags : ℕ → ℕ) (log : List 
 
   elsewhere : (b : ℕ) → (b < 0x100) ⊎ (0x200 ≤ b) → laid page stacked b ≡ mem b
   elsewhere b apart =
-      past p1 (back_of site) page (put p0 0x68 mem) out1.0 out1.1 b (not_at p1 (omega arith) (omega arith) apart)
-      ∙ past p0 0x68 page mem out0.0 out0.1 b (not_at p0 (omega arith) (omega arith) apart)
+      past_low p1 (back_of site) page (put p0 0x68 mem) out1.0 out1.1 b (not_at p1 (omega arith) (omega arith) apart)
+      ∙ past_low p0 0x68 page mem out0.0 out0.1 b (not_at p0 (omega arith) (omega arith) apart)
       ∙ sym (ap (λ (m : ℕ → ℕ). m b) (known mem load))
     where
       not_at : (p : ℕ) → 0x100 ≤ p → p < 0x200 → (b < 0x100) ⊎ (0x200 ≤ b) → b ≢ p
@@ -155,7 +155,7 @@ module _ (q a x y : ℕ) (n z c v : Bool) (mem flags : ℕ → ℕ) (log : List 
   high_back =
       let e : 0x100 + (fin.s + 2) % 256 ≡ p0 = omega (arith, inner_is) in
       ap fin.mem e ∙ kept_low p0 (not_own p0 (omega arith)) (omega arith)
-      ∙ past p1 (back_of site) page (put p0 0x68 mem) out1.0 out1.1 p0 (λ same. absurd (omega arith)) ∙ found p0 0x68 page mem out0.0 out0.1
+      ∙ past_low p1 (back_of site) page (put p0 0x68 mem) out1.0 out1.1 p0 (λ same. absurd (omega arith)) ∙ found p0 0x68 page mem out0.0 out0.1
 
   abbrev end : Cpu
   end = does Return fin
