@@ -1,7 +1,7 @@
 -- A call step by step: what its accesses make of a life.
-use Rattle.std.proofs.Common.{◌≡◌, ◌≢◌, ℕ, suc, inl, inr, ◌+◌, ◌-◌, ◌<◌, ◌≤◌, Bool, true, false, List, [], ◌∷◌, ◌++◌, refl, sym, ap, ◌∙◌, subst, arith, Some}
+use Rattle.std.proofs.Common.{◌≡◌, ℕ, inl, inr, ◌<◌, ◌≤◌, Bool, true, false, List, [], ◌∷◌, ◌++◌, refl, sym, ap, ◌∙◌, subst, arith, Some}
 use Rattle.std.proofs.lemmas.List.{append_cancel_right}
-use Rattle.std.specs.Prelude.{nat_eq, ◌⊎◌}
+use Rattle.std.specs.Prelude.{◌⊎◌}
 use Rattle.dvg_driver.specs.Script.{Item, Offered, Asked, Did}
 use Rattle.dvg_driver.specs.Place.{Place, place_of_life}
 use Rattle.dvg_6502.specs.Processor.{Cpu, Access, run, at_return}
@@ -15,11 +15,11 @@ pub append_items : (a b c : List Item) → (a ++ b) ++ c ≡ a ++ (b ++ c)
 append_items [] b c = refl
 append_items (x ∷ a) b c = ap (λ l. x ∷ l) (append_items a b c)
 
-append_logs : (a b c : List Access) → (a ++ b) ++ c ≡ a ++ (b ++ c)
+pub append_logs : (a b c : List Access) → (a ++ b) ++ c ≡ a ++ (b ++ c)
 append_logs [] b c = refl
 append_logs (x ∷ a) b c = ap (λ l. x ∷ l) (append_logs a b c)
 
-shown_both : (new old : List Item) (now before : List Access) → AreShown new now → AreShown old before → AreShown (new ++ old) (now ++ before)
+pub shown_both : (new old : List Item) (now before : List Access) → AreShown new now → AreShown old before → AreShown (new ++ old) (now ++ before)
 shown_both [] old [] before a b = b
 shown_both [] old (access ∷ now) before a b = absurd a
 shown_both (Did action ∷ new) old [] before a b = absurd a
@@ -52,10 +52,13 @@ module _ (q k : ℕ) (cpu : Cpu) (begin stop : ℕ) (life : List Item) (steps : 
       let now = seen base.0 in
       let logged : seen (run q k cpu).log ≡ now ++ seen cpu.log = ap seen base.1 ∙ seen_append base.0 cpu.log in
       let whole : made.accesses ≡ on.0 ++ now =
-          append_cancel_right made.accesses (on.0 ++ now) (seen cpu.log) (sym made.logged ∙ on.1 ∙ ap (λ l. on.0 ++ l) logged ∙ sym (append_logs on.0 now (seen cpu.log))) in
+      append_cancel_right made.accesses (on.0 ++ now) (seen cpu.log) (sym made.logged ∙ on.1 ∙ ap (λ l. on.0 ++ l) logged ∙ sym (append_logs on.0 now (seen cpu.log))) in
       let rest = shown_rest made.items on.0 now (subst (λ l. AreShown made.items l) whole made.shown) in
       record {
-        items = rest.1; accesses = now; logged = logged; shown = rest.3;
+        items = rest.1;
+        accesses = now;
+        logged = logged;
+        shown = rest.3;
         placed = place_of_rest rest.0 (rest.1 ++ life) made.placed.0 (sym (ap place_of_life (ap (λ l. l ++ life) rest.2 ∙ append_items rest.0 rest.1 life)) ∙ made.placed.1);
         stands = λ here. absurd (unreturned here);
       }
@@ -68,7 +71,11 @@ module _ (q k : ℕ) (cpu : Cpu) (begin stop : ℕ) (life : List Item) (steps : 
       by true here =
           let same = same_end q k steps cpu here there in
           record {
-            items = made.items; accesses = made.accesses; logged = ap (λ (c : Cpu). seen c.log) same ∙ made.logged; shown = made.shown; placed = made.placed;
+            items = made.items;
+            accesses = made.accesses;
+            logged = ap (λ (c : Cpu). seen c.log) same ∙ made.logged;
+            shown = made.shown;
+            placed = made.placed;
             stands = λ again. subst (λ (c : Cpu). Stood c.mem begin stop (made.items ++ life)) (sym same) stood;
           }
       by false unfinished = inside (within q k steps cpu there)
@@ -91,7 +98,8 @@ module _ (q k : ℕ) (cpu : Cpu) (begin stop : ℕ) (life : List Item) (steps : 
           let on = rest above.0 (omega (arith, above.1, some)) in
           let same : run q k cpu ≡ run q above.0 (run q steps cpu) = ap (λ j. run q j cpu) above.1 ∙ run_more q steps above.0 cpu in
           record {
-            items = on.items ++ made.items; accesses = on.accesses ++ made.accesses;
+            items = on.items ++ made.items;
+            accesses = on.accesses ++ made.accesses;
             logged = ap (λ (c : Cpu). seen c.log) same ∙ on.logged ∙ ap (λ l. on.accesses ++ l) made.logged ∙ sym (append_logs on.accesses made.accesses (seen cpu.log));
             shown = shown_both on.items made.items on.accesses made.accesses on.shown made.shown;
             placed = (on.placed.0, ap place_of_life (append_items on.items made.items life) ∙ on.placed.1);

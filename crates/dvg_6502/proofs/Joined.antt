@@ -1,8 +1,8 @@
 -- Logs of the board are legal.
-use Rattle.std.proofs.Common.{◌≡◌, ℕ, Bool, true, false, List, [], ◌∷◌, refl, sym, ap, ◌∙◌, subst}
+use Rattle.std.proofs.Common.{ℕ, List, [], ◌∷◌, subst}
 use Rattle.dvg_driver.specs.Script.{Item, Did, IsLife}
-use Rattle.dvg_world.specs.Events.{Happening, Offer, Redraw, Tick, Strobe, Fetch, ResetGen, ResetCpu, ResetAll}
-use Rattle.dvg_world.specs.Entries.{Shown, Offered, Refused, Busy, Asked, NothingPublished, Acted, Started, NoStrobe, Low, Fetched, Done, Broke, Still, Cleared}
+use Rattle.dvg_world.specs.Events.{Happening, Offer, Redraw, Tick}
+use Rattle.dvg_world.specs.Entries.{Shown, Offered, Busy, Asked, NothingPublished, Acted}
 use Rattle.dvg_world.specs.Log.{◌⟼◌, Log, life}
 use Rattle.dvg_world.specs.Legal.{IsLegal, Fits}
 use Rattle.dvg_world.proofs.Headline.{headline}

@@ -16,6 +16,5 @@ pub mod Standing
 pub mod Going
 pub mod TickCall
 pub mod TicksRun
-pub mod BurstRun
 pub mod Sessions
 pub mod Joined

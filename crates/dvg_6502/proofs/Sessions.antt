@@ -1,34 +1,33 @@
 -- What many calls make.
-use Rattle.std.proofs.Common.{◌≡◌, ◌≢◌, ℕ, inl, inr, ◌+◌, ◌-◌, ◌*◌, ◌%◌, ◌<◌, ◌≤◌, Bool, true, false, not, List, [], ◌∷◌, ◌++◌, length, refl, sym, ap, ◌∙◌, subst, arith, Some, eqb-true, eq-eqb}
-use Rattle.std.proofs.lemmas.Bool.{eqb-false, ne_eqb}
+use Rattle.std.proofs.Common.{◌≡◌, ℕ, inl, inr, ◌+◌, ◌-◌, ◌*◌, Bool, true, false, not, List, [], ◌∷◌, ◌++◌, length, refl, sym, ap, ◌∙◌, subst, arith, Some}
+use Rattle.std.proofs.lemmas.Bool.{ne_eqb}
 use Rattle.std.specs.Prelude.{nat_eq, ◌⊎◌, ◌&&◌, option_and_then, if◌then◌else◌}
 use Rattle.dvg_mem.specs.declared.half.Half.{Half}
 use Rattle.dvg_mem.specs.declared.half.Half.TheVariants.{H0}
 use Rattle.dvg_mem.specs.Areas.{other, half_of_high}
 use Rattle.dvg_frame.specs.declared.op.OpKind.{OpKind}
-use Rattle.dvg_frame.specs.Bytes.{addressed}
 use Rattle.dvg_driver.specs.declared.action.Action.{Action}
 use Rattle.dvg_driver.specs.declared.action.Action.TheVariants.{Peek, Wrote, Read, Sent, Idle}
-use Rattle.dvg_driver.specs.Script.{Item, Offered, Asked, Did, IsWhole, has_flip, word_zero, frame_writes}
+use Rattle.dvg_driver.specs.Script.{Item, Offered, Asked, Did, IsWhole, has_flip, frame_writes}
 use Rattle.dvg_driver.specs.Place.{Place, Start, Booting, Resting, Writing, Waiting, Sending, place_of_life, next_place}
-use Rattle.dvg_driver.specs.Stands.{Stage, StandsAfter, KnowsHalf, byte1_of, peeked_after}
-use Rattle.dvg_driver.proofs.Places.{place_before, whole_rests, some_same}
+use Rattle.dvg_driver.specs.Stands.{Stage, StandsAfter, KnowsHalf, byte1_of}
+use Rattle.dvg_driver.proofs.Places.{whole_rests, some_same}
 use Rattle.dvg_driver.proofs.Shapes.{place_life, rests_whole}
 use Rattle.dvg_6502.specs.Processor.{Cpu, Access, Reads, Writes, run, at_return}
-use Rattle.dvg_6502.specs.Board.{IsLoaded, seen, is_own, is_ram, is_device, source_in, goal_in, tells_halted}
-use Rattle.dvg_6502.specs.Feed.{fed}
-use Rattle.dvg_6502.specs.Holds.{Holds, HoldsPlace, IsFeeding, publish_byte}
+use Rattle.dvg_6502.specs.Board.{IsLoaded, seen, tells_halted}
+use Rattle.dvg_6502.specs.Holds.{Holds, HoldsPlace, publish_byte}
 use Rattle.dvg_6502.specs.Tables.{HasTable, table_of}
-use Rattle.dvg_6502.specs.Routines.{Enters, Shows, Ticks, Answers, IsBusy, acted}
+use Rattle.dvg_6502.specs.Routines.{Enters, Shows, Answers, IsBusy}
 use Rattle.dvg_6502.specs.Calls
 use Rattle.dvg_6502.specs.Calls.{Routine, Call, after, has_returned, is_taken, bounds, IsUntouched, IsSession, AreShown, Adds, IsLifeOf, CallsLive, OneLife, IsAnswered, OfferAnswers, RedrawAnswers}
 use Rattle.dvg_6502.proofs.Growing.{GoesOn, within, same_end}
 use Rattle.dvg_6502.proofs.Running.{returned}
 use Rattle.dvg_6502.proofs.Ticking.{acts, append_none}
 use Rattle.dvg_6502.proofs.Going.{Goes, finish}
+use Rattle.dvg_6502.proofs.TicksRun.{ticks_go}
 use Rattle.dvg_6502.proofs.Offering.{reset_refines, offer_is_taken, offer_is_refused, redraw_is_taken, redraw_is_refused}
+use Rattle.dvg_6502.proofs.Standing.{Stood, stood_on, items_of, shown_items, stood_tick}
 
-use Rattle.dvg_6502.proofs.Standing.{Stood, stood_on, place_of_rest, shown_rest, items_of, shown_items, stood_tick}
 -- what calls make: a life with a place, and where the newest one has returned, a driver that stands after it
 abbrev Outcome : List Call → Type 0
 Outcome [] = ⊥
@@ -64,9 +63,12 @@ module _ (from : Cpu) (steps : ℕ) (calls : List Call) (life : List Item) (is_l
       → ((items : List Item) → IsLifeOf calls items → Calls.SinceReset routine items (IsLifeOf calls items)) → Calls.taken_bounds routine (call_of routine) (bounds calls) ≡ bounds calls
       → from.log ≡ [] → Goes from.s steps from (bounds calls).0 (bounds calls).1 life → Outcome (call_of routine ∷ calls)
   acts_outcome routine adds since same no_log goes =
-      let logged : seen end.log ≡ goes.accesses = goes.logged ∙ ap (λ l. goes.accesses ++ seen l) no_log ∙ append_none goes.accesses in
-      (goes.items ++ life, (goes.items, life, refl, adds goes.items (subst (λ l. AreShown goes.items l) (sym logged) goes.shown), since life is_life), goes.placed,
-      (λ here. subst (λ (p : ℕ × ℕ). Stood end.mem p.0 p.1 (goes.items ++ life)) (sym same) (goes.stands here)))
+      let logged : seen end.log ≡ goes.accesses = goes.logged ∙ ap (λ l. goes.accesses ++ seen l) no_log ∙ append_none goes.accesses in (
+        goes.items ++ life,
+        (goes.items, life, refl, adds goes.items (subst (λ l. AreShown goes.items l) (sym logged) goes.shown), since life is_life),
+        goes.placed,
+        (λ here. subst (λ (p : ℕ × ℕ). Stood end.mem p.0 p.1 (goes.items ++ life)) (sym same) (goes.stands here)),
+      )
 
   tick_goes : Enters from 0x686A → Stood from.mem (bounds calls).0 (bounds calls).1 life → Goes from.s steps from (bounds calls).0 (bounds calls).1 life
   tick_goes enters stood =
@@ -78,6 +80,10 @@ module _ (from : Cpu) (steps : ℕ) (calls : List Call) (life : List Item) (is_l
 
   tick_outcome : Enters from 0x686A → Stood from.mem (bounds calls).0 (bounds calls).1 life → Outcome (call_of Calls.Tick ∷ calls)
   tick_outcome enters stood = acts_outcome Calls.Tick (λ items shown. shown) (λ items made. made) refl enters.log (tick_goes enters stood)
+
+  ticks_outcome : Enters from 0x6860 → Stood from.mem (bounds calls).0 (bounds calls).1 life → Outcome (call_of Calls.Ticks ∷ calls)
+  ticks_outcome enters stood = acts_outcome Calls.Ticks (λ items shown. shown) (λ items made. made) refl enters.log
+      (ticks_go steps from (bounds calls).0 (bounds calls).1 life enters.entry enters.a enters.s stood)
 
   -- what is at the end of an answer
   module _ (c : Bool) (begin stop : ℕ) (new : Stage) (did : Answers from c begin stop new) where
@@ -308,6 +314,9 @@ outcome (call ∷ calls) session = by call.routine call.from call.steps session.
     by Calls.Tick from steps enters table rest older =
         let was = before (record { routine = Calls.Tick; from = from; steps = steps }) calls rest.0 enters.loaded (older rest.1) in
         tick_outcome from steps calls was.life was.is_life enters was.stood
+    by Calls.Ticks from steps enters table rest older =
+        let was = before (record { routine = Calls.Ticks; from = from; steps = steps }) calls rest.0 enters.loaded (older rest.1) in
+        ticks_outcome from steps calls was.life was.is_life enters was.stood
     by (Calls.Offer F) from steps enters table rest older =
         let was = before (record { routine = Calls.Offer F; from = from; steps = steps }) calls rest.0 enters.loaded (older rest.1) in
         offer_outcome from steps calls was.life was.is_life F enters table was.stood
@@ -358,6 +367,7 @@ one_shown (access ∷ log) (Did action ∷ one) (Did also ∷ other) a b =
 one_added : (routine : Routine) (call : Call) (one other : List Item) → Adds routine call one → Adds routine call other → one ≡ other
 one_added Calls.Reset call one other a b = a.1 ∙ sym b.1
 one_added Calls.Tick call one other a b = one_shown (seen (after call).log) one other a b
+one_added Calls.Ticks call one other a b = one_shown (seen (after call).log) one other a b
 one_added (Calls.Offer F) call one other a b = a.1 ∙ sym b.1
 one_added Calls.Redraw call one other a b = a.1 ∙ sym b.1
 
@@ -365,6 +375,7 @@ one_since : (routine : Routine) (one other : List Item) (P : List Item → Type 
     → Calls.SinceReset routine one (P one) → Calls.SinceReset routine other (P other) → one ≡ other
 one_since Calls.Reset one other P same a b = a ∙ sym b
 one_since Calls.Tick one other P same a b = same a b
+one_since Calls.Ticks one other P same a b = same a b
 one_since (Calls.Offer F) one other P same a b = same a b
 one_since Calls.Redraw one other P same a b = same a b
 
@@ -396,8 +407,10 @@ module _ (F : List OpKind) (life : List Item) where
     where
       stood : Stood a.from.mem (bounds a.calls).0 (bounds a.calls).1 life
       stood = offer_stood false a
+
       busy : IsBusy stood.stage.place → IsWhole life
       busy is_busy = absurd (let e = carried a.from a.steps a.returns true false _ _ stood.stage (offer_is_refused a.from _ _ stood.stage a.session.0 stood.holds is_busy) a.carry in cc)
+
       by : (place : Place) → stood.stage.place ≡ place → IsWhole life
       by Start is = busy (subst IsBusy (sym is) tt)
       by Booting is = busy (subst IsBusy (sym is) tt)
@@ -412,8 +425,8 @@ module _ (F : List OpKind) (life : List Item) where
       let rests = whole_rests life whole in
       let is : stood.stage.place ≡ Resting rests.0 = some_same (sym stood.stands.place ∙ rests.1) in
       let did = offer_is_taken a.from (bounds a.calls).0 (bounds a.calls).1 stood.stage.half stood.stage.flipped rests.0 F a.session.0
-          (record { flipped = stood.holds.flipped; place = subst (λ place. HoldsPlace a.from.mem (bounds a.calls).0 (bounds a.calls).1 place stood.stage.half stood.stage.flipped) is stood.holds.place })
-          a.session.1 in
+      (record { flipped = stood.holds.flipped; place = subst (λ place. HoldsPlace a.from.mem (bounds a.calls).0 (bounds a.calls).1 place stood.stage.half stood.stage.flipped) is stood.holds.place })
+      a.session.1 in
       let e = carried a.from a.steps a.returns false true _ _ _ did a.carry in absurd (cc)
 
 pub offer_answers : OfferAnswers
@@ -428,8 +441,10 @@ module _ (life : List Item) where
     where
       stood : Stood a.from.mem (bounds a.calls).0 (bounds a.calls).1 life
       stood = redraw_stood false a
+
       busy : (stood.stage.flipped ≡ true → IsBusy stood.stage.place) → (has_flip life ≡ true) × IsWhole life
       busy is_busy = absurd (let e = carried a.from a.steps a.returns true false _ _ stood.stage (redraw_is_refused a.from _ _ stood.stage a.session.0 stood.holds is_busy) a.carry in cc)
+
       by : (flipped : Bool) → stood.stage.flipped ≡ flipped → (place : Place) → stood.stage.place ≡ place → (has_flip life ≡ true) × IsWhole life
       by false set place is = busy (λ flipped. absurd (let e = sym set ∙ flipped in cc))
       by true set Start is = busy (λ flipped. subst IsBusy (sym is) tt)
@@ -446,9 +461,11 @@ module _ (life : List Item) where
       let is : stood.stage.place ≡ Resting rests.0 = some_same (sym stood.stands.place ∙ rests.1) in
       let flipped : stood.stage.flipped ≡ true = sym stood.stands.flipped ∙ flip in
       let did = redraw_is_taken a.from (bounds a.calls).0 (bounds a.calls).1 stood.stage.half rests.0 a.session.0
-          (record { flipped = stood.holds.flipped ∙ ap publish_byte flipped;
-            place = subst (λ (t : Bool). HoldsPlace a.from.mem (bounds a.calls).0 (bounds a.calls).1 (Resting rests.0) stood.stage.half t) flipped
-                (subst (λ place. HoldsPlace a.from.mem (bounds a.calls).0 (bounds a.calls).1 place stood.stage.half stood.stage.flipped) is stood.holds.place) }) in
+      (record {
+        flipped = stood.holds.flipped ∙ ap publish_byte flipped;
+        place = subst (λ (t : Bool). HoldsPlace a.from.mem (bounds a.calls).0 (bounds a.calls).1 (Resting rests.0) stood.stage.half t) flipped
+            (subst (λ place. HoldsPlace a.from.mem (bounds a.calls).0 (bounds a.calls).1 place stood.stage.half stood.stage.flipped) is stood.holds.place);
+      }) in
       let e = carried a.from a.steps a.returns false true _ _ _ did a.carry in absurd (cc)
 
 pub redraw_answers : RedrawAnswers

@@ -1,25 +1,21 @@
 -- What stands in a memory after a life.
-use Rattle.std.proofs.Common.{◌≡◌, ◌≢◌, ℕ, inl, inr, ◌+◌, ◌-◌, ◌*◌, ◌%◌, ◌<◌, ◌≤◌, Bool, true, false, not, List, [], ◌∷◌, ◌++◌, length, refl, sym, ap, ◌∙◌, subst, arith, Some, eqb-true, eq-eqb}
+use Rattle.std.proofs.Common.{◌≡◌, ◌≢◌, ℕ, inl, inr, ◌+◌, ◌-◌, ◌%◌, ◌<◌, ◌≤◌, Bool, true, false, not, List, [], ◌∷◌, ◌++◌, refl, sym, ap, ◌∙◌, subst, arith, Some, eqb-true, eq-eqb}
 use Rattle.std.proofs.lemmas.Bool.{eqb-false, ne_eqb}
-use Rattle.std.specs.Prelude.{nat_eq, ◌⊎◌, ◌&&◌, option_and_then, if◌then◌else◌}
+use Rattle.std.specs.Prelude.{nat_eq, ◌⊎◌, if◌then◌else◌}
 use Rattle.dvg_mem.specs.declared.half.Half.{Half}
-use Rattle.dvg_mem.specs.declared.half.Half.TheVariants.{H0}
-use Rattle.dvg_mem.specs.Areas.{other, half_of_high}
-use Rattle.dvg_frame.specs.declared.op.OpKind.{OpKind}
+use Rattle.dvg_mem.specs.Areas.{other}
 use Rattle.dvg_frame.specs.Bytes.{addressed}
 use Rattle.dvg_driver.specs.declared.action.Action.{Action}
 use Rattle.dvg_driver.specs.declared.action.Action.TheVariants.{Peek, Wrote, Read, Sent, Idle}
-use Rattle.dvg_driver.specs.Script.{Item, Offered, Asked, Did, IsWhole, has_flip, word_zero, frame_writes}
+use Rattle.dvg_driver.specs.Script.{Item, Offered, Asked, Did, word_zero}
 use Rattle.dvg_driver.specs.Place.{Place, Start, Booting, Resting, Writing, Waiting, Sending, place_of_life, next_place}
-use Rattle.dvg_driver.specs.Stands.{Stage, StandsAfter, KnowsHalf, byte1_of, peeked_after}
-use Rattle.dvg_driver.proofs.Places.{place_before, whole_rests, some_same}
-use Rattle.dvg_driver.proofs.Shapes.{place_life, rests_whole}
-use Rattle.dvg_6502.specs.Processor.{Cpu, Access, Reads, Writes, run, at_return}
-use Rattle.dvg_6502.specs.Board.{IsLoaded, seen, is_own, is_ram, is_device, source_in, goal_in, tells_halted}
+use Rattle.dvg_driver.specs.Stands.{Stage, StandsAfter, byte1_of, peeked_after}
+use Rattle.dvg_driver.proofs.Places.{place_before, some_same}
+use Rattle.dvg_6502.specs.Processor.{Cpu, Access, run}
+use Rattle.dvg_6502.specs.Board.{IsLoaded, is_own, is_ram, is_device, source_in, goal_in}
 use Rattle.dvg_6502.specs.Feed.{fed}
-use Rattle.dvg_6502.specs.Holds.{Holds, HoldsPlace, IsFeeding, publish_byte}
-use Rattle.dvg_6502.specs.Tables.{HasTable, table_of}
-use Rattle.dvg_6502.specs.Routines.{Enters, Shows, Ticks, Answers, IsBusy, acted}
+use Rattle.dvg_6502.specs.Holds.{Holds, HoldsPlace, IsFeeding}
+use Rattle.dvg_6502.specs.Routines.{Shows, acted}
 use Rattle.dvg_6502.specs.Calls.{AreShown}
 use Rattle.dvg_6502.proofs.Acting.{Acts}
 

@@ -50,12 +50,12 @@ pub second_small : (second : Bool) → second_byte second < 256
 second_small true = omega arith
 second_small false = omega arith
 
-phase_small : (ends last : Bool) (publish : ℕ) → publish < 256 → phase_then ends last publish < 256
+pub phase_small : (ends last : Bool) (publish : ℕ) → publish < 256 → phase_then ends last publish < 256
 phase_small true true publish small = small
 phase_small true false publish small = omega arith
 phase_small false last publish small = omega arith
 
-carried_small : (wrap : Bool) (by byte : ℕ) → byte < 256 → carried wrap by byte < 256
+pub carried_small : (wrap : Bool) (by byte : ℕ) → byte < 256 → carried wrap by byte < 256
 carried_small true by byte small = omega arith
 carried_small false by byte small = small
 
@@ -238,3 +238,11 @@ module _ (q a x y s : ℕ) (n z c v : Bool) (mem flags : ℕ → ℕ) (log : Lis
         (loaded (there phase) (put to w mem) pages_small (put_small to w mem (put_for_small (mem 0x11) odd second byte byte_small) bytes))
         (λ b own go. let same : to ≡ 0x4000 + (to - 0x4000) = omega (arith, low) in
         kept_write to w here (there phase) mem in_ram'.0 in_ram'.1 b own ∙ ap (λ p. put p w (laid here mem) b) same)
+
+    -- what it leaves, without the code
+    pub step : Holds (final phase) begin stop (stage_then rest) × StandsAfter (stage_then rest) peeked (Did (Wrote (to - 0x4000) w) ∷ life) × IsLoaded (final phase)
+    step = (
+      holds more refl,
+      stands_on half set (to - 0x4000) w list rest peeked life are (omega (arith, low)) stands,
+      loaded (there phase) (put to w mem) pages_small (put_small to w mem (put_for_small (mem 0x11) odd second byte byte_small) bytes),
+    )

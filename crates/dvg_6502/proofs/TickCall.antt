@@ -1,12 +1,12 @@
 -- A tick that another routine calls, from its JSR to its RTS.
-use Rattle.std.proofs.Common.{◌≡◌, ◌≢◌, ℕ, suc, inl, inr, ◌+◌, ◌-◌, ◌*◌, ◌%◌, ◌<◌, ◌≤◌, Bool, true, false, List, [], ◌∷◌, ◌++◌, refl, sym, ap, ◌∙◌, subst, arith, Some, eq-eqb, le-leb, leb-true}
+use Rattle.std.proofs.Common.{◌≡◌, ◌≢◌, ℕ, suc, inl, inr, ◌+◌, ◌*◌, ◌%◌, ◌<◌, ◌≤◌, Bool, true, false, List, ◌∷◌, ◌++◌, refl, sym, ap, ◌∙◌, subst, arith, eq-eqb, le-leb, leb-true}
 use Rattle.std.proofs.lemmas.Bool.{ne_eqb}
 use Rattle.std.specs.Prelude.{nat_eq, nat_le, nat_lt, ◌⊎◌, ◌&&◌, if◌then◌else◌}
 use Rattle.dvg_driver.specs.declared.action.Action.{Action}
 use Rattle.dvg_driver.specs.declared.action.Action.TheVariants.{Peek, Wrote, Read, Sent, Idle}
 use Rattle.dvg_driver.specs.Script.{Item}
-use Rattle.dvg_6502.specs.Processor.{Cpu, Access, Reads, Writes, Return, put, run, turn, does, decoded, opcodes, at_return}
-use Rattle.dvg_6502.specs.Board.{IsLoaded, seen, is_own, is_ram}
+use Rattle.dvg_6502.specs.Processor.{Cpu, Access, Writes, Return, put, run, turn, does, decoded, opcodes}
+use Rattle.dvg_6502.specs.Board.{IsLoaded, seen, is_own}
 use Rattle.dvg_6502.specs.Routines.{acted}
 use Rattle.dvg_6502.proofs.Running.{at, run_more}
 use Rattle.dvg_6502.proofs.Memory.{AreSmall, laid, page_in, in_page, in_code, known, loaded, put_out, put_small, both_true, le_not}
@@ -64,26 +64,34 @@ rts q cpu opcode inner =
     ∙ ap (λ (t : Bool). if t then cpu else does Return cpu) inner
 
 module _ (q a x y : ℕ) (n z c v : Bool) (mem flags : ℕ → ℕ) (log : List Access) (load : IsLoaded mem) (q_small : q < 256) (site : Bool) (begin stop : ℕ) (life : List Item)
-  (stood : Stood mem begin stop life) where
+    (stood : Stood mem begin stop life) where
   abbrev p0 : ℕ
   p0 = 0x100 + q % 256
+
   abbrev p1 : ℕ
   p1 = 0x100 + (q + 255) % 256
+
   abbrev inner : ℕ
   inner = (q + 254) % 256
+
   abbrev page : List ℕ
   page = page_in mem
+
   abbrev stacked : ℕ → ℕ
   stacked = put p1 (back_of site) (put p0 0x68 mem)
+
   abbrev log' : List Access
   log' = Writes p1 (back_of site) ∷ Writes p0 0x68 ∷ log
+
   abbrev from : Cpu
   from = at (site_of site) a x y q n z c v (laid page mem) flags log
+
   abbrev start : Cpu
   start = at 0x686A a x y inner n z c v (laid page stacked) flags log'
 
   out0 : (in_page p0 ≡ false) × (in_code p0 ≡ false)
   out0 = on_stack p0 (omega arith) (omega arith)
+
   out1 : (in_page p1 ≡ false) × (in_code p1 ≡ false)
   out1 = on_stack p1 (omega arith) (omega arith)
 
@@ -178,7 +186,8 @@ module _ (q a x y : ℕ) (n z c v : Bool) (mem flags : ℕ → ℕ) (log : List 
     steps = 1 + (did.steps + 1);
     some = omega arith;
     made = record {
-      items = items_of did.action; accesses = did.events;
+      items = items_of did.action;
+      accesses = did.events;
       logged = ap (λ (k : Cpu). seen k.log) ends ∙ did.accesses ∙ ap (λ l. did.events ++ l) quiet;
       shown = shown_items did.action did.events did.shows;
       placed = (new.stage.place, new.stands.place);
@@ -193,8 +202,8 @@ module _ (q a x y : ℕ) (n z c v : Bool) (mem flags : ℕ → ℕ) (log : List 
 pub tick_call : (q : ℕ) (site : Bool) (cpu : Cpu) (begin stop : ℕ) (life : List Item) → q < 256 → cpu.pc ≡ site_of site → cpu.s ≡ q → Stood cpu.mem begin stop life → Turned q site cpu begin stop life
 tick_call q site cpu begin stop life q_small at_site at_q stood =
     let is : at (site_of site) cpu.a cpu.x cpu.y q cpu.n cpu.z cpu.c cpu.v (laid (page_in cpu.mem) cpu.mem) cpu.flags cpu.log ≡ cpu =
-        ap (λ (m : ℕ → ℕ). at (site_of site) cpu.a cpu.x cpu.y q cpu.n cpu.z cpu.c cpu.v m cpu.flags cpu.log) (sym (known cpu.mem stood.loaded))
-        ∙ ap (λ s. at (site_of site) cpu.a cpu.x cpu.y s cpu.n cpu.z cpu.c cpu.v cpu.mem cpu.flags cpu.log) (sym at_q)
-        ∙ ap (λ p. at p cpu.a cpu.x cpu.y cpu.s cpu.n cpu.z cpu.c cpu.v cpu.mem cpu.flags cpu.log) (sym at_site) in
+    ap (λ (m : ℕ → ℕ). at (site_of site) cpu.a cpu.x cpu.y q cpu.n cpu.z cpu.c cpu.v m cpu.flags cpu.log) (sym (known cpu.mem stood.loaded))
+    ∙ ap (λ s. at (site_of site) cpu.a cpu.x cpu.y s cpu.n cpu.z cpu.c cpu.v cpu.mem cpu.flags cpu.log) (sym at_q)
+    ∙ ap (λ p. at p cpu.a cpu.x cpu.y cpu.s cpu.n cpu.z cpu.c cpu.v cpu.mem cpu.flags cpu.log) (sym at_site) in
     subst (λ (k : Cpu). Turned q site k begin stop life) is
     (turned q cpu.a cpu.x cpu.y cpu.n cpu.z cpu.c cpu.v cpu.mem cpu.flags cpu.log stood.loaded q_small site begin stop life stood)

@@ -1,10 +1,10 @@
 -- dvg_ticks: so many ticks.
-use Rattle.std.proofs.Common.{◌≡◌, ◌≢◌, ℕ, zero, suc, inl, inr, ◌+◌, ◌-◌, ◌%◌, ◌<◌, ◌≤◌, Bool, true, false, List, [], ◌∷◌, ◌++◌, refl, sym, ap, ◌∙◌, subst, arith, eq-eqb, leb-true}
+use Rattle.std.proofs.Common.{◌≡◌, ◌≢◌, ℕ, zero, suc, inl, inr, ◌+◌, ◌%◌, ◌<◌, ◌≤◌, Bool, true, false, List, [], ◌∷◌, ◌++◌, refl, sym, ap, ◌∙◌, subst, arith, leb-true}
 use Rattle.std.proofs.lemmas.Bool.{ne_eqb}
 use Rattle.std.specs.Prelude.{nat_eq, nat_le, nat_lt, ◌⊎◌}
 use Rattle.dvg_driver.specs.Script.{Item}
 use Rattle.dvg_6502.specs.Processor.{Cpu, Access, Reads, Writes, put, run, at_return}
-use Rattle.dvg_6502.specs.Board.{IsLoaded, seen, is_own, is_ram}
+use Rattle.dvg_6502.specs.Board.{IsLoaded, seen}
 use Rattle.dvg_6502.proofs.Running.{at, run_more, returned}
 use Rattle.dvg_6502.proofs.Memory.{AreSmall, laid, page_in, known, loaded, put_out, put_small, both_true}
 use Rattle.dvg_6502.proofs.Standing.{Stood, stood_on}
@@ -14,14 +14,21 @@ use Rattle.dvg_6502.proofs.TickCall.{Turned, tick_call, past_low}
 -- a stretch, and steps after it that touch no device
 abbrev pub extend : (q : ℕ) (cpu : Cpu) (k more : ℕ) (life : List Item) → Stretch q cpu k life → seen (run q more (run q k cpu)).log ≡ seen (run q k cpu).log → Stretch q cpu (more + k) life
 extend q cpu k more life made quiet = record {
-  items = made.items; accesses = made.accesses; shown = made.shown; placed = made.placed;
+  items = made.items;
+  accesses = made.accesses;
+  shown = made.shown;
+  placed = made.placed;
   logged = ap (λ (c : Cpu). seen c.log) (run_more q k more cpu) ∙ quiet ∙ made.logged;
 }
 
 -- a stretch that touches no device
 abbrev pub idle_stretch : (q : ℕ) (cpu : Cpu) (k begin stop : ℕ) (life : List Item) (mem : ℕ → ℕ) → Stood mem begin stop life → seen (run q k cpu).log ≡ seen cpu.log → Stretch q cpu k life
 idle_stretch q cpu k begin stop life mem stood quiet = record {
-  items = []; accesses = []; shown = tt; placed = (stood.stage.place, stood.stands.place); logged = quiet;
+  items = [];
+  accesses = [];
+  shown = tt;
+  placed = (stood.stage.place, stood.stands.place);
+  logged = quiet;
 }
 
 -- any state, by its place
@@ -49,10 +56,13 @@ count_stood mem r begin stop life small stood = stood_on mem (laid (page_in mem)
 module _ (q a x y : ℕ) (n z c v : Bool) (mem flags : ℕ → ℕ) (log : List Access) where
   abbrev from : Cpu
   from = at 0x6865 a x y q n z c v (laid (page_in mem) mem) flags log
+
   abbrev r : ℕ
   r = (mem 0x1F + 255) % 256
+
   abbrev told : Bool → (ℕ → ℕ) → Cpu
   told t m = at 0x6867 a x y q (nat_le 128 r) t c v m flags (Writes 0x1F r ∷ Reads 0x1F (mem 0x1F) ∷ log)
+
   abbrev then_at : ℕ → Bool → Cpu
   then_at pc t = record (told t (laid (page_in mem) (put 0x1F r mem))) { pc = pc }
 
@@ -77,20 +87,28 @@ module _ (q begin stop : ℕ) (q_small : q < 256) where
     where
       mid : Cpu
       mid = run q t.steps cpu
+
       from_is : at 0x6865 mid.a mid.x mid.y q mid.n mid.z mid.c mid.v (laid (page_in mid.mem) mid.mem) mid.flags mid.log ≡ mid
       from_is = state_is mid 0x6865 q t.pc t.stack t.stood.loaded
+
       r : ℕ
       r = (mid.mem 0x1F + 255) % 256
+
       count_is : (cpu.mem 0x1F + 255) % 256 ≡ r
       count_is = ap (λ m. (m + 255) % 256) (sym t.kept)
+
       end : ℕ → Bool → Cpu
       end pc z = then_at q mid.a mid.x mid.y mid.n mid.z mid.c mid.v mid.mem mid.flags mid.log pc z
+
       left : Stood (laid (page_in mid.mem) (put 0x1F r mid.mem)) begin stop (t.made.items ++ life)
       left = count_stood mid.mem r begin stop (t.made.items ++ life) (omega arith) t.stood
+
       made : (pc : ℕ) (z : Bool) → run q 2 mid ≡ end pc z → Stretch q cpu (2 + t.steps) life
       made pc z is = extend q cpu t.steps 2 life t.made (ap (λ (c : Cpu). seen c.log) is)
+
       whole : (pc : ℕ) (z : Bool) → run q 2 mid ≡ end pc z → run q (2 + t.steps) cpu ≡ end pc z
       whole pc z is = run_more q t.steps 2 cpu ∙ is
+
       by : Follows cpu (t.made.items ++ life) → Goes q k cpu begin stop life
       by (inl none) =
           let is = ap (run q 2) (sym from_is) ∙ last q mid.a mid.x mid.y mid.n mid.z mid.c mid.v mid.mem mid.flags mid.log (ap (λ m. nat_eq m 0) (sym count_is) ∙ none) in
@@ -110,8 +128,10 @@ module _ (q begin stop : ℕ) (q_small : q < 256) where
       let t = tick_call q false cpu begin stop life q_small at_pc at_q stood in
       let down : (cpu.mem 0x1F + 255) % 256 ≡ suc n % 256 = omega (arith, count, most) in
       let some : (cpu.mem 0x1F + 255) % 256 ≢ 0 = λ none. absurd (omega (arith, down, most, none)) in
-      one_tick k cpu life t (inr (ne_eqb ((cpu.mem 0x1F + 255) % 256) 0 some,
-          λ j next next_pc next_q next_count next_stood. ticks_left n j next (t.made.items ++ life) (omega (arith, most)) next_pc next_q (next_count ∙ down) next_stood))
+      one_tick k cpu life t (inr (
+        ne_eqb ((cpu.mem 0x1F + 255) % 256) 0 some,
+        λ j next next_pc next_q next_count next_stood. ticks_left n j next (t.made.items ++ life) (omega (arith, most)) next_pc next_q (next_count ∙ down) next_stood,
+      ))
 
 -- a call of dvg_ticks
 pub ticks_go : (k : ℕ) (cpu : Cpu) (begin stop : ℕ) (life : List Item) → cpu.pc ≡ 0x6860 → cpu.a < 256 → cpu.s < 256 → Stood cpu.mem begin stop life → Goes cpu.s k cpu begin stop life
@@ -122,7 +142,9 @@ ticks_go k cpu begin stop life at_pc a_small s_small stood =
   where
     from : Cpu
     from = at 0x6860 cpu.a cpu.x cpu.y cpu.s cpu.n cpu.z cpu.c cpu.v (laid (page_in cpu.mem) cpu.mem) cpu.flags cpu.log
+
     is : from ≡ cpu
     is = state_is cpu 0x6860 cpu.s at_pc refl stood.loaded
+
     counted : Stood (run cpu.s 1 from).mem begin stop life
     counted = subst (λ (m : ℕ → ℕ). Stood m begin stop life) (sym (put_out 0x1F cpu.a (page_in cpu.mem) cpu.mem refl refl)) (count_stood cpu.mem cpu.a begin stop life a_small stood)
