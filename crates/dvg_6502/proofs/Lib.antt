@@ -16,5 +16,6 @@ pub mod Standing
 pub mod Going
 pub mod TickCall
 pub mod TicksRun
+pub mod Vectors
 pub mod Sessions
 pub mod Joined
