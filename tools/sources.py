@@ -6,7 +6,7 @@ from pathlib import Path
 # The crates that have contracts.
 CRATES = """
     dvg_code dvg_mem dvg_gen dvg_frame dvg_sketch dvg_driver dvg_log dvg_theorem dvg_world
-    dvg_progress
+    dvg_progress dvg_6502
     dvg_device dvg_c dvg_text dvg_lines dvg_io dvg_dump dvg_picture dvg_logs dvg_words dvg_tool
 """.split()
 ROOT = Path(__file__).resolve().parent.parent

@@ -35,13 +35,13 @@ use Rattle.dvg_driver.proofs.OneAction.{one_action}
 use Rattle.dvg_driver.proofs.Shapes.{place_life, rests_whole}
 use Rattle.dvg_driver.proofs.Places.{life_place, place_before, whole_rests}
 use Rattle.dvg_mem.specs.declared.half.Half.TheVariants.{H1}
-use Rattle.dvg_world.specs.Events.{Happening, Tick}
-use Rattle.dvg_world.specs.Entries.{Shown, shown_of, Acted}
-use Rattle.dvg_world.specs.declared.entry.Entry.{Entry}
-use Rattle.dvg_world.specs.Log.{Log, ◌⟼◌, events_of}
-use Rattle.dvg_world.specs.Legal.{IsLegal}
+use Rattle.dvg_log.specs.Events.{Happening, Tick}
+use Rattle.dvg_log.specs.Entries.{Shown, shown_of, Acted}
+use Rattle.dvg_log.specs.declared.entry.Entry.{Entry}
+use Rattle.dvg_log.specs.Log.{Log, ◌⟼◌, events_of}
+use Rattle.dvg_log.specs.Legal.{IsLegal}
 use Rattle.dvg_world.specs.Runs.{log_of}
-use Rattle.dvg_world.proofs.OneLog.{same_log}
+use Rattle.dvg_theorem.proofs.OneLog.{same_log}
 use Rattle.dvg_clients.specs.Facts.{blank_frame, two_ticks_shown, two_ticks, tick_text, peek_line}
 
 -- two next actions are one

@@ -3,14 +3,14 @@ use Rattle.std.proofs.Common.{◌≡◌, ℕ, List, [], ◌∷◌, ◌++◌, map
 use Rattle.std.proofs.lemmas.List.{reverse-reverse}
 use mathlib.Core.List.{reverse-cons}
 use Rattle.std.specs.List.{zip}
-use Rattle.dvg_world.specs.declared.entry.Entry.{Entry}
-use Rattle.dvg_world.specs.Events.{Happening}
-use Rattle.dvg_world.specs.Entries.{Shown, shown_of}
-use Rattle.dvg_world.specs.Legal.{IsLegal}
-use Rattle.dvg_world.specs.Log.{Line, Log, ◌⟼◌, events_of}
+use Rattle.dvg_log.specs.declared.entry.Entry.{Entry}
+use Rattle.dvg_log.specs.Events.{Happening}
+use Rattle.dvg_log.specs.Entries.{Shown, shown_of}
+use Rattle.dvg_log.specs.Legal.{IsLegal}
+use Rattle.dvg_log.specs.Log.{Line, Log, ◌⟼◌, events_of}
 use Rattle.dvg_world.specs.Runs.{log_of}
-use Rattle.dvg_world.proofs.OneLog.{same_log}
-use Rattle.dvg_world.proofs.Rows.{first_picture as legal_first_picture}
+use Rattle.dvg_theorem.proofs.OneLog.{same_log}
+use Rattle.dvg_theorem.proofs.Rows.{first_picture as legal_first_picture}
 use Rattle.dvg_clients.specs.Facts.{first_picture_events, first_picture}
 use Rattle.dvg_tool.specs.Plays.{zeros}
 

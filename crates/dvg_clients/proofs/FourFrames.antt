@@ -11,7 +11,7 @@ use Rattle.dvg_mem.specs.Areas.{base}
 use Rattle.dvg_mem.specs.Memory.{fetched, rom_word}
 use Rattle.dvg_gen.specs.Run.{Visit, Runs, begins, fetches, first, one, two}
 use Rattle.dvg_dump.specs.Ends.{halts}
-use Rattle.dvg_world.specs.Law.{HoldsFrame}
+use Rattle.dvg_log.specs.Held.{HoldsFrame}
 use Rattle.dvg_clients.specs.Facts.{IsComplete, long_vector}
 use Rattle.dvg_clients.specs.Facts.{vector_frame, level_frame, shape_frame, nested_frame}
 use Rattle.dvg_clients.specs.Facts.{vector_strokes, level_strokes, shape_strokes}

@@ -3,10 +3,10 @@ use Rattle.std.proofs.Common.{◌≡◌, ℕ, [], ◌∷◌, ◌++◌, length, O
 use Rattle.std.specs.Prelude.{IfSome, IsNone, IsTrue, Bool, true, false, not, is_some}
 use Rattle.dvg_mem.specs.declared.half.Half.TheVariants.{H1}
 use Rattle.dvg_driver.specs.declared.action.Action.TheVariants.{Wrote}
-use Rattle.dvg_world.specs.Events.{Happening, Strobe, Fetch, Tick}
-use Rattle.dvg_world.specs.Entries.{Shown, Acted, Started, Fetched}
-use Rattle.dvg_world.specs.Log.{◌⟼◌, Line, Log, Throughout}
-use Rattle.dvg_world.specs.Torn.{IsFirstTorn, IsTorn, IsUntorn}
+use Rattle.dvg_log.specs.Events.{Happening, Strobe, Fetch, Tick}
+use Rattle.dvg_log.specs.Entries.{Shown, Acted, Started, Fetched}
+use Rattle.dvg_log.specs.Log.{◌⟼◌, Line, Log, Throughout}
+use Rattle.dvg_log.specs.Torn.{IsFirstTorn, IsTorn, IsUntorn}
 
 -- the run began, and fetched a jump to half 1
 abbrev pub begun : Log

@@ -2,8 +2,8 @@
 ghost use Rattle.std.specs.Prelude.{◌≡◌, IfErr, IfSome};
 ghost use Rattle.dvg_clients.specs.Facts.{one_tick, tick_text};
 
+use dvg_log::Trace;
 use dvg_text::{TraceFault, TraceText, read_trace};
-use dvg_world::Trace;
 use std::alloc::Global;
 
 /// The text `tick` denotes one tick. None where memory was refused.

@@ -7,7 +7,7 @@ ghost use Rattle.dvg_gen.specs.Machine.{HasTaken};
 ghost use Rattle.dvg_gen.specs.Told.{Told};
 ghost use Rattle.dvg_gen.specs.declared.stroke.Stroke as stroke;
 ghost use Rattle.dvg_mem.specs.Memory.{fetched, rom_word};
-ghost use Rattle.dvg_world.specs.Law.{HoldsFrame};
+ghost use Rattle.dvg_log.specs.Held.{HoldsFrame};
 
 use dvg_code::OutOfMemory;
 use dvg_frame::Frame;

@@ -2,8 +2,8 @@
 ghost use Rattle.std.specs.Prelude.{◌≡◌, IfSome, map, true};
 ghost use Rattle.dvg_clients.specs.Facts.{first_picture, first_picture_events, two_ticks, two_ticks_shown};
 ghost use Rattle.dvg_tool.specs.Plays.{zeros};
-ghost use Rattle.dvg_world.specs.Entries.{Acted, shown_of};
-ghost use Rattle.dvg_world.specs.Events.{happening_of};
+ghost use Rattle.dvg_log.specs.Entries.{Acted, shown_of};
+ghost use Rattle.dvg_log.specs.Events.{happening_of};
 
 use dvg_driver::Action;
 use dvg_mem::{Flat, Image, Rom};

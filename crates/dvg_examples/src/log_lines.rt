@@ -1,7 +1,7 @@
 //! The line of an entry that no legal log has, and of the last event.
 use dvg_gen::GenFault;
 use dvg_lines::Line;
-use dvg_world::Entry;
+use dvg_log::Entry;
 use std::alloc::Global;
 
 #[test]

@@ -3,7 +3,7 @@ use crate::drafts::behind_labs;
 use crate::images::image;
 use dvg_frame::OpKind;
 use dvg_gen::Stroke;
-use dvg_world::{Entry, Event, Trace, TraceEvent};
+use dvg_log::{Entry, Event, Trace, TraceEvent};
 use std::alloc::Global;
 use std::test::Fail;
 

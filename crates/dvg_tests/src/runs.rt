@@ -3,8 +3,8 @@
 use crate::scripts::Picture::{F1, F2, F3, Shape};
 use crate::scripts::Step::{Fetch, Offer, Redraw, ResetAll, ResetCpu, ResetGen, Strobe, Tick};
 use crate::scripts::{Step, trace_transcript, transcript};
+use dvg_log::{Event, Trace};
 use dvg_mem::{Banked, Flat};
-use dvg_world::{Event, Trace};
 use std::test::Fail;
 
 /// What happens in each run. The first four are the first picture, a lost strobe, what is refused before the boot, and

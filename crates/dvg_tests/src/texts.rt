@@ -1,10 +1,10 @@
 //! What a case can't show of texts: the fault of refused memory, and the reader of traces alone.
 use dvg_dump::DumpFault;
 use dvg_frame::FrameFault;
+use dvg_log::TraceEvent;
 use dvg_sketch::SketchFault;
 use dvg_text::read_trace;
 use dvg_tool::{ToolFault, status};
-use dvg_world::TraceEvent;
 use std::alloc::Global;
 use std::fmt::Display;
 use std::test::Fail;

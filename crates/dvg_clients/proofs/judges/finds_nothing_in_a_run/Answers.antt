@@ -1,6 +1,6 @@
 use Rattle.std.proofs.Common.{map, sym, subst}
-use Rattle.dvg_world.specs.Events.{happening_of}
-use Rattle.dvg_world.specs.Legal.{IsLegal}
+use Rattle.dvg_log.specs.Events.{happening_of}
+use Rattle.dvg_log.specs.Legal.{IsLegal}
 use Rattle.dvg_world.specs.Runs.{log_of}
 use Rattle.dvg_clients.proofs.Judged.{is_none_of}
 use Rattle.dvg_clients.proofs.judges.finds_nothing_in_a_run.Goals as goal

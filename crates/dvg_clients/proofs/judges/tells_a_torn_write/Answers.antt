@@ -1,7 +1,7 @@
 use Rattle.std.proofs.Common.{[], ◌∷◌}
-use Rattle.dvg_world.specs.Entries.{Started}
-use Rattle.dvg_world.specs.Events.{Strobe}
-use Rattle.dvg_world.specs.Log.{◌⟼◌}
+use Rattle.dvg_log.specs.Entries.{Started}
+use Rattle.dvg_log.specs.Events.{Strobe}
+use Rattle.dvg_log.specs.Log.{◌⟼◌}
 use Rattle.dvg_clients.proofs.Judged.{begun, torn_there}
 use Rattle.dvg_clients.proofs.judges.tells_a_torn_write.Goals as goal
 

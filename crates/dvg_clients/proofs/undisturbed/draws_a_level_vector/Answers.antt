@@ -1,6 +1,6 @@
 use Rattle.std.proofs.Common.{subst, lit≤}
 use Rattle.dvg_mem.specs.Memory.{fetched}
-use Rattle.dvg_world.specs.Law.{HoldsFrame}
+use Rattle.dvg_log.specs.Held.{HoldsFrame}
 use Rattle.dvg_clients.specs.Facts.{level_strokes}
 use Rattle.dvg_clients.proofs.Alone.{told}
 use Rattle.dvg_clients.proofs.FourFrames.{level_drawn}

@@ -1,5 +1,5 @@
 use Rattle.std.proofs.Common.{subst, length, ◌∙◌, ap}
-use Rattle.dvg_world.specs.Legal.{IsLegal}
+use Rattle.dvg_log.specs.Legal.{IsLegal}
 use Rattle.dvg_world.specs.Runs.{log_of}
 use Rattle.dvg_clients.proofs.Clients.{two_run}
 use Rattle.dvg_clients.proofs.worlds.runs_a_trace_of_two_ticks.Goals as goal

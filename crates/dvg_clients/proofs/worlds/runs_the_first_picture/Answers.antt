@@ -1,7 +1,7 @@
 use Rattle.std.proofs.Common.{subst, length, ◌∙◌, ap, sym}
 use Rattle.std.proofs.lemmas.List.{length-map}
-use Rattle.dvg_world.specs.Events.{happening_of}
-use Rattle.dvg_world.specs.Legal.{IsLegal}
+use Rattle.dvg_log.specs.Events.{happening_of}
+use Rattle.dvg_log.specs.Legal.{IsLegal}
 use Rattle.dvg_world.specs.Runs.{log_of}
 use Rattle.dvg_clients.specs.Facts.{first_picture_events}
 use Rattle.dvg_tool.specs.Plays.{zeros}

@@ -1,0 +1,5 @@
+use Rattle.dvg_6502.proofs.Sessions.{offer_answers, redraw_answers}
+use Rattle.dvg_6502.proofs.answers.Goals as goal
+
+pub returns : goal.returns
+returns c = record { offer = offer_answers; redraw = redraw_answers }

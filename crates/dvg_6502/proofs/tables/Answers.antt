@@ -1,0 +1,5 @@
+use Rattle.dvg_6502.proofs.Told.{table_law}
+use Rattle.dvg_6502.proofs.tables.Goals as goal
+
+pub returns : goal.returns
+returns c = table_law

@@ -1,0 +1,51 @@
+-- Tables of frames.
+use Rattle.std.specs.Prelude.{◌≡◌, ◌≢◌, ℕ, ◌+◌, ◌*◌, ◌<◌, ◌≤◌, false, List, [], ◌∷◌, length, slice_index}
+use Rattle.dvg_code.specs.declared.instr.Instr.TheVariants.{Labs}
+use Rattle.dvg_mem.specs.declared.half.Half.{Half}
+use Rattle.dvg_mem.specs.declared.half.Half.TheVariants.{H0, H1}
+use Rattle.dvg_mem.specs.Areas.{high}
+use Rattle.dvg_frame.specs.declared.op.OpKind.{OpKind}
+use Rattle.dvg_frame.specs.declared.op.OpKind.TheVariants.{Draw, CallRom, JumpRom, Call, Jump, Halt}
+use Rattle.dvg_frame.specs.Bytes.{bytes}
+use Rattle.dvg_frame.specs.Layout.{laid, at}
+use Rattle.dvg_frame.specs.Ops.{IsOp}
+use Rattle.dvg_6502.specs.Board.{is_device}
+use Rattle.dvg_6502.specs.Feed.{fed}
+
+-- a table can tell this operation: what it names of the ROM stands from 400 on, and what it names of the frame in half 0
+abbrev pub IsTold : List OpKind → OpKind → Type 0
+IsTold F (CallRom a) = 0x400 ≤ a
+IsTold F (JumpRom a) = 0x400 ≤ a
+IsTold F (Call j) = at H0 F j ≤ 0x1FF
+IsTold F (Jump j) = at H0 F j ≤ 0x1FF
+IsTold F op = Unit {0}
+
+-- it can tell each of these operations of a draft
+abbrev pub AreTold : (F ops : List OpKind) → Type 0
+AreTold F [] = Unit {0}
+AreTold F (op ∷ ops) = IsOp op × IsTold F op × AreTold F ops
+
+-- a draft's table: the bytes of its words in half 0
+abbrev pub table_of : List OpKind → List ℕ
+table_of F = bytes (laid H0 F)
+
+-- a draft's table at an address: the number of its words, and then its bytes; none of it is a device, the zero page or the stack
+pub record HasTable (mem : ℕ → ℕ) (t : ℕ) (F : List OpKind) : Type 0 where
+  pub told : AreTold F F
+  pub some : 1 ≤ length (table_of F)
+  pub fits : length (table_of F) ≤ 1022
+  pub count : 2 * (mem t + 256 * mem (t + 1)) ≡ length (table_of F)
+  pub table : (k : ℕ) → k < length (table_of F) → mem (t + 2 + k) ≡ slice_index (table_of F) k
+  pub head : (is_device t ≡ false) × (is_device (t + 1) ≡ false)
+  pub far : (k : ℕ) → k < length (table_of F) → is_device (t + 2 + k) ≡ false
+  pub low : 0x200 ≤ t
+  pub ends : t + 2 + length (table_of F) ≤ 65536
+
+-- what is written for a draft's table is the draft laid for either half
+abbrev pub TableLaw : Type 0
+TableLaw = (half : Half) (F : List OpKind) → AreTold F F → fed (high half) false false (table_of F) ≡ bytes (laid half F)
+
+-- where an operation that is never reached calls the ROM below 400, the table tells something else
+abbrev pub TableMisses : Type 0
+TableMisses =
+    let F = Draw (Labs 0 0 0) ∷ Halt ∷ CallRom 5 ∷ [] in fed (high H1) false false (table_of F) ≢ bytes (laid H1 F)
