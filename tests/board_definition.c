@@ -3,7 +3,7 @@
  * table of opcodes is the definition's own: tests/board makes board_opcodes.inc of it.
  *
  *     board_definition STEPS             compares so many steps
- *     board_definition vectors COUNT     prints COUNT steps of each opcode by board_cpu.h, as numbers
+ *     board_definition vectors COUNT     prints so many of each opcode by board_cpu.h, as numbers
  */
 #include "board_cpu.h"
 #include <stdio.h>
@@ -44,7 +44,10 @@ static void telling(state *t, int byte)
     t->n = byte >= 128;
 }
 
-static int *register_named(state *t, char name) { return name == 'A' ? &t->a : name == 'X' ? &t->x : &t->y; }
+static int *register_named(state *t, char name)
+{
+    return name == 'A' ? &t->a : name == 'X' ? &t->x : &t->y;
+}
 
 static void setting(state *t, char name, int byte)
 {
@@ -110,7 +113,8 @@ static void shift(state *t, const char *kind)
 static void branch_where(state *t, char flag, int when)
 {
     int value = flag == 'N' ? t->n : flag == 'Z' ? t->z : t->c, offset = ours[t->pc + 1];
-    t->pc = value == when ? (t->pc + 2 + offset + (offset >= 128 ? PLACES - 256 : 0)) % PLACES : t->pc + 2;
+    int back = offset >= 128 ? PLACES - 256 : 0;
+    t->pc = value == when ? (t->pc + 2 + offset + back) % PLACES : t->pc + 2;
 }
 
 static void move(state *t, const char *kind)
@@ -135,7 +139,8 @@ static void does(state *t, const char *instruction)
     char kind[32] = "", one[32] = "", two[32] = "";
     sscanf(instruction, "%31s %31s %31s", kind, one, two);
     if (is(kind, "Load") || is(kind, "Compare")) take_byte(t, kind, one[0], two);
-    else if (is(kind, "And") || is(kind, "Or") || is(kind, "Xor") || is(kind, "TestBits")) take_byte(t, kind, 'A', one);
+    else if (is(kind, "And") || is(kind, "Or") || is(kind, "Xor") || is(kind, "TestBits"))
+        take_byte(t, kind, 'A', one);
     else if (is(kind, "Store")) {
         put(named_address(t, two), *register_named(t, one[0]));
         t->pc += size(two);
@@ -171,7 +176,11 @@ static int some_byte(void)
 static cpu some_cpu(int pc)
 {
     static const int flags[] = { NEGATIVE, ZERO, CARRY, OVERFLOW };
-    cpu c = { (uint8_t)some_byte(), (uint8_t)some_byte(), (uint8_t)some_byte(), (uint8_t)some_byte(), 0, (uint16_t)pc, 0 };
+    cpu c = { 0, 0, 0, 0, 0, (uint16_t)pc, 0 };
+    c.a = (uint8_t)some_byte();
+    c.x = (uint8_t)some_byte();
+    c.y = (uint8_t)some_byte();
+    c.s = (uint8_t)some_byte();
     for (int i = 0; i < 4; i++)
         if (random_below(2)) c.p = (uint8_t)(c.p | flags[i]);
     return c;
@@ -179,14 +188,19 @@ static cpu some_cpu(int pc)
 
 static state state_of(const cpu *c)
 {
-    state t = { c->a, c->x, c->y, c->s, c->pc, !!(c->p & NEGATIVE), !!(c->p & ZERO), !!(c->p & CARRY), !!(c->p & OVERFLOW) };
+    int p = c->p;
+    state t = {
+        c->a, c->x, c->y, c->s, c->pc,
+        !!(p & NEGATIVE), !!(p & ZERO), !!(p & CARRY), !!(p & OVERFLOW)
+    };
     return t;
 }
 
 static int compare_step(int row)
 {
     int pc = 0x300 + random_below(0x6000);
-    for (int i = 0; i < 3; i++) theirs[pc + i] = ours[pc + i] = (uint8_t)(i ? some_byte() : table[row].opcode);
+    for (int i = 0; i < 3; i++)
+        theirs[pc + i] = ours[pc + i] = (uint8_t)(i ? some_byte() : table[row].opcode);
     cpu c = some_cpu(pc);
     state t = state_of(&c);
     writes = our_writes = 0;
@@ -209,7 +223,8 @@ static void print_state(const state *t)
 /* A line: the seed of the memory, three bytes, the state before, the state after, two writes. */
 static void print_vector(int row)
 {
-    int memory = random_below(256), pc = 0x300 + random_below(0x6000), first = some_byte(), second = some_byte();
+    int memory = random_below(256), pc = 0x300 + random_below(0x6000);
+    int first = some_byte(), second = some_byte();
     for (long b = 0; b < PLACES; b++) theirs[b] = (uint8_t)((b * b * 3 + b * 7 + memory) % 256);
     theirs[pc] = (uint8_t)table[row].opcode;
     theirs[pc + 1] = (uint8_t)first;
@@ -241,7 +256,7 @@ int main(int argc, char **argv)
     for (int b = 0; b < PLACES; b++) theirs[b] = ours[b] = (uint8_t)random_below(256);
     for (long i = 0; i < steps; i++)
         if (!compare_step((int)(i % ROWS))) {
-            printf("step %ld, of opcode %02X, %s, differs\n", i, (unsigned)table[i % ROWS].opcode, table[i % ROWS].instruction);
+            printf("step %ld, %s, differs\n", i, table[i % ROWS].instruction);
             return 1;
         }
     printf("%ld steps of %d opcodes\n", steps, ROWS);

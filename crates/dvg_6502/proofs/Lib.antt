@@ -16,6 +16,10 @@ pub mod Standing
 pub mod Going
 pub mod TickCall
 pub mod TicksRun
+pub mod BurstRun
+pub mod BurstStep
+pub mod BurstWord
+pub mod DvgRun
 pub mod Vectors
 pub mod Sessions
 pub mod Joined
