@@ -4,6 +4,8 @@
  *
  *     board_definition STEPS             compares so many steps
  *     board_definition vectors COUNT     prints so many of each opcode by board_cpu.h, as numbers
+ *     board_definition sim COUNT RECORDS RESULTS
+ *                                        writes steps for board_steps.s, and what they leave
  */
 #include "board_cpu.h"
 #include <stdio.h>
@@ -244,9 +246,72 @@ static void print_vector(int row)
     printf("\n");
 }
 
+/* Where board_steps.s has its cells, and where it runs an instruction. */
+enum { INDEXED = 0x7000, ABSOLUTE = 0x7100, BUFFER = 0x7300, POINTER = 0xF0, CELL = 0xF8 };
+
+/* The two bytes after an opcode, so that it names one of those cells; the instruction's size. */
+static int operands(const char *instruction, int *first, int *second)
+{
+    *second = 0x71;
+    *first = some_byte();
+    if (strstr(instruction, "Absolute")) return *first = 0, 3;
+    if (strstr(instruction, "Immediate")) return 2;
+    if (strstr(instruction, "IndirectIndexed")) return *first = POINTER, 2;
+    if (strstr(instruction, "Branch")) return *first = 3, 2;
+    if (strstr(instruction, "ZeroPage") || strstr(instruction, "Change") ||
+        is(instruction, "ShiftLeft") || is(instruction, "RotateLeft")) return *first = CELL, 2;
+    return 1;
+}
+
+static int is_move(const char *instruction)
+{
+    return is(instruction, "Jump") || is(instruction, "Call") || is(instruction, "Return");
+}
+
+static void write_step(const char *instruction, int opcode, FILE *records, FILE *results)
+{
+    int first, second, bytes = operands(instruction, &first, &second);
+    cpu c = some_cpu(BUFFER);
+    state t = state_of(&c);
+    int cells[3] = { some_byte(), some_byte(), some_byte() }, y = t.y;
+    uint8_t record[11] = {
+        (uint8_t)bytes, (uint8_t)opcode, (uint8_t)first, (uint8_t)second, c.a, c.x, c.y,
+        (uint8_t)(c.p | 0x30), (uint8_t)cells[0], (uint8_t)cells[1], (uint8_t)cells[2]
+    };
+    ours[BUFFER] = (uint8_t)opcode;
+    ours[BUFFER + 1] = (uint8_t)first;
+    ours[BUFFER + 2] = (uint8_t)second;
+    ours[POINTER] = INDEXED % 256;
+    ours[POINTER + 1] = INDEXED / 256;
+    ours[CELL] = (uint8_t)cells[0];
+    ours[INDEXED + y] = (uint8_t)cells[1];
+    ours[ABSOLUTE] = (uint8_t)cells[2];
+    does(&t, instruction);
+    uint8_t result[8] = {
+        (uint8_t)t.a, (uint8_t)t.x, (uint8_t)t.y,
+        (uint8_t)(t.n * NEGATIVE + t.v * OVERFLOW + t.z * ZERO + t.c * CARRY),
+        ours[CELL], ours[INDEXED + y], ours[ABSOLUTE], (uint8_t)(t.pc == BUFFER + 5)
+    };
+    fwrite(record, 1, sizeof record, records);
+    fwrite(result, 1, sizeof result, results);
+}
+
+static int write_steps(long count, const char *record_path, const char *result_path)
+{
+    FILE *records = fopen(record_path, "wb"), *results = fopen(result_path, "wb");
+    if (!records || !results) return 1;
+    for (long i = 0; i < count; i++)
+        if (!is_move(table[i % ROWS].instruction)) {
+            our_writes = 0;
+            write_step(table[i % ROWS].instruction, table[i % ROWS].opcode, records, results);
+        }
+    return fclose(records) != 0 || fclose(results) != 0;
+}
+
 int main(int argc, char **argv)
 {
     ready_opcodes();
+    if (argc == 5) return write_steps(atol(argv[2]), argv[3], argv[4]);
     if (argc == 3) {
         for (int row = 0; row < ROWS; row++)
             for (int i = 0; i < atoi(argv[2]); i++) print_vector(row);
