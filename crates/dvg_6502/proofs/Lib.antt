@@ -6,6 +6,7 @@ pub mod FedByte
 pub mod Moving
 pub mod Told
 pub mod Begun
+pub mod Checked
 pub mod Acting
 pub mod TableTick
 pub mod Ticking
