@@ -3,7 +3,9 @@
  * table of opcodes is the definition's own: tests/board makes board_opcodes.inc of it.
  *
  *     board_definition STEPS             compares so many steps
- *     board_definition vectors COUNT     prints COUNT steps of each opcode by board_cpu.h, as numbers
+ *     board_definition vectors COUNT     prints so many of each opcode by board_cpu.h, as numbers
+ *     board_definition sim COUNT RECORDS RESULTS
+ *                                        writes steps for board_steps.s, and what they leave
  */
 #include "board_cpu.h"
 #include <stdio.h>
@@ -44,7 +46,10 @@ static void telling(state *t, int byte)
     t->n = byte >= 128;
 }
 
-static int *register_named(state *t, char name) { return name == 'A' ? &t->a : name == 'X' ? &t->x : &t->y; }
+static int *register_named(state *t, char name)
+{
+    return name == 'A' ? &t->a : name == 'X' ? &t->x : &t->y;
+}
 
 static void setting(state *t, char name, int byte)
 {
@@ -110,7 +115,8 @@ static void shift(state *t, const char *kind)
 static void branch_where(state *t, char flag, int when)
 {
     int value = flag == 'N' ? t->n : flag == 'Z' ? t->z : t->c, offset = ours[t->pc + 1];
-    t->pc = value == when ? (t->pc + 2 + offset + (offset >= 128 ? PLACES - 256 : 0)) % PLACES : t->pc + 2;
+    int back = offset >= 128 ? PLACES - 256 : 0;
+    t->pc = value == when ? (t->pc + 2 + offset + back) % PLACES : t->pc + 2;
 }
 
 static void move(state *t, const char *kind)
@@ -135,7 +141,8 @@ static void does(state *t, const char *instruction)
     char kind[32] = "", one[32] = "", two[32] = "";
     sscanf(instruction, "%31s %31s %31s", kind, one, two);
     if (is(kind, "Load") || is(kind, "Compare")) take_byte(t, kind, one[0], two);
-    else if (is(kind, "And") || is(kind, "Or") || is(kind, "Xor") || is(kind, "TestBits")) take_byte(t, kind, 'A', one);
+    else if (is(kind, "And") || is(kind, "Or") || is(kind, "Xor") || is(kind, "TestBits"))
+        take_byte(t, kind, 'A', one);
     else if (is(kind, "Store")) {
         put(named_address(t, two), *register_named(t, one[0]));
         t->pc += size(two);
@@ -171,7 +178,11 @@ static int some_byte(void)
 static cpu some_cpu(int pc)
 {
     static const int flags[] = { NEGATIVE, ZERO, CARRY, OVERFLOW };
-    cpu c = { (uint8_t)some_byte(), (uint8_t)some_byte(), (uint8_t)some_byte(), (uint8_t)some_byte(), 0, (uint16_t)pc, 0 };
+    cpu c = { 0, 0, 0, 0, 0, (uint16_t)pc, 0 };
+    c.a = (uint8_t)some_byte();
+    c.x = (uint8_t)some_byte();
+    c.y = (uint8_t)some_byte();
+    c.s = (uint8_t)some_byte();
     for (int i = 0; i < 4; i++)
         if (random_below(2)) c.p = (uint8_t)(c.p | flags[i]);
     return c;
@@ -179,14 +190,19 @@ static cpu some_cpu(int pc)
 
 static state state_of(const cpu *c)
 {
-    state t = { c->a, c->x, c->y, c->s, c->pc, !!(c->p & NEGATIVE), !!(c->p & ZERO), !!(c->p & CARRY), !!(c->p & OVERFLOW) };
+    int p = c->p;
+    state t = {
+        c->a, c->x, c->y, c->s, c->pc,
+        !!(p & NEGATIVE), !!(p & ZERO), !!(p & CARRY), !!(p & OVERFLOW)
+    };
     return t;
 }
 
 static int compare_step(int row)
 {
     int pc = 0x300 + random_below(0x6000);
-    for (int i = 0; i < 3; i++) theirs[pc + i] = ours[pc + i] = (uint8_t)(i ? some_byte() : table[row].opcode);
+    for (int i = 0; i < 3; i++)
+        theirs[pc + i] = ours[pc + i] = (uint8_t)(i ? some_byte() : table[row].opcode);
     cpu c = some_cpu(pc);
     state t = state_of(&c);
     writes = our_writes = 0;
@@ -209,7 +225,8 @@ static void print_state(const state *t)
 /* A line: the seed of the memory, three bytes, the state before, the state after, two writes. */
 static void print_vector(int row)
 {
-    int memory = random_below(256), pc = 0x300 + random_below(0x6000), first = some_byte(), second = some_byte();
+    int memory = random_below(256), pc = 0x300 + random_below(0x6000);
+    int first = some_byte(), second = some_byte();
     for (long b = 0; b < PLACES; b++) theirs[b] = (uint8_t)((b * b * 3 + b * 7 + memory) % 256);
     theirs[pc] = (uint8_t)table[row].opcode;
     theirs[pc + 1] = (uint8_t)first;
@@ -229,9 +246,72 @@ static void print_vector(int row)
     printf("\n");
 }
 
+/* Where board_steps.s has its cells, and where it runs an instruction. */
+enum { INDEXED = 0x7000, ABSOLUTE = 0x7100, BUFFER = 0x7300, POINTER = 0xF0, CELL = 0xF8 };
+
+/* The two bytes after an opcode, so that it names one of those cells; the instruction's size. */
+static int operands(const char *instruction, int *first, int *second)
+{
+    *second = 0x71;
+    *first = some_byte();
+    if (strstr(instruction, "Absolute")) return *first = 0, 3;
+    if (strstr(instruction, "Immediate")) return 2;
+    if (strstr(instruction, "IndirectIndexed")) return *first = POINTER, 2;
+    if (strstr(instruction, "Branch")) return *first = 3, 2;
+    if (strstr(instruction, "ZeroPage") || strstr(instruction, "Change") ||
+        is(instruction, "ShiftLeft") || is(instruction, "RotateLeft")) return *first = CELL, 2;
+    return 1;
+}
+
+static int is_move(const char *instruction)
+{
+    return is(instruction, "Jump") || is(instruction, "Call") || is(instruction, "Return");
+}
+
+static void write_step(const char *instruction, int opcode, FILE *records, FILE *results)
+{
+    int first, second, bytes = operands(instruction, &first, &second);
+    cpu c = some_cpu(BUFFER);
+    state t = state_of(&c);
+    int cells[3] = { some_byte(), some_byte(), some_byte() }, y = t.y;
+    uint8_t record[11] = {
+        (uint8_t)bytes, (uint8_t)opcode, (uint8_t)first, (uint8_t)second, c.a, c.x, c.y,
+        (uint8_t)(c.p | 0x30), (uint8_t)cells[0], (uint8_t)cells[1], (uint8_t)cells[2]
+    };
+    ours[BUFFER] = (uint8_t)opcode;
+    ours[BUFFER + 1] = (uint8_t)first;
+    ours[BUFFER + 2] = (uint8_t)second;
+    ours[POINTER] = INDEXED % 256;
+    ours[POINTER + 1] = INDEXED / 256;
+    ours[CELL] = (uint8_t)cells[0];
+    ours[INDEXED + y] = (uint8_t)cells[1];
+    ours[ABSOLUTE] = (uint8_t)cells[2];
+    does(&t, instruction);
+    uint8_t result[8] = {
+        (uint8_t)t.a, (uint8_t)t.x, (uint8_t)t.y,
+        (uint8_t)(t.n * NEGATIVE + t.v * OVERFLOW + t.z * ZERO + t.c * CARRY),
+        ours[CELL], ours[INDEXED + y], ours[ABSOLUTE], (uint8_t)(t.pc == BUFFER + 5)
+    };
+    fwrite(record, 1, sizeof record, records);
+    fwrite(result, 1, sizeof result, results);
+}
+
+static int write_steps(long count, const char *record_path, const char *result_path)
+{
+    FILE *records = fopen(record_path, "wb"), *results = fopen(result_path, "wb");
+    if (!records || !results) return 1;
+    for (long i = 0; i < count; i++)
+        if (!is_move(table[i % ROWS].instruction)) {
+            our_writes = 0;
+            write_step(table[i % ROWS].instruction, table[i % ROWS].opcode, records, results);
+        }
+    return fclose(records) != 0 || fclose(results) != 0;
+}
+
 int main(int argc, char **argv)
 {
     ready_opcodes();
+    if (argc == 5) return write_steps(atol(argv[2]), argv[3], argv[4]);
     if (argc == 3) {
         for (int row = 0; row < ROWS; row++)
             for (int i = 0; i < atoi(argv[2]); i++) print_vector(row);
@@ -241,7 +321,7 @@ int main(int argc, char **argv)
     for (int b = 0; b < PLACES; b++) theirs[b] = ours[b] = (uint8_t)random_below(256);
     for (long i = 0; i < steps; i++)
         if (!compare_step((int)(i % ROWS))) {
-            printf("step %ld, of opcode %02X, %s, differs\n", i, (unsigned)table[i % ROWS].opcode, table[i % ROWS].instruction);
+            printf("step %ld, %s, differs\n", i, table[i % ROWS].instruction);
             return 1;
         }
     printf("%ld steps of %d opcodes\n", steps, ROWS);

@@ -6,6 +6,7 @@ pub mod FedByte
 pub mod Moving
 pub mod Told
 pub mod Begun
+pub mod Checked
 pub mod Acting
 pub mod TableTick
 pub mod Ticking
@@ -16,6 +17,10 @@ pub mod Standing
 pub mod Going
 pub mod TickCall
 pub mod TicksRun
+pub mod BurstRun
+pub mod BurstStep
+pub mod BurstWord
+pub mod DvgRun
 pub mod Vectors
 pub mod Sessions
 pub mod Joined

@@ -25,6 +25,7 @@ use Rattle.dvg_6502.proofs.Running.{returned}
 use Rattle.dvg_6502.proofs.Ticking.{acts, append_none}
 use Rattle.dvg_6502.proofs.Going.{Goes, finish}
 use Rattle.dvg_6502.proofs.TicksRun.{ticks_go}
+use Rattle.dvg_6502.proofs.DvgRun.{run_goes}
 use Rattle.dvg_6502.proofs.Offering.{reset_refines, offer_is_taken, offer_is_refused, redraw_is_taken, redraw_is_refused}
 use Rattle.dvg_6502.proofs.Standing.{Stood, stood_on, items_of, shown_items, stood_tick}
 
@@ -84,6 +85,10 @@ module _ (from : Cpu) (steps : ℕ) (calls : List Call) (life : List Item) (is_l
   ticks_outcome : Enters from 0x6860 → Stood from.mem (bounds calls).0 (bounds calls).1 life → Outcome (call_of Calls.Ticks ∷ calls)
   ticks_outcome enters stood = acts_outcome Calls.Ticks (λ items shown. shown) (λ items made. made) refl enters.log
       (ticks_go steps from (bounds calls).0 (bounds calls).1 life enters.entry enters.a enters.s stood)
+
+  run_outcome : Enters from 0x6809 → Stood from.mem (bounds calls).0 (bounds calls).1 life → Outcome (call_of Calls.Run ∷ calls)
+  run_outcome enters stood = acts_outcome Calls.Run (λ items shown. shown) (λ items made. made) refl enters.log
+      (run_goes steps from (bounds calls).0 (bounds calls).1 life enters.entry enters.s stood)
 
   -- what is at the end of an answer
   module _ (c : Bool) (begin stop : ℕ) (new : Stage) (did : Answers from c begin stop new) where
@@ -317,6 +322,9 @@ outcome (call ∷ calls) session = by call.routine call.from call.steps session.
     by Calls.Ticks from steps enters table rest older =
         let was = before (record { routine = Calls.Ticks; from = from; steps = steps }) calls rest.0 enters.loaded (older rest.1) in
         ticks_outcome from steps calls was.life was.is_life enters was.stood
+    by Calls.Run from steps enters table rest older =
+        let was = before (record { routine = Calls.Run; from = from; steps = steps }) calls rest.0 enters.loaded (older rest.1) in
+        run_outcome from steps calls was.life was.is_life enters was.stood
     by (Calls.Offer F) from steps enters table rest older =
         let was = before (record { routine = Calls.Offer F; from = from; steps = steps }) calls rest.0 enters.loaded (older rest.1) in
         offer_outcome from steps calls was.life was.is_life F enters table was.stood
@@ -368,6 +376,7 @@ one_added : (routine : Routine) (call : Call) (one other : List Item) → Adds r
 one_added Calls.Reset call one other a b = a.1 ∙ sym b.1
 one_added Calls.Tick call one other a b = one_shown (seen (after call).log) one other a b
 one_added Calls.Ticks call one other a b = one_shown (seen (after call).log) one other a b
+one_added Calls.Run call one other a b = one_shown (seen (after call).log) one other a b
 one_added (Calls.Offer F) call one other a b = a.1 ∙ sym b.1
 one_added Calls.Redraw call one other a b = a.1 ∙ sym b.1
 
@@ -376,6 +385,7 @@ one_since : (routine : Routine) (one other : List Item) (P : List Item → Type 
 one_since Calls.Reset one other P same a b = a ∙ sym b
 one_since Calls.Tick one other P same a b = same a b
 one_since Calls.Ticks one other P same a b = same a b
+one_since Calls.Run one other P same a b = same a b
 one_since (Calls.Offer F) one other P same a b = same a b
 one_since Calls.Redraw one other P same a b = same a b
 

@@ -4,7 +4,7 @@ use Rattle.dvg_mem.specs.Areas.{other, half_of_high}
 use Rattle.dvg_frame.specs.declared.op.OpKind.{OpKind}
 use Rattle.dvg_driver.specs.Script.{Item, Offered, Asked, Did, IsLife, IsWhole, has_flip}
 use Rattle.dvg_6502.specs.Processor.{Cpu, Access, run, at_return}
-use Rattle.dvg_6502.specs.Code.{dvg_reset, dvg_tick, dvg_ticks, dvg_offer, dvg_redraw}
+use Rattle.dvg_6502.specs.Code.{dvg_reset, dvg_tick, dvg_ticks, dvg_run, dvg_offer, dvg_redraw}
 use Rattle.dvg_6502.specs.Board.{seen, is_own, is_ram, byte1_place, phase_in}
 use Rattle.dvg_6502.specs.Tables.{HasTable, table_of}
 use Rattle.dvg_6502.specs.Routines.{Enters, Shows}
@@ -14,6 +14,7 @@ pub data Routine : Type 0 where
   Reset : Routine
   Tick : Routine
   Ticks : Routine
+  Run : Routine
   Offer : List OpKind → Routine
   Redraw : Routine
 
@@ -22,6 +23,7 @@ abbrev pub entry : Routine → ℕ
 entry Reset = dvg_reset
 entry Tick = dvg_tick
 entry Ticks = dvg_ticks
+entry Run = dvg_run
 entry (Offer F) = dvg_offer
 entry Redraw = dvg_redraw
 
@@ -91,6 +93,7 @@ AreShown items log = ⊥
 abbrev pub Adds : Routine → Call → List Item → Type 0
 Adds Tick call items = AreShown items (seen (after call).log)
 Adds Ticks call items = AreShown items (seen (after call).log)
+Adds Run call items = AreShown items (seen (after call).log)
 Adds (Offer F) call items =
     (seen (after call).log ≡ [])
     × (items ≡ (if is_taken call then Offered (other (half_of_high (call.from.mem byte1_place))) F ∷ [] else []))

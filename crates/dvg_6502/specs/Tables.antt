@@ -1,5 +1,5 @@
 -- Tables of frames.
-use Rattle.std.specs.Prelude.{◌≡◌, ◌≢◌, ℕ, ◌+◌, ◌*◌, ◌<◌, ◌≤◌, false, List, [], ◌∷◌, length, slice_index}
+use Rattle.std.specs.Prelude.{◌≡◌, ◌≢◌, ℕ, ◌+◌, ◌*◌, ◌<◌, ◌≤◌, false, List, [], ◌∷◌, length, All, slice_index}
 use Rattle.dvg_code.specs.declared.instr.Instr.TheVariants.{Labs}
 use Rattle.dvg_mem.specs.declared.half.Half.{Half}
 use Rattle.dvg_mem.specs.declared.half.Half.TheVariants.{H0, H1}
@@ -8,7 +8,8 @@ use Rattle.dvg_frame.specs.declared.op.OpKind.{OpKind}
 use Rattle.dvg_frame.specs.declared.op.OpKind.TheVariants.{Draw, CallRom, JumpRom, Call, Jump, Halt}
 use Rattle.dvg_frame.specs.Bytes.{bytes}
 use Rattle.dvg_frame.specs.Layout.{laid, at}
-use Rattle.dvg_frame.specs.Ops.{IsOp}
+use Rattle.dvg_frame.specs.Ops.{IsOp, IsDraft}
+use Rattle.dvg_frame.specs.Faults.{Accepts}
 use Rattle.dvg_6502.specs.Board.{is_device}
 use Rattle.dvg_6502.specs.Feed.{fed}
 
@@ -49,3 +50,13 @@ TableLaw = (half : Half) (F : List OpKind) → AreTold F F → fed (high half) f
 abbrev pub TableMisses : Type 0
 TableMisses =
     let F = Draw (Labs 0 0 0) ∷ Halt ∷ CallRom 5 ∷ [] in fed (high H1) false false (table_of F) ≢ bytes (laid H1 F)
+
+-- what it names of the ROM stands from 400 on
+abbrev pub NamesRom : OpKind → Type 0
+NamesRom (CallRom a) = 0x400 ≤ a
+NamesRom (JumpRom a) = 0x400 ≤ a
+NamesRom op = Unit {0}
+
+-- a table can tell each checked draft whose operations name the ROM from 400 on
+abbrev pub CheckedTold : Type 0
+CheckedTold = (F : List OpKind) (R : List ℕ) → IsDraft F → Accepts F R → All NamesRom F → AreTold F F

@@ -6,11 +6,16 @@ ghost use Rattle.dvg_6502.specs.Calls.{CallsLive, OfferAnswers, OneLife, RedrawA
 ghost use Rattle.dvg_6502.specs.Joined.{BoardKeeps};
 ghost use Rattle.dvg_6502.specs.Routines.{OfferRefuses, OfferTakes, RedrawRefuses, RedrawTakes};
 ghost use Rattle.dvg_6502.specs.Routines.{ResetRefines, TickRefines};
-ghost use Rattle.dvg_6502.specs.Tables.{TableLaw, TableMisses};
+ghost use Rattle.dvg_6502.specs.Tables.{CheckedTold, TableLaw, TableMisses};
 
 /// What is written for the table of a frame is the frame in either half.
 pub fn tables()
     ensures { TableLaw }
+{}
+
+/// The table of each checked draft is told so, where its operations name the ROM from 400 on.
+pub fn checked_tables()
+    ensures { CheckedTold }
 {}
 
 /// A table tells something else where an operation names a word of the ROM below 400.

@@ -1,0 +1,76 @@
+-- What a table can tell of a checked draft.
+use Rattle.std.proofs.Common.{◌≡◌, ℕ, zero, suc, ◌+◌, ◌<◌, ◌≤◌, Bool, true, false, List, [], ◌∷◌, length, refl, arith, Some, take, leb-true}
+use Rattle.std.specs.Prelude.{All, nat_le, slice_get}
+use Rattle.std.proofs.lemmas.Bool.{leb-false}
+use Rattle.std.proofs.lemmas.List.Elements.{All-head, All-tail}
+use Rattle.dvg_mem.specs.declared.half.Half.TheVariants.{H0}
+use Rattle.dvg_code.specs.declared.instr.Instr.TheVariants.{Vctr, Labs, Svec, Halt as Stops, Jsrl, Rtsl, Jmpl}
+use Rattle.dvg_frame.specs.declared.op.OpKind.{OpKind}
+use Rattle.dvg_frame.specs.declared.op.OpKind.TheVariants.{Draw, CallRom, JumpRom, Call, Jump, Return, Halt}
+use Rattle.dvg_frame.specs.declared.place.Place.TheVariants.{InFrame}
+use Rattle.dvg_frame.specs.Layout.{at, op_words, size}
+use Rattle.dvg_frame.specs.Ops.{IsOp}
+use Rattle.dvg_frame.specs.Steps.{Names, op_act, misses, Begins}
+use Rattle.dvg_frame.proofs.Sizes.{size-take_le, size-take_more}
+use Rattle.dvg_6502.specs.Tables.{IsTold, AreTold, NamesRom, CheckedTold}
+
+-- an operation has a word at least
+some_words : (op : OpKind) → 1 ≤ op_words op
+some_words (Draw (Vctr scale dx dy z)) = omega arith
+some_words (Draw (Labs x y scale)) = omega arith
+some_words (Draw (Svec scale dx dy z)) = omega arith
+some_words (Draw Stops) = omega arith
+some_words (Draw (Jsrl a)) = omega arith
+some_words (Draw Rtsl) = omega arith
+some_words (Draw (Jmpl a)) = omega arith
+some_words (CallRom a) = omega arith
+some_words (JumpRom a) = omega arith
+some_words (Call j) = omega arith
+some_words (Jump j) = omega arith
+some_words Return = omega arith
+some_words Halt = omega arith
+
+op_at : (F : List OpKind) (j : ℕ) → j < length F → (op : OpKind) × (slice_get F j ≡ Some op)
+op_at [] j h = absurd (omega (arith, h))
+op_at (op ∷ F) zero h = (op, refl)
+op_at (op ∷ F) (suc j) h = op_at F j (omega (arith, h))
+
+-- an operation of the draft stands in its first 511 words
+low_place : (F : List OpKind) (j : ℕ) → j < length F → size F ≤ 511 → at H0 F j ≤ 0x1FF
+low_place F j within fits =
+    let here = op_at F j within in
+    let more = size-take_more F j here.0 here.0 (size (take j F)) (op_words here.0) refl here.1 refl refl in
+    let all = size-take_le F (j + 1) in
+    let some = some_words here.0 in
+    omega (arith, more, all, some, fits)
+
+module _ (F : List OpKind) (begins : Begins F) where
+  -- what an operation names of the frame is one of its operations
+  in_frame : (i j : ℕ) (op : OpKind) → slice_get F i ≡ Some op → Names (op_act op) (InFrame j) → j < length F
+  in_frame i j op is names = by (nat_le (length F) j) refl
+    where
+      by : (t : Bool) → nat_le (length F) j ≡ t → j < length F
+      by true is' = absurd (begins.targets i (misses is names (leb-true (length F) j is')))
+      by false is' = let less = leb-false (length F) j is' in omega (arith, less)
+
+  told : (i : ℕ) (op : OpKind) → slice_get F i ≡ Some op → NamesRom op → IsTold F op
+  told i (Draw instr) is rom = tt
+  told i (CallRom a) is rom = rom
+  told i (JumpRom a) is rom = rom
+  told i (Call j) is rom = low_place F j (in_frame i j (Call j) is refl) begins.fits
+  told i (Jump j) is rom = low_place F j (in_frame i j (Jump j) is refl) begins.fits
+  told i Return is rom = tt
+  told i Halt is rom = tt
+
+  all_told : (ops : List OpKind) → ((i : ℕ) (op : OpKind) → slice_get ops i ≡ Some op → (k : ℕ) × (slice_get F k ≡ Some op))
+      → All IsOp ops → All NamesRom ops → AreTold F ops
+  all_told [] stands ops rom = tt
+  all_told (op ∷ rest) stands ops rom =
+      let here = stands 0 op refl in (
+        All-head IsOp op rest ops,
+        told here.0 op here.1 (All-head NamesRom op rest rom),
+        all_told rest (λ i other is. stands (suc i) other is) (All-tail IsOp op rest ops) (All-tail NamesRom op rest rom),
+      )
+
+pub checked_told : CheckedTold
+checked_told F R draft accepts rom = all_told F accepts.closed.begins F (λ i op is. (i, is)) draft.ops rom
