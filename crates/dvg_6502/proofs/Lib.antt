@@ -24,3 +24,4 @@ pub mod DvgRun
 pub mod Vectors
 pub mod Sessions
 pub mod Joined
+pub mod Example

@@ -2,6 +2,7 @@
 use Rattle.std.specs.Prelude.{◌≡◌, ℕ, true, false, List, [], ◌∷◌, is_none}
 use Rattle.dvg_mem.specs.Memory.{IsImage, IsRom}
 use Rattle.dvg_frame.specs.Faults.{Accepts}
+use Rattle.dvg_driver.specs.declared.action.Action.TheVariants.{Peek}
 use Rattle.dvg_driver.specs.Script.{Item, Did, has_flip}
 use Rattle.dvg_driver.specs.Stands.{Tells}
 use Rattle.dvg_log.specs.Events.{Happening, Offer, Redraw, Tick, IsEvent}
@@ -37,3 +38,7 @@ IsBoards R image ((event ⟼ entry) ∷ log) = FitsBoard R image log event entry
 -- each log of the board is legal, and keeps the headline
 abbrev pub BoardKeeps : Type 0
 BoardKeeps = (R image : List ℕ) (log : Log) → IsBoards R image log → IsLegal R image log × Throughout (KeepsHeadline R image) log
+
+-- there are calls that make a life: a reset and a tick make one of a peek
+abbrev pub SomeCalls : Type 0
+SomeCalls = IsMade (Did Peek ∷ [])

@@ -3,7 +3,7 @@
 #![tactic(auto)]
 
 ghost use Rattle.dvg_6502.specs.Calls.{CallsLive, OfferAnswers, OneLife, RedrawAnswers};
-ghost use Rattle.dvg_6502.specs.Joined.{BoardKeeps};
+ghost use Rattle.dvg_6502.specs.Joined.{BoardKeeps, SomeCalls};
 ghost use Rattle.dvg_6502.specs.Routines.{OfferRefuses, OfferTakes, RedrawRefuses, RedrawTakes};
 ghost use Rattle.dvg_6502.specs.Routines.{ResetRefines, TickRefines};
 ghost use Rattle.dvg_6502.specs.Tables.{CheckedTold, TableLaw, TableMisses};
@@ -50,6 +50,11 @@ pub fn redraw()
 /// in their order, with the frames and redraws that were taken, are a life of the script.
 pub fn calls_live()
     ensures { CallsLive }
+{}
+
+/// There are such calls: a reset and a tick make a life of a peek.
+pub fn some_calls()
+    ensures { SomeCalls }
 {}
 
 /// Calls make one life at most.
