@@ -1,0 +1,2 @@
+mod ExampleNames
+mod LineCuts
