@@ -1,6 +1,5 @@
 -- The names of the examples.
-use Rattle.std.proofs.Common.{◌≡◌, ℕ, List, [], ◌∷◌, length, refl, sym, true≢false, arith, codes}
-use Rattle.std.specs.Str.Parse.{AllDigits, digits_value}
+use Rattle.std.proofs.Common.{◌≡◌, ℕ, List, [], length, refl, sym, true≢false, arith, codes}
 use Rattle.dvg_text.specs.Texts.{IsHex}
 use Rattle.dvg_named.specs.Rows.{IsName}
 
@@ -35,3 +34,9 @@ empty h = h.first
 
 pub too_long : ¬ IsName (codes "a23456789_123456789_123456789_123")
 too_long h = let most = h.most in omega (arith, most)
+
+pub a : IsName (codes "a")
+a = record { first = refl; bytes = refl; most = omega arith; no_address = other_size 1 (codes "a") refl (λ e. omega (arith, e)) }
+
+pub ship : IsName (codes "ship")
+ship = record { first = refl; bytes = refl; most = omega arith; no_address = other_size 4 (codes "ship") refl (λ e. omega (arith, e)) }

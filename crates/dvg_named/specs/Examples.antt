@@ -1,13 +1,12 @@
 -- Worked examples of the definitions.
-use Rattle.std.specs.Prelude.{◌≡◌, ℕ, pos, List, [], ◌∷◌, ◌++◌, Option, Some, None, codes}
+use Rattle.std.specs.Prelude.{◌≡◌, pos, [], ◌∷◌, ◌++◌, Some, None, codes}
 use Rattle.dvg_code.specs.declared.instr.Instr.TheVariants.{Labs, Svec}
-use Rattle.dvg_frame.specs.declared.op.OpKind.TheVariants.{Draw, Halt, Return}
-use Rattle.dvg_text.specs.RomTexts.{RomText}
+use Rattle.dvg_frame.specs.declared.op.OpKind.TheVariants.{Draw, Halt}
 use Rattle.dvg_text.specs.Texts.{told}
 use Rattle.dvg_named.specs.PlainLines.{plain, plain_lines, words}
 use Rattle.dvg_named.specs.Rows.{IsHeadLine, IsName, IsRowLine, Row, calls, frame, plainly, rom}
-use Rattle.dvg_named.specs.Sections.{FrameRows, RomRows, Spelled, frames, rom_sections}
-use Rattle.dvg_named.specs.Places.{IsAddress, IsNumber, Laid, free_after, laid}
+use Rattle.dvg_named.specs.Sections.{frames}
+use Rattle.dvg_named.specs.Places.{IsAddress, IsNumber, free_after, laid}
 
 -- blanks and tabs part words, freely, and a comment and a CR are none: 9 is a tab, and 13 is CR
 abbrev pub WordsAreParted : Type 0

@@ -5,3 +5,4 @@ pub mod Places
 pub mod Meanings
 pub mod NamedFaults
 pub mod Examples
+pub mod TextExamples

@@ -1,18 +1,15 @@
 -- What the text of a sketch denotes: its frames, and what it tells of the ROM.
-use Rattle.std.specs.Prelude.{◌≡◌, ℕ, ◌<◌, ◌≤◌, List, [], ◌∷◌, ◌++◌, length, All, Option, Some, map}
-use Rattle.std.specs.List.{AllZip, concat, filter_map}
+use Rattle.std.specs.Prelude.{◌≡◌, ℕ, List, ◌++◌, Option, map}
+use Rattle.std.specs.List.{AllZip, concat}
 use Rattle.dvg_code.specs.Spelling.{canon}
 use Rattle.dvg_code.specs.declared.instr.Instr.{Instr}
 use Rattle.dvg_code.specs.declared.instr.Instr.TheVariants as instrs
 use Rattle.dvg_frame.specs.declared.op.OpKind.{OpKind}
 use Rattle.dvg_frame.specs.declared.op.OpKind.TheVariants as kinds
-use Rattle.dvg_text.specs.FirstFaults.{IsShort}
-use Rattle.dvg_text.specs.RomTexts.{RomLine, RomText, first_told}
-use Rattle.dvg_text.specs.Texts.{told}
-use Rattle.dvg_named.specs.PlainLines.{plain_lines}
+use Rattle.dvg_text.specs.RomTexts.{RomLine, RomText}
 use Rattle.dvg_named.specs.Rows.{Doing, Row, plainly, calls, jumps, calls_rom, jumps_rom}
-use Rattle.dvg_named.specs.Sections.{FrameRows, Spelled, SpellsSketch, frames, rom_sections}
-use Rattle.dvg_named.specs.Places.{IsAddress, IsNamedAfter, IsNumber, Laid, doings, laid, laid_end}
+use Rattle.dvg_named.specs.Sections.{FrameRows, Spelled, frames, rom_sections}
+use Rattle.dvg_named.specs.Places.{IsAddress, IsNumber, Laid, doings, laid}
 
 -- a frame: its name, if it has one, and its draft
 pub record Frame : Type 0 where

@@ -1,5 +1,5 @@
 -- The limits of a sketch, and its one fault.
-use Rattle.std.specs.Prelude.{◌≡◌, ◌≢◌, ℕ, ◌+◌, ◌<◌, ◌≤◌, List, [], ◌∷◌, ◌++◌, length, All, AllPairs, Option, Some, None, slice_get, false}
+use Rattle.std.specs.Prelude.{◌≡◌, ◌≢◌, ℕ, ◌+◌, ◌<◌, ◌≤◌, List, [], ◌∷◌, ◌++◌, length, All, AllPairs, Some, slice_get, false}
 use Rattle.std.specs.List.{filter_map, flat_map}
 use Rattle.dvg_text.specs.FirstFaults.{IsShort}
 use Rattle.dvg_text.specs.RomTexts.{first_told}
@@ -61,6 +61,13 @@ pub record DenotesFrames (text : List ℕ) (rom : RomText) (result : List Frame)
   pub spelled : SpellsSketch sketch (told (plain_lines text))
   pub limits : KeepsLimits sketch
   pub meant : IsMeant sketch result rom
+
+-- in the ROM of the text the name is that of this word address
+pub record NamesAddress (text name : List ℕ) (address : ℕ) : Type 0 where
+  pub sketch : Spelled
+  pub spelled : SpellsSketch sketch (told (plain_lines text))
+  pub limits : KeepsLimits sketch
+  pub is : IsAddress (laid_of sketch) name address
 
 -- lines that spell a sketch within the limits
 pub record IsFineSketch (ls : List (List ℕ)) : Type 0 where

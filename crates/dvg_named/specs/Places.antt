@@ -1,5 +1,5 @@
 -- Where the operations of a sketch stand, and which of them a name names.
-use Rattle.std.specs.Prelude.{◌≡◌, ℕ, ◌+◌, max, List, [], ◌∷◌, ◌++◌, length, Option, Some, None, unwrap_or}
+use Rattle.std.specs.Prelude.{◌≡◌, ℕ, ◌+◌, max, List, [], ◌∷◌, ◌++◌, length, Some, unwrap_or}
 use Rattle.std.specs.List.{filter_map, sum_by}
 use Rattle.dvg_code.specs.Spelling.{word_count}
 use Rattle.dvg_frame.specs.declared.op.OpKind.TheVariants.{Draw}

@@ -1,6 +1,7 @@
 //! Worked examples of the definitions. Each is the contract of a function that does nothing.
 ghost use Rattle.dvg_named.specs.Examples.{AddressIsAfterTwoWords, HeadsAreSpelled, LargerRomIsFree, LinesArePlain, LinesAreTold, NoNames};
 ghost use Rattle.dvg_named.specs.Examples.{NothingIsAFrame, NumberIsThatOfTheNext, OneCrIsPassed, OneSpaceIsPlain, RomAloneIsNoFrame};
+ghost use Rattle.dvg_named.specs.TextExamples.{CallsTheRom, JumpsBack, OutOfRomAtOne, OverlapAtFour, TwiceAtTwo, UnknownAtOne};
 ghost use Rattle.dvg_named.specs.Examples.{RowsAreSpelled, SectionsAreLaid, TopIsAFrame, WordsAreParted};
 
 /// How a line becomes words.
@@ -32,4 +33,14 @@ pub fn places()
     ensures laid { SectionsAreLaid }
     ensures address { AddressIsAfterTwoWords }
     ensures free { LargerRomIsFree }
+{}
+
+/// What whole texts denote, and which fault they have.
+pub fn texts()
+    ensures jump { JumpsBack }
+    ensures call { CallsTheRom }
+    ensures twice { TwiceAtTwo }
+    ensures out { OutOfRomAtOne }
+    ensures overlap { OverlapAtFour }
+    ensures unknown { UnknownAtOne }
 {}

@@ -1,7 +1,5 @@
-use Rattle.std.proofs.Common.{◌≡◌, ℕ, [], ◌∷◌, refl, Some, None, codes}
+use Rattle.std.proofs.Common.{[], ◌∷◌, refl, Some, None, codes}
 use Rattle.dvg_named.specs.Examples.{halts, puts, ship}
-use Rattle.dvg_named.specs.Rows.{Row}
-use Rattle.dvg_named.specs.Places.{IsNamedAfter}
 use Rattle.dvg_named.proofs.examples.places.Goals as goal
 
 pub returns-clause-number : goal.returns-clause-number

@@ -1,4 +1,3 @@
-use Rattle.std.proofs.Common.{refl, codes}
 use Rattle.dvg_text.specs.OpLines as ops
 use Rattle.dvg_named.specs.Rows as rows
 use Rattle.dvg_named.proofs.ExampleNames.{address, bad, begins_with_digit, empty, halt, rock, rock_2, title, too_long}

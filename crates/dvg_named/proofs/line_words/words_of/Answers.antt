@@ -7,7 +7,7 @@ use Rattle.std.specs.Slice.Iter.{split_callee, split_done, split_rest}
 use borrow.Author.Tests.{tests}
 use Rattle.dvg_text.specs.LineParts.{bytes_of}
 use Rattle.dvg_text.proofs.Cuts.{fewer}
-use Rattle.dvg_named.specs.PlainLines.{is_blank, is_some_byte, uncommented, words}
+use Rattle.dvg_named.specs.PlainLines.{is_blank, is_some_byte}
 use Rattle.dvg_named.proofs.LineCuts.{words_are}
 use Rattle.dvg_named.proofs.line_words.words_of.Goals as goal
 
