@@ -10,7 +10,7 @@ use Rattle.dvg_text.specs.OpLines as ops
 use Rattle.dvg_text.specs.RomReading.{untold}
 use Rattle.dvg_text.specs.RomTexts.{unmapped}
 use Rattle.dvg_text.specs.Texts.{IsHex}
-use Rattle.dvg_named.specs.Rows.{Doing, Row, plainly, jumps, calls_rom, frame, rom, top, named, does, both, plain, jump, callrom, named_frame, at}
+use Rattle.dvg_named.specs.Rows.{Doing, Row, plainly, jumps, calls_rom, frame, rom, top, does, both, plain, jump, callrom, named_frame, at}
 use Rattle.dvg_named.specs.Sections.{FrameRows, MayStand, Section, Spelled, SpellsSection, SpellsSketch}
 use Rattle.dvg_named.specs.Places.{IsAddress, IsNamedAfter, IsNumber, Laid, doings, laid_end}
 use Rattle.dvg_named.specs.NamedFaults.{AreDistinct, GivesOnce, IsFineSketch, KeepsLimits, LiesOn, RomFits, WantsUngiven, names_of}

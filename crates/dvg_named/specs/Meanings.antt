@@ -16,7 +16,7 @@ pub record Frame : Type 0 where
   pub name : Option (List ℕ)
   pub draft : List OpKind
 
--- what a row of a frame does is this operation of the draft; names after `callrom` and `jumprom` are of the ROM
+-- a row of a frame does this operation; names after `callrom` and `jumprom` are of the ROM
 abbrev pub IsDrafted : List Laid → List Row → Doing → OpKind → Type 0
 IsDrafted rom rows (plainly op) drafted = drafted ≡ op
 IsDrafted rom rows (calls name) drafted = (number : ℕ) × IsNumber rows name number × (drafted ≡ kinds.Call number)
@@ -29,7 +29,7 @@ pub record IsFrameOf (rom : List Laid) (source : FrameRows) (result : Frame) : T
   pub name : result.name ≡ source.name
   pub draft : AllZip (IsDrafted rom source.rows) (doings source.rows) result.draft
 
--- what a row of the ROM does is this instruction; each name there is of the ROM, and no number of an operation stands there
+-- a row of the ROM does this instruction; each name there is of the ROM
 abbrev pub IsEncoded : List Laid → Doing → Instr → Type 0
 IsEncoded rom (plainly (kinds.Draw drawn)) instr = instr ≡ drawn
 IsEncoded rom (plainly (kinds.CallRom a)) instr = instr ≡ instrs.Jsrl a
@@ -43,7 +43,7 @@ IsEncoded rom (calls_rom name) instr = (address : ℕ) × IsAddress rom name add
 IsEncoded rom (jumps name) instr = (address : ℕ) × IsAddress rom name address × (instr ≡ instrs.Jmpl address)
 IsEncoded rom (jumps_rom name) instr = (address : ℕ) × IsAddress rom name address × (instr ≡ instrs.Jmpl address)
 
--- a laid section gives the words of its instructions, in their canonical spelling, from its start on
+-- a laid section gives the canonical words of its instructions, from its start on
 pub record IsGiven (rom : List Laid) (section : Laid) (given : RomLine) : Type 0 where
   pub address : given.address ≡ section.start
   pub instrs : List Instr
@@ -57,7 +57,7 @@ pub record IsRomText (sketch : Spelled) (result : RomText) : Type 0 where
   pub given : AllZip (IsGiven (laid sketch.rom (rom_sections sketch))) (laid sketch.rom (rom_sections sketch)) laid_words
   pub all : result.given ≡ sketch.rom.given ++ laid_words
 
--- what the lines of a sketch denote: the names that they want are given, and the frames and the ROM are these
+-- what a sketch denotes: the names that it wants are given, and the frames and the ROM are these
 pub record IsMeant (sketch : Spelled) (result : List Frame) (rom : RomText) : Type 0 where
   pub frames : AllZip (IsFrameOf (laid sketch.rom (rom_sections sketch))) (frames sketch) result
   pub rom_text : IsRomText sketch rom

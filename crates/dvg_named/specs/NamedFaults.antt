@@ -132,7 +132,7 @@ pub record WantsUngiven (text : List ℕ) (n : ℕ) : Type 0 where
   pub does : row.doing ≡ Some doing
   pub ungiven : IsUngiven (laid_of fine.sketch) section doing
 
--- the fault of a sketch's text: of those that can be told line by line that of the first line, or else the first name that isn't given
+-- the fault of a sketch's text: that of the first line at fault, or else the first name not given
 abbrev pub HasNamedFault : List ℕ → NamedFault → Type 0
 HasNamedFault text TooLong = 1048576 < length text
 HasNamedFault text (Syntax n) = MeetsNothing text n

@@ -42,7 +42,7 @@ pub record Laid : Type 0 where
 abbrev pub laid_end : Laid → ℕ
 laid_end laid = laid.start + size laid.rows
 
--- each section is laid from its address on, or else from the first free word: the one after all words that were given before
+-- each section is laid from its address on, or else from the word after all that were given before
 abbrev pub laid_from : (free : ℕ) → List RomRows → List Laid
 laid_from free [] = []
 laid_from free (section ∷ others) =

@@ -15,7 +15,7 @@ abbrev pub BeginsWithLetter : List ℕ → Type 0
 BeginsWithLetter [] = ⊥
 BeginsWithLetter (byte ∷ bytes) = IsTrue (is_ascii_lowercase byte)
 
--- a name: a letter, and then letters, digits and `_`, at most 32 bytes in all; three hexadecimal digits are none, but an address
+-- a name: a letter, then letters, digits and `_`, at most 32 bytes; no three hexadecimal digits
 pub record IsName (name : List ℕ) : Type 0 where
   pub first : BeginsWithLetter name
   pub bytes : list_all is_name_byte name ≡ true

@@ -10,7 +10,7 @@ pub record Section : Type 0 where
   pub head : Head
   pub rows : List Row
 
--- what the lines of a sketch spell: what they tell of the ROM, the rows of the section at the top, and the sections after it
+-- what lines spell: what they tell of the ROM, the rows at the top, and the sections after them
 pub record Spelled : Type 0 where
   pub rom : RomText
   pub first : List Row

@@ -16,7 +16,7 @@ pub enum NamedFault {
     /// This line has operation number 511 of a frame, which no draft can hold.
     #[error("full at line {0}")]
     Full(usize),
-    /// This line begins a section of the ROM at an address that isn't in it, or lays an operation past its end.
+    /// This line begins a section at no word of the ROM, or lays an operation past the ROM's end.
     #[error("out of rom at line {0}")]
     OutOfRom(usize),
     /// This line lays an operation on a word on which another section of the ROM lies.

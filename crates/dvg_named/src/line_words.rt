@@ -10,8 +10,8 @@ use memchr::memchr;
 /// The most words that a line of a sketch has: those of a line `rom` that gives eight words.
 pub const MAX_WORDS: usize = 10;
 
-/// The words of a line, which blanks and tabs part, without its comment and without one CR at its end. None where there
-/// are more than ten.
+/// The words of a line, which spaces and tabs part, without its comment and without one CR at its
+/// end. None exactly where there are more than ten.
 pub fn words_of(line: &[u8]) -> Option<ArrayVec<&[u8], MAX_WORDS>>
     ensures found { IfSome result (λ found. bytes_of found.items ≡ words line.now) }
     ensures many { IfNone result (MAX_WORDS < length (words line.now)) }
