@@ -1,0 +1,3 @@
+mod ExampleNames
+mod LineCuts
+mod WholeTexts

@@ -1,0 +1,46 @@
+//! Worked examples of the definitions. Each is the contract of a function that does nothing.
+ghost use Rattle.dvg_named.specs.Examples.{AddressIsAfterTwoWords, HeadsAreSpelled, LargerRomIsFree, LinesArePlain, LinesAreTold, NoNames};
+ghost use Rattle.dvg_named.specs.Examples.{NothingIsAFrame, NumberIsThatOfTheNext, OneCrIsPassed, OneSpaceIsPlain, RomAloneIsNoFrame};
+ghost use Rattle.dvg_named.specs.TextExamples.{CallsTheRom, JumpsBack, OutOfRomAtOne, OverlapAtFour, TwiceAtTwo, UnknownAtOne};
+ghost use Rattle.dvg_named.specs.Examples.{RowsAreSpelled, SectionsAreLaid, TopIsAFrame, WordsAreParted};
+
+/// How a line becomes words.
+pub fn lines()
+    ensures parted { WordsAreParted }
+    ensures plain { OneSpaceIsPlain }
+    ensures cr { OneCrIsPassed }
+    ensures small { LinesArePlain }
+    ensures told { LinesAreTold }
+{}
+
+/// What a line spells.
+pub fn rows()
+    ensures rows { RowsAreSpelled }
+    ensures heads { HeadsAreSpelled }
+    ensures names { NoNames }
+{}
+
+/// Which sections are frames.
+pub fn frames()
+    ensures nothing { NothingIsAFrame }
+    ensures rom { RomAloneIsNoFrame }
+    ensures top { TopIsAFrame }
+{}
+
+/// Where operations stand.
+pub fn places()
+    ensures number { NumberIsThatOfTheNext }
+    ensures laid { SectionsAreLaid }
+    ensures address { AddressIsAfterTwoWords }
+    ensures free { LargerRomIsFree }
+{}
+
+/// What whole texts denote, and which fault they have.
+pub fn texts()
+    ensures jump { JumpsBack }
+    ensures call { CallsTheRom }
+    ensures twice { TwiceAtTwo }
+    ensures out { OutOfRomAtOne }
+    ensures overlap { OverlapAtFour }
+    ensures unknown { UnknownAtOne }
+{}
