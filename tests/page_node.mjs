@@ -149,12 +149,14 @@ function testLog(what, trace, log, board) {
   expect(`${what}: the log for torn`, wanted, Buffer.from(board.told.text).toString());
 }
 
+const TORN = /^torn at line ([0-9]+): (.*)\nso far: [0-9]+ runs, [0-9]+ halted, [0-9]+ writes\n$/;
+
 // With the wire cut, pictures are torn, and `torn` finds the first byte.
 function testCutWire() {
   let torn = 0, pictures = 0;
   for (let seed = 1; seed <= seeds; seed++) {
     const board = runBoard(HOWS['by chance'](seed), events, true);
-    const said = /^torn at line ([0-9]+): (.*)\n$/.exec(runProgram(['torn'], board.told.text));
+    const said = TORN.exec(runProgram(['torn'], board.told.text));
     const first = board.entries.findIndex((entry) => entry.torn);
     expect(`wire cut, seed ${seed}: the first torn event`, first,
       board.told.eventOf[Number(said?.[1]) - 1]);
