@@ -9,7 +9,8 @@ tests/board makes the steps anew, and compares their numbers with those of the f
 import re
 import sys
 
-HEAD = """-- Single steps of another 6502, that of tests/board_cpu.h: the definition gives the same. tests/board_vectors.py writes this file.
+HEAD = """-- Single steps of another 6502, that of tests/board_cpu.h: the definition gives the same.
+-- tests/board_vectors.py writes this file.
 use Rattle.std.proofs.Common.{◌≡◌, ℕ, ◌+◌, ◌*◌, ◌%◌, Bool, true, false, List, [], ◌∷◌, refl}
 use Rattle.std.specs.Prelude.{nat_eq, nat_lt, ◌&&◌, if◌then◌else◌, slice_index}
 use Rattle.dvg_6502.specs.Processor.{Cpu, put, step}
@@ -18,13 +19,15 @@ use Rattle.dvg_6502.specs.Processor.{Cpu, put, step}
 abbrev memory : List ℕ → ℕ → ℕ
 memory t =
     let pc = slice_index t 8 in
-    put pc (slice_index t 1) (put (pc + 1) (slice_index t 2) (put (pc + 2) (slice_index t 3) (λ b. (b * b * 3 + b * 7 + slice_index t 0) % 256)))
+    put pc (slice_index t 1) (put (pc + 1) (slice_index t 2) (put (pc + 2) (slice_index t 3)
+        (λ b. (b * b * 3 + b * 7 + slice_index t 0) % 256)))
 
 -- the state before it
 abbrev before : List ℕ → Cpu
 before t = record {
   a = slice_index t 4; x = slice_index t 5; y = slice_index t 6; s = slice_index t 7; pc = slice_index t 8;
-  n = nat_eq (slice_index t 9) 1; z = nat_eq (slice_index t 10) 1; c = nat_eq (slice_index t 11) 1; v = nat_eq (slice_index t 12) 1;
+  n = nat_eq (slice_index t 9) 1; z = nat_eq (slice_index t 10) 1;
+  c = nat_eq (slice_index t 11) 1; v = nat_eq (slice_index t 12) 1;
   mem = memory t; flags = λ n. memory t 0x2002; log = [];
 }
 
@@ -40,9 +43,12 @@ same_byte mem place byte = if nat_lt place 65536 then nat_eq (mem place) byte el
 abbrev passes : List ℕ → Bool
 passes t =
     let new = step (before t) in
-    nat_eq new.a (slice_index t 13) && (nat_eq new.x (slice_index t 14) && (nat_eq new.y (slice_index t 15) && (nat_eq new.s (slice_index t 16) && (nat_eq new.pc (slice_index t 17)
-    && (same_bit new.n (slice_index t 18) && (same_bit new.z (slice_index t 19) && (same_bit new.c (slice_index t 20) && (same_bit new.v (slice_index t 21)
-    && (same_byte new.mem (slice_index t 22) (slice_index t 23) && same_byte new.mem (slice_index t 24) (slice_index t 25))))))))))
+    nat_eq new.a (slice_index t 13) && (nat_eq new.x (slice_index t 14)
+    && (nat_eq new.y (slice_index t 15) && (nat_eq new.s (slice_index t 16)
+    && (nat_eq new.pc (slice_index t 17) && (same_bit new.n (slice_index t 18)
+    && (same_bit new.z (slice_index t 19) && (same_bit new.c (slice_index t 20)
+    && (same_bit new.v (slice_index t 21) && (same_byte new.mem (slice_index t 22) (slice_index t 23)
+    && same_byte new.mem (slice_index t 24) (slice_index t 25))))))))))
 
 abbrev all_pass : List (List ℕ) → Bool
 all_pass [] = true
@@ -61,7 +67,7 @@ def write(lines):
         name = f"{opcode:02x}"
         print(f"\nabbrev steps_{name} : List (List ℕ)\nsteps_{name} =")
         for row in rows:
-            print(f"    ({' ∷ '.join(row)} ∷ []) ∷")
+            print(f"    ({' ∷ '.join(row[:13])} ∷\n     {' ∷ '.join(row[13:])} ∷ []) ∷")
         print(f"    []\n\npub passes_{name} : all_pass steps_{name} ≡ true\npasses_{name} = refl")
 
 

@@ -1,5 +1,6 @@
 -- A table that begins leads to the script's writes.
-use Rattle.std.proofs.Common.{◌≡◌, ℕ, ◌+◌, ◌-◌, ◌*◌, ◌%◌, ◌<◌, ◌≤◌, Bool, false, not, List, ◌++◌, length, sym, ap, ◌∙◌, subst, arith, inl}
+use Rattle.std.proofs.Common.{◌≡◌, ℕ, ◌+◌, ◌-◌, ◌*◌, ◌%◌, ◌<◌, ◌≤◌, Bool, false, not, List, ◌++◌, length, sym, ap}
+use Rattle.std.proofs.Common.{◌∙◌, subst, arith, inl}
 use Rattle.std.specs.Prelude.{nat_eq, slice_index}
 use Rattle.dvg_mem.specs.declared.half.Half.{Half}
 use Rattle.dvg_mem.specs.declared.half.Half.TheVariants.{H0, H1}
@@ -56,7 +57,8 @@ feeds mem t half flipped F b = record {
   top = b.ends;
   low = omega (arith, b.place, b.to_low, b.to_high, (base_low (other half)).0);
   high = omega (arith, b.place, b.to_low, b.to_high, (base_low (other half)).1, b.fits);
-  are = ap (λ l. addressed (2 * base (other half)) l ++ word_zero (other half) (not flipped)) (sym (table_law (other half) F b.told) ∙ ap (λ f. fed f false false (table_of F)) (sym b.free))
+  are = ap (λ l. addressed (2 * base (other half)) l ++ word_zero (other half) (not flipped))
+      (sym (table_law (other half) F b.told) ∙ ap (λ f. fed f false false (table_of F)) (sym b.free))
       ∙ ap (λ p. addressed p (fed (mem 0x11) false false (table_of F)) ++ word_zero (other half) (not flipped)) there;
 }
   where
@@ -66,8 +68,13 @@ feeds mem t half flipped F b = record {
     there : 2 * base (other half) ≡ goal_in mem - 0x4000
     there = omega (arith, b.place, b.to_low, b.to_high)
 
-pub table_begins : (mem : ℕ → ℕ) (t : ℕ) (half : Half) (flipped : Bool) (F : List OpKind) → mem 0x12 ≡ publish_byte flipped → BeginsTable mem t half F
-    → Holds mem t (t + length (table_of F)) (record { place = Writing (frame_writes (other half) F (not flipped)); half = half; flipped = flipped })
+pub table_begins : (mem : ℕ → ℕ) (t : ℕ) (half : Half) (flipped : Bool) (F : List OpKind)
+    → mem 0x12 ≡ publish_byte flipped → BeginsTable mem t half F
+    → Holds mem t (t + length (table_of F)) (record {
+      place = Writing (frame_writes (other half) F (not flipped));
+      half = half;
+      flipped = flipped;
+    })
 table_begins mem t half flipped F is b = record { flipped = is; place = (b.free, inl (feeds mem t half flipped F b)) }
 
 pub table_misses : TableMisses

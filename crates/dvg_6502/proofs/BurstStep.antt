@@ -1,5 +1,6 @@
 -- A word of dvg_run's loop, by the script.
-use Rattle.std.proofs.Common.{◌≡◌, ◌≢◌, ℕ, suc, inl, inr, ◌+◌, ◌-◌, ◌%◌, ◌<◌, ◌≤◌, Bool, true, false, not, List, [], ◌∷◌, ◌++◌, length, refl, sym, ap, ◌∙◌, subst, arith, eq-eqb}
+use Rattle.std.proofs.Common.{◌≡◌, ◌≢◌, ℕ, suc, inl, inr, ◌+◌, ◌-◌, ◌%◌, ◌<◌, ◌≤◌, Bool, true, false, not, List, []}
+use Rattle.std.proofs.Common.{◌∷◌, ◌++◌, length, refl, sym, ap, ◌∙◌, subst, arith, eq-eqb}
 use Rattle.std.proofs.lemmas.Bool.{ne_eqb}
 use Rattle.std.specs.Prelude.{nat_eq, ◌⊎◌, if◌then◌else◌, slice_index}
 use Rattle.dvg_mem.specs.declared.half.Half.{Half}
@@ -25,11 +26,13 @@ stepped_page mem odd second byte =
     let wrap = nat_eq up 0 in
     let pages = carried wrap 255 (mem 0x16) in
     let phase = phase_then (nat_eq ((up + 256 - mem 0x17) % 256) 0) (nat_eq pages 0) (mem 0x12) in
-    page_of phase (mem 0x11) (mem 0x12) up (mem 0x14) (carried wrap 1 (mem 0x15)) pages (mem 0x17) (second_byte (second_then odd second byte)) (mem 0x19) (carried wrap 1 (mem 0x1A))
+    page_of phase (mem 0x11) (mem 0x12) up (mem 0x14) (carried wrap 1 (mem 0x15)) pages (mem 0x17)
+    (second_byte (second_then odd second byte)) (mem 0x19) (carried wrap 1 (mem 0x1A))
 
 -- and a memory after it
 abbrev pub stepped : (ℕ → ℕ) → (odd second : Bool) → ℕ → ℕ → ℕ
-stepped mem odd second byte = laid (stepped_page mem odd second byte) (put (goal_in mem) (put_for (mem 0x11) odd second byte) mem)
+stepped mem odd second byte =
+    laid (stepped_page mem odd second byte) (put (goal_in mem) (put_for (mem 0x11) odd second byte) mem)
 
 -- a driver that writes a table
 pub record Feeds (mem : ℕ → ℕ) (begin stop : ℕ) (life : List Item) : Type 0 where
@@ -45,25 +48,34 @@ pub record Feeds (mem : ℕ → ℕ) (begin stop : ℕ) (life : List Item) : Typ
   pub loaded : IsLoaded mem
 
 -- where the phase tells so
-pub feeds_of : (mem : ℕ → ℕ) (begin stop : ℕ) (life : List Item) → Stood mem begin stop life → mem 0x10 ≡ 0x80 → Feeds mem begin stop life
+pub feeds_of : (mem : ℕ → ℕ) (begin stop : ℕ) (life : List Item) → Stood mem begin stop life → mem 0x10 ≡ 0x80
+    → Feeds mem begin stop life
 feeds_of mem begin stop life stood phase = by stood.stage.place refl stood.holds.place
   where
     not_now : (p : ℕ) → mem 0x10 ≡ p → nat_eq p 0x80 ≡ false → Feeds mem begin stop life
-    not_now p is differ = absurd (let e = ap (λ k. nat_eq k 0x80) (sym is ∙ phase) ∙ eq-eqb 0x80 0x80 refl in let f = sym differ ∙ e in cc)
+    not_now p is differ = absurd (let e = ap (λ k. nat_eq k 0x80) (sym is ∙ phase) ∙ eq-eqb 0x80 0x80 refl in
+        let f = sym differ ∙ e in cc)
 
-    by : (place : Place) → stood.stage.place ≡ place → HoldsPlace mem begin stop stood.stage.place stood.stage.half stood.stage.flipped → Feeds mem begin stop life
-    by Start is h = not_now 0 (subst (λ place. HoldsPlace mem begin stop place stood.stage.half stood.stage.flipped) is h).0 refl
-    by Booting is h = not_now 1 (subst (λ place. HoldsPlace mem begin stop place stood.stage.half stood.stage.flipped) is h).0 refl
-    by (Resting first) is h = not_now 2 (subst (λ place. HoldsPlace mem begin stop place stood.stage.half stood.stage.flipped) is h).0 refl
-    by (Waiting first) is h = not_now 5 (subst (λ place. HoldsPlace mem begin stop place stood.stage.half stood.stage.flipped) is h).0 refl
-    by (Sending first) is h = not_now 6 (subst (λ place. HoldsPlace mem begin stop place stood.stage.half stood.stage.flipped) is h).0 refl
+    by : (place : Place) → stood.stage.place ≡ place
+        → HoldsPlace mem begin stop stood.stage.place stood.stage.half stood.stage.flipped → Feeds mem begin stop life
+    by Start is h = not_now 0
+        (subst (λ place. HoldsPlace mem begin stop place stood.stage.half stood.stage.flipped) is h).0 refl
+    by Booting is h = not_now 1
+        (subst (λ place. HoldsPlace mem begin stop place stood.stage.half stood.stage.flipped) is h).0 refl
+    by (Resting first) is h =
+        not_now 2 (subst (λ place. HoldsPlace mem begin stop place stood.stage.half stood.stage.flipped) is h).0 refl
+    by (Waiting first) is h =
+        not_now 5 (subst (λ place. HoldsPlace mem begin stop place stood.stage.half stood.stage.flipped) is h).0 refl
+    by (Sending first) is h =
+        not_now 6 (subst (λ place. HoldsPlace mem begin stop place stood.stage.half stood.stage.flipped) is h).0 refl
     by (Writing writes) is h = part now.1
       where
         now : HoldsPlace mem begin stop (Writing writes) stood.stage.half stood.stage.flipped
         now = subst (λ place. HoldsPlace mem begin stop place stood.stage.half stood.stage.flipped) is h
 
         part : IsFeeding mem begin stop stood.stage.half stood.stage.flipped writes
-            ⊎ ((mem 0x10 ≡ 3) × (writes ≡ word_zero (other stood.stage.half) true)) ⊎ ((mem 0x10 ≡ 4) × (writes ≡ word_zero (other stood.stage.half) false)) → Feeds mem begin stop life
+            ⊎ ((mem 0x10 ≡ 3) × (writes ≡ word_zero (other stood.stage.half) true))
+            ⊎ ((mem 0x10 ≡ 4) × (writes ≡ word_zero (other stood.stage.half) false)) → Feeds mem begin stop life
         part (inl f) = record {
           half = stood.stage.half;
           set = stood.stage.flipped;
@@ -72,7 +84,9 @@ feeds_of mem begin stop life stood phase = by stood.stage.place refl stood.holds
           free = now.0;
           publish = stood.holds.flipped;
           peeked = stood.peeked;
-          stands = subst (λ (place : Place). StandsAfter (record { place = place; half = stood.stage.half; flipped = stood.stage.flipped }) stood.peeked life) is stood.stands;
+          stands = subst (λ (place : Place). StandsAfter
+              (record { place = place; half = stood.stage.half; flipped = stood.stage.flipped }) stood.peeked life) is
+              stood.stands;
           byte1 = stood.byte1;
           loaded = stood.loaded;
         }
@@ -89,7 +103,8 @@ pub record NextByte (mem : ℕ → ℕ) (begin stop : ℕ) (life : List Item) (o
   pub low : 0x4002 ≤ goal_in mem
   pub high : goal_in mem < 0x4800
   pub even : mem 0x17 % 2 ≡ 0
-  pub stood : Stood (stepped mem odd second byte) begin stop (Did (Wrote (goal_in mem - 0x4000) (put_for (mem 0x11) odd second byte)) ∷ life)
+  pub stood : Stood (stepped mem odd second byte) begin stop
+      (Did (Wrote (goal_in mem - 0x4000) (put_for (mem 0x11) odd second byte)) ∷ life)
 
 -- a mark is one of two bytes
 second_same : (a b : Bool) → second_byte a ≡ second_byte b → a ≡ b
@@ -98,7 +113,8 @@ second_same false false is = refl
 second_same true false is = absurd (omega (arith, is))
 second_same false true is = absurd (omega (arith, is))
 
-pub next_byte : (mem : ℕ → ℕ) (begin stop : ℕ) (life : List Item) → Feeds mem begin stop life → (odd second : Bool) → nat_eq (mem 0x13 % 2) 1 ≡ odd → mem 0x18 ≡ second_byte second
+pub next_byte : (mem : ℕ → ℕ) (begin stop : ℕ) (life : List Item) → Feeds mem begin stop life → (odd second : Bool)
+    → nat_eq (mem 0x13 % 2) 1 ≡ odd → mem 0x18 ≡ second_byte second
     → NextByte mem begin stop life odd second
 next_byte mem begin stop life feeds odd second parity mark = by f.rest refl
   where
@@ -118,12 +134,17 @@ next_byte mem begin stop life feeds odd second parity mark = by f.rest refl
         let long : length f.rest ≡ suc (length more) = ap length is in
         let zero' : source_in mem + 0 ≡ source_in mem = omega arith in
         let first = f.far 0 (omega (arith, some)) in
-        let done = step 0 0 0 0 0 false false false false mem mem [] feeds.loaded begin stop feeds.peeked life feeds.half feeds.set odd second byte more feeds.writes feeds.free feeds.publish parity f.even
-        (omega (arith, f.left, long)) (λ k h. f.reads k (omega (arith, h, long)) ∙ ap (λ l. slice_index l k) is) (λ k h. f.far k (omega (arith, h, long)))
+        let done = step 0 0 0 0 0 false false false false mem mem [] feeds.loaded begin stop feeds.peeked life
+        feeds.half feeds.set odd second byte more feeds.writes feeds.free feeds.publish parity f.even
+        (omega (arith, f.left, long)) (λ k h. f.reads k (omega (arith, h, long)) ∙ ap (λ l. slice_index l k) is)
+        (λ k h. f.far k (omega (arith, h, long)))
         f.after (omega (arith, f.ends, long)) f.top f.low (omega (arith, f.high, long))
-        (f.are ∙ ap (λ l. addressed (goal_in mem - 0x4000) (fed (mem 0x11) f.odd f.second l) ++ word_zero (other feeds.half) (not feeds.set)) is
-        ∙ ap (λ o. addressed (goal_in mem - 0x4000) (fed (mem 0x11) o f.second (byte ∷ more)) ++ word_zero (other feeds.half) (not feeds.set)) odd_is
-        ∙ ap (λ s. addressed (goal_in mem - 0x4000) (fed (mem 0x11) odd s (byte ∷ more)) ++ word_zero (other feeds.half) (not feeds.set)) second_is)
+        (f.are ∙ ap (λ l. addressed (goal_in mem - 0x4000) (fed (mem 0x11) f.odd f.second l)
+        ++ word_zero (other feeds.half) (not feeds.set)) is
+        ∙ ap (λ o. addressed (goal_in mem - 0x4000) (fed (mem 0x11) o f.second (byte ∷ more))
+        ++ word_zero (other feeds.half) (not feeds.set)) odd_is
+        ∙ ap (λ s. addressed (goal_in mem - 0x4000) (fed (mem 0x11) odd s (byte ∷ more))
+        ++ word_zero (other feeds.half) (not feeds.set)) second_is)
         feeds.stands in
         let far : 0x200 ≤ source_in mem = omega (arith, first.0) in
         let not_one : goal_in mem - 0x4000 ≢ 1 = λ same. absurd (omega (arith, f.low, same)) in
@@ -143,7 +164,9 @@ next_byte mem begin stop life feeds odd second parity mark = by f.rest refl
             stands = done.1;
             holds = done.0;
             loaded = done.2;
-            byte1 = ap (λ (t : Bool). if t then put_for (mem 0x11) odd second byte else mem 0x4001) (ne_eqb 0x4001 (goal_in mem) there) ∙ feeds.byte1
-                ∙ sym (ap (λ (t : Bool). if t then put_for (mem 0x11) odd second byte else byte1_of feeds.peeked life) (ne_eqb (goal_in mem - 0x4000) 1 not_one));
+            byte1 = ap (λ (t : Bool). if t then put_for (mem 0x11) odd second byte else mem 0x4001)
+                (ne_eqb 0x4001 (goal_in mem) there) ∙ feeds.byte1
+                ∙ sym (ap (λ (t : Bool). if t then put_for (mem 0x11) odd second byte else byte1_of feeds.peeked life)
+                (ne_eqb (goal_in mem - 0x4000) 1 not_one));
           };
         }

@@ -1,5 +1,6 @@
 -- What a table can tell of a checked draft.
-use Rattle.std.proofs.Common.{◌≡◌, ℕ, zero, suc, ◌+◌, ◌<◌, ◌≤◌, Bool, true, false, List, [], ◌∷◌, length, refl, arith, Some, take, leb-true}
+use Rattle.std.proofs.Common.{◌≡◌, ℕ, zero, suc, ◌+◌, ◌<◌, ◌≤◌, Bool, true, false, List, [], ◌∷◌, length, refl, arith}
+use Rattle.std.proofs.Common.{Some, take, leb-true}
 use Rattle.std.specs.Prelude.{All, nat_le, slice_get}
 use Rattle.std.proofs.lemmas.Bool.{leb-false}
 use Rattle.std.proofs.lemmas.List.Elements.{All-head, All-tail}
@@ -62,14 +63,16 @@ module _ (F : List OpKind) (begins : Begins F) where
   told i Return is rom = tt
   told i Halt is rom = tt
 
-  all_told : (ops : List OpKind) → ((i : ℕ) (op : OpKind) → slice_get ops i ≡ Some op → (k : ℕ) × (slice_get F k ≡ Some op))
+  all_told : (ops : List OpKind)
+      → ((i : ℕ) (op : OpKind) → slice_get ops i ≡ Some op → (k : ℕ) × (slice_get F k ≡ Some op))
       → All IsOp ops → All NamesRom ops → AreTold F ops
   all_told [] stands ops rom = tt
   all_told (op ∷ rest) stands ops rom =
       let here = stands 0 op refl in (
         All-head IsOp op rest ops,
         told here.0 op here.1 (All-head NamesRom op rest rom),
-        all_told rest (λ i other is. stands (suc i) other is) (All-tail IsOp op rest ops) (All-tail NamesRom op rest rom),
+        all_told rest (λ i other is. stands (suc i) other is) (All-tail IsOp op rest ops)
+            (All-tail NamesRom op rest rom),
       )
 
 pub checked_told : CheckedTold

@@ -1,5 +1,6 @@
 -- dvg_run: ticks until the driver is idle.
-use Rattle.std.proofs.Common.{◌≡◌, ◌≢◌, ℕ, zero, suc, inl, inr, ◌+◌, ◌-◌, ◌%◌, ◌/◌, ◌<◌, ◌≤◌, Bool, true, false, not, List, [], ◌∷◌, ◌++◌, refl, sym, ap, ◌∙◌, subst, arith, eqb-true}
+use Rattle.std.proofs.Common.{◌≡◌, ◌≢◌, ℕ, zero, suc, inl, inr, ◌+◌, ◌-◌, ◌%◌, ◌/◌, ◌<◌, ◌≤◌, Bool, true, false, not}
+use Rattle.std.proofs.Common.{List, [], ◌∷◌, ◌++◌, refl, sym, ap, ◌∙◌, subst, arith, eqb-true}
 use Rattle.std.proofs.lemmas.Bool.{eqb-false}
 use Rattle.std.specs.Prelude.{nat_eq, nat_le, ◌⊎◌, ◌&&◌, if◌then◌else◌}
 use Rattle.std.proofs.Math.Path.{fun_ext}
@@ -32,19 +33,27 @@ pub record Round (q : ℕ) (cpu : Cpu) (begin stop : ℕ) (life : List Item) : T
   pub some : 1 ≤ steps
   pub made : Stretch q cpu steps life
   pub next : ((at_return q (run q steps cpu) ≡ true) × Stood (run q steps cpu).mem begin stop (made.items ++ life))
-      ⊎ ((at_return q (run q steps cpu) ≡ false) × ((there : Bool) × Here there q (run q steps cpu) begin stop (made.items ++ life)))
+      ⊎ ((at_return q (run q steps cpu) ≡ false)
+      × ((there : Bool) × Here there q (run q steps cpu) begin stop (made.items ++ life)))
 
 -- a state whose opcode is known isn't at its return
-open_at : (q : ℕ) (cpu : Cpu) (opcode : ℕ) → cpu.mem cpu.pc ≡ opcode → nat_eq opcode 0x60 ≡ false → at_return q cpu ≡ false
-open_at q cpu opcode is differs = ap (λ b. nat_eq b 0x60 && nat_eq cpu.s q) is ∙ ap (λ (t : Bool). t && nat_eq cpu.s q) differs
+open_at : (q : ℕ) (cpu : Cpu) (opcode : ℕ) → cpu.mem cpu.pc ≡ opcode → nat_eq opcode 0x60 ≡ false
+    → at_return q cpu ≡ false
+open_at q cpu opcode is differs = ap (λ b. nat_eq b 0x60 && nat_eq cpu.s q) is
+    ∙ ap (λ (t : Bool). t && nat_eq cpu.s q) differs
 
-open_here : (there : Bool) (q : ℕ) (cpu : Cpu) (begin stop : ℕ) (life : List Item) → Here there q cpu begin stop life → at_return q cpu ≡ false
-open_here true q cpu begin stop life here = open_at q cpu 0xA5 (ap cpu.mem here.0 ∙ here.2.loaded.code 9 (omega arith)) refl
-open_here false q cpu begin stop life here = open_at q cpu 0xB1 (ap cpu.mem here.pc ∙ here.loaded.code 34 (omega arith)) refl
+open_here : (there : Bool) (q : ℕ) (cpu : Cpu) (begin stop : ℕ) (life : List Item) → Here there q cpu begin stop life
+    → at_return q cpu ≡ false
+open_here true q cpu begin stop life here = open_at q cpu 0xA5 (ap cpu.mem here.0
+    ∙ here.2.loaded.code 9 (omega arith)) refl
+open_here false q cpu begin stop life here = open_at q cpu 0xB1 (ap cpu.mem here.pc
+    ∙ here.loaded.code 34 (omega arith)) refl
 
 -- after a stretch that ends at the JSR of dvg_run: a tick, and back to dvg_run
-module _ (q : ℕ) (q_small : q < 256) (cpu : Cpu) (begin stop : ℕ) (life : List Item) (steps : ℕ) (some : 1 ≤ steps) (made : Stretch q cpu steps life)
-    (at_pc : (run q steps cpu).pc ≡ 0x6815) (at_q : (run q steps cpu).s ≡ q) (stood : Stood (run q steps cpu).mem begin stop (made.items ++ life)) where
+module _ (q : ℕ) (q_small : q < 256) (cpu : Cpu) (begin stop : ℕ) (life : List Item) (steps : ℕ) (some : 1 ≤ steps)
+    (made : Stretch q cpu steps life)
+    (at_pc : (run q steps cpu).pc ≡ 0x6815) (at_q : (run q steps cpu).s ≡ q)
+    (stood : Stood (run q steps cpu).mem begin stop (made.items ++ life)) where
   abbrev mid : Cpu
   mid = run q steps cpu
 
@@ -81,9 +90,15 @@ module _ (q : ℕ) (q_small : q < 256) (cpu : Cpu) (begin stop : ℕ) (life : Li
     made = record {
       items = items;
       accesses = turned.made.accesses ++ made.accesses;
-      logged = ap (λ (c : Cpu). seen c.log) whole ∙ turned.made.logged ∙ ap (λ l. turned.made.accesses ++ l) made.logged ∙ sym (append_logs turned.made.accesses made.accesses (seen cpu.log));
+      logged = ap (λ (c : Cpu). seen c.log) whole ∙ turned.made.logged
+          ∙ ap (λ l. turned.made.accesses ++ l) made.logged
+          ∙ sym (append_logs turned.made.accesses made.accesses (seen cpu.log));
       shown = shown_both turned.made.items made.items turned.made.accesses made.accesses turned.made.shown made.shown;
-      placed = (turned.made.placed.0, ap place_of_life (append_items turned.made.items made.items life) ∙ turned.made.placed.1);
+      placed = (
+        turned.made.placed.0,
+        ap place_of_life (append_items turned.made.items made.items life)
+            ∙ turned.made.placed.1,
+      );
     };
     next = inr (
       ap (at_return q) whole ∙ open_here true q head begin stop (items ++ life) there,
@@ -95,9 +110,11 @@ module _ (q : ℕ) (q_small : q < 256) (cpu : Cpu) (begin stop : ℕ) (life : Li
   }
 
 -- the head of dvg_run
-module _ (q : ℕ) (q_small : q < 256) (a x y : ℕ) (n z c v : Bool) (mem flags : ℕ → ℕ) (log : List Access) (begin stop : ℕ) (life : List Item) (stood : Stood mem begin stop life) where
+module _ (q : ℕ) (q_small : q < 256) (a x y : ℕ) (n z c v : Bool) (mem flags : ℕ → ℕ) (log : List Access)
+    (begin stop : ℕ) (life : List Item) (stood : Stood mem begin stop life) where
   abbrev page : ℕ → List ℕ
-  page phase = page_of phase (mem 0x11) (mem 0x12) (mem 0x13) (mem 0x14) (mem 0x15) (mem 0x16) (mem 0x17) (mem 0x18) (mem 0x19) (mem 0x1A)
+  page phase = page_of phase (mem 0x11) (mem 0x12) (mem 0x13) (mem 0x14) (mem 0x15) (mem 0x16) (mem 0x17) (mem 0x18)
+      (mem 0x19) (mem 0x1A)
 
   abbrev from : ℕ → Cpu
   from phase = at 0x6809 a x y q n z c v (laid (page phase) mem) flags log
@@ -106,7 +123,8 @@ module _ (q : ℕ) (q_small : q < 256) (a x y : ℕ) (n z c v : Bool) (mem flags
   Goal phase = Round q (from phase) begin stop life
 
   stood_as : (phase : ℕ) → mem 0x10 ≡ phase → Stood (laid (page phase) mem) begin stop life
-  stood_as phase is = subst (λ p. Stood (laid (page p) mem) begin stop life) is (subst (λ (m : ℕ → ℕ). Stood m begin stop life) (known mem stood.loaded) stood)
+  stood_as phase is = subst (λ p. Stood (laid (page p) mem) begin stop life) is
+      (subst (λ (m : ℕ → ℕ). Stood m begin stop life) (known mem stood.loaded) stood)
 
   idles : mem 0x10 ≡ 2 → Goal 2
   idles is = record {
@@ -117,20 +135,26 @@ module _ (q : ℕ) (q_small : q < 256) (a x y : ℕ) (n z c v : Bool) (mem flags
   }
 
   -- the phases that have a tick of their own; each is known
-  ticks : (phase : ℕ) → mem 0x10 ≡ phase → (run q 6 (from phase)).pc ≡ 0x6815 → (run q 6 (from phase)).s ≡ q → (run q 6 (from phase)).mem ≡ laid (page phase) mem → seen (run q 6 (from phase)).log ≡ seen log → Goal phase
-  ticks phase is pc s memory quiet = ticked q q_small (from phase) begin stop life 6 (omega arith) (idle_stretch q (from phase) 6 begin stop life mem stood quiet) pc s
+  ticks : (phase : ℕ) → mem 0x10 ≡ phase → (run q 6 (from phase)).pc ≡ 0x6815 → (run q 6 (from phase)).s ≡ q
+      → (run q 6 (from phase)).mem ≡ laid (page phase) mem → seen (run q 6 (from phase)).log ≡ seen log → Goal phase
+  ticks phase is pc s memory quiet = ticked q q_small (from phase) begin stop life 6 (omega arith)
+      (idle_stretch q (from phase) 6 begin stop life mem stood quiet) pc s
       (subst (λ (m : ℕ → ℕ). Stood m begin stop life) (sym memory) (stood_as phase is))
 
   -- a table is being written: a tick where its next byte is a high one, and else the loop
   abbrev told : Bool → Cpu
-  told odd = at 0x6820 (mem 0x13 / 2) x (mem 0x13) q (nat_le 128 (mem 0x13 / 2)) (nat_eq (mem 0x13 / 2) 0) odd v (laid (page 0x80) mem) flags (Reads 0x13 (mem 0x13) ∷ Reads 0x10 0x80 ∷ log)
+  told odd = at 0x6820 (mem 0x13 / 2) x (mem 0x13) q (nat_le 128 (mem 0x13 / 2)) (nat_eq (mem 0x13 / 2) 0) odd v
+      (laid (page 0x80) mem) flags (Reads 0x13 (mem 0x13) ∷ Reads 0x10 0x80 ∷ log)
 
   feeds : (odd : Bool) → mem 0x10 ≡ 0x80 → nat_eq (mem 0x13 % 2) 1 ≡ odd → Goal 0x80
   feeds true is parity =
-      let six : run q 6 (from 0x80) ≡ run q 1 (told true) = run_more q 5 1 (from 0x80) ∙ ap (λ t. run q 1 (told t)) parity in
-      ticks 0x80 is (ap (λ (k : Cpu). k.pc) six) (ap (λ (k : Cpu). k.s) six) (ap (λ (k : Cpu). k.mem) six) (ap (λ (k : Cpu). seen k.log) six)
+      let six : run q 6 (from 0x80) ≡ run q 1 (told true) = run_more q 5 1 (from 0x80)
+      ∙ ap (λ t. run q 1 (told t)) parity in
+      ticks 0x80 is (ap (λ (k : Cpu). k.pc) six) (ap (λ (k : Cpu). k.s) six) (ap (λ (k : Cpu). k.mem) six)
+      (ap (λ (k : Cpu). seen k.log) six)
   feeds false is parity =
-      let six : run q 6 (from 0x80) ≡ run q 1 (told false) = run_more q 5 1 (from 0x80) ∙ ap (λ t. run q 1 (told t)) parity in
+      let six : run q 6 (from 0x80) ≡ run q 1 (told false) = run_more q 5 1 (from 0x80)
+      ∙ ap (λ t. run q 1 (told t)) parity in
       record {
         steps = 6;
         some = omega arith;
@@ -173,7 +197,8 @@ module _ (q : ℕ) (q_small : q < 256) (a x y : ℕ) (n z c v : Bool) (mem flags
       abbrev_stage : Place → Type 0
       abbrev_stage place = HoldsPlace mem begin stop place stood.stage.half stood.stage.flipped
 
-      by : (place : Place) → stood.stage.place ≡ place → HoldsPlace mem begin stop stood.stage.place stood.stage.half stood.stage.flipped → Goal (mem 0x10)
+      by : (place : Place) → stood.stage.place ≡ place
+          → HoldsPlace mem begin stop stood.stage.place stood.stage.half stood.stage.flipped → Goal (mem 0x10)
       by Start is h = let e = (subst abbrev_stage is h).0 in as_phase 0 e (ticks 0 e refl refl refl refl)
       by Booting is h = let e = (subst abbrev_stage is h).0 in as_phase 1 e (ticks 1 e refl refl refl refl)
       by (Resting first) is h = let e = (subst abbrev_stage is h).0 in as_phase 2 e (idles e)
@@ -182,23 +207,29 @@ module _ (q : ℕ) (q_small : q < 256) (a x y : ℕ) (n z c v : Bool) (mem flags
       by (Writing writes) is h = part (subst abbrev_stage is h).1
         where
           part : IsFeeding mem begin stop stood.stage.half stood.stage.flipped writes
-              ⊎ ((mem 0x10 ≡ 3) × (writes ≡ word_zero (other stood.stage.half) true)) ⊎ ((mem 0x10 ≡ 4) × (writes ≡ word_zero (other stood.stage.half) false)) → Goal (mem 0x10)
+              ⊎ ((mem 0x10 ≡ 3) × (writes ≡ word_zero (other stood.stage.half) true))
+              ⊎ ((mem 0x10 ≡ 4) × (writes ≡ word_zero (other stood.stage.half) false)) → Goal (mem 0x10)
           part (inl f) = as_phase 0x80 f.phase (feeds (nat_eq (mem 0x13 % 2) 1) f.phase refl)
           part (inr (inl three)) = as_phase 3 three.0 (ticks 3 three.0 refl refl refl refl)
           part (inr (inr four)) = as_phase 4 four.0 (ticks 4 four.0 refl refl refl refl)
 
 -- where no table is being written, the place's byte doesn't matter
-place_free : (v : ℕ) (mem : ℕ → ℕ) (begin stop : ℕ) (life : List Item) → IsLoaded mem → nat_eq (mem 0x10) 0x80 ≡ false → Stood (put 0x13 v mem) begin stop life → Stood mem begin stop life
+place_free : (v : ℕ) (mem : ℕ → ℕ) (begin stop : ℕ) (life : List Item) → IsLoaded mem → nat_eq (mem 0x10) 0x80 ≡ false
+    → Stood (put 0x13 v mem) begin stop life → Stood mem begin stop life
 place_free v mem begin stop life load other_phase stood = record {
   stage = stood.stage;
   peeked = stood.peeked;
   stands = stood.stands;
   byte1 = stood.byte1;
   loaded = load;
-  holds = record { flipped = stood.holds.flipped; place = by stood.stage.place stood.stage.half stood.stage.flipped stood.holds.place };
+  holds = record {
+    flipped = stood.holds.flipped;
+    place = by stood.stage.place stood.stage.half stood.stage.flipped stood.holds.place;
+  };
 }
   where
-    by : (place : Place) (half : Half) (flipped : Bool) → HoldsPlace (put 0x13 v mem) begin stop place half flipped → HoldsPlace mem begin stop place half flipped
+    by : (place : Place) (half : Half) (flipped : Bool) → HoldsPlace (put 0x13 v mem) begin stop place half flipped
+        → HoldsPlace mem begin stop place half flipped
     by Start half flipped h = h
     by Booting half flipped h = h
     by (Resting first) half flipped h = h
@@ -206,14 +237,19 @@ place_free v mem begin stop life load other_phase stood = record {
     by (Sending first) half flipped h = h
     by (Writing writes) half flipped h = (h.0, part h.1)
       where
-        part : IsFeeding (put 0x13 v mem) begin stop half flipped writes ⊎ ((mem 0x10 ≡ 3) × (writes ≡ word_zero (other half) true)) ⊎ ((mem 0x10 ≡ 4) × (writes ≡ word_zero (other half) false))
-            → IsFeeding mem begin stop half flipped writes ⊎ ((mem 0x10 ≡ 3) × (writes ≡ word_zero (other half) true)) ⊎ ((mem 0x10 ≡ 4) × (writes ≡ word_zero (other half) false))
+        part : IsFeeding (put 0x13 v mem) begin stop half flipped writes
+            ⊎ ((mem 0x10 ≡ 3) × (writes ≡ word_zero (other half) true))
+            ⊎ ((mem 0x10 ≡ 4) × (writes ≡ word_zero (other half) false))
+            → IsFeeding mem begin stop half flipped writes ⊎ ((mem 0x10 ≡ 3) × (writes ≡ word_zero (other half) true))
+            ⊎ ((mem 0x10 ≡ 4) × (writes ≡ word_zero (other half) false))
         part (inl f) = absurd (let e = ap (λ p. nat_eq p 0x80) f.phase in cc)
         part (inr rest) = inr rest
 
 -- a word of the loop
-module _ (q : ℕ) (q_small : q < 256) (a x y : ℕ) (n z c v : Bool) (mem flags : ℕ → ℕ) (log : List Access) (begin stop : ℕ) (life : List Item)
-    (load : IsLoaded mem) (phase : mem 0x10 ≡ 0x80) (even : y % 2 ≡ 0) (stood : Stood (put 0x13 y mem) begin stop life) where
+module _ (q : ℕ) (q_small : q < 256) (a x y : ℕ) (n z c v : Bool) (mem flags : ℕ → ℕ) (log : List Access)
+    (begin stop : ℕ) (life : List Item)
+    (load : IsLoaded mem) (phase : mem 0x10 ≡ 0x80) (even : y % 2 ≡ 0)
+    (stood : Stood (put 0x13 y mem) begin stop life) where
   abbrev low : Cpu
   low = at 0x6822 a x y q n z c v (laid (page_in mem) mem) flags log
 
@@ -290,7 +326,12 @@ module _ (q : ℕ) (q_small : q < 256) (a x y : ℕ) (n z c v : Bool) (mem flags
   -- more words
   goes_on : pc_then ends last ≡ 0x6822 → phase_then ends last (publish_byte set) ≡ 0x80 → Round q low begin stop life
   unfolding made
-  goes_on pc is = record { steps = reach.steps; some = some reach.steps reach.place; made = made; next = inr (open_here false q word_end begin stop (item1 ∷ item0 ∷ life) bursts, (false, bursts)) }
+  goes_on pc is = record {
+    steps = reach.steps;
+    some = some reach.steps reach.place;
+    made = made;
+    next = inr (open_here false q word_end begin stop (item1 ∷ item0 ∷ life) bursts, (false, bursts));
+  }
     where
       bursts : Bursts q word_end begin stop (item1 ∷ item0 ∷ life)
       bursts = record {
@@ -299,16 +340,21 @@ module _ (q : ℕ) (q_small : q < 256) (a x y : ℕ) (n z c v : Bool) (mem flags
         loaded = subst IsLoaded (sym reach.memory) (word.final_loaded q y mem begin stop life load phase even stood);
         phase = ap (λ (m : ℕ → ℕ). m 0x10) reach.memory ∙ is;
         even = ap (λ p. p % 2) reach.place ∙ even_after;
-        stood = subst (λ (m : ℕ → ℕ). Stood (put 0x13 word_end.y m) begin stop (item1 ∷ item0 ∷ life)) (sym reach.memory)
+        stood = subst (λ (m : ℕ → ℕ). Stood (put 0x13 word_end.y m) begin stop (item1 ∷ item0 ∷ life))
+            (sym reach.memory)
             (subst (λ p. Stood (put 0x13 p final) begin stop (item1 ∷ item0 ∷ life)) (sym reach.place) stood2);
       }
 
   -- it was the last one
-  publishes : pc_then ends last ≡ 0x6815 → phase_then ends last (publish_byte set) ≡ publish_byte set → Round q low begin stop life
+  publishes : pc_then ends last ≡ 0x6815 → phase_then ends last (publish_byte set) ≡ publish_byte set
+      → Round q low begin stop life
   unfolding made
-  publishes pc is = ticked q q_small low begin stop life reach.steps (some reach.steps reach.place) made (reach.pc ∙ pc) reach.stack
+  publishes pc is = ticked q q_small low begin stop life reach.steps (some reach.steps reach.place) made (reach.pc
+      ∙ pc) reach.stack
       (subst (λ (m : ℕ → ℕ). Stood m begin stop (item1 ∷ item0 ∷ life)) (sym reach.memory)
-      (place_free after final begin stop (item1 ∷ item0 ∷ life) (word.final_loaded q y mem begin stop life load phase even stood) (ap (λ p. nat_eq p 0x80) is ∙ not_writing set) stood2))
+      (place_free after final begin stop (item1 ∷ item0 ∷ life)
+      (word.final_loaded q y mem begin stop life load phase even stood) (ap (λ p. nat_eq p 0x80) is
+      ∙ not_writing set) stood2))
     where
       not_writing : (t : Bool) → nat_eq (publish_byte t) 0x80 ≡ false
       not_writing true = refl
@@ -318,35 +364,46 @@ module _ (q : ℕ) (q_small : q < 256) (a x y : ℕ) (n z c v : Bool) (mem flags
   low_round = by ends last refl refl
     where
       by : (e l : Bool) → ends ≡ e → last ≡ l → Round q low begin stop life
-      by true true is also = publishes (ap (λ t. pc_then t last) is ∙ ap (pc_then true) also) (ap (λ t. phase_then t last (publish_byte set)) is ∙ ap (λ t. phase_then true t (publish_byte set)) also)
-      by true false is also = goes_on (ap (λ t. pc_then t last) is ∙ ap (pc_then true) also) (ap (λ t. phase_then t last (publish_byte set)) is ∙ ap (λ t. phase_then true t (publish_byte set)) also)
+      by true true is also = publishes (ap (λ t. pc_then t last) is ∙ ap (pc_then true) also)
+          (ap (λ t. phase_then t last (publish_byte set)) is ∙ ap (λ t. phase_then true t (publish_byte set)) also)
+      by true false is also = goes_on (ap (λ t. pc_then t last) is ∙ ap (pc_then true) also)
+          (ap (λ t. phase_then t last (publish_byte set)) is ∙ ap (λ t. phase_then true t (publish_byte set)) also)
       by false l is also = goes_on (ap (λ t. pc_then t last) is) (ap (λ t. phase_then t last (publish_byte set)) is)
 
 -- a round, from either place
-round : (there : Bool) (q : ℕ) (cpu : Cpu) (begin stop : ℕ) (life : List Item) → q < 256 → Here there q cpu begin stop life → Round q cpu begin stop life
+round : (there : Bool) (q : ℕ) (cpu : Cpu) (begin stop : ℕ) (life : List Item) → q < 256
+    → Here there q cpu begin stop life → Round q cpu begin stop life
 round true q cpu begin stop life q_small here =
     subst (λ (k : Cpu). Round q k begin stop life) (state_is cpu 0x6809 q here.0 here.1 here.2.loaded)
     (head_round q q_small cpu.a cpu.x cpu.y cpu.n cpu.z cpu.c cpu.v cpu.mem cpu.flags cpu.log begin stop life here.2)
 round false q cpu begin stop life q_small here =
     subst (λ (k : Cpu). Round q k begin stop life) (state_is cpu 0x6822 q here.pc here.stack here.loaded)
-    (low_round q q_small cpu.a cpu.x cpu.y cpu.n cpu.z cpu.c cpu.v cpu.mem cpu.flags cpu.log begin stop life here.loaded here.phase here.even here.stood)
+    (low_round q q_small cpu.a cpu.x cpu.y cpu.n cpu.z cpu.c cpu.v cpu.mem cpu.flags cpu.log begin stop life
+    here.loaded here.phase here.even here.stood)
 
 -- rounds, one after the other
-rounds : (fuel k : ℕ) → k < fuel → (there : Bool) (q : ℕ) (cpu : Cpu) (begin stop : ℕ) (life : List Item) → q < 256 → Here there q cpu begin stop life → Goes q k cpu begin stop life
+rounds : (fuel k : ℕ) → k < fuel → (there : Bool) (q : ℕ) (cpu : Cpu) (begin stop : ℕ) (life : List Item) → q < 256
+    → Here there q cpu begin stop life → Goes q k cpu begin stop life
 rounds zero k less there q cpu begin stop life q_small here = absurd (omega arith)
 rounds (suc fuel) k less there q cpu begin stop life q_small here = by one.next (rounds fuel)
   where
     one : Round q cpu begin stop life
     one = round there q cpu begin stop life q_small here
 
-    by : ((at_return q (run q one.steps cpu) ≡ true) × Stood (run q one.steps cpu).mem begin stop (one.made.items ++ life))
-        ⊎ ((at_return q (run q one.steps cpu) ≡ false) × ((there : Bool) × Here there q (run q one.steps cpu) begin stop (one.made.items ++ life)))
-        → ((j : ℕ) → j < fuel → (there : Bool) (q : ℕ) (cpu : Cpu) (begin stop : ℕ) (life : List Item) → q < 256 → Here there q cpu begin stop life → Goes q j cpu begin stop life)
+    by : ((at_return q (run q one.steps cpu) ≡ true)
+        × Stood (run q one.steps cpu).mem begin stop (one.made.items ++ life))
+        ⊎ ((at_return q (run q one.steps cpu) ≡ false)
+        × ((there : Bool) × Here there q (run q one.steps cpu) begin stop (one.made.items ++ life)))
+        → ((j : ℕ) → j < fuel → (there : Bool) (q : ℕ) (cpu : Cpu) (begin stop : ℕ) (life : List Item) → q < 256
+        → Here there q cpu begin stop life → Goes q j cpu begin stop life)
         → Goes q k cpu begin stop life
     by (inl done) more = finish q k cpu begin stop life one.steps one.made done.0 done.1
     by (inr next) more = go_on q k cpu begin stop life one.steps one.made one.some next.0
-        (λ j below. more j (omega (arith, less, below)) next.1.0 q (run q one.steps cpu) begin stop (one.made.items ++ life) q_small next.1.1)
+        (λ j below. more j (omega (arith, less, below)) next.1.0 q (run q one.steps cpu) begin stop
+        (one.made.items ++ life) q_small next.1.1)
 
 -- a call of dvg_run
-pub run_goes : (k : ℕ) (cpu : Cpu) (begin stop : ℕ) (life : List Item) → cpu.pc ≡ 0x6809 → cpu.s < 256 → Stood cpu.mem begin stop life → Goes cpu.s k cpu begin stop life
-run_goes k cpu begin stop life at_pc s_small stood = rounds (suc k) k (omega arith) true cpu.s cpu begin stop life s_small (at_pc, refl, stood)
+pub run_goes : (k : ℕ) (cpu : Cpu) (begin stop : ℕ) (life : List Item) → cpu.pc ≡ 0x6809 → cpu.s < 256
+    → Stood cpu.mem begin stop life → Goes cpu.s k cpu begin stop life
+run_goes k cpu begin stop life at_pc s_small stood =
+    rounds (suc k) k (omega arith) true cpu.s cpu begin stop life s_small (at_pc, refl, stood)

@@ -27,15 +27,34 @@ abbrev tick : Call
 tick = record { routine = Calls.Tick; from = state 0x686A (laid (page 3) zeros); steps = 8 }
 
 has_code : (publish : ℕ) → publish < 256 → IsLoaded (laid (page publish) zeros)
-has_code publish small = loaded (page publish) zeros
-    (omega arith, (omega arith, (small, (omega arith, (omega arith, (omega arith, (omega arith, (omega arith, (omega arith, (omega arith, (omega arith, tt)))))))))))
+has_code publish small = loaded (page publish) zeros (
+  omega arith,
+  (
+    omega arith,
+    (
+      small,
+      (
+        omega arith,
+        (omega arith, (omega arith, (omega arith, (omega arith, (omega arith, (omega arith, (omega arith, tt))))))),
+      ),
+    ),
+  ),
+)
     (λ b. omega arith)
 
 enters : (pc publish : ℕ) → publish < 256 → Enters (state pc (laid (page publish) zeros)) pc
-enters pc publish small = record { entry = refl; log = refl; loaded = has_code publish small; a = omega arith; x = omega arith; s = omega arith }
+enters pc publish small = record {
+  entry = refl;
+  log = refl;
+  loaded = has_code publish small;
+  a = omega arith;
+  x = omega arith;
+  s = omega arith;
+}
 
 after_reset : (run 0xFF 4 (state 0x6800 (laid (page 0) zeros))).mem ≡ laid (page 3) zeros
-after_reset = ap (put 0x12 3) (put_page 0 0 (page 0) zeros (omega arith) refl) ∙ put_page 2 3 (page 0) zeros (omega arith) refl
+after_reset = ap (put 0x12 3) (put_page 0 0 (page 0) zeros (omega arith) refl)
+    ∙ put_page 2 3 (page 0) zeros (omega arith) refl
 
 same : (b : ℕ) → laid (page 3) zeros b ≡ (run 0xFF 4 (state 0x6800 (laid (page 0) zeros))).mem b
 same b = ap (λ (m : ℕ → ℕ). m b) (sym after_reset)

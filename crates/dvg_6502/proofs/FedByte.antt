@@ -1,5 +1,6 @@
 -- The tick that writes a byte of a table, from its entry.
-use Rattle.std.proofs.Common.{◌≡◌, ℕ, suc, ◌+◌, ◌-◌, ◌*◌, ◌%◌, ◌<◌, ◌≤◌, Bool, true, false, not, List, ◌∷◌, refl, sym, ap, ◌∙◌, subst, arith, eqb-true, eq-eqb, leb-true}
+use Rattle.std.proofs.Common.{◌≡◌, ℕ, suc, ◌+◌, ◌-◌, ◌*◌, ◌%◌, ◌<◌, ◌≤◌, Bool, true, false, not, List, ◌∷◌, refl, sym}
+use Rattle.std.proofs.Common.{ap, ◌∙◌, subst, arith, eqb-true, eq-eqb, leb-true}
 use Rattle.std.proofs.lemmas.Bool.{eqb-false, ne_eqb, leb-false}
 use Rattle.std.proofs.lemmas.Nat.{and_le_l}
 use Rattle.std.specs.Prelude.{nat_eq, nat_le, bit_and, bit_or, if◌then◌else◌}
@@ -23,7 +24,8 @@ pub stays : (free byte : ℕ) → nat_le 0xB0 byte ≡ false → moved_byte free
 stays free byte less =
     let low : byte < 0xB0 = leb-false 0xB0 byte less in
     let most = and_le_l byte 0xDC in
-    let differ : nat_eq (bit_and byte 0xDC) 0xC0 ≡ false = ne_eqb (bit_and byte 0xDC) 0xC0 (λ is. absurd (omega arith)) in
+    let differ : nat_eq (bit_and byte 0xDC) 0xC0 ≡ false =
+    ne_eqb (bit_and byte 0xDC) 0xC0 (λ is. absurd (omega arith)) in
     ap (λ (t : Bool). if t then bit_or (bit_and free 2) byte else byte) differ
 
 -- a read somewhere that isn't the flag, as it stands in a state
@@ -47,83 +49,123 @@ module _ (q s : ℕ) (free publish next t0 t1 pages end f0 f1 : ℕ) (mem flags 
   up = (next + 1) % 256
 
   abbrev after : Bool → Bool → ℕ → List ℕ
-  after second wrap phase = page_of phase free publish up t0 (carried wrap 1 t1) (carried wrap 255 pages) end (second_byte second) f0 (carried wrap 1 f1)
+  after second wrap phase = page_of phase free publish up t0 (carried wrap 1 t1) (carried wrap 255 pages) end
+      (second_byte second) f0 (carried wrap 1 f1)
 
-  module _ (wrap ends last : Bool) (not_page : in_page to ≡ false) (not_code : in_code to ≡ false) (high : nat_le 0x200 to ≡ true)
-      (wraps : nat_eq up 0 ≡ wrap) (ended : nat_eq ((up + 256 - end) % 256) 0 ≡ ends) (is : nat_eq (carried wrap 255 pages) 0 ≡ last)
+  module _ (wrap ends last : Bool) (not_page : in_page to ≡ false) (not_code : in_code to ≡ false)
+      (high : nat_le 0x200 to ≡ true)
+      (wraps : nat_eq up 0 ≡ wrap) (ended : nat_eq ((up + 256 - end) % 256) 0 ≡ ends)
+      (is : nat_eq (carried wrap 255 pages) 0 ≡ last)
       (not_flag : nat_eq source 0x2002 ≡ false) (device : is_device source ≡ false) where
     abbrev phase : ℕ
     phase = phase_then ends last publish
 
     -- the store, at either mark
     stores : (second : Bool) (w x : ℕ) (n z c v : Bool) (log : List Access)
-        → Ends q (at 0x68E4 w x next s n z c v (laid (from second) mem) flags log) s (laid (after second wrap phase) (put to w mem)) (Writes to w ∷ seen log)
-    stores second w x n z c v log = store q s free publish next t0 t1 pages end (second_byte second) f0 f1 mem flags w x n z c v log wrap ends last not_page not_code high wraps ended is
+        → Ends q (at 0x68E4 w x next s n z c v (laid (from second) mem) flags log) s
+        (laid (after second wrap phase) (put to w mem)) (Writes to w ∷ seen log)
+    stores second w x n z c v log =
+        store q s free publish next t0 t1 pages end (second_byte second) f0 f1 mem flags w x n z c v log wrap ends
+        last not_page not_code high wraps ended is
 
     -- after the load
-    loads : (odd second : Bool) (byte x : ℕ) (n : Bool) (v : Bool) (log : List Access) → byte < 256 → laid (from true) mem source ≡ byte → laid (from false) mem source ≡ byte
-        → Ends q (at 0x68C4 byte x next s n (nat_eq byte 0) odd v (laid (from second) mem) flags log) s (laid (after (second_then odd second byte) wrap phase) (put to (put_for free odd second byte) mem)) (Writes to (put_for free odd second byte) ∷ seen log)
-    loads false second byte x n v log small reads reads' = on q 1 _ (at 0x68E4 byte x next s n (nat_eq byte 0) false v (laid (from second) mem) flags log) s _ _ refl (stores second byte x n (nat_eq byte 0) false v log)
+    loads : (odd second : Bool) (byte x : ℕ) (n : Bool) (v : Bool) (log : List Access) → byte < 256
+        → laid (from true) mem source ≡ byte → laid (from false) mem source ≡ byte
+        → Ends q (at 0x68C4 byte x next s n (nat_eq byte 0) odd v (laid (from second) mem) flags log) s
+        (laid (after (second_then odd second byte) wrap phase) (put to (put_for free odd second byte) mem))
+        (Writes to (put_for free odd second byte) ∷ seen log)
+    loads false second byte x n v log small reads reads' =
+        on q 1 _ (at 0x68E4 byte x next s n (nat_eq byte 0) false v (laid (from second) mem) flags log) s _ _ refl
+        (stores second byte x n (nat_eq byte 0) false v log)
     loads true true byte x n v log small reads reads' =
-        on q 3 _ (at 0x68E4 byte x next s false true true v (laid (from false) mem) flags (Writes 0x18 0 ∷ Reads 0x18 0x80 ∷ log)) s _ _
-        (ap (λ m. at 0x68E4 byte x next s false true true v m flags (Writes 0x18 0 ∷ Reads 0x18 0x80 ∷ log)) (put_page 8 0 (from true) mem (omega arith) refl))
+        on q 3 _ (at 0x68E4 byte x next s false true true v (laid (from false) mem) flags
+        (Writes 0x18 0 ∷ Reads 0x18 0x80 ∷ log)) s _ _
+        (ap (λ m. at 0x68E4 byte x next s false true true v m flags (Writes 0x18 0 ∷ Reads 0x18 0x80 ∷ log))
+        (put_page 8 0 (from true) mem (omega arith) refl))
         (stores false byte x false true true v (Writes 0x18 0 ∷ Reads 0x18 0x80 ∷ log))
     loads true false byte x n v log small reads reads' =
         on q 4 _ (told (nat_le 0xB0 byte)) s _ _
-        (ap (λ m. at 0x68CC byte x next s (nat_le 128 ((byte + 256 - 0xB0) % 256)) (nat_eq ((byte + 256 - 0xB0) % 256) 0) (nat_le 0xB0 byte) v m flags log') (put_page 8 0 (from false) mem (omega arith) refl))
+        (ap (λ m. at 0x68CC byte x next s (nat_le 128 ((byte + 256 - 0xB0) % 256))
+        (nat_eq ((byte + 256 - 0xB0) % 256) 0) (nat_le 0xB0 byte) v m flags log')
+        (put_page 8 0 (from false) mem (omega arith) refl))
         (opcode (nat_le 0xB0 byte) refl)
       where
         log' : List Access
         log' = Writes 0x18 0 ∷ Reads 0x18 0 ∷ log
 
         told : Bool → Cpu
-        told great = at 0x68CC byte x next s (nat_le 128 ((byte + 256 - 0xB0) % 256)) (nat_eq ((byte + 256 - 0xB0) % 256) 0) great v (laid (from false) mem) flags log'
+        told great = at 0x68CC byte x next s (nat_le 128 ((byte + 256 - 0xB0) % 256))
+            (nat_eq ((byte + 256 - 0xB0) % 256) 0) great v (laid (from false) mem) flags log'
 
         masked : ℕ
         masked = bit_and byte 0xDC
 
         found : Bool → Cpu
-        found ours = at 0x68D3 masked byte next s (nat_le 128 ((masked + 256 - 0xC0) % 256)) ours (nat_le 0xC0 masked) v (laid (from false) mem) flags log'
+        found ours = at 0x68D3 masked byte next s (nat_le 128 ((masked + 256 - 0xC0) % 256)) ours
+            (nat_le 0xC0 masked) v (laid (from false) mem) flags log'
 
         both : ℕ
         both = bit_or (bit_and free 2) byte
 
-        opcode : (great : Bool) → nat_le 0xB0 byte ≡ great → Ends q (told great) s (laid (after (not great) wrap phase) (put to (moved_byte free byte) mem)) (Writes to (moved_byte free byte) ∷ seen log)
+        opcode : (great : Bool) → nat_le 0xB0 byte ≡ great
+            → Ends q (told great) s (laid (after (not great) wrap phase) (put to (moved_byte free byte) mem))
+            (Writes to (moved_byte free byte) ∷ seen log)
         opcode false less =
             let e : byte ≡ moved_byte free byte = sym (stays free byte less) in
             subst (λ w. Ends q (told false) s (laid (after true wrap phase) (put to w mem)) (Writes to w ∷ seen log)) e
-            (on q 4 _ (at 0x68E4 byte 0x80 next s true false false v (laid (from true) mem) flags (Writes 0x18 0x80 ∷ log')) s _ _
-            (ap (λ m. at 0x68E4 byte 0x80 next s true false false v m flags (Writes 0x18 0x80 ∷ log')) (put_page 8 0x80 (from false) mem (omega arith) refl))
+            (on q 4 _ (at 0x68E4 byte 0x80 next s true false false v (laid (from true) mem) flags
+            (Writes 0x18 0x80 ∷ log')) s _ _
+            (ap (λ m. at 0x68E4 byte 0x80 next s true false false v m flags (Writes 0x18 0x80 ∷ log'))
+            (put_page 8 0x80 (from false) mem (omega arith) refl))
             (stores true byte 0x80 true false false v (Writes 0x18 0x80 ∷ log')))
-        opcode true great = on q 4 _ (found (nat_eq masked 0xC0)) s _ _ (ap found (compared masked 0xC0 below (omega arith))) (mine (nat_eq masked 0xC0))
+        opcode true great = on q 4 _ (found (nat_eq masked 0xC0)) s _ _
+            (ap found (compared masked 0xC0 below (omega arith))) (mine (nat_eq masked 0xC0))
           where
             below : masked < 256
             below = let less = and_le_l byte 0xDC in omega arith
 
             not_zero : nat_eq byte 0 ≡ false
-            not_zero = let large : 0xB0 ≤ byte = leb-true 0xB0 byte great in ne_eqb byte 0 (λ zero. absurd (omega arith))
+            not_zero = let large : 0xB0 ≤ byte = leb-true 0xB0 byte great in
+                ne_eqb byte 0 (λ zero. absurd (omega arith))
 
             -- the OR, by whether its byte is the flag's, and by the byte
             ored : Bool → ℕ → Cpu
             ored t b = let w = bit_or (bit_and free 2) (byte_read t flags b) in
-                at 0x68E4 w byte next s (nat_le 128 w) (nat_eq w 0) (nat_le 0xC0 masked) v (laid (from false) mem) (flags_then t flags) (Reads source (byte_read t flags b) ∷ Reads 0x11 free ∷ log')
+                at 0x68E4 w byte next s (nat_le 128 w) (nat_eq w 0) (nat_le 0xC0 masked) v (laid (from false) mem)
+                (flags_then t flags) (Reads source (byte_read t flags b) ∷ Reads 0x11 free ∷ log')
 
-            mine : (t : Bool) → Ends q (found t) s (laid (after false wrap phase) (put to (if t then both else byte) mem)) (Writes to (if t then both else byte) ∷ seen log)
+            mine : (t : Bool) → Ends q (found t) s
+                (laid (after false wrap phase) (put to (if t then both else byte) mem))
+                (Writes to (if t then both else byte) ∷ seen log)
             mine true = on q 4 _ (ored false byte) s _ _
                 (ap (λ t. ored t (laid (from false) mem source)) not_flag ∙ ap (ored false) reads')
-                (seen_as q _ s _ (Writes to both ∷ seen (Reads source byte ∷ Reads 0x11 free ∷ log')) (Writes to both ∷ seen log) (ap (λ (t : Bool). Writes to both ∷ (if t then Reads source byte ∷ seen log else seen log)) device)
-                (stores false both byte (nat_le 128 both) (nat_eq both 0) (nat_le 0xC0 masked) v (Reads source byte ∷ Reads 0x11 free ∷ log')))
-            mine false = on q 2 _ (at 0x68D6 byte byte next s (nat_le 128 byte) false (nat_le 0xC0 masked) v (laid (from false) mem) flags log') s _ _
-                (ap (λ z. at 0x68D6 byte byte next s (nat_le 128 byte) z (nat_le 0xC0 masked) v (laid (from false) mem) flags log') not_zero)
-                (on q 1 _ (at 0x68E4 byte byte next s (nat_le 128 byte) false (nat_le 0xC0 masked) v (laid (from false) mem) flags log') s _ _ refl
+                (seen_as q _ s _ (Writes to both ∷ seen (Reads source byte ∷ Reads 0x11 free ∷ log'))
+                (Writes to both ∷ seen log)
+                (ap (λ (t : Bool). Writes to both ∷ (if t then Reads source byte ∷ seen log else seen log)) device)
+                (stores false both byte (nat_le 128 both) (nat_eq both 0) (nat_le 0xC0 masked) v
+                (Reads source byte ∷ Reads 0x11 free ∷ log')))
+            mine false = on q 2 _
+                (at 0x68D6 byte byte next s (nat_le 128 byte) false (nat_le 0xC0 masked) v
+                (laid (from false) mem) flags log') s _ _
+                (ap (λ z. at 0x68D6 byte byte next s (nat_le 128 byte) z (nat_le 0xC0 masked) v
+                (laid (from false) mem) flags log') not_zero)
+                (on q 1 _ (at 0x68E4 byte byte next s (nat_le 128 byte) false (nat_le 0xC0 masked) v
+                (laid (from false) mem) flags log') s _ _ refl
                 (stores false byte byte (nat_le 128 byte) false (nat_le 0xC0 masked) v log'))
 
-    pub writes : (a x y : ℕ) (n z c v : Bool) (log : List Access) (odd second : Bool) (byte : ℕ) → byte < 256 → laid (from true) mem source ≡ byte → laid (from false) mem source ≡ byte → nat_eq (next % 2) 1 ≡ odd
-        → Ends q (at 0x686A a x y s n z c v (laid (from second) mem) flags log) s (laid (after (second_then odd second byte) wrap phase) (put to (put_for free odd second byte) mem)) (Writes to (put_for free odd second byte) ∷ seen log)
+    pub writes : (a x y : ℕ) (n z c v : Bool) (log : List Access) (odd second : Bool) (byte : ℕ) → byte < 256
+        → laid (from true) mem source ≡ byte → laid (from false) mem source ≡ byte → nat_eq (next % 2) 1 ≡ odd
+        → Ends q (at 0x686A a x y s n z c v (laid (from second) mem) flags log) s
+        (laid (after (second_then odd second byte) wrap phase) (put to (put_for free odd second byte) mem))
+        (Writes to (put_for free odd second byte) ∷ seen log)
     writes a x y n z c v log odd second byte small reads reads' parity =
         on q 6 _ (told false byte odd) s _ _
-        (ap (λ t. told t (laid (from second) mem source) (nat_eq (next % 2) 1)) not_flag ∙ ap (λ b. told false b (nat_eq (next % 2) 1)) (same_read second) ∙ ap (told false byte) parity)
-        (seen_as q (told false byte odd) s _ (Writes to (put_for free odd second byte) ∷ seen log') (Writes to (put_for free odd second byte) ∷ seen log) (ap (λ (t : Bool). Writes to (put_for free odd second byte) ∷ (if t then Reads source byte ∷ seen log else seen log)) device)
+        (ap (λ t. told t (laid (from second) mem source) (nat_eq (next % 2) 1)) not_flag
+        ∙ ap (λ b. told false b (nat_eq (next % 2) 1)) (same_read second) ∙ ap (told false byte) parity)
+        (seen_as q (told false byte odd) s _ (Writes to (put_for free odd second byte) ∷ seen log')
+        (Writes to (put_for free odd second byte) ∷ seen log)
+        (ap (λ (t : Bool). Writes to (put_for free odd second byte)
+        ∷ (if t then Reads source byte ∷ seen log else seen log)) device)
         (loads odd second byte 0x80 (nat_le 128 byte) v log' small reads reads'))
       where
         log' : List Access
@@ -131,7 +173,8 @@ module _ (q s : ℕ) (free publish next t0 t1 pages end f0 f1 : ℕ) (mem flags 
 
         told : Bool → ℕ → Bool → Cpu
         told t b odd = let byte = byte_read t flags b in
-            at 0x68C4 byte 0x80 next s (nat_le 128 byte) (nat_eq byte 0) odd v (laid (from second) mem) (flags_then t flags) (Reads source byte ∷ Reads 0x13 next ∷ Reads 0x10 0x80 ∷ log)
+            at 0x68C4 byte 0x80 next s (nat_le 128 byte) (nat_eq byte 0) odd v (laid (from second) mem)
+            (flags_then t flags) (Reads source byte ∷ Reads 0x13 next ∷ Reads 0x10 0x80 ∷ log)
 
         same_read : (second : Bool) → laid (from second) mem source ≡ byte
         same_read true = reads

@@ -1,5 +1,6 @@
 -- A call step by step: what its accesses make of a life.
-use Rattle.std.proofs.Common.{◌≡◌, ℕ, inl, inr, ◌<◌, ◌≤◌, Bool, true, false, List, [], ◌∷◌, ◌++◌, refl, sym, ap, ◌∙◌, subst, arith, Some}
+use Rattle.std.proofs.Common.{◌≡◌, ℕ, inl, inr, ◌<◌, ◌≤◌, Bool, true, false, List, [], ◌∷◌, ◌++◌, refl, sym, ap, ◌∙◌}
+use Rattle.std.proofs.Common.{subst, arith, Some}
 use Rattle.std.proofs.lemmas.List.{append_cancel_right}
 use Rattle.std.specs.Prelude.{◌⊎◌}
 use Rattle.dvg_driver.specs.Script.{Item, Offered, Asked, Did}
@@ -19,7 +20,8 @@ pub append_logs : (a b c : List Access) → (a ++ b) ++ c ≡ a ++ (b ++ c)
 append_logs [] b c = refl
 append_logs (x ∷ a) b c = ap (λ l. x ∷ l) (append_logs a b c)
 
-pub shown_both : (new old : List Item) (now before : List Access) → AreShown new now → AreShown old before → AreShown (new ++ old) (now ++ before)
+pub shown_both : (new old : List Item) (now before : List Access) → AreShown new now → AreShown old before
+    → AreShown (new ++ old) (now ++ before)
 shown_both [] old [] before a b = b
 shown_both [] old (access ∷ now) before a b = absurd a
 shown_both (Did action ∷ new) old [] before a b = absurd a
@@ -46,25 +48,29 @@ pub record Stretch (q : ℕ) (cpu : Cpu) (steps : ℕ) (life : List Item) : Type
 
 module _ (q k : ℕ) (cpu : Cpu) (begin stop : ℕ) (life : List Item) (steps : ℕ) (made : Stretch q cpu steps life) where
   -- within the stretch
-  part : GoesOn (seen (run q steps cpu).log) (seen (run q k cpu).log) → (at_return q (run q k cpu) ≡ true → ⊥) → Goes q k cpu begin stop life
+  part : GoesOn (seen (run q steps cpu).log) (seen (run q k cpu).log) → (at_return q (run q k cpu) ≡ true → ⊥)
+      → Goes q k cpu begin stop life
   part on unreturned =
       let base = run_on q k cpu in
       let now = seen base.0 in
       let logged : seen (run q k cpu).log ≡ now ++ seen cpu.log = ap seen base.1 ∙ seen_append base.0 cpu.log in
       let whole : made.accesses ≡ on.0 ++ now =
-      append_cancel_right made.accesses (on.0 ++ now) (seen cpu.log) (sym made.logged ∙ on.1 ∙ ap (λ l. on.0 ++ l) logged ∙ sym (append_logs on.0 now (seen cpu.log))) in
+      append_cancel_right made.accesses (on.0 ++ now) (seen cpu.log) (sym made.logged ∙ on.1
+      ∙ ap (λ l. on.0 ++ l) logged ∙ sym (append_logs on.0 now (seen cpu.log))) in
       let rest = shown_rest made.items on.0 now (subst (λ l. AreShown made.items l) whole made.shown) in
       record {
         items = rest.1;
         accesses = now;
         logged = logged;
         shown = rest.3;
-        placed = place_of_rest rest.0 (rest.1 ++ life) made.placed.0 (sym (ap place_of_life (ap (λ l. l ++ life) rest.2 ∙ append_items rest.0 rest.1 life)) ∙ made.placed.1);
+        placed = place_of_rest rest.0 (rest.1 ++ life) made.placed.0
+            (sym (ap place_of_life (ap (λ l. l ++ life) rest.2 ∙ append_items rest.0 rest.1 life)) ∙ made.placed.1);
         stands = λ here. absurd (unreturned here);
       }
 
   -- the call returns at the stretch's end
-  pub finish : at_return q (run q steps cpu) ≡ true → Stood (run q steps cpu).mem begin stop (made.items ++ life) → Goes q k cpu begin stop life
+  pub finish : at_return q (run q steps cpu) ≡ true → Stood (run q steps cpu).mem begin stop (made.items ++ life)
+      → Goes q k cpu begin stop life
   finish there stood = by (at_return q (run q k cpu)) refl
     where
       by : (t : Bool) → at_return q (run q k cpu) ≡ t → Goes q k cpu begin stop life
@@ -80,31 +86,42 @@ module _ (q k : ℕ) (cpu : Cpu) (begin stop : ℕ) (life : List Item) (steps : 
           }
       by false unfinished = inside (within q k steps cpu there)
         where
-          inside : (run q k cpu ≡ run q steps cpu) ⊎ GoesOn (seen (run q steps cpu).log) (seen (run q k cpu).log) → Goes q k cpu begin stop life
+          inside : (run q k cpu ≡ run q steps cpu) ⊎ GoesOn (seen (run q steps cpu).log) (seen (run q k cpu).log)
+              → Goes q k cpu begin stop life
           inside (inl same) = absurd (let e = ap (at_return q) same ∙ there in cc)
           inside (inr on) = part on (λ here. absurd (cc))
 
   -- the call goes on from the stretch's end
-  pub go_on : 1 ≤ steps → at_return q (run q steps cpu) ≡ false → ((j : ℕ) → j < k → Goes q j (run q steps cpu) begin stop (made.items ++ life)) → Goes q k cpu begin stop life
+  pub go_on : 1 ≤ steps → at_return q (run q steps cpu) ≡ false
+      → ((j : ℕ) → j < k → Goes q j (run q steps cpu) begin stop (made.items ++ life)) → Goes q k cpu begin stop life
   go_on some open_yet rest = by (split k steps)
     where
       by : Splits k steps → Goes q k cpu begin stop life
       by (inl less) =
           let more = run_on q less.0 (run q k cpu) in
-          let to_end : run q steps cpu ≡ run q less.0 (run q k cpu) = ap (λ j. run q j cpu) less.1 ∙ run_more q k less.0 cpu in
-          part (seen more.0, ap (λ (c : Cpu). seen c.log) to_end ∙ ap seen more.1 ∙ seen_append more.0 (run q k cpu).log)
-          (λ here. absurd (let e = sym open_yet ∙ ap (at_return q) (to_end ∙ stays q less.0 (run q k cpu) here) ∙ here in cc))
+          let to_end : run q steps cpu ≡ run q less.0 (run q k cpu) = ap (λ j. run q j cpu) less.1
+          ∙ run_more q k less.0 cpu in
+          part (
+            seen more.0,
+            ap (λ (c : Cpu). seen c.log) to_end ∙ ap seen more.1
+                ∙ seen_append more.0 (run q k cpu).log,
+          )
+          (λ here. absurd (let e = sym open_yet ∙ ap (at_return q) (to_end ∙ stays q less.0 (run q k cpu) here)
+          ∙ here in cc))
       by (inr above) =
           let on = rest above.0 (omega (arith, above.1, some)) in
-          let same : run q k cpu ≡ run q above.0 (run q steps cpu) = ap (λ j. run q j cpu) above.1 ∙ run_more q steps above.0 cpu in
+          let same : run q k cpu ≡ run q above.0 (run q steps cpu) = ap (λ j. run q j cpu) above.1
+          ∙ run_more q steps above.0 cpu in
           record {
             items = on.items ++ made.items;
             accesses = on.accesses ++ made.accesses;
-            logged = ap (λ (c : Cpu). seen c.log) same ∙ on.logged ∙ ap (λ l. on.accesses ++ l) made.logged ∙ sym (append_logs on.accesses made.accesses (seen cpu.log));
+            logged = ap (λ (c : Cpu). seen c.log) same ∙ on.logged ∙ ap (λ l. on.accesses ++ l) made.logged
+                ∙ sym (append_logs on.accesses made.accesses (seen cpu.log));
             shown = shown_both on.items made.items on.accesses made.accesses on.shown made.shown;
             placed = (on.placed.0, ap place_of_life (append_items on.items made.items life) ∙ on.placed.1);
             stands = λ here.
                 let there : at_return q (run q above.0 (run q steps cpu)) ≡ true = sym (ap (at_return q) same) ∙ here in
                 subst (λ l. Stood (run q k cpu).mem begin stop l) (sym (append_items on.items made.items life))
-                (subst (λ (c : Cpu). Stood c.mem begin stop (on.items ++ (made.items ++ life))) (sym same) (on.stands there));
+                (subst (λ (c : Cpu). Stood c.mem begin stop (on.items ++ (made.items ++ life))) (sym same)
+                (on.stands there));
           }

@@ -1,8 +1,13 @@
 -- Logs grow, and a routine's return is where a run stays.
-use Rattle.std.proofs.Common.{◌≡◌, ℕ, zero, suc, inl, inr, ◌+◌, ◌-◌, Bool, true, false, List, [], ◌∷◌, ◌++◌, refl, sym, ap, ◌∙◌, arith, leb-true}
+use Rattle.std.proofs.Common.{◌≡◌, ℕ, zero, suc, inl, inr, ◌+◌, ◌-◌, Bool, true, false, List, [], ◌∷◌, ◌++◌, refl}
+use Rattle.std.proofs.Common.{sym, ap, ◌∙◌, arith, leb-true}
 use Rattle.std.proofs.lemmas.Bool.{leb-false}
 use Rattle.std.specs.Prelude.{nat_le, ◌⊎◌, if◌then◌else◌}
-use Rattle.dvg_6502.specs.Processor.{Cpu, Access, Reads, Writes, Mode, Immediate, ZeroPage, Absolute, IndirectIndexed, Register, A, X, Y, Instr, Load, Store, Transfer, And, Or, Xor, Compare, TestBits, Change, Step, ShiftLeft, RotateLeft, ShiftLeftA, ShiftRightA, SetCarry, Branch, Jump, Call, Return, Unknown, run, turn, step, does, decoded, opcodes, at_return, reading, setting}
+use Rattle.dvg_6502.specs.Processor.{Cpu, Access, Reads, Writes, Mode, Immediate, ZeroPage, Absolute, IndirectIndexed}
+use Rattle.dvg_6502.specs.Processor.{Register, A, X, Y, Instr, Load, Store, Transfer, And, Or, Xor, Compare, TestBits}
+use Rattle.dvg_6502.specs.Processor.{Change, Step, ShiftLeft, RotateLeft, ShiftLeftA, ShiftRightA, SetCarry, Branch}
+use Rattle.dvg_6502.specs.Processor.{Jump, Call, Return, Unknown, run, turn, step, does, decoded, opcodes, at_return}
+use Rattle.dvg_6502.specs.Processor.{reading, setting}
 use Rattle.dvg_6502.specs.Board.{seen, is_device}
 use Rattle.dvg_6502.proofs.Running.{run_more}
 
@@ -67,12 +72,16 @@ pub seen_append : (pre log : List Access) → seen (pre ++ log) ≡ seen pre ++ 
 seen_append [] log = refl
 seen_append (Reads a byte ∷ pre) log = by (is_device a) (seen_append pre log)
   where
-    by : (t : Bool) → seen (pre ++ log) ≡ seen pre ++ seen log → (if t then Reads a byte ∷ seen (pre ++ log) else seen (pre ++ log)) ≡ (if t then Reads a byte ∷ seen pre else seen pre) ++ seen log
+    by : (t : Bool) → seen (pre ++ log) ≡ seen pre ++ seen log
+        → (if t then Reads a byte ∷ seen (pre ++ log) else seen (pre ++ log))
+        ≡ (if t then Reads a byte ∷ seen pre else seen pre) ++ seen log
     by true on = ap (λ l. Reads a byte ∷ l) on
     by false on = on
 seen_append (Writes a byte ∷ pre) log = by (nat_le 0x200 a) (seen_append pre log)
   where
-    by : (t : Bool) → seen (pre ++ log) ≡ seen pre ++ seen log → (if t then Writes a byte ∷ seen (pre ++ log) else seen (pre ++ log)) ≡ (if t then Writes a byte ∷ seen pre else seen pre) ++ seen log
+    by : (t : Bool) → seen (pre ++ log) ≡ seen pre ++ seen log
+        → (if t then Writes a byte ∷ seen (pre ++ log) else seen (pre ++ log))
+        ≡ (if t then Writes a byte ∷ seen pre else seen pre) ++ seen log
     by true on = ap (λ l. Writes a byte ∷ l) on
     by false on = on
 
@@ -103,11 +112,17 @@ within s k n cpu is = by (split k n)
     by : Splits k n → (run s k cpu ≡ run s n cpu) ⊎ GoesOn (seen (run s n cpu).log) (seen (run s k cpu).log)
     by (inl less) =
         let more = run_on s less.0 (run s k cpu) in
-        inr (seen more.0, ap (λ j. seen (run s j cpu).log) less.1 ∙ ap (λ (c : Cpu). seen c.log) (run_more s k less.0 cpu) ∙ ap seen more.1 ∙ seen_append more.0 (run s k cpu).log)
+        inr (
+          seen more.0,
+          ap (λ j. seen (run s j cpu).log) less.1
+              ∙ ap (λ (c : Cpu). seen c.log) (run_more s k less.0 cpu) ∙ ap seen more.1
+              ∙ seen_append more.0 (run s k cpu).log,
+        )
     by (inr above) = inl (ap (λ j. run s j cpu) above.1 ∙ run_more s n above.0 cpu ∙ stays s above.0 (run s n cpu) is)
 
 -- two ends of a run are the same
-pub same_end : (s k n : ℕ) (cpu : Cpu) → at_return s (run s k cpu) ≡ true → at_return s (run s n cpu) ≡ true → run s k cpu ≡ run s n cpu
+pub same_end : (s k n : ℕ) (cpu : Cpu) → at_return s (run s k cpu) ≡ true → at_return s (run s n cpu) ≡ true
+    → run s k cpu ≡ run s n cpu
 same_end s k n cpu here there = by (split k n)
   where
     by : Splits k n → run s k cpu ≡ run s n cpu

@@ -10,9 +10,11 @@ use Rattle.dvg_6502.specs.Joined.{IsMade, FitsBoard, IsBoards, BoardKeeps}
 use Rattle.dvg_6502.proofs.Sessions.{calls_live, one_life, offer_answers, redraw_answers}
 
 made_lives : (items : List Item) → IsMade items → IsLife items
-made_lives items made = let lives = calls_live made.0 made.1 in subst IsLife (one_life made.0 lives.0 items lives.1 made.2) lives.2
+made_lives items made = let lives = calls_live made.0 made.1 in
+    subst IsLife (one_life made.0 lives.0 items lives.1 made.2) lives.2
 
-fits : (R image : List ℕ) (log : Log) (event : Happening) (entry : Shown) → FitsBoard R image log event entry → Fits R image log event entry
+fits : (R image : List ℕ) (log : Log) (event : Happening) (entry : Shown) → FitsBoard R image log event entry
+    → Fits R image log event entry
 fits R image log Tick (Acted action) f = (made_lives (Did action ∷ life image log) f.0, f.1)
 fits R image log (Offer F) Offered f = (f.0, (offer_answers F (life image log)).0 f.1)
 fits R image log (Offer F) Busy f = (f.0, (offer_answers F (life image log)).1 f.1)
@@ -23,7 +25,8 @@ fits R image log event entry f = f
 
 legal : (R image : List ℕ) (log : Log) → IsBoards R image log → IsLegal R image log
 legal R image [] boards = boards
-legal R image ((event ⟼ entry) ∷ log) boards = (fits R image log event entry boards.0, boards.1, legal R image log boards.2)
+legal R image ((event ⟼ entry) ∷ log) boards =
+    (fits R image log event entry boards.0, boards.1, legal R image log boards.2)
 
 pub board_keeps : BoardKeeps
 board_keeps R image log boards = let is = legal R image log boards in (is, headline R image log is)

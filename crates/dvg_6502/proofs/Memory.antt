@@ -1,5 +1,7 @@
 -- Memories of which the driver's bytes and code are known.
-use Rattle.std.proofs.Common.{◌≡◌, ◌≢◌, ℕ, zero, suc, ◌+◌, ◌-◌, ◌<◌, ◌≤◌, Bool, true, false, cond, List, [], ◌∷◌, length, refl, sym, ap, ◌∙◌, subst, arith, eqb-true, eq-eqb, set, le-leb, leb-true, get_or-set_same, get_or-set_other}
+use Rattle.std.proofs.Common.{◌≡◌, ◌≢◌, ℕ, zero, suc, ◌+◌, ◌-◌, ◌<◌, ◌≤◌, Bool, true, false, cond, List, [], ◌∷◌}
+use Rattle.std.proofs.Common.{length, refl, sym, ap, ◌∙◌, subst, arith, eqb-true, eq-eqb, set, le-leb, leb-true}
+use Rattle.std.proofs.Common.{get_or-set_same, get_or-set_other}
 use Rattle.std.proofs.lemmas.Bool.{ne_eqb}
 use Rattle.std.specs.Prelude.{nat_eq, nat_le, nat_lt, if◌then◌else◌, ◌&&◌, slice_index}
 use Rattle.std.proofs.Math.Path.{fun_ext}
@@ -15,13 +17,15 @@ in_code b = nat_le 0x6800 b && nat_lt b 0x6957
 
 -- a memory with these bytes from 0010 on and the code at its place
 abbrev pub laid : List ℕ → (ℕ → ℕ) → ℕ → ℕ
-laid page mem b = if in_page b then slice_index page (b - 0x10) else if in_code b then slice_index code (b - 0x6800) else mem b
+laid page mem b = if in_page b then slice_index page (b - 0x10) else if in_code b then slice_index code
+    (b - 0x6800) else mem b
 
 abbrev pub page_of : (phase free publish next t0 t1 pages end second f0 f1 : ℕ) → List ℕ
 page_of phase free publish next t0 t1 pages end second f0 f1 =
     phase ∷ free ∷ publish ∷ next ∷ t0 ∷ t1 ∷ pages ∷ end ∷ second ∷ f0 ∷ f1 ∷ []
 
-swap2 : (w t : Bool) (byte old new rest : ℕ) → (w ≡ true → (t ≡ true) × (new ≡ byte)) → (w ≡ false → t ≡ true → old ≡ new)
+swap2 : (w t : Bool) (byte old new rest : ℕ) → (w ≡ true → (t ≡ true) × (new ≡ byte))
+    → (w ≡ false → t ≡ true → old ≡ new)
     → cond w byte (cond t old rest) ≡ cond t new rest
 swap2 true true byte old new rest hit miss = sym (hit refl).1
 swap2 true false byte old new rest hit miss = absurd (let e = (hit refl).0 in cc)
@@ -61,22 +65,28 @@ pub put_page : (i byte : ℕ) (page : List ℕ) (mem : ℕ → ℕ) → i < 11 �
     → put (0x10 + i) byte (laid page mem) ≡ laid (set page i byte) mem
 put_page i byte page mem h l = fun_ext (λ b. swap2 (nat_eq b (0x10 + i)) (in_page b) byte (slice_index page (b - 0x10))
     (slice_index (set page i byte) (b - 0x10)) (if in_code b then slice_index code (b - 0x6800) else mem b)
-    (λ is. let e = eqb-true b (0x10 + i) is in let back : b - 0x10 ≡ i = omega arith in
-    (subst (λ q. in_page q ≡ true) (sym e) (within i h), ap (slice_index (set page i byte)) back ∙ get_or-set_same page i byte 0 (omega arith)))
+    (λ is. let e = eqb-true b (0x10 + i) is in let back : b - 0x10 ≡ i = omega arith in (
+      subst (λ q. in_page q ≡ true) (sym e) (within i h),
+      ap (slice_index (set page i byte)) back
+          ∙ get_or-set_same page i byte 0 (omega arith),
+    ))
     (λ not paged.
     let low : 0x10 ≤ b = leb-true 0x10 b (both_true (nat_le 0x10 b) (nat_lt b 0x1B) paged).0 in
-    sym (get_or-set_other page i (b - 0x10) byte 0 (λ same. let there : b ≡ 0x10 + i = omega arith in let hit : nat_eq b (0x10 + i) ≡ true = same_eqb b (0x10 + i) there in absurd (cc)))))
+    sym (get_or-set_other page i (b - 0x10) byte 0 (λ same. let there : b ≡ 0x10 + i = omega arith in
+    let hit : nat_eq b (0x10 + i) ≡ true = same_eqb b (0x10 + i) there in absurd (cc)))))
 
 -- a write elsewhere
 pub put_out : (p byte : ℕ) (page : List ℕ) (mem : ℕ → ℕ) → in_page p ≡ false → in_code p ≡ false
     → put p byte (laid page mem) ≡ laid page (put p byte mem)
 put_out p byte page mem not_page not_code = fun_ext (λ b. swap3 (nat_eq b p) (in_page b) (in_code b) byte
     (slice_index page (b - 0x10)) (slice_index code (b - 0x6800)) (mem b)
-    (λ is. let e = sym (eqb-true b p is) in (subst (λ q. in_page q ≡ false) e not_page, subst (λ q. in_code q ≡ false) e not_code)))
+    (λ is. let e = sym (eqb-true b p is) in
+    (subst (λ q. in_page q ≡ false) e not_page, subst (λ q. in_code q ≡ false) e not_code)))
 
 module _ (mem : ℕ → ℕ) where
   abbrev pub page_in : List ℕ
-  page_in = page_of (mem 0x10) (mem 0x11) (mem 0x12) (mem 0x13) (mem 0x14) (mem 0x15) (mem 0x16) (mem 0x17) (mem 0x18) (mem 0x19) (mem 0x1A)
+  page_in = page_of (mem 0x10) (mem 0x11) (mem 0x12) (mem 0x13) (mem 0x14) (mem 0x15) (mem 0x16) (mem 0x17) (mem 0x18)
+      (mem 0x19) (mem 0x1A)
 
   in_list : (i : ℕ) → i < 11 → slice_index page_in i ≡ mem (0x10 + i)
   in_list zero h = refl
@@ -93,10 +103,12 @@ module _ (mem : ℕ → ℕ) where
   in_list (suc (suc (suc (suc (suc (suc (suc (suc (suc (suc (suc i))))))))))) h = absurd (omega arith)
 
   within_page : (b : ℕ) → in_page b ≡ true → (0x10 ≤ b) × (b < 0x1B)
-  within_page b is = let two = both_true (nat_le 0x10 b) (nat_lt b 0x1B) is in (leb-true 0x10 b two.0, leb-true (suc b) 0x1B two.1)
+  within_page b is = let two = both_true (nat_le 0x10 b) (nat_lt b 0x1B) is in
+      (leb-true 0x10 b two.0, leb-true (suc b) 0x1B two.1)
 
   within_code : (b : ℕ) → in_code b ≡ true → (0x6800 ≤ b) × (b < 0x6957)
-  within_code b is = let two = both_true (nat_le 0x6800 b) (nat_lt b 0x6957) is in (leb-true 0x6800 b two.0, leb-true (suc b) 0x6957 two.1)
+  within_code b is = let two = both_true (nat_le 0x6800 b) (nat_lt b 0x6957) is in
+      (leb-true 0x6800 b two.0, leb-true (suc b) 0x6957 two.1)
 
   choose : (t u : Bool) (x y z : ℕ) → (t ≡ true → x ≡ z) → (u ≡ true → y ≡ z) → z ≡ cond t x (cond u y z)
   choose true u x y z one two = sym (one refl)
@@ -105,9 +117,13 @@ module _ (mem : ℕ → ℕ) where
 
   -- each memory that has the code is of this form
   pub known : IsLoaded mem → mem ≡ laid page_in mem
-  known load = fun_ext (λ b. choose (in_page b) (in_code b) (slice_index page_in (b - 0x10)) (slice_index code (b - 0x6800)) (mem b)
-      (λ is. let there = within_page b is in let small : b - 0x10 < 11 = omega (arith, there.0, there.1) in let back : 0x10 + (b - 0x10) ≡ b = omega (arith, there.0) in in_list (b - 0x10) small ∙ ap mem back)
-      (λ is. let there = within_code b is in let small : b - 0x6800 < 343 = omega (arith, there.0, there.1) in let back : 0x6800 + (b - 0x6800) ≡ b = omega (arith, there.0) in sym (load.code (b - 0x6800) small) ∙ ap mem back))
+  known load = fun_ext (λ b. choose (in_page b) (in_code b) (slice_index page_in (b - 0x10))
+      (slice_index code (b - 0x6800)) (mem b)
+      (λ is. let there = within_page b is in let small : b - 0x10 < 11 = omega (arith, there.0, there.1) in
+      let back : 0x10 + (b - 0x10) ≡ b = omega (arith, there.0) in in_list (b - 0x10) small ∙ ap mem back)
+      (λ is. let there = within_code b is in let small : b - 0x6800 < 343 = omega (arith, there.0, there.1) in
+      let back : 0x6800 + (b - 0x6800) ≡ b = omega (arith, there.0) in sym (load.code (b - 0x6800) small)
+      ∙ ap mem back))
 
 -- bytes
 abbrev all_small : List ℕ → Bool
@@ -142,14 +158,17 @@ loaded page mem all bytes = record {
       let over : nat_lt (0x6800 + i) 0x1B ≡ false = le_not (suc (0x6800 + i)) 0x1B (omega arith) in
       let above : nat_le 0x10 (0x6800 + i) ≡ true = le-leb 0x10 (0x6800 + i) (omega arith) in
       let back : 0x6800 + i - 0x6800 ≡ i = omega arith in
-      coded (nat_le 0x10 (0x6800 + i)) (nat_lt (0x6800 + i) 0x1B) (nat_le 0x6800 (0x6800 + i)) (nat_lt (0x6800 + i) 0x6957)
-      (slice_index page (0x6800 + i - 0x10)) (slice_index code (0x6800 + i - 0x6800)) (mem (0x6800 + i)) above over low high
+      coded (nat_le 0x10 (0x6800 + i)) (nat_lt (0x6800 + i) 0x1B) (nat_le 0x6800 (0x6800 + i))
+      (nat_lt (0x6800 + i) 0x6957)
+      (slice_index page (0x6800 + i - 0x10)) (slice_index code (0x6800 + i - 0x6800))
+      (mem (0x6800 + i)) above over low high
       ∙ ap (slice_index code) back;
   bytes = λ b. chosen (in_page b) (in_code b) (slice_index page (b - 0x10)) (slice_index code (b - 0x6800)) (mem b)
       (are_small page all (b - 0x10)) (small_at code refl (b - 0x6800)) (bytes b);
 }
   where
-    coded : (a b c d : Bool) (x y z : ℕ) → a ≡ true → b ≡ false → c ≡ true → d ≡ true → cond (a && b) x (cond (c && d) y z) ≡ y
+    coded : (a b c d : Bool) (x y z : ℕ) → a ≡ true → b ≡ false → c ≡ true → d ≡ true
+        → cond (a && b) x (cond (c && d) y z) ≡ y
     coded true false true true x y z p q r t = refl
     coded false b c d x y z p q r t = absurd (cc)
     coded true true c d x y z p q r t = absurd (cc)
@@ -167,12 +186,14 @@ put_small p v mem small bytes b = by (nat_eq b p)
 pub same_out : (page other : List ℕ) (mem : ℕ → ℕ) (b : ℕ) → in_page b ≡ false → laid page mem b ≡ laid other mem b
 same_out page other mem b out = by (in_page b) out
   where
-    by : (t : Bool) → t ≡ false → cond t (slice_index page (b - 0x10)) (if in_code b then slice_index code (b - 0x6800) else mem b)
+    by : (t : Bool) → t ≡ false
+        → cond t (slice_index page (b - 0x10)) (if in_code b then slice_index code (b - 0x6800) else mem b)
         ≡ cond t (slice_index other (b - 0x10)) (if in_code b then slice_index code (b - 0x6800) else mem b)
     by false is = refl
     by true is = absurd (cc)
 
-pub kept_write : (p v : ℕ) (page other : List ℕ) (mem : ℕ → ℕ) → in_page p ≡ false → in_code p ≡ false → (b : ℕ) → in_page b ≡ false
+pub kept_write : (p v : ℕ) (page other : List ℕ) (mem : ℕ → ℕ) → in_page p ≡ false → in_code p ≡ false → (b : ℕ)
+    → in_page b ≡ false
     → laid other (put p v mem) b ≡ put p v (laid page mem) b
 kept_write p v page other mem not_page not_code b out =
     same_out other page (put p v mem) b out ∙ sym (ap (λ (m : ℕ → ℕ). m b) (put_out p v page mem not_page not_code))
@@ -180,7 +201,8 @@ kept_write p v page other mem not_page not_code b out =
 pub kept_sent : (page other : List ℕ) (mem : ℕ → ℕ) (b : ℕ) → in_page b ≡ false → b ≢ 0x3000
     → laid other (put 0x3000 2 mem) b ≡ laid page mem b
 kept_sent page other mem b out not =
-    kept_write 0x3000 2 page other mem refl refl b out ∙ ap (λ (t : Bool). if t then 2 else laid page mem b) (ne_eqb b 0x3000 not)
+    kept_write 0x3000 2 page other mem refl refl b out
+    ∙ ap (λ (t : Bool). if t then 2 else laid page mem b) (ne_eqb b 0x3000 not)
 
 -- an address of the vector RAM is none of the page or the code
 pub out_of_page : (q : ℕ) → 0x200 ≤ q → in_page q ≡ false

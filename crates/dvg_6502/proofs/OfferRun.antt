@@ -1,5 +1,6 @@
 -- dvg_reset, dvg_offer and dvg_redraw, as the code does them.
-use Rattle.std.proofs.Common.{◌≡◌, ℕ, ◌+◌, ◌-◌, ◌*◌, ◌%◌, ◌<◌, Bool, true, false, List, ◌∷◌, refl, ap, ◌∙◌, subst, arith}
+use Rattle.std.proofs.Common.{◌≡◌, ℕ, ◌+◌, ◌-◌, ◌*◌, ◌%◌, ◌<◌, Bool, true, false, List, ◌∷◌, refl, ap, ◌∙◌, subst}
+use Rattle.std.proofs.Common.{arith}
 use Rattle.std.specs.Prelude.{nat_eq, nat_le, if◌then◌else◌}
 use Rattle.dvg_6502.specs.Processor.{Cpu, Access, Reads, Writes, put, run, bit_of}
 use Rattle.dvg_6502.specs.Board.{seen, is_device}
@@ -15,29 +16,37 @@ abbrev pub high_of : Bool → ℕ
 high_of true = 0x44
 high_of false = 0x40
 
-module _ (q a x y s : ℕ) (n z c v : Bool) (free next t0 t1 pages end second f0 f1 : ℕ) (mem flags : ℕ → ℕ) (log : List Access) where
+module _ (q a x y s : ℕ) (n z c v : Bool) (free next t0 t1 pages end second f0 f1 : ℕ) (mem flags : ℕ
+    → ℕ) (log : List Access) where
   abbrev page : ℕ → ℕ → List ℕ
   page phase publish = page_of phase free publish next t0 t1 pages end second f0 f1
 
-  pub reset : (phase publish : ℕ) → Comes q (at 0x6800 a x y s n z c v (laid (page phase publish) mem) flags log) s c (laid (page 0 3) mem) (seen log)
+  pub reset : (phase publish : ℕ)
+      → Comes q (at 0x6800 a x y s n z c v (laid (page phase publish) mem) flags log) s c (laid (page 0 3) mem)
+      (seen log)
   reset phase publish = record {
     steps = 4;
     returns = refl;
     stack = refl;
     carry = refl;
     accesses = refl;
-    memory = ap (put 0x12 3) (put_page 0 0 (page phase publish) mem (omega arith) refl) ∙ put_page 2 3 (page 0 publish) mem (omega arith) refl;
+    memory = ap (put 0x12 3) (put_page 0 0 (page phase publish) mem (omega arith) refl)
+        ∙ put_page 2 3 (page 0 publish) mem (omega arith) refl;
   }
 
   pub offer_refuses : (phase publish : ℕ) → phase < 256 → nat_eq phase 2 ≡ false
-      → Comes q (at 0x68FE a x y s n z c v (laid (page phase publish) mem) flags log) s true (laid (page phase publish) mem) (seen log)
-  offer_refuses phase publish small not_idle = by q 2 _ (told false) s _ _ _ (ap told (compared phase 2 small (omega arith) ∙ not_idle))
+      → Comes q (at 0x68FE a x y s n z c v (laid (page phase publish) mem) flags log) s true
+      (laid (page phase publish) mem) (seen log)
+  offer_refuses phase publish small not_idle =
+      by q 2 _ (told false) s _ _ _ (ap told (compared phase 2 small (omega arith) ∙ not_idle))
       (record { steps = 2; returns = refl; stack = refl; carry = refl; memory = refl; accesses = refl })
     where
       told : Bool → Cpu
-      told t = at 0x6902 a x phase s (nat_le 128 ((phase + 256 - 2) % 256)) t (nat_le 2 phase) v (laid (page phase publish) mem) flags (Reads 0x10 phase ∷ log)
+      told t = at 0x6902 a x phase s (nat_le 128 ((phase + 256 - 2) % 256)) t (nat_le 2 phase) v
+          (laid (page phase publish) mem) flags (Reads 0x10 phase ∷ log)
 
-  pub redraw_takes : Comes q (at 0x6943 a x y s n z c v (laid (page 2 4) mem) flags log) s false (laid (page 5 4) mem) (seen log)
+  pub redraw_takes : Comes q (at 0x6943 a x y s n z c v (laid (page 2 4) mem) flags log) s false (laid (page 5 4) mem)
+      (seen log)
   redraw_takes = record {
     steps = 9;
     returns = refl;
@@ -48,26 +57,34 @@ module _ (q a x y s : ℕ) (n z c v : Bool) (free next t0 t1 pages end second f0
   }
 
   -- nothing was published
-  pub redraw_first : (phase : ℕ) → Comes q (at 0x6943 a x y s n z c v (laid (page phase 3) mem) flags log) s true (laid (page phase 3) mem) (seen log)
+  pub redraw_first : (phase : ℕ)
+      → Comes q (at 0x6943 a x y s n z c v (laid (page phase 3) mem) flags log) s true (laid (page phase 3) mem)
+      (seen log)
   redraw_first phase = record { steps = 4; returns = refl; stack = refl; carry = refl; accesses = refl; memory = refl }
 
   pub redraw_refuses : (phase : ℕ) → phase < 256 → nat_eq phase 2 ≡ false
-      → Comes q (at 0x6943 a x y s n z c v (laid (page phase 4) mem) flags log) s true (laid (page phase 4) mem) (seen log)
-  redraw_refuses phase small not_idle = by q 5 _ (told false) s _ _ _ (ap told (compared phase 2 small (omega arith) ∙ not_idle))
+      → Comes q (at 0x6943 a x y s n z c v (laid (page phase 4) mem) flags log) s true (laid (page phase 4) mem)
+      (seen log)
+  redraw_refuses phase small not_idle =
+      by q 5 _ (told false) s _ _ _ (ap told (compared phase 2 small (omega arith) ∙ not_idle))
       (record { steps = 2; returns = refl; stack = refl; carry = refl; memory = refl; accesses = refl })
     where
       told : Bool → Cpu
-      told t = at 0x694D phase x y s (nat_le 128 ((phase + 256 - 2) % 256)) t (nat_le 2 phase) v (laid (page phase 4) mem) flags (Reads 0x10 phase ∷ Reads 0x12 4 ∷ log)
+      told t = at 0x694D phase x y s (nat_le 128 ((phase + 256 - 2) % 256)) t (nat_le 2 phase) v
+          (laid (page phase 4) mem) flags (Reads 0x10 phase ∷ Reads 0x12 4 ∷ log)
 
-module _ (q a x y s : ℕ) (n z c v : Bool) (publish next t0 t1 pages end second f0 f1 : ℕ) (mem flags : ℕ → ℕ) (log : List Access) where
+module _ (q a x y s : ℕ) (n z c v : Bool) (publish next t0 t1 pages end second f0 f1 : ℕ) (mem flags : ℕ
+    → ℕ) (log : List Access) where
   abbrev low_place : ℕ
   low_place = (a + 256 * x + 0) % 65536
 
   abbrev high_place : ℕ
   high_place = (a + 256 * x + 1) % 65536
 
-  module _ (h : Bool) (wl wh : ℕ) (low_read : (page : List ℕ) → laid page mem low_place ≡ wl) (high_read : (page : List ℕ) → laid page mem high_place ≡ wh)
-      (low_flag : nat_eq low_place 0x2002 ≡ false) (high_flag : nat_eq high_place 0x2002 ≡ false) (low_device : is_device low_place ≡ false) (high_device : is_device high_place ≡ false) where
+  module _ (h : Bool) (wl wh : ℕ) (low_read : (page : List ℕ) → laid page mem low_place ≡ wl)
+      (high_read : (page : List ℕ) → laid page mem high_place ≡ wh)
+      (low_flag : nat_eq low_place 0x2002 ≡ false) (high_flag : nat_eq high_place 0x2002 ≡ false)
+      (low_device : is_device low_place ≡ false) (high_device : is_device high_place ≡ false) where
     abbrev paged : ℕ → ℕ → List ℕ
     paged pages end = page_of 2 (free_of h) publish next t0 t1 pages end second a x
 
@@ -105,45 +122,62 @@ module _ (q a x y s : ℕ) (n z c v : Bool) (publish next t0 t1 pages end second
 
     abbrev told2 : Bool → ℕ → Cpu
     told2 t b = let byte = byte_read t flags b in
-        at 0x690C byte x 1 s (nat_le 128 byte) (nat_eq byte 0) true v (laid (paged pages end) mem) (flags_then t flags) (Reads high_place byte ∷ log1)
+        at 0x690C byte x 1 s (nat_le 128 byte) (nat_eq byte 0) true v (laid (paged pages end) mem)
+        (flags_then t flags) (Reads high_place byte ∷ log1)
 
     abbrev s3 : Cpu
     s3 = at 0x690F wh x 0 s false true true v (laid (paged wh end) mem) flags log3
 
     abbrev told4 : Bool → ℕ → Cpu
     told4 t b = let byte = byte_read t flags b in
-        at 0x6911 byte x 0 s (nat_le 128 byte) (nat_eq byte 0) true v (laid (paged wh end) mem) (flags_then t flags) (Reads low_place byte ∷ log3)
+        at 0x6911 byte x 0 s (nat_le 128 byte) (nat_eq byte 0) true v (laid (paged wh end) mem) (flags_then t flags)
+        (Reads low_place byte ∷ log3)
 
     abbrev log5 : List Access
-    log5 = Writes 0x17 e2 ∷ Reads 0x17 ((e0 + 1) % 256) ∷ Writes 0x17 ((e0 + 1) % 256) ∷ Reads 0x17 e0 ∷ Writes 0x17 e0 ∷ Writes 0x16 p0 ∷ Reads 0x16 wh ∷ log4
+    log5 = Writes 0x17 e2 ∷ Reads 0x17 ((e0 + 1) % 256) ∷ Writes 0x17 ((e0 + 1) % 256) ∷ Reads 0x17 e0
+        ∷ Writes 0x17 e0 ∷ Writes 0x16 p0 ∷ Reads 0x16 wh ∷ log4
 
     abbrev told5 : Bool → (ℕ → ℕ) → Cpu
     told5 t m = at 0x691A e0 x 0 s (nat_le 128 e2) t (nat_le 128 wh) v m flags log5
 
-    to1 : (h : Bool) → run q 6 (at 0x68FE a x y s n z c v (laid (page_of 2 (free_of h) publish next t0 t1 pages end second f0 f1) mem) flags log)
-        ≡ at 0x690A a x 1 s false false true v (laid (page_of 2 (free_of h) publish next t0 t1 pages end second a x) mem) flags log1
+    to1 : (h : Bool) → run q 6
+        (at 0x68FE a x y s n z c v (laid (page_of 2 (free_of h) publish next t0 t1 pages end second f0 f1) mem) flags
+        log)
+        ≡ at 0x690A a x 1 s false false true v
+        (laid (page_of 2 (free_of h) publish next t0 t1 pages end second a x) mem) flags log1
     to1 h = ap (λ m. at 0x690A a x 1 s false false true v m flags log1)
-        (ap (put 0x1A x) (put_page 9 a (page_of 2 (free_of h) publish next t0 t1 pages end second f0 f1) mem (omega arith) refl)
+        (ap (put 0x1A x) (put_page 9 a (page_of 2 (free_of h) publish next t0 t1 pages end second f0 f1) mem
+        (omega arith) refl)
         ∙ put_page 10 x (page_of 2 (free_of h) publish next t0 t1 pages end second a f1) mem (omega arith) refl)
 
     to5 : run q 5 (told4 false wl) ≡ told5 (nat_eq e2 0) (laid (paged p0 e2) mem)
     to5 = ap (told5 (nat_eq e2 0))
-        (ap (λ m. put 0x17 e2 (put 0x17 ((e0 + 1) % 256) (put 0x17 e0 m))) (put_page 6 p0 (paged wh end) mem (omega arith) refl)
+        (ap (λ m. put 0x17 e2 (put 0x17 ((e0 + 1) % 256) (put 0x17 e0 m)))
+        (put_page 6 p0 (paged wh end) mem (omega arith) refl)
         ∙ ap (λ m. put 0x17 e2 (put 0x17 ((e0 + 1) % 256) m)) (put_page 7 e0 (paged p0 end) mem (omega arith) refl)
         ∙ ap (put 0x17 e2) (put_page 7 ((e0 + 1) % 256) (paged p0 e0) mem (omega arith) refl)
         ∙ put_page 7 e2 (paged p0 ((e0 + 1) % 256)) mem (omega arith) refl)
 
     -- from `sized` on, at either half
-    readied : (h : Bool) (p : ℕ) → put 0x10 0x80 (put 0x13 2 (put 0x15 (high_of h) (put 0x14 0 (put 0x18 0 (laid (page_of 2 (free_of h) publish next t0 t1 p e2 second a x) mem)))))
+    readied : (h : Bool) (p : ℕ)
+        → put 0x10 0x80 (put 0x13 2
+        (put 0x15 (high_of h)
+        (put 0x14 0 (put 0x18 0 (laid (page_of 2 (free_of h) publish next t0 t1 p e2 second a x) mem)))))
         ≡ laid (page_of 0x80 (free_of h) publish 2 0 (high_of h) p e2 0 a x) mem
     readied h p =
-        ap (λ m. put 0x10 0x80 (put 0x13 2 (put 0x15 (high_of h) (put 0x14 0 m)))) (put_page 8 0 (page_of 2 (free_of h) publish next t0 t1 p e2 second a x) mem (omega arith) refl)
-        ∙ ap (λ m. put 0x10 0x80 (put 0x13 2 (put 0x15 (high_of h) m))) (put_page 4 0 (page_of 2 (free_of h) publish next t0 t1 p e2 0 a x) mem (omega arith) refl)
-        ∙ ap (λ m. put 0x10 0x80 (put 0x13 2 m)) (put_page 5 (high_of h) (page_of 2 (free_of h) publish next 0 t1 p e2 0 a x) mem (omega arith) refl)
-        ∙ ap (put 0x10 0x80) (put_page 3 2 (page_of 2 (free_of h) publish next 0 (high_of h) p e2 0 a x) mem (omega arith) refl)
+        ap (λ m. put 0x10 0x80 (put 0x13 2 (put 0x15 (high_of h) (put 0x14 0 m))))
+        (put_page 8 0 (page_of 2 (free_of h) publish next t0 t1 p e2 second a x) mem (omega arith) refl)
+        ∙ ap (λ m. put 0x10 0x80 (put 0x13 2 (put 0x15 (high_of h) m)))
+        (put_page 4 0 (page_of 2 (free_of h) publish next t0 t1 p e2 0 a x) mem (omega arith) refl)
+        ∙ ap (λ m. put 0x10 0x80 (put 0x13 2 m))
+        (put_page 5 (high_of h) (page_of 2 (free_of h) publish next 0 t1 p e2 0 a x) mem (omega arith) refl)
+        ∙ ap (put 0x10 0x80) (put_page 3 2 (page_of 2 (free_of h) publish next 0 (high_of h) p e2 0 a x) mem
+        (omega arith) refl)
         ∙ put_page 0 0x80 (page_of 2 (free_of h) publish 2 0 (high_of h) p e2 0 a x) mem (omega arith) refl
 
-    rest : (h t : Bool) → Comes q (at 0x691A e0 x 0 s (nat_le 128 e2) t (nat_le 128 wh) v (laid (page_of 2 (free_of h) publish next t0 t1 p0 e2 second a x) mem) flags log5) s false
+    rest : (h t : Bool) → Comes q
+        (at 0x691A e0 x 0 s (nat_le 128 e2) t (nat_le 128 wh) v
+        (laid (page_of 2 (free_of h) publish next t0 t1 p0 e2 second a x) mem) flags log5) s false
         (laid (page_of 0x80 (free_of h) publish 2 0 (high_of h) (p2 t) e2 0 a x) mem) (seen log5)
     rest true true = record {
       steps = 15;
@@ -151,29 +185,57 @@ module _ (q a x y s : ℕ) (n z c v : Bool) (publish next t0 t1 pages end second
       stack = refl;
       carry = refl;
       accesses = refl;
-      memory = ap (λ m. put 0x10 0x80 (put 0x13 2 (put 0x15 0x44 (put 0x14 0 (put 0x18 0 m))))) (put_page 6 ((p0 + 1) % 256) (page_of 2 0xE2 publish next t0 t1 p0 e2 second a x) mem (omega arith) refl)
+      memory = ap (λ m. put 0x10 0x80 (put 0x13 2 (put 0x15 0x44 (put 0x14 0 (put 0x18 0 m)))))
+          (put_page 6 ((p0 + 1) % 256) (page_of 2 0xE2 publish next t0 t1 p0 e2 second a x) mem (omega arith) refl)
           ∙ readied true ((p0 + 1) % 256);
     }
-    rest true false = record { steps = 14; returns = refl; stack = refl; carry = refl; accesses = refl; memory = readied true p0 }
+    rest true false = record {
+      steps = 14;
+      returns = refl;
+      stack = refl;
+      carry = refl;
+      accesses = refl;
+      memory = readied true p0;
+    }
     rest false true = record {
       steps = 15;
       returns = refl;
       stack = refl;
       carry = refl;
       accesses = refl;
-      memory = ap (λ m. put 0x10 0x80 (put 0x13 2 (put 0x15 0x40 (put 0x14 0 (put 0x18 0 m))))) (put_page 6 ((p0 + 1) % 256) (page_of 2 0xE0 publish next t0 t1 p0 e2 second a x) mem (omega arith) refl)
+      memory = ap (λ m. put 0x10 0x80 (put 0x13 2 (put 0x15 0x40 (put 0x14 0 (put 0x18 0 m)))))
+          (put_page 6 ((p0 + 1) % 256) (page_of 2 0xE0 publish next t0 t1 p0 e2 second a x) mem (omega arith) refl)
           ∙ readied false ((p0 + 1) % 256);
     }
-    rest false false = record { steps = 14; returns = refl; stack = refl; carry = refl; accesses = refl; memory = readied false p0 }
+    rest false false = record {
+      steps = 14;
+      returns = refl;
+      stack = refl;
+      carry = refl;
+      accesses = refl;
+      memory = readied false p0;
+    }
 
     quiet : seen log5 ≡ seen log
-    quiet = ap (λ (t : Bool). if t then Reads low_place wl ∷ seen log2 else seen log2) low_device ∙ ap (λ (t : Bool). if t then Reads high_place wh ∷ seen log else seen log) high_device
+    quiet = ap (λ (t : Bool). if t then Reads low_place wl ∷ seen log2 else seen log2) low_device
+        ∙ ap (λ (t : Bool). if t then Reads high_place wh ∷ seen log else seen log) high_device
 
-    pub offer_takes : Comes q (at 0x68FE a x y s n z c v (laid (page_of 2 (free_of h) publish next t0 t1 pages end second f0 f1) mem) flags log) s false (final (nat_eq e2 0)) (seen log)
-    offer_takes = subst (λ es. Comes q (at 0x68FE a x y s n z c v (laid (page_of 2 (free_of h) publish next t0 t1 pages end second f0 f1) mem) flags log) s false (final (nat_eq e2 0)) es) quiet
+    pub offer_takes : Comes q
+        (at 0x68FE a x y s n z c v (laid (page_of 2 (free_of h) publish next t0 t1 pages end second f0 f1) mem) flags
+        log) s false (final (nat_eq e2 0)) (seen log)
+    offer_takes = subst (λ es. Comes q
+        (at 0x68FE a x y s n z c v (laid (page_of 2 (free_of h) publish next t0 t1 pages end second f0 f1) mem) flags
+        log) s false (final (nat_eq e2 0)) es) quiet
         (by q 6 _ s1 s false (final (nat_eq e2 0)) (seen log5) (to1 h)
-        (by q 1 s1 (told2 false wh) s false (final (nat_eq e2 0)) (seen log5) (ap (λ t. told2 t (laid (paged pages end) mem high_place)) high_flag ∙ ap (told2 false) (high_read (paged pages end)))
-        (by q 2 (told2 false wh) s3 s false (final (nat_eq e2 0)) (seen log5) (ap (λ m. at 0x690F wh x 0 s false true true v m flags log3) (put_page 6 wh (paged pages end) mem (omega arith) refl))
-        (by q 1 s3 (told4 false wl) s false (final (nat_eq e2 0)) (seen log5) (ap (λ t. told4 t (laid (paged wh end) mem low_place)) low_flag ∙ ap (told4 false) (low_read (paged wh end)))
-        (by q 5 (told4 false wl) (told5 (nat_eq e2 0) (laid (paged p0 e2) mem)) s false (final (nat_eq e2 0)) (seen log5) to5
+        (by q 1 s1 (told2 false wh) s false (final (nat_eq e2 0)) (seen log5)
+        (ap (λ t. told2 t (laid (paged pages end) mem high_place)) high_flag
+        ∙ ap (told2 false) (high_read (paged pages end)))
+        (by q 2 (told2 false wh) s3 s false (final (nat_eq e2 0)) (seen log5)
+        (ap (λ m. at 0x690F wh x 0 s false true true v m flags log3)
+        (put_page 6 wh (paged pages end) mem (omega arith) refl))
+        (by q 1 s3 (told4 false wl) s false (final (nat_eq e2 0)) (seen log5)
+        (ap (λ t. told4 t (laid (paged wh end) mem low_place)) low_flag
+        ∙ ap (told4 false) (low_read (paged wh end)))
+        (by q 5 (told4 false wl) (told5 (nat_eq e2 0) (laid (paged p0 e2) mem)) s false (final (nat_eq e2 0))
+        (seen log5) to5
         (rest h (nat_eq e2 0)))))))

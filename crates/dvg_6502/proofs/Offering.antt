@@ -1,5 +1,6 @@
 -- What dvg_reset, dvg_offer and dvg_redraw answer, by the script.
-use Rattle.std.proofs.Common.{◌≡◌, ◌≢◌, ℕ, ◌+◌, ◌*◌, ◌%◌, ◌<◌, ◌≤◌, Bool, true, false, not, List, [], length, refl, sym, ap, ◌∙◌, subst, arith, inl, inr, leb-true, eqb-true}
+use Rattle.std.proofs.Common.{◌≡◌, ◌≢◌, ℕ, ◌+◌, ◌*◌, ◌%◌, ◌<◌, ◌≤◌, Bool, true, false, not, List, [], length, refl}
+use Rattle.std.proofs.Common.{sym, ap, ◌∙◌, subst, arith, inl, inr, leb-true, eqb-true}
 use Rattle.std.proofs.lemmas.Bool.{leb-false, eqb-false}
 use Rattle.std.specs.Prelude.{◌⊎◌, nat_eq, nat_le, if◌then◌else◌}
 use Rattle.dvg_mem.specs.declared.half.Half.{Half}
@@ -13,15 +14,18 @@ use Rattle.dvg_6502.specs.Processor.{Cpu, run, bit_of}
 use Rattle.dvg_6502.specs.Board.{IsLoaded, is_device, is_own, seen}
 use Rattle.dvg_6502.specs.Holds.{Holds, IsFeeding, HoldsPlace, publish_byte}
 use Rattle.dvg_6502.specs.Tables.{HasTable, table_of}
-use Rattle.dvg_6502.specs.Routines.{Answers, IsBusy, Enters, ResetRefines, OfferTakes, OfferRefuses, RedrawTakes, RedrawRefuses}
+use Rattle.dvg_6502.specs.Routines.{Answers, IsBusy, Enters, ResetRefines, OfferTakes, OfferRefuses, RedrawTakes}
+use Rattle.dvg_6502.specs.Routines.{RedrawRefuses}
 use Rattle.dvg_6502.proofs.Running.{Comes, at, returned}
 use Rattle.dvg_6502.proofs.Memory.{AreSmall, known, page_in, laid, page_of, loaded, same_out, out_of_page}
 use Rattle.dvg_6502.proofs.TableTick.{not_flag}
 use Rattle.dvg_6502.proofs.Begun.{BeginsTable, table_begins}
-use Rattle.dvg_6502.proofs.OfferRun.{reset, offer_refuses, redraw_takes, redraw_first, redraw_refuses, offer_takes, free_of, high_of}
+use Rattle.dvg_6502.proofs.OfferRun.{reset, offer_refuses, redraw_takes, redraw_first, redraw_refuses, offer_takes}
+use Rattle.dvg_6502.proofs.OfferRun.{free_of, high_of}
 
 -- a run that comes to its end, as an answer
-answers : (from : Cpu) (c : Bool) (page : List ℕ) (mem : ℕ → ℕ) (begin stop : ℕ) (new : Stage) → from.log ≡ [] → ((b : ℕ) → mem b < 256) → AreSmall page
+answers : (from : Cpu) (c : Bool) (page : List ℕ) (mem : ℕ → ℕ) (begin stop : ℕ) (new : Stage) → from.log ≡ []
+    → ((b : ℕ) → mem b < 256) → AreSmall page
     → Comes from.s from from.s c (laid page mem) (seen from.log) → Holds (laid page mem) begin stop new
     → ((b : ℕ) → is_own b ≡ false → laid page mem b ≡ from.mem b) → Answers from c begin stop new
 answers from c page mem begin stop new no_log bytes small comes holds kept = record {
@@ -36,21 +40,25 @@ answers from c page mem begin stop new no_log bytes small comes holds kept = rec
 
 -- a state, with its memory as page, code and the rest
 abbrev from_of : Cpu → ℕ → Cpu
-from_of cpu entry = at entry cpu.a cpu.x cpu.y cpu.s cpu.n cpu.z cpu.c cpu.v (laid (page_in cpu.mem) cpu.mem) cpu.flags cpu.log
+from_of cpu entry = at entry cpu.a cpu.x cpu.y cpu.s cpu.n cpu.z cpu.c cpu.v
+    (laid (page_in cpu.mem) cpu.mem) cpu.flags cpu.log
 
 from_is : (cpu : Cpu) (entry : ℕ) → cpu.pc ≡ entry → IsLoaded cpu.mem → from_of cpu entry ≡ cpu
 from_is cpu entry at_entry load =
-    ap (λ (m : ℕ → ℕ). at entry cpu.a cpu.x cpu.y cpu.s cpu.n cpu.z cpu.c cpu.v m cpu.flags cpu.log) (sym (known cpu.mem load))
+    ap (λ (m : ℕ → ℕ). at entry cpu.a cpu.x cpu.y cpu.s cpu.n cpu.z cpu.c cpu.v m cpu.flags cpu.log)
+    (sym (known cpu.mem load))
     ∙ ap (λ p. at p cpu.a cpu.x cpu.y cpu.s cpu.n cpu.z cpu.c cpu.v cpu.mem cpu.flags cpu.log) (sym at_entry)
 
 -- a driver that doesn't rest isn't idle
-not_idle : (mem : ℕ → ℕ) (begin stop : ℕ) (place : Place) (half : Half) (flipped : Bool) → HoldsPlace mem begin stop place half flipped → IsBusy place → nat_eq (mem 0x10) 2 ≡ false
+not_idle : (mem : ℕ → ℕ) (begin stop : ℕ) (place : Place) (half : Half) (flipped : Bool)
+    → HoldsPlace mem begin stop place half flipped → IsBusy place → nat_eq (mem 0x10) 2 ≡ false
 not_idle mem begin stop Start half flipped holds busy = ap (λ p. nat_eq p 2) holds.0
 not_idle mem begin stop Booting half flipped holds busy = ap (λ p. nat_eq p 2) holds.0
 not_idle mem begin stop (Resting first) half flipped holds busy = absurd busy
 not_idle mem begin stop (Writing writes) half flipped holds busy = by holds.1
   where
-    by : IsFeeding mem begin stop half flipped writes ⊎ ((mem 0x10 ≡ 3) × (writes ≡ word_zero (other half) true)) ⊎ ((mem 0x10 ≡ 4) × (writes ≡ word_zero (other half) false)) → nat_eq (mem 0x10) 2 ≡ false
+    by : IsFeeding mem begin stop half flipped writes ⊎ ((mem 0x10 ≡ 3) × (writes ≡ word_zero (other half) true))
+        ⊎ ((mem 0x10 ≡ 4) × (writes ≡ word_zero (other half) false)) → nat_eq (mem 0x10) 2 ≡ false
     by (inl feeds) = ap (λ p. nat_eq p 2) feeds.phase
     by (inr (inl is)) = ap (λ p. nat_eq p 2) is.0
     by (inr (inr is)) = ap (λ p. nat_eq p 2) is.0
@@ -59,18 +67,39 @@ not_idle mem begin stop (Sending first) half flipped holds busy = ap (λ p. nat_
 
 module _ (a x y s : ℕ) (n z c v : Bool) (mem flags : ℕ → ℕ) (load : IsLoaded mem) (begin stop : ℕ) where
   abbrev page : ℕ → ℕ → ℕ → List ℕ
-  page phase free publish = page_of phase free publish (mem 0x13) (mem 0x14) (mem 0x15) (mem 0x16) (mem 0x17) (mem 0x18) (mem 0x19) (mem 0x1A)
+  page phase free publish = page_of phase free publish (mem 0x13) (mem 0x14) (mem 0x15) (mem 0x16) (mem 0x17)
+      (mem 0x18) (mem 0x19) (mem 0x1A)
 
   small : (phase free publish : ℕ) → phase < 256 → free < 256 → publish < 256 → AreSmall (page phase free publish)
-  small phase free publish p f l = (p, (f, (l, (load.bytes 0x13, (load.bytes 0x14, (load.bytes 0x15, (load.bytes 0x16, (load.bytes 0x17, (load.bytes 0x18, (load.bytes 0x19, (load.bytes 0x1A, tt)))))))))))
+  small phase free publish p f l = (
+    p,
+    (
+      f,
+      (
+        l,
+        (
+          load.bytes 0x13,
+          (
+            load.bytes 0x14,
+            (
+              load.bytes 0x15,
+              (load.bytes 0x16, (load.bytes 0x17, (load.bytes 0x18, (load.bytes 0x19, (load.bytes 0x1A, tt))))),
+            ),
+          ),
+        ),
+      ),
+    ),
+  )
 
   abbrev from : ℕ → Cpu
   from entry = at entry a x y s n z c v (laid (page_in mem) mem) flags []
 
   resets : (half : Half) → Answers (from 0x6800) c begin stop (record { place = Start; half = half; flipped = false })
-  resets half = answers (from 0x6800) c (page 0 (mem 0x11) 3) mem begin stop (record { place = Start; half = half; flipped = false }) refl load.bytes
+  resets half = answers (from 0x6800) c (page 0 (mem 0x11) 3) mem begin stop
+      (record { place = Start; half = half; flipped = false }) refl load.bytes
       (small 0 (mem 0x11) 3 (omega arith) (load.bytes 0x11) (omega arith))
-      (reset s a x y s n z c v (mem 0x11) (mem 0x13) (mem 0x14) (mem 0x15) (mem 0x16) (mem 0x17) (mem 0x18) (mem 0x19) (mem 0x1A) mem flags [] (mem 0x10) (mem 0x12))
+      (reset s a x y s n z c v (mem 0x11) (mem 0x13) (mem 0x14) (mem 0x15) (mem 0x16) (mem 0x17) (mem 0x18) (mem 0x19)
+      (mem 0x1A) mem flags [] (mem 0x10) (mem 0x12))
       (record { flipped = refl; place = (refl, refl) })
       (λ b own. same_out (page 0 (mem 0x11) 3) (page_in mem) mem b own)
 
@@ -83,54 +112,76 @@ module _ (a x y s : ℕ) (n z c v : Bool) (mem flags : ℕ → ℕ) (load : IsLo
   whole_small : AreSmall (page_in mem)
   whole_small = small (mem 0x10) (mem 0x11) (mem 0x12) (load.bytes 0x10) (load.bytes 0x11) (load.bytes 0x12)
 
-  offer_busy : (stage : Stage) → Holds mem begin stop stage → IsBusy stage.place → Answers (from 0x68FE) true begin stop stage
-  offer_busy stage holds busy = answers (from 0x68FE) true (page_in mem) mem begin stop stage refl load.bytes whole_small
-      (offer_refuses s a x y s n z c v (mem 0x11) (mem 0x13) (mem 0x14) (mem 0x15) (mem 0x16) (mem 0x17) (mem 0x18) (mem 0x19) (mem 0x1A) mem flags [] (mem 0x10) (mem 0x12) (load.bytes 0x10)
+  offer_busy : (stage : Stage) → Holds mem begin stop stage → IsBusy stage.place
+      → Answers (from 0x68FE) true begin stop stage
+  offer_busy stage holds busy =
+      answers (from 0x68FE) true (page_in mem) mem begin stop stage refl load.bytes whole_small
+      (offer_refuses s a x y s n z c v (mem 0x11) (mem 0x13) (mem 0x14) (mem 0x15) (mem 0x16) (mem 0x17) (mem 0x18)
+      (mem 0x19) (mem 0x1A) mem flags [] (mem 0x10) (mem 0x12) (load.bytes 0x10)
       (not_idle mem begin stop stage.place stage.half stage.flipped holds.place busy))
       (holds_here stage holds) (λ b own. refl)
 
-  redraw_busy : (stage : Stage) → Holds mem begin stop stage → (stage.flipped ≡ true → IsBusy stage.place) → Answers (from 0x6943) true begin stop stage
+  redraw_busy : (stage : Stage) → Holds mem begin stop stage → (stage.flipped ≡ true → IsBusy stage.place)
+      → Answers (from 0x6943) true begin stop stage
   redraw_busy stage holds busy = by stage.flipped refl
     where
       with_publish : ℕ → Type 0
-      with_publish p = Comes s (at 0x6943 a x y s n z c v (laid (page (mem 0x10) (mem 0x11) p) mem) flags []) s true (laid (page (mem 0x10) (mem 0x11) p) mem) []
+      with_publish p = Comes s (at 0x6943 a x y s n z c v (laid (page (mem 0x10) (mem 0x11) p) mem) flags []) s true
+          (laid (page (mem 0x10) (mem 0x11) p) mem) []
 
       ends : Comes s (from 0x6943) s true (laid (page_in mem) mem) [] → Answers (from 0x6943) true begin stop stage
-      ends comes = answers (from 0x6943) true (page_in mem) mem begin stop stage refl load.bytes whole_small comes (holds_here stage holds) (λ b own. refl)
+      ends comes = answers (from 0x6943) true (page_in mem) mem begin stop stage refl load.bytes whole_small comes
+          (holds_here stage holds) (λ b own. refl)
 
       by : (t : Bool) → stage.flipped ≡ t → Answers (from 0x6943) true begin stop stage
       by true is = ends (subst with_publish (sym (holds.flipped ∙ ap publish_byte is))
-          (redraw_refuses s a x y s n z c v (mem 0x11) (mem 0x13) (mem 0x14) (mem 0x15) (mem 0x16) (mem 0x17) (mem 0x18) (mem 0x19) (mem 0x1A) mem flags [] (mem 0x10) (load.bytes 0x10)
+          (redraw_refuses s a x y s n z c v (mem 0x11) (mem 0x13) (mem 0x14) (mem 0x15) (mem 0x16) (mem 0x17)
+          (mem 0x18) (mem 0x19) (mem 0x1A) mem flags [] (mem 0x10) (load.bytes 0x10)
           (not_idle mem begin stop stage.place stage.half stage.flipped holds.place (busy is))))
       by false is = ends (subst with_publish (sym (holds.flipped ∙ ap publish_byte is))
-          (redraw_first s a x y s n z c v (mem 0x11) (mem 0x13) (mem 0x14) (mem 0x15) (mem 0x16) (mem 0x17) (mem 0x18) (mem 0x19) (mem 0x1A) mem flags [] (mem 0x10)))
+          (redraw_first s a x y s n z c v (mem 0x11) (mem 0x13) (mem 0x14) (mem 0x15) (mem 0x16) (mem 0x17) (mem 0x18)
+          (mem 0x19) (mem 0x1A) mem flags [] (mem 0x10)))
 
-  redraw_rests : (half : Half) (first : Bool) → Holds mem begin stop (record { place = Resting first; half = half; flipped = true })
+  redraw_rests : (half : Half) (first : Bool)
+      → Holds mem begin stop (record { place = Resting first; half = half; flipped = true })
       → Answers (from 0x6943) false begin stop (record { place = Waiting first; half = half; flipped = true })
-  redraw_rests half first holds = answers (from 0x6943) false (page 5 (mem 0x11) 4) mem begin stop (record { place = Waiting first; half = half; flipped = true }) refl load.bytes
+  redraw_rests half first holds = answers (from 0x6943) false (page 5 (mem 0x11) 4) mem begin stop
+      (record { place = Waiting first; half = half; flipped = true }) refl load.bytes
       (small 5 (mem 0x11) 4 (omega arith) (load.bytes 0x11) (omega arith))
-      (subst (λ p. Comes s (at 0x6943 a x y s n z c v (laid (page p (mem 0x11) (mem 0x12)) mem) flags []) s false (laid (page 5 (mem 0x11) 4) mem) []) (sym holds.place.0)
-      (subst (λ p. Comes s (at 0x6943 a x y s n z c v (laid (page 2 (mem 0x11) p) mem) flags []) s false (laid (page 5 (mem 0x11) 4) mem) []) (sym holds.flipped)
-      (redraw_takes s a x y s n z c v (mem 0x11) (mem 0x13) (mem 0x14) (mem 0x15) (mem 0x16) (mem 0x17) (mem 0x18) (mem 0x19) (mem 0x1A) mem flags [])))
+      (subst (λ p. Comes s (at 0x6943 a x y s n z c v (laid (page p (mem 0x11) (mem 0x12)) mem) flags []) s false
+      (laid (page 5 (mem 0x11) 4) mem) []) (sym holds.place.0)
+      (subst (λ p. Comes s (at 0x6943 a x y s n z c v (laid (page 2 (mem 0x11) p) mem) flags []) s false
+      (laid (page 5 (mem 0x11) 4) mem) []) (sym holds.flipped)
+      (redraw_takes s a x y s n z c v (mem 0x11) (mem 0x13) (mem 0x14) (mem 0x15) (mem 0x16) (mem 0x17) (mem 0x18)
+      (mem 0x19) (mem 0x1A) mem flags [])))
       (record { flipped = refl; place = (refl, holds.place.1, holds.place.2) })
       (λ b own. same_out (page 5 (mem 0x11) 4) (page_in mem) mem b own)
 
 -- the end's byte is even
-even_end : (wl wh len : ℕ) → wl < 256 → len ≤ 1022 → 2 * (wl + 256 * wh) ≡ len → ((2 * wl % 256 + 1) % 256 + 1) % 256 % 2 ≡ 0
+even_end : (wl wh len : ℕ) → wl < 256 → len ≤ 1022 → 2 * (wl + 256 * wh) ≡ len
+    → ((2 * wl % 256 + 1) % 256 + 1) % 256 % 2 ≡ 0
 even_end wl wh len small fits is = omega arith
 
 -- the count, doubled, and its own two bytes
-counted : (wl wh len e2 : ℕ) (t u : Bool) → wl < 256 → len ≤ 1022 → 2 * (wl + 256 * wh) ≡ len → e2 ≡ ((2 * wl % 256 + 1) % 256 + 1) % 256
+counted : (wl wh len e2 : ℕ) (t u : Bool) → wl < 256 → len ≤ 1022 → 2 * (wl + 256 * wh) ≡ len
+    → e2 ≡ ((2 * wl % 256 + 1) % 256 + 1) % 256
     → nat_le 128 wl ≡ t → nat_eq e2 0 ≡ u
     → 256 * (if u then ((2 * wh + bit_of t) % 256 + 1) % 256 else (2 * wh + bit_of t) % 256) + e2 ≡ 2 + len
-counted wl wh len e2 true true low fits is e test none = let most = leb-true 128 wl test in let zero = eqb-true e2 0 none in omega arith
-counted wl wh len e2 true false low fits is e test none = let most = leb-true 128 wl test in let some : e2 ≢ 0 = eqb-false e2 0 none in omega (arith, some)
-counted wl wh len e2 false true low fits is e test none = let less = leb-false 128 wl test in let zero = eqb-true e2 0 none in omega arith
-counted wl wh len e2 false false low fits is e test none = let less = leb-false 128 wl test in let some : e2 ≢ 0 = eqb-false e2 0 none in omega (arith, some)
+counted wl wh len e2 true true low fits is e test none = let most = leb-true 128 wl test in
+    let zero = eqb-true e2 0 none in omega arith
+counted wl wh len e2 true false low fits is e test none = let most = leb-true 128 wl test in
+    let some : e2 ≢ 0 = eqb-false e2 0 none in omega (arith, some)
+counted wl wh len e2 false true low fits is e test none = let less = leb-false 128 wl test in
+    let zero = eqb-true e2 0 none in omega arith
+counted wl wh len e2 false false low fits is e test none = let less = leb-false 128 wl test in
+    let some : e2 ≢ 0 = eqb-false e2 0 none in omega (arith, some)
 
-module _ (a x y s : ℕ) (n z c v : Bool) (mem flags : ℕ → ℕ) (load : IsLoaded mem) (a_small : a < 256) (x_small : x < 256)
-    (half : Half) (set : Bool) (F : List OpKind) (h : Bool) (free_is : free_of h ≡ high (other half)) (high_is : 256 * high_of h + 2 ≡ 0x4000 + 2 * base (other half))
-    (h_small : high_of h < 256) (f_small : free_of h < 256) (clear : mem 0x12 ≡ publish_byte set) (table : HasTable mem (a + 256 * x) F) where
+module _ (a x y s : ℕ) (n z c v : Bool) (mem flags : ℕ → ℕ) (load : IsLoaded mem) (a_small : a < 256)
+    (x_small : x < 256)
+    (half : Half) (set : Bool) (F : List OpKind) (h : Bool) (free_is : free_of h ≡ high (other half))
+    (high_is : 256 * high_of h + 2 ≡ 0x4000 + 2 * base (other half))
+    (h_small : high_of h < 256) (f_small : free_of h < 256) (clear : mem 0x12 ≡ publish_byte set)
+    (table : HasTable mem (a + 256 * x) F) where
   abbrev t : ℕ
   t = a + 256 * x
 
@@ -159,10 +210,12 @@ module _ (a x y s : ℕ) (n z c v : Bool) (mem flags : ℕ → ℕ) (load : IsLo
   final = page_of 0x80 (free_of h) (mem 0x12) 2 0 (high_of h) p2 e2 0 a x
 
   abbrev begun : List ℕ
-  begun = page_of 2 (free_of h) (mem 0x12) (mem 0x13) (mem 0x14) (mem 0x15) (mem 0x16) (mem 0x17) (mem 0x18) (mem 0x19) (mem 0x1A)
+  begun = page_of 2 (free_of h) (mem 0x12) (mem 0x13) (mem 0x14) (mem 0x15) (mem 0x16) (mem 0x17) (mem 0x18)
+      (mem 0x19) (mem 0x1A)
 
   reads : (page : List ℕ) (b : ℕ) → 0x200 ≤ b → laid page mem b ≡ mem b
-  reads page b low = same_out page (page_in mem) mem b (out_of_page b low) ∙ sym (ap (λ (m : ℕ → ℕ). m b) (known mem load))
+  reads page b low = same_out page (page_in mem) mem b (out_of_page b low)
+      ∙ sym (ap (λ (m : ℕ → ℕ). m b) (known mem load))
 
   low_is : (a + 256 * x + 0) % 65536 ≡ t
   low_is = omega (arith, a_small, x_small)
@@ -171,9 +224,11 @@ module _ (a x y s : ℕ) (n z c v : Bool) (mem flags : ℕ → ℕ) (load : IsLo
   high_place_is = omega (arith, table.ends)
 
   comes : Comes s (at 0x68FE a x y s n z c v (laid begun mem) flags []) s false (laid final mem) []
-  comes = offer_takes s a x y s n z c v (mem 0x12) (mem 0x13) (mem 0x14) (mem 0x15) (mem 0x16) (mem 0x17) (mem 0x18) (mem 0x19) (mem 0x1A) mem flags [] h wl wh
+  comes = offer_takes s a x y s n z c v (mem 0x12) (mem 0x13) (mem 0x14) (mem 0x15) (mem 0x16) (mem 0x17) (mem 0x18)
+      (mem 0x19) (mem 0x1A) mem flags [] h wl wh
       (λ page. ap (laid page mem) low_is ∙ reads page t table.low)
-      (λ page. let low : 0x200 ≤ t + 1 = omega (arith, table.low) in ap (laid page mem) high_place_is ∙ reads page (t + 1) low)
+      (λ page. let low : 0x200 ≤ t + 1 = omega (arith, table.low) in ap (laid page mem) high_place_is
+      ∙ reads page (t + 1) low)
       (ap (λ p. nat_eq p 0x2002) low_is ∙ not_flag t table.head.0)
       (ap (λ p. nat_eq p 0x2002) high_place_is ∙ not_flag (t + 1) table.head.1)
       (ap is_device low_is ∙ table.head.0)
@@ -193,7 +248,8 @@ module _ (a x y s : ℕ) (n z c v : Bool) (mem flags : ℕ → ℕ) (load : IsLo
     fits = table.fits;
     counted = counted wl wh len e2 (nat_le 128 wl) (nat_eq e2 0) (load.bytes t) table.fits table.count refl refl refl;
     even = even_end wl wh len (load.bytes t) table.fits table.count;
-    table = λ k less. let low : 0x200 ≤ t + 2 + k = omega (arith, table.low) in reads final (t + 2 + k) low ∙ table.table k less;
+    table = λ k less. let low : 0x200 ≤ t + 2 + k = omega (arith, table.low) in reads final (t + 2 + k) low
+        ∙ table.table k less;
     far = table.far;
     low = omega (arith, table.low);
     ends = table.ends;
@@ -204,27 +260,56 @@ module _ (a x y s : ℕ) (n z c v : Bool) (mem flags : ℕ → ℕ) (load : IsLo
   p2_small false = omega arith
 
   small_final : AreSmall final
-  small_final = (omega arith, (f_small, (load.bytes 0x12, (omega arith, (omega arith, (h_small, (p2_small (nat_eq e2 0), (omega arith, (omega arith, (a_small, (x_small, tt)))))))))))
+  small_final = (
+    omega arith,
+    (
+      f_small,
+      (
+        load.bytes 0x12,
+        (
+          omega arith,
+          (
+            omega arith,
+            (h_small, (p2_small (nat_eq e2 0), (omega arith, (omega arith, (a_small, (x_small, tt)))))),
+          ),
+        ),
+      ),
+    ),
+  )
 
-  offers : (from : Cpu) → from ≡ at 0x68FE a x y s n z c v (laid begun mem) flags [] → ((b : ℕ) → is_own b ≡ false → laid begun mem b ≡ from.mem b)
-      → Answers (at 0x68FE a x y s n z c v (laid begun mem) flags []) false (t + 2) (t + 2 + len) (record { place = Writing (frame_writes (other half) F (not set)); half = half; flipped = set })
-  offers from is kept = answers (at 0x68FE a x y s n z c v (laid begun mem) flags []) false final mem (t + 2) (t + 2 + len)
-      (record { place = Writing (frame_writes (other half) F (not set)); half = half; flipped = set }) refl load.bytes small_final comes
+  offers : (from : Cpu) → from ≡ at 0x68FE a x y s n z c v (laid begun mem) flags []
+      → ((b : ℕ) → is_own b ≡ false → laid begun mem b ≡ from.mem b)
+      → Answers (at 0x68FE a x y s n z c v (laid begun mem) flags []) false (t + 2) (t + 2 + len)
+      (record { place = Writing (frame_writes (other half) F (not set)); half = half; flipped = set })
+  offers from is kept = answers (at 0x68FE a x y s n z c v (laid begun mem) flags []) false final mem (t + 2)
+      (t + 2 + len)
+      (record { place = Writing (frame_writes (other half) F (not set)); half = half; flipped = set }) refl load.bytes
+      small_final comes
       (table_begins (laid final mem) (t + 2) half set F clear begins)
       (λ b own. same_out final begun mem b own)
 
-module _ (a x y s : ℕ) (n z c v : Bool) (mem flags : ℕ → ℕ) (load : IsLoaded mem) (a_small : a < 256) (x_small : x < 256) (set : Bool) (F : List OpKind) where
+module _ (a x y s : ℕ) (n z c v : Bool) (mem flags : ℕ → ℕ) (load : IsLoaded mem) (a_small : a < 256)
+    (x_small : x < 256) (set : Bool) (F : List OpKind) where
   abbrev with_phase : ℕ → ℕ → Cpu
-  with_phase phase free = at 0x68FE a x y s n z c v (laid (page_of phase free (mem 0x12) (mem 0x13) (mem 0x14) (mem 0x15) (mem 0x16) (mem 0x17) (mem 0x18) (mem 0x19) (mem 0x1A)) mem) flags []
+  with_phase phase free =
+      at 0x68FE a x y s n z c v
+      (laid (page_of phase free (mem 0x12) (mem 0x13) (mem 0x14) (mem 0x15) (mem 0x16) (mem 0x17) (mem 0x18)
+      (mem 0x19) (mem 0x1A)) mem) flags []
 
   abbrev Goal : Half → Cpu → Type 0
-  Goal half cpu = Answers cpu false (a + 256 * x + 2) (a + 256 * x + 2 + length (table_of F)) (record { place = Writing (frame_writes (other half) F (not set)); half = half; flipped = set })
+  Goal half cpu = Answers cpu false (a + 256 * x + 2) (a + 256 * x + 2 + length (table_of F))
+      (record { place = Writing (frame_writes (other half) F (not set)); half = half; flipped = set })
 
-  offer_rests : (half : Half) → mem 0x10 ≡ 2 → mem 0x11 ≡ high (other half) → mem 0x12 ≡ publish_byte set → HasTable mem (a + 256 * x) F → Goal half (with_phase (mem 0x10) (mem 0x11))
-  offer_rests H0 phase free clear table = subst (λ p. Goal H0 (with_phase p (mem 0x11))) (sym phase) (subst (λ f. Goal H0 (with_phase 2 f)) (sym free)
-      (offers a x y s n z c v mem flags load a_small x_small H0 set F true refl refl (omega arith) (omega arith) clear table (with_phase 2 0xE2) refl (λ b own. refl)))
-  offer_rests H1 phase free clear table = subst (λ p. Goal H1 (with_phase p (mem 0x11))) (sym phase) (subst (λ f. Goal H1 (with_phase 2 f)) (sym free)
-      (offers a x y s n z c v mem flags load a_small x_small H1 set F false refl refl (omega arith) (omega arith) clear table (with_phase 2 0xE0) refl (λ b own. refl)))
+  offer_rests : (half : Half) → mem 0x10 ≡ 2 → mem 0x11 ≡ high (other half) → mem 0x12 ≡ publish_byte set
+      → HasTable mem (a + 256 * x) F → Goal half (with_phase (mem 0x10) (mem 0x11))
+  offer_rests H0 phase free clear table = subst (λ p. Goal H0 (with_phase p (mem 0x11))) (sym phase)
+      (subst (λ f. Goal H0 (with_phase 2 f)) (sym free)
+      (offers a x y s n z c v mem flags load a_small x_small H0 set F true refl refl (omega arith)
+      (omega arith) clear table (with_phase 2 0xE2) refl (λ b own. refl)))
+  offer_rests H1 phase free clear table = subst (λ p. Goal H1 (with_phase p (mem 0x11))) (sym phase)
+      (subst (λ f. Goal H1 (with_phase 2 f)) (sym free)
+      (offers a x y s n z c v mem flags load a_small x_small H1 set F false refl refl (omega arith)
+      (omega arith) clear table (with_phase 2 0xE0) refl (λ b own. refl)))
 
 -- from any state at an entry
 module _ (cpu : Cpu) (entry : ℕ) (enters : Enters cpu entry) where
@@ -232,29 +317,38 @@ module _ (cpu : Cpu) (entry : ℕ) (enters : Enters cpu entry) where
   here = at entry cpu.a cpu.x cpu.y cpu.s cpu.n cpu.z cpu.c cpu.v (laid (page_in cpu.mem) cpu.mem) cpu.flags []
 
   here_is : here ≡ cpu
-  here_is = ap (λ l. at entry cpu.a cpu.x cpu.y cpu.s cpu.n cpu.z cpu.c cpu.v (laid (page_in cpu.mem) cpu.mem) cpu.flags l) (sym enters.log) ∙ from_is cpu entry enters.entry enters.loaded
+  here_is = ap (λ l. at entry cpu.a cpu.x cpu.y cpu.s cpu.n cpu.z cpu.c cpu.v
+      (laid (page_in cpu.mem) cpu.mem) cpu.flags l) (sym enters.log) ∙ from_is cpu entry enters.entry enters.loaded
 
 pub reset_refines : ResetRefines
 reset_refines cpu begin stop half enters =
-    subst (λ (k : Cpu). Answers k cpu.c begin stop (record { place = Start; half = half; flipped = false })) (here_is cpu 0x6800 enters)
+    subst (λ (k : Cpu). Answers k cpu.c begin stop (record { place = Start; half = half; flipped = false }))
+    (here_is cpu 0x6800 enters)
     (resets cpu.a cpu.x cpu.y cpu.s cpu.n cpu.z cpu.c cpu.v cpu.mem cpu.flags enters.loaded begin stop half)
 
 pub offer_is_refused : OfferRefuses
 offer_is_refused cpu begin stop stage enters holds busy =
     subst (λ (k : Cpu). Answers k true begin stop stage) (here_is cpu 0x68FE enters)
-    (offer_busy cpu.a cpu.x cpu.y cpu.s cpu.n cpu.z cpu.c cpu.v cpu.mem cpu.flags enters.loaded begin stop stage holds busy)
+    (offer_busy cpu.a cpu.x cpu.y cpu.s cpu.n cpu.z cpu.c cpu.v cpu.mem cpu.flags enters.loaded begin stop stage holds
+    busy)
 
 pub redraw_is_refused : RedrawRefuses
 redraw_is_refused cpu begin stop stage enters holds busy =
     subst (λ (k : Cpu). Answers k true begin stop stage) (here_is cpu 0x6943 enters)
-    (redraw_busy cpu.a cpu.x cpu.y cpu.s cpu.n cpu.z cpu.c cpu.v cpu.mem cpu.flags enters.loaded begin stop stage holds busy)
+    (redraw_busy cpu.a cpu.x cpu.y cpu.s cpu.n cpu.z cpu.c cpu.v cpu.mem cpu.flags enters.loaded begin stop stage
+    holds busy)
 
 pub redraw_is_taken : RedrawTakes
 redraw_is_taken cpu begin stop half first enters holds =
-    subst (λ (k : Cpu). Answers k false begin stop (record { place = Waiting first; half = half; flipped = true })) (here_is cpu 0x6943 enters)
-    (redraw_rests cpu.a cpu.x cpu.y cpu.s cpu.n cpu.z cpu.c cpu.v cpu.mem cpu.flags enters.loaded begin stop half first holds)
+    subst (λ (k : Cpu). Answers k false begin stop (record { place = Waiting first; half = half; flipped = true }))
+    (here_is cpu 0x6943 enters)
+    (redraw_rests cpu.a cpu.x cpu.y cpu.s cpu.n cpu.z cpu.c cpu.v cpu.mem cpu.flags enters.loaded begin stop half
+    first holds)
 
 pub offer_is_taken : OfferTakes
 offer_is_taken cpu begin stop half set first F enters holds table =
-    subst (λ (k : Cpu). Answers k false (cpu.a + 256 * cpu.x + 2) (cpu.a + 256 * cpu.x + 2 + length (table_of F)) (record { place = Writing (frame_writes (other half) F (not set)); half = half; flipped = set })) (here_is cpu 0x68FE enters)
-    (offer_rests cpu.a cpu.x cpu.y cpu.s cpu.n cpu.z cpu.c cpu.v cpu.mem cpu.flags enters.loaded enters.a enters.x set F half holds.place.0 holds.place.1 holds.flipped table)
+    subst (λ (k : Cpu). Answers k false (cpu.a + 256 * cpu.x + 2) (cpu.a + 256 * cpu.x + 2 + length (table_of F))
+    (record { place = Writing (frame_writes (other half) F (not set)); half = half; flipped = set }))
+    (here_is cpu 0x68FE enters)
+    (offer_rests cpu.a cpu.x cpu.y cpu.s cpu.n cpu.z cpu.c cpu.v cpu.mem cpu.flags enters.loaded enters.a enters.x set
+    F half holds.place.0 holds.place.1 holds.flipped table)

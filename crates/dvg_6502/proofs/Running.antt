@@ -38,7 +38,8 @@ pub record Ends (q : ℕ) (from : Cpu) (s : ℕ) (mem : ℕ → ℕ) (events : L
 pub on : (q k : ℕ) (from mid : Cpu) (s : ℕ) (mem : ℕ → ℕ) (events : List Access) → run q k from ≡ mid
     → Ends q mid s mem events → Ends q from s mem events
 on q k from mid s mem events e ends =
-    let both : run q (ends.steps + k) from ≡ run q ends.steps mid = run_more q k ends.steps from ∙ ap (run q ends.steps) e in
+    let both : run q (ends.steps + k) from ≡ run q ends.steps mid = run_more q k ends.steps from
+    ∙ ap (run q ends.steps) e in
     record {
       steps = ends.steps + k;
       returns = ap (λ (cpu : Cpu). cpu.mem cpu.pc) both ∙ ends.returns;
@@ -63,7 +64,8 @@ pub record Comes (q : ℕ) (from : Cpu) (s : ℕ) (c : Bool) (mem : ℕ → ℕ)
 pub by : (q k : ℕ) (from mid : Cpu) (s : ℕ) (c : Bool) (mem : ℕ → ℕ) (events : List Access) → run q k from ≡ mid
     → Comes q mid s c mem events → Comes q from s c mem events
 by q k from mid s c mem events e comes =
-    let both : run q (comes.steps + k) from ≡ run q comes.steps mid = run_more q k comes.steps from ∙ ap (run q comes.steps) e in
+    let both : run q (comes.steps + k) from ≡ run q comes.steps mid = run_more q k comes.steps from
+    ∙ ap (run q comes.steps) e in
     record {
       steps = comes.steps + k;
       returns = ap (λ (cpu : Cpu). cpu.mem cpu.pc) both ∙ comes.returns;

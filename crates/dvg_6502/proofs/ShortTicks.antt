@@ -6,9 +6,11 @@ use Rattle.dvg_6502.specs.Board.{seen}
 use Rattle.dvg_6502.proofs.Running.{Ends, on, at}
 use Rattle.dvg_6502.proofs.Memory.{laid, page_of, put_page, put_out}
 
-module _ (q a x y s : ℕ) (n z c v : Bool) (free publish next t0 t1 pages end second f0 f1 : ℕ) (mem flags : ℕ → ℕ) (log : List Access) where
+module _ (q a x y s : ℕ) (n z c v : Bool) (free publish next t0 t1 pages end second f0 f1 : ℕ) (mem flags : ℕ
+    → ℕ) (log : List Access) where
   abbrev from : ℕ → Cpu
-  from phase = at 0x686A a x y s n z c v (laid (page_of phase free publish next t0 t1 pages end second f0 f1) mem) flags log
+  from phase = at 0x686A a x y s n z c v (laid (page_of phase free publish next t0 t1 pages end second f0 f1) mem)
+      flags log
 
   abbrev bytes : ℕ → ℕ → ℕ → List ℕ
   bytes phase free publish = page_of phase free publish next t0 t1 pages end second f0 f1
@@ -16,13 +18,15 @@ module _ (q a x y s : ℕ) (n z c v : Bool) (free publish next t0 t1 pages end s
   abbrev page : ℕ → ℕ → ℕ → ℕ → ℕ
   page phase free publish = laid (page_of phase free publish next t0 t1 pages end second f0 f1) mem
 
-  pub start : Ends q (from 0) s (page 1 (bit_xor (bit_and (mem 0x4001) 2) 0xE2) publish) (Reads 0x4001 (mem 0x4001) ∷ seen log)
+  pub start : Ends q (from 0) s (page 1 (bit_xor (bit_and (mem 0x4001) 2) 0xE2) publish)
+      (Reads 0x4001 (mem 0x4001) ∷ seen log)
   start = let f = bit_xor (bit_and (mem 0x4001) 2) 0xE2 in record {
     steps = 8;
     returns = refl;
     stack = refl;
     accesses = refl;
-    memory = ap (put 0x10 1) (put_page 1 f (bytes 0 free publish) mem (omega arith) refl) ∙ put_page 0 1 (bytes 0 f publish) mem (omega arith) refl;
+    memory = ap (put 0x10 1) (put_page 1 f (bytes 0 free publish) mem (omega arith) refl)
+        ∙ put_page 0 1 (bytes 0 f publish) mem (omega arith) refl;
   }
 
   pub idle : Ends q (from 2) s (page 2 free publish) (seen log)
@@ -34,7 +38,8 @@ module _ (q a x y s : ℕ) (n z c v : Bool) (free publish next t0 t1 pages end s
     returns = refl;
     stack = refl;
     accesses = refl;
-    memory = ap (put 0x10 4) (put_out 0x4000 1 (bytes 3 free publish) mem refl refl) ∙ put_page 0 4 (bytes 3 free publish) (put 0x4000 1 mem) (omega arith) refl;
+    memory = ap (put 0x10 4) (put_out 0x4000 1 (bytes 3 free publish) mem refl refl)
+        ∙ put_page 0 4 (bytes 3 free publish) (put 0x4000 1 mem) (omega arith) refl;
   }
 
   pub flip : Ends q (from 4) s (laid (bytes 5 (bit_xor free 2) 4) (put 0x4001 free mem)) (Writes 0x4001 free ∷ seen log)
@@ -43,8 +48,10 @@ module _ (q a x y s : ℕ) (n z c v : Bool) (free publish next t0 t1 pages end s
     returns = refl;
     stack = refl;
     accesses = refl;
-    memory = ap (λ m. put 0x10 5 (put 0x12 4 (put 0x11 (bit_xor free 2) m))) (put_out 0x4001 free (bytes 4 free publish) mem refl refl)
-        ∙ ap (λ m. put 0x10 5 (put 0x12 4 m)) (put_page 1 (bit_xor free 2) (bytes 4 free publish) new (omega arith) refl)
+    memory = ap (λ m. put 0x10 5 (put 0x12 4 (put 0x11 (bit_xor free 2) m)))
+        (put_out 0x4001 free (bytes 4 free publish) mem refl refl)
+        ∙ ap (λ m. put 0x10 5 (put 0x12 4 m))
+        (put_page 1 (bit_xor free 2) (bytes 4 free publish) new (omega arith) refl)
         ∙ ap (put 0x10 5) (put_page 2 4 (bytes 4 (bit_xor free 2) publish) new (omega arith) refl)
         ∙ put_page 0 5 (bytes 4 (bit_xor free 2) 4) new (omega arith) refl;
   }
@@ -55,7 +62,8 @@ module _ (q a x y s : ℕ) (n z c v : Bool) (free publish next t0 t1 pages end s
     returns = refl;
     stack = refl;
     accesses = refl;
-    memory = ap (put 0x3000 2) (put_page 0 2 (bytes 6 free publish) mem (omega arith) refl) ∙ put_out 0x3000 2 (bytes 2 free publish) mem refl refl;
+    memory = ap (put 0x3000 2) (put_page 0 2 (bytes 6 free publish) mem (omega arith) refl)
+        ∙ put_out 0x3000 2 (bytes 2 free publish) mem refl refl;
   }
 
   -- after the look at the flag, in the boot and after a frame
@@ -68,19 +76,35 @@ module _ (q a x y s : ℕ) (n z c v : Bool) (free publish next t0 t1 pages end s
   boot running is = on q 6 (from 1) (flag running) s _ _ (ap flag is) (rest running)
     where
       flag : Bool → Cpu
-      flag running = at 0x6899 a 0 y s running (nat_eq (bit_and a (flags 0)) 0) c (nat_le 64 (flags 0 % 128)) (page 1 free publish) (λ n. flags (suc n)) (Reads 0x2002 (flags 0) ∷ Reads 0x10 1 ∷ log)
+      flag running = at 0x6899 a 0 y s running (nat_eq (bit_and a (flags 0)) 0) c (nat_le 64 (flags 0 % 128))
+          (page 1 free publish) (λ n. flags (suc n)) (Reads 0x2002 (flags 0) ∷ Reads 0x10 1 ∷ log)
 
-      rest : (running : Bool) → Ends q (flag running) s (page (phase_after running 1) free publish) (Reads 0x2002 (flags 0) ∷ seen log)
+      rest : (running : Bool)
+          → Ends q (flag running) s (page (phase_after running 1) free publish) (Reads 0x2002 (flags 0) ∷ seen log)
       rest true = record { steps = 1; returns = refl; stack = refl; memory = refl; accesses = refl }
-      rest false = record { steps = 2; returns = refl; stack = refl; memory = put_page 0 2 (bytes 1 free publish) mem (omega arith) refl; accesses = refl }
+      rest false = record {
+        steps = 2;
+        returns = refl;
+        stack = refl;
+        memory = put_page 0 2 (bytes 1 free publish) mem (omega arith) refl;
+        accesses = refl;
+      }
 
   pub wait : (running : Bool) → nat_le 128 (flags 0) ≡ running
       → Ends q (from 5) s (page (phase_after running 5) free publish) (Reads 0x2002 (flags 0) ∷ seen log)
   wait running is = on q 14 (from 5) (flag running) s _ _ (ap flag is) (rest running)
     where
       flag : Bool → Cpu
-      flag running = at 0x68B9 a 0 y s running (nat_eq (bit_and a (flags 0)) 0) c (nat_le 64 (flags 0 % 128)) (page 5 free publish) (λ n. flags (suc n)) (Reads 0x2002 (flags 0) ∷ Reads 0x10 5 ∷ log)
+      flag running = at 0x68B9 a 0 y s running (nat_eq (bit_and a (flags 0)) 0) c (nat_le 64 (flags 0 % 128))
+          (page 5 free publish) (λ n. flags (suc n)) (Reads 0x2002 (flags 0) ∷ Reads 0x10 5 ∷ log)
 
-      rest : (running : Bool) → Ends q (flag running) s (page (phase_after running 5) free publish) (Reads 0x2002 (flags 0) ∷ seen log)
+      rest : (running : Bool)
+          → Ends q (flag running) s (page (phase_after running 5) free publish) (Reads 0x2002 (flags 0) ∷ seen log)
       rest true = record { steps = 1; returns = refl; stack = refl; memory = refl; accesses = refl }
-      rest false = record { steps = 2; returns = refl; stack = refl; memory = put_page 0 6 (bytes 5 free publish) mem (omega arith) refl; accesses = refl }
+      rest false = record {
+        steps = 2;
+        returns = refl;
+        stack = refl;
+        memory = put_page 0 6 (bytes 5 free publish) mem (omega arith) refl;
+        accesses = refl;
+      }

@@ -1,5 +1,6 @@
 -- A tick that another routine calls, from its JSR to its RTS.
-use Rattle.std.proofs.Common.{◌≡◌, ◌≢◌, ℕ, suc, inl, inr, ◌+◌, ◌*◌, ◌%◌, ◌<◌, ◌≤◌, Bool, true, false, List, ◌∷◌, ◌++◌, refl, sym, ap, ◌∙◌, subst, arith, eq-eqb, le-leb, leb-true}
+use Rattle.std.proofs.Common.{◌≡◌, ◌≢◌, ℕ, suc, inl, inr, ◌+◌, ◌*◌, ◌%◌, ◌<◌, ◌≤◌, Bool, true, false, List, ◌∷◌, ◌++◌}
+use Rattle.std.proofs.Common.{refl, sym, ap, ◌∙◌, subst, arith, eq-eqb, le-leb, leb-true}
 use Rattle.std.proofs.lemmas.Bool.{ne_eqb}
 use Rattle.std.specs.Prelude.{nat_eq, nat_le, nat_lt, ◌⊎◌, ◌&&◌, if◌then◌else◌}
 use Rattle.dvg_driver.specs.declared.action.Action.{Action}
@@ -9,7 +10,8 @@ use Rattle.dvg_6502.specs.Processor.{Cpu, Access, Writes, Return, put, run, turn
 use Rattle.dvg_6502.specs.Board.{IsLoaded, seen, is_own}
 use Rattle.dvg_6502.specs.Routines.{acted}
 use Rattle.dvg_6502.proofs.Running.{at, run_more}
-use Rattle.dvg_6502.proofs.Memory.{AreSmall, laid, page_in, in_page, in_code, known, loaded, put_out, put_small, both_true, le_not}
+use Rattle.dvg_6502.proofs.Memory.{AreSmall, laid, page_in, in_page, in_code, known, loaded, put_out, put_small}
+use Rattle.dvg_6502.proofs.Memory.{both_true, le_not}
 use Rattle.dvg_6502.proofs.Acting.{Acts}
 use Rattle.dvg_6502.proofs.Ticking.{acts}
 use Rattle.dvg_6502.proofs.Standing.{Stood, stood_on, stood_tick, items_of, shown_items}
@@ -17,11 +19,14 @@ use Rattle.dvg_6502.proofs.Going.{Stretch}
 
 -- what was put somewhere is found there
 found : (p v : ℕ) (page : List ℕ) (mem : ℕ → ℕ) → in_page p ≡ false → in_code p ≡ false → laid page (put p v mem) p ≡ v
-found p v page mem not_page not_code = sym (ap (λ (m : ℕ → ℕ). m p) (put_out p v page mem not_page not_code)) ∙ ap (λ (t : Bool). if t then v else laid page mem p) (eq-eqb p p refl)
+found p v page mem not_page not_code = sym (ap (λ (m : ℕ → ℕ). m p) (put_out p v page mem not_page not_code))
+    ∙ ap (λ (t : Bool). if t then v else laid page mem p) (eq-eqb p p refl)
 
 -- and nothing else is changed
-pub past_low : (p v : ℕ) (page : List ℕ) (mem : ℕ → ℕ) → in_page p ≡ false → in_code p ≡ false → (b : ℕ) → b ≢ p → laid page (put p v mem) b ≡ laid page mem b
-past_low p v page mem not_page not_code b not = sym (ap (λ (m : ℕ → ℕ). m b) (put_out p v page mem not_page not_code)) ∙ ap (λ (t : Bool). if t then v else laid page mem b) (ne_eqb b p not)
+pub past_low : (p v : ℕ) (page : List ℕ) (mem : ℕ → ℕ) → in_page p ≡ false → in_code p ≡ false → (b : ℕ) → b ≢ p
+    → laid page (put p v mem) b ≡ laid page mem b
+past_low p v page mem not_page not_code b not = sym (ap (λ (m : ℕ → ℕ). m b) (put_out p v page mem not_page not_code))
+    ∙ ap (λ (t : Bool). if t then v else laid page mem b) (ne_eqb b p not)
 
 on_stack : (p : ℕ) → 0x100 ≤ p → p < 0x200 → (in_page p ≡ false) × (in_code p ≡ false)
 on_stack p low high =
@@ -34,7 +39,8 @@ on_stack p low high =
 acted_out : (action : Action) (mem : ℕ → ℕ) (b : ℕ) → b < 0x4000 → acted action mem b ≡ mem b
 acted_out Idle mem b low = refl
 acted_out Peek mem b low = refl
-acted_out (Wrote a v) mem b low = ap (λ (t : Bool). if t then v else mem b) (ne_eqb b (0x4000 + a) (λ same. absurd (omega arith)))
+acted_out (Wrote a v) mem b low =
+    ap (λ (t : Bool). if t then v else mem b) (ne_eqb b (0x4000 + a) (λ same. absurd (omega arith)))
 acted_out (Read halted) mem b low = refl
 acted_out Sent mem b low = refl
 
@@ -63,7 +69,8 @@ rts q cpu opcode inner =
     ap (λ b. if (nat_eq b 0x60 && nat_eq cpu.s q) then cpu else does (decoded opcodes b) cpu) opcode
     ∙ ap (λ (t : Bool). if t then cpu else does Return cpu) inner
 
-module _ (q a x y : ℕ) (n z c v : Bool) (mem flags : ℕ → ℕ) (log : List Access) (load : IsLoaded mem) (q_small : q < 256) (site : Bool) (begin stop : ℕ) (life : List Item)
+module _ (q a x y : ℕ) (n z c v : Bool) (mem flags : ℕ → ℕ) (log : List Access) (load : IsLoaded mem)
+    (q_small : q < 256) (site : Bool) (begin stop : ℕ) (life : List Item)
     (stood : Stood mem begin stop life) where
   abbrev p0 : ℕ
   p0 = 0x100 + q % 256
@@ -96,18 +103,22 @@ module _ (q a x y : ℕ) (n z c v : Bool) (mem flags : ℕ → ℕ) (log : List 
   out1 = on_stack p1 (omega arith) (omega arith)
 
   pushed : (site : Bool) → run q 1 (at (site_of site) a x y q n z c v (laid page mem) flags log)
-      ≡ at 0x686A a x y inner n z c v (put p1 (back_of site) (put p0 0x68 (laid page mem))) flags (Writes p1 (back_of site) ∷ Writes p0 0x68 ∷ log)
+      ≡ at 0x686A a x y inner n z c v (put p1 (back_of site) (put p0 0x68 (laid page mem))) flags
+      (Writes p1 (back_of site) ∷ Writes p0 0x68 ∷ log)
   pushed true = refl
   pushed false = refl
 
   called : run q 1 from ≡ start
   called = pushed site ∙ ap (λ m. at 0x686A a x y inner n z c v m flags log')
-      (ap (put p1 (back_of site)) (put_out p0 0x68 page mem out0.0 out0.1) ∙ put_out p1 (back_of site) page (put p0 0x68 mem) out1.0 out1.1)
+      (ap (put p1 (back_of site)) (put_out p0 0x68 page mem out0.0 out0.1)
+      ∙ put_out p1 (back_of site) page (put p0 0x68 mem) out1.0 out1.1)
 
   quiet : seen log' ≡ seen log
   quiet =
-      let a : nat_le 0x200 p1 ≡ false = le_not 0x200 p1 (omega arith) in let b : nat_le 0x200 p0 ≡ false = le_not 0x200 p0 (omega arith) in
-      ap (λ (t : Bool). if t then Writes p1 (back_of site) ∷ seen (Writes p0 0x68 ∷ log) else seen (Writes p0 0x68 ∷ log)) a
+      let a : nat_le 0x200 p1 ≡ false = le_not 0x200 p1 (omega arith) in
+      let b : nat_le 0x200 p0 ≡ false = le_not 0x200 p0 (omega arith) in
+      ap (λ (t : Bool). if t then Writes p1 (back_of site)
+      ∷ seen (Writes p0 0x68 ∷ log) else seen (Writes p0 0x68 ∷ log)) a
       ∙ ap (λ (t : Bool). if t then Writes p0 0x68 ∷ seen log else seen log) b
 
   elsewhere : (b : ℕ) → (b < 0x100) ⊎ (0x200 ≤ b) → laid page stacked b ≡ mem b
@@ -121,19 +132,43 @@ module _ (q a x y : ℕ) (n z c v : Bool) (mem flags : ℕ → ℕ) (log : List 
       not_at p low up (inr more) same = omega arith
 
   small : AreSmall page
-  small = (load.bytes 0x10, (load.bytes 0x11, (load.bytes 0x12, (load.bytes 0x13, (load.bytes 0x14, (load.bytes 0x15, (load.bytes 0x16, (load.bytes 0x17, (load.bytes 0x18, (load.bytes 0x19, (load.bytes 0x1A, tt)))))))))))
+  small = (
+    load.bytes 0x10,
+    (
+      load.bytes 0x11,
+      (
+        load.bytes 0x12,
+        (
+          load.bytes 0x13,
+          (
+            load.bytes 0x14,
+            (
+              load.bytes 0x15,
+              (
+                load.bytes 0x16,
+                (load.bytes 0x17, (load.bytes 0x18, (load.bytes 0x19, (load.bytes 0x1A, tt)))),
+              ),
+            ),
+          ),
+        ),
+      ),
+    ),
+  )
 
   back_small : (site : Bool) → back_of site < 256
   back_small true = omega arith
   back_small false = omega arith
 
   load' : IsLoaded (laid page stacked)
-  load' = loaded page stacked small (put_small p1 (back_of site) (put p0 0x68 mem) (back_small site) (put_small p0 0x68 mem (omega arith) load.bytes))
+  load' = loaded page stacked small
+      (put_small p1 (back_of site) (put p0 0x68 mem) (back_small site) (put_small p0 0x68 mem (omega arith) load.bytes))
 
   stood' : Stood (laid page stacked) begin stop life
   stood' = stood_on mem (laid page stacked) begin stop life stood load'
-      (λ b own. let high = leb-true (suc b) 0x1B (both_true (nat_le 0x10 b) (nat_lt b 0x1B) own).1 in elsewhere b (inl (omega arith)))
-      (λ b ram. let low = leb-true 0x4000 b (both_true (nat_le 0x4000 b) (nat_lt b 0x4800) ram).0 in elsewhere b (inr (omega arith)))
+      (λ b own. let high = leb-true (suc b) 0x1B (both_true (nat_le 0x10 b) (nat_lt b 0x1B) own).1 in
+      elsewhere b (inl (omega arith)))
+      (λ b ram. let low = leb-true 0x4000 b (both_true (nat_le 0x4000 b) (nat_lt b 0x4800) ram).0 in
+      elsewhere b (inr (omega arith)))
       (λ writing b low high far device. elsewhere b (inr far))
 
   did : Acts q start begin stop stood'.peeked life
@@ -149,34 +184,40 @@ module _ (q a x y : ℕ) (n z c v : Bool) (mem flags : ℕ → ℕ) (log : List 
   not_q = ap (λ s. nat_eq s q) inner_is ∙ ne_eqb inner q (λ same. absurd (omega arith))
 
   kept_low : (b : ℕ) → is_own b ≡ false → b < 0x3000 → fin.mem b ≡ laid page stacked b
-  kept_low b own low = did.kept b own (λ same. absurd (omega arith)) ∙ acted_out did.action (laid page stacked) b (omega arith)
+  kept_low b own low = did.kept b own (λ same. absurd (omega arith))
+      ∙ acted_out did.action (laid page stacked) b (omega arith)
 
   not_own : (p : ℕ) → 0x1B ≤ p → is_own p ≡ false
-  not_own p low = let a : nat_le 0x10 p ≡ true = le-leb 0x10 p (omega arith) in let b : nat_lt p 0x1B ≡ false = le_not (suc p) 0x1B (omega arith) in rw (a, b) refl
+  not_own p low = let a : nat_le 0x10 p ≡ true = le-leb 0x10 p (omega arith) in
+      let b : nat_lt p 0x1B ≡ false = le_not (suc p) 0x1B (omega arith) in rw (a, b) refl
 
   low_back : fin.mem (0x100 + (fin.s + 1) % 256) ≡ back_of site
   low_back =
       let e : 0x100 + (fin.s + 1) % 256 ≡ p1 = omega (arith, inner_is) in
-      ap fin.mem e ∙ kept_low p1 (not_own p1 (omega arith)) (omega arith) ∙ found p1 (back_of site) page (put p0 0x68 mem) out1.0 out1.1
+      ap fin.mem e ∙ kept_low p1 (not_own p1 (omega arith)) (omega arith)
+      ∙ found p1 (back_of site) page (put p0 0x68 mem) out1.0 out1.1
 
   high_back : fin.mem (0x100 + (fin.s + 2) % 256) ≡ 0x68
   high_back =
       let e : 0x100 + (fin.s + 2) % 256 ≡ p0 = omega (arith, inner_is) in
       ap fin.mem e ∙ kept_low p0 (not_own p0 (omega arith)) (omega arith)
-      ∙ past_low p1 (back_of site) page (put p0 0x68 mem) out1.0 out1.1 p0 (λ same. absurd (omega arith)) ∙ found p0 0x68 page mem out0.0 out0.1
+      ∙ past_low p1 (back_of site) page (put p0 0x68 mem) out1.0 out1.1 p0 (λ same. absurd (omega arith))
+      ∙ found p0 0x68 page mem out0.0 out0.1
 
   abbrev end : Cpu
   end = does Return fin
 
   ends : run q (1 + (did.steps + 1)) from ≡ end
-  ends = run_more q (did.steps + 1) 1 from ∙ ap (run q 1) (run_more q 1 did.steps from ∙ ap (run q did.steps) called) ∙ rts q fin did.returns not_q
+  ends = run_more q (did.steps + 1) 1 from ∙ ap (run q 1) (run_more q 1 did.steps from ∙ ap (run q did.steps) called)
+      ∙ rts q fin did.returns not_q
 
   site_is : (site : Bool) → (back_of site + 256 * 0x68 + 1) % 65536 ≡ site_of site + 3
   site_is true = refl
   site_is false = refl
 
   end_pc : end.pc ≡ site_of site + 3
-  end_pc = ap (λ l. (l + 256 * fin.mem (0x100 + (fin.s + 2) % 256) + 1) % 65536) low_back ∙ ap (λ h. (back_of site + 256 * h + 1) % 65536) high_back ∙ site_is site
+  end_pc = ap (λ l. (l + 256 * fin.mem (0x100 + (fin.s + 2) % 256) + 1) % 65536) low_back
+      ∙ ap (λ h. (back_of site + 256 * h + 1) % 65536) high_back ∙ site_is site
 
   new : Stood fin.mem begin stop (items_of did.action ++ life)
   new = stood_tick q start begin stop stood'.peeked life stood'.byte1 did
@@ -195,15 +236,20 @@ module _ (q a x y : ℕ) (n z c v : Bool) (mem flags : ℕ → ℕ) (log : List 
     pc = ap (λ (k : Cpu). k.pc) ends ∙ end_pc;
     stack = ap (λ (k : Cpu). k.s) ends ∙ omega (arith, inner_is);
     stood = subst (λ (k : Cpu). Stood k.mem begin stop (items_of did.action ++ life)) (sym ends) new;
-    kept = ap (λ (k : Cpu). k.mem 0x1F) ends ∙ kept_low 0x1F refl (omega arith) ∙ elsewhere 0x1F (inl (omega arith)) ∙ ap (λ (m : ℕ → ℕ). m 0x1F) (known mem load);
+    kept = ap (λ (k : Cpu). k.mem 0x1F) ends ∙ kept_low 0x1F refl (omega arith) ∙ elsewhere 0x1F (inl (omega arith))
+        ∙ ap (λ (m : ℕ → ℕ). m 0x1F) (known mem load);
   }
 
 -- from any state at one of the two places
-pub tick_call : (q : ℕ) (site : Bool) (cpu : Cpu) (begin stop : ℕ) (life : List Item) → q < 256 → cpu.pc ≡ site_of site → cpu.s ≡ q → Stood cpu.mem begin stop life → Turned q site cpu begin stop life
+pub tick_call : (q : ℕ) (site : Bool) (cpu : Cpu) (begin stop : ℕ) (life : List Item) → q < 256
+    → cpu.pc ≡ site_of site → cpu.s ≡ q → Stood cpu.mem begin stop life → Turned q site cpu begin stop life
 tick_call q site cpu begin stop life q_small at_site at_q stood =
-    let is : at (site_of site) cpu.a cpu.x cpu.y q cpu.n cpu.z cpu.c cpu.v (laid (page_in cpu.mem) cpu.mem) cpu.flags cpu.log ≡ cpu =
-    ap (λ (m : ℕ → ℕ). at (site_of site) cpu.a cpu.x cpu.y q cpu.n cpu.z cpu.c cpu.v m cpu.flags cpu.log) (sym (known cpu.mem stood.loaded))
+    let is : at (site_of site) cpu.a cpu.x cpu.y q cpu.n cpu.z cpu.c cpu.v
+    (laid (page_in cpu.mem) cpu.mem) cpu.flags cpu.log ≡ cpu =
+    ap (λ (m : ℕ → ℕ). at (site_of site) cpu.a cpu.x cpu.y q cpu.n cpu.z cpu.c cpu.v m cpu.flags cpu.log)
+    (sym (known cpu.mem stood.loaded))
     ∙ ap (λ s. at (site_of site) cpu.a cpu.x cpu.y s cpu.n cpu.z cpu.c cpu.v cpu.mem cpu.flags cpu.log) (sym at_q)
     ∙ ap (λ p. at p cpu.a cpu.x cpu.y cpu.s cpu.n cpu.z cpu.c cpu.v cpu.mem cpu.flags cpu.log) (sym at_site) in
     subst (λ (k : Cpu). Turned q site k begin stop life) is
-    (turned q cpu.a cpu.x cpu.y cpu.n cpu.z cpu.c cpu.v cpu.mem cpu.flags cpu.log stood.loaded q_small site begin stop life stood)
+    (turned q cpu.a cpu.x cpu.y cpu.n cpu.z cpu.c cpu.v cpu.mem cpu.flags cpu.log stood.loaded q_small site begin stop
+    life stood)

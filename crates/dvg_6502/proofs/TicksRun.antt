@@ -1,5 +1,6 @@
 -- dvg_ticks: so many ticks.
-use Rattle.std.proofs.Common.{◌≡◌, ◌≢◌, ℕ, zero, suc, inl, inr, ◌+◌, ◌%◌, ◌<◌, ◌≤◌, Bool, true, false, List, [], ◌∷◌, ◌++◌, refl, sym, ap, ◌∙◌, subst, arith, leb-true}
+use Rattle.std.proofs.Common.{◌≡◌, ◌≢◌, ℕ, zero, suc, inl, inr, ◌+◌, ◌%◌, ◌<◌, ◌≤◌, Bool, true, false, List, [], ◌∷◌}
+use Rattle.std.proofs.Common.{◌++◌, refl, sym, ap, ◌∙◌, subst, arith, leb-true}
 use Rattle.std.proofs.lemmas.Bool.{ne_eqb}
 use Rattle.std.specs.Prelude.{nat_eq, nat_le, nat_lt, ◌⊎◌}
 use Rattle.dvg_driver.specs.Script.{Item}
@@ -12,7 +13,8 @@ use Rattle.dvg_6502.proofs.Going.{Goes, Stretch, finish, go_on}
 use Rattle.dvg_6502.proofs.TickCall.{Turned, tick_call, past_low}
 
 -- a stretch, and steps after it that touch no device
-abbrev pub extend : (q : ℕ) (cpu : Cpu) (k more : ℕ) (life : List Item) → Stretch q cpu k life → seen (run q more (run q k cpu)).log ≡ seen (run q k cpu).log → Stretch q cpu (more + k) life
+abbrev pub extend : (q : ℕ) (cpu : Cpu) (k more : ℕ) (life : List Item) → Stretch q cpu k life
+    → seen (run q more (run q k cpu)).log ≡ seen (run q k cpu).log → Stretch q cpu (more + k) life
 extend q cpu k more life made quiet = record {
   items = made.items;
   accesses = made.accesses;
@@ -22,7 +24,8 @@ extend q cpu k more life made quiet = record {
 }
 
 -- a stretch that touches no device
-abbrev pub idle_stretch : (q : ℕ) (cpu : Cpu) (k begin stop : ℕ) (life : List Item) (mem : ℕ → ℕ) → Stood mem begin stop life → seen (run q k cpu).log ≡ seen cpu.log → Stretch q cpu k life
+abbrev pub idle_stretch : (q : ℕ) (cpu : Cpu) (k begin stop : ℕ) (life : List Item) (mem : ℕ → ℕ)
+    → Stood mem begin stop life → seen (run q k cpu).log ≡ seen cpu.log → Stretch q cpu k life
 idle_stretch q cpu k begin stop life mem stood quiet = record {
   items = [];
   accesses = [];
@@ -32,25 +35,49 @@ idle_stretch q cpu k begin stop life mem stood quiet = record {
 }
 
 -- any state, by its place
-pub state_is : (cpu : Cpu) (pc s : ℕ) → cpu.pc ≡ pc → cpu.s ≡ s → IsLoaded cpu.mem → at pc cpu.a cpu.x cpu.y s cpu.n cpu.z cpu.c cpu.v (laid (page_in cpu.mem) cpu.mem) cpu.flags cpu.log ≡ cpu
+pub state_is : (cpu : Cpu) (pc s : ℕ) → cpu.pc ≡ pc → cpu.s ≡ s → IsLoaded cpu.mem
+    → at pc cpu.a cpu.x cpu.y s cpu.n cpu.z cpu.c cpu.v (laid (page_in cpu.mem) cpu.mem) cpu.flags cpu.log ≡ cpu
 state_is cpu pc s at_pc at_s load =
     ap (λ (m : ℕ → ℕ). at pc cpu.a cpu.x cpu.y s cpu.n cpu.z cpu.c cpu.v m cpu.flags cpu.log) (sym (known cpu.mem load))
     ∙ ap (λ t. at pc cpu.a cpu.x cpu.y t cpu.n cpu.z cpu.c cpu.v cpu.mem cpu.flags cpu.log) (sym at_s)
     ∙ ap (λ p. at p cpu.a cpu.x cpu.y cpu.s cpu.n cpu.z cpu.c cpu.v cpu.mem cpu.flags cpu.log) (sym at_pc)
 
 pub page_small : (mem : ℕ → ℕ) → IsLoaded mem → AreSmall (page_in mem)
-page_small mem load = (load.bytes 0x10, (load.bytes 0x11, (load.bytes 0x12, (load.bytes 0x13, (load.bytes 0x14, (load.bytes 0x15, (load.bytes 0x16, (load.bytes 0x17, (load.bytes 0x18, (load.bytes 0x19, (load.bytes 0x1A, tt)))))))))))
+page_small mem load = (
+  load.bytes 0x10,
+  (
+    load.bytes 0x11,
+    (
+      load.bytes 0x12,
+      (
+        load.bytes 0x13,
+        (
+          load.bytes 0x14,
+          (
+            load.bytes 0x15,
+            (load.bytes 0x16, (load.bytes 0x17, (load.bytes 0x18, (load.bytes 0x19, (load.bytes 0x1A, tt))))),
+          ),
+        ),
+      ),
+    ),
+  ),
+)
 
 -- what stands where only the count of dvg_ticks was changed
-count_stood : (mem : ℕ → ℕ) (r begin stop : ℕ) (life : List Item) → r < 256 → Stood mem begin stop life → Stood (laid (page_in mem) (put 0x1F r mem)) begin stop life
+count_stood : (mem : ℕ → ℕ) (r begin stop : ℕ) (life : List Item) → r < 256 → Stood mem begin stop life
+    → Stood (laid (page_in mem) (put 0x1F r mem)) begin stop life
 count_stood mem r begin stop life small stood = stood_on mem (laid (page_in mem) (put 0x1F r mem)) begin stop life stood
-    (loaded (page_in mem) (put 0x1F r mem) (page_small mem stood.loaded) (put_small 0x1F r mem small stood.loaded.bytes))
-    (λ b own. let high = leb-true (suc b) 0x1B (both_true (nat_le 0x10 b) (nat_lt b 0x1B) own).1 in same b (λ is. absurd (omega arith)))
-    (λ b ram. let low = leb-true 0x4000 b (both_true (nat_le 0x4000 b) (nat_lt b 0x4800) ram).0 in same b (λ is. absurd (omega arith)))
+    (loaded (page_in mem) (put 0x1F r mem) (page_small mem stood.loaded)
+    (put_small 0x1F r mem small stood.loaded.bytes))
+    (λ b own. let high = leb-true (suc b) 0x1B (both_true (nat_le 0x10 b) (nat_lt b 0x1B) own).1 in
+    same b (λ is. absurd (omega arith)))
+    (λ b ram. let low = leb-true 0x4000 b (both_true (nat_le 0x4000 b) (nat_lt b 0x4800) ram).0 in
+    same b (λ is. absurd (omega arith)))
     (λ writing b low high far device. same b (λ is. absurd (omega arith)))
   where
     same : (b : ℕ) → b ≢ 0x1F → laid (page_in mem) (put 0x1F r mem) b ≡ mem b
-    same b not = past_low 0x1F r (page_in mem) mem refl refl b not ∙ sym (ap (λ (m : ℕ → ℕ). m b) (known mem stood.loaded))
+    same b not = past_low 0x1F r (page_in mem) mem refl refl b not
+        ∙ sym (ap (λ (m : ℕ → ℕ). m b) (known mem stood.loaded))
 
 -- after a tick: the count goes down, and says whether it was the last one
 module _ (q a x y : ℕ) (n z c v : Bool) (mem flags : ℕ → ℕ) (log : List Access) where
@@ -67,7 +94,8 @@ module _ (q a x y : ℕ) (n z c v : Bool) (mem flags : ℕ → ℕ) (log : List 
   then_at pc t = record (told t (laid (page_in mem) (put 0x1F r mem))) { pc = pc }
 
   counts : (t : Bool) → nat_eq r 0 ≡ t → run q 1 from ≡ told t (laid (page_in mem) (put 0x1F r mem))
-  counts t is = ap (told (nat_eq r 0)) (put_out 0x1F r (page_in mem) mem refl refl) ∙ ap (λ u. told u (laid (page_in mem) (put 0x1F r mem))) is
+  counts t is = ap (told (nat_eq r 0)) (put_out 0x1F r (page_in mem) mem refl refl)
+      ∙ ap (λ u. told u (laid (page_in mem) (put 0x1F r mem))) is
 
   pub last : nat_eq r 0 ≡ true → run q 2 from ≡ then_at 0x6869 true
   last is = run_more q 1 1 from ∙ ap (run q 1) (counts true is)
@@ -80,15 +108,18 @@ module _ (q begin stop : ℕ) (q_small : q < 256) where
   -- what follows a tick: the count was the last one, or there are more
   abbrev Follows : (cpu : Cpu) (after : List Item) → Type 0
   Follows cpu after = (nat_eq ((cpu.mem 0x1F + 255) % 256) 0 ≡ true) ⊎ ((nat_eq ((cpu.mem 0x1F + 255) % 256) 0 ≡ false)
-      × ((j : ℕ) (next : Cpu) → next.pc ≡ 0x6862 → next.s ≡ q → next.mem 0x1F ≡ (cpu.mem 0x1F + 255) % 256 → Stood next.mem begin stop after → Goes q j next begin stop after))
+      × ((j : ℕ) (next : Cpu) → next.pc ≡ 0x6862 → next.s ≡ q → next.mem 0x1F ≡ (cpu.mem 0x1F + 255) % 256
+      → Stood next.mem begin stop after → Goes q j next begin stop after))
 
-  one_tick : (k : ℕ) (cpu : Cpu) (life : List Item) → (t : Turned q false cpu begin stop life) → Follows cpu (t.made.items ++ life) → Goes q k cpu begin stop life
+  one_tick : (k : ℕ) (cpu : Cpu) (life : List Item) → (t : Turned q false cpu begin stop life)
+      → Follows cpu (t.made.items ++ life) → Goes q k cpu begin stop life
   one_tick k cpu life t follows = by follows
     where
       mid : Cpu
       mid = run q t.steps cpu
 
-      from_is : at 0x6865 mid.a mid.x mid.y q mid.n mid.z mid.c mid.v (laid (page_in mid.mem) mid.mem) mid.flags mid.log ≡ mid
+      from_is : at 0x6865 mid.a mid.x mid.y q mid.n mid.z mid.c mid.v
+          (laid (page_in mid.mem) mid.mem) mid.flags mid.log ≡ mid
       from_is = state_is mid 0x6865 q t.pc t.stack t.stood.loaded
 
       r : ℕ
@@ -111,34 +142,45 @@ module _ (q begin stop : ℕ) (q_small : q < 256) where
 
       by : Follows cpu (t.made.items ++ life) → Goes q k cpu begin stop life
       by (inl none) =
-          let is = ap (run q 2) (sym from_is) ∙ last q mid.a mid.x mid.y mid.n mid.z mid.c mid.v mid.mem mid.flags mid.log (ap (λ m. nat_eq m 0) (sym count_is) ∙ none) in
+          let is = ap (run q 2) (sym from_is)
+          ∙ last q mid.a mid.x mid.y mid.n mid.z mid.c mid.v mid.mem mid.flags mid.log
+          (ap (λ m. nat_eq m 0) (sym count_is) ∙ none) in
           finish q k cpu begin stop life (2 + t.steps) (made 0x6869 true is)
           (ap (at_return q) (whole 0x6869 true is) ∙ returned q (end 0x6869 true) refl refl)
           (subst (λ (c : Cpu). Stood c.mem begin stop (t.made.items ++ life)) (sym (whole 0x6869 true is)) left)
       by (inr more) =
-          let is = ap (run q 2) (sym from_is) ∙ again q mid.a mid.x mid.y mid.n mid.z mid.c mid.v mid.mem mid.flags mid.log (ap (λ m. nat_eq m 0) (sym count_is) ∙ more.0) in
+          let is = ap (run q 2) (sym from_is)
+          ∙ again q mid.a mid.x mid.y mid.n mid.z mid.c mid.v mid.mem mid.flags mid.log
+          (ap (λ m. nat_eq m 0) (sym count_is) ∙ more.0) in
           go_on q k cpu begin stop life (2 + t.steps) (made 0x6862 false is) (omega arith)
           (ap (at_return q) (whole 0x6862 false is))
-          (λ j less. subst (λ (c : Cpu). Goes q j c begin stop (t.made.items ++ life)) (sym (whole 0x6862 false is)) (more.1 j (end 0x6862 false) refl refl (sym count_is) left))
+          (λ j less. subst (λ (c : Cpu). Goes q j c begin stop (t.made.items ++ life)) (sym (whole 0x6862 false is))
+          (more.1 j (end 0x6862 false) refl refl (sym count_is) left))
 
-  ticks_left : (n k : ℕ) (cpu : Cpu) (life : List Item) → n ≤ 255 → cpu.pc ≡ 0x6862 → cpu.s ≡ q → cpu.mem 0x1F ≡ suc n % 256 → Stood cpu.mem begin stop life → Goes q k cpu begin stop life
+  ticks_left : (n k : ℕ) (cpu : Cpu) (life : List Item) → n ≤ 255 → cpu.pc ≡ 0x6862 → cpu.s ≡ q
+      → cpu.mem 0x1F ≡ suc n % 256 → Stood cpu.mem begin stop life → Goes q k cpu begin stop life
   ticks_left zero k cpu life most at_pc at_q count stood =
-      one_tick k cpu life (tick_call q false cpu begin stop life q_small at_pc at_q stood) (inl (ap (λ m. nat_eq ((m + 255) % 256) 0) count))
+      one_tick k cpu life (tick_call q false cpu begin stop life q_small at_pc at_q stood)
+      (inl (ap (λ m. nat_eq ((m + 255) % 256) 0) count))
   ticks_left (suc n) k cpu life most at_pc at_q count stood =
       let t = tick_call q false cpu begin stop life q_small at_pc at_q stood in
       let down : (cpu.mem 0x1F + 255) % 256 ≡ suc n % 256 = omega (arith, count, most) in
       let some : (cpu.mem 0x1F + 255) % 256 ≢ 0 = λ none. absurd (omega (arith, down, most, none)) in
       one_tick k cpu life t (inr (
         ne_eqb ((cpu.mem 0x1F + 255) % 256) 0 some,
-        λ j next next_pc next_q next_count next_stood. ticks_left n j next (t.made.items ++ life) (omega (arith, most)) next_pc next_q (next_count ∙ down) next_stood,
+        λ j next next_pc next_q next_count next_stood. ticks_left n j next (t.made.items ++ life)
+            (omega (arith, most)) next_pc next_q (next_count ∙ down) next_stood,
       ))
 
 -- a call of dvg_ticks
-pub ticks_go : (k : ℕ) (cpu : Cpu) (begin stop : ℕ) (life : List Item) → cpu.pc ≡ 0x6860 → cpu.a < 256 → cpu.s < 256 → Stood cpu.mem begin stop life → Goes cpu.s k cpu begin stop life
+pub ticks_go : (k : ℕ) (cpu : Cpu) (begin stop : ℕ) (life : List Item) → cpu.pc ≡ 0x6860 → cpu.a < 256 → cpu.s < 256
+    → Stood cpu.mem begin stop life → Goes cpu.s k cpu begin stop life
 ticks_go k cpu begin stop life at_pc a_small s_small stood =
     subst (λ (c : Cpu). Goes cpu.s k c begin stop life) is
-    (go_on cpu.s k from begin stop life 1 (idle_stretch cpu.s from 1 begin stop life cpu.mem stood refl) (omega arith) refl
-    (λ j less. ticks_left cpu.s begin stop s_small ((cpu.a + 255) % 256) j (run cpu.s 1 from) life (omega arith) refl refl (omega (arith, a_small)) counted))
+    (go_on cpu.s k from begin stop life 1 (idle_stretch cpu.s from 1 begin stop life cpu.mem stood refl)
+    (omega arith) refl
+    (λ j less. ticks_left cpu.s begin stop s_small ((cpu.a + 255) % 256) j (run cpu.s 1 from) life
+    (omega arith) refl refl (omega (arith, a_small)) counted))
   where
     from : Cpu
     from = at 0x6860 cpu.a cpu.x cpu.y cpu.s cpu.n cpu.z cpu.c cpu.v (laid (page_in cpu.mem) cpu.mem) cpu.flags cpu.log
@@ -147,4 +189,6 @@ ticks_go k cpu begin stop life at_pc a_small s_small stood =
     is = state_is cpu 0x6860 cpu.s at_pc refl stood.loaded
 
     counted : Stood (run cpu.s 1 from).mem begin stop life
-    counted = subst (λ (m : ℕ → ℕ). Stood m begin stop life) (sym (put_out 0x1F cpu.a (page_in cpu.mem) cpu.mem refl refl)) (count_stood cpu.mem cpu.a begin stop life a_small stood)
+    counted = subst (λ (m : ℕ → ℕ). Stood m begin stop life)
+        (sym (put_out 0x1F cpu.a (page_in cpu.mem) cpu.mem refl refl))
+        (count_stood cpu.mem cpu.a begin stop life a_small stood)

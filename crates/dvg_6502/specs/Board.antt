@@ -1,5 +1,6 @@
 -- The board: the driver's bytes in the zero page, its code, and the devices, as driver.s and dvg.inc place them.
-use Rattle.std.specs.Prelude.{◌≡◌, ℕ, ◌+◌, ◌*◌, ◌<◌, ◌&&◌, ◌||◌, Bool, not, nat_eq, nat_le, nat_lt, List, [], ◌∷◌, length, slice_index, if◌then◌else◌}
+use Rattle.std.specs.Prelude.{◌≡◌, ℕ, ◌+◌, ◌*◌, ◌<◌, ◌&&◌, ◌||◌, Bool, not, nat_eq, nat_le, nat_lt, List, [], ◌∷◌}
+use Rattle.std.specs.Prelude.{length, slice_index, if◌then◌else◌}
 use Rattle.dvg_6502.specs.Processor.{Access, Reads, Writes, flag_place}
 use Rattle.dvg_6502.specs.Code.{code, first}
 

@@ -1,5 +1,6 @@
 -- Many calls of the routines, and the life that their accesses make.
-use Rattle.std.specs.Prelude.{◌≡◌, ℕ, ◌+◌, ◌*◌, ◌<◌, ◌≤◌, ◌&&◌, Bool, true, false, not, List, [], ◌∷◌, ◌++◌, length, if◌then◌else◌}
+use Rattle.std.specs.Prelude.{◌≡◌, ℕ, ◌+◌, ◌*◌, ◌<◌, ◌≤◌, ◌&&◌, Bool, true, false, not, List, [], ◌∷◌, ◌++◌, length}
+use Rattle.std.specs.Prelude.{if◌then◌else◌}
 use Rattle.dvg_mem.specs.Areas.{other, half_of_high}
 use Rattle.dvg_frame.specs.declared.op.OpKind.{OpKind}
 use Rattle.dvg_driver.specs.Script.{Item, Offered, Asked, Did, IsLife, IsWhole, has_flip}
@@ -60,7 +61,8 @@ abbrev pub bounds : List Call → ℕ × ℕ
 bounds [] = (0, 0)
 bounds (call ∷ calls) = taken_bounds call.routine call (bounds calls)
 
--- what nobody else writes between two calls: the driver's bytes, the vector RAM, and a table while it is being written (DVG_WRITE)
+-- what nobody else writes between two calls: the driver's bytes, the vector RAM, and a table while it is being
+-- written (DVG_WRITE)
 pub record IsUntouched (calls : List Call) (before now : ℕ → ℕ) : Type 0 where
   pub own : (b : ℕ) → is_own b ≡ true → now b ≡ before b
   pub ram : (b : ℕ) → is_ram b ≡ true → now b ≡ before b

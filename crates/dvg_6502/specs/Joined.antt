@@ -27,7 +27,8 @@ FitsBoard R image log (Offer F) Busy = Accepts F R × IsAnswered (Calls.Offer F)
 -- an answer of dvg_redraw: C clear, or C set, where the log tells why
 FitsBoard R image log Redraw Asked = IsAnswered Calls.Redraw false (life image log)
 FitsBoard R image log Redraw Busy = IsAnswered Calls.Redraw true (life image log) × (has_flip (life image log) ≡ true)
-FitsBoard R image log Redraw NothingPublished = IsAnswered Calls.Redraw true (life image log) × (has_flip (life image log) ≡ false)
+FitsBoard R image log Redraw NothingPublished = IsAnswered Calls.Redraw true (life image log)
+    × (has_flip (life image log) ≡ false)
 FitsBoard R image log event entry = Fits R image log event entry
 
 -- a log of the board, over a ROM and a first image of the RAM
@@ -37,7 +38,8 @@ IsBoards R image ((event ⟼ entry) ∷ log) = FitsBoard R image log event entry
 
 -- each log of the board is legal, and keeps the headline
 abbrev pub BoardKeeps : Type 0
-BoardKeeps = (R image : List ℕ) (log : Log) → IsBoards R image log → IsLegal R image log × Throughout (KeepsHeadline R image) log
+BoardKeeps = (R image : List ℕ) (log : Log) → IsBoards R image log → IsLegal R image log
+    × Throughout (KeepsHeadline R image) log
 
 -- there are calls that make a life: a reset and a tick make one of a peek
 abbrev pub SomeCalls : Type 0

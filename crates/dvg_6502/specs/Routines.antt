@@ -36,7 +36,8 @@ abbrev pub acted : Action → (ℕ → ℕ) → ℕ → ℕ
 acted (Wrote a byte) mem = put (0x4000 + a) byte mem
 acted action mem = mem
 
--- the call returns with S as it was, after one action that goes on the life; but for its own bytes and the strobe's, memory is as the action leaves it
+-- the call returns with S as it was, after one action that goes on the life; but for its own bytes and the strobe's,
+-- memory is as the action leaves it
 pub record Ticks (cpu : Cpu) (begin stop peeked : ℕ) (life : List Item) : Type 0 where
   pub steps : ℕ
   pub action : Action
@@ -54,7 +55,8 @@ abbrev pub TickRefines : Type 0
 TickRefines = (cpu : Cpu) (begin stop : ℕ) (stage : Stage) (peeked : ℕ) (life : List Item) → Enters cpu dvg_tick
     → Holds cpu.mem begin stop stage → StandsAfter stage peeked life → Ticks cpu begin stop peeked life
 
--- the call returns with S as it was and C so, touches no device, and its memory holds this stage; but for its own bytes, memory is as it was
+-- the call returns with S as it was and C so, touches no device, and its memory holds this stage; but for its own
+-- bytes, memory is as it was
 pub record Answers (cpu : Cpu) (c : Bool) (begin stop : ℕ) (new : Stage) : Type 0 where
   pub steps : ℕ
   pub returns : at_return cpu.s (run cpu.s steps cpu) ≡ true
@@ -80,7 +82,8 @@ OfferTakes = (cpu : Cpu) (begin stop : ℕ) (half : Half) (flipped first : Bool)
     → Holds cpu.mem begin stop (record { place = Resting first; half = half; flipped = flipped })
     → HasTable cpu.mem (cpu.a + 256 * cpu.x) F
     → let t = cpu.a + 256 * cpu.x + 2 in
-    Answers cpu false t (t + length (table_of F)) (record { place = Writing (frame_writes (other half) F (not flipped)); half = half; flipped = flipped })
+    Answers cpu false t (t + length (table_of F))
+    (record { place = Writing (frame_writes (other half) F (not flipped)); half = half; flipped = flipped })
 
 -- and else it answers with C set, and changes nothing
 abbrev pub OfferRefuses : Type 0

@@ -13,7 +13,8 @@ use Rattle.dvg_frame.specs.Faults.{Accepts}
 use Rattle.dvg_6502.specs.Board.{is_device}
 use Rattle.dvg_6502.specs.Feed.{fed}
 
--- a table can tell this operation: what it names of the ROM stands from 400 on, and what it names of the frame in half 0
+-- a table can tell this operation: what it names of the ROM stands from 400 on, and what it names of the frame in
+-- half 0
 abbrev pub IsTold : List OpKind → OpKind → Type 0
 IsTold F (CallRom a) = 0x400 ≤ a
 IsTold F (JumpRom a) = 0x400 ≤ a
@@ -30,7 +31,8 @@ AreTold F (op ∷ ops) = IsOp op × IsTold F op × AreTold F ops
 abbrev pub table_of : List OpKind → List ℕ
 table_of F = bytes (laid H0 F)
 
--- a draft's table at an address: the number of its words, and then its bytes; none of it is a device, the zero page or the stack
+-- a draft's table at an address: the number of its words, and then its bytes; none of it is a device, the zero page
+-- or the stack
 pub record HasTable (mem : ℕ → ℕ) (t : ℕ) (F : List OpKind) : Type 0 where
   pub told : AreTold F F
   pub some : 1 ≤ length (table_of F)
@@ -44,7 +46,8 @@ pub record HasTable (mem : ℕ → ℕ) (t : ℕ) (F : List OpKind) : Type 0 whe
 
 -- what is written for a draft's table is the draft laid for either half
 abbrev pub TableLaw : Type 0
-TableLaw = (half : Half) (F : List OpKind) → AreTold F F → fed (high half) false false (table_of F) ≡ bytes (laid half F)
+TableLaw = (half : Half) (F : List OpKind) → AreTold F F
+    → fed (high half) false false (table_of F) ≡ bytes (laid half F)
 
 -- where an operation that is never reached calls the ROM below 400, the table tells something else
 abbrev pub TableMisses : Type 0
