@@ -8,23 +8,47 @@ other_size : (size : ℕ) (name : List ℕ) → length name ≡ size → (3 ≡ 
 other_size size name is other a h = let three = h.size in other (cc)
 
 pub rock : IsName (codes "rock")
-rock = record { first = refl; bytes = refl; most = omega arith; no_address = other_size 4 (codes "rock") refl (λ e. omega (arith, e)) }
+rock = record {
+  first = refl;
+  bytes = refl;
+  most = omega arith;
+  no_address = other_size 4 (codes "rock") refl (λ e. omega (arith, e));
+}
 
 pub rock_2 : IsName (codes "rock_2")
-rock_2 = record { first = refl; bytes = refl; most = omega arith; no_address = other_size 6 (codes "rock_2") refl (λ e. omega (arith, e)) }
+rock_2 = record {
+  first = refl;
+  bytes = refl;
+  most = omega arith;
+  no_address = other_size 6 (codes "rock_2") refl (λ e. omega (arith, e));
+}
 
 pub halt : IsName (codes "halt")
-halt = record { first = refl; bytes = refl; most = omega arith; no_address = other_size 4 (codes "halt") refl (λ e. omega (arith, e)) }
+halt = record {
+  first = refl;
+  bytes = refl;
+  most = omega arith;
+  no_address = other_size 4 (codes "halt") refl (λ e. omega (arith, e));
+}
 
 pub title : IsName (codes "title")
-title = record { first = refl; bytes = refl; most = omega arith; no_address = other_size 5 (codes "title") refl (λ e. omega (arith, e)) }
+title = record {
+  first = refl;
+  bytes = refl;
+  most = omega arith;
+  no_address = other_size 5 (codes "title") refl (λ e. omega (arith, e));
+}
 
 -- three hexadecimal digits are an address
 pub address : IsHex 3 0x8A0 (codes "8a0")
 address = record { size = refl; digits = (omega arith, (omega arith, (omega arith, tt))); value = refl }
 
 pub bad : ¬ IsName (codes "bad")
-bad h = h.no_address 0xBAD (record { size = refl; digits = (omega arith, (omega arith, (omega arith, tt))); value = refl })
+bad h = h.no_address 0xBAD (record {
+  size = refl;
+  digits = (omega arith, (omega arith, (omega arith, tt)));
+  value = refl;
+})
 
 pub begins_with_digit : ¬ IsName (codes "2rocks")
 begins_with_digit h = true≢false (sym h.first)
@@ -36,7 +60,17 @@ pub too_long : ¬ IsName (codes "a23456789_123456789_123456789_123")
 too_long h = let most = h.most in omega (arith, most)
 
 pub a : IsName (codes "a")
-a = record { first = refl; bytes = refl; most = omega arith; no_address = other_size 1 (codes "a") refl (λ e. omega (arith, e)) }
+a = record {
+  first = refl;
+  bytes = refl;
+  most = omega arith;
+  no_address = other_size 1 (codes "a") refl (λ e. omega (arith, e));
+}
 
 pub ship : IsName (codes "ship")
-ship = record { first = refl; bytes = refl; most = omega arith; no_address = other_size 4 (codes "ship") refl (λ e. omega (arith, e)) }
+ship = record {
+  first = refl;
+  bytes = refl;
+  most = omega arith;
+  no_address = other_size 4 (codes "ship") refl (λ e. omega (arith, e));
+}

@@ -8,7 +8,8 @@ use Rattle.std.specs.Str.Lines.{strip_carriage_return}
 use Rattle.dvg_named.specs.PlainLines.{is_blank, is_some_byte, uncommented, words}
 
 -- a byte that is no `#` stays
-pub byte_kept : (byte : ℕ) (bytes : List ℕ) → eqb byte 35 ≡ false → uncommented (byte ∷ bytes) ≡ byte ∷ uncommented bytes
+pub byte_kept : (byte : ℕ) (bytes : List ℕ) → eqb byte 35 ≡ false
+    → uncommented (byte ∷ bytes) ≡ byte ∷ uncommented bytes
 byte_kept byte bytes other = take_while-cons (λ b. not (eqb b 35)) byte bytes ∙ rw other refl
 
 -- a `#` ends the line
@@ -16,17 +17,21 @@ byte_cut : (byte : ℕ) (bytes : List ℕ) → eqb byte 35 ≡ true → uncommen
 byte_cut byte bytes is = take_while-cons (λ b. not (eqb b 35)) byte bytes ∙ rw is refl
 
 -- what stands before the first `#` stays
-pub cut_at_comment : (line : List ℕ) (end : ℕ) (rest : List ℕ) → HasNone 35 line → eqb end 35 ≡ true → uncommented (line ++ end ∷ rest) ≡ line
+pub cut_at_comment : (line : List ℕ) (end : ℕ) (rest : List ℕ) → HasNone 35 line → eqb end 35 ≡ true
+    → uncommented (line ++ end ∷ rest) ≡ line
 cut_at_comment [] end rest h is = byte_cut end rest is
 cut_at_comment (byte ∷ line) end rest h is =
-    byte_kept byte (line ++ end ∷ rest) (All-head (λ b. eqb b 35 ≡ false) byte line h) ∙ ap (λ l. byte ∷ l) (cut_at_comment line end rest (All-tail (λ b. eqb b 35 ≡ false) byte line h) is)
+    byte_kept byte (line ++ end ∷ rest) (All-head (λ b. eqb b 35 ≡ false) byte line h)
+    ∙ ap (λ l. byte ∷ l) (cut_at_comment line end rest (All-tail (λ b. eqb b 35 ≡ false) byte line h) is)
 
 -- a line without one stays
 pub nothing_cut : (line : List ℕ) → HasNone 35 line → uncommented line ≡ line
 nothing_cut [] h = refl
 nothing_cut (byte ∷ line) h =
-    byte_kept byte line (All-head (λ b. eqb b 35 ≡ false) byte line h) ∙ ap (λ l. byte ∷ l) (nothing_cut line (All-tail (λ b. eqb b 35 ≡ false) byte line h))
+    byte_kept byte line (All-head (λ b. eqb b 35 ≡ false) byte line h)
+    ∙ ap (λ l. byte ∷ l) (nothing_cut line (All-tail (λ b. eqb b 35 ≡ false) byte line h))
 
 -- the words of a line are those of what is left of it
-pub words_are : (line told : List ℕ) {cut : List ℕ} → told ≡ uncommented cut → cut ≡ strip_carriage_return line → filter is_some_byte (slice_split is_blank told) ≡ words line
+pub words_are : (line told : List ℕ) {cut : List ℕ} → told ≡ uncommented cut → cut ≡ strip_carriage_return line
+    → filter is_some_byte (slice_split is_blank told) ≡ words line
 words_are line told t e = ap (λ bytes. filter is_some_byte (slice_split is_blank bytes)) (t ∙ ap uncommented e)

@@ -1,5 +1,6 @@
 -- The worked examples of whole texts.
-use Rattle.std.proofs.Common.{◌≡◌, ℕ, ◌<◌, ◌≤◌, List, [], ◌∷◌, ◌++◌, length, length-append, refl, ap, sym, ◌∙◌, true, false, true≢false, Bool, arith, codes, All, Option, Some, None}
+use Rattle.std.proofs.Common.{◌≡◌, ℕ, ◌<◌, ◌≤◌, List, [], ◌∷◌, ◌++◌, length, length-append, refl, ap, sym, ◌∙◌, true}
+use Rattle.std.proofs.Common.{false, true≢false, Bool, arith, codes, All, Option, Some, None}
 use Rattle.std.specs.Prelude.{◌≢◌}
 use Rattle.std.specs.List.{AllPairs, cons_option}
 use Rattle.std.proofs.lemmas.List.Elements.{All-cons, filter_map-append}
@@ -10,10 +11,12 @@ use Rattle.dvg_text.specs.OpLines as ops
 use Rattle.dvg_text.specs.RomReading.{untold}
 use Rattle.dvg_text.specs.RomTexts.{unmapped}
 use Rattle.dvg_text.specs.Texts.{IsHex}
-use Rattle.dvg_named.specs.Rows.{Doing, Row, plainly, jumps, calls_rom, frame, rom, top, does, both, plain, jump, callrom, named_frame, at}
+use Rattle.dvg_named.specs.Rows.{Doing, Row, plainly, jumps, calls_rom, frame, rom, top, does, both, plain, jump}
+use Rattle.dvg_named.specs.Rows.{callrom, named_frame, at}
 use Rattle.dvg_named.specs.Sections.{FrameRows, MayStand, Section, Spelled, SpellsSection, SpellsSketch}
 use Rattle.dvg_named.specs.Places.{IsAddress, IsNamedAfter, IsNumber, Laid, doings, laid_end}
-use Rattle.dvg_named.specs.NamedFaults.{AreDistinct, GivesOnce, IsFineSketch, KeepsLimits, LiesOn, RomFits, WantsUngiven, names_of}
+use Rattle.dvg_named.specs.NamedFaults.{AreDistinct, GivesOnce, IsFineSketch, KeepsLimits, LiesOn, RomFits}
+use Rattle.dvg_named.specs.NamedFaults.{WantsUngiven, names_of}
 use Rattle.dvg_named.specs.TextExamples.{CallsTheRom, JumpsBack, OutOfRomAtOne, OverlapAtFour, TwiceAtTwo, UnknownAtOne}
 use Rattle.dvg_named.proofs.ExampleNames.{a, address, rock, ship, title}
 
@@ -53,7 +56,8 @@ by_number (plainly (Call n)) = true
 by_number (plainly (Jump n)) = true
 by_number _ = false
 
-no_number : (doing : Doing) → by_number doing ≡ false → (n : ℕ) → (doing ≢ plainly (Call n)) × (doing ≢ plainly (Jump n))
+no_number : (doing : Doing) → by_number doing ≡ false → (n : ℕ) → (doing ≢ plainly (Call n))
+    × (doing ≢ plainly (Jump n))
 no_number doing h n = (λ e. true≢false (sym (ap by_number e) ∙ h), λ e. true≢false (sym (ap by_number e) ∙ h))
 
 -- ---- a frame whose second operation jumps to the first
@@ -80,14 +84,23 @@ jumping_spelled = record {
 
 jumping_kept : KeepsLimits jumping
 jumping_kept = record {
-  once = record { in_frames = one_all Names (record { name = None; rows = rock_row ∷ jump_row ∷ [] }) (one_pairs Differ (codes "rock")); in_rom = none_pairs Differ; of_frames = none_pairs Differ };
+  once = record {
+    in_frames = one_all Names (record { name = None; rows = rock_row ∷ jump_row ∷ [] })
+        (one_pairs Differ (codes "rock"));
+    in_rom = none_pairs Differ;
+    of_frames = none_pairs Differ;
+  };
   drafts = one_all Holds (record { name = None; rows = rock_row ∷ jump_row ∷ [] }) (omega arith);
   rom = none_all Fits;
   apart = none_pairs Apart;
 }
 
 rock_number : IsNumber (rock_row ∷ jump_row ∷ []) (codes "rock") 0
-rock_number = record { before = []; named = record { row = rock_row; after = jump_row ∷ []; cut = refl; gives = refl }; count = refl }
+rock_number = record {
+  before = [];
+  named = record { row = rock_row; after = jump_row ∷ []; cut = refl; gives = refl };
+  count = refl;
+}
 
 pub jumps_back : JumpsBack
 jumps_back = record {
@@ -95,7 +108,10 @@ jumps_back = record {
   sketch = jumping;
   spelled = jumping_spelled;
   limits = jumping_kept;
-  meant = record { frames = (record { name = refl; draft = (refl, ((0, rock_number, refl), tt)) }, tt); rom_text = record { map = refl; laid_words = []; given = tt; all = refl } };
+  meant = record {
+    frames = (record { name = refl; draft = (refl, ((0, rock_number, refl), tt)) }, tt);
+    rom_text = record { map = refl; laid_words = []; given = tt; all = refl };
+  };
 }
 
 -- ---- a shape in the ROM, and a frame that calls it
@@ -135,7 +151,8 @@ titled_spelled = record {
   may = one_all (MayStand (frame (Some (codes "title")))) call_row tt;
 }
 
-calling_spelled : SpellsSketch calling (codes ".rom 8a0" ∷ codes "ship: return" ∷ codes ".frame title" ∷ codes "callrom ship" ∷ [])
+calling_spelled : SpellsSketch calling (codes ".rom 8a0" ∷ codes "ship: return" ∷ codes ".frame title"
+    ∷ codes "callrom ship" ∷ [])
 calling_spelled = record {
   front = [];
   rows = [];
@@ -151,14 +168,27 @@ shape_laid = record { start = 0x8A0; rows = ship_row ∷ [] }
 
 calling_kept : KeepsLimits calling
 calling_kept = record {
-  once = record { in_frames = one_all Names (record { name = Some (codes "title"); rows = call_row ∷ [] }) (none_pairs Differ); in_rom = one_pairs Differ (codes "ship"); of_frames = one_pairs Differ (codes "title") };
+  once = record {
+    in_frames = one_all Names (record { name = Some (codes "title"); rows = call_row ∷ [] })
+        (none_pairs Differ);
+    in_rom = one_pairs Differ (codes "ship");
+    of_frames = one_pairs Differ (codes "title");
+  };
   drafts = one_all Holds (record { name = Some (codes "title"); rows = call_row ∷ [] }) (omega arith);
   rom = one_all Fits shape_laid (omega arith, omega arith);
   apart = one_pairs Apart shape_laid;
 }
 
 ship_address : IsAddress (shape_laid ∷ []) (codes "ship") 0x8A0
-ship_address = record { earlier = []; section = shape_laid; later = []; cut = refl; before = []; named = record { row = ship_row; after = []; cut = refl; gives = refl }; place = refl }
+ship_address = record {
+  earlier = [];
+  section = shape_laid;
+  later = [];
+  cut = refl;
+  before = [];
+  named = record { row = ship_row; after = []; cut = refl; gives = refl };
+  place = refl;
+}
 
 pub calls_the_rom : CallsTheRom
 calls_the_rom = record {
@@ -187,7 +217,12 @@ rows_alone rows = record { rom = untold; first = rows; others = [] }
 
 a_kept : KeepsLimits (rows_alone (a_row ∷ []))
 a_kept = record {
-  once = record { in_frames = one_all Names (record { name = None; rows = a_row ∷ [] }) (one_pairs Differ (codes "a")); in_rom = none_pairs Differ; of_frames = none_pairs Differ };
+  once = record {
+    in_frames = one_all Names (record { name = None; rows = a_row ∷ [] })
+        (one_pairs Differ (codes "a"));
+    in_rom = none_pairs Differ;
+    of_frames = none_pairs Differ;
+  };
   drafts = one_all Holds (record { name = None; rows = a_row ∷ [] }) (omega arith);
   rom = none_all Fits;
   apart = none_pairs Apart;
@@ -197,7 +232,15 @@ a_fine : IsFineSketch (codes "a: halt" ∷ [])
 a_fine = record {
   sketch = rows_alone (a_row ∷ []);
   limits = a_kept;
-  spelled = record { front = []; rows = codes "a: halt" ∷ []; rest = []; cut = refl; told = unmapped tt; first = (both a (plain ops.halt), tt); others = tt };
+  spelled = record {
+    front = [];
+    rows = codes "a: halt" ∷ [];
+    rest = [];
+    cut = refl;
+    told = unmapped tt;
+    first = (both a (plain ops.halt), tt);
+    others = tt;
+  };
 }
 
 pub twice_at_two : TwiceAtTwo
@@ -215,7 +258,8 @@ twice_at_two = record {
     first = (both a (plain ops.halt), (both a (plain ops.halt), tt));
     others = tt;
   };
-  breaks = λ once. once.in_frames 0 (record { name = None; rows = [] }) (omega arith) 0 1 [] (omega arith) (omega arith) refl;
+  breaks = λ once. once.in_frames 0 (record { name = None; rows = [] }) (omega arith) 0 1 [] (omega arith)
+      (omega arith) refl;
 }
 
 -- ---- a section outside the ROM
@@ -225,14 +269,22 @@ sections_alone others = record { rom = untold; first = []; others = others }
 
 nothing_kept : KeepsLimits (sections_alone [])
 nothing_kept = record {
-  once = record { in_frames = one_all Names (record { name = None; rows = [] }) (none_pairs Differ); in_rom = none_pairs Differ; of_frames = none_pairs Differ };
+  once = record {
+    in_frames = one_all Names (record { name = None; rows = [] }) (none_pairs Differ);
+    in_rom = none_pairs Differ;
+    of_frames = none_pairs Differ;
+  };
   drafts = one_all Holds (record { name = None; rows = [] }) (omega arith);
   rom = none_all Fits;
   apart = none_pairs Apart;
 }
 
 nothing_fine : IsFineSketch []
-nothing_fine = record { sketch = sections_alone []; limits = nothing_kept; spelled = record { front = []; rows = []; rest = []; cut = refl; told = unmapped tt; first = tt; others = tt } }
+nothing_fine = record {
+  sketch = sections_alone [];
+  limits = nothing_kept;
+  spelled = record { front = []; rows = []; rest = []; cut = refl; told = unmapped tt; first = tt; others = tt };
+}
 
 abbrev low_section : Section
 low_section = record { head = rom (Some 0x400); rows = [] }
@@ -259,7 +311,15 @@ out_of_rom_at_one = record {
   line = codes ".rom 400";
   reaches = record { short = omega arith; after = []; cut = refl; number = refl; fine = nothing_fine; is_told = refl };
   sketch = sections_alone (low_section ∷ []);
-  spelled = record { front = []; rows = []; rest = (codes ".rom 400" ∷ []) ∷ []; cut = refl; told = unmapped tt; first = tt; others = (low_spelled, tt) };
+  spelled = record {
+    front = [];
+    rows = [];
+    rest = (codes ".rom 400" ∷ []) ∷ [];
+    cut = refl;
+    told = unmapped tt;
+    first = tt;
+    others = (low_spelled, tt);
+  };
   breaks = (nothing_named, none_all Holds, λ fits. is_low (fits 0 (record { start = 0; rows = [] }) (omega arith)).0);
 }
 
@@ -288,13 +348,21 @@ halt_at_800 = record {
 }
 
 none_at_800 : SpellsSection (at_800 []) (codes ".rom 800" ∷ [])
-none_at_800 = record { begin = codes ".rom 800"; rest = []; cut = refl; head = at is_800; rows = tt; may = none_all (MayStand (rom (Some 0x800))) }
+none_at_800 = record {
+  begin = codes ".rom 800";
+  rest = [];
+  cut = refl;
+  head = at is_800;
+  rows = tt;
+  may = none_all (MayStand (rom (Some 0x800)));
+}
 
 abbrev two_at_800 : List Row → Spelled
 two_at_800 rows = sections_alone (at_800 (halt_row ∷ []) ∷ at_800 rows ∷ [])
 
 fit_at_800 : (rows : List Row) → laid_end (laid_at_800 rows) ≤ 0xC00 → RomFits (two_at_800 rows)
-fit_at_800 rows h = All-cons Fits (laid_at_800 (halt_row ∷ [])) (laid_at_800 rows ∷ []) (omega arith, omega arith) (one_all Fits (laid_at_800 rows) (omega arith, h))
+fit_at_800 rows h = All-cons Fits (laid_at_800 (halt_row ∷ [])) (laid_at_800 rows ∷ []) (omega arith, omega arith)
+    (one_all Fits (laid_at_800 rows) (omega arith, h))
 
 none_below : (a : ℕ) → 0x800 ≤ a → a < 0x800 → ⊥
 none_below a low high = omega (arith, low, high)
@@ -341,7 +409,8 @@ overlap_at_four = record {
     record { in_frames = none_all Names; in_rom = none_pairs Differ; of_frames = none_pairs Differ },
     none_all Holds,
     fit_at_800 (halt_row ∷ []) (omega arith),
-    λ apart. apart 0 1 (laid_at_800 []) (omega arith) (omega arith) 0x800 (omega arith, omega arith) (omega arith, omega arith),
+    λ apart. apart 0 1 (laid_at_800 []) (omega arith) (omega arith) 0x800 (omega arith, omega arith)
+        (omega arith, omega arith),
   );
 }
 
@@ -351,10 +420,12 @@ abbrev name_of : Row → Option (List ℕ)
 name_of row = row.name
 
 -- where no row gives a name, none gives this one
-nameless : (rows : List Row) (name : List ℕ) (before : List Row) → names_of rows ≡ [] → IsNamedAfter rows name before → ⊥
+nameless : (rows : List Row) (name : List ℕ) (before : List Row) → names_of rows ≡ [] → IsNamedAfter rows name before
+    → ⊥
 nameless rows name before none h =
     let given : names_of rows ≡ names_of before ++ name ∷ names_of h.after =
-    ap names_of h.cut ∙ filter_map-append name_of before (h.row ∷ h.after) ∙ ap (λ first. names_of before ++ cons_option first (names_of h.after)) h.gives in
+    ap names_of h.cut ∙ filter_map-append name_of before (h.row ∷ h.after)
+    ∙ ap (λ first. names_of before ++ cons_option first (names_of h.after)) h.gives in
     let sizes : 0 ≡ length (names_of before ++ name ∷ names_of h.after) = ap length (sym none ∙ given) in
     omega (arith, sizes, length-append (names_of before) (name ∷ names_of h.after))
 
@@ -362,11 +433,23 @@ abbrev lost_row : Row
 lost_row = record { name = None; doing = Some (jumps (codes "a")) }
 
 lost_spelled : SpellsSketch (rows_alone (lost_row ∷ [])) (codes "jump a" ∷ [])
-lost_spelled = record { front = []; rows = codes "jump a" ∷ []; rest = []; cut = refl; told = unmapped tt; first = (does (jump a), tt); others = tt }
+lost_spelled = record {
+  front = [];
+  rows = codes "jump a" ∷ [];
+  rest = [];
+  cut = refl;
+  told = unmapped tt;
+  first = (does (jump a), tt);
+  others = tt;
+}
 
 lost_kept : KeepsLimits (rows_alone (lost_row ∷ []))
 lost_kept = record {
-  once = record { in_frames = one_all Names (record { name = None; rows = lost_row ∷ [] }) (none_pairs Differ); in_rom = none_pairs Differ; of_frames = none_pairs Differ };
+  once = record {
+    in_frames = one_all Names (record { name = None; rows = lost_row ∷ [] }) (none_pairs Differ);
+    in_rom = none_pairs Differ;
+    of_frames = none_pairs Differ;
+  };
   drafts = one_all Holds (record { name = None; rows = lost_row ∷ [] }) (omega arith);
   rom = none_all Fits;
   apart = none_pairs Apart;

@@ -22,11 +22,13 @@ OneCrIsPassed = words (codes "halt" ++ 13 ∷ 13 ∷ []) ≡ (codes "halt" ++ 13
 
 -- capitals are small letters, and lines without words count, but tell nothing: 10 is LF
 abbrev pub LinesArePlain : Type 0
-LinesArePlain = plain_lines (codes "# Stars" ++ 10 ∷ codes "Rock: HALT" ++ 13 ∷ 10 ∷ 10 ∷ []) ≡ [] ∷ codes "rock: halt" ∷ [] ∷ []
+LinesArePlain = plain_lines (codes "# Stars" ++ 10 ∷ codes "Rock: HALT" ++ 13 ∷ 10 ∷ 10 ∷ []) ≡ []
+    ∷ codes "rock: halt" ∷ [] ∷ []
 
 -- these are told
 abbrev pub LinesAreTold : Type 0
-LinesAreTold = told (plain_lines (codes "# Stars" ++ 10 ∷ codes "  " ++ 10 ∷ codes "Rock: HALT")) ≡ codes "rock: halt" ∷ []
+LinesAreTold = told (plain_lines (codes "# Stars" ++ 10 ∷ codes "  " ++ 10 ∷ codes "Rock: HALT")) ≡ codes "rock: halt"
+    ∷ []
 
 -- a name alone, before an operation, and wanted
 abbrev pub RowsAreSpelled : Type 0
@@ -36,12 +38,14 @@ RowsAreSpelled = IsRowLine (record { name = Some (codes "rock_2"); doing = None 
 
 -- sections are begun with a name and without, and with an address and without
 abbrev pub HeadsAreSpelled : Type 0
-HeadsAreSpelled = IsHeadLine (frame None) (codes ".frame") × IsHeadLine (frame (Some (codes "title"))) (codes ".frame title")
+HeadsAreSpelled = IsHeadLine (frame None) (codes ".frame")
+    × IsHeadLine (frame (Some (codes "title"))) (codes ".frame title")
     × IsHeadLine (rom None) (codes ".rom") × IsHeadLine (rom (Some 0x8A0)) (codes ".rom 8a0")
 
 -- three hexadecimal digits are an address, and a name has no more than 32 bytes
 abbrev pub NoNames : Type 0
-NoNames = (¬ IsName (codes "bad")) × (¬ IsName (codes "2rocks")) × (¬ IsName []) × (¬ IsName (codes "a23456789_123456789_123456789_123"))
+NoNames = (¬ IsName (codes "bad")) × (¬ IsName (codes "2rocks")) × (¬ IsName [])
+    × (¬ IsName (codes "a23456789_123456789_123456789_123"))
 
 -- a row without a name that halts
 abbrev pub halts : Row
@@ -57,27 +61,40 @@ ship = record { name = Some (codes "ship"); doing = Some (plainly (Draw (Svec 2 
 
 -- a text without lines has one frame, of no operation
 abbrev pub NothingIsAFrame : Type 0
-NothingIsAFrame = frames (record { rom = record { map = None; given = [] }; first = []; others = [] }) ≡ record { name = None; rows = [] } ∷ []
+NothingIsAFrame = frames (record { rom = record { map = None; given = [] }; first = []; others = [] })
+    ≡ record { name = None; rows = [] } ∷ []
 
 -- one that has only a section of the ROM has none
 abbrev pub RomAloneIsNoFrame : Type 0
-RomAloneIsNoFrame = frames (record { rom = record { map = None; given = [] }; first = []; others = record { head = rom None; rows = halts ∷ [] } ∷ [] }) ≡ []
+RomAloneIsNoFrame = frames
+    (record {
+      rom = record { map = None; given = [] };
+      first = [];
+      others = record { head = rom None; rows = halts ∷ [] } ∷ [];
+    }) ≡ []
 
 -- what stands before the first line `.frame` is a frame, too
 abbrev pub TopIsAFrame : Type 0
-TopIsAFrame = frames (record { rom = record { map = None; given = [] }; first = halts ∷ []; others = record { head = frame (Some (codes "two")); rows = [] } ∷ [] })
+TopIsAFrame = frames (record {
+  rom = record { map = None; given = [] };
+  first = halts ∷ [];
+  others = record { head = frame (Some (codes "two")); rows = [] } ∷ [];
+})
     ≡ record { name = None; rows = halts ∷ [] } ∷ record { name = Some (codes "two"); rows = [] } ∷ []
 
 -- the operation that a name names is the next one, here number 1
 abbrev pub NumberIsThatOfTheNext : Type 0
-NumberIsThatOfTheNext = IsNumber (puts ∷ record { name = Some (codes "rock"); doing = None } ∷ halts ∷ []) (codes "rock") 1
+NumberIsThatOfTheNext = IsNumber (puts ∷ record { name = Some (codes "rock"); doing = None } ∷ halts ∷ [])
+    (codes "rock") 1
 
 -- sections are laid after the lines `rom`, at their address, and after the highest word before
 abbrev pub SectionsAreLaid : Type 0
 SectionsAreLaid = laid (record { map = None; given = record { address = 0x800; words = 0xD000 ∷ [] } ∷ [] })
-    (record { address = None; rows = puts ∷ ship ∷ [] } ∷ record { address = Some 0x900; rows = halts ∷ [] } ∷ record { address = Some 0x880; rows = halts ∷ [] }
+    (record { address = None; rows = puts ∷ ship ∷ [] } ∷ record { address = Some 0x900; rows = halts ∷ [] }
+    ∷ record { address = Some 0x880; rows = halts ∷ [] }
     ∷ record { address = None; rows = halts ∷ [] } ∷ [])
-    ≡ record { start = 0x801; rows = puts ∷ ship ∷ [] } ∷ record { start = 0x900; rows = halts ∷ [] } ∷ record { start = 0x880; rows = halts ∷ [] }
+    ≡ record { start = 0x801; rows = puts ∷ ship ∷ [] } ∷ record { start = 0x900; rows = halts ∷ [] }
+    ∷ record { start = 0x880; rows = halts ∷ [] }
     ∷ record { start = 0x901; rows = halts ∷ [] } ∷ []
 
 -- a name of the ROM is a word address: a LABS has two words

@@ -21,8 +21,10 @@ abbrev pub IsDrafted : List Laid → List Row → Doing → OpKind → Type 0
 IsDrafted rom rows (plainly op) drafted = drafted ≡ op
 IsDrafted rom rows (calls name) drafted = (number : ℕ) × IsNumber rows name number × (drafted ≡ kinds.Call number)
 IsDrafted rom rows (jumps name) drafted = (number : ℕ) × IsNumber rows name number × (drafted ≡ kinds.Jump number)
-IsDrafted rom rows (calls_rom name) drafted = (address : ℕ) × IsAddress rom name address × (drafted ≡ kinds.CallRom address)
-IsDrafted rom rows (jumps_rom name) drafted = (address : ℕ) × IsAddress rom name address × (drafted ≡ kinds.JumpRom address)
+IsDrafted rom rows (calls_rom name) drafted = (address : ℕ) × IsAddress rom name address
+    × (drafted ≡ kinds.CallRom address)
+IsDrafted rom rows (jumps_rom name) drafted = (address : ℕ) × IsAddress rom name address
+    × (drafted ≡ kinds.JumpRom address)
 
 -- the draft of a frame has what its rows do, in order
 pub record IsFrameOf (rom : List Laid) (source : FrameRows) (result : Frame) : Type 0 where
@@ -54,7 +56,8 @@ pub record IsGiven (rom : List Laid) (section : Laid) (given : RomLine) : Type 0
 pub record IsRomText (sketch : Spelled) (result : RomText) : Type 0 where
   pub map : result.map ≡ sketch.rom.map
   pub laid_words : List RomLine
-  pub given : AllZip (IsGiven (laid sketch.rom (rom_sections sketch))) (laid sketch.rom (rom_sections sketch)) laid_words
+  pub given : AllZip (IsGiven (laid sketch.rom (rom_sections sketch)))
+      (laid sketch.rom (rom_sections sketch)) laid_words
   pub all : result.given ≡ sketch.rom.given ++ laid_words
 
 -- what a sketch denotes: the names that it wants are given, and the frames and the ROM are these

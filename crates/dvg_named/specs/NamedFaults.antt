@@ -1,11 +1,13 @@
 -- The limits of a sketch, and its one fault.
-use Rattle.std.specs.Prelude.{◌≡◌, ◌≢◌, ℕ, ◌+◌, ◌<◌, ◌≤◌, List, [], ◌∷◌, ◌++◌, length, All, AllPairs, Some, slice_get, false}
+use Rattle.std.specs.Prelude.{◌≡◌, ◌≢◌, ℕ, ◌+◌, ◌<◌, ◌≤◌, List, [], ◌∷◌, ◌++◌, length, All, AllPairs, Some, slice_get}
+use Rattle.std.specs.Prelude.{false}
 use Rattle.std.specs.List.{filter_map, flat_map}
 use Rattle.dvg_text.specs.FirstFaults.{IsShort}
 use Rattle.dvg_text.specs.RomTexts.{first_told}
 use Rattle.dvg_text.specs.Texts.{is_passed, told}
 use Rattle.dvg_named.specs.declared.fault.NamedFault.{NamedFault}
-use Rattle.dvg_named.specs.declared.fault.NamedFault.TheVariants.{TooLong, Syntax, Twice, Full, OutOfRom, Overlap, Unknown}
+use Rattle.dvg_named.specs.declared.fault.NamedFault.TheVariants.{TooLong, Syntax, Twice, Full, OutOfRom, Overlap}
+use Rattle.dvg_named.specs.declared.fault.NamedFault.TheVariants.{Unknown}
 use Rattle.dvg_named.specs.PlainLines.{plain_lines}
 use Rattle.dvg_named.specs.Rows.{Doing, Head, IsRowLine, Row, plainly, calls, jumps, calls_rom, jumps_rom, rom}
 use Rattle.dvg_named.specs.Sections.{Section, Spelled, SpellsSketch, frames, rom_sections, sections}
@@ -37,7 +39,8 @@ laid_of sketch = laid sketch.rom (rom_sections sketch)
 
 -- each section of the ROM is laid on words of the ROM
 abbrev pub RomFits : Spelled → Type 0
-RomFits sketch = All (λ section. (first_told sketch.rom.map ≤ section.start) × (laid_end section ≤ 0xC00)) (laid_of sketch)
+RomFits sketch = All (λ section. (first_told sketch.rom.map ≤ section.start) × (laid_end section ≤ 0xC00))
+    (laid_of sketch)
 
 -- a section of the ROM is laid on the word at this address
 abbrev pub LiesOn : Laid → ℕ → Type 0
@@ -139,5 +142,6 @@ HasNamedFault text (Syntax n) = MeetsNothing text n
 HasNamedFault text (Twice n) = Meets (λ sketch. ¬ GivesOnce sketch) text n
 HasNamedFault text (Full n) = Meets (λ sketch. GivesOnce sketch × (¬ DraftsFit sketch)) text n
 HasNamedFault text (OutOfRom n) = Meets (λ sketch. GivesOnce sketch × DraftsFit sketch × (¬ RomFits sketch)) text n
-HasNamedFault text (Overlap n) = Meets (λ sketch. GivesOnce sketch × DraftsFit sketch × RomFits sketch × (¬ LieApart sketch)) text n
+HasNamedFault text (Overlap n) = Meets (λ sketch. GivesOnce sketch × DraftsFit sketch × RomFits sketch
+    × (¬ LieApart sketch)) text n
 HasNamedFault text (Unknown n) = WantsUngiven text n × ((earlier : ℕ) → earlier < n → ¬ WantsUngiven text earlier)

@@ -46,7 +46,8 @@ laid_end laid = laid.start + size laid.rows
 abbrev pub laid_from : (free : ℕ) → List RomRows → List Laid
 laid_from free [] = []
 laid_from free (section ∷ others) =
-    let laid : Laid = record { start = unwrap_or section.address free; rows = section.rows } in laid ∷ laid_from (max free (laid_end laid)) others
+    let laid : Laid = record { start = unwrap_or section.address free; rows = section.rows } in
+    laid ∷ laid_from (max free (laid_end laid)) others
 
 -- the first word after those that lines `rom` give: the ROM's first one, where there is none
 abbrev pub free_after : (first : ℕ) → List RomLine → ℕ

@@ -1,5 +1,6 @@
 -- What a line of a sketch spells: the row of a section, or the line that begins one.
-use Rattle.std.specs.Prelude.{ℕ, ◌≤◌, List, [], ◌∷◌, ◌++◌, ◌≡◌, length, Bool, IsTrue, true, ◌==◌, ◌||◌, Option, Some, None, codes}
+use Rattle.std.specs.Prelude.{ℕ, ◌≤◌, List, [], ◌∷◌, ◌++◌, ◌≡◌, length, Bool, IsTrue, true, ◌==◌, ◌||◌, Option, Some}
+use Rattle.std.specs.Prelude.{None, codes}
 use Rattle.std.specs.Char.{is_ascii_lowercase, is_ascii_digit}
 use Rattle.std.specs.List.{list_all}
 use Rattle.dvg_frame.specs.declared.op.OpKind.{OpKind}
@@ -46,7 +47,8 @@ pub record Row : Type 0 where
 -- the parts of a line that spells a row: a name ends with a colon, which is 58
 pub data RowParts : Row → List (List ℕ) → Type 0 where
   named : {name : List ℕ} → IsName name → RowParts (record { name = Some name; doing = None }) ((name ++ 58 ∷ []) ∷ [])
-  does : {doing : Doing} {ps : List (List ℕ)} → DoingParts doing ps → RowParts (record { name = None; doing = Some doing }) ps
+  does : {doing : Doing} {ps : List (List ℕ)} → DoingParts doing ps
+      → RowParts (record { name = None; doing = Some doing }) ps
   both : {name : List ℕ} {doing : Doing} {ps : List (List ℕ)} → IsName name → DoingParts doing ps
       → RowParts (record { name = Some name; doing = Some doing }) ((name ++ 58 ∷ []) ∷ ps)
 

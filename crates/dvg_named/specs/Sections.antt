@@ -18,7 +18,8 @@ pub record Spelled : Type 0 where
 
 -- in a section of the ROM nothing calls or jumps by the number of an operation
 abbrev pub MayStand : Head → Row → Type 0
-MayStand (rom address) row = IfSome row.doing (λ doing. (n : ℕ) → (doing ≢ plainly (Call n)) × (doing ≢ plainly (Jump n)))
+MayStand (rom address) row = IfSome row.doing (λ doing. (n : ℕ) → (doing ≢ plainly (Call n))
+    × (doing ≢ plainly (Jump n)))
 MayStand _ row = Unit {0}
 
 -- the lines of a section that a line begins: that line, and those of its rows
@@ -71,7 +72,8 @@ top_frame rows others = record { name = None; rows = rows } ∷ []
 
 -- the frames, in order
 abbrev pub frames : Spelled → List FrameRows
-frames sketch = top_frame sketch.first sketch.others ++ filter_map (λ section. frame_of section.head section.rows) sketch.others
+frames sketch = top_frame sketch.first sketch.others
+    ++ filter_map (λ section. frame_of section.head section.rows) sketch.others
 
 -- the sections of the ROM, in order
 abbrev pub rom_sections : Spelled → List RomRows

@@ -12,12 +12,15 @@ text_of (line ∷ others) = line ++ 10 ∷ text_of others
 
 -- a frame of two operations, whose second one jumps to the first
 abbrev pub JumpsBack : Type 0
-JumpsBack = DenotesFrames (text_of (codes "Rock: HALT" ∷ codes "jump  rock # again" ∷ [])) untold (record { name = None; draft = Halt ∷ Jump 0 ∷ [] } ∷ [])
+JumpsBack = DenotesFrames (text_of (codes "Rock: HALT" ∷ codes "jump  rock # again" ∷ [])) untold
+    (record { name = None; draft = Halt ∷ Jump 0 ∷ [] } ∷ [])
 
 -- a shape in the ROM, whose word is a return, D000, and a frame that calls it
 abbrev pub CallsTheRom : Type 0
-CallsTheRom = DenotesFrames (text_of (codes ".rom 8A0" ∷ codes "ship: return" ∷ codes ".frame title" ∷ codes "callrom ship" ∷ []))
-    (record { map = None; given = record { address = 0x8A0; words = 0xD000 ∷ [] } ∷ [] }) (record { name = Some (codes "title"); draft = CallRom 0x8A0 ∷ [] } ∷ [])
+CallsTheRom = DenotesFrames
+    (text_of (codes ".rom 8A0" ∷ codes "ship: return" ∷ codes ".frame title" ∷ codes "callrom ship" ∷ []))
+    (record { map = None; given = record { address = 0x8A0; words = 0xD000 ∷ [] } ∷ [] })
+    (record { name = Some (codes "title"); draft = CallRom 0x8A0 ∷ [] } ∷ [])
 
 -- a name is given again
 abbrev pub TwiceAtTwo : Type 0
@@ -29,7 +32,8 @@ OutOfRomAtOne = HasNamedFault (text_of (codes ".rom 400" ∷ [])) (OutOfRom 1)
 
 -- two sections lay an operation at 800
 abbrev pub OverlapAtFour : Type 0
-OverlapAtFour = HasNamedFault (text_of (codes ".rom 800" ∷ codes "halt" ∷ codes ".rom 800" ∷ codes "halt" ∷ [])) (Overlap 4)
+OverlapAtFour = HasNamedFault (text_of (codes ".rom 800" ∷ codes "halt" ∷ codes ".rom 800" ∷ codes "halt" ∷ []))
+    (Overlap 4)
 
 -- no line gives the name
 abbrev pub UnknownAtOne : Type 0

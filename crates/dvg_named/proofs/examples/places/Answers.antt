@@ -3,7 +3,17 @@ use Rattle.dvg_named.specs.Examples.{halts, puts, ship}
 use Rattle.dvg_named.proofs.examples.places.Goals as goal
 
 pub returns-clause-number : goal.returns-clause-number
-returns-clause-number c = record { before = puts ∷ []; named = record { row = record { name = Some (codes "rock"); doing = None }; after = halts ∷ []; cut = refl; gives = refl }; count = refl }
+returns-clause-number c =
+    record {
+      before = puts ∷ [];
+      named = record {
+        row = record { name = Some (codes "rock"); doing = None };
+        after = halts ∷ [];
+        cut = refl;
+        gives = refl;
+      };
+      count = refl;
+    }
 
 pub returns-clause-address : goal.returns-clause-address
 returns-clause-address c = record {

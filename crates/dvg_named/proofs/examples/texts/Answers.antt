@@ -1,4 +1,5 @@
-use Rattle.dvg_named.proofs.WholeTexts.{calls_the_rom, jumps_back, out_of_rom_at_one, overlap_at_four, twice_at_two, unknown_at_one}
+use Rattle.dvg_named.proofs.WholeTexts.{calls_the_rom, jumps_back, out_of_rom_at_one, overlap_at_four, twice_at_two}
+use Rattle.dvg_named.proofs.WholeTexts.{unknown_at_one}
 use Rattle.dvg_named.proofs.examples.texts.Goals as goal
 
 pub returns-clause-jump : goal.returns-clause-jump
