@@ -5,10 +5,9 @@ use Rattle.std.proofs.lemmas.List.{append-nil, get_or_append_left, map-append, t
 use Rattle.std.proofs.lemmas.List.Elements.{All-head, All-tail}
 use Rattle.std.proofs.Math.Seq.{drop-append_seam, get_or-append_seam, take-length}
 use Rattle.dvg_frame.specs.declared.op.OpKind.{OpKind}
-use Rattle.dvg_log.specs.declared.trace.Step.{Step}
-use Rattle.dvg_log.specs.declared.trace.Step.TheVariants as step
-use Rattle.dvg_log.specs.Events.{Happening, Offer, ResetAll}
-use Rattle.dvg_log.specs.Traces.{step_event, step_events}
+use Rattle.dvg_log.specs.Events.{Happening}
+use Rattle.dvg_log.specs.declared.event.Event.TheVariants.{Offer, Redraw, Tick, Strobe, Fetch, ResetGen, ResetCpu, ResetAll}
+use Rattle.dvg_log.specs.Traces.{Step, step_event, step_events}
 use Rattle.dvg_log.specs.own.Kept.{IsTrace, IsWithin}
 
 -- the event of an item is the one that its number has
@@ -37,14 +36,14 @@ same_range ops more first count low =
 
 -- nor do more images change a reset
 same_step : (ops more all : List OpKind) (images others kept : List (List ℕ)) (s : Step) → all ≡ ops ++ more → kept ≡ images ++ others → IsWithin ops images s → step_event all kept s ≡ step_event ops images s
-same_step ops more all images others kept (step.Offer first count) e f within = rw e (ap Offer (same_range ops more first count within.0))
-same_step ops more all images others kept step.Redraw e f within = refl
-same_step ops more all images others kept step.Tick e f within = refl
-same_step ops more all images others kept step.Strobe e f within = refl
-same_step ops more all images others kept step.Fetch e f within = refl
-same_step ops more all images others kept step.ResetGen e f within = refl
-same_step ops more all images others kept step.ResetCpu e f within = refl
-same_step ops more all images others kept (step.ResetAll number) e f within = rw f (ap ResetAll (get_or_append_left images others [] number within))
+same_step ops more all images others kept (Offer (first, count)) e f within = rw e (ap Offer (same_range ops more first count within.0))
+same_step ops more all images others kept Redraw e f within = refl
+same_step ops more all images others kept Tick e f within = refl
+same_step ops more all images others kept Strobe e f within = refl
+same_step ops more all images others kept Fetch e f within = refl
+same_step ops more all images others kept ResetGen e f within = refl
+same_step ops more all images others kept ResetCpu e f within = refl
+same_step ops more all images others kept (ResetAll number) e f within = rw f (ap ResetAll (get_or_append_left images others [] number within))
 
 same_events : (steps : List Step) (ops more all : List OpKind) (images others kept : List (List ℕ)) → all ≡ ops ++ more → kept ≡ images ++ others → All (IsWithin ops images) steps → step_events steps all kept ≡ step_events steps ops images
 same_events [] ops more all images others kept e f within = refl
@@ -59,18 +58,18 @@ last_range ops F first count begins counts =
     ∙ (ap (λ k. take (length F) (drop k (ops ++ F))) begins ∙ (ap (take (length F)) (drop-append_seam ops F) ∙ take-length F))
 
 pub one_offer_more : (steps : List Step) (ops F : List OpKind) (images : List (List ℕ)) (first count : ℕ) → All (IsWithin ops images) steps → first ≡ length ops → count ≡ length F
-    → step_events (steps ++ step.Offer first count ∷ []) (ops ++ F) images ≡ step_events steps ops images ++ Offer F ∷ []
+    → step_events (steps ++ Offer (first, count) ∷ []) (ops ++ F) images ≡ step_events steps ops images ++ Offer F ∷ []
 one_offer_more steps ops F images first count within begins counts =
-    map-append (step_event (ops ++ F) images) steps (step.Offer first count ∷ [])
-    ∙ (ap (λ events. events ++ step_event (ops ++ F) images (step.Offer first count) ∷ []) (same_events steps ops F (ops ++ F) images [] images refl (sym (append-nil images)) within)
+    map-append (step_event (ops ++ F) images) steps (Offer (first, count) ∷ [])
+    ∙ (ap (λ events. events ++ step_event (ops ++ F) images (Offer (first, count)) ∷ []) (same_events steps ops F (ops ++ F) images [] images refl (sym (append-nil images)) within)
     ∙ ap (λ G. step_events steps ops images ++ Offer G ∷ []) (last_range ops F first count begins counts))
 
 -- the last reset has the last image
 pub one_reset_more : (steps : List Step) (ops : List OpKind) (images : List (List ℕ)) (image : List ℕ) (number : ℕ) → All (IsWithin ops images) steps → number ≡ length images
-    → step_events (steps ++ step.ResetAll number ∷ []) ops (images ++ image ∷ []) ≡ step_events steps ops images ++ ResetAll image ∷ []
+    → step_events (steps ++ ResetAll number ∷ []) ops (images ++ image ∷ []) ≡ step_events steps ops images ++ ResetAll image ∷ []
 one_reset_more steps ops images image number within counts =
-    map-append (step_event ops (images ++ image ∷ [])) steps (step.ResetAll number ∷ [])
-    ∙ (ap (λ events. events ++ step_event ops (images ++ image ∷ []) (step.ResetAll number) ∷ []) (same_events steps ops [] ops images (image ∷ []) (images ++ image ∷ []) (sym (append-nil ops)) refl within)
+    map-append (step_event ops (images ++ image ∷ [])) steps (ResetAll number ∷ [])
+    ∙ (ap (λ events. events ++ step_event ops (images ++ image ∷ []) (ResetAll number) ∷ []) (same_events steps ops [] ops images (image ∷ []) (images ++ image ∷ []) (sym (append-nil ops)) refl within)
     ∙ ap (λ bytes. step_events steps ops images ++ ResetAll bytes ∷ []) (ap (λ n. get_or (images ++ image ∷ []) n []) counts ∙ get_or-append_seam images image [] []))
 
 -- a step that is there, once more at the end, brings the event that its number has

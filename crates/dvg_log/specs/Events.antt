@@ -1,27 +1,33 @@
--- Events without where their drafts and images lie in memory.
-use Rattle.std.specs.Prelude.{ℕ, List}
+-- Events, wherever their drafts and images lie in memory.
+use Rattle.std.specs.Prelude.{ℕ, List, Box}
 use Rattle.dvg_mem.specs.Memory.{IsImage}
 use Rattle.dvg_frame.specs.declared.op.OpKind.{OpKind}
 use Rattle.dvg_frame.specs.Ops.{IsDraft}
 use Rattle.dvg_log.specs.declared.event.Event.{Event}
-use Rattle.dvg_log.specs.declared.event.Event.TheVariants as code
+use Rattle.dvg_log.specs.declared.event.Event.TheVariants.{Offer, Redraw, Tick, Strobe, Fetch, ResetGen, ResetCpu, ResetAll}
+
+-- the same event, with f of its draft and g of its image
+abbrev pub map_event : {D I E J : Type 0} → (D → E) → (I → J) → Event D I → Event E J
+map_event f g (Offer draft) = Offer (f draft)
+map_event f g Redraw = Redraw
+map_event f g Tick = Tick
+map_event f g Strobe = Strobe
+map_event f g Fetch = Fetch
+map_event f g ResetGen = ResetGen
+map_event f g ResetCpu = ResetCpu
+map_event f g (ResetAll image) = ResetAll (g image)
 
 -- an event whose draft is the list of its operations, and whose image is the list of its bytes
-pub data Happening : Type 0 where
-  Offer : List OpKind → Happening
-  Redraw Tick Strobe Fetch ResetGen ResetCpu : Happening
-  ResetAll : List ℕ → Happening
+abbrev pub Happening : Type 0
+Happening = Event (List OpKind) (List ℕ)
+
+-- an event of the code
+abbrev pub OwnEvent : Type 0 → Type 0
+OwnEvent A = Event (Box (List OpKind) A) (List ℕ)
 
 -- an event of the code, so
-abbrev pub happening_of : {A : Type 0} → Event A → Happening
-happening_of (code.Offer draft) = Offer draft.value
-happening_of code.Redraw = Redraw
-happening_of code.Tick = Tick
-happening_of code.Strobe = Strobe
-happening_of code.Fetch = Fetch
-happening_of code.ResetGen = ResetGen
-happening_of code.ResetCpu = ResetCpu
-happening_of (code.ResetAll image) = ResetAll image
+abbrev pub happening_of : {A : Type 0} → OwnEvent A → Happening
+happening_of event = map_event (λ draft. draft.value) (λ image. image) event
 
 -- what an event brings is a draft, or an image
 abbrev pub IsEvent : Happening → Type 0

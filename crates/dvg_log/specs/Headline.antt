@@ -9,8 +9,10 @@ use Rattle.dvg_frame.specs.Steps.{Closed}
 use Rattle.dvg_frame.specs.Faults.{Accepts}
 use Rattle.dvg_frame.specs.Picture.{IsPicture}
 use Rattle.dvg_driver.specs.declared.action.Action.TheVariants.{Wrote}
-use Rattle.dvg_log.specs.Events.{Happening, Fetch}
-use Rattle.dvg_log.specs.Entries.{Shown, Acted, Started, Done, Broke}
+use Rattle.dvg_log.specs.Events.{Happening}
+use Rattle.dvg_log.specs.declared.event.Event.TheVariants.{Fetch}
+use Rattle.dvg_log.specs.Entries.{Shown}
+use Rattle.dvg_log.specs.declared.entry.Entry.TheVariants.{Acted, Started, Done, Broke}
 use Rattle.dvg_log.specs.Held.{HoldsDraft, HoldsFrame}
 use Rattle.dvg_log.specs.Log.{◌⟼◌, Log, Throughout, ram, low_byte, open_run, IsBeingDrawn, published, publication, has_fetched, at_zero}
 use Rattle.dvg_log.specs.Legal.{IsLegal}

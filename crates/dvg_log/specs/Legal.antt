@@ -6,8 +6,10 @@ use Rattle.dvg_gen.specs.Told.{Told, Fed, Newest, Leaves, Reply, More, Drew, Fai
 use Rattle.dvg_frame.specs.Faults.{Refuses, Accepts}
 use Rattle.dvg_driver.specs.Script.{Did, IsWhole, IsLife, has_flip}
 use Rattle.dvg_driver.specs.Stands.{Tells}
-use Rattle.dvg_log.specs.Events.{Happening, Offer, Redraw, Tick, Strobe, Fetch, ResetGen, ResetCpu, ResetAll, IsEvent}
-use Rattle.dvg_log.specs.Entries.{Shown, Offered, Refused, Busy, Asked, NothingPublished, Acted, Started, NoStrobe, Low, Fetched, Done, Broke, Still, Cleared}
+use Rattle.dvg_log.specs.Events.{Happening, IsEvent}
+use Rattle.dvg_log.specs.declared.event.Event.TheVariants.{Offer, Redraw, Tick, Strobe, Fetch, ResetGen, ResetCpu, ResetAll}
+use Rattle.dvg_log.specs.Entries.{Shown}
+use Rattle.dvg_log.specs.declared.entry.Entry.TheVariants.{Offered, Refused, Busy, Asked, NothingPublished, Acted, Started, NoStrobe, Low, Fetched, Done, Broke, Still, Cleared}
 use Rattle.dvg_log.specs.Log.{◌⟼◌, Log, events_of, Throughout, meets, history, open_run, life, strobed}
 
 -- after this history the next word is that at this address

@@ -9,8 +9,10 @@ use Rattle.dvg_frame.specs.declared.op.OpKind.{OpKind}
 use Rattle.dvg_driver.specs.declared.action.Action.TheVariants.{Wrote, Sent}
 use Rattle.dvg_driver.specs.Script
 use Rattle.dvg_driver.specs.Script.{Item, Did}
-use Rattle.dvg_log.specs.Events.{Happening, Offer, ResetGen, ResetCpu, ResetAll}
-use Rattle.dvg_log.specs.Entries.{Shown, Offered, Asked, Acted, Started, Low, Fetched, Done, Broke}
+use Rattle.dvg_log.specs.Events.{Happening}
+use Rattle.dvg_log.specs.declared.event.Event.TheVariants.{Offer, ResetGen, ResetCpu, ResetAll}
+use Rattle.dvg_log.specs.Entries.{Shown}
+use Rattle.dvg_log.specs.declared.entry.Entry.TheVariants.{Offered, Asked, Acted, Started, Low, Fetched, Done, Broke}
 
 -- an event and its entry
 infix 30 ◌⟼◌

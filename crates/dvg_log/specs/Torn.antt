@@ -4,7 +4,8 @@ use Rattle.dvg_mem.specs.declared.half.Half.{Half}
 use Rattle.dvg_mem.specs.Areas.{IsInHalf}
 use Rattle.dvg_driver.specs.declared.action.Action.TheVariants.{Wrote}
 use Rattle.dvg_log.specs.Events.{Happening}
-use Rattle.dvg_log.specs.Entries.{Shown, Acted}
+use Rattle.dvg_log.specs.Entries.{Shown}
+use Rattle.dvg_log.specs.declared.entry.Entry.TheVariants.{Acted}
 use Rattle.dvg_log.specs.Log.{◌⟼◌, Log, Throughout, IsBeingDrawn}
 
 -- a byte is written in the half that the open run draws; a reset of the generator, or of the whole system, has ended the run before its own entry counts

@@ -1,10 +1,11 @@
 //! Lists of events that take little room.
 ghost use Rattle.std.specs.Prelude.{◌≡◌, ◌+◌, ◌<◌, ◌≤◌, ◌↔◌, ◌++◌, ◌∷◌, [], List, Some, length, slice_get, vec_capacity, vec_len, IsTrue, OnErr, OnOk};
-ghost use Rattle.dvg_log.specs.Events.{Happening, Offer, ResetAll, happening_of};
+ghost use Rattle.dvg_log.specs.Events.{Happening, happening_of};
+ghost use Rattle.dvg_log.specs.declared.event.Event.TheVariants.{Offer, ResetAll};
 ghost use Rattle.dvg_log.specs.Traces.{FitsInDraft, step_events, seen_as};
 ghost use Rattle.dvg_log.specs.own.Kept.{IsTrace};
 
-use crate::event::Event;
+use crate::event::{Event, OwnEvent, TraceEvent};
 use dvg_code::OutOfMemory;
 use dvg_frame::{Draft, Op};
 use dvg_mem::Image;
@@ -35,41 +36,9 @@ impl<A: Allocator> Model for Trace<A> {
     ghost invariant = { λ trace. IsTrace trace.steps.items trace.ops.items trace.images.items };
 }
 
-/// An event of a trace.
-#[derive(Clone, Copy)]
-pub(crate) enum Step {
-    /// An offer: the number of its first operation among those of all offers, and how many it has.
-    Offer(u32, u16),
-    Redraw,
-    Tick,
-    Strobe,
-    Fetch,
-    ResetGen,
-    ResetCpu,
-    /// A reset of the whole system: the number of its image among all.
-    ResetAll(u32),
-}
-
-/// An event of a trace, as it lies there.
-#[derive(Clone, Copy)]
-pub enum TraceEvent<'a, A: Allocator = Global> {
-    /// The driver is handed a draft of these operations.
-    Offer(&'a [Op]),
-    /// As `Event::Redraw`.
-    Redraw,
-    /// As `Event::Tick`.
-    Tick,
-    /// As `Event::Strobe`.
-    Strobe,
-    /// As `Event::Fetch`.
-    Fetch,
-    /// As `Event::ResetGen`.
-    ResetGen,
-    /// As `Event::ResetCpu`.
-    ResetCpu,
-    /// A reset of the whole system, behind which the RAM holds these bytes.
-    ResetAll(&'a Image<A>),
-}
+/// An event of a trace: an offer has the number of its first operation among those of all offers, and how many it
+/// has, and a reset of the whole system the number of its image among all.
+pub(crate) type Step = Event<(u32, u16), u32>;
 
 impl<A: Allocator + Copy> Trace<A> {
     /// No events.
@@ -107,7 +76,7 @@ impl<A: Allocator> Trace<A> {
         ensures draft { FitsInDraft result }
     {
         match &self.steps[number] {
-            Step::Offer(first, count) => {
+            Step::Offer((first, count)) => {
                 let first = *first as usize;
                 TraceEvent::Offer(&self.ops[first..first + usize::from(*count)])
             }
@@ -122,7 +91,7 @@ impl<A: Allocator> Trace<A> {
     }
 
     /// Adds an event at the end of fewer than 65,536. An error is want of memory, and then nothing has changed.
-    pub fn push(&mut self, event: Event<A>) -> Result<(), OutOfMemory>
+    pub fn push(&mut self, event: OwnEvent<A>) -> Result<(), OutOfMemory>
         requires { length self.old < 65536 }
         ensures pushed { OnOk result (self.new ≡ self.old ++ happening_of event ∷ []) }
         ensures refused { OnErr result (self.new ≡ self.old) }
@@ -153,7 +122,7 @@ impl<A: Allocator> Trace<A> {
         self.ops.reserve(count)?;
         self.steps.reserve(1)?;
         self.ops.extend_from_slice(draft.ops()).unwrap();
-        self.steps.push_reserved(Step::Offer(first, count as u16));
+        self.steps.push_reserved(Step::Offer((first, count as u16)));
         Ok(())
     }
 

@@ -1,13 +1,13 @@
 -- What a trace keeps.
 use Rattle.std.specs.Prelude.{◌+◌, ◌*◌, ◌<◌, ◌≤◌, ℕ, List, All, length}
 use Rattle.dvg_frame.specs.declared.op.OpKind.{OpKind}
-use Rattle.dvg_log.specs.declared.trace.Step.{Step}
-use Rattle.dvg_log.specs.declared.trace.Step.TheVariants as step
+use Rattle.dvg_log.specs.declared.event.Event.TheVariants.{Offer, ResetAll}
+use Rattle.dvg_log.specs.Traces.{Step}
 
 -- an offer's operations are among all of them, and a draft can hold them; a reset's image is among all of them
 abbrev pub IsWithin : List OpKind → List (List ℕ) → Step → Type 0
-IsWithin ops images (step.Offer first count) = (first + count ≤ length ops) × (count ≤ 511)
-IsWithin ops images (step.ResetAll number) = number < length images
+IsWithin ops images (Offer range) = (range.0 + range.1 ≤ length ops) × (range.1 ≤ 511)
+IsWithin ops images (ResetAll number) = number < length images
 IsWithin ops images step = Unit {0}
 
 -- steps, the operations of their offers, and the images of their resets
