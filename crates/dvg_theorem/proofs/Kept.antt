@@ -18,8 +18,10 @@ use Rattle.dvg_driver.specs.Script
 use Rattle.dvg_driver.specs.Script.{Item, Did, IsWhole, IsLife, has_flip, frame_writes}
 use Rattle.dvg_driver.specs.Stands.{Tells}
 use Rattle.dvg_driver.specs.Place.{Place, Start, Booting, Resting, Writing, Waiting, Sending, next_place, place_of_life}
-use Rattle.dvg_log.specs.Events.{Happening, Offer, Redraw, Tick, Strobe, Fetch, ResetGen, ResetCpu, ResetAll}
-use Rattle.dvg_log.specs.Entries.{Shown, Offered, Refused, Busy, Asked, NothingPublished, Acted, Started, NoStrobe, Low, Fetched, Done, Broke, Still, Cleared}
+use Rattle.dvg_log.specs.Events.{Happening}
+use Rattle.dvg_log.specs.declared.event.Event.TheVariants.{Offer, Redraw, Tick, Strobe, Fetch, ResetGen, ResetCpu, ResetAll}
+use Rattle.dvg_log.specs.Entries.{Shown}
+use Rattle.dvg_log.specs.declared.entry.Entry.TheVariants.{Offered, Refused, Busy, Asked, NothingPublished, Acted, Started, NoStrobe, Low, Fetched, Done, Broke, Still, Cleared}
 use Rattle.dvg_log.specs.Log.{◌⟼◌, Log, Throughout, ram, history, open_run, free_half, life, strobed, before_flip}
 use Rattle.dvg_theorem.proofs.Bytes.{byte}
 use Rattle.dvg_log.specs.Legal.{IsFetch, Fits, IsLegal}

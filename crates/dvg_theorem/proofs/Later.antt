@@ -19,8 +19,10 @@ use Rattle.dvg_driver.specs.declared.action.Action.TheVariants.{Peek, Wrote, Rea
 use Rattle.dvg_driver.specs.Script
 use Rattle.dvg_driver.specs.Script.{Did, IsWhole}
 use Rattle.dvg_driver.specs.Place.{Place, Start, Writing, next_place, place_of_life}
-use Rattle.dvg_log.specs.Events.{Happening, Offer, Redraw, Tick, Strobe, Fetch, ResetGen, ResetCpu, ResetAll, IsEvent}
-use Rattle.dvg_log.specs.Entries.{Shown, Offered, Refused, Busy, Asked, NothingPublished, Acted, Started, NoStrobe, Low, Fetched, Done, Broke, Still, Cleared}
+use Rattle.dvg_log.specs.Events.{Happening, IsEvent}
+use Rattle.dvg_log.specs.declared.event.Event.TheVariants.{Offer, Redraw, Tick, Strobe, Fetch, ResetGen, ResetCpu, ResetAll}
+use Rattle.dvg_log.specs.Entries.{Shown}
+use Rattle.dvg_log.specs.declared.entry.Entry.TheVariants.{Offered, Refused, Busy, Asked, NothingPublished, Acted, Started, NoStrobe, Low, Fetched, Done, Broke, Still, Cleared}
 use Rattle.dvg_log.specs.Log.{◌⟼◌, Log, Throughout, ram, low_byte, meets, history, open_run, free_half, life, published, publication, at_zero}
 use Rattle.dvg_log.specs.Legal.{IsWanted, IsFetch, Fits, IsLegal}
 use Rattle.dvg_log.specs.Headline.{IsShown, IsNoLater, NoFault, DrewPublished, IsNoOlder, fetch_count}

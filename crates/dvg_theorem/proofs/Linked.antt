@@ -7,8 +7,8 @@ use Rattle.dvg_gen.specs.Told.{Told, Fed, Newest, goes_on, grown, Leaves, new, s
 use Rattle.dvg_gen.proofs.Standing.{open_goes}
 use Rattle.dvg_gen.proofs.Same.{adds_same, leaves_same}
 use Rattle.dvg_gen.proofs.Replies.{more_goes, drew_finished, fails_shut, wants_open}
-use Rattle.dvg_log.specs.Events.{Fetch, ResetGen, ResetAll}
-use Rattle.dvg_log.specs.Entries.{Started, Fetched, Done, Broke}
+use Rattle.dvg_log.specs.declared.event.Event.TheVariants.{Fetch, ResetGen, ResetAll}
+use Rattle.dvg_log.specs.declared.entry.Entry.TheVariants.{Started, Fetched, Done, Broke}
 use Rattle.dvg_gen.specs.Bytes.{word_of}
 use Rattle.dvg_log.specs.Log.{◌⟼◌, Log, meets, history, open_run}
 use Rattle.dvg_log.specs.Legal.{IsWanted, IsFetch, IsLegal}

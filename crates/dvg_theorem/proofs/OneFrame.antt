@@ -13,8 +13,10 @@ use Rattle.dvg_gen.proofs.Inside.{run_in_range}
 use Rattle.dvg_gen.proofs.Replies.{drew_finished}
 use Rattle.dvg_frame.specs.declared.op.OpKind.{OpKind}
 use Rattle.dvg_frame.specs.Layout.{laid}
-use Rattle.dvg_log.specs.Events.{Happening, Fetch}
-use Rattle.dvg_log.specs.Entries.{Shown, Fetched, Done}
+use Rattle.dvg_log.specs.Events.{Happening}
+use Rattle.dvg_log.specs.declared.event.Event.TheVariants.{Fetch}
+use Rattle.dvg_log.specs.Entries.{Shown}
+use Rattle.dvg_log.specs.declared.entry.Entry.TheVariants.{Fetched, Done}
 use Rattle.dvg_log.specs.Log.{◌⟼◌, Log, ram, history, open_run}
 use Rattle.dvg_log.specs.Legal.{Always, IsWanted, Fits, IsLegal}
 use Rattle.dvg_log.specs.Headline.{IsShown}

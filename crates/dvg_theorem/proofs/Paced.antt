@@ -4,7 +4,8 @@ use Rattle.dvg_gen.specs.declared.stroke.Stroke.{Stroke}
 use Rattle.dvg_frame.specs.declared.op.OpKind.{OpKind}
 use Rattle.dvg_frame.specs.Picture.{IsPicture}
 use Rattle.dvg_log.specs.Events.{Happening}
-use Rattle.dvg_log.specs.Entries.{Shown, Low, Fetched, Done, Broke}
+use Rattle.dvg_log.specs.Entries.{Shown}
+use Rattle.dvg_log.specs.declared.entry.Entry.TheVariants.{Low, Fetched, Done, Broke}
 use Rattle.dvg_log.specs.Headline.{IsShown, fetch_count}
 use Rattle.dvg_log.specs.Log.{Log, low_byte, open_run}
 

@@ -31,8 +31,8 @@ use Rattle.dvg_driver.specs.Script.{Did, IsWhole}
 use Rattle.dvg_driver.specs.Place as place
 use Rattle.dvg_driver.specs.Place.{next_place, place_of_life, with_left, after_write}
 use Rattle.dvg_driver.specs.Stands.{Tells}
-use Rattle.dvg_log.specs.Events.{Offer, Redraw, Tick, Strobe, Fetch}
-use Rattle.dvg_log.specs.Entries.{Offered, Busy, NothingPublished, Acted, Started, NoStrobe, Low, Fetched, Done, Still}
+use Rattle.dvg_log.specs.declared.event.Event.TheVariants.{Offer, Redraw, Tick, Strobe, Fetch}
+use Rattle.dvg_log.specs.declared.entry.Entry.TheVariants.{Offered, Busy, NothingPublished, Acted, Started, NoStrobe, Low, Fetched, Done, Still}
 use Rattle.dvg_log.specs.Log.{Line, ◌⟼◌, Log, ram, low_byte, history, open_run, life, IsBeingDrawn}
 use Rattle.dvg_theorem.proofs.Bytes.{read}
 use Rattle.dvg_log.specs.Legal.{IsLegal}

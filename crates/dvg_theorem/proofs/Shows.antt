@@ -15,8 +15,10 @@ use Rattle.dvg_driver.specs.declared.action.Action.TheVariants.{Peek, Wrote, Rea
 use Rattle.dvg_driver.specs.Script
 use Rattle.dvg_driver.specs.Script.{Did, IsWhole, frame_writes}
 use Rattle.dvg_driver.specs.Place.{Place, Start, Booting, Resting, Writing, Waiting, Sending, next_place, place_of_life, after_write, with_left}
-use Rattle.dvg_log.specs.Events.{Happening, Offer, Tick, ResetAll}
-use Rattle.dvg_log.specs.Entries.{Shown, Offered, Acted, Done}
+use Rattle.dvg_log.specs.Events.{Happening}
+use Rattle.dvg_log.specs.declared.event.Event.TheVariants.{Offer, Tick, ResetAll}
+use Rattle.dvg_log.specs.Entries.{Shown}
+use Rattle.dvg_log.specs.declared.entry.Entry.TheVariants.{Offered, Acted, Done}
 use Rattle.dvg_log.specs.Log.{Line, ◌⟼◌, Log, Throughout, ram, open_run, free_half, life, before_flip, offered, published, publication, has_fetched, at_zero}
 use Rattle.dvg_theorem.proofs.Bytes.{byte}
 use Rattle.dvg_log.specs.Headline.{IsShown, IsNoLater}

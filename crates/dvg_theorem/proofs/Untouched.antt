@@ -10,8 +10,10 @@ use Rattle.dvg_gen.proofs.Same.{leaves_same}
 use Rattle.dvg_gen.proofs.Standing.{open_goes}
 use Rattle.dvg_frame.specs.Picture.{IsPicture}
 use Rattle.dvg_driver.specs.declared.action.Action.TheVariants.{Wrote}
-use Rattle.dvg_log.specs.Events.{Happening, Fetch, ResetGen, ResetAll}
-use Rattle.dvg_log.specs.Entries.{Shown, Acted, Started, Fetched, Done, Broke}
+use Rattle.dvg_log.specs.Events.{Happening}
+use Rattle.dvg_log.specs.declared.event.Event.TheVariants.{Fetch, ResetGen, ResetAll}
+use Rattle.dvg_log.specs.Entries.{Shown}
+use Rattle.dvg_log.specs.declared.entry.Entry.TheVariants.{Acted, Started, Fetched, Done, Broke}
 use Rattle.dvg_log.specs.Log.{◌⟼◌, Log, ram, history, open_run}
 use Rattle.dvg_log.specs.Legal.{Always, Fits, IsLegal}
 use Rattle.dvg_theorem.specs.Fetches.{IsInMemory}

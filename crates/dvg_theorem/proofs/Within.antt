@@ -5,8 +5,10 @@ use Rattle.dvg_gen.specs.declared.stroke.Stroke.{Stroke}
 use Rattle.dvg_frame.specs.declared.op.OpKind.{OpKind}
 use Rattle.dvg_frame.proofs.Bounded.{some_picture}
 use Rattle.dvg_driver.specs.Place.{Place}
-use Rattle.dvg_log.specs.Events.{Happening, Fetch}
-use Rattle.dvg_log.specs.Entries.{Shown, Low, Fetched, Done, Broke, Still}
+use Rattle.dvg_log.specs.Events.{Happening}
+use Rattle.dvg_log.specs.declared.event.Event.TheVariants.{Fetch}
+use Rattle.dvg_log.specs.Entries.{Shown}
+use Rattle.dvg_log.specs.declared.entry.Entry.TheVariants.{Low, Fetched, Done, Broke, Still}
 use Rattle.dvg_log.specs.Log.{◌⟼◌, Log, Throughout, open_run, published}
 use Rattle.dvg_log.specs.Legal.{Fits, IsLegal}
 use Rattle.dvg_theorem.specs.Fetches.{WithinBound}

@@ -7,8 +7,10 @@ use Rattle.dvg_gen.specs.Bytes.{Whole}
 use Rattle.dvg_gen.specs.Run.{fate, wanted}
 use Rattle.dvg_driver.specs.declared.action.Action.{Action}
 use Rattle.dvg_driver.specs.declared.action.Action.TheVariants.{Peek, Wrote, Read, Sent, Idle}
-use Rattle.dvg_log.specs.Events.{Happening, Tick, Fetch, ResetGen, ResetAll}
-use Rattle.dvg_log.specs.Entries.{Shown, Acted, Started, Low, Fetched, Done, Broke}
+use Rattle.dvg_log.specs.Events.{Happening}
+use Rattle.dvg_log.specs.declared.event.Event.TheVariants.{Tick, Fetch, ResetGen, ResetAll}
+use Rattle.dvg_log.specs.Entries.{Shown}
+use Rattle.dvg_log.specs.declared.entry.Entry.TheVariants.{Acted, Started, Low, Fetched, Done, Broke}
 use Rattle.dvg_log.specs.Log.{◌⟼◌, Log, Throughout, ram, waiting, low_byte, meets, history, open_run, published}
 use Rattle.dvg_log.specs.Legal.{Always, IsWanted, Fits, IsLegal}
 use Rattle.dvg_theorem.specs.Fetches.{IsInMemory, IsPaired, KeepsNext}

@@ -8,8 +8,10 @@ use Rattle.dvg_gen.specs.Position.{IsStroke}
 use Rattle.dvg_frame.specs.declared.op.OpKind.{OpKind}
 use Rattle.dvg_frame.specs.Layout.{laid}
 use Rattle.dvg_frame.specs.Picture.{IsBound}
-use Rattle.dvg_log.specs.Events.{Happening, Fetch}
-use Rattle.dvg_log.specs.Entries.{Shown, Acted, Low, Fetched, Done, Broke}
+use Rattle.dvg_log.specs.Events.{Happening}
+use Rattle.dvg_log.specs.declared.event.Event.TheVariants.{Fetch}
+use Rattle.dvg_log.specs.Entries.{Shown}
+use Rattle.dvg_log.specs.declared.entry.Entry.TheVariants.{Acted, Low, Fetched, Done, Broke}
 use Rattle.dvg_log.specs.Log.{◌⟼◌, Log, IsBeingDrawn, ram, waiting, low_byte, meets, open_run, history}
 use Rattle.dvg_log.specs.Headline.{IsShown, fetch_count}
 use Rattle.dvg_log.specs.Legal.{IsWanted}
