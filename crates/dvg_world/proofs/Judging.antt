@@ -8,13 +8,13 @@ use Rattle.std.proofs.Math.ListN.{drop_of_length-le, get_or-map}
 use Rattle.dvg_mem.specs.declared.half.Half.{Half}
 use Rattle.dvg_mem.specs.Areas.{IsInHalf}
 use Rattle.dvg_driver.specs.declared.action.Action.TheVariants.{Wrote}
-use Rattle.dvg_log.specs.declared.entry.Entry.{Entry}
 use Rattle.dvg_world.specs.declared.judge.Drawing.{Drawing}
 use Rattle.dvg_world.specs.declared.judge.Drawing.TheVariants.{Nothing, Begun, Within}
 use Rattle.dvg_world.specs.declared.judge.Judge.{Judge}
-use Rattle.dvg_log.specs.declared.event.Event.{Event}
-use Rattle.dvg_log.specs.Events.{Happening, happening_of, ResetGen, ResetAll}
-use Rattle.dvg_log.specs.Entries.{Shown, shown_of, Acted, Started}
+use Rattle.dvg_log.specs.Events.{Happening, OwnEvent, happening_of}
+use Rattle.dvg_log.specs.declared.event.Event.TheVariants.{ResetGen, ResetAll}
+use Rattle.dvg_log.specs.Entries.{Shown, OwnEntry, shown_of}
+use Rattle.dvg_log.specs.declared.entry.Entry.TheVariants.{Acted, Started}
 use Rattle.dvg_log.specs.Headline.{SparesDrawn}
 use Rattle.dvg_log.specs.Log.{◌⟼◌, Line, Log, Throughout, open_run, IsBeingDrawn}
 use Rattle.dvg_log.specs.Legal.{IsLegal}
@@ -107,11 +107,11 @@ zip-append [] (y ∷ ys) zs = refl
 zip-append (x ∷ xs) [] zs = refl
 zip-append (x ∷ xs) (y ∷ ys) zs = ap (λ pairs. (x, y) ∷ pairs) (zip-append xs ys zs)
 
-abbrev line_of : {A : Type 0} → Happening × Entry A → Line
+abbrev line_of : {A : Type 0} → Happening × OwnEntry A → Line
 line_of line = line.0 ⟼ shown_of line.1
 
 -- some entries more are some lines more
-log_of-append : {A : Type 0} (events : List Happening) (entries more : List (Entry A))
+log_of-append : {A : Type 0} (events : List Happening) (entries more : List (OwnEntry A))
     → log_of events (entries ++ more) ≡ reverse (map line_of (zip (drop (length entries) events) more)) ++ log_of events entries
 log_of-append events entries more =
     ap (λ pairs. reverse (map line_of pairs)) (zip-append events entries more)
@@ -119,7 +119,7 @@ log_of-append events entries more =
     ∙ reverse-append (map line_of (zip events entries)) (map line_of (zip (drop (length entries) events) more)))
 
 -- what holds behind as many lines: what is drawn, and that none is torn
-pub record IsJudged {A : Type 0} (events : List Happening) (entries : List (Entry A)) (n : ℕ) (judge : Judge) : Type 0 where
+pub record IsJudged {A : Type 0} (events : List Happening) (entries : List (OwnEntry A)) (n : ℕ) (judge : Judge) : Type 0 where
   pub stands : StandsAfter judge (log_of events (take n entries))
   pub whole : Throughout IsUntorn (log_of events (take n entries))
   pub count : length (log_of events (take n entries)) ≡ n
@@ -128,7 +128,7 @@ pub record IsJudged {A : Type 0} (events : List Happening) (entries : List (Entr
 pub nothing_open : FitsRun Nothing None
 nothing_open = (λ e. cc, λ half within. let e = within.fetches in absurd (cc))
 
-pub none_judged : {A : Type 0} (events : List Happening) (entries : List (Entry A)) (judge : Judge) → StandsAfter judge [] → IsJudged events entries 0 judge
+pub none_judged : {A : Type 0} (events : List Happening) (entries : List (OwnEntry A)) (judge : Judge) → StandsAfter judge [] → IsJudged events entries 0 judge
 none_judged {A} events entries judge stands = record {
   stands = subst (StandsAfter judge) (sym (log_of-none A events)) stands;
   whole = subst (Throughout IsUntorn) (sym (log_of-none A events)) tt;
@@ -136,7 +136,7 @@ none_judged {A} events entries judge stands = record {
 }
 
 -- one line more
-module _ {A : Type 0} (events : List (Event A)) (entries : List (Entry A)) (n : ℕ) (event : Event A) (entry : Entry A)
+module _ {A : Type 0} (events : List (OwnEvent A)) (entries : List (OwnEntry A)) (n : ℕ) (event : OwnEvent A) (entry : OwnEntry A)
     (inside : n < min (length events) (length entries)) (is_event : event ≡ get_or events n event) (is_entry : entry ≡ get_or entries n entry) where
   abbrev happenings : List Happening
   happenings = map happening_of events
@@ -191,7 +191,7 @@ no_zip : {A B : Type 0} (xs : List A) → zip {X = B} xs [] ≡ []
 no_zip [] = refl
 no_zip (x ∷ xs) = refl
 
-pub all_judged : {A : Type 0} (given : List (Event A)) (entries : List (Entry A)) {n : ℕ} {judge : Judge} → n ≡ min (length given) (length entries) → IsJudged (map happening_of given) entries n judge
+pub all_judged : {A : Type 0} (given : List (OwnEvent A)) (entries : List (OwnEntry A)) {n : ℕ} {judge : Judge} → n ≡ min (length given) (length entries) → IsJudged (map happening_of given) entries n judge
     → Throughout IsUntorn (log_of (map happening_of given) entries)
 all_judged given entries {n} is_least judged =
     let events = map happening_of given in

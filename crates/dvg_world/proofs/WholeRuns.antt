@@ -3,9 +3,9 @@ use Rattle.std.proofs.Common.{◌≡◌, ℕ, ◌+◌, ◌<◌, List, [], ◌∷
 use Rattle.std.proofs.lemmas.List.{reverse-append, map-append}
 use Rattle.std.proofs.lemmas.Option.{get_or_from_slice_get, slice_get-get_or}
 use Rattle.std.specs.List.{zip}
-use Rattle.dvg_log.specs.declared.entry.Entry.{Entry}
-use Rattle.dvg_log.specs.Events.{Happening, Tick}
-use Rattle.dvg_log.specs.Entries.{shown_of}
+use Rattle.dvg_log.specs.Events.{Happening}
+use Rattle.dvg_log.specs.declared.event.Event.TheVariants.{Tick}
+use Rattle.dvg_log.specs.Entries.{OwnEntry, shown_of}
 use Rattle.dvg_log.specs.Log.{◌⟼◌}
 use Rattle.dvg_log.specs.Legal.{IsLegal}
 use Rattle.dvg_world.specs.Runs.{log_of, IsStop}
@@ -20,7 +20,7 @@ zip-more (a ∷ b ∷ xs) [] x y inside item = ap (λ z. (z, y) ∷ []) (sym ite
 zip-more (a ∷ xs) (b ∷ ys) x y inside item = ap (λ pairs. (a, b) ∷ pairs) (zip-more xs ys x y (le_of_suc-le-suc inside) item)
 
 -- one entry more is one line more
-pub log_of-more : {A : Type 0} (events : List Happening) (entries : List (Entry A)) (event : Happening) (entry : Entry A) → length entries < length events → event ≡ get_or events (length entries) event
+pub log_of-more : {A : Type 0} (events : List Happening) (entries : List (OwnEntry A)) (event : Happening) (entry : OwnEntry A) → length entries < length events → event ≡ get_or events (length entries) event
     → (event ⟼ shown_of entry) ∷ log_of events entries ≡ log_of events (entries ++ entry ∷ [])
 log_of-more events entries event entry inside item =
     sym (ap (λ pairs. reverse (map (λ line. line.0 ⟼ shown_of line.1) pairs)) (zip-more events entries event entry inside item)
@@ -33,17 +33,17 @@ log_of-none A [] = refl
 log_of-none A (event ∷ events) = refl
 
 -- what holds of a run so far: the world stands after the log, each event before number n has its entry, and there is room for all
-pub record IsSoFar {A : Type 0} (R image : List ℕ) (events : List Happening) (entries : Vec (Entry A) A) (n : ℕ) (world : State) : Type 0 where
+pub record IsSoFar {A : Type 0} (R image : List ℕ) (events : List Happening) (entries : Vec (OwnEntry A) A) (n : ℕ) (world : State) : Type 0 where
   pub after : WorldAfter R image (log_of events entries.items) world
   pub count : length entries.items ≡ n
   pub len : vec_len entries ≡ n
   pub room : vec_capacity entries ≡ length events
 
-pub legal_none : {A : Type 0} (R image : List ℕ) (events : List Happening) (entries : Vec (Entry A) A) → entries.items ≡ [] → IsLegal R image [] → IsLegal R image (log_of events entries.items)
+pub legal_none : {A : Type 0} (R image : List ℕ) (events : List Happening) (entries : Vec (OwnEntry A) A) → entries.items ≡ [] → IsLegal R image [] → IsLegal R image (log_of events entries.items)
 legal_none R image events entries none legal =
     subst (λ items. IsLegal R image (log_of events items)) (sym none) (subst (λ log. IsLegal R image log) (sym (log_of-none _ events)) legal)
 
-pub begins_so_far : {A : Type 0} {R image : List ℕ} {events : List Happening} {entries : Vec (Entry A) A} {world : State} → WorldAfter R image [] world → entries.items ≡ [] → vec_len entries ≡ 0
+pub begins_so_far : {A : Type 0} {R image : List ℕ} {events : List Happening} {entries : Vec (OwnEntry A) A} {world : State} → WorldAfter R image [] world → entries.items ≡ [] → vec_len entries ≡ 0
     → vec_capacity entries ≡ length events → IsSoFar R image events entries 0 world
 begins_so_far {R = R} {image = image} {events = events} {world = world} after none len room = record {
   after = subst (λ items. WorldAfter R image (log_of events items) world) (sym none) (subst (λ log. WorldAfter R image log world) (sym (log_of-none _ events)) after);
@@ -56,7 +56,7 @@ begins_so_far {R = R} {image = image} {events = events} {world = world} after no
 at : (events : List Happening) (n : ℕ) → n < length events → slice_get events n ≡ Some (get_or events n Tick)
 at events n inside = slice_get-get_or events n Tick inside
 
-pub one_more : {A : Type 0} {R image : List ℕ} {events : List Happening} {entries entries' : Vec (Entry A) A} {n : ℕ} {world world' : State} (entry : Entry A) → IsSoFar R image events entries n world
+pub one_more : {A : Type 0} {R image : List ℕ} {events : List Happening} {entries entries' : Vec (OwnEntry A) A} {n : ℕ} {world world' : State} (entry : OwnEntry A) → IsSoFar R image events entries n world
     → n < length events → AddsEvent events n world (shown_of entry) world' → entries'.items ≡ entries.items ++ entry ∷ [] → vec_len entries' ≡ vec_len entries + 1 → vec_capacity entries' ≡ vec_capacity entries
     → IsSoFar R image events entries' (n + 1) world'
 one_more {R = R} {image = image} {events = events} {entries = entries} {n = n} {world' = world'} entry so_far inside adds pushed longer same =
@@ -72,7 +72,7 @@ one_more {R = R} {image = image} {events = events} {entries = entries} {n = n} {
       room = same ∙ so_far.room;
     }
 
-pub stops_at : {A : Type 0} {R image : List ℕ} {events : List Happening} {entries : Vec (Entry A) A} {n : ℕ} {world : State} → IsSoFar R image events entries n world → n < length events → WantsMemory events n world
+pub stops_at : {A : Type 0} {R image : List ℕ} {events : List Happening} {entries : Vec (OwnEntry A) A} {n : ℕ} {world : State} → IsSoFar R image events entries n world → n < length events → WantsMemory events n world
     → IsStop R image events (record { entries = entries; event = n })
 stops_at {R = R} {image = image} {events = events} {entries = entries} {n = n} so_far inside wants =
     let event = get_or events n Tick in

@@ -3,7 +3,8 @@ use Rattle.std.specs.Prelude.{◌≡◌, ◌≢◌, ℕ, List, Some, None}
 use Rattle.dvg_gen.specs.Bytes.{Whole}
 use Rattle.dvg_gen.specs.Run.{Visit, Adds, strokes}
 use Rattle.dvg_gen.specs.Told.{Newest, Leaves, wants}
-use Rattle.dvg_log.specs.Events.{Happening, Fetch}
+use Rattle.dvg_log.specs.Events.{Happening}
+use Rattle.dvg_log.specs.declared.event.Event.TheVariants.{Fetch}
 use Rattle.dvg_log.specs.Log.{Log, meets, history}
 
 -- the next fetch of the open run adds a stroke: by the word that it meets at the address that is wanted

@@ -6,7 +6,7 @@ ghost use Rattle.dvg_world.specs.own.Stepping.{AddsEvent, WantsMemory};
 use crate::world::World;
 use dvg_code::OutOfMemory;
 use dvg_frame::{Draft, Op};
-use dvg_log::{Entry, Trace, TraceEvent};
+use dvg_log::{OwnEntry, Trace, TraceEvent};
 use dvg_mem::Store;
 
 // Takes these operations in place of a draft's own.
@@ -25,7 +25,7 @@ pub(crate) fn happen_of<S: Store>(
     number: usize,
     draft: &mut Draft,
     world: &mut World<S>,
-) -> Result<Entry<S::Alloc>, OutOfMemory>
+) -> Result<OwnEntry<S::Alloc>, OutOfMemory>
     requires { number < length trace.now }
     ensures stands { IfOk result (λ entry. AddsEvent trace.now number world.old (shown_of entry) world.new) }
     ensures room { OnErr result (WantsMemory trace.now number world.old) }

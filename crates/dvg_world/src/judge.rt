@@ -2,8 +2,10 @@
 ghost use Rattle.std.specs.Prelude.{◌≡◌, ◌↔◌, ◌∷◌, [], List, ℕ, map, IfSome, IsNone, IsTrue, None, Option, Some};
 ghost use Rattle.dvg_driver.specs.declared.action.Action.TheVariants.{Wrote};
 ghost use Rattle.dvg_gen.specs.declared.stroke.Stroke.{Stroke};
-ghost use Rattle.dvg_log.specs.Entries.{Acted, Cleared, Done, Fetched, Started, shown_of};
-ghost use Rattle.dvg_log.specs.Events.{Fetch, Happening, ResetGen, Strobe, Tick, happening_of};
+ghost use Rattle.dvg_log.specs.Entries.{shown_of};
+ghost use Rattle.dvg_log.specs.declared.entry.Entry.TheVariants.{Acted, Cleared, Done, Fetched, Started};
+ghost use Rattle.dvg_log.specs.Events.{Happening, happening_of};
+ghost use Rattle.dvg_log.specs.declared.event.Event.TheVariants.{Fetch, ResetGen, Strobe, Tick};
 ghost use Rattle.dvg_log.specs.Legal.{IsLegal};
 ghost use Rattle.dvg_log.specs.Log.{Log, Throughout, open_run, ◌⟼◌};
 ghost use Rattle.dvg_world.specs.Runs.{log_of};
@@ -12,7 +14,7 @@ ghost use Rattle.dvg_world.specs.Judging.{FitsRun, StandsAfter};
 ghost use Rattle.dvg_world.specs.own.Leaving.{behind, left_by};
 
 use dvg_driver::Action;
-use dvg_log::{Entry, Event};
+use dvg_log::{Entry, Event, OwnEntry, OwnEvent};
 use dvg_mem::Half;
 use std::alloc::Allocator;
 
@@ -42,7 +44,7 @@ impl Drawing {
     }
 
     // What is left by an event.
-    fn after_event<A: Allocator>(self, event: &Event<A>) -> Drawing
+    fn after_event<A: Allocator>(self, event: &OwnEvent<A>) -> Drawing
         ensures { (run : Option (List (ℕ × ℕ))) → FitsRun self run → FitsRun result (left_by (happening_of event.now) run) }
     {
         match event {
@@ -62,7 +64,7 @@ impl Drawing {
     }
 
     // What is drawn behind an entry.
-    fn after_entry<A: Allocator>(self, entry: &Entry<A>) -> Drawing
+    fn after_entry<A: Allocator>(self, entry: &OwnEntry<A>) -> Drawing
         ensures { (run : Option (List (ℕ × ℕ))) → FitsRun self run → FitsRun result (behind (shown_of entry.now) run) }
     {
         match entry {
@@ -84,7 +86,7 @@ impl Drawing {
     }
 
     // Whether this entry, behind which that is drawn, tears the picture.
-    fn is_torn_by<A: Allocator>(self, entry: &Entry<A>) -> bool
+    fn is_torn_by<A: Allocator>(self, entry: &OwnEntry<A>) -> bool
         ensures { (log : Log) (event : Happening) → FitsRun self (open_run ((event ⟼ shown_of entry.now) ∷ log)) → IsTrue result ↔ IsTorn log event (shown_of entry.now) }
     {
         match entry {
@@ -112,7 +114,7 @@ impl Judge {
     }
 
     /// Is told a line more. Whether that tears a picture.
-    pub fn take<A: Allocator>(&mut self, event: &Event<A>, entry: &Entry<A>) -> bool
+    pub fn take<A: Allocator>(&mut self, event: &OwnEvent<A>, entry: &OwnEntry<A>) -> bool
         ensures stands { (log : Log) → StandsAfter self.old log → StandsAfter self.new ((happening_of event.now ⟼ shown_of entry.now) ∷ log) }
         ensures torn { (log : Log) → StandsAfter self.old log → IsTrue result ↔ IsTorn log (happening_of event.now) (shown_of entry.now) }
     {
@@ -165,7 +167,7 @@ impl Judge {
 /// it; such a reset ends it before its own entry counts. It draws a half where the first word that it fetched is the
 /// one at 000, a jump to a word of that half: from that entry on. No memory is taken, and each entry is looked at
 /// once.
-pub fn first_torn<A: Allocator>(events: &[Event<A>], entries: &[Entry<A>]) -> Option<usize>
+pub fn first_torn<A: Allocator>(events: &[OwnEvent<A>], entries: &[OwnEntry<A>]) -> Option<usize>
     ensures torn { IfSome result (IsFirstTorn (log_of (map happening_of events.now) entries.now)) }
     ensures untorn { IsNone result → Throughout IsUntorn (log_of (map happening_of events.now) entries.now) }
 

@@ -13,7 +13,7 @@ use crate::stopped::Stopped;
 use crate::world::World;
 use dvg_code::OutOfMemory;
 use dvg_frame::Draft;
-use dvg_log::{Entry, Event, Trace};
+use dvg_log::{OwnEntry, OwnEvent, Trace};
 use dvg_mem::{Image, Rom, Store};
 use std::alloc::Allocator;
 
@@ -42,8 +42,8 @@ pub fn run<S: Store>(
     alloc: S::Alloc,
     rom: Rom<S::Alloc>,
     image: &Image<S::Alloc>,
-    events: &[Event<S::Alloc>],
-) -> Result<Vec<Entry<S::Alloc>, S::Alloc>, Stopped<S::Alloc>>
+    events: &[OwnEvent<S::Alloc>],
+) -> Result<Vec<OwnEntry<S::Alloc>, S::Alloc>, Stopped<S::Alloc>>
     // The log is legal: each entry is the one that its event gets over the log before it.
     ensures legal { IsLegal rom image.now (log_by (map happening_of events.now) result) }
 
@@ -66,7 +66,7 @@ pub fn run_trace<S: Store>(
     rom: Rom<S::Alloc>,
     image: &Image<S::Alloc>,
     trace: &Trace<S::Alloc>,
-) -> Result<Vec<Entry<S::Alloc>, S::Alloc>, Stopped<S::Alloc>>
+) -> Result<Vec<OwnEntry<S::Alloc>, S::Alloc>, Stopped<S::Alloc>>
     ensures legal { IsLegal rom image.now (log_by trace.now result) }
     ensures headline { Throughout (KeepsHeadline rom image.now) (log_by trace.now result) }
 
@@ -91,7 +91,7 @@ trait Events<S: Store>: Drop {
         &mut self,
         number: usize,
         world: &mut World<S>,
-    ) -> Result<Entry<S::Alloc>, OutOfMemory>
+    ) -> Result<OwnEntry<S::Alloc>, OutOfMemory>
         requires inside { number < length (told self.old) }
         ensures same { told self.new ≡ told self.old }
         ensures stands { IfOk result (λ entry. AddsEvent (told self.old) number world.old (shown_of entry) world.new) }
@@ -101,7 +101,7 @@ trait Events<S: Store>: Drop {
 // A list of events.
 #[derive(Drop)]
 struct Listed<'a, A: Allocator> {
-    events: &'a [Event<A>],
+    events: &'a [OwnEvent<A>],
 }
 
 impl<'a, S: Store> Events<S> for Listed<'a, S::Alloc> {
@@ -115,7 +115,7 @@ impl<'a, S: Store> Events<S> for Listed<'a, S::Alloc> {
         &mut self,
         number: usize,
         world: &mut World<S>,
-    ) -> Result<Entry<S::Alloc>, OutOfMemory> {
+    ) -> Result<OwnEntry<S::Alloc>, OutOfMemory> {
         world.apply(&self.events[number])
     }
 }
@@ -138,7 +138,7 @@ impl<'a, S: Store> Events<S> for Playing<'a, S::Alloc> {
         &mut self,
         number: usize,
         world: &mut World<S>,
-    ) -> Result<Entry<S::Alloc>, OutOfMemory> {
+    ) -> Result<OwnEntry<S::Alloc>, OutOfMemory> {
         happen_of(self.trace, number, &mut self.draft, world)
     }
 }
@@ -149,7 +149,7 @@ fn run_each<S: Store, E: Events<S>>(
     rom: Rom<S::Alloc>,
     image: &Image<S::Alloc>,
     events: E,
-) -> Result<Vec<Entry<S::Alloc>, S::Alloc>, Stopped<S::Alloc>>
+) -> Result<Vec<OwnEntry<S::Alloc>, S::Alloc>, Stopped<S::Alloc>>
     ensures legal { IsLegal rom image.now (log_by (E.told events) result) }
     ensures whole { IfOk result (λ entries. length entries.items ≡ length (E.told events)) }
     ensures stopped { IfErr result (λ stopped. length stopped.entries.items ≡ stopped.event) }

@@ -1,5 +1,5 @@
 //! Runs that stop early.
-use dvg_log::Entry;
+use dvg_log::OwnEntry;
 use std::alloc::{Allocator, Global};
 use thiserror::Error;
 
@@ -10,7 +10,7 @@ use thiserror::Error;
 #[error("memory was refused at event {event}")]
 pub struct Stopped<A: Allocator = Global> {
     /// The entries of the events before the one at which the run stopped.
-    pub entries: Vec<Entry<A>, A>,
+    pub entries: Vec<OwnEntry<A>, A>,
     /// The number of the event at which the run stopped, counted from 0. It has no entry.
     pub event: usize,
 }

@@ -2,7 +2,8 @@
 ghost use Rattle.std.specs.Prelude.{◌≡◌, ◌≢◌, ◌↔◌, ℕ, List, [], length, IfOk, IsErrOf, IsOk, OnErr, OnOk};
 ghost use Rattle.dvg_driver.specs.Stands.{IsInRam};
 ghost use Rattle.dvg_log.specs.Entries.{shown_of};
-ghost use Rattle.dvg_log.specs.Events.{Offer, Redraw, Tick, Strobe, Fetch, ResetGen, ResetCpu, ResetAll, happening_of};
+ghost use Rattle.dvg_log.specs.Events.{happening_of};
+ghost use Rattle.dvg_log.specs.declared.event.Event.TheVariants.{Offer, Redraw, Tick, Strobe, Fetch, ResetGen, ResetCpu, ResetAll};
 ghost use Rattle.dvg_log.specs.Legal.{IsLegal};
 ghost use Rattle.dvg_log.specs.Log.{Log};
 ghost use Rattle.dvg_world.specs.Standing.{AddsLine, DrawsNow, KeepsHeadlineAfter, WorldAfter};
@@ -13,7 +14,7 @@ use dvg_code::OutOfMemory;
 use dvg_driver::{Action, Driver, DriverFault};
 use dvg_frame::{Checker, Draft};
 use dvg_gen::Generator;
-use dvg_log::{Entry, Event};
+use dvg_log::{Entry, Event, OwnEntry, OwnEvent};
 use dvg_mem::{Image, MemFault, Rom, Store, fetch_byte};
 use std::marker::Model;
 
@@ -120,7 +121,7 @@ impl<S: Store> World<S> {
     ///
     /// An error is want of memory, and then the world is as it was. It comes only for a fetch that completes
     /// a vector with an intensity of at least 1.
-    pub fn apply(&mut self, event: &Event<S::Alloc>) -> Result<Entry<S::Alloc>, OutOfMemory>
+    pub fn apply(&mut self, event: &OwnEvent<S::Alloc>) -> Result<OwnEntry<S::Alloc>, OutOfMemory>
         ensures stands { IfOk result (λ entry. AddsLine self.old (happening_of event.now) (shown_of entry) self.new) }
         ensures headline { IfOk result (λ entry. KeepsHeadlineAfter self.old (happening_of event.now) (shown_of entry)) }
         ensures refused { OnErr result (self.new ≡ self.old) }
@@ -140,7 +141,7 @@ impl<S: Store> World<S> {
     }
 
     /// The driver is handed a draft to show, as by `Event::Offer`.
-    pub fn offer(&mut self, draft: &Draft) -> Entry<S::Alloc>
+    pub fn offer(&mut self, draft: &Draft) -> OwnEntry<S::Alloc>
         ensures stands { AddsLine self.old (Offer draft.now) (shown_of result) self.new }
         ensures headline { KeepsHeadlineAfter self.old (Offer draft.now) (shown_of result) }
     {
@@ -158,7 +159,7 @@ impl<S: Store> World<S> {
 
     /// The driver is asked to have the published frame drawn again, as by `Event::Redraw`.
     #[tactic(auto, using(dvg_theorem::proofs::Headline::draws_a_half))]
-    pub fn redraw(&mut self) -> Entry<S::Alloc>
+    pub fn redraw(&mut self) -> OwnEntry<S::Alloc>
         ensures stands { AddsLine self.old Redraw (shown_of result) self.new }
         ensures headline { KeepsHeadlineAfter self.old Redraw (shown_of result) }
     {
@@ -170,7 +171,7 @@ impl<S: Store> World<S> {
     }
 
     /// The driver does one action, as by `Event::Tick`.
-    pub fn tick(&mut self) -> Entry<S::Alloc>
+    pub fn tick(&mut self) -> OwnEntry<S::Alloc>
         ensures stands { AddsLine self.old Tick (shown_of result) self.new }
         ensures headline { KeepsHeadlineAfter self.old Tick (shown_of result) }
     {
@@ -193,7 +194,7 @@ impl<S: Store> World<S> {
     }
 
     /// A strobe reaches the generator, if the driver has sent one, as by `Event::Strobe`.
-    pub fn strobe(&mut self) -> Entry<S::Alloc>
+    pub fn strobe(&mut self) -> OwnEntry<S::Alloc>
         ensures stands { AddsLine self.old Strobe (shown_of result) self.new }
         ensures headline { KeepsHeadlineAfter self.old Strobe (shown_of result) }
     {
@@ -206,7 +207,7 @@ impl<S: Store> World<S> {
 
     /// The generator fetches one byte, as by `Event::Fetch`. This is the one event that takes memory, for the stroke of
     /// a vector with an intensity of at least 1. An error is want of it, and then the world is as it was.
-    pub fn fetch(&mut self) -> Result<Entry<S::Alloc>, OutOfMemory>
+    pub fn fetch(&mut self) -> Result<OwnEntry<S::Alloc>, OutOfMemory>
         ensures stands { IfOk result (λ entry. AddsLine self.old Fetch (shown_of entry) self.new) }
         ensures headline { IfOk result (λ entry. KeepsHeadlineAfter self.old Fetch (shown_of entry)) }
         ensures refused { OnErr result (self.new ≡ self.old) }
@@ -222,7 +223,7 @@ impl<S: Store> World<S> {
     }
 
     /// The generator is reset, as by `Event::ResetGen`.
-    pub fn reset_generator(&mut self) -> Entry<S::Alloc>
+    pub fn reset_generator(&mut self) -> OwnEntry<S::Alloc>
         ensures stands { AddsLine self.old ResetGen (shown_of result) self.new }
         ensures headline { KeepsHeadlineAfter self.old ResetGen (shown_of result) }
     {
@@ -231,7 +232,7 @@ impl<S: Store> World<S> {
     }
 
     /// The driver is reset, as by `Event::ResetCpu`.
-    pub fn reset_processor(&mut self) -> Entry<S::Alloc>
+    pub fn reset_processor(&mut self) -> OwnEntry<S::Alloc>
         ensures stands { AddsLine self.old ResetCpu (shown_of result) self.new }
         ensures headline { KeepsHeadlineAfter self.old ResetCpu (shown_of result) }
     {
@@ -240,7 +241,7 @@ impl<S: Store> World<S> {
     }
 
     /// The whole system is reset, and the RAM holds this image, as by `Event::ResetAll`.
-    pub fn reset_all(&mut self, image: &Image<S::Alloc>) -> Entry<S::Alloc>
+    pub fn reset_all(&mut self, image: &Image<S::Alloc>) -> OwnEntry<S::Alloc>
         ensures stands { AddsLine self.old (ResetAll image.now) (shown_of result) self.new }
         ensures headline { KeepsHeadlineAfter self.old (ResetAll image.now) (shown_of result) }
     {

@@ -1,7 +1,9 @@
 -- What a line leaves of a log's open run.
 use Rattle.std.specs.Prelude.{◌∷◌, [], ℕ, List, Option, Some, None, option_map}
-use Rattle.dvg_log.specs.Entries.{Shown, Started, Fetched, Done, Broke}
-use Rattle.dvg_log.specs.Events.{Happening, ResetGen, ResetAll}
+use Rattle.dvg_log.specs.Entries.{Shown}
+use Rattle.dvg_log.specs.declared.entry.Entry.TheVariants.{Started, Fetched, Done, Broke}
+use Rattle.dvg_log.specs.Events.{Happening}
+use Rattle.dvg_log.specs.declared.event.Event.TheVariants.{ResetGen, ResetAll}
 
 -- the run that an event leaves
 abbrev pub left_by : Happening → Option (List (ℕ × ℕ)) → Option (List (ℕ × ℕ))

@@ -1,6 +1,6 @@
 use Rattle.std.proofs.Common.{true≢false, sym}
 use Rattle.dvg_driver.specs.declared.action.Action.TheVariants.{Wrote}
-use Rattle.dvg_log.specs.Entries.{Acted}
+use Rattle.dvg_log.specs.declared.entry.Entry.TheVariants.{Acted}
 use Rattle.dvg_world.proofs.Judging.{none_torn}
 use Rattle.dvg_world.proofs.judge.Drawing.is_torn_at.Goals as goal
 

@@ -1,4 +1,4 @@
-use Rattle.dvg_log.specs.Events.{Tick}
+use Rattle.dvg_log.specs.declared.event.Event.TheVariants.{Tick}
 use Rattle.dvg_world.proofs.judge.Judge.wrote.Goals as goal
 
 pub returns-clause-torn : goal.returns-clause-torn

@@ -1,7 +1,8 @@
 use Rattle.std.proofs.Common.{refl, sym, ap, ◌∙◌, subst}
 use Rattle.std.specs.Prelude.{is_some}
-use Rattle.dvg_log.specs.Events.{Fetch}
-use Rattle.dvg_log.specs.Entries.{Still, shown_of}
+use Rattle.dvg_log.specs.declared.event.Event.TheVariants.{Fetch}
+use Rattle.dvg_log.specs.Entries.{shown_of}
+use Rattle.dvg_log.specs.declared.entry.Entry.TheVariants.{Still}
 use Rattle.dvg_world.specs.Standing.{DrawsNow}
 use Rattle.dvg_world.proofs.Standing.{adds_between, keeps_headline, fetch_still, fetch_takes, draws_now, open_of, on_err}
 use Rattle.dvg_world.proofs.world.World.fetch.Goals as goal

@@ -1,7 +1,8 @@
 use Rattle.std.proofs.Common.{refl, ap}
 use Rattle.std.specs.Prelude.{is_ok}
-use Rattle.dvg_log.specs.Events.{Offer}
-use Rattle.dvg_log.specs.Entries.{Offered, Refused, Busy, shown_of}
+use Rattle.dvg_log.specs.declared.event.Event.TheVariants.{Offer}
+use Rattle.dvg_log.specs.Entries.{shown_of}
+use Rattle.dvg_log.specs.declared.entry.Entry.TheVariants.{Offered, Refused, Busy}
 use Rattle.dvg_world.proofs.Standing.{adds_between, keeps_headline, offer_refused, offer_taken, offer_busy, not_ok}
 use Rattle.dvg_world.proofs.world.World.offer.Goals as goal
 use Rattle.dvg_world.proofs.world.World.offer.Goals.{in-Ok-offer_checked, in-Err-offer_checked}

@@ -1,6 +1,6 @@
 use Rattle.std.proofs.Common.{refl}
-use Rattle.dvg_log.specs.Events.{ResetAll}
-use Rattle.dvg_log.specs.Entries.{Cleared}
+use Rattle.dvg_log.specs.declared.event.Event.TheVariants.{ResetAll}
+use Rattle.dvg_log.specs.declared.entry.Entry.TheVariants.{Cleared}
 use Rattle.dvg_world.proofs.Standing.{adds_between, keeps_headline, reset_all}
 use Rattle.dvg_world.proofs.world.World.reset_all.Goals as goal
 

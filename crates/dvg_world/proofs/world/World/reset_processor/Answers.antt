@@ -1,6 +1,6 @@
 use Rattle.std.proofs.Common.{refl}
-use Rattle.dvg_log.specs.Events.{ResetCpu}
-use Rattle.dvg_log.specs.Entries.{Cleared}
+use Rattle.dvg_log.specs.declared.event.Event.TheVariants.{ResetCpu}
+use Rattle.dvg_log.specs.declared.entry.Entry.TheVariants.{Cleared}
 use Rattle.dvg_world.proofs.Standing.{adds_between, keeps_headline, reset_cpu}
 use Rattle.dvg_world.proofs.world.World.reset_processor.Goals as goal
 

@@ -1,5 +1,5 @@
-use Rattle.dvg_log.specs.Events.{Tick}
-use Rattle.dvg_log.specs.Entries.{Acted}
+use Rattle.dvg_log.specs.declared.event.Event.TheVariants.{Tick}
+use Rattle.dvg_log.specs.declared.entry.Entry.TheVariants.{Acted}
 use Rattle.dvg_world.proofs.Standing.{adds_between, keeps_headline, ticks}
 use Rattle.dvg_world.proofs.world.World.tick.Goals as goal
 
