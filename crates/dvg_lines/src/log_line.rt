@@ -7,7 +7,7 @@ ghost use Rattle.dvg_lines.specs.Shows.{action_parts, entry_line, entry_parts, s
 use crate::line::Line;
 use dvg_driver::Action;
 use dvg_gen::Stroke;
-use dvg_log::Entry;
+use dvg_log::{Entry, OwnEntry};
 use std::alloc::Allocator;
 
 impl Line {
@@ -41,7 +41,7 @@ impl Line {
     }
 
     // Appends what an event led to.
-    fn entry<A: Allocator>(&mut self, entry: &Entry<A>)
+    fn entry<A: Allocator>(&mut self, entry: &OwnEntry<A>)
         requires { length self.old + 36 ≤ 64 }
         ensures text { self.new ≡ self.old ++ spaced (entry_parts (shown_of entry.now)) }
         ensures grew { length self.new ≤ length self.old + 36 }
@@ -77,7 +77,7 @@ impl Line {
     }
 
     /// Becomes the line that `play --all` writes of an event's entry.
-    pub fn become_entry<A: Allocator>(&mut self, number: usize, entry: &Entry<A>)
+    pub fn become_entry<A: Allocator>(&mut self, number: usize, entry: &OwnEntry<A>)
         ensures { self.new ≡ entry_line number (shown_of entry.now) }
     {
         self.become_number(number);
