@@ -2,7 +2,8 @@
 use Rattle.std.proofs.Common.{◌≡◌, ◌<◌, ◌≤◌, ℕ, List, [], ◌∷◌, Some, ◌⊎◌, inl, inr, length, replicate, get_or, refl, sym, ap, subst, ◌∙◌, arith, codes, decimal}
 use Rattle.std.proofs.lemmas.Fmt.{decimal_injective}
 use Rattle.std.proofs.lemmas.List.{length-replicate}
-use Rattle.dvg_log.specs.Events.{Happening, Offer, Redraw, Tick, Strobe, Fetch, ResetGen, ResetCpu, ResetAll}
+use Rattle.dvg_log.specs.Events.{Happening}
+use Rattle.dvg_log.specs.declared.event.Event.TheVariants.{Offer, Redraw, Tick, Strobe, Fetch, ResetGen, ResetCpu, ResetAll}
 use Rattle.std.proofs.lemmas.Int.Digits.{digits_value-lt}
 use Rattle.dvg_text.specs.EventLines.{TakesCount, IsNamed}
 use Rattle.dvg_text.specs.Texts.{IsHex}
@@ -150,9 +151,9 @@ one_events p q = one_row (row p) (row q)
 -- and one event at least
 some_row : {fill : ℕ → List ℕ} {more : List Happening} {ps : List (List ℕ)} → Row fill more ps → 1 ≤ length more
 some_row redraws = omega arith
-some_row (ticks {n = n} c) = let (some, most) = count_bounds c in omega (arith, length-replicate n Tick)
-some_row (strobes {n = n} c) = let (some, most) = count_bounds c in omega (arith, length-replicate n Strobe)
-some_row (fetches {n = n} c) = let (some, most) = count_bounds c in omega (arith, length-replicate n Fetch)
+some_row (ticks {n = n} c) = let (some, most) = count_bounds c in omega (arith, length-replicate {A = Happening} n Tick)
+some_row (strobes {n = n} c) = let (some, most) = count_bounds c in omega (arith, length-replicate {A = Happening} n Strobe)
+some_row (fetches {n = n} c) = let (some, most) = count_bounds c in omega (arith, length-replicate {A = Happening} n Fetch)
 some_row resets_gen = omega arith
 some_row resets_cpu = omega arith
 some_row (resets_all h) = omega arith

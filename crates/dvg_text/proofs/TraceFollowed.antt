@@ -2,7 +2,8 @@
 use Rattle.std.proofs.Common.{◌≡◌, ◌≤◌, ◌<◌, ◌+◌, ℕ, List, [], ◌∷◌, ◌++◌, length, refl, sym, ap, subst, ◌∙◌, arith, length-append, codes, true, false, Option, Some, None, IfOk, IfErr, OnOk, Result, Ok, Err, inl, inr}
 use Rattle.std.proofs.lemmas.List.Elements.{All-append, All-nil}
 use Rattle.dvg_frame.specs.declared.op.OpKind.{OpKind}
-use Rattle.dvg_log.specs.Events.{Happening, Offer}
+use Rattle.dvg_log.specs.Events.{Happening}
+use Rattle.dvg_log.specs.declared.event.Event.TheVariants.{Offer}
 use Rattle.dvg_text.specs.declared.fault.TraceFault.{TraceFault}
 use Rattle.dvg_text.specs.declared.fault.TraceFault.TheVariants as of_trace
 use Rattle.dvg_text.specs.declared.trace_following.Following.{Following}

@@ -1,6 +1,7 @@
 -- The events of a line, as a reader has them.
 use Rattle.std.specs.Prelude.{◌≡◌, ℕ, List, [], ◌∷◌, replicate, codes}
-use Rattle.dvg_log.specs.Events.{Happening, Redraw, Tick, Strobe, Fetch, ResetGen, ResetCpu, ResetAll, happening_of}
+use Rattle.dvg_log.specs.Events.{Happening, happening_of}
+use Rattle.dvg_log.specs.declared.event.Event.TheVariants.{Redraw, Tick, Strobe, Fetch, ResetGen, ResetCpu, ResetAll}
 use Rattle.dvg_text.specs.declared.event_line.EventLine.{EventLine}
 use Rattle.dvg_text.specs.declared.event_line.EventLine.TheVariants as told
 

@@ -1,7 +1,8 @@
 -- What the reader of traces answers.
 use Rattle.std.specs.Prelude.{ℕ, ◌+◌, ◌<◌, ◌≤◌, List, ◌∷◌, [], ◌++◌, length, get_or, slice_get, replicate, ◌≡◌, Bool, true, false, Option, Some, None}
 use Rattle.dvg_frame.specs.declared.op.OpKind.{OpKind}
-use Rattle.dvg_log.specs.Events.{Happening, ResetAll}
+use Rattle.dvg_log.specs.Events.{Happening}
+use Rattle.dvg_log.specs.declared.event.Event.TheVariants.{ResetAll}
 use Rattle.dvg_text.specs.declared.fault.TextFault.TheVariants.{Syntax, Full, Many}
 use Rattle.dvg_text.specs.declared.fault.TraceFault.{TraceFault}
 use Rattle.dvg_text.specs.declared.fault.TraceFault.TheVariants.{Text, Memory}

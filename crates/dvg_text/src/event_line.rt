@@ -6,7 +6,7 @@ ghost use Rattle.dvg_text.specs.EventLines.{TakesCount, IsNamed, happenings};
 ghost use Rattle.dvg_text.specs.TraceTexts.{EventParts};
 
 use crate::number::{hex, natural};
-use dvg_log::Event;
+use dvg_log::{Event, OwnEvent};
 use memchr::memchr;
 use std::alloc::Allocator;
 
@@ -17,7 +17,7 @@ const MAX_TIMES: u16 = 9999;
 #[derive(Drop)]
 pub enum EventLine<A: Allocator> {
     /// An event that its name tells whole, so many times in a row.
-    Times(Event<A>, u16),
+    Times(OwnEvent<A>, u16),
     /// One reset of the whole system, behind which each byte of the RAM is this one.
     ResetAll(u8),
 }
@@ -57,7 +57,7 @@ fn with_operand<A: Allocator>(name: &[u8], operand: &[u8]) -> Option<EventLine<A
 }
 
 // The event that this name tells whole.
-fn event_named<A: Allocator>(name: &[u8]) -> Option<Event<A>>
+fn event_named<A: Allocator>(name: &[u8]) -> Option<OwnEvent<A>>
     ensures found { IfSome result (λ event. IsNamed (happening_of event) name.now) }
     ensures only { (event : Happening) → IsNamed event name.now → IsSomeAnd result (λ found. happening_of found ≡ event) }
 {
@@ -79,7 +79,7 @@ fn event_named<A: Allocator>(name: &[u8]) -> Option<Event<A>>
 }
 
 // Whether a count may follow an event's name.
-fn is_counted<A: Allocator>(event: &Event<A>) -> bool
+fn is_counted<A: Allocator>(event: &OwnEvent<A>) -> bool
     ensures { IsTrue result ↔ TakesCount (happening_of event.now) }
 {
     matches!(event, Event::Tick | Event::Strobe | Event::Fetch)

@@ -4,7 +4,8 @@ ghost use Rattle.dvg_frame.specs.declared.op.OpKind.{OpKind};
 ghost use Rattle.dvg_text.specs.EventLines.{happenings};
 ghost use Rattle.dvg_text.specs.OpLines.{IsOpLine};
 ghost use Rattle.dvg_text.specs.TraceGives.{AreResets, GivesTrace, IsHeld, ReadsLine, StopsEvents, StopsLine, StopsOperation, StopsReading, events_read, fault_at, opened_of};
-ghost use Rattle.dvg_log.specs.Events.{ResetAll, happening_of};
+ghost use Rattle.dvg_log.specs.Events.{happening_of};
+ghost use Rattle.dvg_log.specs.declared.event.Event.TheVariants.{ResetAll};
 
 use crate::draft_text::MOST_TEXT_BYTES;
 use crate::event_line::{EventLine, read_event_line};
@@ -15,7 +16,7 @@ use crate::text_lines::{TextLines, is_passed};
 use arrayvec::ArrayVec;
 use dvg_code::OutOfMemory;
 use dvg_frame::Draft;
-use dvg_log::{Event, MOST_EVENTS, Trace};
+use dvg_log::{Event, MOST_EVENTS, OwnEvent, Trace};
 use dvg_mem::{Image, LARGE_ROM_BYTES, MEMORY_BYTES};
 use std::alloc::{Allocator, Global};
 
@@ -224,7 +225,7 @@ pub(crate) fn count<A: Allocator>(told: &EventLine<A>) -> usize
 
 // Adds an event, so many times in a row: itself, and then the same again.
 fn add_times<A: Allocator>(
-    event: Event<A>,
+    event: OwnEvent<A>,
     count: u16,
     events: &mut Trace<A>,
 ) -> Result<(), OutOfMemory>

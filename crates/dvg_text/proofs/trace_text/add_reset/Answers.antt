@@ -1,6 +1,6 @@
 use Rattle.std.proofs.Common.{◌≡◌, ◌<◌, [], ◌∷◌, ◌++◌, Some, length, replicate, slice_get, ap, ◌∙◌, subst, rules}
 use Rattle.std.proofs.lemmas.Option.{slice_get_within}
-use Rattle.dvg_log.specs.Events.{ResetAll}
+use Rattle.dvg_log.specs.declared.event.Event.TheVariants.{ResetAll}
 use Rattle.dvg_text.proofs.TraceMoves.{reset_more, resets_stay_on}
 use Rattle.dvg_text.proofs.trace_text.add_reset.Goals as goal
 

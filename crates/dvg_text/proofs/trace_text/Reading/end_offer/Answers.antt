@@ -1,6 +1,6 @@
 use Rattle.std.proofs.Common.{◌≡◌, ◌<◌, ◌∷◌, ◌++◌, [], None, length, refl, arith, rules}
 use Rattle.std.proofs.lemmas.Grind.{common_steps}
-use Rattle.dvg_log.specs.Events.{Offer}
+use Rattle.dvg_log.specs.declared.event.Event.TheVariants.{Offer}
 use Rattle.dvg_text.specs.TraceGives.{events_read, opened_of}
 use Rattle.dvg_text.proofs.TraceMoves.{end_fits, end_stops, end_taken, end_wants, resets_stay, some_opened}
 use Rattle.dvg_text.proofs.trace_text.Reading.end_offer.Goals as goal
