@@ -1,9 +1,10 @@
 -- The events of a line, as a reader has them.
-use Rattle.std.specs.Prelude.{◌≡◌, ℕ, List, [], ◌∷◌, replicate, codes}
-use Rattle.dvg_log.specs.Events.{Happening, happening_of}
-use Rattle.dvg_log.specs.declared.event.Event.TheVariants.{Redraw, Tick, Strobe, Fetch, ResetGen, ResetCpu, ResetAll}
+use Rattle.std.specs.Prelude.{◌≡◌, ℕ, List, [], replicate, codes}
+use Rattle.std.specs.declared.convert.Infallible.{Infallible}
+use Rattle.dvg_log.specs.declared.event.Event.{Event}
+use Rattle.dvg_log.specs.Events.{Happening, map_event}
+use Rattle.dvg_log.specs.declared.event.Event.TheVariants.{Redraw, Tick, Strobe, Fetch, ResetGen, ResetCpu}
 use Rattle.dvg_text.specs.declared.event_line.EventLine.{EventLine}
-use Rattle.dvg_text.specs.declared.event_line.EventLine.TheVariants as told
 
 -- an event that its name tells whole, and that name
 abbrev pub IsNamed : Happening → List ℕ → Type 0
@@ -22,7 +23,10 @@ TakesCount Strobe = Unit {0}
 TakesCount Fetch = Unit {0}
 TakesCount event = ⊥
 
+-- an event of a line: no offer is among them, and an image has this byte everywhere
+abbrev pub spelled_as : Event Infallible ℕ → Happening
+spelled_as event = map_event (λ none. []) (λ byte. replicate 2048 byte) event
+
 -- the events of a line
-abbrev pub happenings : {A : Type 0} → EventLine A → List Happening
-happenings (told.Times event count) = replicate count (happening_of event)
-happenings (told.ResetAll byte) = ResetAll (replicate 2048 byte) ∷ []
+abbrev pub happenings : EventLine → List Happening
+happenings line = replicate line.count (spelled_as line.event)

@@ -1,29 +1,31 @@
 //! Lines that spell events by themselves.
 ghost use Rattle.std.specs.Prelude.{◌≡◌, ◌↔◌, ℕ, ◌≤◌, List, [], ◌∷◌, decimal, length, IfSome, IsSomeAnd, IsTrue, Some};
-ghost use Rattle.dvg_log.specs.Events.{Happening, happening_of};
+ghost use Rattle.dvg_log.specs.Events.{Happening};
 ghost use Rattle.dvg_text.specs.Texts.{IsHex, parts};
-ghost use Rattle.dvg_text.specs.EventLines.{TakesCount, IsNamed, happenings};
+ghost use Rattle.dvg_text.specs.EventLines.{TakesCount, IsNamed, happenings, spelled_as};
 ghost use Rattle.dvg_text.specs.TraceTexts.{EventParts};
 
 use crate::number::{hex, natural};
-use dvg_log::{Event, OwnEvent};
+use dvg_log::Event;
 use memchr::memchr;
-use std::alloc::Allocator;
+use std::convert::Infallible;
 
 /// The most events of one line.
 const MAX_TIMES: u16 = 9999;
 
-/// The events of a line.
-#[derive(Drop)]
-pub enum EventLine<A: Allocator> {
-    /// An event that its name tells whole, so many times in a row.
-    Times(OwnEvent<A>, u16),
-    /// One reset of the whole system, behind which each byte of the RAM is this one.
-    ResetAll(u8),
+/// An event that a line spells by itself. That is no offer, and a reset of the whole system has the byte that each byte
+/// of the RAM is after it.
+pub(crate) type SpelledEvent = Event<Infallible, u8>;
+
+/// The events of a line: one event, so many times in a row.
+#[derive(Clone, Copy)]
+pub struct EventLine {
+    pub(crate) event: SpelledEvent,
+    pub(crate) count: u16,
 }
 
 /// The events that a line spells by itself. None exactly where it spells none.
-pub fn read_event_line<A: Allocator>(line: &[u8]) -> Option<EventLine<A>>
+pub fn read_event_line(line: &[u8]) -> Option<EventLine>
     ensures found { IfSome result (λ told. EventParts (happenings told) (parts line.now)) }
     ensures only { (events : List Happening) → EventParts events (parts line.now) → IsSomeAnd result (λ told. happenings told ≡ events) }
 {
@@ -34,32 +36,41 @@ pub fn read_event_line<A: Allocator>(line: &[u8]) -> Option<EventLine<A>>
 }
 
 // The event of a name alone.
-fn once<A: Allocator>(name: &[u8]) -> Option<EventLine<A>>
+fn once(name: &[u8]) -> Option<EventLine>
     ensures found { IfSome result (λ told. EventParts (happenings told) (name.now ∷ [])) }
     ensures only { (events : List Happening) → EventParts events (name.now ∷ []) → IsSomeAnd result (λ told. happenings told ≡ events) }
 {
-    Some(EventLine::Times(event_named(name)?, 1))
+    Some(EventLine {
+        event: event_named(name)?,
+        count: 1,
+    })
 }
 
 // The events of a name and its operand.
-fn with_operand<A: Allocator>(name: &[u8], operand: &[u8]) -> Option<EventLine<A>>
+fn with_operand(name: &[u8], operand: &[u8]) -> Option<EventLine>
     ensures found { IfSome result (λ told. EventParts (happenings told) (name.now ∷ operand.now ∷ [])) }
     ensures only { (events : List Happening) → EventParts events (name.now ∷ operand.now ∷ []) → IsSomeAnd result (λ told. happenings told ≡ events) }
 {
     if name == b"resetall".as_slice() {
-        return Some(EventLine::ResetAll(byte(operand)?));
+        return Some(EventLine {
+            event: Event::ResetAll(byte(operand)?),
+            count: 1,
+        });
     }
     let event = event_named(name)?;
     if !is_counted(&event) {
         return None;
     }
-    Some(EventLine::Times(event, times(operand)?))
+    Some(EventLine {
+        event,
+        count: times(operand)?,
+    })
 }
 
 // The event that this name tells whole.
-fn event_named<A: Allocator>(name: &[u8]) -> Option<OwnEvent<A>>
-    ensures found { IfSome result (λ event. IsNamed (happening_of event) name.now) }
-    ensures only { (event : Happening) → IsNamed event name.now → IsSomeAnd result (λ found. happening_of found ≡ event) }
+fn event_named(name: &[u8]) -> Option<SpelledEvent>
+    ensures found { IfSome result (λ event. IsNamed (spelled_as event) name.now) }
+    ensures only { (event : Happening) → IsNamed event name.now → IsSomeAnd result (λ found. spelled_as found ≡ event) }
 {
     if name == b"redraw".as_slice() {
         Some(Event::Redraw)
@@ -79,8 +90,8 @@ fn event_named<A: Allocator>(name: &[u8]) -> Option<OwnEvent<A>>
 }
 
 // Whether a count may follow an event's name.
-fn is_counted<A: Allocator>(event: &OwnEvent<A>) -> bool
-    ensures { IsTrue result ↔ TakesCount (happening_of event.now) }
+fn is_counted(event: &SpelledEvent) -> bool
+    ensures { IsTrue result ↔ TakesCount (spelled_as event.now) }
 {
     matches!(event, Event::Tick | Event::Strobe | Event::Fetch)
 }

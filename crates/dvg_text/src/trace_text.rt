@@ -1,14 +1,13 @@
 //! Texts of traces.
 ghost use Rattle.std.specs.Prelude.{◌≡◌, ◌+◌, ◌^◌, ◌<◌, ◌≤◌, ◌∷◌, [], ◌++◌, ℕ, List, codes, length, replicate, IfErr, IfOk, IsFalse, IsTrue, OnOk};
 ghost use Rattle.dvg_frame.specs.declared.op.OpKind.{OpKind};
-ghost use Rattle.dvg_text.specs.EventLines.{happenings};
+ghost use Rattle.dvg_text.specs.EventLines.{happenings, spelled_as};
 ghost use Rattle.dvg_text.specs.OpLines.{IsOpLine};
 ghost use Rattle.dvg_text.specs.TraceGives.{AreResets, GivesTrace, IsHeld, ReadsLine, StopsEvents, StopsLine, StopsOperation, StopsReading, events_read, fault_at, opened_of};
-ghost use Rattle.dvg_log.specs.Events.{happening_of};
 ghost use Rattle.dvg_log.specs.declared.event.Event.TheVariants.{ResetAll};
 
 use crate::draft_text::MOST_TEXT_BYTES;
-use crate::event_line::{EventLine, read_event_line};
+use crate::event_line::{EventLine, SpelledEvent, read_event_line};
 use crate::fault::{TextFault, TraceFault};
 use crate::op_line::read_op;
 use crate::rom_text::RomReading;
@@ -16,7 +15,7 @@ use crate::text_lines::{TextLines, is_passed};
 use arrayvec::ArrayVec;
 use dvg_code::OutOfMemory;
 use dvg_frame::Draft;
-use dvg_log::{Event, MOST_EVENTS, OwnEvent, Trace};
+use dvg_log::{Event, MOST_EVENTS, Trace};
 use dvg_mem::{Image, LARGE_ROM_BYTES, MEMORY_BYTES};
 use std::alloc::{Allocator, Global};
 
@@ -188,7 +187,7 @@ pub(crate) fn add_op(draft: &mut Draft, line: &[u8]) -> Result<(), LineFault>
 // Adds the events of a line.
 fn add_events<A: Allocator>(
     alloc: A,
-    told: EventLine<A>,
+    told: EventLine,
     resets: &mut [Option<u32>; 256],
     events: &mut Trace<A>,
 ) -> Result<(), LineFault>
@@ -202,43 +201,64 @@ fn add_events<A: Allocator>(
     if events.len() + count(&told) > MOST_EVENTS {
         return Err(LineFault::Many);
     }
-    let added = match told {
-        EventLine::Times(event, count) => add_times(event, count, events),
-        EventLine::ResetAll(byte) => add_reset(alloc, byte, resets, events),
-    };
-    if added.is_err() {
+    if add_times(alloc, told.event, told.count, resets, events).is_err() {
         return Err(LineFault::Memory);
     }
     Ok(())
 }
 
 // How many events a line has.
-pub(crate) fn count<A: Allocator>(told: &EventLine<A>) -> usize
+pub(crate) fn count(told: &EventLine) -> usize
     ensures value { result ≡ length (happenings told.now) }
     ensures bound { result < 2 ^ 16 }
 {
-    match told {
-        EventLine::Times(_, count) => usize::from(*count),
-        EventLine::ResetAll(_) => 1,
-    }
+    usize::from(told.count)
 }
 
 // Adds an event, so many times in a row: itself, and then the same again.
 fn add_times<A: Allocator>(
-    event: OwnEvent<A>,
+    alloc: A,
+    event: SpelledEvent,
     count: u16,
+    resets: &mut [Option<u32>; 256],
     events: &mut Trace<A>,
 ) -> Result<(), OutOfMemory>
     requires some { 1 ≤ count }
     requires room { length events.old + count ≤ 65536 }
-    ensures { OnOk result (events.new ≡ events.old ++ replicate count (happening_of event)) }
+    requires resets { AreResets resets.old events.old }
+    ensures added { OnOk result (events.new ≡ events.old ++ replicate count (spelled_as event)) }
+    ensures resets { OnOk result (AreResets resets.new events.new) }
 {
     let first = events.len();
-    events.push(event)?;
+    add_once(alloc, event, resets, events)?;
     for _time in 1..count {
         events.push_again(first)?;
     }
     Ok(())
+}
+
+// Adds an event.
+fn add_once<A: Allocator>(
+    alloc: A,
+    event: SpelledEvent,
+    resets: &mut [Option<u32>; 256],
+    events: &mut Trace<A>,
+) -> Result<(), OutOfMemory>
+    requires room { length events.old < 65536 }
+    requires resets { AreResets resets.old events.old }
+    ensures added { OnOk result (events.new ≡ events.old ++ spelled_as event ∷ []) }
+    ensures resets { OnOk result (AreResets resets.new events.new) }
+{
+    let own = match event {
+        Event::Redraw => Event::Redraw,
+        Event::Tick => Event::Tick,
+        Event::Strobe => Event::Strobe,
+        Event::Fetch => Event::Fetch,
+        Event::ResetGen => Event::ResetGen,
+        Event::ResetCpu => Event::ResetCpu,
+        Event::ResetAll(byte) => return add_reset(alloc, byte, resets, events),
+    };
+    events.push(own)
 }
 
 // Adds a reset of the whole system, behind which each byte is this one. Its image is made where it is the first.
