@@ -5,8 +5,10 @@ use Rattle.std.proofs.lemmas.Option.{none-some}
 use Rattle.dvg_gen.specs.declared.stroke.Stroke.{Stroke}
 use Rattle.dvg_frame.specs.declared.op.OpKind.{OpKind}
 use Rattle.dvg_frame.specs.Picture.{IsPicture}
-use Rattle.dvg_log.specs.Events.{Happening, Offer, Redraw, Tick, Strobe, Fetch, ResetGen, ResetCpu, ResetAll}
-use Rattle.dvg_log.specs.Entries.{Shown, Offered, Refused, Busy, Asked, NothingPublished, Acted, Started, Low, Fetched, Done, Broke, Still, Cleared}
+use Rattle.dvg_log.specs.Events.{Happening}
+use Rattle.dvg_log.specs.declared.event.Event.TheVariants.{Offer, Redraw, Tick, Strobe, Fetch, ResetGen, ResetCpu, ResetAll}
+use Rattle.dvg_log.specs.Entries.{Shown}
+use Rattle.dvg_log.specs.declared.entry.Entry.TheVariants.{Offered, Refused, Busy, Asked, NothingPublished, Acted, Started, Low, Fetched, Done, Broke, Still, Cleared}
 use Rattle.dvg_log.specs.Log.{◌⟼◌, Log, Throughout, history, open_run}
 use Rattle.dvg_log.specs.Legal.{IsLegal, IsWanted}
 use Rattle.dvg_theorem.proofs.Headline.{always_in_time, draws_published, never_faults}

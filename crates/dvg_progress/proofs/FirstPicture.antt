@@ -14,8 +14,9 @@ use Rattle.dvg_driver.specs.Script.{Did}
 use Rattle.dvg_driver.specs.Place.{Place, place_of_life}
 use Rattle.dvg_driver.specs.Stands.{Tells}
 use Rattle.dvg_driver.proofs.Shapes.{place_life}
-use Rattle.dvg_log.specs.Events.{Offer, Tick, Strobe, Fetch, ResetGen, ResetCpu}
-use Rattle.dvg_log.specs.Entries.{Offered, Acted, Started, Low, Fetched, Done}
+use Rattle.dvg_log.specs.declared.event.Event.TheVariants.{Offer, Tick, Strobe, Fetch, ResetGen, ResetCpu}
+use Rattle.dvg_log.specs.Entries.{Shown}
+use Rattle.dvg_log.specs.declared.entry.Entry.TheVariants.{Offered, Acted, Started, Low, Fetched, Done}
 use Rattle.dvg_log.specs.Log.{◌⟼◌, Log, Throughout, life, open_run, published}
 use Rattle.dvg_log.specs.Legal.{IsLegal}
 use Rattle.dvg_theorem.proofs.Headline.{draws_published}
@@ -143,7 +144,7 @@ is_published = (published_in_time zeros zeros booted writes frame begun_legal.2.
     (ticks_apart all_writes) refl).1
 
 -- the two ticks after the flip
-pub is_sent : (Acted (Read true) ≡ Acted (Read true)) × (Acted Sent ≡ Acted Sent)
+pub is_sent : ◌≡◌ {A = Shown} (Acted (Read true)) (Acted (Read true)) × ◌≡◌ {A = Shown} (Acted Sent) (Acted Sent)
 is_sent =
     let written = did first_writes ++ accepted in
     sent_in_time zeros zeros written [] [] 0xE2 (Acted (Read true)) (Acted Sent) begun_legal.2 tt

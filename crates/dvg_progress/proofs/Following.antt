@@ -12,8 +12,9 @@ use Rattle.dvg_mem.specs.Memory.{fetched, fetched_byte}
 use Rattle.dvg_frame.specs.declared.op.OpKind.{OpKind}
 use Rattle.dvg_frame.specs.Picture.{IsPicture}
 use Rattle.dvg_frame.proofs.Bounded.{some_picture}
-use Rattle.dvg_log.specs.Events.{Strobe, Fetch, ResetGen, ResetAll}
-use Rattle.dvg_log.specs.Entries.{Shown, Started, Low, Fetched, Done, Broke}
+use Rattle.dvg_log.specs.declared.event.Event.TheVariants.{Strobe, Fetch, ResetGen, ResetAll}
+use Rattle.dvg_log.specs.Entries.{Shown}
+use Rattle.dvg_log.specs.declared.entry.Entry.TheVariants.{Started, Low, Fetched, Done, Broke}
 use Rattle.dvg_log.specs.Log.{◌⟼◌, Log, ram, low_byte, meets, history, life, strobed, before_flip, published}
 use Rattle.dvg_log.specs.Legal.{IsWanted, IsLegal}
 use Rattle.dvg_theorem.proofs.Kept.{kept, zero_jumps}

@@ -17,8 +17,10 @@ use Rattle.dvg_driver.specs.declared.action.Action.{Action}
 use Rattle.dvg_driver.specs.declared.action.Action.TheVariants.{Peek, Wrote, Read, Sent, Idle}
 use Rattle.dvg_driver.specs.Script.{Did, wrote, frame_writes}
 use Rattle.dvg_driver.specs.Place.{Booting, Resting, Waiting, next_place, place_of_life}
-use Rattle.dvg_log.specs.Events.{Happening, Offer, Strobe, Fetch, Tick, ResetGen, ResetCpu, ResetAll}
-use Rattle.dvg_log.specs.Entries.{Shown, Offered, Acted, Started, NoStrobe, Low, Done, Still, Cleared}
+use Rattle.dvg_log.specs.Events.{Happening}
+use Rattle.dvg_log.specs.declared.event.Event.TheVariants.{Offer, Strobe, Fetch, Tick, ResetGen, ResetCpu, ResetAll}
+use Rattle.dvg_log.specs.Entries.{Shown}
+use Rattle.dvg_log.specs.declared.entry.Entry.TheVariants.{Offered, Acted, Started, NoStrobe, Low, Done, Still, Cleared}
 use Rattle.dvg_log.specs.Log.{◌⟼◌, Log, Throughout, meets, history, life, free_half, open_run, strobed, published}
 use Rattle.dvg_log.specs.Legal.{IsLegal, IsWanted}
 use Rattle.dvg_theorem.proofs.Rows.{flip_between_the_bytes, restarted_run}

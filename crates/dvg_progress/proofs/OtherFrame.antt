@@ -22,8 +22,8 @@ use Rattle.dvg_driver.specs.declared.action.Action.TheVariants.{Wrote, Read, Sen
 use Rattle.dvg_driver.specs.Place.{Place as Point, place_of_life}
 use Rattle.dvg_driver.specs.Stands.{Tells}
 use Rattle.dvg_driver.proofs.Shapes.{rests_whole}
-use Rattle.dvg_log.specs.Events.{Offer, Strobe, Fetch, ResetGen, ResetCpu}
-use Rattle.dvg_log.specs.Entries.{Offered, Started, Low, Done}
+use Rattle.dvg_log.specs.declared.event.Event.TheVariants.{Offer, Strobe, Fetch, ResetGen, ResetCpu}
+use Rattle.dvg_log.specs.declared.entry.Entry.TheVariants.{Offered, Started, Low, Done}
 use Rattle.dvg_log.specs.Log.{◌⟼◌, Log, life, open_run}
 use Rattle.dvg_log.specs.Legal.{IsLegal}
 use Rattle.dvg_progress.specs.Progress.{DrawsOnce}

@@ -4,8 +4,10 @@ use Rattle.std.specs.Prelude.{is_none, if◌then◌else◌}
 use Rattle.std.proofs.lemmas.Bool.{true≢false}
 use Rattle.dvg_driver.specs.declared.action.Action.TheVariants.{Sent}
 use Rattle.dvg_driver.specs.Place.{Waiting, Sending, place_of_life}
-use Rattle.dvg_log.specs.Events.{Happening, Tick, ResetAll}
-use Rattle.dvg_log.specs.Entries.{Shown, Acted}
+use Rattle.dvg_log.specs.Events.{Happening}
+use Rattle.dvg_log.specs.declared.event.Event.TheVariants.{Tick, ResetAll}
+use Rattle.dvg_log.specs.Entries.{Shown}
+use Rattle.dvg_log.specs.declared.entry.Entry.TheVariants.{Acted}
 use Rattle.dvg_log.specs.Log.{◌⟼◌, Log, Throughout, open_run, life, strobed}
 use Rattle.dvg_log.specs.Legal.{IsLegal}
 use Rattle.dvg_progress.specs.Progress.{ticks}

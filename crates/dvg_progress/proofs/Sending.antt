@@ -8,8 +8,10 @@ use Rattle.dvg_driver.specs.declared.action.Action.TheVariants.{Wrote, Read, Sen
 use Rattle.dvg_driver.specs.Script.{Did}
 use Rattle.dvg_driver.specs.Place.{Place, Resting, Writing, Waiting, Sending, next_place, place_of_life}
 use Rattle.dvg_driver.specs.Stands.{Tells}
-use Rattle.dvg_log.specs.Events.{Happening, Tick, ResetCpu}
-use Rattle.dvg_log.specs.Entries.{Shown, Acted}
+use Rattle.dvg_log.specs.Events.{Happening}
+use Rattle.dvg_log.specs.declared.event.Event.TheVariants.{Tick, ResetCpu}
+use Rattle.dvg_log.specs.Entries.{Shown}
+use Rattle.dvg_log.specs.declared.entry.Entry.TheVariants.{Acted}
 use Rattle.dvg_log.specs.Log.{◌⟼◌, Log, Throughout, open_run, free_half, life}
 use Rattle.dvg_log.specs.Legal.{IsLegal}
 use Rattle.dvg_theorem.proofs.Bytes.{byte}
@@ -34,7 +36,7 @@ wrote_at R image log (Writing writes) to b k next =
     (is_write (free_half image log) (byte image log 0) writes k.here.1 1 b to next)
 wrote_at R image log _ to b k next = absurd (cc)
 
-acted_is : {one other : Action} → Acted one ≡ Acted other → other ≡ one
+acted_is : {one other : Action} → ◌≡◌ {A = Shown} (Acted one) (Acted other) → other ≡ one
 acted_is e = cc
 
 pub flip_place : (R image : List ℕ) (before : Log) (b : ℕ)

@@ -8,8 +8,9 @@ use Rattle.dvg_frame.specs.Layout.{size}
 use Rattle.dvg_frame.specs.Picture.{IsBound}
 use Rattle.dvg_driver.specs.Script.{has_flip}
 use Rattle.dvg_driver.specs.declared.action.Action.TheVariants.{Sent}
-use Rattle.dvg_log.specs.Events.{Offer, Tick, Strobe, ResetGen, ResetCpu, ResetAll}
-use Rattle.dvg_log.specs.Entries.{Shown, Offered, Acted, Started, NoStrobe, Cleared}
+use Rattle.dvg_log.specs.declared.event.Event.TheVariants.{Offer, Tick, Strobe, ResetGen, ResetCpu, ResetAll}
+use Rattle.dvg_log.specs.Entries.{Shown}
+use Rattle.dvg_log.specs.declared.entry.Entry.TheVariants.{Offered, Acted, Started, NoStrobe, Cleared}
 use Rattle.dvg_log.specs.Log.{◌⟼◌, Log, Throughout, open_run, life, strobed}
 use Rattle.dvg_log.specs.Legal.{IsLegal}
 use Rattle.dvg_progress.specs.Progress.{Without, ticks, fetched_since, DrawsOnce}

@@ -14,8 +14,9 @@ use Rattle.dvg_driver.specs.Place.{Place, Start, Booting, Resting, Writing, Wait
 use Rattle.dvg_driver.specs.Stands.{Tells}
 use Rattle.dvg_driver.proofs.OneAction.{one_action}
 use Rattle.dvg_driver.proofs.Shapes.{place_life}
-use Rattle.dvg_log.specs.Events.{Tick}
-use Rattle.dvg_log.specs.Entries.{Acted}
+use Rattle.dvg_log.specs.declared.event.Event.TheVariants.{Tick}
+use Rattle.dvg_log.specs.Entries.{Shown}
+use Rattle.dvg_log.specs.declared.entry.Entry.TheVariants.{Acted}
 use Rattle.dvg_log.specs.Log.{◌⟼◌, Log, open_run, life}
 use Rattle.dvg_log.specs.Legal.{IsLegal}
 use Rattle.dvg_theorem.proofs.Kept.{kept}
@@ -116,7 +117,7 @@ never_empty : (action : Action) (to : Place) → next_place (Writing []) (Did ac
 never_empty (Wrote a b) to next = none-some to next
 never_empty _ to next = none-some to next
 
-acted_is : {one other : Action} → Acted one ≡ Acted other → one ≡ other
+acted_is : {one other : Action} → ◌≡◌ {A = Shown} (Acted one) (Acted other) → one ≡ other
 acted_is e = cc
 
 module _ (R image : List ℕ) where

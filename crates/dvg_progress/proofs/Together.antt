@@ -10,8 +10,10 @@ use Rattle.dvg_frame.proofs.Bounded.{some_picture}
 use Rattle.dvg_frame.proofs.Pictures.{one_picture}
 use Rattle.dvg_driver.specs.Script.{has_flip}
 use Rattle.dvg_driver.specs.Place.{Waiting, with_left}
-use Rattle.dvg_log.specs.Events.{Happening, Tick, Strobe, Fetch, ResetCpu, ResetAll}
-use Rattle.dvg_log.specs.Entries.{Shown, Offered, Started, NoStrobe, Done}
+use Rattle.dvg_log.specs.Events.{Happening}
+use Rattle.dvg_log.specs.declared.event.Event.TheVariants.{Tick, Strobe, Fetch, ResetCpu, ResetAll}
+use Rattle.dvg_log.specs.Entries.{Shown}
+use Rattle.dvg_log.specs.declared.entry.Entry.TheVariants.{Offered, Started, NoStrobe, Done}
 use Rattle.dvg_log.specs.Log.{◌⟼◌, Log, Throughout, open_run, life, strobed, published}
 use Rattle.dvg_log.specs.Legal.{IsLegal, Fits}
 use Rattle.dvg_log.specs.Headline.{IsShown}

@@ -13,8 +13,9 @@ use Rattle.dvg_frame.proofs.Pictures.{one_picture}
 use Rattle.dvg_driver.specs.Script.{has_flip}
 use Rattle.dvg_driver.specs.Place.{Resting, place_of_life}
 use Rattle.dvg_driver.proofs.Shapes.{rests_whole}
-use Rattle.dvg_log.specs.Events.{Happening, Offer, Strobe, Fetch, ResetGen, ResetCpu, ResetAll}
-use Rattle.dvg_log.specs.Entries.{Offered, Started, Done}
+use Rattle.dvg_log.specs.Events.{Happening}
+use Rattle.dvg_log.specs.declared.event.Event.TheVariants.{Offer, Strobe, Fetch, ResetGen, ResetCpu, ResetAll}
+use Rattle.dvg_log.specs.declared.entry.Entry.TheVariants.{Offered, Started, Done}
 use Rattle.dvg_log.specs.Log.{Line, ◌⟼◌, Log, Throughout, open_run, life, strobed, published}
 use Rattle.dvg_log.specs.Legal.{IsLegal}
 use Rattle.dvg_theorem.proofs.Kept.{kept}

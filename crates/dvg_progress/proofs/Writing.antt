@@ -17,8 +17,10 @@ use Rattle.dvg_driver.specs.Script
 use Rattle.dvg_driver.specs.Script.{Item, Did, has_flip, word_zero, frame_writes, wrote}
 use Rattle.dvg_driver.specs.Place.{Place, Writing, Waiting, next_place, place_of_life, with_left, after_write}
 use Rattle.dvg_driver.proofs.Places.{whole_rests, with_left-append}
-use Rattle.dvg_log.specs.Events.{Happening, Offer, Tick}
-use Rattle.dvg_log.specs.Entries.{Shown, Offered, Acted}
+use Rattle.dvg_log.specs.Events.{Happening}
+use Rattle.dvg_log.specs.declared.event.Event.TheVariants.{Offer, Tick}
+use Rattle.dvg_log.specs.Entries.{Shown}
+use Rattle.dvg_log.specs.declared.entry.Entry.TheVariants.{Offered, Acted}
 use Rattle.dvg_log.specs.Log.{◌⟼◌, Log, Throughout, free_half, life, offered, published}
 use Rattle.dvg_log.specs.Legal.{IsLegal}
 use Rattle.dvg_theorem.proofs.Bytes.{byte}

@@ -9,8 +9,10 @@ use Rattle.dvg_frame.specs.Faults.{Accepts}
 use Rattle.dvg_frame.specs.Picture.{IsPicture, IsBound}
 use Rattle.dvg_driver.specs.declared.action.Action.TheVariants.{Wrote, Read, Sent}
 use Rattle.dvg_driver.specs.Script.{has_flip, frame_writes, wrote}
-use Rattle.dvg_log.specs.Events.{Happening, Offer, Tick, Strobe, Fetch, ResetGen, ResetCpu, ResetAll}
-use Rattle.dvg_log.specs.Entries.{Shown, Offered, Acted, Started, Done}
+use Rattle.dvg_log.specs.Events.{Happening}
+use Rattle.dvg_log.specs.declared.event.Event.TheVariants.{Offer, Tick, Strobe, Fetch, ResetGen, ResetCpu, ResetAll}
+use Rattle.dvg_log.specs.Entries.{Shown}
+use Rattle.dvg_log.specs.declared.entry.Entry.TheVariants.{Offered, Acted, Started, Done}
 use Rattle.dvg_log.specs.Log.{◌⟼◌, Log, Throughout, open_run, free_half, life, published}
 use Rattle.dvg_log.specs.Headline.{IsShown}
 use Rattle.dvg_log.specs.Legal.{IsLegal}
