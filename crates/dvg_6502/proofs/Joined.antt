@@ -1,8 +1,10 @@
 -- Logs of the board are legal.
 use Rattle.std.proofs.Common.{ℕ, List, [], ◌∷◌, subst}
 use Rattle.dvg_driver.specs.Script.{Item, Did, IsLife}
-use Rattle.dvg_log.specs.Events.{Happening, Offer, Redraw, Tick}
-use Rattle.dvg_log.specs.Entries.{Shown, Offered, Busy, Asked, NothingPublished, Acted}
+use Rattle.dvg_log.specs.Events.{Happening}
+use Rattle.dvg_log.specs.declared.event.Event.TheVariants.{Offer, Redraw, Tick}
+use Rattle.dvg_log.specs.Entries.{Shown}
+use Rattle.dvg_log.specs.declared.entry.Entry.TheVariants.{Offered, Busy, Asked, NothingPublished, Acted}
 use Rattle.dvg_log.specs.Log.{◌⟼◌, Log, life}
 use Rattle.dvg_log.specs.Legal.{IsLegal, Fits}
 use Rattle.dvg_theorem.proofs.Headline.{headline}

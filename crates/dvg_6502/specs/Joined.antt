@@ -5,8 +5,10 @@ use Rattle.dvg_frame.specs.Faults.{Accepts}
 use Rattle.dvg_driver.specs.declared.action.Action.TheVariants.{Peek}
 use Rattle.dvg_driver.specs.Script.{Item, Did, has_flip}
 use Rattle.dvg_driver.specs.Stands.{Tells}
-use Rattle.dvg_log.specs.Events.{Happening, Offer, Redraw, Tick, IsEvent}
-use Rattle.dvg_log.specs.Entries.{Shown, Offered, Busy, Asked, NothingPublished, Acted}
+use Rattle.dvg_log.specs.Events.{Happening, IsEvent}
+use Rattle.dvg_log.specs.declared.event.Event.TheVariants.{Offer, Redraw, Tick}
+use Rattle.dvg_log.specs.Entries.{Shown}
+use Rattle.dvg_log.specs.declared.entry.Entry.TheVariants.{Offered, Busy, Asked, NothingPublished, Acted}
 use Rattle.dvg_log.specs.Log.{◌⟼◌, Log, Throughout, open_run, life}
 use Rattle.dvg_log.specs.Legal.{IsLegal, Fits}
 use Rattle.dvg_log.specs.Headline.{KeepsHeadline}
