@@ -12,6 +12,7 @@ use Rattle.dvg_device.specs.Worlds.{WorldAnswers}
 use Rattle.dvg_device.specs.Drivers.{Driven, DriverAnswers}
 use Rattle.dvg_device.specs.Generators.{GeneratorAnswers}
 use Rattle.dvg_device.specs.declared.operation.Operation.{Operation}
+use Rattle.dvg_log.specs.declared.entry.Entry.TheVariants.{Cleared}
 use Rattle.dvg_device.specs.declared.reply.Reply.{Reply}
 use Rattle.dvg_device.specs.declared.reply.Reply.TheVariants as replies
 use Rattle.dvg_device.specs.declared.request.Request.{Request}
@@ -85,9 +86,9 @@ PartAnswers (Generator machine) asked old new answer = (later : Machine) × (lef
 -- what a device comes to by a request, and what it answers
 abbrev pub Answered : Request → Held → Held → Reply → Type 0
 Answered (requests.Push numbers) old new answer = PushAnswers numbers old new answer
-Answered requests.ClearDraft old new answer = (new ≡ record old { draft = [] }) × (answer ≡ replies.Cleared)
+Answered requests.ClearDraft old new answer = (new ≡ record old { draft = [] }) × (answer ≡ replies.Came Cleared)
 Answered (requests.Stage byte count) old new answer = StageAnswers byte count old new answer
-Answered requests.Unstage old new answer = (new ≡ record old { staged = [] }) × (answer ≡ replies.Cleared)
+Answered requests.Unstage old new answer = (new ≡ record old { staged = [] }) × (answer ≡ replies.Came Cleared)
 Answered requests.OpenWorld old new answer = OpenAnswers (IsOneOf (length old.staged) 4096 6144) (IsNewWorld old.staged) old new answer
 Answered requests.OpenDriver old new answer = OpenAnswers (IsOneOf (length old.staged) 2048 4096) (IsNewDriver old.staged) old new answer
 Answered requests.OpenGenerator old new answer = (machine : Machine) × HasTaken machine [] None × (new ≡ record old { picture = []; open_part = Generator machine }) × (answer ≡ replies.Opened)

@@ -7,8 +7,9 @@ use Rattle.dvg_frame.specs.Faults as faults
 use Rattle.dvg_driver.specs.Script as script
 use Rattle.dvg_driver.specs.Script.{Item, Did, IsLife, IsWhole, has_flip}
 use Rattle.dvg_driver.specs.Stands.{Stage, StandsAfter, Tells, IsInRam, byte1_of, peeked_after}
+use Rattle.dvg_log.specs.declared.entry.Entry.TheVariants.{Offered, Refused, Busy, Asked, NothingPublished, Acted, Cleared}
 use Rattle.dvg_device.specs.declared.reply.Reply.{Reply}
-use Rattle.dvg_device.specs.declared.reply.Reply.TheVariants.{Offered, Refused, Busy, Asked, NothingPublished, Acted, Cleared, Unknown}
+use Rattle.dvg_device.specs.declared.reply.Reply.TheVariants.{Came, Unknown}
 use Rattle.dvg_device.specs.declared.request.Request.{Request}
 use Rattle.dvg_device.specs.declared.request.Request.TheVariants.{Offer, Redraw, Tick, ResetProcessor}
 
@@ -23,21 +24,21 @@ OfLives stage P = (peeked : ℕ) (life : List Item) → StandsAfter stage peeked
 
 -- an offer: a draft that the check refuses is refused for the fault that is picked; one that it accepts goes on the life where that is of whole parts, for the half that is free
 abbrev pub OfferAnswers : List ℕ → List OpKind → Stage → Stage → Reply → Type 0
-OfferAnswers R F stage later (Refused fault) = faults.Refuses F R fault × (later ≡ stage)
-OfferAnswers R F stage later Busy = Accepts F R × (later ≡ stage) × OfLives stage (λ peeked life. ¬ IsWhole life)
-OfferAnswers R F stage later Offered = Accepts F R × OfLives stage (λ peeked life. IsWhole life × StandsAfter later peeked (script.Offered (other (half_of_high (byte1_of peeked life))) F ∷ life))
+OfferAnswers R F stage later (Came (Refused fault)) = faults.Refuses F R fault × (later ≡ stage)
+OfferAnswers R F stage later (Came Busy) = Accepts F R × (later ≡ stage) × OfLives stage (λ peeked life. ¬ IsWhole life)
+OfferAnswers R F stage later (Came Offered) = Accepts F R × OfLives stage (λ peeked life. IsWhole life × StandsAfter later peeked (script.Offered (other (half_of_high (byte1_of peeked life))) F ∷ life))
 OfferAnswers R F stage later reply = ⊥
 
 -- a redraw: there is nothing to draw again before the life's first flip; then it goes on the life where that is of whole parts
 abbrev pub RedrawAnswers : Stage → Stage → Reply → Type 0
-RedrawAnswers stage later NothingPublished = (later ≡ stage) × OfLives stage (λ peeked life. has_flip life ≡ false)
-RedrawAnswers stage later Busy = (later ≡ stage) × OfLives stage (λ peeked life. (has_flip life ≡ true) × ¬ IsWhole life)
-RedrawAnswers stage later Asked = OfLives stage (λ peeked life. (has_flip life ≡ true) × IsWhole life × StandsAfter later peeked (script.Asked ∷ life))
+RedrawAnswers stage later (Came NothingPublished) = (later ≡ stage) × OfLives stage (λ peeked life. has_flip life ≡ false)
+RedrawAnswers stage later (Came Busy) = (later ≡ stage) × OfLives stage (λ peeked life. (has_flip life ≡ true) × ¬ IsWhole life)
+RedrawAnswers stage later (Came Asked) = OfLives stage (λ peeked life. (has_flip life ≡ true) × IsWhole life × StandsAfter later peeked (script.Asked ∷ life))
 RedrawAnswers stage later reply = ⊥
 
 -- a tick: the action is the next one of the script, tells the HALT flag that was handed in, and writes in the RAM alone
 abbrev pub TickAnswers : Bool → ℕ → Stage → Stage → Reply → Type 0
-TickAnswers halted byte1 stage later (Acted action) = Tells action halted × IsInRam action
+TickAnswers halted byte1 stage later (Came (Acted action)) = Tells action halted × IsInRam action
     × OfLives stage (λ peeked life. IsLife (Did action ∷ life) × StandsAfter later (peeked_after action byte1 peeked) (Did action ∷ life))
 TickAnswers halted byte1 stage later reply = ⊥
 
@@ -46,5 +47,5 @@ abbrev pub DriverAnswers : List ℕ → List OpKind → Request → Stage → St
 DriverAnswers R F Offer stage later reply = OfferAnswers R F stage later reply
 DriverAnswers R F Redraw stage later reply = RedrawAnswers stage later reply
 DriverAnswers R F (Tick halted byte1) stage later reply = TickAnswers halted byte1 stage later reply
-DriverAnswers R F ResetProcessor stage later reply = ((peeked : ℕ) → StandsAfter later peeked []) × (reply ≡ Cleared)
+DriverAnswers R F ResetProcessor stage later reply = ((peeked : ℕ) → StandsAfter later peeked []) × (reply ≡ Came Cleared)
 DriverAnswers R F request stage later reply = (later ≡ stage) × (reply ≡ Unknown)

@@ -8,9 +8,10 @@ use Rattle.dvg_gen.specs.Completing.{DrawsNothing}
 use Rattle.dvg_gen.specs.Machine.{Machine, HasTaken, Answers}
 use Rattle.dvg_gen.specs.Told.{Told, Start, Reset, Newest, wants}
 use Rattle.dvg_log.specs.Entries.{Shown, entry_by}
+use Rattle.dvg_log.specs.declared.entry.Entry.TheVariants.{Started, Cleared, Still}
 use Rattle.dvg_device.specs.Replies.{told_by, picture_by}
 use Rattle.dvg_device.specs.declared.reply.Reply.{Reply}
-use Rattle.dvg_device.specs.declared.reply.Reply.TheVariants.{Started, Cleared, Still, Wants, Unknown, NoMemory}
+use Rattle.dvg_device.specs.declared.reply.Reply.TheVariants.{Came, Wants, Unknown, NoMemory}
 use Rattle.dvg_device.specs.declared.request.Request.{Request}
 use Rattle.dvg_device.specs.declared.request.Request.TheVariants as requests
 
@@ -20,7 +21,7 @@ OfHistories machine P = (history : List Told) (low : Option ℕ) (after : HasTak
 
 -- which byte is wanted: one of the word at an address, the high one where the low one was fetched; none where no run is open
 abbrev pub wanting : Option ℕ → Option ℕ → Reply
-wanting None low = Still
+wanting None low = Came Still
 wanting (Some address) low = Wants address (is_some low)
 
 -- a byte or a hole is fetched: at the address that is wanted, and the answer is that of the entry that such a fetch has in a log; the strokes are those of the newest finished run
@@ -44,14 +45,14 @@ pub record LacksRoom (byte : Option ℕ) (machine later : Machine) (drawn left :
 -- a fetch where no run is open changes nothing
 pub record StaysStill (machine later : Machine) (drawn left : List Stroke) (reply : Reply) : Type 0 where
   pub halted : OfHistories machine (λ history low run. run.is_open ≡ false)
-  pub told : reply ≡ Still
+  pub told : reply ≡ Came Still
   pub same : later ≡ machine
   pub kept : left ≡ drawn
 
 -- what a generator with these strokes of the newest finished run comes to by a request
 abbrev pub GeneratorAnswers : Request → Machine → Machine → List Stroke → List Stroke → Reply → Type 0
-GeneratorAnswers requests.Strobe machine later drawn left reply = OfHistories machine (λ history low run. HasTaken later (Start ∷ history) None) × (left ≡ drawn) × (reply ≡ Started)
-GeneratorAnswers requests.ResetGenerator machine later drawn left reply = OfHistories machine (λ history low run. HasTaken later (Reset ∷ history) None) × (left ≡ drawn) × (reply ≡ Cleared)
+GeneratorAnswers requests.Strobe machine later drawn left reply = OfHistories machine (λ history low run. HasTaken later (Start ∷ history) None) × (left ≡ drawn) × (reply ≡ Came Started)
+GeneratorAnswers requests.ResetGenerator machine later drawn left reply = OfHistories machine (λ history low run. HasTaken later (Reset ∷ history) None) × (left ≡ drawn) × (reply ≡ Came Cleared)
 GeneratorAnswers requests.Wants machine later drawn left reply = (later ≡ machine) × (left ≡ drawn) × OfHistories machine (λ history low run. reply ≡ wanting (wants run) low)
 GeneratorAnswers (requests.Fetch byte) machine later drawn left reply = Fetches byte machine later drawn left reply ⊎ (LacksRoom byte machine later drawn left reply ⊎ StaysStill machine later drawn left reply)
 GeneratorAnswers request machine later drawn left reply = (later ≡ machine) × (left ≡ drawn) × (reply ≡ Unknown)

@@ -8,10 +8,11 @@ use Rattle.dvg_frame.specs.declared.place.FrameFault.{FrameFault}
 use Rattle.dvg_frame.specs.declared.place.FrameFault.TheVariants.{Empty, NoLabs, TooLong, Target, RunsOff, OutOfRom, TooDeep, NoCaller, Loops}
 use Rattle.dvg_frame.specs.declared.place.Place.{Place}
 use Rattle.dvg_frame.specs.declared.place.Place.TheVariants.{InFrame, InRom}
-use Rattle.dvg_log.specs.Entries as entries
-use Rattle.dvg_log.specs.Entries.{Shown}
+use Rattle.dvg_log.specs.declared.entry.Entry.{Entry}
+use Rattle.dvg_log.specs.declared.entry.Entry.TheVariants.{Offered, Refused, Busy, Asked, NothingPublished, Acted, Started, NoStrobe, Low, Fetched, Done, Broke, Still, Cleared}
+use Rattle.dvg_log.specs.Entries.{Shown, map_entry}
 use Rattle.dvg_device.specs.declared.reply.Reply.{Reply}
-use Rattle.dvg_device.specs.declared.reply.Reply.TheVariants.{Offered, Refused, Busy, Asked, NothingPublished, Acted, Started, NoStrobe, Low, Fetched, Done, Broke, Still, Cleared, Pushed, NoOperation, Full, Staged, Opened, WrongSize, Closed, Wants, Count, Point, Intensity, Unknown, NoMemory}
+use Rattle.dvg_device.specs.declared.reply.Reply.TheVariants.{Came, Pushed, NoOperation, Full, Staged, Opened, WrongSize, Closed, Wants, Count, Point, Intensity, Unknown, NoMemory}
 
 -- 8 bits of a kind, 16 of an address and then a value
 abbrev pub packed : ℕ → ℕ → ℕ → ℕ
@@ -43,22 +44,26 @@ acted (actions.Read true) = packed 7 0 1
 acted actions.Sent = packed 8 0 0
 acted actions.Idle = packed 9 0 0
 
+-- what came of a request, by what a log shows of it, but without what a run drew
+abbrev pub came : Entry (Unit {0}) → ℕ
+came Offered = packed 0 0 0
+came (Refused fault) = refusal fault
+came Busy = packed 2 0 0
+came Asked = packed 3 0 0
+came NothingPublished = packed 4 0 0
+came (Acted action) = acted action
+came Started = packed 10 0 0
+came NoStrobe = packed 11 0 0
+came (Low address byte) = packed 12 address byte
+came (Fetched address word) = packed 13 address word
+came (Done address word drew) = packed 14 address word
+came (Broke address fault) = packed 15 address (fault_number fault)
+came Still = packed 16 0 0
+came Cleared = packed 17 0 0
+
 -- the number of a reply
 abbrev pub number_of : Reply → ℕ
-number_of Offered = packed 0 0 0
-number_of (Refused fault) = refusal fault
-number_of Busy = packed 2 0 0
-number_of Asked = packed 3 0 0
-number_of NothingPublished = packed 4 0 0
-number_of (Acted action) = acted action
-number_of Started = packed 10 0 0
-number_of NoStrobe = packed 11 0 0
-number_of (Low address byte) = packed 12 address byte
-number_of (Fetched address word) = packed 13 address word
-number_of (Done address word) = packed 14 address word
-number_of (Broke address fault) = packed 15 address (fault_number fault)
-number_of Still = packed 16 0 0
-number_of Cleared = packed 17 0 0
+number_of (Came entry) = came entry
 number_of (Pushed i) = packed 18 0 i
 number_of NoOperation = packed 19 0 0
 number_of Full = packed 20 0 0
@@ -76,24 +81,11 @@ number_of NoMemory = packed 255 0 0
 
 -- the reply to an event, by what the log shows of it
 abbrev pub told_by : Shown → Reply
-told_by entries.Offered = Offered
-told_by (entries.Refused fault) = Refused fault
-told_by entries.Busy = Busy
-told_by entries.Asked = Asked
-told_by entries.NothingPublished = NothingPublished
-told_by (entries.Acted action) = Acted action
-told_by entries.Started = Started
-told_by entries.NoStrobe = NoStrobe
-told_by (entries.Low address byte) = Low address byte
-told_by (entries.Fetched address word) = Fetched address word
-told_by (entries.Done address word strokes) = Done address word
-told_by (entries.Broke address fault) = Broke address fault
-told_by entries.Still = Still
-told_by entries.Cleared = Cleared
+told_by entry = Came (map_entry (λ strokes. tt) entry)
 
 -- the strokes of the newest run that came to a HALT, after this entry
 abbrev pub picture_by : Shown → List Stroke → List Stroke
-picture_by (entries.Done address word strokes) picture = strokes
+picture_by (Done address word strokes) picture = strokes
 picture_by entry picture = picture
 
 -- where a stroke begins and ends, and its intensity; 0 where there is none

@@ -3,7 +3,7 @@ use Rattle.std.specs.Prelude.{◌≡◌, ◌⊎◌, ◌==◌, ℕ, List, length,
 use Rattle.dvg_gen.specs.declared.stroke.Stroke.{Stroke}
 use Rattle.dvg_frame.specs.declared.op.OpKind.{OpKind}
 use Rattle.dvg_log.specs.Entries.{Shown}
-use Rattle.dvg_log.specs.Events as events
+use Rattle.dvg_log.specs.declared.event.Event.TheVariants as events
 use Rattle.dvg_log.specs.Events.{Happening}
 use Rattle.dvg_world.specs.Standing.{State, AddsLine, DrawsNow, KeepsHeadlineAfter}
 use Rattle.dvg_device.specs.Replies.{told_by, picture_by}

@@ -13,6 +13,7 @@ use crate::reply::Reply;
 use crate::request::Request;
 use dvg_frame::Draft;
 use dvg_gen::{Generator, Stroke};
+use dvg_log::Entry;
 use dvg_mem::{MEMORY_BYTES, Rom};
 use std::alloc::Global;
 use std::marker::Model;
@@ -129,7 +130,7 @@ impl Device {
         ensures { Answered Request.ClearDraft self.old self.new result }
     {
         self.draft.clear();
-        Reply::Cleared
+        Reply::Came(Entry::Cleared)
     }
 
     // Stages a byte so often.
@@ -151,7 +152,7 @@ impl Device {
         ensures { Answered Request.Unstage self.old self.new result }
     {
         self.staged = Vec::new(self.alloc);
-        Reply::Cleared
+        Reply::Came(Entry::Cleared)
     }
 
     // The memory of a world that was open before, if there is some.

@@ -21,11 +21,11 @@ pub(crate) fn ask_generator(
     match request {
         Request::Strobe => {
             generator.start();
-            Reply::Started
+            Reply::Came(Entry::Started)
         }
         Request::ResetGenerator => {
             generator.reset();
-            Reply::Cleared
+            Reply::Came(Entry::Cleared)
         }
         Request::Wants => wanted(generator),
         Request::Fetch(byte) => fetch(generator, byte, picture),
@@ -39,7 +39,7 @@ fn wanted(generator: &Generator<Global>) -> Reply
 {
     match generator.wants() {
         Some(address) => Reply::Wants(address, generator.wants_high()),
-        None => Reply::Still,
+        None => Reply::Came(Entry::Still),
     }
 }
 
@@ -51,7 +51,7 @@ fn fetch(generator: &mut Generator<Global>, byte: Option<u8>, picture: &mut Vec<
         ⊎ StaysStill generator.old generator.new picture.old.items picture.new.items result) }
 {
     let Some(address) = generator.wants() else {
-        return Reply::Still;
+        return Reply::Came(Entry::Still);
     };
     let low = generator.low_byte();
     match generator.take_byte(byte) {

@@ -1,6 +1,6 @@
 use Rattle.std.proofs.Common.{◌≡◌, length, inl, subst, arith}
 use Rattle.dvg_log.specs.Entries.{shown_of}
-use Rattle.dvg_log.specs.Events.{ResetAll}
+use Rattle.dvg_log.specs.declared.event.Event.TheVariants.{ResetAll}
 use Rattle.dvg_world.specs.Standing.{AddsLine, KeepsHeadlineAfter}
 use Rattle.dvg_device.proofs.happening.reset_all.Goals as goal
 
