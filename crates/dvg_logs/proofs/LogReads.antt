@@ -5,8 +5,8 @@ use Rattle.std.proofs.lemmas.List.{reverse-append, length-reverse}
 use Rattle.std.proofs.lemmas.List.Elements.{All-head, All-tail, All-append}
 use Rattle.std.proofs.lemmas.Grind.{flat_map-append}
 use Rattle.dvg_driver.specs.declared.action.Action.TheVariants.{Wrote}
-use Rattle.dvg_log.specs.Entries.{Acted}
-use Rattle.dvg_log.specs.Events.{Tick}
+use Rattle.dvg_log.specs.declared.entry.Entry.TheVariants.{Acted}
+use Rattle.dvg_log.specs.declared.event.Event.TheVariants.{Tick}
 use Rattle.dvg_log.specs.Log.{◌⟼◌, Line, Log, Throughout}
 use Rattle.dvg_world.specs.Judging.{StandsAfter}
 use Rattle.dvg_log.specs.Torn.{IsUntorn}

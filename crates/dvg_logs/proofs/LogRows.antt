@@ -10,8 +10,8 @@ use Rattle.std.proofs.Math.Seq.{take-append_seam, drop-append-add}
 use Rattle.std.proofs.lemmas.List.{take_rest}
 use Rattle.std.proofs.lemmas.List.Splits.{slice_split_none, slice_split_at, join_with_byte-slice_split}
 use Rattle.dvg_driver.specs.declared.action.Action.TheVariants.{Wrote, Idle}
-use Rattle.dvg_log.specs.Entries.{Acted, Fetched, Low}
-use Rattle.dvg_log.specs.Events.{Tick, Fetch}
+use Rattle.dvg_log.specs.declared.entry.Entry.TheVariants.{Acted, Fetched, Low}
+use Rattle.dvg_log.specs.declared.event.Event.TheVariants.{Tick, Fetch}
 use Rattle.dvg_log.specs.Log.{◌⟼◌, Line}
 use Rattle.dvg_text.specs.Texts.{IsHex, parts, is_passed}
 use Rattle.dvg_text.proofs.FirstBytes.{HasNone}

@@ -5,8 +5,8 @@ use Rattle.std.proofs.lemmas.Bool.{cases_lt}
 use Rattle.std.proofs.lemmas.List.{nil_from_length, reverse-append, reverse-reverse}
 use Rattle.std.proofs.Math.Seq.{take-append_seam, take-append-add, drop-append_seam}
 use Rattle.dvg_driver.specs.declared.action.Action.TheVariants.{Wrote}
-use Rattle.dvg_log.specs.Entries.{Acted, Started, Done, Cleared}
-use Rattle.dvg_log.specs.Events.{Tick, Strobe, Fetch, ResetGen}
+use Rattle.dvg_log.specs.declared.entry.Entry.TheVariants.{Acted, Started, Done, Cleared}
+use Rattle.dvg_log.specs.declared.event.Event.TheVariants.{Tick, Strobe, Fetch, ResetGen}
 use Rattle.dvg_log.specs.Log.{◌⟼◌, Line, Log, Throughout}
 use Rattle.dvg_log.specs.Torn.{IsUntorn}
 use Rattle.dvg_text.specs.Texts.{IsHex, lines}

@@ -2,7 +2,7 @@
 use Rattle.std.specs.Prelude.{ℕ, Bool, true, false, not, cond, ◌==◌}
 use Rattle.std.specs.List.{count_by}
 use Rattle.dvg_driver.specs.declared.action.Action.TheVariants.{Wrote}
-use Rattle.dvg_log.specs.Entries.{Acted, Started, Fetched, Done}
+use Rattle.dvg_log.specs.declared.entry.Entry.TheVariants.{Acted, Started, Fetched, Done}
 use Rattle.dvg_log.specs.Log.{◌⟼◌, Line, Log}
 use Rattle.dvg_lines.specs.declared.log_verdict.LogCounts.{LogCounts}
 

@@ -1,8 +1,8 @@
 -- What a line tells, as a reader has it.
 use Rattle.std.specs.Prelude.{◌≡◌, ℕ, List, [], ◌∷◌, ◌++◌}
 use Rattle.dvg_driver.specs.declared.action.Action.TheVariants.{Wrote, Idle}
-use Rattle.dvg_log.specs.Entries.{Acted, Started, Low, Fetched, Done, Cleared}
-use Rattle.dvg_log.specs.Events.{Tick, Strobe, Fetch, ResetGen}
+use Rattle.dvg_log.specs.declared.entry.Entry.TheVariants.{Acted, Started, Low, Fetched, Done, Cleared}
+use Rattle.dvg_log.specs.declared.event.Event.TheVariants.{Tick, Strobe, Fetch, ResetGen}
 use Rattle.dvg_log.specs.Log.{◌⟼◌, Line}
 use Rattle.dvg_text.specs.Texts.{IsHex}
 use Rattle.dvg_logs.specs.declared.log_line.LogLine.{LogLine}

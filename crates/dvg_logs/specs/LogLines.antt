@@ -2,8 +2,8 @@
 use Rattle.std.specs.Prelude.{◌≡◌, ℕ, ◌<◌, ◌≤◌, List, [], ◌∷◌, length, reverse, codes, true, false}
 use Rattle.std.specs.List.{AllZip}
 use Rattle.dvg_driver.specs.declared.action.Action.TheVariants.{Wrote, Idle}
-use Rattle.dvg_log.specs.Entries.{Acted, Started, Low, Fetched, Done, Cleared}
-use Rattle.dvg_log.specs.Events.{Tick, Strobe, Fetch, ResetGen}
+use Rattle.dvg_log.specs.declared.entry.Entry.TheVariants.{Acted, Started, Low, Fetched, Done, Cleared}
+use Rattle.dvg_log.specs.declared.event.Event.TheVariants.{Tick, Strobe, Fetch, ResetGen}
 use Rattle.dvg_log.specs.Log.{◌⟼◌, Line, Log}
 use Rattle.dvg_text.specs.Texts.{IsHex, is_passed, parts}
 

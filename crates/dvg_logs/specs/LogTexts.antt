@@ -1,8 +1,8 @@
 -- What is said of the text of a log.
 use Rattle.std.specs.Prelude.{◌≡◌, ◌+◌, ◌-◌, ◌^◌, ◌<◌, ℕ, List, [], ◌∷◌, ◌++◌, length, true, false}
 use Rattle.dvg_driver.specs.declared.action.Action.TheVariants.{Wrote}
-use Rattle.dvg_log.specs.Entries.{Acted}
-use Rattle.dvg_log.specs.Events.{Tick}
+use Rattle.dvg_log.specs.declared.entry.Entry.TheVariants.{Acted}
+use Rattle.dvg_log.specs.declared.event.Event.TheVariants.{Tick}
 use Rattle.dvg_log.specs.Log.{◌⟼◌, Line, Log, Throughout}
 use Rattle.dvg_log.specs.Torn.{IsFirstTorn, IsUntorn}
 use Rattle.dvg_text.specs.Texts.{lines}

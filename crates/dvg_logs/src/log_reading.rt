@@ -1,8 +1,8 @@
 //! The text of a log, as it is read in pieces.
 ghost use Rattle.std.specs.Prelude.{◌≡◌, ◌+◌, ◌-◌, ◌^◌, ◌<◌, [], ◌∷◌, ◌++◌, ℕ, List, length, IfErr, IfOk, IfSome, IsNone, OnOk};
 ghost use Rattle.dvg_driver.specs.declared.action.Action.TheVariants.{Wrote};
-ghost use Rattle.dvg_log.specs.Entries.{Acted};
-ghost use Rattle.dvg_log.specs.Events.{Tick};
+ghost use Rattle.dvg_log.specs.declared.entry.Entry.TheVariants.{Acted};
+ghost use Rattle.dvg_log.specs.declared.event.Event.TheVariants.{Tick};
 ghost use Rattle.dvg_world.specs.Judging.{StandsAfter};
 ghost use Rattle.dvg_log.specs.Log.{Line, Log, ◌⟼◌};
 ghost use Rattle.dvg_text.specs.Texts.{lines};
