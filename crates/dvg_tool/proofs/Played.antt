@@ -5,10 +5,9 @@ use Rattle.std.proofs.lemmas.List.Elements.{All-replicate}
 use Rattle.dvg_mem.specs.Memory.{IsImage, IsRom}
 use Rattle.std.proofs.lemmas.Option.{slice_get_within, get_or_from_slice_get}
 use Rattle.std.specs.List.{zip}
-use Rattle.dvg_log.specs.declared.entry.Entry.{Entry}
 use Rattle.dvg_world.specs.declared.stopped.Stopped.{Stopped}
 use Rattle.dvg_log.specs.Events.{Happening}
-use Rattle.dvg_log.specs.Entries.{shown_of}
+use Rattle.dvg_log.specs.Entries.{OwnEntry, shown_of}
 use Rattle.dvg_log.specs.Legal.{IsLegal}
 use Rattle.dvg_log.specs.Log.{Line, Log, Throughout, ◌⟼◌}
 use Rattle.dvg_world.specs.Runs.{IsStop, log_of}
@@ -19,20 +18,20 @@ use Rattle.dvg_lines.specs.Shows.{shown}
 use Rattle.dvg_text.specs.TraceGives.{GivesTrace}
 
 -- the lines of events and entries, oldest first
-abbrev lines_of : {A : Type 0} → List Happening → List (Entry A) → List Line
+abbrev lines_of : {A : Type 0} → List Happening → List (OwnEntry A) → List Line
 lines_of events entries = map (λ line. line.0 ⟼ shown_of line.1) (zip events entries)
 
-oldest_first : {A : Type 0} (events : List Happening) (entries : List (Entry A)) → reverse (log_of events entries) ≡ lines_of events entries
+oldest_first : {A : Type 0} (events : List Happening) (entries : List (OwnEntry A)) → reverse (log_of events entries) ≡ lines_of events entries
 oldest_first events entries = reverse-reverse (lines_of events entries)
 
-entries_told : {A : Type 0} (events : List Happening) (entries : List (Entry A)) → length entries ≤ length events → map entry_of (lines_of events entries) ≡ map shown_of entries
+entries_told : {A : Type 0} (events : List Happening) (entries : List (OwnEntry A)) → length entries ≤ length events → map entry_of (lines_of events entries) ≡ map shown_of entries
 entries_told [] [] h = refl
 entries_told (event ∷ events) [] h = refl
 entries_told [] (entry ∷ entries) h = absurd (not-suc-le-zero h)
 entries_told (event ∷ events) (entry ∷ entries) h = ap (λ l. shown_of entry ∷ l) (entries_told events entries (le_of_suc-le-suc h))
 
 -- those that have an entry, and the later ones
-events_told : {A : Type 0} (events : List Happening) (entries : List (Entry A)) → length entries ≤ length events
+events_told : {A : Type 0} (events : List Happening) (entries : List (OwnEntry A)) → length entries ≤ length events
     → events ≡ map event_of (lines_of events entries) ++ drop (length entries) events
 events_told [] [] h = refl
 events_told (event ∷ events) [] h = refl
@@ -40,17 +39,17 @@ events_told [] (entry ∷ entries) h = absurd (not-suc-le-zero h)
 events_told (event ∷ events) (entry ∷ entries) h = ap (λ l. event ∷ l) (events_told events entries (le_of_suc-le-suc h))
 
 -- what is shown of the log is what is shown of the entries
-pub log_shown : {A : Type 0} (all : Bool) (events : List Happening) (entries : List (Entry A)) → length entries ≤ length events
+pub log_shown : {A : Type 0} (all : Bool) (events : List Happening) (entries : List (OwnEntry A)) → length entries ≤ length events
     → shown all 0 (map shown_of entries) ≡ log_text all (log_of events entries)
 log_shown all events entries h = sym (ap (λ lines. shown all 0 (map entry_of lines)) (oldest_first events entries) ∙ ap (shown all 0) (entries_told events entries h))
 
-in_order : {A : Type 0} (events : List Happening) (entries : List (Entry A)) → length entries ≤ length events
+in_order : {A : Type 0} (events : List Happening) (entries : List (OwnEntry A)) → length entries ≤ length events
     → events ≡ map event_of (reverse (log_of events entries)) ++ drop (length entries) events
 in_order events entries h =
     events_told events entries h ∙ ap (λ lines. map event_of lines ++ drop (length entries) events) (sym (oldest_first events entries))
 
 -- all events were played
-pub played_whole : {A : Type 0} (text R : List ℕ) (events : List Happening) (entries : List (Entry A)) → GivesTrace text (events) R → IsLegal R zeros (log_of events entries)
+pub played_whole : {A : Type 0} (text R : List ℕ) (events : List Happening) (entries : List (OwnEntry A)) → GivesTrace text (events) R → IsLegal R zeros (log_of events entries)
     → Throughout (KeepsHeadline R zeros) (log_of events entries) → length entries ≡ length events → IsPlayed text (log_of events entries) []
 played_whole text R events entries gives legal headline all = record {
   events = events;
@@ -108,9 +107,9 @@ zeros_are_image : IsImage zeros
 zeros_are_image = record { count = length-replicate {A = ℕ} 2048 0; bytes = All-replicate (λ byte. byte < 256) 2048 0 (omega arith) }
 
 -- before the first event there is a log, and it is legal
-pub legal_at_once : {A : Type 0} (R : List ℕ) (events : List Happening) (entries : List (Entry A)) → entries ≡ [] → IsRom R → IsLegal R zeros (log_of events entries)
+pub legal_at_once : {A : Type 0} (R : List ℕ) (events : List Happening) (entries : List (OwnEntry A)) → entries ≡ [] → IsRom R → IsLegal R zeros (log_of events entries)
 legal_at_once R events entries none rom = subst (IsLegal R zeros) (sym (ap (log_of events) none ∙ log_of-none _ events)) (rom, zeros_are_image)
 
 -- and it has no line
-pub headline_at_once : {A : Type 0} (R : List ℕ) (events : List Happening) (entries : List (Entry A)) → entries ≡ [] → Throughout (KeepsHeadline R zeros) (log_of events entries)
+pub headline_at_once : {A : Type 0} (R : List ℕ) (events : List Happening) (entries : List (OwnEntry A)) → entries ≡ [] → Throughout (KeepsHeadline R zeros) (log_of events entries)
 headline_at_once R events entries none = subst (Throughout (KeepsHeadline R zeros)) (sym (ap (log_of events) none ∙ log_of-none _ events)) tt

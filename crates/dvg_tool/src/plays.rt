@@ -11,7 +11,7 @@ ghost use Rattle.dvg_io.specs.Watching.{TakesAtMost, device_of, failures_of};
 
 use crate::shows::write_entries;
 use dvg_io::{ToolFault, Watched, read_up_to};
-use dvg_log::Entry;
+use dvg_log::OwnEntry;
 use dvg_mem::{Flat, Image, MEMORY_BYTES, Rom, Store};
 use dvg_text::{MOST_TEXT_BYTES, TraceText, read_trace};
 use dvg_world::{Stopped, run_trace};
@@ -33,7 +33,7 @@ fn unstarted<A: Allocator>(alloc: A) -> Stopped<A>
 fn run_text<S: Store>(
     alloc: S::Alloc,
     told: &TraceText<S::Alloc>,
-) -> Result<Vec<Entry<S::Alloc>, S::Alloc>, Stopped<S::Alloc>>
+) -> Result<Vec<OwnEntry<S::Alloc>, S::Alloc>, Stopped<S::Alloc>>
     requires { IsRom told.now.rom.items }
     ensures legal { IsLegal told.now.rom.items zeros (log_by told.now.events result) }
     ensures headline { Throughout (KeepsHeadline told.now.rom.items zeros) (log_by told.now.events result) }
