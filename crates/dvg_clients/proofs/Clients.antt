@@ -35,9 +35,10 @@ use Rattle.dvg_driver.proofs.OneAction.{one_action}
 use Rattle.dvg_driver.proofs.Shapes.{place_life, rests_whole}
 use Rattle.dvg_driver.proofs.Places.{life_place, place_before, whole_rests}
 use Rattle.dvg_mem.specs.declared.half.Half.TheVariants.{H1}
-use Rattle.dvg_log.specs.Events.{Happening, Tick}
-use Rattle.dvg_log.specs.Entries.{Shown, shown_of, Acted}
-use Rattle.dvg_log.specs.declared.entry.Entry.{Entry}
+use Rattle.dvg_log.specs.Events.{Happening}
+use Rattle.dvg_log.specs.declared.event.Event.TheVariants.{Tick}
+use Rattle.dvg_log.specs.Entries.{Shown, OwnEntry, shown_of}
+use Rattle.dvg_log.specs.declared.entry.Entry.TheVariants.{Acted}
 use Rattle.dvg_log.specs.Log.{Log, ◌⟼◌, events_of}
 use Rattle.dvg_log.specs.Legal.{IsLegal}
 use Rattle.dvg_world.specs.Runs.{log_of}
@@ -95,14 +96,14 @@ module _ (R image : List ℕ) (none_yet : IsLegal R image []) where
   entries_are : (r s t u : Shown) → (Tick ⟼ s) ∷ (Tick ⟼ r) ∷ [] ≡ (Tick ⟼ u) ∷ (Tick ⟼ t) ∷ [] → r ∷ s ∷ [] ≡ t ∷ u ∷ []
   entries_are r s t u e = cc
 
-  pub two : {A : Type 0} (entries : List (Entry A)) → length entries ≡ 2 → IsLegal R image (log_of two_ticks entries) → map shown_of entries ≡ two_ticks_shown
+  pub two : {A : Type 0} (entries : List (OwnEntry A)) → length entries ≡ 2 → IsLegal R image (log_of two_ticks entries) → map shown_of entries ≡ two_ticks_shown
   two [] e legal = absurd (cc)
   two (x ∷ []) e legal = absurd (cc)
   two (x ∷ y ∷ []) e legal = entries_are (shown_of x) (shown_of y) (Acted Peek) (Acted (Read true)) (same_log R image ((Tick ⟼ shown_of y) ∷ (Tick ⟼ shown_of x) ∷ []) both_lines legal legal_both refl)
   two (x ∷ y ∷ z ∷ more) e legal = absurd (omega arith)
 
 -- a log of two ticks
-pub two_run : {A : Type 0} (R image : List ℕ) (entries : List (Entry A)) → length entries ≡ 2 → IsLegal R image (log_of two_ticks entries) → map shown_of entries ≡ two_ticks_shown
+pub two_run : {A : Type 0} (R image : List ℕ) (entries : List (OwnEntry A)) → length entries ≡ 2 → IsLegal R image (log_of two_ticks entries) → map shown_of entries ≡ two_ticks_shown
 two_run R image [] e legal = absurd (cc)
 two_run R image (x ∷ []) e legal = absurd (cc)
 two_run R image (x ∷ y ∷ []) e legal = two R image legal.2.2 (x ∷ y ∷ []) e legal

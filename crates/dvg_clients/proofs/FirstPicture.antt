@@ -3,9 +3,8 @@ use Rattle.std.proofs.Common.{◌≡◌, ℕ, List, [], ◌∷◌, ◌++◌, map
 use Rattle.std.proofs.lemmas.List.{reverse-reverse}
 use mathlib.Core.List.{reverse-cons}
 use Rattle.std.specs.List.{zip}
-use Rattle.dvg_log.specs.declared.entry.Entry.{Entry}
 use Rattle.dvg_log.specs.Events.{Happening}
-use Rattle.dvg_log.specs.Entries.{Shown, shown_of}
+use Rattle.dvg_log.specs.Entries.{Shown, OwnEntry, shown_of}
 use Rattle.dvg_log.specs.Legal.{IsLegal}
 use Rattle.dvg_log.specs.Log.{Line, Log, ◌⟼◌, events_of}
 use Rattle.dvg_world.specs.Runs.{log_of}
@@ -20,16 +19,16 @@ entry_of (event ⟼ entry) = entry
 abbrev event_of : Line → Happening
 event_of (event ⟼ entry) = event
 
-abbrev lines_of : {A : Type 0} → List Happening → List (Entry A) → List Line
+abbrev lines_of : {A : Type 0} → List Happening → List (OwnEntry A) → List Line
 lines_of events entries = map (λ line. line.0 ⟼ shown_of line.1) (zip events entries)
 
-entries_told : {A : Type 0} (events : List Happening) (entries : List (Entry A)) → length entries ≡ length events → map entry_of (lines_of events entries) ≡ map shown_of entries
+entries_told : {A : Type 0} (events : List Happening) (entries : List (OwnEntry A)) → length entries ≡ length events → map entry_of (lines_of events entries) ≡ map shown_of entries
 entries_told [] [] h = refl
 entries_told (event ∷ events) [] h = absurd (cc)
 entries_told [] (entry ∷ entries) h = absurd (cc)
 entries_told (event ∷ events) (entry ∷ entries) h = ap (λ l. shown_of entry ∷ l) (entries_told events entries (omega (arith, h)))
 
-events_told : {A : Type 0} (events : List Happening) (entries : List (Entry A)) → length entries ≡ length events → map event_of (lines_of events entries) ≡ events
+events_told : {A : Type 0} (events : List Happening) (entries : List (OwnEntry A)) → length entries ≡ length events → map event_of (lines_of events entries) ≡ events
 events_told [] [] h = refl
 events_told (event ∷ events) [] h = absurd (cc)
 events_told [] (entry ∷ entries) h = absurd (cc)
@@ -40,7 +39,7 @@ events_mapped [] = refl
 events_mapped ((event ⟼ entry) ∷ log) = ap (λ l. event ∷ l) (events_mapped log)
 
 -- the first picture, as lines in order
-shown_log : {A : Type 0} (R image : List ℕ) (entries : List (Entry A)) (log : Log) → map event_of (reverse log) ≡ first_picture_events → IsLegal R image log
+shown_log : {A : Type 0} (R image : List ℕ) (entries : List (OwnEntry A)) (log : Log) → map event_of (reverse log) ≡ first_picture_events → IsLegal R image log
     → length entries ≡ 30 → IsLegal R image (log_of first_picture_events entries) → (events_of (log_of first_picture_events entries) ≡ events_of log) → map shown_of entries ≡ map entry_of (reverse log)
 shown_log R image entries log told legal count legal2 same =
     let is : log_of first_picture_events entries ≡ log = same_log R image (log_of first_picture_events entries) log legal2 legal same in
@@ -62,7 +61,7 @@ paired _ _ = []
 abbrev first_picture_log : Log
 first_picture_log = reverse (paired first_picture_events first_picture)
 
-pub first_picture_is : {A : Type 0} (entries : List (Entry A)) → length entries ≡ 30 → IsLegal zeros zeros (log_of first_picture_events entries) → map shown_of entries ≡ first_picture
+pub first_picture_is : {A : Type 0} (entries : List (OwnEntry A)) → length entries ≡ 30 → IsLegal zeros zeros (log_of first_picture_events entries) → map shown_of entries ≡ first_picture
 first_picture_is entries count legal =
     shown_log zeros zeros entries first_picture_log refl legal_first_picture count legal
     (events_mapped (log_of first_picture_events entries) ∙ map_reverse_events (lines_of first_picture_events entries) ∙ ap reverse (events_told first_picture_events entries count))

@@ -3,8 +3,10 @@ use Rattle.std.proofs.Common.{◌≡◌, ℕ, [], ◌∷◌, ◌++◌, length, O
 use Rattle.std.specs.Prelude.{IfSome, IsNone, IsTrue, Bool, true, false, not, is_some}
 use Rattle.dvg_mem.specs.declared.half.Half.TheVariants.{H1}
 use Rattle.dvg_driver.specs.declared.action.Action.TheVariants.{Wrote}
-use Rattle.dvg_log.specs.Events.{Happening, Strobe, Fetch, Tick}
-use Rattle.dvg_log.specs.Entries.{Shown, Acted, Started, Fetched}
+use Rattle.dvg_log.specs.Events.{Happening}
+use Rattle.dvg_log.specs.declared.event.Event.TheVariants.{Strobe, Fetch, Tick}
+use Rattle.dvg_log.specs.Entries.{Shown}
+use Rattle.dvg_log.specs.declared.entry.Entry.TheVariants.{Acted, Started, Fetched}
 use Rattle.dvg_log.specs.Log.{◌⟼◌, Line, Log, Throughout}
 use Rattle.dvg_log.specs.Torn.{IsFirstTorn, IsTorn, IsUntorn}
 

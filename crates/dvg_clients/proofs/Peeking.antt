@@ -5,7 +5,8 @@ use Rattle.dvg_world.specs.Standing.{State, WorldAfter}
 use Rattle.dvg_device.specs.Devices.{Answered, Held, IsNewWorld, Open, PartAnswers, Nothing, World, Driver, Generator}
 use Rattle.dvg_device.specs.Replies.{told_by}
 use Rattle.dvg_device.specs.declared.reply.Reply.{Reply}
-use Rattle.dvg_device.specs.declared.reply.Reply.TheVariants.{Acted}
+use Rattle.dvg_device.specs.declared.reply.Reply.TheVariants.{Came}
+use Rattle.dvg_log.specs.declared.entry.Entry.TheVariants.{Acted}
 use Rattle.dvg_device.specs.declared.request.Request.TheVariants.{Tick}
 use Rattle.dvg_clients.proofs.Clients.{peeks}
 
@@ -17,7 +18,7 @@ new_world staged (Driver driven) is = absurd is
 new_world staged (Generator machine) is = absurd is
 
 -- it peeks
-pub first_peek : (old new : Held) (answer : Reply) (staged : List ℕ) → IsNewWorld staged old.open_part → Answered (Tick false 0) old new answer → answer ≡ Acted Peek
+pub first_peek : (old new : Held) (answer : Reply) (staged : List ℕ) → IsNewWorld staged old.open_part → Answered (Tick false 0) old new answer → answer ≡ Came (Acted Peek)
 first_peek old new answer staged is answered =
     let opened = new_world staged old.open_part is in
     let part = subst (λ part. PartAnswers part (Tick false 0) old new answer) opened.1 answered in

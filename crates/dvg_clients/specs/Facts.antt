@@ -17,8 +17,10 @@ use Rattle.dvg_dump.specs.Ends.{Ends, Complete}
 use Rattle.dvg_gen.specs.Run.{Visit}
 use Rattle.dvg_gen.specs.declared.stroke.Stroke.{Stroke}
 use Rattle.dvg_lines.specs.Lines.{spaced}
-use Rattle.dvg_log.specs.Events.{Happening, Tick, Offer, Strobe, Fetch}
-use Rattle.dvg_log.specs.Entries.{Shown, Acted, Offered, Started, Low, Fetched, Done}
+use Rattle.dvg_log.specs.Events.{Happening}
+use Rattle.dvg_log.specs.declared.event.Event.TheVariants.{Tick, Offer, Strobe, Fetch}
+use Rattle.dvg_log.specs.Entries.{Shown}
+use Rattle.dvg_log.specs.declared.entry.Entry.TheVariants.{Acted, Offered, Started, Low, Fetched, Done}
 
 -- VCTR 9 -100 100 7
 abbrev pub long_vector : Instr

@@ -3,7 +3,7 @@ ghost use Rattle.std.specs.Prelude.{◌≡◌, IsTrue, Some, true};
 
 use dvg_driver::Action;
 use dvg_mem::{Image, Rom, Store};
-use dvg_world::{Entry, Event, Judge, first_torn, run};
+use dvg_world::{Entry, Event, Judge, OwnEntry, OwnEvent, first_torn, run};
 use std::alloc::Global;
 
 /// The judge finds nothing in the log of any run, whatever happens, over whichever store.
@@ -11,7 +11,7 @@ pub fn finds_nothing_in_a_run<S: Store>(
     alloc: S::Alloc,
     rom: Rom<S::Alloc>,
     image: &Image<S::Alloc>,
-    events: &[Event<S::Alloc>],
+    events: &[OwnEvent<S::Alloc>],
 ) -> bool
     ensures { IsTrue result }
 {
@@ -25,8 +25,8 @@ pub fn finds_nothing_in_a_run<S: Store>(
 pub fn finds_a_torn_write() -> Option<usize>
     ensures { result ≡ Some 2 }
 {
-    let events: [Event<Global>; 3] = [Event::Strobe, Event::Fetch, Event::Tick];
-    let entries: [Entry<Global>; 3] = [
+    let events: [OwnEvent<Global>; 3] = [Event::Strobe, Event::Fetch, Event::Tick];
+    let entries: [OwnEntry<Global>; 3] = [
         Entry::Started,
         Entry::Fetched(0x000, 0xE201),
         Entry::Acted(Action::Wrote(0x402, 0x00)),

@@ -1,6 +1,7 @@
 //! What follows from the contracts of a device's calls.
 ghost use Rattle.std.specs.Prelude.{◌≡◌, IfSome};
-ghost use Rattle.dvg_device.specs.declared.reply.Reply.TheVariants.{Acted};
+ghost use Rattle.dvg_device.specs.declared.reply.Reply.TheVariants.{Came};
+ghost use Rattle.dvg_log.specs.declared.entry.Entry.TheVariants.{Acted};
 
 use dvg_device::{Device, Reply, Request};
 use dvg_driver::Action;
@@ -18,7 +19,7 @@ pub fn wants_word_zero(alloc: Global) -> (u64, u64, u64)
 
 /// A world that opens in a device, over a RAM and a ROM of zeros, peeks at its first tick. None where memory was refused.
 pub fn peeks_in_a_world(alloc: Global) -> Option<Reply>
-    ensures { IfSome result (λ reply. reply ≡ Acted Action.Peek) }
+    ensures { IfSome result (λ reply. reply ≡ Came (Acted Action.Peek)) }
 {
     let mut device = Device::new(alloc);
     let _ = device.answer(Request::Stage {

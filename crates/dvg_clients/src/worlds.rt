@@ -2,16 +2,21 @@
 ghost use Rattle.std.specs.Prelude.{◌≡◌, IfSome, map, true};
 ghost use Rattle.dvg_clients.specs.Facts.{first_picture, first_picture_events, two_ticks, two_ticks_shown};
 ghost use Rattle.dvg_tool.specs.Plays.{zeros};
-ghost use Rattle.dvg_log.specs.Entries.{Acted, shown_of};
+ghost use Rattle.dvg_log.specs.Entries.{shown_of};
+ghost use Rattle.dvg_log.specs.declared.entry.Entry.TheVariants.{Acted};
 ghost use Rattle.dvg_log.specs.Events.{happening_of};
 
 use dvg_driver::Action;
 use dvg_mem::{Flat, Image, Rom};
-use dvg_world::{Entry, Event, Trace, TraceEvent, World, run, run_trace};
+use dvg_world::{Event, OwnEntry, OwnEvent, Trace, TraceEvent, World, run, run_trace};
 use std::alloc::Global;
 
 /// The first tick of a new world is the driver's peek, over each ROM and image. None where there is no memory for a world.
-pub fn first_tick(alloc: Global, rom: Rom<Global>, image: &Image<Global>) -> Option<Entry<Global>>
+pub fn first_tick(
+    alloc: Global,
+    rom: Rom<Global>,
+    image: &Image<Global>,
+) -> Option<OwnEntry<Global>>
     ensures { IfSome result (λ entry. shown_of entry ≡ Acted Action.Peek) }
 {
     let Ok(mut world) = World::<Flat<Global>>::new(alloc, rom, image) else {
@@ -41,7 +46,7 @@ pub fn runs_two_ticks(
     alloc: Global,
     rom: Rom<Global>,
     image: &Image<Global>,
-) -> Option<Vec<Entry<Global>, Global>>
+) -> Option<Vec<OwnEntry<Global>, Global>>
     ensures { IfSome result (λ entries. map shown_of entries.items ≡ two_ticks_shown) }
 {
     match run::<Flat<Global>>(alloc, rom, image, &[Event::Tick, Event::Tick]) {
@@ -56,7 +61,7 @@ pub fn runs_a_trace_of_two_ticks(
     rom: Rom<Global>,
     image: &Image<Global>,
     trace: &Trace<Global>,
-) -> Option<Vec<Entry<Global>, Global>>
+) -> Option<Vec<OwnEntry<Global>, Global>>
     requires { trace.now ≡ two_ticks }
     ensures { IfSome result (λ entries. map shown_of entries.items ≡ two_ticks_shown) }
 {
@@ -93,8 +98,8 @@ pub fn runs_the_first_picture(
     alloc: Global,
     rom: Rom<Global>,
     image: &Image<Global>,
-    events: &[Event<Global>],
-) -> Option<Vec<Entry<Global>, Global>>
+    events: &[OwnEvent<Global>],
+) -> Option<Vec<OwnEntry<Global>, Global>>
     requires rom { rom ≡ zeros }
     requires image { image.now ≡ zeros }
     requires events { map happening_of events.now ≡ first_picture_events }

@@ -1,6 +1,6 @@
 use Rattle.std.proofs.Common.{[], ◌∷◌}
-use Rattle.dvg_log.specs.Entries.{Started}
-use Rattle.dvg_log.specs.Events.{Strobe}
+use Rattle.dvg_log.specs.declared.entry.Entry.TheVariants.{Started}
+use Rattle.dvg_log.specs.declared.event.Event.TheVariants.{Strobe}
 use Rattle.dvg_log.specs.Log.{◌⟼◌}
 use Rattle.dvg_clients.proofs.Judged.{begun, torn_there}
 use Rattle.dvg_clients.proofs.judges.tells_a_torn_write.Goals as goal

@@ -1,5 +1,5 @@
 use Rattle.std.proofs.Common.{rules, ◌≡◌, [], ◌∷◌, ◌++◌, slice_get, length, arith, OnOk, ap, ◌∙◌}
-use Rattle.dvg_log.specs.Events.{Strobe, Tick}
+use Rattle.dvg_log.specs.declared.event.Event.TheVariants.{Strobe, Tick}
 use Rattle.dvg_clients.proofs.worlds.trace_keeps_what_is_pushed_again.Goals as goal
 
 pub event-requires : goal.event-requires
