@@ -1,5 +1,5 @@
 -- How a log's text is read (for private contracts).
-use Rattle.std.specs.Prelude.{◌≡◌, ◌==◌, ◌+◌, ◌*◌, ◌^◌, ◌<◌, ◌≤◌, ℕ, List, ◌++◌, length, false, All}
+use Rattle.std.specs.Prelude.{◌≡◌, ◌==◌, ◌+◌, ◌*◌, ◌^◌, ◌<◌, ◌≤◌, ℕ, List, [], ◌∷◌, ◌++◌, length, false, All}
 use Rattle.dvg_world.specs.Judging.{StandsAfter}
 use Rattle.dvg_log.specs.Log.{◌⟼◌, Line, Log}
 use Rattle.dvg_log.specs.Torn.{IsTorn}
@@ -9,6 +9,7 @@ use Rattle.dvg_logs.specs.declared.log_reading.LogReading.{LogReading}
 use Rattle.dvg_logs.specs.declared.log_reading.LogStop.{LogStop}
 use Rattle.dvg_logs.specs.declared.log_reading.LogStop.TheVariants.{Torn, Syntax, TooLong}
 use Rattle.dvg_logs.specs.LogCounts.{counts_of}
+use Rattle.dvg_logs.specs.LogLines.{Tells}
 use Rattle.dvg_logs.specs.LogTexts.{IsTornAt, IsUntornLog, MeetsSyntax, MeetsTooMany}
 use Rattle.dvg_logs.specs.Tears.{ended}
 
@@ -57,3 +58,25 @@ HasRead reading text = IsRead reading.judged reading.unfinished.items text
 -- how far it has read: it gets farther with each line, and with each byte of a line that has not ended
 abbrev pub place_of : LogReading → ℕ
 place_of reading = 65 * reading.judged.count + length reading.unfinished.items
+
+-- at the head of a text stands a line that ends and tells this, and then comes the rest; 10 is LF
+pub record HeadLine (told : Line) (text rest : List ℕ) : Type 0 where
+  pub line : List ℕ
+  pub split : text ≡ line ++ 10 ∷ rest
+  pub unended : IsOpen line
+  pub tells : Tells told line
+
+-- a line at the head of a text was judged, and this is the rest
+pub record TakesLine (old new : JudgedLines) (text rest : List ℕ) : Type 0 where
+  pub line : List ℕ
+  pub split : text ≡ line ++ 10 ∷ rest
+  pub unended : IsOpen line
+  pub judged : (before : List (List ℕ)) → HasJudged old before → HasJudged new (before ++ line ∷ [])
+
+-- lines at the head of a text were judged, which may be none, and this is the rest
+pub record TakesLines (old new : JudgedLines) (text rest : List ℕ) : Type 0 where
+  pub front : List ℕ
+  pub split : text ≡ front ++ rest
+  pub read : (before : List ℕ) → IsRead old [] before → IsRead new [] (before ++ front)
+  pub farther : old.count ≤ new.count
+  pub some : 0 < length front → old.count < new.count

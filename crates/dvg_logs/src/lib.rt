@@ -5,6 +5,7 @@
 pub mod laws;
 mod log_line;
 mod log_reading;
+mod number_line;
 mod tears;
 
 pub use dvg_lines::{LogCounts, LogFinding, LogVerdict};

@@ -1,5 +1,5 @@
 //! The text of a log, as it is read in pieces.
-ghost use Rattle.std.specs.Prelude.{◌≡◌, ◌+◌, ◌-◌, ◌^◌, ◌<◌, [], ◌∷◌, ◌++◌, ℕ, List, length, IfErr, IfOk, IfSome, IsNone, OnOk};
+ghost use Rattle.std.specs.Prelude.{◌≡◌, ◌+◌, ◌-◌, ◌^◌, ◌<◌, [], ◌∷◌, ◌++◌, ℕ, List, length, IfErr, IfOk, IfSome, IsNone, IsTrue, OnOk};
 ghost use Rattle.dvg_driver.specs.declared.action.Action.TheVariants.{Wrote};
 ghost use Rattle.dvg_log.specs.declared.entry.Entry.TheVariants.{Acted};
 ghost use Rattle.dvg_log.specs.declared.event.Event.TheVariants.{Tick};
@@ -36,6 +36,7 @@ pub enum LogStop {
 }
 
 // Tells the judge what a line tells. The byte address and the byte of the write that tears a picture, where it does.
+#[inline(always)]
 fn tell(judge: &mut Judge, told: LogLine) -> Option<(u16, u8)>
     ensures stands { (log : Log) → StandsAfter judge.old log → StandsAfter judge.new (line_of told ∷ log) }
     ensures torn { (log : Log) → StandsAfter judge.old log → IfSome result (λ wrote. (line_of told ≡ Tick ⟼ Acted (Wrote wrote.0 wrote.1)) × IsTornLine log (line_of told)) }
@@ -56,30 +57,31 @@ fn tell(judge: &mut Judge, told: LogLine) -> Option<(u16, u8)>
     None
 }
 
-// What was counted in some lines, and what one more tells. None of the numbers passes that of the lines, so none
-// saturates.
+// What was counted in some lines, and what one more tells. None of the numbers passes that of the lines, so none wraps.
+#[inline(always)]
 fn counted(counts: LogCounts, told: LogLine) -> LogCounts
     ensures { (log : Log) → counts ≡ counts_of log → length log < 2 ^ 64 - 1 → result ≡ counts_of (line_of told ∷ log) }
 {
     let mut counts = counts;
     match told {
-        LogLine::Started => counts.runs = counts.runs.saturating_add(1),
-        LogLine::Wrote(..) => counts.writes = counts.writes.saturating_add(1),
-        LogLine::Fetched(..) => counts.words = counts.words.saturating_add(1),
+        LogLine::Started => counts.runs = counts.runs.wrapping_add(1),
+        LogLine::Wrote(..) => counts.writes = counts.writes.wrapping_add(1),
+        LogLine::Fetched(..) => counts.words = counts.words.wrapping_add(1),
         LogLine::Halted => {
-            counts.words = counts.words.saturating_add(1);
-            counts.halted = counts.halted.saturating_add(1);
+            counts.words = counts.words.wrapping_add(1);
+            counts.halted = counts.halted.wrapping_add(1);
         }
         LogLine::Passed | LogLine::Low(..) | LogLine::Reset => {}
     }
     counts
 }
 
-// The lines that have ended. None of them is torn or at fault.
+/// The lines that have ended. None of them is torn or at fault.
 #[derive(Clone, Copy, Debug, PartialEq, Eq)]
-struct JudgedLines {
+pub struct JudgedLines {
     judge: Judge,
-    count: usize,
+    /// How many they are.
+    pub count: usize,
     counts: LogCounts,
 }
 
@@ -123,6 +125,24 @@ impl JudgedLines {
                 Ok(())
             }
         }
+    }
+
+    /// Takes a line that tells this, where that isn't torn. Whether it is taken.
+    #[inline(always)]
+    pub fn take_told(&mut self, told: LogLine) -> bool
+        requires room { self.old.count < 2 ^ 64 - 1 }
+        ensures taken { IsTrue result → (before : List (List ℕ)) (line : List ℕ) → HasJudged self.old before → Tells (line_of told) line → HasJudged self.new (before ++ line ∷ []) }
+        ensures count { IsTrue result → self.new.count ≡ self.old.count + 1 }
+        ensures torn { ¬ IsTrue result → self.new ≡ self.old }
+    {
+        let mut judge = self.judge;
+        if tell(&mut judge, told).is_some() {
+            return false;
+        }
+        self.judge = judge;
+        self.count += 1;
+        self.counts = counted(self.counts, told);
+        true
     }
 }
 
@@ -177,6 +197,7 @@ impl LogReading {
         ensures next { IfErr result (λ stop. number_of stop ≡ self.old.judged.count + 1) }
         ensures count { OnOk result (self.new.judged.count ≡ self.old.judged.count + 1) }
         ensures farther { OnOk result (place_of self.old < place_of self.new) }
+        ensures ended { OnOk result (self.new.unfinished.items ≡ []) }
     {
         if self.unfinished.is_empty() {
             return self.judged.take(bytes);
@@ -203,7 +224,7 @@ impl LogReading {
                 Ok(()) => {}
                 Err(stop) => return Err(stop),
             }
-            rest = &rest[end + 1..];
+            rest = self.judged.take_number_lines(&rest[end + 1..]);
         }
         self.begin_line(rest)
     }

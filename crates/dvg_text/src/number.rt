@@ -29,9 +29,9 @@ const HEX_DIGITS: [u8; 256] = [
     16, 16, 16, 16, 16, 16, 16, 16, 16, 16, 16, 16, 16, 16, 16, 16,
 ];
 
-// The value of a hexadecimal digit of either case. 16 for any other byte.
+/// The value of a hexadecimal digit of either case. 16 for any other byte.
 #[inline(always)]
-fn digit_of(byte: u8) -> u8
+pub fn digit_of(byte: u8) -> u8
     ensures { result ≡ min 16 (digit_value byte) }
 {
     HEX_DIGITS[usize::from(byte)]

@@ -1,7 +1,8 @@
 use Rattle.std.proofs.Common.{◌++◌, ◌∷◌, [], ◌∙◌, take, ap, sym, subst, refl, append_assoc, append-nil, arith, OnOk}
 use Rattle.dvg_text.specs.Texts.{lines}
 use Rattle.dvg_text.proofs.FirstBytes.{IsCutAt, behind, cut_at_first}
-use Rattle.dvg_logs.specs.LogReading.{HasRead, StopsAt}
+use Rattle.dvg_logs.specs.LogReading.{HasRead, IsRead, StopsAt}
+use Rattle.dvg_logs.proofs.NumberLines.{lines_off, lines_read}
 use Rattle.dvg_logs.proofs.LogReads.{at_line, behind_front, cut_line, if_err_weaker, line_off, no_line}
 use Rattle.dvg_logs.proofs.log_reading.LogReading.take_piece.Goals as goal
 
@@ -31,14 +32,18 @@ loop-end-preserved c =
     let line = cut_line rest end (rw c.in-Some.is at cut) in
     let (no_less, more) = c.loop-end.invariant.farther in
     let on = c.in-Ok.ensures.farther in
+    let numbers = c.take_number_lines-rest.ensures in
+    let so_long = front ++ (take end rest ++ 10 ∷ []) in
     record {
       done = (
-        front ++ (take end rest ++ 10 ∷ []),
-        line_off front (take end rest) (behind end rest) rest c.args.piece.now split line,
-        λ text read. subst (λ l. HasRead c.end_line.new.self l) (append_assoc text front (take end rest ++ 10 ∷ [])) (c.in-Ok.ensures.read (text ++ front) (so_far text read)),
+        so_long ++ numbers.front,
+        lines_off so_long c.args.piece.now numbers (line_off front (take end rest) (behind end rest) rest c.args.piece.now split line),
+        λ text read.
+            let ended = subst (λ l. HasRead c.end_line.new.self l) (append_assoc text front (take end rest ++ 10 ∷ [])) (c.in-Ok.ensures.read (text ++ front) (so_far text read)) in
+            subst (λ l. IsRead c.take_number_lines-rest.new.self c.end_line.new.self.unfinished.items l) (append_assoc text so_long numbers.front) (lines_read numbers c.in-Ok.ensures.ended ended),
       );
-      count = omega (arith, c.in-Ok.ensures.count);
-      farther = (omega (arith, no_less, on), λ fewer. omega (arith, no_less, on));
+      count = omega (arith, c.in-Ok.ensures.count, numbers.farther);
+      farther = (omega (arith, no_less, on, numbers.farther), λ fewer. omega (arith, no_less, on, numbers.farther));
     }
 
 pub begin_line-requires : goal.begin_line-requires

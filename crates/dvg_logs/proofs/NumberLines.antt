@@ -1,0 +1,153 @@
+-- Lines that tell numbers, at the head of a text.
+use Rattle.std.proofs.Common.{◌≡◌, ◌<◌, ◌≤◌, ◌+◌, ◌*◌, ◌-◌, ℕ, List, [], ◌∷◌, ◌++◌, length, get_or, take, drop, min, refl, sym, ap, ◌∙◌, subst, arith, eqb, false, append_assoc, append-nil, length-append, bit_or, codes, zero, suc}
+use Rattle.std.specs.Prelude.{⊤}
+use Rattle.std.specs.Char.{digit_value}
+use Rattle.std.specs.Str.Parse.{AllDigits}
+use Rattle.std.proofs.lemmas.Bool.{eqb-true, false_from_ne_true}
+use Rattle.std.proofs.lemmas.Nat.{le_or_l, le_or_r}
+use Rattle.std.proofs.lemmas.List.{drop_more, take_rest}
+use Rattle.std.proofs.lemmas.List.Elements.{All-cons}
+use Rattle.dvg_log.specs.Log.{Line}
+use Rattle.dvg_text.specs.Texts.{IsHex, is_passed, parts}
+use Rattle.dvg_logs.specs.LogLines.{LogRow, Tells, told}
+use Rattle.dvg_logs.specs.LogLineTells.{AreNumbers}
+use Rattle.dvg_logs.specs.declared.log_reading.JudgedLines.{JudgedLines}
+use Rattle.dvg_logs.specs.LogReading.{HasJudged, HeadLine, IsOpen, IsRead, TakesLine, TakesLines}
+use Rattle.dvg_logs.proofs.LogReads.{first_read, line_off}
+use Rattle.dvg_logs.proofs.LogRows.{fetched_line, fetched_made, low_line, low_made, wrote_line, wrote_made}
+
+-- ---- digits
+
+-- a byte whose value in the table is a digit's is that digit
+digit : (byte value all : ℕ) → value ≡ min 16 (digit_value byte) → value ≤ all → all < 16 → (digit_value byte < 16) × (digit_value byte ≡ value)
+digit byte value all is within few = (omega (arith, is, within, few), omega (arith, is, within, few))
+
+pub two_hex : (a b x y : ℕ) → x ≡ min 16 (digit_value a) → y ≡ min 16 (digit_value b) → bit_or x y < 16 → (x < 16) × (y < 16) × IsHex 2 (16 * x + y) (a ∷ b ∷ [])
+two_hex a b x y e f few =
+    let i = digit a x (bit_or x y) e (le_or_l x y) few in
+    let j = digit b y (bit_or x y) f (le_or_r x y) few in
+    (omega (arith, i.0, i.1), omega (arith, j.0, j.1), record { size = refl; digits = (i.0, (j.0, tt)); value = omega (arith, i.1, j.1) })
+
+pub three_hex : (a b d x y z : ℕ) → x ≡ min 16 (digit_value a) → y ≡ min 16 (digit_value b) → z ≡ min 16 (digit_value d) → bit_or (bit_or x y) z < 16
+    → (x < 16) × (y < 16) × (z < 16) × IsHex 3 (256 * x + (16 * y + z)) (a ∷ b ∷ d ∷ [])
+three_hex a b d x y z e f g few =
+    let more = le_or_l (bit_or x y) z in
+    let i = digit a x (bit_or (bit_or x y) z) e (omega (arith, le_or_l x y, more)) few in
+    let j = digit b y (bit_or (bit_or x y) z) f (omega (arith, le_or_r x y, more)) few in
+    let k = digit d z (bit_or (bit_or x y) z) g (le_or_r (bit_or x y) z) few in
+    (omega (arith, i.0, i.1), omega (arith, j.0, j.1), omega (arith, k.0, k.1), record { size = refl; digits = (i.0, (j.0, (k.0, tt))); value = omega (arith, i.1, j.1, k.1) })
+
+pub four_hex : (a b d q x y z w : ℕ) → x ≡ min 16 (digit_value a) → y ≡ min 16 (digit_value b) → z ≡ min 16 (digit_value d) → w ≡ min 16 (digit_value q) → bit_or (bit_or (bit_or x y) z) w < 16
+    → (x < 16) × (y < 16) × (z < 16) × (w < 16) × IsHex 4 (256 * (16 * x + y) + (16 * z + w)) (a ∷ b ∷ d ∷ q ∷ [])
+four_hex a b d q x y z w e f g h few =
+    let more = le_or_l (bit_or (bit_or x y) z) w in
+    let (small, tiny, little, front) = three_hex a b d x y z e f g (omega (arith, more, few)) in
+    let l = digit q w (bit_or (bit_or (bit_or x y) z) w) h (le_or_r (bit_or (bit_or x y) z) w) few in
+    let (i, (j, (k, none))) = front.digits in
+    (small, tiny, little, omega (arith, l.0, l.1), record { size = refl; digits = (i, (j, (k, (l.0, tt)))); value = omega (arith, front.value, l.1) })
+
+-- ---- the head of a text
+
+-- so many bytes from a place on
+abbrev pub firsts : ℕ → ℕ → List ℕ → List ℕ
+firsts i zero text = []
+firsts i (suc k) text = get_or text i 0 ∷ firsts (suc i) k text
+
+cut_from : (text : List ℕ) (i k : ℕ) → i + k ≤ length text → drop i text ≡ firsts i k text ++ drop (i + k) text
+cut_from text i zero fits = let is : i ≡ i + zero = omega arith in ap (λ n. drop n text) is
+cut_from text i (suc k) fits =
+    let next : i + 1 ≡ suc i = omega arith in
+    let end : suc i + k ≡ i + suc k = omega arith in
+    drop_more text i 0 (omega (arith, fits)) ∙ ap (λ l. get_or text i 0 ∷ l)
+    (ap (λ n. drop n text) next ∙ (cut_from text (suc i) k (omega (arith, fits)) ∙ ap (λ n. firsts (suc i) k text ++ drop n text) end))
+
+pub head_of : (text : List ℕ) (k : ℕ) → k ≤ length text → text ≡ firsts 0 k text ++ take (length text - k) (drop k text)
+head_of text k fits =
+    let is : 0 + k ≡ k = omega arith in
+    cut_from text 0 k (omega (arith, fits)) ∙ (ap (λ n. firsts 0 k text ++ drop n text) is ∙ ap (λ l. firsts 0 k text ++ l) (sym (take_rest text k)))
+
+-- none of these bytes ends a line
+abbrev NoEnds : List ℕ → Type 0
+NoEnds [] = ⊤
+NoEnds (byte ∷ bytes) = (eqb byte 10 ≡ false) × NoEnds bytes
+
+open_of : (bytes : List ℕ) → NoEnds bytes → IsOpen bytes
+open_of [] none = λ k d inside. absurd (omega arith)
+open_of (byte ∷ bytes) (other, others) = All-cons (λ b. eqb b 10 ≡ false) byte bytes other (open_of bytes others)
+
+-- no digit does
+no_end : (digits : List ℕ) → AllDigits 16 digits → NoEnds digits
+no_end [] h = tt
+no_end (byte ∷ bytes) (h, others) = (false_from_ne_true (eqb byte 10) (λ is. absurd (omega (arith, h, ap digit_value (eqb-true byte 10 is)))), no_end bytes others)
+
+no_ends : (one other : List ℕ) → NoEnds one → NoEnds other → NoEnds (one ++ other)
+no_ends [] other none h = h
+no_ends (byte ∷ bytes) other (none, more) h = (none, no_ends bytes other more h)
+
+-- so a name with its space, numbers and an end are a line at a text's head
+number_head : {count a n : ℕ} (told : Line) (name front back text rest : List ℕ) → text ≡ (name ++ (front ++ 32 ∷ back)) ++ 10 ∷ rest
+    → NoEnds name → IsHex 3 a front → IsHex count n back → length name + count ≤ 60 → is_passed (name ++ (front ++ 32 ∷ back)) ≡ false
+    → LogRow told (parts (name ++ (front ++ 32 ∷ back))) → HeadLine told text rest
+number_head line name front back text rest is none address number few not row = record {
+  line = name ++ (front ++ 32 ∷ back);
+  split = is;
+  unended = open_of (name ++ (front ++ 32 ∷ back)) (no_ends name (front ++ 32 ∷ back) none (no_ends front (32 ∷ back) (no_end front address.digits) (refl, no_end back number.digits)));
+  tells = told (omega (arith, length-append name (front ++ 32 ∷ back), length-append front (32 ∷ back), address.size, number.size, few)) not row;
+}
+
+numbers : {count a n : ℕ} {front back : List ℕ} → IsHex 3 a front → IsHex count n back → AreNumbers count a n (front ++ 32 ∷ back)
+numbers {front = front} {back = back} address number = record { front = front; back = back; split = refl; address = address; number = number }
+
+pub wrote_head : {a n : ℕ} (text rest front back : List ℕ) → text ≡ (codes "wrote " ++ (front ++ 32 ∷ back)) ++ 10 ∷ rest → a < 0x800 → IsHex 3 a front → IsHex 2 n back → HeadLine (wrote_line a n) text rest
+wrote_head {a} {n} text rest front back is ram address number =
+    number_head (wrote_line a n) (codes "wrote ") front back text rest is (refl, (refl, (refl, (refl, (refl, (refl, tt)))))) address number (omega arith) refl
+    (wrote_made (codes "wrote " ++ (front ++ 32 ∷ back)) (front ++ 32 ∷ back) refl ram (numbers address number))
+
+pub low_head : {a n : ℕ} (text rest front back : List ℕ) → text ≡ (codes "low " ++ (front ++ 32 ∷ back)) ++ 10 ∷ rest → IsHex 3 a front → IsHex 2 n back → HeadLine (low_line a n) text rest
+low_head {a} {n} text rest front back is address number =
+    number_head (low_line a n) (codes "low ") front back text rest is (refl, (refl, (refl, (refl, tt)))) address number (omega arith) refl
+    (low_made (codes "low " ++ (front ++ 32 ∷ back)) (front ++ 32 ∷ back) refl (numbers address number))
+
+pub fetched_head : {a n : ℕ} (text rest front back : List ℕ) → text ≡ (codes "fetched " ++ (front ++ 32 ∷ back)) ++ 10 ∷ rest → IsHex 3 a front → IsHex 4 n back → HeadLine (fetched_line a n) text rest
+fetched_head {a} {n} text rest front back is address number =
+    number_head (fetched_line a n) (codes "fetched ") front back text rest is (refl, (refl, (refl, (refl, (refl, (refl, (refl, (refl, tt)))))))) address number (omega arith) refl
+    (fetched_made (codes "fetched " ++ (front ++ 32 ∷ back)) (front ++ 32 ∷ back) refl (numbers address number))
+
+-- ---- lines that are taken
+
+pub line_taken : {old new : JudgedLines} {told : Line} {text rest : List ℕ} → HeadLine told text rest
+    → ((before : List (List ℕ)) (line : List ℕ) → HasJudged old before → Tells told line → HasJudged new (before ++ line ∷ [])) → TakesLine old new text rest
+line_taken head takes = record { line = head.line; split = head.split; unended = head.unended; judged = λ before judged. takes before head.line judged head.tells }
+
+pub none_taken : (judged : JudgedLines) (text : List ℕ) → TakesLines judged judged text text
+none_taken judged text = record {
+  front = [];
+  split = refl;
+  read = λ before read. subst (IsRead judged []) (sym (append-nil before)) read;
+  farther = omega arith;
+  some = λ some. absurd (omega (arith, some));
+}
+
+pub one_taken : {old between new : JudgedLines} {text rest after : List ℕ} → TakesLines old between text rest → TakesLine between new rest after → new.count ≡ between.count + 1 → TakesLines old new text after
+one_taken {new = new} {text = text} {rest = rest} {after = after} lines line count = record {
+  front = lines.front ++ (line.line ++ 10 ∷ []);
+  split = line_off lines.front line.line after rest text lines.split line.split;
+  read = λ before read. let so_far = lines.read before read in
+      subst (IsRead new []) (append_assoc before lines.front (line.line ++ 10 ∷ []))
+      (first_read line.line so_far line.unended refl new (line.judged so_far.texts so_far.fine));
+  farther = omega (arith, count, lines.farther);
+  some = λ some. omega (arith, count, lines.farther);
+}
+
+-- what is left gets shorter
+pub shorter : {old new : JudgedLines} {text rest : List ℕ} → TakesLine old new text rest → length rest < length text
+shorter {rest = rest} line = omega (arith, ap length line.split, length-append line.line (10 ∷ rest))
+
+-- after a text that ends with a line
+pub lines_read : {old new : JudgedLines} {unfinished text after rest : List ℕ} (lines : TakesLines old new after rest) → unfinished ≡ [] → IsRead old unfinished text → IsRead new unfinished (text ++ lines.front)
+lines_read {old = old} {new = new} {text = text} lines none read =
+    subst (λ l. IsRead new l (text ++ lines.front)) (sym none) (lines.read text (subst (λ l. IsRead old l text) none read))
+
+-- and of a piece, of which this front was read before
+pub lines_off : {old new : JudgedLines} {after rest : List ℕ} (front piece : List ℕ) (lines : TakesLines old new after rest) → piece ≡ front ++ after → piece ≡ (front ++ lines.front) ++ rest
+lines_off {rest = rest} front piece lines is = is ∙ (ap (λ l. front ++ l) lines.split ∙ sym (append_assoc front lines.front rest))
