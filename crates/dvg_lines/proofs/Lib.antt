@@ -1,1 +1,2 @@
 mod Spaced
+mod Joined

@@ -3,3 +3,4 @@ pub mod Verdicts
 pub mod Shows
 pub mod LogVerdicts
 pub mod RunLines
+pub mod Svg
