@@ -14,7 +14,7 @@ use std::os::fd::AsFd;
 use std::process::ExitCode;
 use twin::frames::check;
 use twin::lines::Line;
-use twin::listing::is_first_of_two;
+use twin::listing::{ListFault, write_list};
 use twin::memory::{BYTES, Banked, Flat};
 use twin::options::Options;
 use twin::picture::{is_image, write_picture, write_picture_svg};
@@ -42,9 +42,6 @@ const MOST_IMAGE_BYTES: usize = 6144;
 /// The word address behind a ROM's last word.
 const ROM_END: usize = 0xC00;
 
-/// How many word addresses there are.
-const ADDRESSES: usize = 0x1000;
-
 /// How many bytes of a ROM stand in a line.
 const ROM_LINE_BYTES: usize = 16;
 
@@ -67,6 +64,15 @@ enum Fault {
     Refused(String),
     Reader,
     Writer,
+}
+
+impl From<ListFault> for Fault {
+    fn from(fault: ListFault) -> Fault {
+        match fault {
+            ListFault::Cut(place) => Fault::Cut(place),
+            ListFault::Writer => Fault::Writer,
+        }
+    }
 }
 
 impl From<SketchFault> for Fault {
@@ -138,28 +144,6 @@ fn read_up_to(reader: &mut impl Read, buffer: &mut [u8]) -> io::Result<usize> {
     Ok(length)
 }
 
-/// Writes a line for each instruction of the words, the first of which stands there.
-fn list_words(bytes: &[u8], at: usize, writer: &mut impl Write) -> Result<(), Fault> {
-    let (words, _) = bytes.as_chunks();
-    let mut place = 0;
-    while place < words.len() {
-        let mut line = Line::new();
-        let address = (at + place) % ADDRESSES;
-        let first = u16::from_le_bytes(words[place]);
-        let (length, second) = if is_first_of_two(first) {
-            let second = words.get(place + 1).ok_or(Fault::Cut(address))?;
-            (2, u16::from_le_bytes(*second))
-        } else {
-            (1, 0)
-        };
-        line.listed(address, first, second);
-        line.push(b'\n');
-        line.write(writer).map_err(|_| Fault::Writer)?;
-        place += length;
-    }
-    Ok(())
-}
-
 /// Writes the line of the map of the larger ROM, and a line for each eight words.
 fn write_rom(bytes: &[u8], writer: &mut impl Write) -> Result<(), Fault> {
     if bytes.len() == LARGE_ROM_BYTES {
@@ -217,9 +201,10 @@ fn list(at: usize) -> Result<ExitCode, Fault> {
         return Err(Fault::OddLength);
     }
     let mut writer = output()?;
-    let listed = list_words(&buffer[..length], at, &mut writer);
+    let listed = write_list(&buffer[..length], at, &mut writer);
     writer.flush().map_err(|_| Fault::Writer)?;
-    listed.map(|()| ExitCode::SUCCESS)
+    listed?;
+    Ok(ExitCode::SUCCESS)
 }
 
 /// Writes the ROM that standard input holds as text on standard output.
