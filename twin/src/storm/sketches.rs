@@ -585,14 +585,14 @@ pub fn with_mistake(text: &[u8], seed: u64) -> Vec<u8> {
         .collect();
     let place = random.below(lines.len());
     let other = random.below(lines.len());
-    match random.below(14) {
+    match random.below(15) {
         0 => lines[place] = random_line(random),
         1 | 2 => lines.insert(place, random_line(random)),
         3 => drop(lines.remove(place)),
         4 => lines.insert(place, lines[place].clone()),
         5 => lines.swap(place, other),
         10 | 11 => lines.insert(place, lines[other].clone()),
-        12 => lines.insert(place, beginning(&lines, random)),
+        12 | 13 => lines.insert(place, beginning(&lines, random)),
         6 if random.once_in(4) => {
             let many = vec![b"svec 2 1 1 1".to_vec(); 600];
             lines.splice(place..place, many);
@@ -607,14 +607,23 @@ pub fn with_mistake(text: &[u8], seed: u64) -> Vec<u8> {
     lines.join(&b'\n')
 }
 
-/// One of the lines that begin sections, if there is one.
+/// A line that begins a section: one of those that are there, or one of the ROM near it.
 fn beginning(lines: &[Vec<u8>], random: &mut Random) -> Vec<u8> {
     let begins = |line: &&Vec<u8>| line.contains(&b'.');
     let lines: Vec<_> = lines.iter().filter(begins).collect();
     if lines.is_empty() {
         return b".rom".to_vec();
     }
-    lines[random.below(lines.len())].clone()
+    let line = lines[random.below(lines.len())];
+    let text = String::from_utf8_lossy(line);
+    let near = text.split_whitespace().nth(1).and_then(|digits| {
+        let address = usize::from_str_radix(digits, 16).ok()?;
+        Some(format!(
+            ".rom {:03X}",
+            (address + random.below(5)).saturating_sub(2)
+        ))
+    });
+    near.map_or(line.clone(), String::into_bytes)
 }
 
 fn change_byte(line: &mut Vec<u8>, random: &mut Random) {
