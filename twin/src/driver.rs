@@ -20,6 +20,34 @@ fn sign_and_magnitude(number: i16, bits: u16) -> u16 {
     number.unsigned_abs() | u16::from(number < 0) << bits
 }
 
+/// The words of an operation, and how many there are. `place` tells where each operation lies.
+pub fn encode(op: Op, place: impl Fn(u16) -> u16) -> ([u16; 2], usize) {
+    match op {
+        Op::Draw(Instr::Vctr { scale, dx, dy, z }) => {
+            let first = u16::from(scale) << 12 | sign_and_magnitude(dy, 10);
+            let second = u16::from(z) << 12 | sign_and_magnitude(dx, 10);
+            ([first, second], 2)
+        }
+        Op::Draw(Instr::Labs { x, y, scale }) => ([0xA000 | y, u16::from(scale) << 12 | x], 2),
+        Op::Draw(Instr::Svec { scale, dx, dy, z }) => {
+            let weights = u16::from(scale - 2);
+            let word = 0xF000
+                | (weights & 1) << 11
+                | sign_and_magnitude(i16::from(dy), 2) << 8
+                | u16::from(z) << 4
+                | (weights >> 1) << 3
+                | sign_and_magnitude(i16::from(dx), 2);
+            ([word, 0], 1)
+        }
+        Op::CallRom(a) => ([0xC000 | a, 0], 1),
+        Op::JumpRom(a) => ([0xE000 | a, 0], 1),
+        Op::Call(i) => ([0xC000 | place(i), 0], 1),
+        Op::Jump(i) => ([0xE000 | place(i), 0], 1),
+        Op::Return => ([0xD000, 0], 1),
+        Op::Halt => ([0xB000, 0], 1),
+    }
+}
+
 impl Cursor {
     fn new(frame: Frame, base: u16) -> Cursor {
         Cursor {
@@ -39,38 +67,10 @@ impl Cursor {
         self.base + before.iter().map(|op| op.words() as u16).sum::<u16>()
     }
 
-    /// The words of an operation, and how many there are.
-    fn encode(&self, op: Op) -> ([u16; 2], usize) {
-        match op {
-            Op::Draw(Instr::Vctr { scale, dx, dy, z }) => {
-                let first = u16::from(scale) << 12 | sign_and_magnitude(dy, 10);
-                let second = u16::from(z) << 12 | sign_and_magnitude(dx, 10);
-                ([first, second], 2)
-            }
-            Op::Draw(Instr::Labs { x, y, scale }) => ([0xA000 | y, u16::from(scale) << 12 | x], 2),
-            Op::Draw(Instr::Svec { scale, dx, dy, z }) => {
-                let weights = u16::from(scale - 2);
-                let word = 0xF000
-                    | (weights & 1) << 11
-                    | sign_and_magnitude(i16::from(dy), 2) << 8
-                    | u16::from(z) << 4
-                    | (weights >> 1) << 3
-                    | sign_and_magnitude(i16::from(dx), 2);
-                ([word, 0], 1)
-            }
-            Op::CallRom(a) => ([0xC000 | a, 0], 1),
-            Op::JumpRom(a) => ([0xE000 | a, 0], 1),
-            Op::Call(i) => ([0xC000 | self.place(i), 0], 1),
-            Op::Jump(i) => ([0xE000 | self.place(i), 0], 1),
-            Op::Return => ([0xD000, 0], 1),
-            Op::Halt => ([0xB000, 0], 1),
-        }
-    }
-
     fn next(&mut self) -> Option<(u16, u8)> {
         if self.from == self.to {
             let op = *self.frame.ops.get(self.next_op)?;
-            let (words, count) = self.encode(op);
+            let (words, count) = encode(op, |i| self.place(i));
             self.words = words;
             self.next_op += 1;
             self.from = 0;

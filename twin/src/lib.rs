@@ -1,6 +1,7 @@
 //! What the proved sources do, written a second time in plain Rust, with nothing proved and nothing
 //! taken over: an oracle for tests, and what speeds are compared with.
 
+pub mod draw;
 pub mod driver;
 pub mod frames;
 pub mod generator;
@@ -8,10 +9,14 @@ pub mod judge;
 pub mod lines;
 pub mod listing;
 pub mod memory;
+pub mod options;
 pub mod picture;
 pub mod port;
+pub mod rows;
 pub mod run;
 pub mod shows;
+pub mod sketch;
+pub mod svg;
 pub mod texts;
 pub mod torn;
 pub mod traces;
@@ -20,8 +25,11 @@ pub mod world;
 /// Random schedules and images, and a recount of what came of them, by no module above.
 pub mod storm {
     pub mod drafts;
+    pub mod literal;
     pub mod pictures;
     pub mod programs;
     pub mod recount;
     pub mod schedules;
+    pub mod sketches;
+    pub mod ways;
 }

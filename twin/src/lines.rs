@@ -60,6 +60,14 @@ impl Line {
         self.text(&digits[place..]);
     }
 
+    /// Writes a number, with a sign where it is negative, in decimal.
+    pub fn signed(&mut self, number: i32) {
+        if number < 0 {
+            self.push(b'-');
+        }
+        self.decimal(number.unsigned_abs());
+    }
+
     /// Writes the line on a device.
     pub fn write(&self, writer: &mut impl Write) -> io::Result<()> {
         writer.write_all(&self.bytes[..self.length])

@@ -1,6 +1,17 @@
 //! The lines that `list` writes of instructions, for the plain twin.
 
 use crate::lines::Line;
+use std::io::Write;
+
+/// How many word addresses there are.
+const ADDRESSES: usize = 0x1000;
+
+/// Why words aren't listed.
+pub enum ListFault {
+    /// The instruction at this address lacks its second word.
+    Cut(usize),
+    Writer,
+}
 
 /// The signed number of a word: so many bits of magnitude, and the sign above them.
 fn signed(word: u16, bits: u16) -> i16 {
@@ -96,4 +107,26 @@ impl Line {
             self.text(b" *");
         }
     }
+}
+
+/// Writes a line for each instruction of the words, of which the first stands there.
+pub fn write_list(bytes: &[u8], at: usize, writer: &mut impl Write) -> Result<(), ListFault> {
+    let (words, _) = bytes.as_chunks();
+    let mut place = 0;
+    while place < words.len() {
+        let mut line = Line::new();
+        let address = (at + place) % ADDRESSES;
+        let first = u16::from_le_bytes(words[place]);
+        let (length, second) = if is_first_of_two(first) {
+            let second = words.get(place + 1).ok_or(ListFault::Cut(address))?;
+            (2, u16::from_le_bytes(*second))
+        } else {
+            (1, 0)
+        };
+        line.listed(address, first, second);
+        line.push(b'\n');
+        line.write(writer).map_err(|_| ListFault::Writer)?;
+        place += length;
+    }
+    Ok(())
 }

@@ -4,6 +4,7 @@
 use crate::generator::{Beam, GenFault, Generator, Stroke, Taken};
 use crate::lines::Line;
 use crate::shows::write_strokes;
+use crate::svg::write_svg;
 use std::io::{self, Write};
 
 /// The bytes of the RAM, at the front of an image.
@@ -27,8 +28,9 @@ struct Ran {
 /// How a run ends.
 enum Ending {
     Finished(u32, Vec<Stroke>),
-    Broke(u16, GenFault),
-    Endless,
+    /// With the strokes up to there.
+    Broke(u16, GenFault, Vec<Stroke>),
+    Endless(Vec<Stroke>),
 }
 
 /// The word at an address; none in a hole.
@@ -86,10 +88,13 @@ fn run(image: &[u8], all: bool) -> (Vec<Ran>, Ending) {
         match taken {
             Taken::Low | Taken::Word => {}
             Taken::Done(strokes) => return (ran, Ending::Finished(words + 1, strokes)),
-            Taken::Broke(fault) => return (ran, Ending::Broke(address, fault)),
+            Taken::Broke(fault) => {
+                let strokes = generator.strokes().to_vec();
+                return (ran, Ending::Broke(address, fault, strokes));
+            }
         }
     }
-    (ran, Ending::Endless)
+    (ran, Ending::Endless(generator.strokes().to_vec()))
 }
 
 /// Writes the line of an instruction that was run, and that of its stroke.
@@ -120,7 +125,7 @@ fn write_ending(ending: &Ending, writer: &mut impl Write) -> io::Result<()> {
             line.write(writer)?;
             write_strokes(strokes, writer)
         }
-        Ending::Broke(address, fault) => {
+        Ending::Broke(address, fault, _) => {
             line.text(b"broke ");
             line.hex::<3>(usize::from(*address));
             line.push(b' ');
@@ -128,8 +133,28 @@ fn write_ending(ending: &Ending, writer: &mut impl Write) -> io::Result<()> {
             line.push(b'\n');
             line.write(writer)
         }
-        Ending::Endless => writer.write_all(b"endless\n"),
+        Ending::Endless(_) => writer.write_all(b"endless\n"),
     }
+}
+
+/// Runs a generator over an image, and writes what that draws as SVG, with so many percent of its
+/// size. Why it draws no picture, if it doesn't, is the title, and is answered.
+pub fn write_picture_svg(
+    image: &[u8],
+    percent: u32,
+    writer: &mut impl Write,
+) -> io::Result<Option<String>> {
+    let (_, ending) = run(image, false);
+    let (strokes, reason) = match ending {
+        Ending::Finished(_, strokes) => (strokes, None),
+        Ending::Broke(address, fault, strokes) => {
+            let reason = format!("broke {address:03X} {}", fault.number());
+            (strokes, Some(reason))
+        }
+        Ending::Endless(strokes) => (strokes, Some(String::from("endless"))),
+    };
+    write_svg(reason.as_deref(), &strokes, percent, writer)?;
+    Ok(reason)
 }
 
 /// Whether an image has as many bytes as one can have.

@@ -61,7 +61,11 @@ pub fn last<'a, T>(mut parts: impl Iterator<Item = &'a [u8]>, value: T) -> Optio
 
 /// The operation that a line spells.
 pub fn read_op(line: &[u8]) -> Option<Op> {
-    let mut parts = line.split(|byte| *byte == b' ');
+    op_of_parts(line.split(|byte| *byte == b' '))
+}
+
+/// The operation that the parts of a line spell.
+pub fn op_of_parts<'a>(mut parts: impl Iterator<Item = &'a [u8]>) -> Option<Op> {
     let op = match parts.next()? {
         b"vctr" => Op::Draw(Instr::Vctr {
             scale: natural(parts.next()?, 9)? as u8,
@@ -98,6 +102,8 @@ const UNGIVEN: u16 = 0xD000;
 pub struct RomText {
     is_told: bool,
     rom: Rom,
+    /// The word address after the highest word that was given, or else the ROM's first one.
+    free: u16,
 }
 
 impl RomText {
@@ -105,7 +111,18 @@ impl RomText {
         RomText {
             is_told: false,
             rom: Rom::of(0x800, UNGIVEN),
+            free: 0x800,
         }
+    }
+
+    /// The word address of the ROM's first word.
+    pub fn first(&self) -> u16 {
+        self.rom.first
+    }
+
+    /// The word address after the highest word that was given, or else the ROM's first one.
+    pub fn free(&self) -> u16 {
+        self.free
     }
 
     pub fn into_rom(self) -> Rom {
@@ -124,6 +141,7 @@ impl RomText {
         }
         self.is_told = true;
         self.rom = Rom::of(first, UNGIVEN);
+        self.free = first;
         Some(())
     }
 
@@ -143,6 +161,7 @@ impl RomText {
             place += 1;
         }
         self.is_told = true;
+        self.free = self.free.max(self.rom.first + place as u16);
         (first < place).then_some(())
     }
 }

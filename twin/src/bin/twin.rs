@@ -14,14 +14,17 @@ use std::os::fd::AsFd;
 use std::process::ExitCode;
 use twin::frames::check;
 use twin::lines::Line;
-use twin::listing::is_first_of_two;
+use twin::listing::{ListFault, write_list};
 use twin::memory::{BYTES, Banked, Flat};
-use twin::picture::{is_image, write_picture};
+use twin::options::Options;
+use twin::picture::{is_image, write_picture, write_picture_svg};
 use twin::shows::write_entries;
-use twin::texts::{MOST_TEXT_BYTES, TextFault, read_draft};
+use twin::sketch::{Sketch, SketchFault, read_sketch};
+use twin::svg::{Show, write_svgs};
+use twin::texts::{MOST_TEXT_BYTES, TextFault, hex, read_draft};
 use twin::torn::{LogFault, Torn, judge_text};
 use twin::traces::read_trace;
-use twin::world::run;
+use twin::world::{Entry, run};
 
 /// The most bytes that `list` takes as its input.
 const MOST_LIST_BYTES: usize = 8192;
@@ -56,8 +59,26 @@ enum Fault {
     Full(usize),
     Many(usize),
     Unended,
+    Sketch(SketchFault),
+    /// A frame of a sketch is refused, and this is said of it.
+    Refused(String),
     Reader,
     Writer,
+}
+
+impl From<ListFault> for Fault {
+    fn from(fault: ListFault) -> Fault {
+        match fault {
+            ListFault::Cut(place) => Fault::Cut(place),
+            ListFault::Writer => Fault::Writer,
+        }
+    }
+}
+
+impl From<SketchFault> for Fault {
+    fn from(fault: SketchFault) -> Fault {
+        Fault::Sketch(fault)
+    }
 }
 
 impl From<TextFault> for Fault {
@@ -103,6 +124,8 @@ impl fmt::Display for Fault {
             Fault::Full(line) => write!(f, "full at line {line}"),
             Fault::Many(line) => write!(f, "too many events at line {line}"),
             Fault::Unended => write!(f, "offer without end"),
+            Fault::Sketch(fault) => fault.fmt(f),
+            Fault::Refused(text) => f.write_str(text),
             Fault::Reader => write!(f, "read failed"),
             Fault::Writer => write!(f, "write failed"),
         }
@@ -119,27 +142,6 @@ fn read_up_to(reader: &mut impl Read, buffer: &mut [u8]) -> io::Result<usize> {
         }
     }
     Ok(length)
-}
-
-/// Writes a line for each instruction of the words.
-fn list_words(bytes: &[u8], writer: &mut impl Write) -> Result<(), Fault> {
-    let (words, _) = bytes.as_chunks();
-    let mut place = 0;
-    while place < words.len() {
-        let mut line = Line::new();
-        let first = u16::from_le_bytes(words[place]);
-        let (length, second) = if is_first_of_two(first) {
-            let second = words.get(place + 1).ok_or(Fault::Cut(place))?;
-            (2, u16::from_le_bytes(*second))
-        } else {
-            (1, 0)
-        };
-        line.listed(place, first, second);
-        line.push(b'\n');
-        line.write(writer).map_err(|_| Fault::Writer)?;
-        place += length;
-    }
-    Ok(())
 }
 
 /// Writes the line of the map of the larger ROM, and a line for each eight words.
@@ -188,8 +190,8 @@ fn output() -> Result<BufWriter<File>, Fault> {
     Ok(BufWriter::new(File::from(output)))
 }
 
-/// Lists the words that standard input holds on standard output.
-fn list() -> Result<(), Fault> {
+/// Lists the words that standard input holds on standard output. The first stands there.
+fn list(at: usize) -> Result<ExitCode, Fault> {
     let mut buffer = [0; MOST_LIST_BYTES + 1];
     let length = read_input(&mut buffer)?;
     if length > MOST_LIST_BYTES {
@@ -199,9 +201,10 @@ fn list() -> Result<(), Fault> {
         return Err(Fault::OddLength);
     }
     let mut writer = output()?;
-    let listed = list_words(&buffer[..length], &mut writer);
+    let listed = write_list(&buffer[..length], at, &mut writer);
     writer.flush().map_err(|_| Fault::Writer)?;
-    listed
+    listed?;
+    Ok(ExitCode::SUCCESS)
 }
 
 /// Writes the ROM that standard input holds as text on standard output.
@@ -216,22 +219,43 @@ fn rom() -> Result<(), Fault> {
     writer.flush().map_err(|_| Fault::Writer)
 }
 
-/// Writes what the image of vector memory that standard input holds draws, or why that has no end.
-fn picture(all: bool) -> Result<ExitCode, Fault> {
-    let mut buffer = [0; MOST_IMAGE_BYTES + 1];
+/// The image of vector memory that standard input holds.
+fn read_image() -> Result<Vec<u8>, Fault> {
+    let mut buffer = vec![0; MOST_IMAGE_BYTES + 1];
     let length = read_input(&mut buffer)?;
     if !is_image(length) {
         return Err(Fault::DumpSize);
     }
+    buffer.truncate(length);
+    Ok(buffer)
+}
+
+/// Writes what the image of vector memory that standard input holds draws, or why that has no end.
+fn picture(all: bool) -> Result<ExitCode, Fault> {
+    let image = read_image()?;
     let mut writer = output()?;
-    let drew = write_picture(&buffer[..length], all, &mut writer)
+    let drew = write_picture(&image, all, &mut writer)
         .and_then(|drew| writer.flush().map(|()| drew))
         .map_err(|_| Fault::Writer)?;
-    Ok(if drew {
-        ExitCode::SUCCESS
-    } else {
-        ExitCode::from(1)
-    })
+    Ok(status_of(drew))
+}
+
+/// Writes what the image of vector memory that standard input holds draws as SVG.
+fn picture_svg(percent: u32) -> Result<ExitCode, Fault> {
+    let image = read_image()?;
+    let mut writer = output()?;
+    let reason = write_picture_svg(&image, percent, &mut writer)
+        .and_then(|reason| writer.flush().map(|()| reason))
+        .map_err(|_| Fault::Writer)?;
+    if let Some(reason) = &reason {
+        complain(format_args!("dvg: {reason}"));
+    }
+    Ok(status_of(reason.is_none()))
+}
+
+/// The status of what was asked about, by whether it is good.
+fn status_of(good: bool) -> ExitCode {
+    ExitCode::from(u8::from(!good))
 }
 
 /// The text that standard input holds, or a beginning that is one byte too long.
@@ -264,43 +288,86 @@ fn check_text(bound: bool) -> Result<ExitCode, Fault> {
     Ok(status)
 }
 
-/// What the options of `play` ask for.
-#[derive(Clone, Copy, Default)]
-struct PlayOptions {
-    all: bool,
-    banked: bool,
+/// What is written of a trace.
+enum Shown {
+    Pictures,
+    All,
+    Svg(Show),
 }
 
-/// The options that these words give, each at most once.
-fn play_options(words: &[String]) -> Option<PlayOptions> {
-    let mut options = PlayOptions::default();
-    for word in words {
-        let option = match word.as_str() {
-            "--all" => &mut options.all,
-            "--banked" => &mut options.banked,
-            _ => return None,
-        };
-        if std::mem::replace(option, true) {
-            return None;
-        }
-    }
-    Some(options)
+/// Writes the pictures of all runs that finished as SVG.
+fn write_pictures(entries: &[Entry], show: Show, writer: &mut impl Write) -> io::Result<()> {
+    let pictures: Vec<_> = entries
+        .iter()
+        .filter_map(|entry| match entry {
+            Entry::Done(_, _, strokes) => Some(strokes),
+            _ => None,
+        })
+        .collect();
+    write_svgs(pictures.into_iter(), show, writer)
 }
 
-/// Plays the trace that standard input holds as text, and writes its pictures, or all entries, on
-/// standard output.
-fn play(options: PlayOptions) -> Result<(), Fault> {
+/// Plays the trace that standard input holds as text, and writes of it what is asked for.
+fn play(banked: bool, shown: Shown) -> Result<ExitCode, Fault> {
     let (trace, rom) = read_trace(&read_text()?)?;
     let image = [0; BYTES];
-    let entries = if options.banked {
+    let entries = if banked {
         run::<Banked>(&rom, &image, &trace)
     } else {
         run::<Flat>(&rom, &image, &trace)
     };
     let mut writer = output()?;
-    write_entries(&entries, options.all, &mut writer)
-        .and_then(|()| writer.flush())
-        .map_err(|_| Fault::Writer)
+    match shown {
+        Shown::Pictures => write_entries(&entries, false, &mut writer),
+        Shown::All => write_entries(&entries, true, &mut writer),
+        Shown::Svg(show) => write_pictures(&entries, show, &mut writer),
+    }
+    .and_then(|()| writer.flush())
+    .map_err(|_| Fault::Writer)?;
+    Ok(ExitCode::SUCCESS)
+}
+
+/// What is made of a sketch.
+enum Made {
+    Checks,
+    Svg(Show),
+    Bytes(usize),
+    Table,
+    Rom,
+    Equates,
+}
+
+/// Refuses a sketch of which that can't be made.
+fn refuse(sketch: &Sketch, made: &Made) -> Result<(), Fault> {
+    let refused = |refusal: twin::draw::Refusal| Fault::Refused(refusal.to_string());
+    if let Made::Checks = made {
+        return Ok(());
+    }
+    sketch.check().map_err(refused)?;
+    if let Made::Table = made {
+        sketch.check_table().map_err(refused)?;
+    }
+    Ok(())
+}
+
+/// Makes that of the sketch that standard input holds.
+fn make(made: &Made) -> Result<ExitCode, Fault> {
+    let mut text = read_text()?;
+    let sketch = read_sketch(&mut text)?;
+    refuse(&sketch, made)?;
+    let mut writer = output()?;
+    let good = match made {
+        Made::Checks => sketch.write_checks(&mut writer),
+        Made::Svg(show) => sketch.write_svg(*show, &mut writer).map(|()| true),
+        Made::Bytes(half) => sketch.write_bytes(*half, &mut writer).map(|()| true),
+        Made::Table => sketch.write_table(&mut writer).map(|()| true),
+        Made::Rom => sketch.write_rom(&mut writer).map(|()| true),
+        Made::Equates => sketch.write_equates(&mut writer).map(|()| true),
+    };
+    let good = good
+        .and_then(|good| writer.flush().map(|()| good))
+        .map_err(|_| Fault::Writer)?;
+    Ok(status_of(good))
 }
 
 /// Judges the log that standard input holds as text, and writes what is said of it on standard
@@ -309,7 +376,11 @@ fn torn() -> Result<ExitCode, Fault> {
     let verdict = judge_text(&mut input()?)?;
     let undrawn = verdict.seen.is_undrawn();
     let found = match &verdict.torn {
-        Some(Torn { line, address, byte }) => {
+        Some(Torn {
+            line,
+            address,
+            byte,
+        }) => {
             format!("torn at line {line}: wrote {address:03X} {byte:02X}\nso far")
         }
         None if undrawn => "no run drew".to_string(),
@@ -333,18 +404,97 @@ fn complain(line: fmt::Arguments) {
     let _ = writeln!(io::stderr(), "{line}");
 }
 
+/// What the options `--scale` and `--rate` tell.
+fn show_of(options: &Options) -> Option<Show> {
+    Some(Show {
+        percent: options.number("--scale", 10..=400, 100)?,
+        rate: options.number("--rate", 1..=60, 30)?,
+    })
+}
+
+/// What `list` is asked for.
+fn list_by(words: &[String]) -> Option<Result<ExitCode, Fault>> {
+    let options = Options::read(words, &[], &["--at"])?;
+    let at = match options.value("--at") {
+        Some(digits) => hex(digits.as_bytes(), 3)?,
+        None => 0,
+    };
+    Some(list(usize::from(at)))
+}
+
+/// What `picture` is asked for. How large it is shown is told of an SVG alone.
+fn picture_by(words: &[String]) -> Option<Result<ExitCode, Fault>> {
+    let options = Options::read(words, &["--all", "--svg"], &["--scale"])?;
+    let show = show_of(&options)?;
+    match (options.has("--svg"), options.has("--all")) {
+        (true, false) => Some(picture_svg(show.percent)),
+        (false, all) if !options.has("--scale") => Some(picture(all)),
+        _ => None,
+    }
+}
+
+/// What `play` is asked for.
+fn play_by(words: &[String]) -> Option<Result<ExitCode, Fault>> {
+    let alone = ["--all", "--banked", "--svg"];
+    let options = Options::read(words, &alone, &["--scale", "--rate"])?;
+    let show = show_of(&options)?;
+    let shown = match (options.has("--svg"), options.has("--all")) {
+        (true, false) => Shown::Svg(show),
+        (true, true) => return None,
+        (false, _) if options.count(&["--scale", "--rate"]) > 0 => return None,
+        (false, true) => Shown::All,
+        (false, false) => Shown::Pictures,
+    };
+    Some(play(options.has("--banked"), shown))
+}
+
+/// What `draw` is asked for.
+fn draw_by(words: &[String]) -> Option<Result<ExitCode, Fault>> {
+    let options = Options::read(words, &["--check"], &["--scale", "--rate"])?;
+    let show = show_of(&options)?;
+    Some(make(&if options.has("--check") {
+        Made::Checks
+    } else {
+        Made::Svg(show)
+    }))
+}
+
+/// What `lay` is asked for.
+fn lay_by(words: &[String]) -> Option<Result<ExitCode, Fault>> {
+    let alone = ["--table", "--rom", "--equates"];
+    let options = Options::read(words, &alone, &["--half"])?;
+    if options.count(&["--half", "--table", "--rom", "--equates"]) > 1 {
+        return None;
+    }
+    let made = if options.has("--table") {
+        Made::Table
+    } else if options.has("--rom") {
+        Made::Rom
+    } else if options.has("--equates") {
+        Made::Equates
+    } else {
+        Made::Bytes(match options.value("--half") {
+            None | Some("0") => 0,
+            Some("1") => 1,
+            Some(_) => return None,
+        })
+    };
+    Some(make(&made))
+}
+
 /// Does what the words ask for. None where they ask for nothing the program can do.
 fn do_job(words: &[String]) -> Option<Result<ExitCode, Fault>> {
     let (command, options) = words.split_first()?;
     match command.as_str() {
-        "list" if options.is_empty() => Some(list().map(|()| ExitCode::SUCCESS)),
+        "list" => list_by(options),
         "rom" if options.is_empty() => Some(rom().map(|()| ExitCode::SUCCESS)),
         "check" if options.is_empty() => Some(check_text(false)),
         "check" if options == ["--bound"] => Some(check_text(true)),
-        "picture" if options.is_empty() => Some(picture(false)),
-        "picture" if options == ["--all"] => Some(picture(true)),
+        "picture" => picture_by(options),
         "torn" if options.is_empty() => Some(torn()),
-        "play" => Some(play(play_options(options)?).map(|()| ExitCode::SUCCESS)),
+        "play" => play_by(options),
+        "draw" => draw_by(options),
+        "lay" => lay_by(options),
         _ => None,
     }
 }
@@ -360,7 +510,8 @@ fn main() -> ExitCode {
     };
     let Some(done) = do_job(&words) else {
         complain(format_args!(
-            "usage: dvg list|rom|check [--bound]|play [--all] [--banked]|picture [--all]"
+            "usage: dvg list [--at HHH]|rom|check [--bound]|play [--all] [--banked]|picture [--all]|\
+             draw [--check]|lay [--half 0|1]|torn"
         ));
         return ExitCode::from(MISUSE);
     };

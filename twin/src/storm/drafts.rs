@@ -44,7 +44,7 @@ impl Random {
 }
 
 /// An operation of a draft, or an instruction of the ROM.
-#[derive(Clone, Copy)]
+#[derive(Clone, Copy, Debug, PartialEq)]
 pub enum Op {
     Vctr {
         scale: u32,
@@ -199,6 +199,20 @@ impl Rom {
         address + words.len() as u16
     }
 
+    /// The word address of the ROM's first word.
+    pub fn first(&self) -> u16 {
+        self.first
+    }
+
+    /// Takes a routine that stands there in another way than by lines of words.
+    pub fn add_shape(&mut self, address: u16, depth: usize, halts: bool) {
+        self.routines.push(Routine {
+            address,
+            depth,
+            halts,
+        });
+    }
+
     /// One of the routines for which this holds, but not each time.
     fn any_routine(
         &self,
@@ -313,7 +327,7 @@ impl Part<'_> {
     }
 }
 
-fn labs(random: &mut Random) -> Op {
+pub fn labs(random: &mut Random) -> Op {
     Op::Labs {
         x: random.below(4096) as i64,
         y: random.below(4096) as i64,
@@ -322,7 +336,7 @@ fn labs(random: &mut Random) -> Op {
 }
 
 /// A random vector, long or short.
-fn drawing(random: &mut Random) -> Op {
+pub fn drawing(random: &mut Random) -> Op {
     let z = random.below(16) as u32;
     if random.once_in(2) {
         Op::Vctr {
