@@ -950,7 +950,7 @@ def _tell(judge: Judge, parts: "list[str]") -> Optional["tuple[int, int]"]:
 
 
 def judge(log: Union[str, Iterable[str]]) -> Verdict:
-    """Whether a log tears a picture, as `dvg torn` says it; docs/FORMATS.md has the lines.
+    """Whether a log tears a picture, as `dvg torn` says it; `dvg help torn` has the lines.
 
     log is the text, or its lines in order, as an open file gives them. Nothing after the first torn
     line is read. BadLog at a line that is none, none before it being torn.
