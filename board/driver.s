@@ -53,7 +53,7 @@ publish:   .res 1       ; the phase after a frame's last byte: DVG_FLIP once a f
                         ; published since the reset, DVG_ZERO before that
 at:        .res 1       ; the next byte is this one from `to` on, and of a table from `from` on
 to:        .res 2       ; the free half, and a page further for each 256 bytes
-pages:     .res 1       ; of a table: pages that end before the last byte. Building: those behind
+pages:     .res 1       ; of a table: pages that end before the last byte. Building: those after
 end:       .res 1       ; of a table: `at` after its last byte. dvg_copy: after the last byte copied
 second:    .res 1       ; of a table: bit 7: the next word is the second one of its instruction
 from:      .res 2       ; of a table, moved on with `to`; or the bytes that dvg_copy copies

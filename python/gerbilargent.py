@@ -702,7 +702,7 @@ class Generator(_Device):
     ) -> Picture:
         """Starts over this RAM and ROM, which don't change, and runs up to the HALT.
 
-        RunBroke; Endless, where there is no end within so many words; WrongSize, OutOfMemory.
+        RunBroke; Endless, where there is no end within this many words; WrongSize, OutOfMemory.
         """
         held_ram, held_rom = _ram(ram), _rom(rom)
         self.strobe()
@@ -925,7 +925,7 @@ class Judge:
 
 
 def _hex(digits: str, count: int) -> int:
-    """The number of so many hexadecimal digits."""
+    """The number of this many hexadecimal digits."""
     if len(digits) != count or not all(digit in "0123456789abcdefABCDEF" for digit in digits):
         raise ValueError(digits)
     return int(digits, 16)
@@ -999,7 +999,7 @@ def _shapes(stroke: Stroke, side: int) -> Iterator[str]:
 
 
 def svg(strokes: Iterable[Stroke], units: int = 1024) -> str:
-    """Strokes as an SVG of so many screen units along both axes, from 0 on, y upwards.
+    """Strokes as an SVG of this many screen units along both axes, from 0 on, y upwards.
 
     Intensities 1 to 15 are opacities of 0.30 to 1.00, lines 2 pixels wide, and a stroke of length 0
     a dot. A stroke goes the shorter way; where that crosses the edge at 4,096 units, it is there

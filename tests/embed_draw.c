@@ -2,7 +2,7 @@
  *
  *   embed_draw [WORDS] < DUMP
  *
- * It looks for the end of the run within so many words, or DVG_MOST_WORDS. Each stroke that is
+ * It looks for the end of the run within this many words, or DVG_MOST_WORDS. Each stroke that is
  * handed to the function is compared with that of dvg_stroke_at. Status 0: it was a picture; 1: it
  * was none; 2: memory was refused, or something is wrong.
  */

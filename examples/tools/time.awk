@@ -53,7 +53,7 @@ $2 == "fetched" || $2 == "done" {
     next
 }
 
-# An instruction of a dump: its address, its text, and behind `at` the beam and the global scale.
+# An instruction of a dump: its address, its text, and after `at` the beam and the global scale.
 /^[0-9A-F][0-9A-F][0-9A-F] [A-Z]/ {
     if ($2 == "VCTR" || $2 == "SVEC") vector($3)
     else other()

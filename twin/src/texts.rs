@@ -40,7 +40,7 @@ fn integer(part: &[u8], most: u32) -> Option<i16> {
     }
 }
 
-/// A number of so many hexadecimal digits.
+/// A number of this many hexadecimal digits.
 pub fn hex(part: &[u8], count: usize) -> Option<u16> {
     if part.len() != count {
         return None;
@@ -154,7 +154,7 @@ pub fn read_draft(text: &[u8]) -> Result<(Vec<Op>, Rom), TextFault> {
     }
     let mut rom = RomText::new();
     let mut ops = Vec::new();
-    // The part behind the last LF is no line where it is empty, and such a line is passed over.
+    // The part after the last LF is no line where it is empty, and such a line is passed over.
     for (line, number) in text.split(|byte| *byte == b'\n').zip(1..) {
         if line.is_empty() || line[0] == b'#' {
             continue;

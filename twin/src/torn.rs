@@ -73,7 +73,7 @@ fn hex(digits: &[u8]) -> Option<u16> {
     })
 }
 
-/// An address of three digits and a number of so many, with one space between them.
+/// An address of three digits and a number of this many, with one space between them.
 fn numbers(bytes: &[u8], digits: usize) -> Option<(u16, u16)> {
     if bytes.len() != 4 + digits || bytes[3] != b' ' {
         return None;

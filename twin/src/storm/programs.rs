@@ -44,8 +44,8 @@ pub fn ask(program: &Path, words: &[&str], input: &[u8]) -> io::Result<Answer> {
     })
 }
 
-/// Does something for each of so many seeds, from the first on, on all processors: each as soon as
-/// one is free.
+/// Does something for each of this many seeds, from the first on, on all processors: each as soon
+/// as one is free.
 pub fn for_each_seed(
     count: u64,
     first: u64,

@@ -245,7 +245,7 @@ impl Schedule {
         }
     }
 
-    /// Adds so many events in pieces, and something else between two of them now and then.
+    /// Adds this many events in pieces, and something else between two of them now and then.
     fn amid(
         &mut self,
         weather: &Weather,
