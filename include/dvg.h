@@ -651,7 +651,7 @@ typedef void (*dvg_stroke_function)(void *context, dvg_stroke stroke);
  * does, with DVG_MOST_WORDS. The memory is the caller's, and isn't changed. A generator alone is
  * opened for this in place of what was open, and stays open.
  *
- * The kind of `last` tells how it ended:
+ * The kind of `last` says how it ended:
  *
  *   DVG_DONE         by a HALT. The strokes are handed to `on_stroke`, unless that is null;
  *                    dvg_stroke_at has them, too

@@ -18,7 +18,7 @@ proved. `./lib --proved` proves it first. This module itself is tested, not prov
     Generator   the generator alone: it is handed the bytes of a RAM and a ROM of yours
     Draft       the operations of a frame
     picture     what a dump of the vector memory draws
-    judge       whether the log of any system tears a picture; Judge is told one line at a time
+    judge       whether the log of any system tears a picture; Judge takes one line at a time
     svg         strokes as an SVG
 
 Units. A place is in 1/512 of a screen unit, 0 to 2,097,151 along both axes, y upwards; a LABS names
@@ -264,7 +264,7 @@ class DraftRefused(Error):
 
 
 class RunBroke(Error):
-    """A run broke at the word address `address`: `why` tells why."""
+    """A run broke at the word address `address`: `why` says why."""
 
     def __init__(self, address: int, why: Break) -> None:
         self.address, self.why = address, why
@@ -286,7 +286,7 @@ class Endless(Error):
 
 
 class BadLog(Error, ValueError):
-    """A line of a log tells nothing that a line may. `line` is its number, from 1."""
+    """A line of a log says nothing that a line may. `line` is its number, from 1."""
 
     def __init__(self, line: int, text: str) -> None:
         self.line, self.text = line, text
@@ -822,7 +822,7 @@ class World(_Device):
 
 
 def picture(dump: Bytes, most_words: int = MOST_WORDS) -> Picture:
-    """What a dump of the vector memory draws, as `dvg picture` tells it.
+    """What a dump of the vector memory draws, as `dvg picture` says it.
 
     A dump is the 2,048 bytes of a RAM and then the 2,048 or 4,096 bytes of a ROM: 4,096 or 6,144.
     RunBroke; Endless; WrongSize; OutOfMemory.

@@ -27,7 +27,7 @@ static void keep(void *context, dvg_stroke stroke)
     list->count++;
 }
 
-/* Writes the strokes of a picture. Whether they are those that the device tells. */
+/* Writes the strokes of a picture. Whether they are those that the device gives. */
 static bool write_picture(dvg *device, dvg_drawn drawn, const struct list *list)
 {
     bool same = list->count == drawn.strokes && dvg_strokes(device) == drawn.strokes;

@@ -183,7 +183,7 @@ static dvg *new_device(void)
     return device;
 }
 
-/* Opens what plays, over the ROM that the text told so far, where it isn't open yet. */
+/* Opens what plays, over the ROM that the text gave so far, where it isn't open yet. */
 static void open_player(struct player *player)
 {
     dvg_answer opened;

@@ -4,7 +4,7 @@
  *   embed_storm COUNT SEED
  *
  * Storm number i, from 0, comes from SEED + i alone. A storm begins with nothing open, with a
- * world, with a driver or with a generator, by turns. The first line of what is written tells how
+ * world, with a driver or with a generator, by turns. The first line of what is written says how
  * often each kind of answer came, and the last is 'N passed, M failed'.
  *
  * It is linked with the archive of the port and with the twin, twin/src/port.rs, and compiled

@@ -94,7 +94,7 @@ pub fn read_op(line: &[u8]) -> Option<Op> {
 /// A word that no line gives.
 const UNGIVEN: u16 = 0xD000;
 
-/// The ROM that the lines tell which were read.
+/// The ROM that the lines give which were read.
 pub struct RomText {
     is_told: bool,
     rom: Rom,
@@ -112,7 +112,7 @@ impl RomText {
         self.rom
     }
 
-    /// Reads one line more. None where it tells nothing of the ROM, or may not stand here.
+    /// Reads one line more. None where it says nothing of the ROM, or may not stand here.
     pub fn read(&mut self, line: &[u8]) -> Option<()> {
         let first = match line {
             b"map 2048" => 0x800,

@@ -184,7 +184,7 @@ impl fmt::Display for Counts {
     }
 }
 
-/// Counts what an answer with all instructions tells.
+/// Counts what an answer with all instructions shows.
 fn count(answer: &Answer) -> Counts {
     let text = String::from_utf8_lossy(&answer.output);
     let mut counts = Counts::default();

@@ -120,7 +120,7 @@ struct Routine {
     halts: bool,
 }
 
-/// A ROM, and the lines that tell it.
+/// A ROM, and the lines that give it.
 pub struct Rom {
     first: u16,
     words: Vec<u16>,
@@ -188,7 +188,7 @@ impl Rom {
         self.put(address, &words)
     }
 
-    /// Puts words there, and adds the lines that tell them. Answers the address after them.
+    /// Puts words there, and adds the lines that give them. Answers the address after them.
     fn put(&mut self, address: u16, words: &[u16]) -> u16 {
         let first = usize::from(address - self.first);
         self.words[first..first + words.len()].copy_from_slice(words);

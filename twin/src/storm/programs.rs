@@ -80,7 +80,7 @@ pub struct Report<Counts> {
 }
 
 impl<Counts: AddAssign> Report<Counts> {
-    /// Adds what came of the one of this name, and tells what is wrong.
+    /// Adds what came of the one of this name, and says what is wrong.
     pub fn add(&mut self, name: &str, counts: Counts, faults: &[String]) {
         self.counts += counts;
         if faults.is_empty() {

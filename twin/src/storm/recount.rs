@@ -125,7 +125,7 @@ fn hexadecimal(digits: &str) -> Result<u16, String> {
     u16::from_str_radix(digits, 16).map_err(|_| format!("'{digits}' is no number"))
 }
 
-/// Counts what the lines show, or tells the first line that is wrong.
+/// Counts what the lines show, or reports the first line that is wrong.
 pub fn recount(schedule: &Schedule, output: &str) -> Result<Counts, String> {
     let mut recount = Recount {
         schedule,
