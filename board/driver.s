@@ -1,7 +1,7 @@
 ; A frame driver for the Digital Vector Generator, for the 6502: the script of the proved driver
 ; in crates/dvg_driver, action by action. crates/dvg_6502 proves it of the bytes of all routines but
 ; those that build frames; all of it is tested against that driver (tests/board).
-; docs/BOARD.md shows how a program uses it, and tells the cycles and bytes of each routine.
+; docs/BOARD.md shows how a program uses it, and has the cycles and bytes of each routine.
 ;
 ;   dvg_reset    before all others, once after each reset of the processor
 ;   dvg_tick     does one action: writes one byte, looks at byte 001, reads the flag, or sends the
@@ -53,7 +53,7 @@ publish:   .res 1       ; the phase after a frame's last byte: DVG_FLIP once a f
                         ; published since the reset, DVG_ZERO before that
 at:        .res 1       ; the next byte is this one from `to` on, and of a table from `from` on
 to:        .res 2       ; the free half, and a page further for each 256 bytes
-pages:     .res 1       ; of a table: pages that end before the last byte. Building: those behind
+pages:     .res 1       ; of a table: pages that end before the last byte. Building: those after
 end:       .res 1       ; of a table: `at` after its last byte. dvg_copy: after the last byte copied
 second:    .res 1       ; of a table: bit 7: the next word is the second one of its instruction
 from:      .res 2       ; of a table, moved on with `to`; or the bytes that dvg_copy copies

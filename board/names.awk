@@ -4,7 +4,7 @@
 #     awk -v equates=EQUATES -f names.awk <DRAFT
 #
 # A call or jump of an address below 400 is refused: the 6502 driver would take it for one within
-# the frame. So is a name that isn't there. Both are told with their line, and the status is 1.
+# the frame. So is a name that isn't there. Both are reported with their line, and the status is 1.
 
 function refuse(text) {
     print "names.awk: " text " at line " NR | "cat 1>&2"

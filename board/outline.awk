@@ -3,7 +3,7 @@
 #     awk -f outline.awk <OUTLINES >SHAPES.draft
 #
 # A shape is a name with a colon, and points X,Y in units of the screen, from where the beam is when
-# the shape is called. The beam draws to each point, and moves to one behind an @ without drawing.
+# the shape is called. The beam draws to each point, and moves to one after an @ without drawing.
 # Points may go on in the next lines, and # begins a comment. A house, with a door:
 #
 #     house: 60,0 60,40 30,60 0,40 0,0 @20,0 20,20 35,20 35,0 @0,0
@@ -12,7 +12,7 @@
 # vector as its scale says, however short it is. The global scale 0 shows a shape in its own size,
 # 1 twice as large, and 15 half as large. A vector goes at most 1,023 units.
 # -v intensity=N sets how bright it is, 1 to 15; it is 9 where none is given. What can't be read is
-# told on standard error, with its line, and the status is 1.
+# reported on standard error, with its line, and the status is 1.
 
 function refuse(text) {
     print "outline.awk: " text " at line " NR | "cat 1>&2"

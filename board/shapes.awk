@@ -5,7 +5,7 @@
 #     awk -v at=AT -v write=draft -f shapes.awk       its operations, with calls of the ROM alone
 #
 # AT is three hexadecimal digits. A call or a jump names a shape of the same file, and becomes one
-# of its address. What can't be read is told on standard error, and the status is 1.
+# of its address. What can't be read is reported on standard error, and the status is 1.
 
 function refuse(text) {
     print "shapes.awk: " text | "cat 1>&2"

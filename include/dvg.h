@@ -304,7 +304,8 @@ static inline const char *dvg_break_text(dvg_break why)
 
 /* --- Staged bytes --- */
 
-/* Stages a byte so often, after the bytes that are staged. DVG_STAGED; DVG_FULL; DVG_NO_MEMORY. */
+/* Stages a byte this many times, after the bytes that are staged. DVG_STAGED; DVG_FULL;
+ * DVG_NO_MEMORY. */
 static inline dvg_answer dvg_stage_byte(dvg *device, uint8_t byte, uint16_t count)
 {
     return dvg_ask(device, DVG_REQUEST_STAGE | (uint64_t)byte << 16 | (uint64_t)count << 24);
@@ -650,14 +651,15 @@ typedef void (*dvg_stroke_function)(void *context, dvg_stroke stroke);
  * does, with DVG_MOST_WORDS. The memory is the caller's, and isn't changed. A generator alone is
  * opened for this in place of what was open, and stays open.
  *
- * The kind of `last` tells how it ended:
+ * The kind of `last` says how it ended:
  *
  *   DVG_DONE         by a HALT. The strokes are handed to `on_stroke`, unless that is null;
  *                    dvg_stroke_at has them, too
- *   DVG_BROKE        the run broke, at last.address: dvg_break_of(last). No stroke is told
- *   DVG_FETCHED      neither within `most_words` words, as of an endless list. No stroke is told
+ *   DVG_BROKE        the run broke, at last.address: dvg_break_of(last). No stroke is handed out
+ *   DVG_FETCHED      neither within `most_words` words, as of an endless list. No stroke is handed
+ *                    out
  *   DVG_STARTED      the same, where `most_words` is 0
- *   DVG_NO_MEMORY    there was no memory for a stroke. No stroke is told
+ *   DVG_NO_MEMORY    there was no memory for a stroke. No stroke is handed out
  *   DVG_WRONG_SIZE   that is no length of a ROM. Nothing was asked, and what was open stays
  */
 static inline dvg_drawn dvg_draw(dvg *device, const uint8_t *ram, const uint8_t *rom,

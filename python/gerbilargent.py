@@ -18,7 +18,7 @@ proved. `./lib --proved` proves it first. This module itself is tested, not prov
     Generator   the generator alone: it is handed the bytes of a RAM and a ROM of yours
     Draft       the operations of a frame
     picture     what a dump of the vector memory draws
-    judge       whether the log of any system tears a picture; Judge is told one line at a time
+    judge       whether the log of any system tears a picture; Judge takes one line at a time
     svg         strokes as an SVG
 
 Units. A place is in 1/512 of a screen unit, 0 to 2,097,151 along both axes, y upwards; a LABS names
@@ -264,7 +264,7 @@ class DraftRefused(Error):
 
 
 class RunBroke(Error):
-    """A run broke at the word address `address`: `why` tells why."""
+    """A run broke at the word address `address`: `why` says why."""
 
     def __init__(self, address: int, why: Break) -> None:
         self.address, self.why = address, why
@@ -286,7 +286,7 @@ class Endless(Error):
 
 
 class BadLog(Error, ValueError):
-    """A line of a log tells nothing that a line may. `line` is its number, from 1."""
+    """A line of a log says nothing that a line may. `line` is its number, from 1."""
 
     def __init__(self, line: int, text: str) -> None:
         self.line, self.text = line, text
@@ -702,7 +702,7 @@ class Generator(_Device):
     ) -> Picture:
         """Starts over this RAM and ROM, which don't change, and runs up to the HALT.
 
-        RunBroke; Endless, where there is no end within so many words; WrongSize, OutOfMemory.
+        RunBroke; Endless, where there is no end within this many words; WrongSize, OutOfMemory.
         """
         held_ram, held_rom = _ram(ram), _rom(rom)
         self.strobe()
@@ -822,7 +822,7 @@ class World(_Device):
 
 
 def picture(dump: Bytes, most_words: int = MOST_WORDS) -> Picture:
-    """What a dump of the vector memory draws, as `dvg picture` tells it.
+    """What a dump of the vector memory draws, as `dvg picture` says it.
 
     A dump is the 2,048 bytes of a RAM and then the 2,048 or 4,096 bytes of a ROM: 4,096 or 6,144.
     RunBroke; Endless; WrongSize; OutOfMemory.
@@ -925,7 +925,7 @@ class Judge:
 
 
 def _hex(digits: str, count: int) -> int:
-    """The number of so many hexadecimal digits."""
+    """The number of this many hexadecimal digits."""
     if len(digits) != count or not all(digit in "0123456789abcdefABCDEF" for digit in digits):
         raise ValueError(digits)
     return int(digits, 16)
@@ -950,7 +950,7 @@ def _tell(judge: Judge, parts: "list[str]") -> Optional["tuple[int, int]"]:
 
 
 def judge(log: Union[str, Iterable[str]]) -> Verdict:
-    """Whether a log tears a picture, as `dvg torn` says it; docs/FORMATS.md has the lines.
+    """Whether a log tears a picture, as `dvg torn` says it; `dvg help torn` has the lines.
 
     log is the text, or its lines in order, as an open file gives them. Nothing after the first torn
     line is read. BadLog at a line that is none, none before it being torn.
@@ -999,7 +999,7 @@ def _shapes(stroke: Stroke, side: int) -> Iterator[str]:
 
 
 def svg(strokes: Iterable[Stroke], units: int = 1024) -> str:
-    """Strokes as an SVG of so many screen units along both axes, from 0 on, y upwards.
+    """Strokes as an SVG of this many screen units along both axes, from 0 on, y upwards.
 
     Intensities 1 to 15 are opacities of 0.30 to 1.00, lines 2 pixels wide, and a stroke of length 0
     a dot. A stroke goes the shorter way; where that crosses the edge at 4,096 units, it is there

@@ -1,5 +1,5 @@
 /* An NMOS 6502 for tests: its documented instructions but BRK and SED, their cycles, and each
- * access of the bus that they make beside the fetch of the instruction. Dummy accesses are told,
+ * access of the bus that they make beside the fetch of the instruction. Dummy accesses are made,
  * too: indexed addressing may read a wrong page first, and INC and its like write twice. There is
  * no decimal mode. Who includes this defines the bus. */
 #include <stdint.h>

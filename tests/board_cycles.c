@@ -1,4 +1,4 @@
-/* Runs a program for sim65 by board_cpu.h, and tells its cycles and what it answers in A:
+/* Runs a program for sim65 by board_cpu.h, and prints its cycles and what it answers in A:
  *
  *     board_cycles PROGRAM
  *

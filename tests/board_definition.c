@@ -2,8 +2,8 @@
  * program, beside the 6502 of board_cpu.h: random single steps, all of which must agree. The
  * table of opcodes is the definition's own: tests/board makes board_opcodes.inc of it.
  *
- *     board_definition STEPS             compares so many steps
- *     board_definition vectors COUNT     prints so many of each opcode by board_cpu.h, as numbers
+ *     board_definition STEPS             compares this many steps
+ *     board_definition vectors COUNT     prints this many of each opcode by board_cpu.h, as numbers
  *     board_definition sim COUNT RECORDS RESULTS
  *                                        writes steps for board_steps.s, and what they leave
  */

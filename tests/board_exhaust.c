@@ -4,7 +4,7 @@
  *
  * Each number of words, for each half, as a first frame and as a later one, at several alignments
  * of the table; each word; each length at each place of what a program builds; each refusal in each
- * phase. It then tells the bytes of each routine, and the fewest and most cycles that were seen,
+ * phase. It then prints the bytes of each routine, and the fewest and most cycles that were seen,
  * with the JSR and the RTS. A difference ends it with status 1. */
 #include <stdio.h>
 #include <stdlib.h>
@@ -423,7 +423,7 @@ static void try_refusals(void)
         fail("a redraw", 0, 0, 0);
 }
 
-/* --- What is told --- */
+/* --- What is printed --- */
 
 static void tell_bytes(int size)
 {

@@ -1,4 +1,4 @@
-"""Plants mistakes in the 6502 driver, one at a time, and tells whether the tests find each:
+"""Plants mistakes in the 6502 driver, one at a time, and says whether the tests find each:
 
     board_mistakes.py DVG DRIVER_FOLDER WORK_FOLDER
 

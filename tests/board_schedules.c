@@ -3,10 +3,10 @@
  *
  *     board_schedules PROGRAM LABELS DRAFTS ROM ROM_LINES OUT SEED COUNT EVENTS
  *
- * OUT/N.trace and OUT/N.expected hold as many schedules as a trace may have, each behind a reset of
+ * OUT/N.trace and OUT/N.expected hold as many schedules as a trace may have, each after a reset of
  * the whole system. The generator here is one of its own: it has words, a stack and HALT, and
  * counts strokes. Strobes, fetches, resets of either end and NMIs come between any two
- * instructions. What no trace can show is told here, with status 1: an access that isn't the
+ * instructions. What no trace can show is reported here, with status 1: an access that isn't the
  * driver's, a tick with two actions, a stack or a carry that is wrong. */
 #include <stdarg.h>
 #include <stdio.h>

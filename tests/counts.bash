@@ -14,7 +14,7 @@ pass() {
     passed=$((passed + 1))
 }
 
-# Says what failed, and shows the beginning and the end of the file that tells why, if there is one.
+# Says what failed, and shows the beginning and the end of the file that says why, if there is one.
 fail() {
     failed=$((failed + 1))
     echo "FAILED: $1"
@@ -34,7 +34,7 @@ give_up() {
     exit 1
 }
 
-# Whether a command does what it must, which is what the first word tells.
+# Whether a command does what it must, which is what the first word says.
 expect() {
     if "${@:2}" >"$work/log" 2>&1; then
         pass

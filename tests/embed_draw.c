@@ -2,7 +2,7 @@
  *
  *   embed_draw [WORDS] < DUMP
  *
- * It looks for the end of the run within so many words, or DVG_MOST_WORDS. Each stroke that is
+ * It looks for the end of the run within this many words, or DVG_MOST_WORDS. Each stroke that is
  * handed to the function is compared with that of dvg_stroke_at. Status 0: it was a picture; 1: it
  * was none; 2: memory was refused, or something is wrong.
  */
@@ -27,7 +27,7 @@ static void keep(void *context, dvg_stroke stroke)
     list->count++;
 }
 
-/* Writes the strokes of a picture. Whether they are those that the device tells. */
+/* Writes the strokes of a picture. Whether they are those that the device gives. */
 static bool write_picture(dvg *device, dvg_drawn drawn, const struct list *list)
 {
     bool same = list->count == drawn.strokes && dvg_strokes(device) == drawn.strokes;

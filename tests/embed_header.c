@@ -114,7 +114,7 @@ static void test_operations(dvg *none)
     REFUSED(dvg_jump_rom(none, INT_MIN));
 }
 
-/* Has the next so many requests answered by these kinds. */
+/* Has the next this many requests answered by these kinds. */
 static void answer(int number, const int *kinds)
 {
     for (int i = 0; i < number; i++) {

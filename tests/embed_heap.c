@@ -26,7 +26,7 @@ static bool is_refused(size_t bytes)
 
 /* --- A life --- */
 
-/* Whether something of this life is wrong, which is told once. */
+/* Whether something of this life is wrong, which is reported once. */
 static bool wrong = false;
 
 static void expect(bool holds, const char *what)
@@ -56,7 +56,7 @@ static dvg_answer last;
 static uint8_t rom[DVG_LARGE_ROM_BYTES];
 static uint8_t ram[DVG_RAM_BYTES];
 
-/* Adds a frame's operations: so many vectors that are seen. */
+/* Adds a frame's operations: this many vectors that are seen. */
 static void push_frame(dvg *device, int vectors)
 {
     dvg_clear(device);
@@ -67,7 +67,7 @@ static void push_frame(dvg *device, int vectors)
     expect(dvg_halt(device).value == vectors + 1, "a draft lost an operation");
 }
 
-/* Has a frame of so many vectors written and drawn by a world. */
+/* Has a frame of this many vectors written and drawn by a world. */
 static void draw(dvg *device, int vectors)
 {
     push_frame(device, vectors);

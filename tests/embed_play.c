@@ -17,7 +17,7 @@
 /* The longest line that is read, with its end. */
 #define MOST_LINE 256
 
-/* The word address behind a ROM's last word. */
+/* The word address after a ROM's last word. */
 #define ROM_END 0xC00u
 
 /* What plays: a world, or a driver and a generator with what lies between them. */
@@ -155,7 +155,7 @@ static void write_entry(struct player *player, dvg_answer answer)
 
 /* --- Events --- */
 
-/* What can happen so often in a row. */
+/* What can happen this many times in a row. */
 enum event { TICK, STROBE, FETCH, REDRAW, RESET_GENERATOR, RESET_PROCESSOR, OFFER };
 
 /* Lets an event happen. */
@@ -183,7 +183,7 @@ static dvg *new_device(void)
     return device;
 }
 
-/* Opens what plays, over the ROM that the text told so far, where it isn't open yet. */
+/* Opens what plays, over the ROM that the text gave so far, where it isn't open yet. */
 static void open_player(struct player *player)
 {
     dvg_answer opened;
@@ -202,7 +202,7 @@ static void open_player(struct player *player)
     }
 }
 
-/* Lets an event happen so often. */
+/* Lets an event happen this many times. */
 static void happen_often(struct player *player, enum event event, long count)
 {
     open_player(player);
@@ -223,7 +223,7 @@ static void reset_all(struct player *player, uint8_t byte)
 
 /* --- Lines --- */
 
-/* The ROM has so many bytes, each word a return. */
+/* The ROM has this many bytes, each word a return. */
 static void set_rom(struct player *player, size_t length)
 {
     player->rom_length = length;
@@ -233,7 +233,7 @@ static void set_rom(struct player *player, size_t length)
     }
 }
 
-/* Puts the words of a line into the ROM: behind `rom ` come an address and up to eight words. */
+/* Puts the words of a line into the ROM: after `rom ` come an address and up to eight words. */
 static bool read_rom(struct player *player, char *text)
 {
     unsigned long word = strtoul(text, &text, 16);
@@ -249,7 +249,7 @@ static bool read_rom(struct player *player, char *text)
     return *text == '\0';
 }
 
-/* Whether a line is a name with so many decimal numbers behind it, and which. */
+/* Whether a line is a name with this many decimal numbers after it, and which. */
 static bool is_named(const char *line, const char *name, int count, int *numbers)
 {
     size_t length = strlen(name);

@@ -8,7 +8,7 @@
 #include <stdlib.h>
 #include <string.h>
 
-/* Whether a new block of so many bytes is refused. */
+/* Whether a new block of this many bytes is refused. */
 static bool is_refused(size_t bytes);
 
 /* How many blocks were refused, and how many live. */

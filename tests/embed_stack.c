@@ -1,4 +1,4 @@
-/* Has a device do what takes most of the stack, on a thread with so many KB of stack: as many as
+/* Has a device do what takes most of the stack, on a thread with this many KB of stack: as many as
  * the first word says, or the header where that is missing. */
 #define _POSIX_C_SOURCE 200809L
 #include "dvg.h"

@@ -4,7 +4,7 @@
  *   embed_storm COUNT SEED
  *
  * Storm number i, from 0, comes from SEED + i alone. A storm begins with nothing open, with a
- * world, with a driver or with a generator, by turns. The first line of what is written tells how
+ * world, with a driver or with a generator, by turns. The first line of what is written says how
  * often each kind of answer came, and the last is 'N passed, M failed'.
  *
  * It is linked with the archive of the port and with the twin, twin/src/port.rs, and compiled
@@ -206,7 +206,7 @@ static void offer_random(dvg *pair)
     dvg_offer(pair);
 }
 
-/* Lets the generator fetch so often: from the memory, and seldom something else. */
+/* Lets the generator fetch this many times: from the memory, and seldom something else. */
 static void fetch_often(dvg *pair, int count)
 {
     for (; count > 0; count--) {
@@ -223,7 +223,7 @@ static void fetch_often(dvg *pair, int count)
     }
 }
 
-/* Lets the driver tick so often. */
+/* Lets the driver tick this many times. */
 static void tick_often(dvg *pair, int count)
 {
     bool halted = below(4) != 0;
@@ -233,7 +233,7 @@ static void tick_often(dvg *pair, int count)
     }
 }
 
-/* Asks for the strokes, the one behind the last, and some that aren't there. */
+/* Asks for the strokes, the one after the last, and some that aren't there. */
 static void ask_strokes(dvg *pair)
 {
     uint64_t count = dvg_strokes(pair);

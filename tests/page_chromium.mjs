@@ -57,7 +57,7 @@ class Chromium {
     });
   }
 
-  // A new tab, with what it asks of the network, and each fault that it tells.
+  // A new tab, with what it asks of the network, and each fault that it reports.
   async newTab() {
     const { targetId } = await this.send('Target.createTarget', { url: 'about:blank' });
     const { sessionId } = await this.send('Target.attachToTarget', { targetId, flatten: true });

@@ -108,7 +108,7 @@ const example = (name) => readFileSync(`${top}examples/frames/${name}.draft`, 'u
 const linesOf = (text) => operationsOf(plainDraft(text));
 const drafts = () => [linesOf(example('score')), linesOf(example('rocks'))];
 
-// The board after so many events of a schedule.
+// The board after this many events of a schedule.
 function runBoard(make, count, wireCut = false, rom = '') {
   const board = new Board(engine, romOf(rom), wireCut), schedule = make();
   while (board.length < count) board.happen(schedule.next(board));

@@ -1,4 +1,4 @@
-"""Runs the commands that a text shows, and compares what comes of them. tests/README.md tells how
+"""Runs the commands that a text shows, and compares what comes of them. tests/README.md says how
 such a text is written; tests/program, tests/tools and tests/documents run theirs by this."""
 
 import difflib
@@ -69,7 +69,7 @@ def read_cases(path):
 
 
 def add_line(command, line, empty):
-    """A line below a command goes on with it, or shows what comes of it: after so many empty lines."""
+    """A line below a command, after this many empty ones: it goes on with it, or shows what comes."""
     if re.match("> |>$", line) and not command.shown and not empty:
         command.script += "\n" + line[2:]
     else:
@@ -173,7 +173,7 @@ class Suite:
 
 
 def as_lines(text):
-    """The lines of a text. Of bytes it is told where the last one has no end."""
+    """The lines of a text. Of bytes it is said where the last one has no end."""
     if isinstance(text, str):
         return text.split("\n")
     lines = text.decode("utf-8", "backslashreplace").split("\n")

@@ -2,9 +2,9 @@
 --
 --     DVG_OUT=. mame asteroid -autoboot_delay 0 -autoboot_script torn.lua; dvg torn <torn.log
 --
--- Told are the starts, the word zero that a run fetches at once, the writes, and the end of a run,
+-- It logs the starts, the word zero that a run fetches at once, the writes, and the end of a run,
 -- which is looked for in the HALT flag before each write and each start. A reset of the machine is
--- told where the processor fetches its reset vector. This emulator's generator runs ahead of its
+-- logged where the processor fetches its reset vector. This emulator's generator runs ahead of its
 -- processor by up to a millisecond, so it is no judge of interleavings closer than that.
 if dvg_loaded then return end
 dvg_loaded = true

@@ -73,8 +73,8 @@ static void print_picture(dvg *generator, int step)
     }
 }
 
-/* Lets the machine run until so many pictures are drawn: a step is an action of the driver and two
- * fetches. */
+/* Lets the machine run until this many pictures are drawn. A step is an action of the driver and
+ * two fetches. */
 static bool run(struct machine *machine, int pictures)
 {
     int frames = 0;

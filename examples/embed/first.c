@@ -11,7 +11,7 @@
 /* How many events have happened. */
 static unsigned long events = 0;
 
-/* Lets the driver tick so often. */
+/* Lets the driver tick this many times. */
 static void tick(dvg *device, int count)
 {
     for (int i = 0; i < count; i++) {

@@ -2,12 +2,14 @@
 #
 #     awk -f labels.awk <DRAFT_WITH_NAMES >DRAFT
 #
-# `rock:`, on a line of its own or before an operation, names the operation that comes next; `call rock` and `jump rock` are
-# a call of it and a jump to it. A name is letters, digits and _, and begins with no digit. A comment may stand behind
-# anything, from `#` on. Blanks, tabs and CRs may stand at either end of a line, and several between two parts.
+# `rock:`, on a line of its own or before an operation, names the operation that comes next;
+# `call rock` and `jump rock` call it and jump to it. A name is letters, digits and _, and begins
+# with no digit. A comment goes from `#` to the end of its line. Blanks, tabs and CRs may stand at
+# either end of a line, and several between two parts.
 #
-# Each line gives one line, so the lines that `dvg check` tells are those of the draft with names. A name that is unknown, that
-# is given twice, or that is no name is told on standard error with its line; then nothing is written, and the status is 1.
+# Each line gives one line, so `dvg check` counts the lines of the draft with names. A name that is
+# unknown, that is given twice, or that is no name is reported on standard error with its line. Then
+# nothing is written, and the status is 1.
 
 function tell(text, at) {
     print "labels.awk: " text " at line " at | "cat 1>&2"

@@ -1,11 +1,12 @@
-# Makes of what `dvg play --all` writes a log for `dvg torn`. This is unproved.
+# Turns what `dvg play --all` writes into a log for `dvg torn`. This is unproved.
 #
 #     ./dvg play --all <TRACE | awk -v trace=TRACE -f log.awk | ./dvg torn
 #
-# What a log can say keeps its text: `started`, `low`, `fetched` and `wrote`. `done` is the fetch of its word, and then `halted`;
-# `broke` is `halted`, as it ends the run. `cleared` is `reset` where the event of that number resets the generator. Entries don't
-# tell that: the trace does, which is read beside them. All other entries become comments, and strokes are left out.
-# A trace that can't be read, and `cleared` without one, are told on standard error, and the status is 1.
+# What a log can say keeps its text: `started`, `low`, `fetched` and `wrote`. `done` becomes the
+# fetch of its word, and then `halted`; `broke` becomes `halted`, as it ends the run. `cleared`
+# becomes `reset` where the event of that number resets the generator: the trace says so, which is
+# read beside the entries. All other entries become comments, and strokes are left out. A trace that
+# can't be read, and `cleared` without one, are reported on standard error, and the status is 1.
 
 function refuse(text) {
     print "log.awk: " text | "cat 1>&2"

@@ -1,13 +1,16 @@
-# Reads what `dvg play`, `dvg play --all` or `dvg picture` writes, and writes one of its pictures as SVG. This is unproved.
+# Reads what `dvg play`, `dvg play --all` or `dvg picture` writes, and writes one of its pictures as
+# SVG. This is unproved.
 #
 #     ./dvg play <TRACE | awk -f svg.awk >PICTURE.svg
 #
-# It is the last picture, or with `-v picture=N` the Nth, the first being 1. The screen's 1,024 units are shown, 0 to 1023
-# along both axes, y upwards; with `-v units=4096` all units are. Positions stay in 1/512 of a unit, as the input has them.
+# It is the last picture, or with `-v picture=N` the Nth, the first being 1. The screen's 1,024
+# units are shown, 0 to 1023 along both axes, y upwards; with `-v units=4096` all units are.
+# Positions stay in 1/512 of a unit, as the input has them.
 #
-# A stroke goes the shorter way from its begin to its end. Where that crosses the edge at 4,096 units, it is drawn at both edges.
-# A stroke of length 0 is a dot. Intensities 1 to 15 are opacities of 0.30 to 1.00. Lines are 2 pixels wide, and dots 4.
-# That there is no such picture, that one is cut off, or a line that is none of these is told on standard error, with status 1.
+# A stroke goes the shorter way from its begin to its end. Where that crosses the edge at 4,096
+# units, it is drawn at both edges. A stroke of length 0 is a dot. Intensities 1 to 15 are opacities
+# of 0.30 to 1.00. Lines are 2 pixels wide, and dots 4. Where there is no such picture, or one is
+# cut off, or a line is none of these, that is reported on standard error, with status 1.
 
 function refuse(text) {
     print "svg.awk: " text | "cat 1>&2"

@@ -5,8 +5,8 @@
 #
 # A vector takes 2^(s+1) * 8 / 12.096 + 4 microseconds, where s is its own and the global scale
 # together, modulo 16, however short it is; one of 10 to 15, which moves nothing, counts as 0. Each
-# other instruction counts as 4. A line tells the vectors of each scale that comes up and their
-# time, and the last one all of it. Of several pictures the sum is told.
+# other instruction counts as 4. A line gives the vectors of each scale that comes up and their
+# time, and the last one all of it. Of several pictures it is the sum.
 
 function microseconds(scale) { return 2 ^ (scale + 1) * 8 / 12.096 + 4 }
 
@@ -53,7 +53,7 @@ $2 == "fetched" || $2 == "done" {
     next
 }
 
-# An instruction of a dump: its address, its text, and behind `at` the beam and the global scale.
+# An instruction of a dump: its address, its text, and after `at` the beam and the global scale.
 /^[0-9A-F][0-9A-F][0-9A-F] [A-Z]/ {
     if ($2 == "VCTR" || $2 == "SVEC") vector($3)
     else other()

@@ -2,13 +2,16 @@
 #
 #     awk -f trace.awk <DRAFT | ./dvg play
 #
-# Lines `map` and `rom` come first, then `tick 2`, by which the driver boots: it looks at byte 001 and reads the HALT flag. Behind the
-# draft come as many ticks as its W words take: 2W bytes of the words, two bytes of word zero, a read of the flag and the strobe,
-# which is 2W + 4. Then the strobe arrives, and the generator fetches. `-v fetches=N` writes the two fetches each of N words, where N
-# is what `dvg check --bound` tells. Without it there are 60,000, which is enough for 30,000 words; the ones
-# behind the end of the picture do nothing, but each is a line of `dvg play --all`.
+# Lines `map` and `rom` come first, then `tick 2`, by which the driver boots: it looks at byte 001
+# and reads the HALT flag. After the draft come as many ticks as its W words take: 2W for their
+# bytes, two for word zero, one that reads the flag and one that sends the strobe, which is 2W + 4.
+# Then the strobe arrives, and the generator fetches. `-v fetches=N` writes two fetches for each of
+# N words, where N is the last number of `dvg check --bound`. Without it there are 60,000, which is
+# enough for 30,000 words; those after the end of the picture do nothing, but each is a line of
+# `dvg play --all`.
 #
-# A draft that `dvg check` refuses isn't drawn. A line that is no operation is told on standard error, with status 1.
+# A draft that `dvg check` refuses isn't drawn. A line that is no operation is reported on standard
+# error, with status 1.
 
 function begin() {
     if (!begun++) trace[++most] = "tick 2\noffer"

@@ -15,7 +15,7 @@ struct Cursor {
     to: usize,
 }
 
-/// A sign bit over a magnitude of so many bits.
+/// A sign bit over a magnitude of this many bits.
 fn sign_and_magnitude(number: i16, bits: u16) -> u16 {
     number.unsigned_abs() | u16::from(number < 0) << bits
 }

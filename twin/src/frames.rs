@@ -5,7 +5,7 @@ use std::fmt;
 /// The most operations of a draft, and the most words of a frame.
 pub const MOST: usize = 511;
 
-/// The word address behind a ROM's last word.
+/// The word address after a ROM's last word.
 const ROM_END: u16 = 0xC00;
 
 /// A ROM.
@@ -293,7 +293,7 @@ impl Drawn<'_> {
         let (end, fetches) = match way {
             Way::Move(next, words) => self.after(words, next)?,
             Way::Jump(next) => self.after(1, next)?,
-            // What stands behind the call is followed in any case: a loop there counts.
+            // What stands after the call is followed in any case: a loop there counts.
             Way::Call(target, behind) => match (self.after(1, target)?, self.from(behind)?) {
                 ((End::Return, inside), (end, then)) => (end, inside + then),
                 (halts, _) => halts,
@@ -306,7 +306,7 @@ impl Drawn<'_> {
         Some((end, fetches))
     }
 
-    /// What is drawn from a place, with so many fetches before it.
+    /// What is drawn from a place, with this many fetches before it.
     fn after(&mut self, before: u64, place: Place) -> Option<(End, u64)> {
         let (end, fetches) = self.from(place)?;
         Some((end, before + fetches))

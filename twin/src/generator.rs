@@ -29,7 +29,7 @@ pub enum GenFault {
 }
 
 impl GenFault {
-    /// The number by which texts tell the fault.
+    /// The number by which texts name the fault.
     #[allow(dead_code)]
     pub fn number(self) -> u32 {
         match self {

@@ -26,7 +26,7 @@ impl Line {
         self.length += text.len();
     }
 
-    /// Writes so many hexadecimal digits of a number.
+    /// Writes this many hexadecimal digits of a number.
     pub fn hex<const DIGITS: usize>(&mut self, number: usize) {
         for digit in (0..DIGITS).rev() {
             self.push(b"0123456789ABCDEF"[number >> (4 * digit) & 15]);

@@ -13,7 +13,7 @@ pub enum ListFault {
     Writer,
 }
 
-/// The signed number of a word: so many bits of magnitude, and the sign above them.
+/// The signed number of a word: this many bits of magnitude, and the sign above them.
 fn signed(word: u16, bits: u16) -> i16 {
     let magnitude = (word & ((1 << bits) - 1)) as i16;
     if word >> bits & 1 == 0 {
@@ -23,7 +23,7 @@ fn signed(word: u16, bits: u16) -> i16 {
     }
 }
 
-/// Whether a word's signed number, of so many bits of magnitude, has a sign on a magnitude of zero.
+/// Whether a word's signed number, with this many bits of magnitude, has a sign on a zero.
 fn is_minus_zero(word: u16, bits: u16) -> bool {
     word & ((2 << bits) - 1) == 1 << bits
 }

@@ -13,7 +13,7 @@ const RAM_BYTES: usize = 2048;
 /// The most words that are fetched.
 const MOST_WORDS: u32 = 65_536;
 
-/// The word address behind a ROM's last word.
+/// The word address after a ROM's last word.
 const ROM_END: usize = 0xC00;
 
 /// An instruction that was run: its address, its words, the beam after it, and its stroke.
@@ -162,7 +162,7 @@ pub fn is_image(bytes: usize) -> bool {
     bytes == 4096 || bytes == 6144
 }
 
-/// Runs a generator over an image, writes how that ends, with `all` behind the instructions that
+/// Runs a generator over an image, writes how that ends, with `all` after the instructions that
 /// were run, and answers whether it drew a picture.
 pub fn write_picture(image: &[u8], all: bool, writer: &mut impl Write) -> io::Result<bool> {
     let (ran, ending) = run(image, all);

@@ -16,7 +16,7 @@ const MOST_STAGED: usize = 6144;
 /// The greatest number of a request.
 const LAST_REQUEST: u8 = 20;
 
-/// The word address behind a ROM's last word.
+/// The word address after a ROM's last word.
 const ROM_END: usize = 0xC00;
 
 /// A driver alone, with the ROM over which its drafts are checked.

@@ -1,6 +1,6 @@
 //! What a run draws, for the judges of logs in plain Rust.
 
-/// The first word of half 0, and the one behind its last.
+/// The first word of half 0, and the one after its last.
 const HALF_0: std::ops::Range<u16> = 0x001..0x200;
 
 /// The same of half 1.
@@ -38,7 +38,7 @@ impl Run {
         half_of(word & 0xFFF).map_or(Run::Elsewhere, Run::Draws)
     }
 
-    /// What is drawn behind the fetch of a word.
+    /// What is drawn after the fetch of a word.
     pub fn after_fetch(self, address: u16, word: u16) -> Run {
         match self {
             Run::Begun => Run::of_first(address, word),

@@ -40,7 +40,7 @@ fn integer(part: &[u8], most: u32) -> Option<i16> {
     }
 }
 
-/// A number of so many hexadecimal digits.
+/// A number of this many hexadecimal digits.
 pub fn hex(part: &[u8], count: usize) -> Option<u16> {
     if part.len() != count {
         return None;
@@ -98,7 +98,7 @@ pub fn op_of_parts<'a>(mut parts: impl Iterator<Item = &'a [u8]>) -> Option<Op> 
 /// A word that no line gives.
 const UNGIVEN: u16 = 0xD000;
 
-/// The ROM that the lines tell which were read.
+/// The ROM that the lines give which were read.
 pub struct RomText {
     is_told: bool,
     rom: Rom,
@@ -129,7 +129,7 @@ impl RomText {
         self.rom
     }
 
-    /// Reads one line more. None where it tells nothing of the ROM, or may not stand here.
+    /// Reads one line more. None where it says nothing of the ROM, or may not stand here.
     pub fn read(&mut self, line: &[u8]) -> Option<()> {
         let first = match line {
             b"map 2048" => 0x800,
@@ -173,7 +173,7 @@ pub fn read_draft(text: &[u8]) -> Result<(Vec<Op>, Rom), TextFault> {
     }
     let mut rom = RomText::new();
     let mut ops = Vec::new();
-    // The part behind the last LF is no line where it is empty, and such a line is passed over.
+    // The part after the last LF is no line where it is empty, and such a line is passed over.
     for (line, number) in text.split(|byte| *byte == b'\n').zip(1..) {
         if line.is_empty() || line[0] == b'#' {
             continue;

@@ -55,7 +55,7 @@ impl From<io::Error> for LogFault {
     }
 }
 
-/// What a line tells.
+/// What a line says.
 enum LogLine {
     Nothing,
     Started,
@@ -73,7 +73,7 @@ fn hex(digits: &[u8]) -> Option<u16> {
     })
 }
 
-/// An address of three digits and a number of so many, with one space between them.
+/// An address of three digits and a number of this many, with one space between them.
 fn numbers(bytes: &[u8], digits: usize) -> Option<(u16, u16)> {
     if bytes.len() != 4 + digits || bytes[3] != b' ' {
         return None;
@@ -81,7 +81,7 @@ fn numbers(bytes: &[u8], digits: usize) -> Option<(u16, u16)> {
     Some((hex(&bytes[..3])?, hex(&bytes[4..])?))
 }
 
-/// What a line tells.
+/// What a line says.
 fn read_line(line: &[u8]) -> Option<LogLine> {
     if line.len() > MOST_LINE_BYTES {
         return None;
@@ -179,7 +179,7 @@ impl Judge {
     }
 }
 
-/// What is said of the log that a reader tells.
+/// What is said of the log that a reader gives.
 pub fn judge_text(reader: &mut impl Read) -> Result<Verdict, LogFault> {
     let mut judge = Judge {
         run: Run::Closed,

@@ -14,7 +14,7 @@ enum EventLine {
     ResetAll(u8),
 }
 
-/// A count behind a name: 1 to 9999, or none for 1.
+/// A count after a name: 1 to 9999, or none for 1.
 fn count<'a>(parts: &mut impl Iterator<Item = &'a [u8]>) -> Option<usize> {
     match parts.next() {
         None => Some(1),
@@ -51,7 +51,7 @@ pub fn read_trace(text: &[u8]) -> Result<(Trace, Rom), TextFault> {
     let mut resets = [None; 256];
     // Where the operations of the open offer begin.
     let mut opened = None;
-    // The part behind the last LF is no line where it is empty, and such a line is passed over.
+    // The part after the last LF is no line where it is empty, and such a line is passed over.
     for (line, number) in text.split(|byte| *byte == b'\n').zip(1..) {
         if line.is_empty() || line[0] == b'#' {
             continue;

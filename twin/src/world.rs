@@ -8,7 +8,7 @@ use crate::memory::{BYTES, Memory};
 /// What can happen.
 #[allow(dead_code)]
 pub enum Event {
-    /// An offer of so many operations, which stand behind those of the offers before it.
+    /// An offer of this many operations, which stand after those of the offers before it.
     Offer(usize),
     Redraw,
     Tick,

@@ -15,7 +15,7 @@ use twin::storm::programs::{Answer, Report, ask, for_each_seed};
 /// The words of the RAM.
 const RAM_WORDS: usize = 0x400;
 
-/// The word address behind a ROM's last word.
+/// The word address after a ROM's last word.
 const ROM_END: usize = 0xC00;
 
 /// A random image: words at the addresses 000 to BFF, of which the ROM has the last.
@@ -107,7 +107,7 @@ impl Image {
         opcode << 12 | free | (random.below(2) as u16) << 10 | magnitude
     }
 
-    /// Puts words at a place and answers the place behind them.
+    /// Puts words at a place and answers the place after them.
     fn put(&mut self, place: usize, kind: Kind, random: &mut Random) -> usize {
         let free = random.below(0x1000) as u16 * u16::from(random.below(8) == 0);
         let first = match kind {
@@ -184,7 +184,7 @@ impl fmt::Display for Counts {
     }
 }
 
-/// Counts what an answer with all instructions tells.
+/// Counts what an answer with all instructions shows.
 fn count(answer: &Answer) -> Counts {
     let text = String::from_utf8_lossy(&answer.output);
     let mut counts = Counts::default();

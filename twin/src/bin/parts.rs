@@ -60,7 +60,7 @@ const LABS: Op = Op::Draw(Instr::Labs {
     scale: 0,
 });
 
-/// The operations: behind the LABS, the ROM's first word is jumped to from each depth, 0 to 4.
+/// The operations: after the LABS, the ROM's first word is jumped to from each depth, 0 to 4.
 fn nested(first: u16) -> [Op; 10] {
     let jump = Op::JumpRom(first);
     [
@@ -77,7 +77,7 @@ fn nested(first: u16) -> [Op; 10] {
     ]
 }
 
-/// A short draft: behind the LABS, a call of the return at its end, a short vector and HALT.
+/// A short draft: after the LABS, a call of the return at its end, a short vector and HALT.
 const SHORT: [Op; 5] = [
     LABS,
     Op::Call(4),
@@ -91,7 +91,7 @@ const SHORT: [Op; 5] = [
     Op::Return,
 ];
 
-/// Checks a draft so often.
+/// Checks a draft this many times.
 fn check_often(checks: u32, ops: &[Op], rom: &Rom) {
     let (mut passed, mut laid, mut fetched) = (0u32, 0u32, 0u64);
     for _ in 0..checks {

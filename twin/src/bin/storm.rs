@@ -11,7 +11,7 @@ use twin::storm::programs::{Answer, Report, ask, for_each_seed};
 use twin::storm::recount::{Counts, recount};
 use twin::storm::schedules::Schedule;
 
-/// How many failures are told with their traces. Of the others the seed is told.
+/// How many failures are printed with their traces. Of the others the seed is printed.
 const TOLD_WHOLE: u64 = 5;
 
 /// The programs that play and judge.

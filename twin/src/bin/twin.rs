@@ -39,7 +39,7 @@ const LARGE_ROM_BYTES: usize = 4096;
 /// input.
 const MOST_IMAGE_BYTES: usize = 6144;
 
-/// The word address behind a ROM's last word.
+/// The word address after a ROM's last word.
 const ROM_END: usize = 0xC00;
 
 /// How many bytes of a ROM stand in a line.

@@ -32,7 +32,7 @@ impl Random {
         (self.next() & ((1 << count) - 1)) as u16
     }
 
-    /// True once in so many times.
+    /// True once in this many times.
     pub fn once_in(&mut self, times: usize) -> bool {
         self.below(times) == 0
     }
@@ -102,7 +102,7 @@ const MOST_OPS: usize = 511;
 /// The most calls that may be open at once.
 const MOST_CALLS: usize = 4;
 
-/// The word address behind a ROM's last word.
+/// The word address after a ROM's last word.
 const ROM_END: u16 = 0xC00;
 
 /// More words than all routines of a ROM take, with the gaps between them.
@@ -120,7 +120,7 @@ struct Routine {
     halts: bool,
 }
 
-/// A ROM, and the lines that tell it.
+/// A ROM, and the lines that give it.
 pub struct Rom {
     first: u16,
     words: Vec<u16>,
@@ -155,7 +155,7 @@ impl Rom {
         rom
     }
 
-    /// Puts a random routine there, and answers the address behind it.
+    /// Puts a random routine there, and answers the address after it.
     fn add_routine(&mut self, address: u16, random: &mut Random) -> u16 {
         let mut routine = Routine {
             address,
@@ -188,7 +188,7 @@ impl Rom {
         self.put(address, &words)
     }
 
-    /// Puts words there, and adds the lines that tell them. Answers the address behind them.
+    /// Puts words there, and adds the lines that give them. Answers the address after them.
     fn put(&mut self, address: u16, words: &[u16]) -> u16 {
         let first = usize::from(address - self.first);
         self.words[first..first + words.len()].copy_from_slice(words);

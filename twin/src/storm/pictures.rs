@@ -2,7 +2,7 @@
 
 use crate::storm::drafts::{Op, Rom};
 
-/// What a run of a draft draws, behind word zero.
+/// What a run of a draft draws, after word zero.
 #[derive(Default)]
 pub struct Picture {
     /// The line of each stroke.
@@ -32,7 +32,7 @@ const POSITIONS: i64 = 4096 * 512;
 const MOST_STEPS: usize = 100_000;
 
 impl Beam {
-    /// Moves by so many units of 1/512 at scale 0, and answers the line of the stroke, if it is
+    /// Moves by this many units of 1/512 at scale 0, and answers the line of the stroke, if it is
     /// seen.
     fn moved(&mut self, scale: u32, dx: i64, dy: i64, z: u32) -> Option<String> {
         let unit = match (self.scale + scale) % 16 {
@@ -46,7 +46,7 @@ impl Beam {
     }
 }
 
-/// A number of sign and magnitude: so many bits of magnitude from a word's lowest bit on, and the
+/// A number of sign and magnitude: this many bits of magnitude from a word's lowest bit on, and the
 /// sign above them.
 fn signed(word: u16, bits: u32) -> i64 {
     let magnitude = i64::from(word % (1 << bits));
@@ -100,7 +100,7 @@ fn op_at(place: Place, draft: &[Op], rom: &Rom) -> Option<Op> {
     }
 }
 
-/// The place behind an operation.
+/// The place after an operation.
 fn behind(place: Place, op: Op) -> Place {
     match place {
         Place::Op(i) => Place::Op(i + 1),

@@ -44,8 +44,8 @@ pub fn ask(program: &Path, words: &[&str], input: &[u8]) -> io::Result<Answer> {
     })
 }
 
-/// Does something for each of so many seeds, from the first on, on all processors: each as soon as
-/// one is free.
+/// Does something for each of this many seeds, from the first on, on all processors: each as soon
+/// as one is free.
 pub fn for_each_seed(
     count: u64,
     first: u64,
@@ -80,7 +80,7 @@ pub struct Report<Counts> {
 }
 
 impl<Counts: AddAssign> Report<Counts> {
-    /// Adds what came of the one of this name, and tells what is wrong.
+    /// Adds what came of the one of this name, and says what is wrong.
     pub fn add(&mut self, name: &str, counts: Counts, faults: &[String]) {
         self.counts += counts;
         if faults.is_empty() {

@@ -94,7 +94,7 @@ enum Sending {
     Send,
 }
 
-/// What is known behind some lines.
+/// What is known after some lines.
 struct Recount<'a> {
     schedule: &'a Schedule,
     lines: Lines<'a>,
@@ -104,7 +104,7 @@ struct Recount<'a> {
     run: Option<Run<'a>>,
     /// The address of the word whose low byte alone was fetched.
     half_fetched: Option<u16>,
-    /// A flip has no strobe behind it.
+    /// A flip has no strobe after it.
     flipped: bool,
     sending: Sending,
     /// The number of the publication that was shown last.
@@ -125,7 +125,7 @@ fn hexadecimal(digits: &str) -> Result<u16, String> {
     u16::from_str_radix(digits, 16).map_err(|_| format!("'{digits}' is no number"))
 }
 
-/// Counts what the lines show, or tells the first line that is wrong.
+/// Counts what the lines show, or reports the first line that is wrong.
 pub fn recount(schedule: &Schedule, output: &str) -> Result<Counts, String> {
     let mut recount = Recount {
         schedule,
@@ -294,7 +294,7 @@ impl<'a> Recount<'a> {
         Ok(())
     }
 
-    /// A run was finished, with so many strokes.
+    /// A run was finished, with this many strokes.
     fn done(&mut self, strokes: &str) -> Result<(), String> {
         self.half_fetched = None;
         let run = self.run.take().ok_or("no run is open")?;

@@ -24,7 +24,7 @@ impl Event {
     }
 }
 
-/// Events over a ROM, and the text of the trace that tells both.
+/// Events over a ROM, and the text of the trace that gives both.
 pub struct Schedule {
     pub rom: Rom,
     pub events: Vec<Event>,
@@ -148,7 +148,7 @@ impl Schedule {
         self.events.extend((0..count).map(|_| event()));
     }
 
-    /// Adds an event that its name alone tells.
+    /// Adds an event that its name alone gives.
     fn one(&mut self, name: &str, event: Event) {
         self.text += name;
         self.text.push('\n');
@@ -245,7 +245,7 @@ impl Schedule {
         }
     }
 
-    /// Adds so many events in pieces, and something else between two of them now and then.
+    /// Adds this many events in pieces, and something else between two of them now and then.
     fn amid(
         &mut self,
         weather: &Weather,
