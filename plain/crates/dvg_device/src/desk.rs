@@ -5,6 +5,7 @@ use crate::reply::Reply;
 use crate::request::Request;
 use dvg_driver::{Driver, DriverFault};
 use dvg_frame::{Checker, Draft};
+use dvg_log::Entry;
 use dvg_mem::{MemFault, Rom};
 use std::alloc::{AllocError, Global};
 
@@ -42,10 +43,12 @@ impl Desk {
         match request {
             Request::Offer => self.offer(draft),
             Request::Redraw => self.redraw(),
-            Request::Tick { halted, byte1 } => Reply::Acted(self.driver.tick(halted, byte1)),
+            Request::Tick { halted, byte1 } => Reply::Came(Entry::Acted(
+                self.driver.tick(halted, byte1),
+            )),
             Request::ResetProcessor => {
                 self.driver.reset();
-                Reply::Cleared
+                Reply::Came(Entry::Cleared)
             }
             _ => Reply::Unknown,
         }
@@ -55,20 +58,20 @@ impl Desk {
     fn offer(&mut self, draft: &Draft) -> Reply {
         let checked = match self.checker.check(draft, &self.rom) {
             Ok(checked) => checked,
-            Err(fault) => return Reply::Refused(fault),
+            Err(fault) => return Reply::Came(Entry::Refused(fault)),
         };
         match self.driver.offer_checked(&checked) {
-            Ok(()) => Reply::Offered,
-            Err(_) => Reply::Busy,
+            Ok(()) => Reply::Came(Entry::Offered),
+            Err(_) => Reply::Came(Entry::Busy),
         }
     }
 
     // Asks for a redraw.
     fn redraw(&mut self) -> Reply {
         match self.driver.redraw() {
-            Ok(()) => Reply::Asked,
-            Err(DriverFault::NothingPublished) => Reply::NothingPublished,
-            Err(DriverFault::Busy) => Reply::Busy,
+            Ok(()) => Reply::Came(Entry::Asked),
+            Err(DriverFault::NothingPublished) => Reply::Came(Entry::NothingPublished),
+            Err(DriverFault::Busy) => Reply::Came(Entry::Busy),
         }
     }
 }

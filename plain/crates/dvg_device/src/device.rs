@@ -9,6 +9,7 @@ use crate::reply::Reply;
 use crate::request::Request;
 use dvg_frame::Draft;
 use dvg_gen::{Generator, Stroke};
+use dvg_log::Entry;
 use dvg_mem::{MEMORY_BYTES, Rom};
 use std::alloc::Global;
 use std::mem;
@@ -97,7 +98,7 @@ impl Device {
     // Takes the operations of the draft away.
     fn clear_draft(&mut self) -> Reply {
         self.draft.clear();
-        Reply::Cleared
+        Reply::Came(Entry::Cleared)
     }
 
     // Stages a byte so often.
@@ -115,7 +116,7 @@ impl Device {
     // Takes the staged bytes away, with their memory.
     fn unstage(&mut self) -> Reply {
         self.staged = Vec::new(self.alloc);
-        Reply::Cleared
+        Reply::Came(Entry::Cleared)
     }
 
     // The memory of a world that was open before, if there is some.

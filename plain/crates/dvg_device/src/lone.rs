@@ -17,11 +17,11 @@ pub(crate) fn ask_generator(
     match request {
         Request::Strobe => {
             generator.start();
-            Reply::Started
+            Reply::Came(Entry::Started)
         }
         Request::ResetGenerator => {
             generator.reset();
-            Reply::Cleared
+            Reply::Came(Entry::Cleared)
         }
         Request::Wants => wanted(generator),
         Request::Fetch(byte) => fetch(generator, byte, picture),
@@ -33,7 +33,7 @@ pub(crate) fn ask_generator(
 fn wanted(generator: &Generator<Global>) -> Reply {
     match generator.wants() {
         Some(address) => Reply::Wants(address, generator.wants_high()),
-        None => Reply::Still,
+        None => Reply::Came(Entry::Still),
     }
 }
 
@@ -41,7 +41,7 @@ fn wanted(generator: &Generator<Global>) -> Reply {
 #[inline(always)]
 fn fetch(generator: &mut Generator<Global>, byte: Option<u8>, picture: &mut Vec<Stroke>) -> Reply {
     let Some(address) = generator.wants() else {
-        return Reply::Still;
+        return Reply::Came(Entry::Still);
     };
     let low = generator.low_byte();
     match generator.take_byte(byte) {

@@ -3,43 +3,32 @@ use std::prelude::*;
 
 use dvg_driver::Action;
 use dvg_frame::{FrameFault, Place};
-use dvg_gen::{GenFault, Stroke};
+use dvg_gen::Stroke;
 use dvg_log::Entry;
 
 /// What a device answers. As a number, its lowest byte is the kind, which stands first here, an address stands in bits 8
 /// to 23, and a value from bit 24 on; but the answers to questions for strokes are what was asked for, and nothing else.
 #[derive(Clone, Copy, Debug, PartialEq, Eq)]
 pub enum Reply {
-    /// 0: the draft was checked, and the driver took its frame.
-    Offered,
-    /// 1: the check refused the draft. The value is the fault's number, 1 to 9, as `dvg check` has it, and 0x100 more
-    /// where its place is in the ROM; the address is the number of an operation, or there a word address.
-    Refused(FrameFault),
-    /// 2: the driver isn't idle, and nothing has changed.
-    Busy,
-    /// 3: the driver took the redraw.
-    Asked,
-    /// 4: the driver hasn't published a frame since its reset, and nothing has changed.
-    NothingPublished,
-    /// 5 to 9: the driver did an action: a peek at byte 001; a write of a value at a byte address; a read of the HALT
-    /// flag, 1 where it showed the generator halted, else 0; the sending of a strobe; or nothing.
-    Acted(Action),
-    /// 10: a run began at word zero.
-    Started,
-    /// 11: the strobe had no effect, as the driver has sent none.
-    NoStrobe,
-    /// 12: the low byte of the word at a word address was fetched.
-    Low(u16, u8),
-    /// 13: the word at a word address was fetched, and the run goes on.
-    Fetched(u16, u16),
-    /// 14: the word at a word address was fetched, which is a HALT. The run's strokes can be asked for.
-    Done(u16, u16),
-    /// 15: the fetch at a word address broke the run. The value is the fault's number, 1 to 3, as `dvg play` has it.
-    Broke(u16, GenFault),
-    /// 16: no run is open, and nothing has changed.
-    Still,
-    /// 17: it was done.
-    Cleared,
+    /// 0 to 17: what came of it, as a log shows it; the strokes of a run that came to a HALT can be asked for. In the
+    /// order of `Entry`, which says what each is:
+    ///
+    /// - 0, `Offered`;
+    /// - 1, `Refused`: the value is the fault's number, 1 to 9, as `dvg check` has it, and 0x100 more where its place is
+    ///   in the ROM; the address is the number of an operation, or there a word address;
+    /// - 2, `Busy`, and nothing has changed;
+    /// - 3, `Asked`;
+    /// - 4, `NothingPublished`, and nothing has changed;
+    /// - 5 to 9, `Acted`: a peek at byte 001; a write of a value at a byte address; a read of the HALT flag, 1 where it
+    ///   showed the generator halted, else 0; the sending of a strobe; or nothing;
+    /// - 10, `Started`;
+    /// - 11, `NoStrobe`;
+    /// - 12, `Low`: a word address, and the low byte as the value;
+    /// - 13, `Fetched`, and 14, `Done`: a word address, and the word as the value;
+    /// - 15, `Broke`: a word address, and as the value the fault's number, 1 to 3, as `dvg play` has it;
+    /// - 16, `Still`, and nothing has changed;
+    /// - 17, `Cleared`: a reset was done, or the draft or the staged bytes were cleared.
+    Came(Entry<()>),
     /// 18: the operation has this number in the draft.
     Pushed(u16),
     /// 19: the fields are those of no operation, and nothing has changed.
@@ -73,20 +62,7 @@ impl Reply {
     #[inline(always)]
     pub fn number(self) -> u64 {
         match self {
-            Reply::Offered => packed(0, 0, 0),
-            Reply::Refused(fault) => refusal(fault),
-            Reply::Busy => packed(2, 0, 0),
-            Reply::Asked => packed(3, 0, 0),
-            Reply::NothingPublished => packed(4, 0, 0),
-            Reply::Acted(action) => acted(action),
-            Reply::Started => packed(10, 0, 0),
-            Reply::NoStrobe => packed(11, 0, 0),
-            Reply::Low(address, byte) => packed(12, address, u16::from(byte)),
-            Reply::Fetched(address, word) => packed(13, address, word),
-            Reply::Done(address, word) => packed(14, address, word),
-            Reply::Broke(address, fault) => packed(15, address, u16::from(fault.number())),
-            Reply::Still => packed(16, 0, 0),
-            Reply::Cleared => packed(17, 0, 0),
+            Reply::Came(entry) => came(entry),
             Reply::Pushed(i) => packed(18, 0, i),
             Reply::NoOperation => packed(19, 0, 0),
             Reply::Full => packed(20, 0, 0),
@@ -102,6 +78,27 @@ impl Reply {
             Reply::Unknown => packed(254, 0, 0),
             Reply::NoMemory => packed(255, 0, 0),
         }
+    }
+}
+
+// The number of what came of a request.
+#[inline(always)]
+fn came(entry: Entry<()>) -> u64 {
+    match entry {
+        Entry::Offered => packed(0, 0, 0),
+        Entry::Refused(fault) => refusal(fault),
+        Entry::Busy => packed(2, 0, 0),
+        Entry::Asked => packed(3, 0, 0),
+        Entry::NothingPublished => packed(4, 0, 0),
+        Entry::Acted(action) => acted(action),
+        Entry::Started => packed(10, 0, 0),
+        Entry::NoStrobe => packed(11, 0, 0),
+        Entry::Low(address, byte) => packed(12, address, u16::from(byte)),
+        Entry::Fetched(address, word) => packed(13, address, word),
+        Entry::Done(address, word, ()) => packed(14, address, word),
+        Entry::Broke(address, fault) => packed(15, address, u16::from(fault.number())),
+        Entry::Still => packed(16, 0, 0),
+        Entry::Cleared => packed(17, 0, 0),
     }
 }
 
@@ -150,23 +147,23 @@ fn acted(action: Action) -> u64 {
 // The reply to an event, by its entry. The strokes of a run that came to a HALT take the place of those before them.
 #[inline(always)]
 pub(crate) fn told(entry: Entry, picture: &mut Vec<Stroke>) -> Reply {
-    match entry {
-        Entry::Offered => Reply::Offered,
-        Entry::Refused(fault) => Reply::Refused(fault),
-        Entry::Busy => Reply::Busy,
-        Entry::Asked => Reply::Asked,
-        Entry::NothingPublished => Reply::NothingPublished,
-        Entry::Acted(action) => Reply::Acted(action),
-        Entry::Started => Reply::Started,
-        Entry::NoStrobe => Reply::NoStrobe,
-        Entry::Low(address, byte) => Reply::Low(address, byte),
-        Entry::Fetched(address, word) => Reply::Fetched(address, word),
+    Reply::Came(match entry {
+        Entry::Offered => Entry::Offered,
+        Entry::Refused(fault) => Entry::Refused(fault),
+        Entry::Busy => Entry::Busy,
+        Entry::Asked => Entry::Asked,
+        Entry::NothingPublished => Entry::NothingPublished,
+        Entry::Acted(action) => Entry::Acted(action),
+        Entry::Started => Entry::Started,
+        Entry::NoStrobe => Entry::NoStrobe,
+        Entry::Low(address, byte) => Entry::Low(address, byte),
+        Entry::Fetched(address, word) => Entry::Fetched(address, word),
         Entry::Done(address, word, strokes) => {
             *picture = strokes;
-            Reply::Done(address, word)
+            Entry::Done(address, word, ())
         }
-        Entry::Broke(address, fault) => Reply::Broke(address, fault),
-        Entry::Still => Reply::Still,
-        Entry::Cleared => Reply::Cleared,
-    }
+        Entry::Broke(address, fault) => Entry::Broke(address, fault),
+        Entry::Still => Entry::Still,
+        Entry::Cleared => Entry::Cleared,
+    })
 }

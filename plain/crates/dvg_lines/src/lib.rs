@@ -8,6 +8,7 @@ mod line;
 mod log_line;
 mod log_verdict;
 mod run_line;
+mod svg_line;
 mod verdict;
 
 pub use line::Line;

@@ -2,7 +2,7 @@
 use crate::line::Line;
 use dvg_driver::Action;
 use dvg_gen::Stroke;
-use dvg_log::Entry;
+use dvg_log::{Entry, OwnEntry};
 use std::alloc::Allocator;
 
 impl Line {
@@ -28,7 +28,7 @@ impl Line {
     }
 
     // Appends what an event led to.
-    fn entry<A: Allocator>(&mut self, entry: &Entry<A>) {
+    fn entry<A: Allocator>(&mut self, entry: &OwnEntry<A>) {
         match entry {
             Entry::Offered => self.part(b"offered"),
             Entry::Refused(fault) => {
@@ -60,7 +60,7 @@ impl Line {
     }
 
     /// Becomes the line that `play --all` writes of an event's entry.
-    pub fn become_entry<A: Allocator>(&mut self, number: usize, entry: &Entry<A>) {
+    pub fn become_entry<A: Allocator>(&mut self, number: usize, entry: &OwnEntry<A>) {
         self.become_number(number);
         self.entry(entry);
         self.text(b"\n");

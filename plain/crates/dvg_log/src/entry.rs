@@ -7,8 +7,10 @@ use dvg_gen::{GenFault, Stroke, Taken};
 use std::alloc::{Allocator, Global};
 
 /// What an event led to. Each event has exactly one entry.
-#[derive(Debug, PartialEq, Eq)]
-pub enum Entry<A: Allocator = Global> {
+///
+/// `S` is what a finished run drew.
+#[derive(Clone, Copy, Debug, PartialEq, Eq)]
+pub enum Entry<S = Vec<Stroke>> {
     /// The draft was checked, and the driver took its frame.
     Offered,
     /// The check refused the draft.
@@ -32,7 +34,7 @@ pub enum Entry<A: Allocator = Global> {
     Fetched(u16, u16),
     /// The generator fetched the high byte at this word address. This is the word, a HALT. Its run is
     /// finished, and drew these strokes, in this order.
-    Done(u16, u16, Vec<Stroke, A>),
+    Done(u16, u16, S),
     /// The fetch at this word address broke the run.
     Broke(u16, GenFault),
     /// Nothing was fetched, as no run is open.
@@ -41,10 +43,13 @@ pub enum Entry<A: Allocator = Global> {
     Cleared,
 }
 
-impl<A: Allocator> Entry<A> {
+/// An entry that owns its strokes.
+pub type OwnEntry<A = Global> = Entry<Vec<Stroke, A>>;
+
+impl<A: Allocator> Entry<Vec<Stroke, A>> {
     /// The entry of a fetch at this word address, of a byte behind this low one, or of a hole, by what the generator
     /// answers to it.
-    pub fn of_fetch(address: u16, low: Option<u8>, byte: Option<u8>, taken: Taken<A>) -> Entry<A> {
+    pub fn of_fetch(address: u16, low: Option<u8>, byte: Option<u8>, taken: Taken<A>) -> OwnEntry<A> {
         let Some(byte) = byte else {
             return Entry::Broke(address, GenFault::Hole);
         };

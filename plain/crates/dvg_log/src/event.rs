@@ -1,16 +1,18 @@
 //! What can happen to a world.
 use std::prelude::*;
 
-use dvg_frame::Draft;
+use dvg_frame::{Draft, Op};
 use dvg_mem::Image;
-use std::alloc::{Allocator, Global};
+use std::alloc::Global;
 
 /// One thing that happens. Events come in any order and number: a strobe that is sent and never given as
 /// an event is a lost one, and one that is given again is a repeated one.
-#[derive(Debug, PartialEq, Eq)]
-pub enum Event<A: Allocator = Global> {
+///
+/// `D` is what an offer brings, and `I` what a reset of the whole system does.
+#[derive(Clone, Copy, Debug, PartialEq, Eq)]
+pub enum Event<D = Box<Draft>, I = Image> {
     /// The driver is handed a draft to show.
-    Offer(Box<Draft, A>),
+    Offer(D),
     /// The driver is asked to have the published frame drawn again.
     Redraw,
     /// The driver does one action.
@@ -27,5 +29,11 @@ pub enum Event<A: Allocator = Global> {
     /// stay as they are.
     ResetCpu,
     /// A reset of the whole system: both of them, strobes under way end, and the RAM holds these bytes.
-    ResetAll(Image<A>),
+    ResetAll(I),
 }
+
+/// An event that owns what it brings.
+pub type OwnEvent<A = Global> = Event<Box<Draft, A>, Image<A>>;
+
+/// An event whose operations and bytes lie elsewhere.
+pub type TraceEvent<'a, A = Global> = Event<&'a [Op], &'a Image<A>>;

@@ -10,6 +10,6 @@ mod entry;
 mod event;
 mod trace;
 
-pub use entry::Entry;
-pub use event::Event;
-pub use trace::{MOST_EVENTS, Trace, TraceEvent};
+pub use entry::{Entry, OwnEntry};
+pub use event::{Event, OwnEvent, TraceEvent};
+pub use trace::{MOST_EVENTS, Trace};

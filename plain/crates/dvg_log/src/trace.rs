@@ -1,7 +1,7 @@
 //! Lists of events that take little room.
 use std::prelude::*;
 
-use crate::event::Event;
+use crate::event::{Event, OwnEvent, TraceEvent};
 use dvg_code::OutOfMemory;
 use dvg_frame::{Draft, Op};
 use dvg_mem::Image;
@@ -21,41 +21,9 @@ pub struct Trace<A: Allocator = Global> {
     images: Vec<Image<A>, A>,
 }
 
-/// An event of a trace.
-#[derive(Clone, Copy)]
-pub(crate) enum Step {
-    /// An offer: the number of its first operation among those of all offers, and how many it has.
-    Offer(u32, u16),
-    Redraw,
-    Tick,
-    Strobe,
-    Fetch,
-    ResetGen,
-    ResetCpu,
-    /// A reset of the whole system: the number of its image among all.
-    ResetAll(u32),
-}
-
-/// An event of a trace, as it lies there.
-#[derive(Clone, Copy)]
-pub enum TraceEvent<'a, A: Allocator = Global> {
-    /// The driver is handed a draft of these operations.
-    Offer(&'a [Op]),
-    /// As `Event::Redraw`.
-    Redraw,
-    /// As `Event::Tick`.
-    Tick,
-    /// As `Event::Strobe`.
-    Strobe,
-    /// As `Event::Fetch`.
-    Fetch,
-    /// As `Event::ResetGen`.
-    ResetGen,
-    /// As `Event::ResetCpu`.
-    ResetCpu,
-    /// A reset of the whole system, behind which the RAM holds these bytes.
-    ResetAll(&'a Image<A>),
-}
+/// An event of a trace: an offer has the number of its first operation among those of all offers, and how many it
+/// has, and a reset of the whole system the number of its image among all.
+pub(crate) type Step = Event<(u32, u16), u32>;
 
 impl<A: Allocator + Copy> Trace<A> {
     /// No events.
@@ -82,7 +50,7 @@ impl<A: Allocator> Trace<A> {
     /// The event of this number, counted from 0. An offer has at most 511 operations.
     pub fn event(&self, number: usize) -> TraceEvent<'_, A> {
         match &self.steps[number] {
-            Step::Offer(first, count) => {
+            Step::Offer((first, count)) => {
                 let first = *first as usize;
                 TraceEvent::Offer(&self.ops[first..first + usize::from(*count)])
             }
@@ -97,7 +65,7 @@ impl<A: Allocator> Trace<A> {
     }
 
     /// Adds an event at the end of fewer than 65,536. An error is want of memory, and then nothing has changed.
-    pub fn push(&mut self, event: Event<A>) -> Result<(), OutOfMemory> {
+    pub fn push(&mut self, event: OwnEvent<A>) -> Result<(), OutOfMemory> {
         let step = match event {
             Event::Offer(draft) => return self.push_offer(&draft),
             Event::Redraw => Step::Redraw,
@@ -120,7 +88,7 @@ impl<A: Allocator> Trace<A> {
         self.ops.reserve(count)?;
         self.steps.reserve(1)?;
         self.ops.extend_from_slice(draft.ops()).unwrap();
-        self.steps.push_reserved(Step::Offer(first, count as u16));
+        self.steps.push_reserved(Step::Offer((first, count as u16)));
         Ok(())
     }
 

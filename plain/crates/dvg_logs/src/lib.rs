@@ -6,6 +6,7 @@ extern crate plain_std as std;
 
 mod log_line;
 mod log_reading;
+mod number_line;
 mod tears;
 
 pub use dvg_lines::{LogCounts, LogFinding, LogVerdict};

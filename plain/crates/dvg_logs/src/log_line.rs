@@ -2,7 +2,7 @@
 use dvg_text::{hex, is_passed};
 
 /// The first byte address that isn't one of the RAM.
-const RAM_END: u16 = 0x800;
+pub(crate) const RAM_END: u16 = 0x800;
 
 /// The most bytes of a line, without its end (this project's own choice).
 pub const MOST_LINE_BYTES: usize = 64;

@@ -23,6 +23,7 @@ pub enum LogStop {
 }
 
 // Tells the judge what a line tells. The byte address and the byte of the write that tears a picture, where it does.
+#[inline(always)]
 fn tell(judge: &mut Judge, told: LogLine) -> Option<(u16, u8)> {
     match told {
         LogLine::Started => judge.started(),
@@ -39,28 +40,29 @@ fn tell(judge: &mut Judge, told: LogLine) -> Option<(u16, u8)> {
     None
 }
 
-// What was counted in some lines, and what one more tells. None of the numbers passes that of the lines, so none
-// saturates.
+// What was counted in some lines, and what one more tells. None of the numbers passes that of the lines, so none wraps.
+#[inline(always)]
 fn counted(counts: LogCounts, told: LogLine) -> LogCounts {
     let mut counts = counts;
     match told {
-        LogLine::Started => counts.runs = counts.runs.saturating_add(1),
-        LogLine::Wrote(..) => counts.writes = counts.writes.saturating_add(1),
-        LogLine::Fetched(..) => counts.words = counts.words.saturating_add(1),
+        LogLine::Started => counts.runs = counts.runs.wrapping_add(1),
+        LogLine::Wrote(..) => counts.writes = counts.writes.wrapping_add(1),
+        LogLine::Fetched(..) => counts.words = counts.words.wrapping_add(1),
         LogLine::Halted => {
-            counts.words = counts.words.saturating_add(1);
-            counts.halted = counts.halted.saturating_add(1);
+            counts.words = counts.words.wrapping_add(1);
+            counts.halted = counts.halted.wrapping_add(1);
         }
         LogLine::Passed | LogLine::Low(..) | LogLine::Reset => {}
     }
     counts
 }
 
-// The lines that have ended. None of them is torn or at fault.
+/// The lines that have ended. None of them is torn or at fault.
 #[derive(Clone, Copy, Debug, PartialEq, Eq)]
-struct JudgedLines {
+pub struct JudgedLines {
     judge: Judge,
-    count: usize,
+    /// How many they are.
+    pub count: usize,
     counts: LogCounts,
 }
 
@@ -96,6 +98,19 @@ impl JudgedLines {
                 Ok(())
             }
         }
+    }
+
+    /// Takes a line that tells this, where that isn't torn. Whether it is taken.
+    #[inline(always)]
+    pub fn take_told(&mut self, told: LogLine) -> bool {
+        let mut judge = self.judge;
+        if tell(&mut judge, told).is_some() {
+            return false;
+        }
+        self.judge = judge;
+        self.count += 1;
+        self.counts = counted(self.counts, told);
+        true
     }
 }
 
@@ -154,7 +169,7 @@ impl LogReading {
                 Ok(()) => {}
                 Err(stop) => return Err(stop),
             }
-            rest = &rest[end + 1..];
+            rest = self.judged.take_number_lines(&rest[end + 1..]);
         }
         self.begin_line(rest)
     }

@@ -2,21 +2,24 @@
 use crate::number::{hex, natural};
 use dvg_log::Event;
 use memchr::memchr;
-use std::alloc::Allocator;
+use std::convert::Infallible;
 
 /// The most events of one line.
 const MAX_TIMES: u16 = 9999;
 
-/// The events of a line.
-pub enum EventLine<A: Allocator> {
-    /// An event that its name tells whole, so many times in a row.
-    Times(Event<A>, u16),
-    /// One reset of the whole system, behind which each byte of the RAM is this one.
-    ResetAll(u8),
+/// An event that a line spells by itself. That is no offer, and a reset of the whole system has the byte that each byte
+/// of the RAM is after it.
+pub(crate) type SpelledEvent = Event<Infallible, u8>;
+
+/// The events of a line: one event, so many times in a row.
+#[derive(Clone, Copy)]
+pub struct EventLine {
+    pub(crate) event: SpelledEvent,
+    pub(crate) count: u16,
 }
 
 /// The events that a line spells by itself. None exactly where it spells none.
-pub fn read_event_line<A: Allocator>(line: &[u8]) -> Option<EventLine<A>> {
+pub fn read_event_line(line: &[u8]) -> Option<EventLine> {
     match memchr(b' ', line) {
         Some(space) => with_operand(&line[..space], &line[space + 1..]),
         None => once(line),
@@ -24,24 +27,33 @@ pub fn read_event_line<A: Allocator>(line: &[u8]) -> Option<EventLine<A>> {
 }
 
 // The event of a name alone.
-fn once<A: Allocator>(name: &[u8]) -> Option<EventLine<A>> {
-    Some(EventLine::Times(event_named(name)?, 1))
+fn once(name: &[u8]) -> Option<EventLine> {
+    Some(EventLine {
+        event: event_named(name)?,
+        count: 1,
+    })
 }
 
 // The events of a name and its operand.
-fn with_operand<A: Allocator>(name: &[u8], operand: &[u8]) -> Option<EventLine<A>> {
+fn with_operand(name: &[u8], operand: &[u8]) -> Option<EventLine> {
     if name == b"resetall".as_slice() {
-        return Some(EventLine::ResetAll(byte(operand)?));
+        return Some(EventLine {
+            event: Event::ResetAll(byte(operand)?),
+            count: 1,
+        });
     }
     let event = event_named(name)?;
     if !is_counted(&event) {
         return None;
     }
-    Some(EventLine::Times(event, times(operand)?))
+    Some(EventLine {
+        event,
+        count: times(operand)?,
+    })
 }
 
 // The event that this name tells whole.
-fn event_named<A: Allocator>(name: &[u8]) -> Option<Event<A>> {
+fn event_named(name: &[u8]) -> Option<SpelledEvent> {
     if name == b"redraw".as_slice() {
         Some(Event::Redraw)
     } else if name == b"tick".as_slice() {
@@ -60,7 +72,7 @@ fn event_named<A: Allocator>(name: &[u8]) -> Option<Event<A>> {
 }
 
 // Whether a count may follow an event's name.
-fn is_counted<A: Allocator>(event: &Event<A>) -> bool {
+fn is_counted(event: &SpelledEvent) -> bool {
     matches!(event, Event::Tick | Event::Strobe | Event::Fetch)
 }
 

@@ -19,6 +19,6 @@ mod trace_text;
 pub use draft_text::{DraftText, MOST_TEXT_BYTES, read_draft};
 pub use dvg_log::MOST_EVENTS;
 pub use fault::{TextFault, TraceFault};
-pub use number::hex;
+pub use number::{digit_of, hex};
 pub use text_lines::is_passed;
 pub use trace_text::{TraceText, read_trace};

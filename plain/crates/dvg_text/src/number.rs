@@ -23,9 +23,9 @@ const HEX_DIGITS: [u8; 256] = [
     16, 16, 16, 16, 16, 16, 16, 16, 16, 16, 16, 16, 16, 16, 16, 16,
 ];
 
-// The value of a hexadecimal digit of either case. 16 for any other byte.
+/// The value of a hexadecimal digit of either case. 16 for any other byte.
 #[inline(always)]
-fn digit_of(byte: u8) -> u8 {
+pub fn digit_of(byte: u8) -> u8 {
     HEX_DIGITS[usize::from(byte)]
 }
 

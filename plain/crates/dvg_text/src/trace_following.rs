@@ -7,7 +7,6 @@ use crate::text_lines::{TextLines, is_passed};
 use crate::trace_text::{LineFault, add_op, at_line, count};
 use dvg_frame::Draft;
 use dvg_log::MOST_EVENTS;
-use std::alloc::Global;
 
 /// Follows the text of a trace to its end, or to its fault.
 pub(crate) fn follow(text: &[u8]) -> Result<(), TraceFault> {
@@ -67,7 +66,7 @@ impl Following {
             self.is_open = true;
             return Ok(());
         }
-        if let Some(told) = read_event_line::<Global>(line) {
+        if let Some(told) = read_event_line(line) {
             let more = count(&told);
             if self.count + more > MOST_EVENTS {
                 return Err(LineFault::Many);

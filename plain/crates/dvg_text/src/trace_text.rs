@@ -1,6 +1,6 @@
 //! Texts of traces.
 use crate::draft_text::MOST_TEXT_BYTES;
-use crate::event_line::{EventLine, read_event_line};
+use crate::event_line::{EventLine, SpelledEvent, read_event_line};
 use crate::fault::{TextFault, TraceFault};
 use crate::op_line::read_op;
 use crate::rom_text::RomReading;
@@ -152,43 +152,57 @@ pub(crate) fn add_op(draft: &mut Draft, line: &[u8]) -> Result<(), LineFault> {
 // Adds the events of a line.
 fn add_events<A: Allocator>(
     alloc: A,
-    told: EventLine<A>,
+    told: EventLine,
     resets: &mut [Option<u32>; 256],
     events: &mut Trace<A>,
 ) -> Result<(), LineFault> {
     if events.len() + count(&told) > MOST_EVENTS {
         return Err(LineFault::Many);
     }
-    let added = match told {
-        EventLine::Times(event, count) => add_times(event, count, events),
-        EventLine::ResetAll(byte) => add_reset(alloc, byte, resets, events),
-    };
-    if added.is_err() {
+    if add_times(alloc, told.event, told.count, resets, events).is_err() {
         return Err(LineFault::Memory);
     }
     Ok(())
 }
 
 // How many events a line has.
-pub(crate) fn count<A: Allocator>(told: &EventLine<A>) -> usize {
-    match told {
-        EventLine::Times(_, count) => usize::from(*count),
-        EventLine::ResetAll(_) => 1,
-    }
+pub(crate) fn count(told: &EventLine) -> usize {
+    usize::from(told.count)
 }
 
 // Adds an event, so many times in a row: itself, and then the same again.
 fn add_times<A: Allocator>(
-    event: Event<A>,
+    alloc: A,
+    event: SpelledEvent,
     count: u16,
+    resets: &mut [Option<u32>; 256],
     events: &mut Trace<A>,
 ) -> Result<(), OutOfMemory> {
     let first = events.len();
-    events.push(event)?;
+    add_once(alloc, event, resets, events)?;
     for _time in 1..count {
         events.push_again(first)?;
     }
     Ok(())
+}
+
+// Adds an event.
+fn add_once<A: Allocator>(
+    alloc: A,
+    event: SpelledEvent,
+    resets: &mut [Option<u32>; 256],
+    events: &mut Trace<A>,
+) -> Result<(), OutOfMemory> {
+    let own = match event {
+        Event::Redraw => Event::Redraw,
+        Event::Tick => Event::Tick,
+        Event::Strobe => Event::Strobe,
+        Event::Fetch => Event::Fetch,
+        Event::ResetGen => Event::ResetGen,
+        Event::ResetCpu => Event::ResetCpu,
+        Event::ResetAll(byte) => return add_reset(alloc, byte, resets, events),
+    };
+    events.push(own)
 }
 
 // Adds a reset of the whole system, behind which each byte is this one. Its image is made where it is the first.

@@ -3,7 +3,7 @@ use std::prelude::*;
 
 use crate::shows::write_entries;
 use dvg_io::{ToolFault, Watched, read_up_to};
-use dvg_log::Entry;
+use dvg_log::OwnEntry;
 use dvg_mem::{Flat, Image, MEMORY_BYTES, Rom, Store};
 use dvg_text::{MOST_TEXT_BYTES, TraceText, read_trace};
 use dvg_world::{Stopped, run_trace};
@@ -22,7 +22,7 @@ fn unstarted<A: Allocator>(alloc: A) -> Stopped<A> {
 fn run_text<S: Store>(
     alloc: S::Alloc,
     told: &TraceText<S::Alloc>,
-) -> Result<Vec<Entry<S::Alloc>, S::Alloc>, Stopped<S::Alloc>> {
+) -> Result<Vec<OwnEntry<S::Alloc>, S::Alloc>, Stopped<S::Alloc>> {
     let Ok(rom) = Rom::new(alloc, told.rom.as_slice()) else {
         return Err(unstarted(alloc));
     };

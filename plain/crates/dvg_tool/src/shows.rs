@@ -1,7 +1,7 @@
 //! What is written of a log's entries.
 use dvg_io::{DeviceFailed, ToolFault, Watched, write_strokes, write_whole};
 use dvg_lines::Line;
-use dvg_log::Entry;
+use dvg_log::{Entry, OwnEntry};
 use std::alloc::Allocator;
 use std::io::Write;
 
@@ -10,7 +10,7 @@ use std::io::Write;
 fn write_head<A: Allocator, W: Write>(
     line: &mut Line,
     number: usize,
-    entry: &Entry<A>,
+    entry: &OwnEntry<A>,
     all: bool,
     writer: &mut Watched<W>,
 ) -> Result<(), DeviceFailed> {
@@ -27,7 +27,7 @@ fn write_head<A: Allocator, W: Write>(
 // Writes the strokes of a finished run; nothing for another entry. The lines are made in `line`.
 fn write_drawn<A: Allocator, W: Write>(
     line: &mut Line,
-    entry: &Entry<A>,
+    entry: &OwnEntry<A>,
     writer: &mut Watched<W>,
 ) -> Result<(), DeviceFailed> {
     match entry {
@@ -40,7 +40,7 @@ fn write_drawn<A: Allocator, W: Write>(
 fn write_entry<A: Allocator, W: Write>(
     line: &mut Line,
     number: usize,
-    entry: &Entry<A>,
+    entry: &OwnEntry<A>,
     all: bool,
     writer: &mut Watched<W>,
 ) -> Result<(), DeviceFailed> {
@@ -51,7 +51,7 @@ fn write_entry<A: Allocator, W: Write>(
 /// Writes what is shown of entries, the first of which is that of event 0: with `all` of each, and else of
 /// finished runs alone.
 pub fn write_entries<A: Allocator, W: Write>(
-    entries: &[Entry<A>],
+    entries: &[OwnEntry<A>],
     all: bool,
     writer: &mut Watched<W>,
 ) -> Result<(), ToolFault> {

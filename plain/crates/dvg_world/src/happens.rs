@@ -2,7 +2,7 @@
 use crate::world::World;
 use dvg_code::OutOfMemory;
 use dvg_frame::{Draft, Op};
-use dvg_log::{Entry, Trace, TraceEvent};
+use dvg_log::{OwnEntry, Trace, TraceEvent};
 use dvg_mem::Store;
 
 // Takes these operations in place of a draft's own.
@@ -18,7 +18,7 @@ pub(crate) fn happen_of<S: Store>(
     number: usize,
     draft: &mut Draft,
     world: &mut World<S>,
-) -> Result<Entry<S::Alloc>, OutOfMemory> {
+) -> Result<OwnEntry<S::Alloc>, OutOfMemory> {
     match trace.event(number) {
         TraceEvent::Offer(ops) => {
             fill(draft, ops);

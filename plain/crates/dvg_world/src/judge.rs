@@ -1,6 +1,6 @@
 //! A judge of logs, whoever made them.
 use dvg_driver::Action;
-use dvg_log::{Entry, Event};
+use dvg_log::{Entry, Event, OwnEntry, OwnEvent};
 use dvg_mem::Half;
 use std::alloc::Allocator;
 
@@ -28,7 +28,7 @@ impl Drawing {
     }
 
     // What is left by an event.
-    fn after_event<A: Allocator>(self, event: &Event<A>) -> Drawing {
+    fn after_event<A: Allocator>(self, event: &OwnEvent<A>) -> Drawing {
         match event {
             Event::ResetGen | Event::ResetAll(_) => Drawing::Nothing,
             _ => self,
@@ -44,7 +44,7 @@ impl Drawing {
     }
 
     // What is drawn behind an entry.
-    fn after_entry<A: Allocator>(self, entry: &Entry<A>) -> Drawing {
+    fn after_entry<A: Allocator>(self, entry: &OwnEntry<A>) -> Drawing {
         match entry {
             Entry::Started => Drawing::Begun,
             Entry::Fetched(address, word) => self.after_fetch(*address, *word),
@@ -62,7 +62,7 @@ impl Drawing {
     }
 
     // Whether this entry, behind which that is drawn, tears the picture.
-    fn is_torn_by<A: Allocator>(self, entry: &Entry<A>) -> bool {
+    fn is_torn_by<A: Allocator>(self, entry: &OwnEntry<A>) -> bool {
         match entry {
             Entry::Acted(Action::Wrote(address, _)) => self.is_torn_at(*address),
             _ => false,
@@ -86,7 +86,7 @@ impl Judge {
     }
 
     /// Is told a line more. Whether that tears a picture.
-    pub fn take<A: Allocator>(&mut self, event: &Event<A>, entry: &Entry<A>) -> bool {
+    pub fn take<A: Allocator>(&mut self, event: &OwnEvent<A>, entry: &OwnEntry<A>) -> bool {
         self.drawing = self.drawing.after_event(event).after_entry(entry);
         self.drawing.is_torn_by(entry)
     }
@@ -125,7 +125,7 @@ impl Judge {
 /// it; such a reset ends it before its own entry counts. It draws a half where the first word that it fetched is the
 /// one at 000, a jump to a word of that half: from that entry on. No memory is taken, and each entry is looked at
 /// once.
-pub fn first_torn<A: Allocator>(events: &[Event<A>], entries: &[Entry<A>]) -> Option<usize> {
+pub fn first_torn<A: Allocator>(events: &[OwnEvent<A>], entries: &[OwnEntry<A>]) -> Option<usize> {
     let mut judge = Judge::new();
     for number in 0..events.len().min(entries.len()) {
         if judge.take(&events[number], &entries[number]) {

@@ -16,7 +16,7 @@ mod runs;
 mod stopped;
 mod world;
 
-pub use dvg_log::{Entry, Event, MOST_EVENTS, Trace, TraceEvent};
+pub use dvg_log::{Entry, Event, MOST_EVENTS, OwnEntry, OwnEvent, Trace, TraceEvent};
 pub use judge::{Judge, first_torn};
 pub use runs::{run, run_trace};
 pub use stopped::Stopped;

@@ -6,7 +6,7 @@ use crate::stopped::Stopped;
 use crate::world::World;
 use dvg_code::OutOfMemory;
 use dvg_frame::Draft;
-use dvg_log::{Entry, Event, Trace};
+use dvg_log::{OwnEntry, OwnEvent, Trace};
 use dvg_mem::{Image, Rom, Store};
 use std::alloc::Allocator;
 
@@ -35,8 +35,8 @@ pub fn run<S: Store>(
     alloc: S::Alloc,
     rom: Rom<S::Alloc>,
     image: &Image<S::Alloc>,
-    events: &[Event<S::Alloc>],
-) -> Result<Vec<Entry<S::Alloc>, S::Alloc>, Stopped<S::Alloc>> {
+    events: &[OwnEvent<S::Alloc>],
+) -> Result<Vec<OwnEntry<S::Alloc>, S::Alloc>, Stopped<S::Alloc>> {
     run_each::<S, Listed<S::Alloc>>(alloc, rom, image, Listed { events })
 }
 
@@ -47,7 +47,7 @@ pub fn run_trace<S: Store>(
     rom: Rom<S::Alloc>,
     image: &Image<S::Alloc>,
     trace: &Trace<S::Alloc>,
-) -> Result<Vec<Entry<S::Alloc>, S::Alloc>, Stopped<S::Alloc>> {
+) -> Result<Vec<OwnEntry<S::Alloc>, S::Alloc>, Stopped<S::Alloc>> {
     let draft = Draft::new();
     run_each::<S, Playing<S::Alloc>>(alloc, rom, image, Playing { trace, draft })
 }
@@ -62,12 +62,12 @@ trait Events<S: Store>: Drop {
         &mut self,
         number: usize,
         world: &mut World<S>,
-    ) -> Result<Entry<S::Alloc>, OutOfMemory>;
+    ) -> Result<OwnEntry<S::Alloc>, OutOfMemory>;
 }
 
 // A list of events.
 struct Listed<'a, A: Allocator> {
-    events: &'a [Event<A>],
+    events: &'a [OwnEvent<A>],
 }
 
 impl<'a, S: Store> Events<S> for Listed<'a, S::Alloc> {
@@ -79,7 +79,7 @@ impl<'a, S: Store> Events<S> for Listed<'a, S::Alloc> {
         &mut self,
         number: usize,
         world: &mut World<S>,
-    ) -> Result<Entry<S::Alloc>, OutOfMemory> {
+    ) -> Result<OwnEntry<S::Alloc>, OutOfMemory> {
         world.apply(&self.events[number])
     }
 }
@@ -99,7 +99,7 @@ impl<'a, S: Store> Events<S> for Playing<'a, S::Alloc> {
         &mut self,
         number: usize,
         world: &mut World<S>,
-    ) -> Result<Entry<S::Alloc>, OutOfMemory> {
+    ) -> Result<OwnEntry<S::Alloc>, OutOfMemory> {
         happen_of(self.trace, number, &mut self.draft, world)
     }
 }
@@ -110,7 +110,7 @@ fn run_each<S: Store, E: Events<S>>(
     rom: Rom<S::Alloc>,
     image: &Image<S::Alloc>,
     events: E,
-) -> Result<Vec<Entry<S::Alloc>, S::Alloc>, Stopped<S::Alloc>> {
+) -> Result<Vec<OwnEntry<S::Alloc>, S::Alloc>, Stopped<S::Alloc>> {
     let Ok(mut world) = World::<S>::new(alloc, rom, image) else {
         return Err(Stopped {
             entries: Vec::new(alloc),

@@ -1,7 +1,7 @@
 //! Runs that stop early.
 use std::prelude::*;
 
-use dvg_log::Entry;
+use dvg_log::OwnEntry;
 use std::alloc::{Allocator, Global};
 use thiserror::Error;
 
@@ -11,7 +11,7 @@ use thiserror::Error;
 #[error("memory was refused at event {event}")]
 pub struct Stopped<A: Allocator = Global> {
     /// The entries of the events before the one at which the run stopped.
-    pub entries: Vec<Entry<A>, A>,
+    pub entries: Vec<OwnEntry<A>, A>,
     /// The number of the event at which the run stopped, counted from 0. It has no entry.
     pub event: usize,
 }

@@ -5,7 +5,7 @@ use dvg_code::OutOfMemory;
 use dvg_driver::{Action, Driver, DriverFault};
 use dvg_frame::{Checker, Draft};
 use dvg_gen::Generator;
-use dvg_log::{Entry, Event};
+use dvg_log::{Entry, Event, OwnEntry, OwnEvent};
 use dvg_mem::{Image, MemFault, Rom, Store, fetch_byte};
 
 /// Both ends of the vector RAM: the driver that writes frames into it, and the generator that draws out of
@@ -85,7 +85,7 @@ impl<S: Store> World<S> {
     ///
     /// An error is want of memory, and then the world is as it was. It comes only for a fetch that completes
     /// a vector with an intensity of at least 1.
-    pub fn apply(&mut self, event: &Event<S::Alloc>) -> Result<Entry<S::Alloc>, OutOfMemory> {
+    pub fn apply(&mut self, event: &OwnEvent<S::Alloc>) -> Result<OwnEntry<S::Alloc>, OutOfMemory> {
         match event {
             Event::Offer(draft) => Ok(self.offer(draft)),
             Event::Redraw => Ok(self.redraw()),
@@ -99,7 +99,7 @@ impl<S: Store> World<S> {
     }
 
     /// The driver is handed a draft to show, as by `Event::Offer`.
-    pub fn offer(&mut self, draft: &Draft) -> Entry<S::Alloc> {
+    pub fn offer(&mut self, draft: &Draft) -> OwnEntry<S::Alloc> {
         // A draft has at most 511 operations, as its type says.
         let _ = draft.len();
         let checked = match self.checker.check(draft, &self.rom) {
@@ -113,7 +113,7 @@ impl<S: Store> World<S> {
     }
 
     /// The driver is asked to have the published frame drawn again, as by `Event::Redraw`.
-    pub fn redraw(&mut self) -> Entry<S::Alloc> {
+    pub fn redraw(&mut self) -> OwnEntry<S::Alloc> {
         match self.driver.redraw() {
             Ok(()) => Entry::Asked,
             Err(DriverFault::NothingPublished) => Entry::NothingPublished,
@@ -122,7 +122,7 @@ impl<S: Store> World<S> {
     }
 
     /// The driver does one action, as by `Event::Tick`.
-    pub fn tick(&mut self) -> Entry<S::Alloc> {
+    pub fn tick(&mut self) -> OwnEntry<S::Alloc> {
         let byte1 = self.store.read(1);
         let action = self.driver.tick(self.generator.halted(), byte1);
         self.perform(action);
@@ -139,7 +139,7 @@ impl<S: Store> World<S> {
     }
 
     /// A strobe reaches the generator, if the driver has sent one, as by `Event::Strobe`.
-    pub fn strobe(&mut self) -> Entry<S::Alloc> {
+    pub fn strobe(&mut self) -> OwnEntry<S::Alloc> {
         if !self.strobe_sent {
             return Entry::NoStrobe;
         }
@@ -149,7 +149,7 @@ impl<S: Store> World<S> {
 
     /// The generator fetches one byte, as by `Event::Fetch`. This is the one event that takes memory, for the stroke of
     /// a vector with an intensity of at least 1. An error is want of it, and then the world is as it was.
-    pub fn fetch(&mut self) -> Result<Entry<S::Alloc>, OutOfMemory> {
+    pub fn fetch(&mut self) -> Result<OwnEntry<S::Alloc>, OutOfMemory> {
         let Some(address) = self.generator.wants() else {
             return Ok(Entry::Still);
         };
@@ -160,19 +160,19 @@ impl<S: Store> World<S> {
     }
 
     /// The generator is reset, as by `Event::ResetGen`.
-    pub fn reset_generator(&mut self) -> Entry<S::Alloc> {
+    pub fn reset_generator(&mut self) -> OwnEntry<S::Alloc> {
         self.generator.reset(); // The open run is over.
         Entry::Cleared
     }
 
     /// The driver is reset, as by `Event::ResetCpu`.
-    pub fn reset_processor(&mut self) -> Entry<S::Alloc> {
+    pub fn reset_processor(&mut self) -> OwnEntry<S::Alloc> {
         self.driver.reset();
         Entry::Cleared
     }
 
     /// The whole system is reset, and the RAM holds this image, as by `Event::ResetAll`.
-    pub fn reset_all(&mut self, image: &Image<S::Alloc>) -> Entry<S::Alloc> {
+    pub fn reset_all(&mut self, image: &Image<S::Alloc>) -> OwnEntry<S::Alloc> {
         self.store.load(image);
         self.generator.reset();
         self.driver.reset();
