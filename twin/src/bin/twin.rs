@@ -510,8 +510,8 @@ fn main() -> ExitCode {
     };
     let Some(done) = do_job(&words) else {
         complain(format_args!(
-            "usage: dvg list [--at HHH]|rom|check [--bound]|play [--all] [--banked]|picture [--all]|\
-             draw [--check]|lay [--half 0|1]|torn"
+            "usage: dvg list [--at HHH]|rom|check [--bound]|play [--all] [--banked]|torn|\
+             picture [--all]|draw [--check]|lay [--half 0|1]"
         ));
         return ExitCode::from(MISUSE);
     };
