@@ -8,6 +8,7 @@ pub mod generator;
 pub mod judge;
 pub mod lines;
 pub mod listing;
+pub mod made;
 pub mod memory;
 pub mod options;
 pub mod picture;

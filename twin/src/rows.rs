@@ -1,7 +1,7 @@
 //! What a line of a sketch spells, in plain Rust, for the plain twin.
 //!
-//! A line's words are what spaces and tabs part, without the comment that `#` begins and without one
-//! CR at the end. Letters are small by now.
+//! A line's words are what spaces and tabs part, without the comment that `#` begins and without
+//! one CR at the end. Letters are small by now.
 
 use crate::frames::Op;
 use crate::texts::{hex, op_of_parts};

@@ -295,7 +295,8 @@ impl<'a> Laid<'a> {
         Ok(())
     }
 
-    /// Puts the words of all rows into the ROM, or answers the first line that wants an unknown name.
+    /// Puts the words of all rows into the ROM, or answers the first line that wants a name which
+    /// isn't given.
     fn put_into(&self, rom: &mut Rom) -> Result<(), usize> {
         for (start, row) in &self.rows {
             let named = |name| self.names.get(name).copied().ok_or(row.source.number);

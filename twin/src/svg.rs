@@ -1,7 +1,7 @@
 //! Pictures as SVG in plain Rust, for the plain twin. All of it is this project's own choice.
 //!
-//! Numbers are in 1/512 of a screen unit. The screen's 1,024 units are shown, and half a unit around
-//! them.
+//! Numbers are in 1/512 of a screen unit. The screen's 1,024 units are shown, and half a unit
+//! around them.
 
 use crate::generator::Stroke;
 use crate::lines::Line;

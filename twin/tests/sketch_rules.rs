@@ -179,8 +179,15 @@ fn names_are_of_the_next_operation() {
 #[test]
 fn sections_are_laid_after_all_before() {
     assert_eq!(
-        meant("rom 800 B001\n.rom\nlabs 512 400 0\nship: svec 2 1 1 7\n.rom 900\nHalt\n.rom 880\nhalt\n.rom\nhalt\nend:"),
-        Ok("ship = 803; end = 902; 800 B001; 801 A190; 802 0200; 803 F171; 880 B000; 900 B000; 901 B000".into())
+        meant(
+            "rom 800 B001\n.rom\nlabs 512 400 0\nship: svec 2 1 1 7\n.rom 900\nHalt\n\
+             .rom 880\nhalt\n.rom\nhalt\nend:"
+        ),
+        Ok(
+            "ship = 803; end = 902; 800 B001; 801 A190; 802 0200; 803 F171; \
+            880 B000; 900 B000; 901 B000"
+                .into()
+        )
     );
     assert_eq!(meant("map 4096\n.rom\nhalt\n"), Ok("400 B000".into()));
     assert_eq!(

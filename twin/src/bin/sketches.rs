@@ -1,37 +1,39 @@
 //! Makes random sketches, good ones and ones with mistakes, and judges what comes of them. See
 //! tests/sketches.
 //!
-//! `sketches COUNT SEED TWIN [PROGRAM]`
+//! `sketches COUNT SEED [PROGRAM]`
 
 use std::io::{self, Write};
 use std::path::Path;
 use std::process::ExitCode;
 use std::sync::{Mutex, PoisonError};
 use twin::frames::check;
+use twin::made::Made;
 use twin::sketch::read_sketch;
-use twin::storm::programs::{Report, ask, for_each_seed};
+use twin::storm::programs::{Answer, Report, ask, for_each_seed};
 use twin::storm::sketches::{random_sketch, with_mistake};
 use twin::storm::ways::{Counts, judge, judge_made};
+use twin::svg::Show;
 
-/// What both programs are asked of each text.
-const QUESTIONS: [&[&str]; 7] = [
-    &["draw", "--check"],
-    &["lay"],
-    &["lay", "--half", "1"],
-    &["lay", "--table"],
-    &["lay", "--rom"],
-    &["lay", "--equates"],
-    &["draw"],
+/// What is asked of each text, and what that is of the twin.
+const QUESTIONS: [(&[&str], Made); 7] = [
+    (&["draw", "--check"], Made::Checks),
+    (&["lay"], Made::Bytes(0)),
+    (&["lay", "--half", "1"], Made::Bytes(1)),
+    (&["lay", "--table"], Made::Table),
+    (&["lay", "--rom"], Made::Rom),
+    (&["lay", "--equates"], Made::Equates),
+    (&["draw"], Made::Svg(SHOW)),
 ];
+
+/// How pictures are shown where nothing is said of it.
+const SHOW: Show = Show {
+    percent: 100,
+    rate: 30,
+};
 
 /// The most words that the pictures of a sketch which is drawn may fetch.
 const MOST_FETCHES: u64 = 1_000_000;
-
-/// The programs that are asked.
-struct Asked<'a> {
-    program: &'a Path,
-    twin: &'a Path,
-}
 
 /// Whether the pictures of a text are soon drawn.
 fn is_soon_drawn(text: &[u8]) -> bool {
@@ -46,34 +48,55 @@ fn is_soon_drawn(text: &[u8]) -> bool {
     bounds.fold(0u64, |sum, frame| sum.saturating_add(frame.bound)) <= MOST_FETCHES
 }
 
-/// Asks both programs about a text, and tells where they differ.
-fn compare(asked: &Asked, text: &[u8], faults: &mut Vec<String>) -> io::Result<()> {
-    let questions = if is_soon_drawn(text) {
-        &QUESTIONS[..]
-    } else {
-        &QUESTIONS[..QUESTIONS.len() - 1]
+/// What the twin answers.
+fn twin_answer(made: &Made, text: &[u8]) -> io::Result<Answer> {
+    let mut text = text.to_vec();
+    let refused = |reason: String| Answer {
+        status: Some(1),
+        output: Vec::new(),
+        error: format!("dvg: {reason}\n").into_bytes(),
     };
-    for words in questions {
-        if ask(asked.program, words, text)? != ask(asked.twin, words, text)? {
-            faults.push(format!(
-                "the program and the twin differ in `{}`",
-                words.join(" ")
-            ));
+    let sketch = match read_sketch(&mut text) {
+        Ok(sketch) => sketch,
+        Err(fault) => return Ok(refused(fault.to_string())),
+    };
+    if let Err(refusal) = made.refuse(&sketch) {
+        return Ok(refused(refusal.to_string()));
+    }
+    let mut output = Vec::new();
+    let good = made.write(&sketch, &mut output)?;
+    Ok(Answer {
+        status: Some(i32::from(!good)),
+        output,
+        error: Vec::new(),
+    })
+}
+
+/// Asks the program about a text, and tells where the twin answers otherwise.
+fn compare(program: &Path, text: &[u8], faults: &mut Vec<String>) -> io::Result<()> {
+    let soon = is_soon_drawn(text);
+    for (words, made) in &QUESTIONS {
+        if matches!(made, Made::Svg(_)) && !soon {
+            continue;
+        }
+        if ask(program, words, text)? != twin_answer(made, text)? {
+            let words = words.join(" ");
+            faults.push(format!("the program and the twin differ in `{words}`"));
         }
     }
     Ok(())
 }
 
 /// Judges the sketches of a seed: a good one, and the same with a mistake.
-fn judge_seed(seed: u64, asked: Option<&Asked>, report: &Mutex<Report<Counts>>) -> io::Result<()> {
+fn judge_seed(seed: u64, program: Option<&Path>, report: &Mutex<Report<Counts>>) -> io::Result<()> {
     let made = random_sketch(seed);
     let mistaken = with_mistake(&made.text, seed);
     let mut wrong = judge_made(&made);
     for (name, text) in [("sketch", &made.text), ("mistaken sketch", &mistaken)] {
         let (counts, faults) = judge(text);
         wrong.extend(faults);
-        if let Some(asked) = asked {
-            compare(asked, text, &mut wrong)?;
+        if let Some(program) = program {
+            compare(program, text, &mut wrong)?;
         }
         let mut report = report.lock().unwrap_or_else(PoisonError::into_inner);
         report.add(&format!("the {name} of seed {seed}"), counts, &wrong);
@@ -82,9 +105,9 @@ fn judge_seed(seed: u64, asked: Option<&Asked>, report: &Mutex<Report<Counts>>) 
     Ok(())
 }
 
-fn run(count: u64, seed: u64, asked: Option<&Asked>) -> io::Result<Report<Counts>> {
+fn run(count: u64, seed: u64, program: Option<&Path>) -> io::Result<Report<Counts>> {
     let report = Mutex::new(Report::default());
-    for_each_seed(count, seed, |seed| judge_seed(seed, asked, &report))?;
+    for_each_seed(count, seed, |seed| judge_seed(seed, program, &report))?;
     Ok(report.into_inner().unwrap_or_else(PoisonError::into_inner))
 }
 
@@ -99,8 +122,8 @@ fn show(seed: u64, mistaken: bool) -> io::Result<()> {
     io::stdout().write_all(&text)
 }
 
-/// The programs to ask; none where there is no program, or one that doesn't draw.
-fn asked<'a>(twin: &'a Path, program: Option<&'a Path>) -> io::Result<Option<Asked<'a>>> {
+/// The program to ask; none where there is none, or one that doesn't draw.
+fn asked(program: Option<&Path>) -> io::Result<Option<&Path>> {
     let Some(program) = program else {
         println!("skipped: no program is asked beside the twin");
         return Ok(None);
@@ -109,7 +132,7 @@ fn asked<'a>(twin: &'a Path, program: Option<&'a Path>) -> io::Result<Option<Ask
         println!("skipped: {} doesn't draw", program.display());
         return Ok(None);
     }
-    Ok(Some(Asked { program, twin }))
+    Ok(Some(program))
 }
 
 fn main() -> ExitCode {
@@ -120,16 +143,16 @@ fn main() -> ExitCode {
     {
         return ExitCode::from(u8::from(show(seed, words.len() == 2).is_err()));
     }
-    let (count, seed, twin, program) = match words[..] {
-        [count, seed, twin] => (count, seed, twin, None),
-        [count, seed, twin, program] => (count, seed, twin, Some(Path::new(program))),
-        _ => ("", "", "", None),
+    let (count, seed, program) = match words[..] {
+        [count, seed] => (count, seed, None),
+        [count, seed, program] => (count, seed, Some(Path::new(program))),
+        _ => ("", "", None),
     };
     let (Ok(count), Ok(seed)) = (count.parse(), seed.parse()) else {
-        eprintln!("usage: sketches COUNT SEED TWIN [PROGRAM], or sketches SEED [mistaken]");
+        eprintln!("usage: sketches COUNT SEED [PROGRAM], or sketches SEED [mistaken]");
         return ExitCode::from(64);
     };
-    let report = asked(Path::new(twin), program).and_then(|asked| run(count, seed, asked.as_ref()));
+    let report = asked(program).and_then(|program| run(count, seed, program));
     match report {
         Ok(report) => {
             println!("{}", report.counts);

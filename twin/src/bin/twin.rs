@@ -15,11 +15,12 @@ use std::process::ExitCode;
 use twin::frames::check;
 use twin::lines::Line;
 use twin::listing::{ListFault, write_list};
+use twin::made::Made;
 use twin::memory::{BYTES, Banked, Flat};
 use twin::options::Options;
 use twin::picture::{is_image, write_picture, write_picture_svg};
 use twin::shows::write_entries;
-use twin::sketch::{Sketch, SketchFault, read_sketch};
+use twin::sketch::{SketchFault, read_sketch};
 use twin::svg::{Show, write_svgs};
 use twin::texts::{MOST_TEXT_BYTES, TextFault, hex, read_draft};
 use twin::torn::{LogFault, Torn, judge_text};
@@ -327,44 +328,15 @@ fn play(banked: bool, shown: Shown) -> Result<ExitCode, Fault> {
     Ok(ExitCode::SUCCESS)
 }
 
-/// What is made of a sketch.
-enum Made {
-    Checks,
-    Svg(Show),
-    Bytes(usize),
-    Table,
-    Rom,
-    Equates,
-}
-
-/// Refuses a sketch of which that can't be made.
-fn refuse(sketch: &Sketch, made: &Made) -> Result<(), Fault> {
-    let refused = |refusal: twin::draw::Refusal| Fault::Refused(refusal.to_string());
-    if let Made::Checks = made {
-        return Ok(());
-    }
-    sketch.check().map_err(refused)?;
-    if let Made::Table = made {
-        sketch.check_table().map_err(refused)?;
-    }
-    Ok(())
-}
-
 /// Makes that of the sketch that standard input holds.
 fn make(made: &Made) -> Result<ExitCode, Fault> {
     let mut text = read_text()?;
     let sketch = read_sketch(&mut text)?;
-    refuse(&sketch, made)?;
+    made.refuse(&sketch)
+        .map_err(|refusal| Fault::Refused(refusal.to_string()))?;
     let mut writer = output()?;
-    let good = match made {
-        Made::Checks => sketch.write_checks(&mut writer),
-        Made::Svg(show) => sketch.write_svg(*show, &mut writer).map(|()| true),
-        Made::Bytes(half) => sketch.write_bytes(*half, &mut writer).map(|()| true),
-        Made::Table => sketch.write_table(&mut writer).map(|()| true),
-        Made::Rom => sketch.write_rom(&mut writer).map(|()| true),
-        Made::Equates => sketch.write_equates(&mut writer).map(|()| true),
-    };
-    let good = good
+    let good = made
+        .write(&sketch, &mut writer)
         .and_then(|good| writer.flush().map(|()| good))
         .map_err(|_| Fault::Writer)?;
     Ok(status_of(good))
@@ -510,8 +482,8 @@ fn main() -> ExitCode {
     };
     let Some(done) = do_job(&words) else {
         complain(format_args!(
-            "usage: dvg list [--at HHH]|rom|check [--bound]|play [--all] [--banked]|picture [--all]|\
-             draw [--check]|lay [--half 0|1]|torn"
+            "usage: dvg list [--at HHH]|rom|check [--bound]|play [--all] [--banked]|torn|\
+             picture [--all]|draw [--check]|lay [--half 0|1]"
         ));
         return ExitCode::from(MISUSE);
     };

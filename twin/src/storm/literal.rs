@@ -1,5 +1,6 @@
-//! Reads sketches once more, by what the rules say of whole texts: which lines spell a sketch, which
-//! limits it keeps, and what it denotes. It uses no reader of the twin, and takes no care to be fast.
+//! Reads sketches once more, by what the rules say of whole texts: which lines spell a sketch,
+//! which limits it keeps, and what it denotes. It uses no reader of the twin, and takes no care to
+//! be fast.
 
 use crate::sketch::SketchFault;
 use crate::storm::drafts::Op;

@@ -1,5 +1,5 @@
-//! Asks programs, has work done on all processors, and counts what came of it. For tests/storm.rs
-//! and tests/dumps.rs.
+//! Asks programs, has work done on all processors, and counts what came of it. For tests/storm,
+//! tests/dumps and tests/sketches.
 
 use std::io::{self, Write};
 use std::num::NonZero;

@@ -156,7 +156,8 @@ impl Writer {
         self.end_line(random);
     }
 
-    /// Writes a row: perhaps names, each alone in a line but perhaps the last one, and what it does.
+    /// Writes a row: perhaps names, each alone in a line but perhaps the last one, and what it
+    /// does.
     fn row(&mut self, names: &[&str], doing: &str, random: &mut Random) {
         let Some((last, before)) = names.split_last() else {
             return self.line(doing, random);
@@ -572,7 +573,8 @@ fn random_line(random: &mut Random) -> Vec<u8> {
     line.into_bytes()
 }
 
-/// A text with a mistake: a line changed, dropped, doubled or moved, a byte changed, or a limit passed.
+/// A text with a mistake: a line changed, dropped, doubled or moved, a byte changed, or a limit
+/// passed.
 pub fn with_mistake(text: &[u8], seed: u64) -> Vec<u8> {
     let mut random = Random::new(seed ^ 0x5EED);
     let random = &mut random;

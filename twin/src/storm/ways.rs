@@ -408,7 +408,8 @@ pub fn svg(pictures: &[String], side: u32, shown: u32) -> String {
                 shown as usize * last
             ),
             _ => format!(
-                "<g visibility=\"hidden\">\n<set id=\"p{k}\" {} begin=\"p{}.end\" dur=\"{shown}ms\"/>\n",
+                "<g visibility=\"hidden\">\n<set id=\"p{k}\" {} begin=\"p{}.end\" \
+                 dur=\"{shown}ms\"/>\n",
                 set("visibility", "visible"),
                 k - 1
             ),
@@ -423,6 +424,16 @@ pub fn svg(pictures: &[String], side: u32, shown: u32) -> String {
          <g transform=\"matrix(1 0 0 -1 0 523776)\" fill=\"none\" stroke=\"#fff\" \
          stroke-width=\"1024\" stroke-linecap=\"round\">\n{body}</g>\n</svg>\n"
     )
+}
+
+/// Judges the lists of what was written of a frame.
+fn judge_lists(frame: &Frame, played: &Played, wrong: &mut Wrong) {
+    for (bytes, base) in played.halves.iter().zip(BASES) {
+        let mut list = Vec::new();
+        let is_listed = write_list(bytes, base, &mut list).is_ok();
+        expect(wrong, "ends of lists", &is_listed, &true);
+        expect(wrong, "lists", &list, &listed(frame, base).into_bytes());
+    }
 }
 
 fn judge_frames(
@@ -440,19 +451,11 @@ fn judge_frames(
             wrong.push(format!("frame {number} can't be played"));
             return;
         };
-        for (half, bytes) in played.halves.iter().enumerate() {
-            let mut list = Vec::new();
-            let is_listed = write_list(bytes, BASES[half], &mut list).is_ok();
-            expect(wrong, "ends of lists", &is_listed, &true);
-            expect(
-                wrong,
-                "lists",
-                &list,
-                &listed(frame, BASES[half]).into_bytes(),
-            );
-            halves[half].extend(bytes);
-        }
+        judge_lists(frame, &played, wrong);
         tables += &table(frame, number, &played.halves[0]);
+        for (half, bytes) in halves.iter_mut().zip(&played.halves) {
+            half.extend(bytes);
+        }
         match &played.strokes {
             None => counts.unplayed += 1,
             Some(strokes) => {
@@ -469,20 +472,20 @@ fn judge_frames(
     }
     judge_table(sketch, denoted, tables, wrong);
     if pictures.len() == denoted.frames.len() {
-        let mut found = Vec::new();
-        let show = Show {
-            percent: 33,
-            rate: 7,
-        };
-        let is_written = sketch.write_svg(show, &mut found).is_ok();
-        expect(wrong, "writes", &is_written, &true);
-        expect(
-            wrong,
-            "pictures",
-            &found,
-            &svg(&pictures, 337, 142).into_bytes(),
-        );
+        judge_pictures(sketch, &pictures, wrong);
     }
+}
+
+fn judge_pictures(sketch: &Sketch, pictures: &[String], wrong: &mut Wrong) {
+    let mut found = Vec::new();
+    let show = Show {
+        percent: 33,
+        rate: 7,
+    };
+    let is_written = sketch.write_svg(show, &mut found).is_ok();
+    let wanted = svg(pictures, 337, 142).into_bytes();
+    expect(wrong, "writes", &is_written, &true);
+    expect(wrong, "pictures", &found, &wanted);
 }
 
 fn judge_table(sketch: &Sketch, denoted: &Denoted, tables: String, wrong: &mut Wrong) {
