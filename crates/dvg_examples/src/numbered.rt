@@ -2,6 +2,7 @@
 use dvg_device::{Device, Operation, Reply, Request};
 use dvg_driver::Action;
 use dvg_gen::GenFault;
+use dvg_log::Entry;
 
 /// The draft LABS 512 400 0, VCTR 9 -100 100 7, HALT, as requests.
 const FIRST_DRAFT: [u64; 3] = [
@@ -71,12 +72,12 @@ fn draws(ram: &mut [u8; 2048], driver: &mut Device, generator: &mut Device) -> O
             halted,
             byte1: ram[1],
         }) {
-            Reply::Acted(Action::Wrote(address, byte)) => {
+            Reply::Came(Entry::Acted(Action::Wrote(address, byte))) => {
                 if address < 2048 {
                     ram[usize::from(address)] = byte;
                 }
             }
-            Reply::Acted(Action::Sent) => {
+            Reply::Came(Entry::Acted(Action::Sent)) => {
                 let _ = generator.answer(Request::Strobe);
             }
             _ => {}
@@ -87,7 +88,7 @@ fn draws(ram: &mut [u8; 2048], driver: &mut Device, generator: &mut Device) -> O
         let at = 2 * usize::from(address % 1024) + usize::from(high);
         halted = matches!(
             generator.answer(Request::Fetch(Some(ram[at]))),
-            Reply::Done(..) | Reply::Broke(..)
+            Reply::Came(Entry::Done(..) | Entry::Broke(..))
         );
         if halted {
             return Some(generator.turn(18));
@@ -111,11 +112,14 @@ fn a_driver_and_a_generator_alone_draw_it_too(rt: HostRuntime) {
         draws(&mut ram, &mut driver, &mut generator),
         Some(262_144 + (204_800 << 32))
     );
-    assert_eq!(rt; generator.answer(Request::Fetch(None)), Reply::Still);
+    assert_eq!(rt;
+        generator.answer(Request::Fetch(None)),
+        Reply::Came(Entry::Still)
+    );
     assert_eq!(rt; generator.turn(3), 10);
     assert_eq!(rt;
         generator.answer(Request::Fetch(None)),
-        Reply::Broke(0, GenFault::Hole)
+        Reply::Came(Entry::Broke(0, GenFault::Hole))
     );
 }
 

@@ -3,7 +3,7 @@ use crate::scripts::Picture::F1;
 use crate::scripts::Step::{Fetch, Offer, Strobe, Tick};
 use crate::scripts::{Step, entries_text, events, image, rom, transcript};
 use dvg_mem::{Banked, Flat, Image, Rom};
-use dvg_world::{Entry, Event, World, run};
+use dvg_world::{Entry, OwnEntry, OwnEvent, World, run};
 use linked_list_allocator::LocalHeap;
 use std::alloc::Global;
 use std::test::Fail;
@@ -32,9 +32,9 @@ fn ran<'a>(
     heap: &'a LocalHeap,
     rom: Rom<&'a LocalHeap>,
     image: &Image<&'a LocalHeap>,
-    events: &[Event<&'a LocalHeap>],
+    events: &[OwnEvent<&'a LocalHeap>],
     banked: bool,
-) -> (Vec<Entry<&'a LocalHeap>, &'a LocalHeap>, Stop) {
+) -> (Vec<OwnEntry<&'a LocalHeap>, &'a LocalHeap>, Stop) {
     let answer = if banked {
         run::<Banked<&LocalHeap>>(heap, rom, image, events)
     } else {
@@ -50,7 +50,7 @@ fn ran<'a>(
 fn are_before(
     alloc: Global,
     wanted: &[u8],
-    entries: &[Entry<&LocalHeap>],
+    entries: &[OwnEntry<&LocalHeap>],
     stopped: Stop,
 ) -> Result<bool, Fail> {
     let text = entries_text(alloc, entries)?;
@@ -127,7 +127,7 @@ fn fillers(alloc: Global, heap: &LocalHeap) -> Result<Vec<Vec<u8, &LocalHeap>>, 
 /// The first picture's events before that, in a world.
 fn happen_before_the_vector<'a>(
     world: &mut World<Flat<&'a LocalHeap>>,
-    events: &[Event<&'a LocalHeap>],
+    events: &[OwnEvent<&'a LocalHeap>],
 ) -> bool {
     for event in events.iter().take(26) {
         if world.apply(event).is_err() {

@@ -3,7 +3,7 @@ use dvg_code::{Code, Instr};
 use dvg_frame::{Draft, Op, OpKind};
 use dvg_lines::Line;
 use dvg_mem::{Image, Rom, Store};
-use dvg_world::{Entry, Event, MOST_EVENTS, Trace, run, run_trace};
+use dvg_world::{Entry, Event, MOST_EVENTS, OwnEntry, OwnEvent, Trace, run, run_trace};
 use std::alloc::{Allocator, Global};
 use std::test::Fail;
 
@@ -90,7 +90,7 @@ pub fn rom<A: Allocator>(scratch: Global, alloc: A, words: &[u16]) -> Result<Rom
 }
 
 /// The event of a step, once.
-fn event<A: Allocator>(scratch: Global, alloc: A, step: Step) -> Result<Event<A>, Fail> {
+fn event<A: Allocator>(scratch: Global, alloc: A, step: Step) -> Result<OwnEvent<A>, Fail> {
     Ok(match step {
         Step::Offer(picture) => match Box::new(alloc, draft(picture)?) {
             Ok(draft) => Event::Offer(draft),
@@ -119,7 +119,7 @@ pub fn events<A: Allocator + Copy>(
     scratch: Global,
     alloc: A,
     steps: &[Step],
-) -> Result<Vec<Event<A>, A>, Fail> {
+) -> Result<Vec<OwnEvent<A>, A>, Fail> {
     let mut count = 0usize;
     for step in steps {
         count = count.saturating_add(times(*step) as usize);
@@ -149,7 +149,7 @@ fn trace(alloc: Global, steps: &[Step]) -> Result<Trace, Fail> {
 }
 
 /// The lines of entries, as `play --all` shows them: each with its number, and the strokes of a picture below it.
-pub fn entries_text<A: Allocator>(alloc: Global, entries: &[Entry<A>]) -> Result<Vec<u8>, Fail> {
+pub fn entries_text<A: Allocator>(alloc: Global, entries: &[OwnEntry<A>]) -> Result<Vec<u8>, Fail> {
     let mut text = Vec::new(alloc);
     let mut line = Line::new();
     for (number, entry) in entries.iter().enumerate() {
