@@ -4,5 +4,6 @@ pub mod Sections
 pub mod Places
 pub mod Meanings
 pub mod NamedFaults
+pub mod RowValues
 pub mod Examples
 pub mod TextExamples

@@ -6,6 +6,8 @@
 pub mod examples;
 mod fault;
 mod line_words;
+mod row;
 
 pub use fault::NamedFault;
 pub use line_words::{MAX_WORDS, words_of};
+pub use row::{Doing, Head, Row};
