@@ -5,5 +5,7 @@ pub mod Places
 pub mod Meanings
 pub mod NamedFaults
 pub mod RowValues
+pub mod SketchSteps
+pub mod SketchLaws
 pub mod Examples
 pub mod TextExamples
