@@ -1,3 +1,6 @@
 mod ExampleNames
 mod LineCuts
+mod PlainWords
+mod RowSpelling
+mod OneSketch
 mod WholeTexts

@@ -1,6 +1,6 @@
 -- How a line is cut at its comment.
-use Rattle.std.proofs.Common.{◌≡◌, ℕ, List, [], ◌∷◌, ◌++◌, refl, ap, ◌∙◌, true, false, not, eqb}
-use Rattle.std.proofs.lemmas.List.Elements.{All-head, All-tail}
+use Rattle.std.proofs.Common.{◌≡◌, ℕ, List, [], ◌∷◌, ◌++◌, refl, ap, sym, subst, Bool, ◌∙◌, true, false, not, eqb}
+use Rattle.std.proofs.lemmas.List.Elements.{All-cons, All-head, All-nil, All-tail}
 use Rattle.std.proofs.lemmas.List.Sums.{take_while-cons}
 use Rattle.dvg_text.proofs.FirstBytes.{HasNone}
 use Rattle.std.specs.List.{filter, slice_split}
@@ -15,6 +15,18 @@ byte_kept byte bytes other = take_while-cons (λ b. not (eqb b 35)) byte bytes �
 -- a `#` ends the line
 byte_cut : (byte : ℕ) (bytes : List ℕ) → eqb byte 35 ≡ true → uncommented (byte ∷ bytes) ≡ []
 byte_cut byte bytes is = take_while-cons (λ b. not (eqb b 35)) byte bytes ∙ rw is refl
+
+uncommented_by : (is : Bool) (byte : ℕ) (bytes : List ℕ) → eqb byte 35 ≡ is → HasNone 35 (uncommented bytes)
+    → HasNone 35 (uncommented (byte ∷ bytes))
+uncommented_by true byte bytes e none =
+    subst (HasNone 35) (sym (byte_cut byte bytes e)) (All-nil (λ b. eqb b 35 ≡ false))
+uncommented_by false byte bytes e none =
+    subst (HasNone 35) (sym (byte_kept byte bytes e)) (All-cons (λ b. eqb b 35 ≡ false) byte (uncommented bytes) e none)
+
+-- there is no `#` before the comment
+pub none_in_uncommented : (line : List ℕ) → HasNone 35 (uncommented line)
+none_in_uncommented [] = All-nil (λ b. eqb b 35 ≡ false)
+none_in_uncommented (byte ∷ bytes) = uncommented_by (eqb byte 35) byte bytes refl (none_in_uncommented bytes)
 
 -- what stands before the first `#` stays
 pub cut_at_comment : (line : List ℕ) (end : ℕ) (rest : List ℕ) → HasNone 35 line → eqb end 35 ≡ true

@@ -4,5 +4,8 @@ pub mod Sections
 pub mod Places
 pub mod Meanings
 pub mod NamedFaults
+pub mod RowValues
+pub mod SketchSteps
+pub mod SketchLaws
 pub mod Examples
 pub mod TextExamples

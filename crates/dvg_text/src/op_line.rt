@@ -12,13 +12,21 @@ use dvg_code::{Code, Instr};
 use dvg_frame::{Op, OpKind};
 
 /// The operation that a line spells. None exactly where it spells none.
-#[tactic(auto, using(crate::proofs::OpRows::is_op))]
 pub fn read_op(line: &[u8]) -> Option<Op>
     ensures found { IfSome result (λ op. IsOpLine op line.now) }
     ensures only { (op : OpKind) → IsOpLine op line.now → result ≡ Some op }
 {
     let parts = parts_of(line)?;
-    Op::new(kind(parts.as_slice())?)
+    read_op_parts(parts.as_slice())
+}
+
+/// The operation that these parts of a line spell. None exactly where they spell none.
+#[tactic(auto, using(crate::proofs::OpRows::is_op))]
+pub fn read_op_parts(parts: &[&[u8]]) -> Option<Op>
+    ensures found { IfSome result (λ op. OpParts op (bytes_of parts.now)) }
+    ensures only { (op : OpKind) → OpParts op (bytes_of parts.now) → result ≡ Some op }
+{
+    Op::new(kind(parts)?)
 }
 
 // The operation that the parts of a line spell.

@@ -4,6 +4,7 @@ ghost use Rattle.dvg_code.specs.Words.{word_in};
 ghost use Rattle.dvg_text.specs.LineParts.{bytes_of};
 ghost use Rattle.dvg_text.specs.RomTexts.{IsRomLine, RomLine};
 ghost use Rattle.dvg_text.specs.RomReading.{IsBehind, SpellsWords};
+ghost use Rattle.dvg_text.specs.Texts.{parts};
 
 use crate::line_parts::parts_of;
 use crate::number::hex;
@@ -40,7 +41,18 @@ pub fn read_rom_line(first: u16, line: &[u8]) -> Option<RomWords>
     ensures only { (given : RomLine) → IsRomLine first given line.now → result ≡ Some given }
 {
     let parts = parts_of(line)?;
-    let [name, address, spelled @ ..] = parts.as_slice() else {
+    read_rom_parts(first, parts.as_slice())
+}
+
+/// The words that a line of these parts gives, where the ROM's first one is at this word address. None
+/// exactly where it is no line of the ROM.
+pub fn read_rom_parts(first: u16, cut: &[&[u8]]) -> Option<RomWords>
+    ensures found { IfSome result (λ given. (line : List ℕ) → parts line ≡ bytes_of cut.now
+        → IsRomLine first given line) }
+    ensures only { (given : RomLine) (line : List ℕ) → parts line ≡ bytes_of cut.now
+        → IsRomLine first given line → result ≡ Some given }
+{
+    let [name, address, spelled @ ..] = cut else {
         return None;
     };
     if *name != b"rom".as_slice() {
@@ -74,6 +86,13 @@ fn hex_words(parts: &[&[u8]]) -> Option<ArrayVec<u16, MAX_WORDS>>
 }
 
 impl RomWords {
+    /// The word address after the words.
+    pub fn end(&self) -> u16
+        ensures { result ≡ self.now.address + length self.now.words }
+    {
+        self.address + self.words.len() as u16
+    }
+
     /// Puts the words into the bytes of a ROM, of which the first word is at this word address.
     pub fn put(&self, first: u16, rom: &mut [u8])
         requires low { first ≤ self.now.address }

@@ -1,0 +1,12 @@
+//! Laws of sketches. Each is the contract of a function that does nothing.
+ghost use Rattle.dvg_named.specs.SketchLaws.{OneSketch, WordsAreParts};
+
+/// The words of a line are the parts of the line as a plain draft has it, where there is a word.
+pub fn words_are_parts()
+    ensures { WordsAreParts }
+{}
+
+/// A list of lines spells one sketch at most.
+pub fn one_sketch()
+    ensures { OneSketch }
+{}
