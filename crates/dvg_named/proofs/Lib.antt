@@ -1,3 +1,4 @@
 mod ExampleNames
 mod LineCuts
+mod NamedRows
 mod WholeTexts

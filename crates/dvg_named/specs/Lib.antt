@@ -5,5 +5,6 @@ pub mod Places
 pub mod Meanings
 pub mod NamedFaults
 pub mod RowValues
+pub mod HeldRows
 pub mod Examples
 pub mod TextExamples

@@ -6,8 +6,10 @@
 pub mod examples;
 mod fault;
 mod line_words;
+mod number;
 mod row;
 
 pub use fault::NamedFault;
 pub use line_words::{MAX_WORDS, words_of};
+pub use number::{number_of, op_count, place_of};
 pub use row::{Doing, Head, Row};
