@@ -1,4 +1,9 @@
+mod DraftRows
 mod ExampleNames
+mod LaidOrder
 mod LineCuts
 mod NamedRows
+mod NamedSections
+mod RomWritten
+mod RowSizes
 mod WholeTexts
