@@ -4,8 +4,12 @@ pub mod Sections
 pub mod Places
 pub mod Meanings
 pub mod NamedFaults
+pub mod Ungiven
 pub mod RowValues
 pub mod SketchSteps
 pub mod SketchLaws
+pub mod HeldRows
+pub mod LaidValues
+pub mod RomBytes
 pub mod Examples
 pub mod TextExamples

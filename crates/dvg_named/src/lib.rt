@@ -3,12 +3,22 @@
 //! read so far: the words of a line, and the row or the beginning of a section that they spell.
 #![tactic(auto)]
 
+mod drafting;
 pub mod examples;
 mod fault;
 pub mod laws;
+mod laid;
 mod line_words;
+mod number;
+mod rom_words;
 mod row;
+mod sizes;
 
+pub use drafting::draft_of;
 pub use fault::NamedFault;
+pub use laid::{LaidRows, RomRows, address_of, free_with, lay};
 pub use line_words::{MAX_WORDS, words_of};
+pub use number::{number_of, op_count, place_of};
+pub use rom_words::{RomRow, put_sections};
 pub use row::{Doing, Head, Row, read_head, read_row};
+pub use sizes::size;

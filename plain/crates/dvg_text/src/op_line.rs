@@ -7,7 +7,12 @@ use dvg_frame::{Op, OpKind};
 /// The operation that a line spells. None exactly where it spells none.
 pub fn read_op(line: &[u8]) -> Option<Op> {
     let parts = parts_of(line)?;
-    Op::new(kind(parts.as_slice())?)
+    read_op_parts(parts.as_slice())
+}
+
+/// The operation that these parts of a line spell. None exactly where they spell none.
+pub fn read_op_parts(parts: &[&[u8]]) -> Option<Op> {
+    Op::new(kind(parts)?)
 }
 
 // The operation that the parts of a line spell.

@@ -17,7 +17,13 @@ pub struct RomWords {
 /// the ROM.
 pub fn read_rom_line(first: u16, line: &[u8]) -> Option<RomWords> {
     let parts = parts_of(line)?;
-    let [name, address, spelled @ ..] = parts.as_slice() else {
+    read_rom_parts(first, parts.as_slice())
+}
+
+/// The words that a line of these parts gives, where the ROM's first one is at this word address. None
+/// exactly where it is no line of the ROM.
+pub fn read_rom_parts(first: u16, cut: &[&[u8]]) -> Option<RomWords> {
+    let [name, address, spelled @ ..] = cut else {
         return None;
     };
     if *name != b"rom".as_slice() {
@@ -47,6 +53,11 @@ fn hex_words(parts: &[&[u8]]) -> Option<ArrayVec<u16, MAX_WORDS>> {
 }
 
 impl RomWords {
+    /// The word address after the words.
+    pub fn end(&self) -> u16 {
+        self.address + self.words.len() as u16
+    }
+
     /// Puts the words into the bytes of a ROM, of which the first word is at this word address.
     pub fn put(&self, first: u16, rom: &mut [u8]) {
         let place = usize::from(self.address - first);

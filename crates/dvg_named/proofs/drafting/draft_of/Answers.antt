@@ -1,0 +1,61 @@
+use Rattle.std.proofs.Common.{◌≡◌, ◌+◌, ◌∙◌, ◌++◌, [], ◌∷◌, ap, arith, below_more, length, length-append, refl, rules, sym, subst, take}
+use Rattle.std.specs.List.{AllZip}
+use Rattle.dvg_named.specs.HeldRows.{rows_of}
+use Rattle.dvg_named.specs.LaidValues.{laid_sections}
+use Rattle.dvg_named.specs.Meanings.{IsDrafted}
+use Rattle.dvg_named.specs.Places.{doings}
+use Rattle.dvg_named.specs.RowValues.{doing_of}
+use Rattle.dvg_named.specs.Ungiven.{framed}
+use Rattle.dvg_named.proofs.DraftRows.{does_known, does_nothing, drafted_known, first_ungiven, front_doings, no_doing, nothing_left}
+use Rattle.dvg_named.proofs.DraftRows.{one_doing, zip_more}
+use Rattle.dvg_named.proofs.drafting.draft_of.Goals as goal
+use Rattle.dvg_named.proofs.drafting.draft_of.Goals.{in-Some+in-Some-op_of, in_default}
+
+pub returns-in_default-op_of-clause-ungiven : goal.returns-in_default-op_of-clause-ungiven
+returns-in_default-op_of-clause-ungiven c =
+    first_ungiven c.args.rows.now c.loop-place.place c.index-rows-place.result c.loop-place-test.true
+    c.index-rows-place.is (laid_sections c.args.rom.now) (framed (rows_of c.args.rows.now)) refl c.in-Some.doing
+    c.in-Some.is c.in_default-op_of.ensures.ungiven c.loop-place.invariant.known
+
+pub unwrap-requires : goal.unwrap-requires
+unwrap-requires c =
+    let more = ap length (one_doing c.args.rows.now c.loop-place.place c.index-rows-place.result c.loop-place-test.true
+    c.index-rows-place.is c.in-Some.doing c.in-Some.is) in
+    let size = length-append (doings (rows_of (take c.loop-place.place c.args.rows.now))) (doing_of c.in-Some.doing ∷ []) in
+    let front = front_doings c.args.rows.now (c.loop-place.place + 1) in
+    c.push.ensures.room.1 (omega (arith, more, size, front, c.loop-place.invariant.count, c.requires.few))
+
+pub loop-place-preserved : goal.loop-place-preserved
+loop-place-preserved c =
+    let rows = c.args.rows.now in
+    let place = c.loop-place.place in
+    let row = c.index-rows-place.result in
+    let low = c.loop-place-test.true in
+    let is = c.index-rows-place.is in
+    let laid = laid_sections c.args.rom.now in
+    let before = c.loop-place.invariant in
+    elim c.match-row.branch [
+      | in-Some+in-Some-op_of w ↦
+          let doing = w.in-Some.doing in
+          let op = w.in-Some-op_of.op in
+          let pushed : w.push.new.self ≡ c.loop-place.draft ++ op ∷ [] = search rules in
+          let new = w.draft-is ∙ pushed in
+          let more = one_doing rows place row low is doing w.in-Some.is in
+          record {
+            drafted = zip_more (IsDrafted laid (rows_of rows)) (doings (rows_of (take place rows))) _ c.loop-place.draft _
+                (doing_of doing) op before.drafted w.in-Some-op_of.ensures.drafted more new;
+            count = ap length new ∙ length-append c.loop-place.draft (op ∷ []) ∙ ap (λ n. n + 1) before.count
+                ∙ sym (ap length more ∙ length-append (doings (rows_of (take place rows))) (doing_of doing ∷ []));
+            known = below_more _ _ before.known (does_known rows place row low is laid (framed (rows_of rows)) refl doing
+                w.in-Some.is (drafted_known laid (rows_of rows) (doing_of doing) op w.in-Some-op_of.ensures.drafted));
+          }
+      | in_default w ↦
+          let none = nothing_left row.doing w.in_default.not-Some in
+          let same = no_doing rows place row low is none in
+          record {
+            drafted = subst (λ draft. AllZip (IsDrafted laid (rows_of rows)) (doings (rows_of (take (place + 1) rows))) draft)
+                (sym w.draft-is) (subst (λ ds. AllZip (IsDrafted laid (rows_of rows)) ds c.loop-place.draft) (sym same) before.drafted);
+            count = ap length w.draft-is ∙ before.count ∙ sym (ap length same);
+            known = below_more _ _ before.known (does_nothing rows place row low is laid (framed (rows_of rows)) refl none);
+          }
+    ]

@@ -1,0 +1,37 @@
+-- Sections of the ROM, as the reader holds them.
+use Rattle.std.specs.Prelude.{◌≤◌, List, All, map}
+use Rattle.std.specs.List.{flat_map}
+use Rattle.dvg_named.specs.declared.laid.LaidRows as held_laid
+use Rattle.dvg_named.specs.declared.laid.RomRows as held_rom
+use Rattle.dvg_named.specs.HeldRows.{rows_of}
+use Rattle.dvg_named.specs.Places.{Laid, laid_end}
+use Rattle.dvg_named.specs.Rows.{Row}
+use Rattle.dvg_named.specs.Sections.{RomRows}
+
+-- a section of the ROM
+abbrev pub section_of : held_rom.RomRows → RomRows
+section_of section = record { address = section.address; rows = rows_of section.rows.now }
+
+-- sections of the ROM, in order
+abbrev pub sections_of : List held_rom.RomRows → List RomRows
+sections_of = map section_of
+
+-- all rows of sections, in order
+abbrev pub rows_in : List RomRows → List Row
+rows_in = flat_map (λ section. section.rows)
+
+-- a laid section
+abbrev pub laid_section : held_laid.LaidRows → Laid
+laid_section section = record { start = section.start; rows = rows_of section.rows.now }
+
+-- laid sections, in order
+abbrev pub laid_sections : List held_laid.LaidRows → List Laid
+laid_sections = map laid_section
+
+-- all rows of laid sections, in order
+abbrev pub rows_laid : List Laid → List Row
+rows_laid = flat_map (λ section. section.rows)
+
+-- no section goes on after the ROM's last word, at BFF
+abbrev pub AreLow : List Laid → Type 0
+AreLow = All (λ section. laid_end section ≤ 0xC00)

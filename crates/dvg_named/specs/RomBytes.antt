@@ -1,0 +1,53 @@
+-- The words of laid sections, in the bytes of a ROM.
+use Rattle.std.specs.Prelude.{◌≡◌, ◌+◌, ◌<◌, ◌≤◌, ℕ, List, ◌++◌, All, None, Some, get_or, length, slice_get, slice_index}
+use Rattle.std.specs.List.{AllZip}
+use Rattle.dvg_code.specs.Words.{word_in}
+use Rattle.dvg_text.specs.RomReading.{IsBehind}
+use Rattle.dvg_text.specs.RomTexts.{IsRomOf, RomLine, RomText}
+use Rattle.dvg_named.specs.declared.rom_words.RomRow.{RomRow}
+use Rattle.dvg_named.specs.Meanings.{IsGiven}
+use Rattle.dvg_named.specs.Places.{Laid, laid_end}
+use Rattle.dvg_named.specs.Rows.{Row, rom}
+use Rattle.dvg_named.specs.Sections.{MayStand}
+use Rattle.dvg_named.specs.Ungiven.{IsFirstUngiven, WantsAt, in_rom}
+
+-- these words were put from this place on, and each other word is as it was
+pub record ArePut (place : ℕ) (words old new : List ℕ) : Type 0 where
+  pub count : length new ≡ length old
+  pub inside : (j : ℕ) → j < length words → word_in new (place + j) ≡ slice_index words j
+  pub before : (j : ℕ) → j < place → word_in new j ≡ word_in old j
+  pub after : (j : ℕ) → place + length words ≤ j → word_in new j ≡ word_in old j
+  pub fits : (i : ℕ) → get_or new i 0 < 256
+
+-- each section lies on words of a ROM whose first one is at this address
+abbrev pub LieInRom : (first : ℕ) → List Laid → Type 0
+LieInRom first = All (λ section. (first ≤ section.start) × (laid_end section ≤ 0xC00))
+
+-- nothing calls or jumps by the number of an operation
+abbrev pub MayStandInRom : List Row → Type 0
+MayStandInRom = All (MayStand (rom None))
+
+-- the words of a section were put, each at its address
+pub record IsPut (laid : List Laid) (section : Laid) (first : ℕ) (old new : List ℕ) : Type 0 where
+  pub given : RomLine
+  pub is : IsGiven laid section given
+  pub put : IsBehind given first old new
+  pub fits : (i : ℕ) → get_or new i 0 < 256
+
+-- the bytes are those of the ROM that is told, where these sections give their words after its lines
+pub record TellsSections (laid sections : List Laid) (told : RomText) (bytes : List ℕ) : Type 0 where
+  pub lines : List RomLine
+  pub given : AllZip (IsGiven laid) sections lines
+  pub is_rom : IsRomOf (record { map = told.map; given = told.given ++ lines }) bytes
+
+-- no row of the section of this number wants a name that isn't given
+abbrev pub WantsNothing : List Laid → ℕ → Type 0
+WantsNothing laid number = (section : Laid) → slice_get laid number ≡ Some section
+    → (place : ℕ) → ¬ WantsAt laid (in_rom section.rows) place
+
+-- this row of the ROM is the first that wants a name which isn't given
+pub record IsFirstInRom (laid : List Laid) (found : RomRow) : Type 0 where
+  pub section : Laid
+  pub stands : slice_get laid found.section ≡ Some section
+  pub row : IsFirstUngiven laid (in_rom section.rows) found.row
+  pub first : (earlier : ℕ) → earlier < found.section → WantsNothing laid earlier

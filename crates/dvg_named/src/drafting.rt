@@ -1,0 +1,65 @@
+//! The draft of a frame.
+ghost use Rattle.std.specs.Prelude.{◌≡◌, ◌≤◌, length, IfErr, IfNone, IfOk, IfSome};
+ghost use Rattle.std.specs.List.{AllZip};
+ghost use Rattle.dvg_named.specs.HeldRows.{rows_of};
+ghost use Rattle.dvg_named.specs.LaidValues.{AreLow, laid_sections};
+ghost use Rattle.dvg_named.specs.Meanings.{IsDrafted};
+ghost use Rattle.dvg_named.specs.NamedFaults.{IsUngiven};
+ghost use Rattle.dvg_named.specs.Places.{doings};
+ghost use Rattle.dvg_named.specs.RowValues.{doing_of};
+ghost use Rattle.dvg_named.specs.Ungiven.{IsFirstUngiven, framed};
+
+use crate::laid::{LaidRows, address_of};
+use crate::number::number_of;
+use crate::row::{Doing, Row};
+use dvg_frame::{Draft, Op, OpKind};
+
+/// The draft of a frame: what its rows do, in order, where each name is that of an operation of the
+/// frame, and after `callrom` and `jumprom` that of a word of the ROM. Or else the place, counted
+/// from 0, of the first row that wants a name which isn't given. No memory is taken. The time grows
+/// with the number of rows times that of the rows that want a name, of the frame and of the ROM.
+pub fn draft_of(rows: &[Row], rom: &[LaidRows]) -> Result<Draft, usize>
+    requires few { length (doings (rows_of rows.now)) ≤ 511 }
+    requires low { AreLow (laid_sections rom.now) }
+    ensures draft { IfOk result (AllZip (IsDrafted (laid_sections rom.now) (rows_of rows.now)) (doings (rows_of rows.now))) }
+    ensures ungiven { IfErr result (IsFirstUngiven (laid_sections rom.now) (framed (rows_of rows.now))) }
+{
+    let mut draft = Draft::new();
+    for (place, row) in rows.iter().enumerate() {
+        if let Some(doing) = &row.doing {
+            let Some(op) = op_of(rows, rom, doing) else {
+                return Err(place);
+            };
+            draft.push(op).unwrap();
+        }
+    }
+    Ok(draft)
+}
+
+// The operation of a row of a frame. None where it wants a name that isn't given.
+fn op_of(rows: &[Row], rom: &[LaidRows], doing: &Doing) -> Option<Op>
+    requires few { length (doings (rows_of rows.now)) ≤ 511 }
+    requires low { AreLow (laid_sections rom.now) }
+    ensures drafted { IfSome result (IsDrafted (laid_sections rom.now) (rows_of rows.now) (doing_of doing.now)) }
+    ensures ungiven { IfNone result (IsUngiven (laid_sections rom.now) (framed (rows_of rows.now)) (doing_of doing.now)) }
+{
+    match doing {
+        Doing::Plainly(op) => Some(*op),
+        Doing::Calls(name) => match number_of(rows, name) {
+            Some(number) => Op::new(OpKind::Call(number as u16)),
+            None => None,
+        },
+        Doing::Jumps(name) => match number_of(rows, name) {
+            Some(number) => Op::new(OpKind::Jump(number as u16)),
+            None => None,
+        },
+        Doing::CallsRom(name) => match address_of(rom, name) {
+            Some(address) => Op::new(OpKind::CallRom(address)),
+            None => None,
+        },
+        Doing::JumpsRom(name) => match address_of(rom, name) {
+            Some(address) => Op::new(OpKind::JumpRom(address)),
+            None => None,
+        },
+    }
+}

@@ -1,0 +1,175 @@
+//! The words of the ROM's sections, in the bytes of a ROM.
+ghost use Rattle.std.specs.Prelude.{◌≡◌, ◌≢◌, ◌⊎◌, ◌+◌, ◌-◌, ◌*◌, ◌/◌, ◌<◌, ◌≤◌, ℕ, List, [], All, get_or, length, IfErr, IfNone, IfSome, OnOk};
+ghost use Rattle.dvg_code.specs.declared.instr.Instr.TheVariants.{Jmpl, Jsrl};
+ghost use Rattle.dvg_code.specs.Spelling.{canon};
+ghost use Rattle.dvg_code.specs.Words.{word_in};
+ghost use Rattle.dvg_frame.specs.declared.op.OpKind.TheVariants.{Call, Jump};
+ghost use Rattle.dvg_frame.specs.Ops.{IsOp};
+ghost use Rattle.dvg_text.specs.RomTexts.{IsRomOf, RomText};
+ghost use Rattle.dvg_named.specs.HeldRows.{rows_of};
+ghost use Rattle.dvg_named.specs.LaidValues.{AreLow, laid_section, laid_sections};
+ghost use Rattle.dvg_named.specs.Meanings.{IsEncoded};
+ghost use Rattle.dvg_named.specs.NamedFaults.{IsUngiven};
+ghost use Rattle.dvg_named.specs.Places.{IsAddress, Laid, laid_end};
+ghost use Rattle.dvg_named.specs.RomBytes.{ArePut, IsFirstInRom, IsPut, LieInRom, MayStandInRom, TellsSections};
+ghost use Rattle.dvg_named.specs.RowValues.{doing_of};
+ghost use Rattle.dvg_named.specs.Rows.{plainly};
+ghost use Rattle.dvg_named.specs.Ungiven.{IsFirstUngiven, WantsAt, in_rom};
+
+use crate::laid::{LaidRows, address_of};
+use crate::row::Doing;
+use dvg_code::{Code, Instr, encode};
+use dvg_frame::OpKind;
+
+/// The word address after the ROM's last word.
+const ROM_END: usize = 0xC00;
+
+/// A row of a section of the ROM, by the numbers of both, counted from 0.
+#[derive(Clone, Copy, Debug, PartialEq, Eq)]
+pub struct RomRow {
+    /// The number of the section.
+    pub section: usize,
+    /// The number of the row in it.
+    pub row: usize,
+}
+
+/// Puts the canonical words of laid sections into the bytes of a ROM, 2,048 or 4,096, each section at
+/// its address, the low byte of a word first. So bytes of which lines `rom` gave the words become
+/// those that the same words, given by further lines, would have made of them. Or else the first row
+/// that wants a name which isn't given; what was put before it stays. No memory is taken. The time
+/// grows with the number of rows times that of the rows that want a name.
+pub fn put_sections(rom: &mut [u8], sections: &[LaidRows]) -> Result<(), RomRow>
+    requires size { (length rom.old ≡ 2048) ⊎ (length rom.old ≡ 4096) }
+    requires lie { LieInRom (0xC00 - length rom.old / 2) (laid_sections sections.now) }
+    requires may { All (λ section. MayStandInRom section.rows) (laid_sections sections.now) }
+    ensures told { OnOk result ((told : RomText) → IsRomOf told rom.old
+        → TellsSections (laid_sections sections.now) (laid_sections sections.now) told rom.new) }
+    ensures ungiven { IfErr result (IsFirstInRom (laid_sections sections.now)) }
+{
+    let first = ROM_END - rom.len() / 2;
+    for (number, section) in sections.iter().enumerate() {
+        if let Err(row) = put_section(rom, first, sections, section) {
+            return Err(RomRow {
+                section: number,
+                row,
+            });
+        }
+    }
+    Ok(())
+}
+
+// Puts the words of one section into the bytes of a ROM, of which the first word is at this word
+// address. Or else the place of the first row that wants a name which isn't given.
+fn put_section(
+    rom: &mut [u8],
+    first: usize,
+    sections: &[LaidRows],
+    section: &LaidRows,
+) -> Result<(), usize>
+    requires low { AreLow (laid_sections sections.now) }
+    requires start { first ≤ section.now.start }
+    requires end { laid_end (laid_section section.now) ≤ 0xC00 }
+    requires whole { 0x1800 ≤ length rom.old + 2 * first }
+    requires may { MayStandInRom (rows_of section.now.rows.now) }
+    ensures put { OnOk result (IsPut (laid_sections sections.now) (laid_section section.now) first rom.old rom.new) }
+    ensures known { OnOk result ((place : ℕ)
+        → ¬ WantsAt (laid_sections sections.now) (in_rom (rows_of section.now.rows.now)) place) }
+    ensures ungiven { IfErr result (IsFirstUngiven (laid_sections sections.now) (in_rom (rows_of section.now.rows.now))) }
+{
+    let mut next = section.start - first;
+    for (place, row) in section.rows.iter().enumerate() {
+        if let Some(doing) = &row.doing {
+            let Some(code) = code_of(sections, doing) else {
+                return Err(place);
+            };
+            next = put_code(rom, next, code);
+        }
+    }
+    Ok(())
+}
+
+// Puts the words of an instruction from a place on, and answers the place after them.
+fn put_code(rom: &mut [u8], place: usize, code: Code) -> usize
+    requires { 2 * (place + length (canon code)) ≤ length rom.old }
+    ensures put { ArePut place (canon code) rom.old rom.new }
+    ensures next { result ≡ place + length (canon code) }
+{
+    let spelled = encode(&code);
+    let words = spelled.as_slice();
+    let mut next = place;
+    for word in words {
+        put_word(rom, next, *word);
+        next += 1;
+    }
+    next
+}
+
+// Puts a word in its place, the low byte first.
+fn put_word(rom: &mut [u8], place: usize, word: u16)
+    requires { 2 * place + 1 < length rom.old }
+    ensures word { word_in rom.new place ≡ word }
+    ensures others { (j : ℕ) → j ≢ place → word_in rom.new j ≡ word_in rom.old j }
+    ensures count { length rom.new ≡ length rom.old }
+    ensures fits { (i : ℕ) → get_or rom.new i 0 < 256 }
+{
+    rom[2 * place] = (word % 256) as u8;
+    rom[2 * place + 1] = (word / 256) as u8;
+}
+
+// The instruction of a row of the ROM. None where it wants a name that isn't given.
+fn code_of(sections: &[LaidRows], doing: &Doing) -> Option<Code>
+    requires low { AreLow (laid_sections sections.now) }
+    requires may { (n : ℕ) → (doing_of doing.now ≢ plainly (Call n)) × (doing_of doing.now ≢ plainly (Jump n)) }
+    ensures encoded { IfSome result (IsEncoded (laid_sections sections.now) (doing_of doing.now)) }
+    ensures ungiven { IfNone result (IsUngiven (laid_sections sections.now) (in_rom []) (doing_of doing.now)) }
+{
+    match doing {
+        Doing::Plainly(op) => Some(plain_code(op.kind())),
+        Doing::Calls(name) => call_of(sections, name),
+        Doing::Jumps(name) => jump_of(sections, name),
+        Doing::CallsRom(name) => call_of(sections, name),
+        Doing::JumpsRom(name) => jump_of(sections, name),
+    }
+}
+
+// The instruction of an operation without a name.
+fn plain_code(kind: OpKind) -> Code
+    requires op { IsOp kind }
+    requires may { (n : ℕ) → (plainly kind ≢ plainly (Call n)) × (plainly kind ≢ plainly (Jump n)) }
+    ensures { (laid : List Laid) → IsEncoded laid (plainly kind) result }
+{
+    match kind {
+        OpKind::Draw(code) => code,
+        OpKind::CallRom(address) => Code::within(Instr::Jsrl(address)),
+        OpKind::JumpRom(address) => Code::within(Instr::Jmpl(address)),
+        OpKind::Return => Code::within(Instr::Rtsl),
+        OpKind::Halt => Code::within(Instr::Halt),
+        OpKind::Call(_) | OpKind::Jump(_) => unreachable!(),
+    }
+}
+
+// The call of a name of the ROM. None where it isn't given.
+fn call_of(sections: &[LaidRows], name: &[u8]) -> Option<Code>
+    requires { AreLow (laid_sections sections.now) }
+    ensures call { IfSome result (λ code. (address : ℕ) × IsAddress (laid_sections sections.now) name.now address
+        × (code ≡ Jsrl address)) }
+    ensures ungiven { IfNone result ((address : ℕ) → ¬ IsAddress (laid_sections sections.now) name.now address) }
+{
+    match address_of(sections, name) {
+        Some(address) => Some(Code::within(Instr::Jsrl(address))),
+        None => None,
+    }
+}
+
+// The jump to a name of the ROM. None where it isn't given.
+fn jump_of(sections: &[LaidRows], name: &[u8]) -> Option<Code>
+    requires { AreLow (laid_sections sections.now) }
+    ensures jump { IfSome result (λ code. (address : ℕ) × IsAddress (laid_sections sections.now) name.now address
+        × (code ≡ Jmpl address)) }
+    ensures ungiven { IfNone result ((address : ℕ) → ¬ IsAddress (laid_sections sections.now) name.now address) }
+{
+    match address_of(sections, name) {
+        Some(address) => Some(Code::within(Instr::Jmpl(address))),
+        None => None,
+    }
+}
