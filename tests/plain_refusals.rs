@@ -78,7 +78,7 @@ fn one_vector() -> Option<Draft> {
 }
 
 /// The first picture: two ticks, an offer, fourteen ticks, a strobe, and twelve fetches.
-fn first_picture() -> Option<Vec<Event<Global>>> {
+fn first_picture() -> Option<Vec<Event>> {
     let mut events = vec![Event::Tick, Event::Tick];
     events.push(Event::Offer(Box::new(Global, one_vector()?).ok()?));
     events.extend((0..14).map(|_| Event::Tick));
