@@ -3,13 +3,13 @@ use Rattle.std.specs.Prelude.{◌≡◌, ◌+◌, ◌<◌, ◌≤◌, ◌⊎◌,
 use Rattle.dvg_gen.specs.declared.stroke.Stroke.{Stroke}
 use Rattle.dvg_gen.specs.Machine.{Machine, HasTaken}
 use Rattle.dvg_frame.specs.declared.op.OpKind.{OpKind}
-use Rattle.dvg_driver.specs.Stands.{StandsAfter}
 use Rattle.dvg_world.specs.Standing.{State, WorldAfter}
 use Rattle.dvg_device.specs.Operations.{Names}
 use Rattle.dvg_device.specs.Requests.{request_of}
 use Rattle.dvg_device.specs.Replies.{number_of, begins, ends, shines}
 use Rattle.dvg_device.specs.Worlds.{WorldAnswers}
-use Rattle.dvg_device.specs.Drivers.{Driven, DriverAnswers}
+use Rattle.dvg_world.specs.Desks.{Driven, IsFresh}
+use Rattle.dvg_device.specs.Drivers.{DriverAnswers}
 use Rattle.dvg_device.specs.Generators.{GeneratorAnswers}
 use Rattle.dvg_device.specs.declared.operation.Operation.{Operation}
 use Rattle.dvg_log.specs.declared.entry.Entry.TheVariants.{Cleared}
@@ -68,7 +68,7 @@ IsNewWorld staged part = ⊥
 
 -- a driver over the ROM of these bytes that stands after the empty life
 abbrev pub IsNewDriver : List ℕ → Open → Type 0
-IsNewDriver staged (Driver driven) = (driven.rom ≡ staged) × ((peeked : ℕ) → StandsAfter driven.stage peeked [])
+IsNewDriver staged (Driver driven) = IsFresh staged driven
 IsNewDriver staged part = ⊥
 
 -- what is answered where nothing is open

@@ -1,51 +1,30 @@
 -- What a driver alone answers to a request.
-use Rattle.std.specs.Prelude.{◌≡◌, ℕ, Bool, true, false, List, [], ◌∷◌}
-use Rattle.dvg_mem.specs.Areas.{half_of_high, other}
+use Rattle.std.specs.Prelude.{◌≡◌, ℕ, List, []}
 use Rattle.dvg_frame.specs.declared.op.OpKind.{OpKind}
-use Rattle.dvg_frame.specs.Faults.{Accepts}
-use Rattle.dvg_frame.specs.Faults as faults
-use Rattle.dvg_driver.specs.Script as script
-use Rattle.dvg_driver.specs.Script.{Item, Did, IsLife, IsWhole, has_flip}
-use Rattle.dvg_driver.specs.Stands.{Stage, StandsAfter, Tells, IsInRam, byte1_of, peeked_after}
-use Rattle.dvg_log.specs.declared.entry.Entry.TheVariants.{Offered, Refused, Busy, Asked, NothingPublished, Acted, Cleared}
+use Rattle.dvg_driver.specs.declared.action.Action.{Action}
+use Rattle.dvg_driver.specs.Stands.{Stage, StandsAfter}
+use Rattle.dvg_log.specs.declared.entry.Entry.{Entry}
+use Rattle.dvg_log.specs.declared.entry.Entry.TheVariants.{Acted, Cleared}
+use Rattle.dvg_world.specs.Desks.{OfferAnswers, RedrawAnswers, TickAnswers}
 use Rattle.dvg_device.specs.declared.reply.Reply.{Reply}
 use Rattle.dvg_device.specs.declared.reply.Reply.TheVariants.{Came, Unknown}
 use Rattle.dvg_device.specs.declared.request.Request.{Request}
 use Rattle.dvg_device.specs.declared.request.Request.TheVariants.{Offer, Redraw, Tick, ResetProcessor}
 
--- a driver alone: the ROM over which its drafts are checked, and its stage
-pub record Driven : Type 0 where
-  pub rom : List ℕ
-  pub stage : Stage
+-- the reply is of an entry of which this holds
+abbrev pub OfEntry : (Entry (Unit {0}) → Type 0) → Reply → Type 0
+OfEntry P (Came entry) = P entry
+OfEntry P reply = ⊥
 
--- this holds of each life that the driver stands after, at whose peek this byte was handed in
-abbrev pub OfLives : Stage → (ℕ → List Item → Type 0) → Type 0
-OfLives stage P = (peeked : ℕ) (life : List Item) → StandsAfter stage peeked life → P peeked life
-
--- an offer: a draft that the check refuses is refused for the fault that is picked; one that it accepts goes on the life where that is of whole parts, for the half that is free
-abbrev pub OfferAnswers : List ℕ → List OpKind → Stage → Stage → Reply → Type 0
-OfferAnswers R F stage later (Came (Refused fault)) = faults.Refuses F R fault × (later ≡ stage)
-OfferAnswers R F stage later (Came Busy) = Accepts F R × (later ≡ stage) × OfLives stage (λ peeked life. ¬ IsWhole life)
-OfferAnswers R F stage later (Came Offered) = Accepts F R × OfLives stage (λ peeked life. IsWhole life × StandsAfter later peeked (script.Offered (other (half_of_high (byte1_of peeked life))) F ∷ life))
-OfferAnswers R F stage later reply = ⊥
-
--- a redraw: there is nothing to draw again before the life's first flip; then it goes on the life where that is of whole parts
-abbrev pub RedrawAnswers : Stage → Stage → Reply → Type 0
-RedrawAnswers stage later (Came NothingPublished) = (later ≡ stage) × OfLives stage (λ peeked life. has_flip life ≡ false)
-RedrawAnswers stage later (Came Busy) = (later ≡ stage) × OfLives stage (λ peeked life. (has_flip life ≡ true) × ¬ IsWhole life)
-RedrawAnswers stage later (Came Asked) = OfLives stage (λ peeked life. (has_flip life ≡ true) × IsWhole life × StandsAfter later peeked (script.Asked ∷ life))
-RedrawAnswers stage later reply = ⊥
-
--- a tick: the action is the next one of the script, tells the HALT flag that was handed in, and writes in the RAM alone
-abbrev pub TickAnswers : Bool → ℕ → Stage → Stage → Reply → Type 0
-TickAnswers halted byte1 stage later (Came (Acted action)) = Tells action halted × IsInRam action
-    × OfLives stage (λ peeked life. IsLife (Did action ∷ life) × StandsAfter later (peeked_after action byte1 peeked) (Did action ∷ life))
-TickAnswers halted byte1 stage later reply = ⊥
+-- the reply is of an action of which this holds
+abbrev pub OfAction : (Action → Type 0) → Reply → Type 0
+OfAction P (Came (Acted action)) = P action
+OfAction P reply = ⊥
 
 -- what a driver over this ROM, with this draft, comes to by a request
 abbrev pub DriverAnswers : List ℕ → List OpKind → Request → Stage → Stage → Reply → Type 0
-DriverAnswers R F Offer stage later reply = OfferAnswers R F stage later reply
-DriverAnswers R F Redraw stage later reply = RedrawAnswers stage later reply
-DriverAnswers R F (Tick halted byte1) stage later reply = TickAnswers halted byte1 stage later reply
+DriverAnswers R F Offer stage later reply = OfEntry (OfferAnswers R F stage later) reply
+DriverAnswers R F Redraw stage later reply = OfEntry (RedrawAnswers stage later) reply
+DriverAnswers R F (Tick halted byte1) stage later reply = OfAction (TickAnswers halted byte1 stage later) reply
 DriverAnswers R F ResetProcessor stage later reply = ((peeked : ℕ) → StandsAfter later peeked []) × (reply ≡ Came Cleared)
 DriverAnswers R F request stage later reply = (later ≡ stage) × (reply ≡ Unknown)

@@ -6,7 +6,7 @@ ghost use Rattle.dvg_device.specs.Parts.{open_of};
 ghost use Rattle.dvg_device.specs.Replies.{begins, ends, shines};
 
 use crate::cabinet::Cabinet;
-use crate::desk::Desk;
+use crate::desk::ask_driver;
 use crate::lone::ask_generator;
 use crate::operation::Operation;
 use crate::reply::Reply;
@@ -15,6 +15,7 @@ use dvg_frame::Draft;
 use dvg_gen::{Generator, Stroke};
 use dvg_log::Entry;
 use dvg_mem::{MEMORY_BYTES, Rom};
+use dvg_world::Desk;
 use std::alloc::Global;
 use std::marker::Model;
 use std::mem;
@@ -289,7 +290,7 @@ impl Device {
                 let staged = self.staged.as_slice();
                 world.ask(request, &self.draft, staged, &mut self.picture)
             }
-            Part::Driver(desk) => desk.ask(request, &self.draft),
+            Part::Driver(desk) => ask_driver(desk, request, &self.draft),
             Part::Generator(generator) => ask_generator(generator, request, &mut self.picture),
         }
     }

@@ -28,10 +28,11 @@ use Rattle.dvg_driver.specs.Stands as driver
 use Rattle.dvg_driver.specs.Stands.{Stage, Tells, byte1_of, peeked_after}
 use Rattle.dvg_log.specs.Events.{Happening}
 use Rattle.dvg_log.specs.declared.event.Event.TheVariants.{Offer, Redraw, Tick, Strobe, Fetch, ResetGen, ResetCpu, ResetAll}
-use Rattle.dvg_log.specs.Entries.{Shown, entry_by}
+use Rattle.dvg_log.specs.Entries.{Shown, OwnEntry, entry_by, shown_of}
 use Rattle.dvg_log.specs.declared.entry.Entry.TheVariants.{Offered, Refused, Busy, Asked, NothingPublished, Acted, Started, NoStrobe, Still, Cleared}
 use Rattle.dvg_log.specs.Log.{◌⟼◌, Log, ram, low_byte, meets, history, open_run, life, strobed}
 use Rattle.dvg_log.specs.Legal.{Fits}
+use Rattle.dvg_world.specs.Desks.{Driven, IsFresh, OfferAnswers, RedrawAnswers}
 use Rattle.dvg_world.specs.Standing.{State, StandsAt, WorldAfter, AddsLine, KeepsHeadlineAfter, DrawsNow}
 use Rattle.dvg_world.specs.own.Stepping.{ram_by, sent_by}
 use Rattle.dvg_theorem.proofs.Headline.{headline}
@@ -46,11 +47,18 @@ pub adds_between : {old old' new new' : State} (event : Happening) (entry : Show
 adds_between {old' = old'} {new = new} event entry same_old same_new adds =
     subst (λ s. AddsLine s event entry new) same_old (subst (λ s. AddsLine old' event entry s) (sym same_new) adds)
 
-pub new_world : (rom image bytes : List ℕ) (machine : Machine) (stage : Stage) → IsRom rom → IsImage bytes → bytes ≡ image → generator.HasTaken machine [] None
-    → ((peeked : ℕ) → driver.StandsAfter stage peeked []) → WorldAfter rom image [] (world_of rom bytes machine stage false)
-new_world rom image bytes machine stage r b same g d = record {
+-- the same, where the ROM is known by an equation
+pub same_rom : {old : State} {event : Happening} {entry : Shown} {rom rom' bytes : List ℕ} {machine : Machine}
+    {stage : Stage} {sent : Bool} → rom' ≡ rom → AddsLine old event entry (world_of rom bytes machine stage sent)
+    → AddsLine old event entry (world_of rom' bytes machine stage sent)
+same_rom {old} {event} {entry} {bytes = bytes} {machine} {stage} {sent} same adds =
+    subst (λ rom. AddsLine old event entry (world_of rom bytes machine stage sent)) (sym same) adds
+
+pub new_world : (rom image bytes : List ℕ) (machine : Machine) (driven : Driven) → IsRom rom → IsImage bytes → bytes ≡ image → generator.HasTaken machine [] None
+    → IsFresh rom driven → WorldAfter rom image [] (world_of driven.rom bytes machine driven.stage false)
+new_world rom image bytes machine driven r b same g fresh = record {
   legal = (r, subst IsImage same b);
-  stands = record { rom = refl; ram = same; machine = g; peeked = slice_index image 1; stage = d (slice_index image 1); byte1 = refl; sent = refl };
+  stands = record { rom = fresh.0; ram = same; machine = g; peeked = slice_index image 1; stage = fresh.1 (slice_index image 1); byte1 = refl; sent = refl };
 }
 
 module _ {rom bytes R ram : List ℕ} {machine : Machine} {stage : Stage} {sent strobe : Bool} {told : List Told} {low : Option ℕ} {items : List Item} (stands : StandsAt (world_of rom bytes machine stage sent) R ram told low items strobe) where
@@ -109,6 +117,29 @@ module _ {rom bytes : List ℕ} {machine : Machine} {stage : Stage} {sent : Bool
     legal = (can w.stands.peeked (life image log) w.stands.stage, tt, w.legal);
     stands = with_stage w.stands w.stands.peeked (taken w.stands.peeked (life image log) w.stands.stage) w.stands.byte1;
   }
+
+-- an offer or a redraw, by what the driver answers at its desk
+pub offers : {A : Type 0} {rom bytes : List ℕ} {F : List OpKind} {machine : Machine} {stage stage' : Stage} {sent : Bool}
+    (entry : OwnEntry A) → IsDraft F → OfferAnswers rom F stage stage' entry
+    → AddsLine (world_of rom bytes machine stage sent) (Offer F) (shown_of entry) (world_of rom bytes machine stage' sent)
+offers {rom = rom} {bytes} {F} {machine} {stage} {sent = sent} (Refused fault) draft answers =
+    subst (λ s. AddsLine (world_of rom bytes machine stage sent) (Offer F) (Refused fault) (world_of rom bytes machine s sent))
+    (sym answers.1) (offer_refused draft answers.0)
+offers Busy draft answers = offer_busy draft answers.0 answers.1 answers.2
+offers Offered draft answers =
+    offer_taken draft answers.0 refl (λ peeked life after. (answers.1 peeked life after).0)
+    (λ peeked life after. (answers.1 peeked life after).1)
+offers entry draft answers = absurd answers
+
+pub redraws : {A : Type 0} {rom bytes : List ℕ} {machine : Machine} {stage stage' : Stage} {sent : Bool}
+    (entry : OwnEntry A) → RedrawAnswers stage stage' entry
+    → AddsLine (world_of rom bytes machine stage sent) Redraw (shown_of entry) (world_of rom bytes machine stage' sent)
+redraws NothingPublished answers = redraw_nothing answers.0 answers.1
+redraws Busy answers = redraw_busy answers.0 answers.1
+redraws Asked answers =
+    redraw_taken (λ peeked life after. let can = answers peeked life after in (can.0, can.1))
+    (λ peeked life after. (answers peeked life after).2)
+redraws entry answers = absurd answers
 
 -- what a tick hands in as the flag
 flag_is : (halted : Bool) (run : Option (List (ℕ × ℕ))) (is_open : Bool) → (IsTrue halted ↔ (is_open ≡ false)) → is_open ≡ is_some run → halted ≡ is_none run
@@ -278,20 +309,22 @@ module _ {rom bytes : List ℕ} {machine : Machine} {stage : Stage} {sent : Bool
       found ∙ (ap (λ b. fetched_byte b rom address high) w.stands.ram ∙ (ap (λ r. fetched_byte (ram image log) r address high) w.stands.rom ∙ ap (fetched_byte (ram image log) R address) (second ∙ ap is_some same))) in
       (same, ap (met (low_byte log)) (sym there))
 
-  pub fetch_takes : {A : Type 0} {machine' : Machine} (address : ℕ) (low byte : Option ℕ) (high : Bool) (answer : Taken A) (entry : Shown)
-      → ((told : List Told) (l : Option ℕ) (after : generator.HasTaken machine told l) → Some address ≡ wants after.run) → low ≡ machine.low → high ≡ is_some low → byte ≡ fetched_byte bytes rom address high
+  pub fetch_takes : {A : Type 0} {machine' : Machine} {rom' : List ℕ} (address : ℕ) (low byte : Option ℕ) (high : Bool) (answer : Taken A) (entry : Shown)
+      → ((told : List Told) (l : Option ℕ) (after : generator.HasTaken machine told l) → Some address ≡ wants after.run) → low ≡ machine.low → high ≡ is_some low → rom' ≡ rom → byte ≡ fetched_byte bytes rom' address high
       → ((told : List Told) (l : Option ℕ) → generator.HasTaken machine told l → Answers told (met l byte) machine' answer) → entry ≡ entry_by address (met low byte) answer
       → AddsLine (world_of rom bytes machine stage sent) Fetch entry (world_of rom bytes machine' stage sent)
-  fetch_takes {machine' = machine'} address low byte high answer entry wanted kept second found answers shown R image log w =
+  fetch_takes {machine' = machine'} address low byte high answer entry wanted kept second of_rom read answers shown R image log w =
       let m = w.stands.machine in
+      let found = subst (λ rom. byte ≡ fetched_byte bytes rom address high) of_rom read in
       let there = met_in address low byte high w kept second found in
       subst (λ e. WorldAfter R image ((Fetch ⟼ e) ∷ log) (world_of rom bytes machine' stage sent)) (ap (λ l. entry_by address (met l byte) answer) (sym there.0) ∙ sym shown)
       (line_of_fetch R image log address (met (low_byte log) byte) answer w (sym (wanted (history R image log) (low_byte log) m)) there.1 (answers (history R image log) (low_byte log) m))
 
-  pub draws_now : (address : ℕ) (low byte : Option ℕ) (high : Bool) → machine.is_open ≡ true → ((told : List Told) (l : Option ℕ) (after : generator.HasTaken machine told l) → Some address ≡ wants after.run)
-      → low ≡ machine.low → high ≡ is_some low → byte ≡ fetched_byte bytes rom address high → ¬ DrawsNothing machine.held (met machine.low byte) → DrawsNow (world_of rom bytes machine stage sent)
-  draws_now address low byte high is_open wanted kept second found draws R image log w =
+  pub draws_now : {rom' : List ℕ} (address : ℕ) (low byte : Option ℕ) (high : Bool) → machine.is_open ≡ true → ((told : List Told) (l : Option ℕ) (after : generator.HasTaken machine told l) → Some address ≡ wants after.run)
+      → low ≡ machine.low → high ≡ is_some low → rom' ≡ rom → byte ≡ fetched_byte bytes rom' address high → ¬ DrawsNothing machine.held (met machine.low byte) → DrawsNow (world_of rom bytes machine stage sent)
+  draws_now address low byte high is_open wanted kept second of_rom read draws R image log w =
       let m = w.stands.machine in
+      let found = subst (λ rom. byte ≡ fetched_byte bytes rom address high) of_rom read in
       let held = (m.stands.running (sym m.stands.is_open ∙ is_open)).held in
       let there = met_in address low byte high w kept second found in
       let same : met machine.low byte ≡ meets R image log address = ap (λ l. met l byte) m.low ∙ sym there.1 in

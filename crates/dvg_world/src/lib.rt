@@ -8,12 +8,14 @@
 //! such log, and what is drawn of a checked frame that nobody writes to.
 #![tactic(auto)]
 
+mod desk;
 mod happens;
 mod judge;
 mod runs;
 mod stopped;
 mod world;
 
+pub use desk::Desk;
 pub use dvg_log::{Entry, Event, MOST_EVENTS, OwnEntry, OwnEvent, Trace, TraceEvent};
 pub use dvg_theorem::laws;
 pub use judge::{Judge, first_torn};

@@ -10,9 +10,10 @@ ghost use Rattle.dvg_world.specs.Standing.{AddsLine, DrawsNow, KeepsHeadlineAfte
 ghost use Rattle.dvg_world.specs.own.Stepping.{ram_by, sent_by};
 ghost use Rattle.dvg_world.specs.Wanting.{TakesMemory};
 
+use crate::desk::Desk;
 use dvg_code::OutOfMemory;
-use dvg_driver::{Action, Driver, DriverFault};
-use dvg_frame::{Checker, Draft};
+use dvg_driver::Action;
+use dvg_frame::Draft;
 use dvg_gen::Generator;
 use dvg_log::{Entry, Event, OwnEntry, OwnEvent};
 use dvg_mem::{Image, MemFault, Rom, Store, fetch_byte};
@@ -30,13 +31,10 @@ use std::marker::Model;
 /// never arrives).
 #[derive(Drop)]
 pub struct World<S: Store> {
-    rom: Rom<S::Alloc>,
+    desk: Desk<S::Alloc>,
     store: S,
     generator: Generator<S::Alloc>,
-    driver: Driver,
     strobe_sent: bool,
-    /// What drafts are checked by.
-    checker: Box<Checker, S::Alloc>,
 }
 
 /// Contracts see a `State`.
@@ -46,10 +44,10 @@ impl<S: Store> Model for World<S> {
     ghost Value = { State };
 
     ghost view = { λ world. record {
-      rom = world.rom;
+      rom = world.desk.rom;
       ram = S.content world.store;
       machine = world.generator;
-      stage = world.driver;
+      stage = world.desk.stage;
       sent = world.strobe_sent;
     } };
 }
@@ -70,14 +68,12 @@ impl<S: Store> World<S> {
         // An image is one of 2,048 bytes, as its type says.
         let _ = image.bytes();
         let store = S::make(alloc, image)?;
-        let checker = Box::new(alloc, Checker::new())?;
+        let desk = Desk::new(alloc, rom)?;
         Ok(World {
-            rom,
+            desk,
             store,
             generator: Generator::new(alloc),
-            driver: Driver::new(),
             strobe_sent: false,
-            checker,
         })
     }
 
@@ -95,7 +91,7 @@ impl<S: Store> World<S> {
         ensures room { length rom.now ≡ length self.old.rom → IsOk result }
         ensures refused { OnErr result (self.new ≡ self.old) }
     {
-        match self.rom.copy_from(alloc, rom) {
+        match self.desk.begin_anew(alloc, rom) {
             Ok(()) => {
                 self.power_up(alloc, image);
                 Ok(())
@@ -110,10 +106,10 @@ impl<S: Store> World<S> {
     {
         // An image is one of 2,048 bytes, and a ROM has 2,048 or 4,096, as their types say.
         let _ = image.bytes();
-        let _ = self.rom.len_words();
+        let _ = self.desk.rom().len_words();
         self.store.load(image);
         self.generator = Generator::new(alloc);
-        self.driver.reset();
+        self.desk.reset();
         self.strobe_sent = false;
     }
 
@@ -147,27 +143,15 @@ impl<S: Store> World<S> {
     {
         // A draft has at most 511 operations, as its type says.
         let _ = draft.len();
-        let checked = match self.checker.check(draft, &self.rom) {
-            Ok(checked) => checked,
-            Err(fault) => return Entry::Refused(fault),
-        };
-        match self.driver.offer_checked(&checked) {
-            Ok(()) => Entry::Offered,
-            Err(_) => Entry::Busy,
-        }
+        self.desk.offer(draft)
     }
 
     /// The driver is asked to have the published frame drawn again, as by `Event::Redraw`.
-    #[tactic(auto, using(dvg_theorem::proofs::Headline::draws_a_half))]
     pub fn redraw(&mut self) -> OwnEntry<S::Alloc>
         ensures stands { AddsLine self.old Redraw (shown_of result) self.new }
         ensures headline { KeepsHeadlineAfter self.old Redraw (shown_of result) }
     {
-        match self.driver.redraw() {
-            Ok(()) => Entry::Asked,
-            Err(DriverFault::NothingPublished) => Entry::NothingPublished,
-            Err(DriverFault::Busy) => Entry::Busy,
-        }
+        self.desk.redraw()
     }
 
     /// The driver does one action, as by `Event::Tick`.
@@ -176,7 +160,7 @@ impl<S: Store> World<S> {
         ensures headline { KeepsHeadlineAfter self.old Tick (shown_of result) }
     {
         let byte1 = self.store.read(1);
-        let action = self.driver.tick(self.generator.halted(), byte1);
+        let action = self.desk.tick(self.generator.halted(), byte1);
         self.perform(action);
         Entry::Acted(action)
     }
@@ -217,7 +201,7 @@ impl<S: Store> World<S> {
             return Ok(Entry::Still);
         };
         let low = self.generator.low_byte();
-        let byte = fetch_byte(&self.store, &self.rom, address, low.is_some());
+        let byte = fetch_byte(&self.store, self.desk.rom(), address, low.is_some());
         let taken = self.generator.take_byte(byte)?;
         Ok(Entry::of_fetch(address, low, byte, taken))
     }
@@ -236,7 +220,7 @@ impl<S: Store> World<S> {
         ensures stands { AddsLine self.old ResetCpu (shown_of result) self.new }
         ensures headline { KeepsHeadlineAfter self.old ResetCpu (shown_of result) }
     {
-        self.driver.reset();
+        self.desk.reset();
         Entry::Cleared
     }
 
@@ -247,7 +231,7 @@ impl<S: Store> World<S> {
     {
         self.store.load(image);
         self.generator.reset();
-        self.driver.reset();
+        self.desk.reset();
         self.strobe_sent = false; // No strobe is under way any more.
         Entry::Cleared
     }

@@ -16,10 +16,10 @@ pub returns-in-Driver : goal.returns-in-Driver
 returns-in-Driver c =
     let driven = c.deref_mut-in-Driver.ensures.value in
     rw (sym c.self.view_is, c.in-Driver.is) (
-      c.ask-in-Driver.new.self,
+      c.ask_driver.new.desk,
       refl,
-      c.ask-in-Driver.ensures.rom ∙ ap (λ d. d.rom) driven,
-      subst (λ d. DriverAnswers d.rom c.self.inside.draft c.args.request d.stage c.ask-in-Driver.new.self.stage c.ask-in-Driver.result) driven c.ask-in-Driver.ensures.answers,
+      c.ask_driver.ensures.rom ∙ ap (λ d. d.rom) driven,
+      subst (λ d. DriverAnswers d.rom c.self.inside.draft c.args.request d.stage c.ask_driver.new.desk.stage c.ask_driver.result) driven c.ask_driver.ensures.answers,
     )
 
 pub returns-in-Generator : goal.returns-in-Generator

@@ -14,13 +14,13 @@ pub returns-in_err-taken-clause-room : goal.returns-in_err-taken-clause-room
 returns-in_err-taken-clause-room g c =
     let is_open = open_of c.wants.result c.in-Some.address _ c.in-Some.is c.wants.ensures.halted in
     on_err c.from_residual.result (subst DrawsNow c.self.view_is
-    (draws_now c.in-Some.address c.low_byte-low.result c.fetch_byte-byte.result c.is_some.result is_open (λ told low after. sym c.in-Some.is ∙ c.wants.ensures.address told low after) c.low_byte-low.ensures c.is_some.ensures c.fetch_byte-byte.ensures.byte
+    (draws_now c.in-Some.address c.low_byte-low.result c.fetch_byte-byte.result c.is_some.result is_open (λ told low after. sym c.in-Some.is ∙ c.wants.ensures.address told low after) c.low_byte-low.ensures c.is_some.ensures c.rom.ensures c.fetch_byte-byte.ensures.byte
     (λ nothing. let given = c.in_err-taken.ensures.room nothing in absurd (cc))))
 
 pub returns-clause-stands : goal.returns-clause-stands
 returns-clause-stands g c =
     adds_between Fetch (shown_of c.of_fetch.result) c.self.view_is refl
-    (fetch_takes c.in-Some.address c.low_byte-low.result c.fetch_byte-byte.result c.is_some.result c.in_ok-taken.taken (shown_of c.of_fetch.result) (λ told low after. sym c.in-Some.is ∙ c.wants.ensures.address told low after) c.low_byte-low.ensures c.is_some.ensures c.fetch_byte-byte.ensures.byte
+    (fetch_takes c.in-Some.address c.low_byte-low.result c.fetch_byte-byte.result c.is_some.result c.in_ok-taken.taken (shown_of c.of_fetch.result) (λ told low after. sym c.in-Some.is ∙ c.wants.ensures.address told low after) c.low_byte-low.ensures c.is_some.ensures c.rom.ensures c.fetch_byte-byte.ensures.byte
     c.in_ok-taken.ensures.answers c.of_fetch.ensures)
 
 pub returns-in_default-clause-headline : goal.returns-in_default-clause-headline

@@ -6,4 +6,5 @@ use Rattle.dvg_world.proofs.world.World.new.Goals as goal
 pub returns-clause-stands : goal.returns-clause-stands
 returns-clause-stands g c =
     let rom = subst IsRom c.rom.view_is c.rom.invariant in
-    new_world c.args.rom c.args.image.now _ _ _ rom c.in_ok-store.ensures.image c.in_ok-store.ensures.content c.new-3.ensures.stands c.new-4.ensures
+    new_world c.args.rom c.args.image.now _ _ c.in_ok-desk.desk rom c.in_ok-store.ensures.image c.in_ok-store.ensures.content
+    c.new-2.ensures.stands c.in_ok-desk.ensures
