@@ -1,10 +1,10 @@
 -- Sections of the ROM, as the reader holds them.
-use Rattle.std.specs.Prelude.{◌≤◌, List, All, map}
+use Rattle.std.specs.Prelude.{◌≡◌, ◌≤◌, ℕ, List, All, map}
 use Rattle.std.specs.List.{flat_map}
 use Rattle.dvg_named.specs.declared.laid.LaidRows as held_laid
 use Rattle.dvg_named.specs.declared.laid.RomRows as held_rom
 use Rattle.dvg_named.specs.HeldRows.{rows_of}
-use Rattle.dvg_named.specs.Places.{Laid, laid_end}
+use Rattle.dvg_named.specs.Places.{IsAddress, Laid, laid_end, laid_from}
 use Rattle.dvg_named.specs.Rows.{Row}
 use Rattle.dvg_named.specs.Sections.{RomRows}
 
@@ -31,6 +31,18 @@ laid_sections = map laid_section
 -- all rows of laid sections, in order
 abbrev pub rows_laid : List Laid → List Row
 rows_laid = flat_map (λ section. section.rows)
+
+-- these are the sections as they are laid, from the first free word on
+abbrev pub AreLaid : (free : ℕ) → List held_rom.RomRows → List held_laid.LaidRows → Type 0
+AreLaid free sections laid = laid_sections laid ≡ laid_from free (sections_of sections)
+
+-- the name is that of this word address
+abbrev pub IsAddressIn : List held_laid.LaidRows → (name : List ℕ) → (address : ℕ) → Type 0
+IsAddressIn sections name address = IsAddress (laid_sections sections) name address
+
+-- no section gives this name
+abbrev pub NoneNames : List held_laid.LaidRows → (name : List ℕ) → Type 0
+NoneNames sections name = (address : ℕ) → ¬ IsAddress (laid_sections sections) name address
 
 -- no section goes on after the ROM's last word, at BFF
 abbrev pub AreLow : List Laid → Type 0

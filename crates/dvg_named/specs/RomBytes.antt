@@ -1,13 +1,17 @@
 -- The words of laid sections, in the bytes of a ROM.
-use Rattle.std.specs.Prelude.{◌≡◌, ◌+◌, ◌<◌, ◌≤◌, ℕ, List, ◌++◌, All, None, Some, get_or, length, slice_get, slice_index}
+use Rattle.std.specs.Prelude.{◌≡◌, ◌≢◌, ◌+◌, ◌<◌, ◌≤◌, ℕ, List, ◌++◌, All, None, Some, get_or, length}
+use Rattle.std.specs.Prelude.{slice_get, slice_index}
 use Rattle.std.specs.List.{AllZip}
 use Rattle.dvg_code.specs.Words.{word_in}
 use Rattle.dvg_text.specs.RomReading.{IsBehind}
 use Rattle.dvg_text.specs.RomTexts.{IsRomOf, RomLine, RomText}
+use Rattle.dvg_frame.specs.declared.op.OpKind.TheVariants.{Call, Jump}
+use Rattle.dvg_named.specs.declared.laid.LaidRows as held_laid
 use Rattle.dvg_named.specs.declared.rom_words.RomRow.{RomRow}
+use Rattle.dvg_named.specs.LaidValues.{laid_section, laid_sections}
 use Rattle.dvg_named.specs.Meanings.{IsGiven}
 use Rattle.dvg_named.specs.Places.{Laid, laid_end}
-use Rattle.dvg_named.specs.Rows.{Row, rom}
+use Rattle.dvg_named.specs.Rows.{Doing, Row, plainly, rom}
 use Rattle.dvg_named.specs.Sections.{MayStand}
 use Rattle.dvg_named.specs.Ungiven.{IsFirstUngiven, WantsAt, in_rom}
 
@@ -27,12 +31,20 @@ LieInRom first = All (λ section. (first ≤ section.start) × (laid_end section
 abbrev pub MayStandInRom : List Row → Type 0
 MayStandInRom = All (MayStand (rom None))
 
+-- this doesn't
+abbrev pub MayBeEncoded : Doing → Type 0
+MayBeEncoded doing = (n : ℕ) → (doing ≢ plainly (Call n)) × (doing ≢ plainly (Jump n))
+
 -- the words of a section were put, each at its address
 pub record IsPut (laid : List Laid) (section : Laid) (first : ℕ) (old new : List ℕ) : Type 0 where
   pub given : RomLine
   pub is : IsGiven laid section given
   pub put : IsBehind given first old new
   pub fits : (i : ℕ) → get_or new i 0 < 256
+
+-- so were those of this one
+abbrev pub PutsSection : List held_laid.LaidRows → held_laid.LaidRows → (first : ℕ) → (old new : List ℕ) → Type 0
+PutsSection sections section = IsPut (laid_sections sections) (laid_section section)
 
 -- the bytes are those of the ROM that is told, where these sections give their words after its lines
 pub record TellsSections (laid sections : List Laid) (told : RomText) (bytes : List ℕ) : Type 0 where

@@ -1,7 +1,16 @@
 -- The first row of a section that wants a name which isn't given.
-use Rattle.std.specs.Prelude.{◌≡◌, ◌<◌, ℕ, List, Some, None, slice_get}
+use Rattle.std.specs.Prelude.{◌≡◌, ◌<◌, ℕ, List, [], Some, None, slice_get}
+use Rattle.std.specs.List.{AllZip}
+use Rattle.dvg_frame.specs.declared.op.OpKind.{OpKind}
+use Rattle.dvg_named.specs.declared.laid.LaidRows as held_laid
+use Rattle.dvg_named.specs.declared.row.Doing as held_doing
+use Rattle.dvg_named.specs.declared.row.Row as held
+use Rattle.dvg_named.specs.HeldRows.{rows_of}
+use Rattle.dvg_named.specs.LaidValues.{laid_sections}
+use Rattle.dvg_named.specs.Meanings.{IsDrafted}
 use Rattle.dvg_named.specs.NamedFaults.{IsUngiven}
-use Rattle.dvg_named.specs.Places.{Laid}
+use Rattle.dvg_named.specs.Places.{Laid, doings}
+use Rattle.dvg_named.specs.RowValues.{doing_of}
 use Rattle.dvg_named.specs.Rows.{Doing, Row, rom, top}
 use Rattle.dvg_named.specs.Sections.{Section}
 
@@ -25,3 +34,19 @@ pub record WantsAt (sections : List Laid) (section : Section) (place : ℕ) : Ty
 pub record IsFirstUngiven (sections : List Laid) (section : Section) (place : ℕ) : Type 0 where
   pub wants : WantsAt sections section place
   pub first : (earlier : ℕ) → earlier < place → ¬ WantsAt sections section earlier
+
+-- a draft has what the rows of a frame do, in order
+abbrev pub Drafts : List held_laid.LaidRows → List held.Row → List OpKind → Type 0
+Drafts laid rows = AllZip (IsDrafted (laid_sections laid) (rows_of rows)) (doings (rows_of rows))
+
+-- the row at this place of a frame is the first that wants a name which isn't given
+abbrev pub IsFirstInFrame : List held_laid.LaidRows → List held.Row → ℕ → Type 0
+IsFirstInFrame laid rows = IsFirstUngiven (laid_sections laid) (framed (rows_of rows))
+
+-- that of a section of the ROM is
+abbrev pub IsFirstInSection : List held_laid.LaidRows → List held.Row → ℕ → Type 0
+IsFirstInSection laid rows = IsFirstUngiven (laid_sections laid) (in_rom (rows_of rows))
+
+-- in the ROM it wants a name that isn't given
+abbrev pub WantsInRom : List held_laid.LaidRows → held_doing.Doing → Type 0
+WantsInRom laid doing = IsUngiven (laid_sections laid) (in_rom []) (doing_of doing)

@@ -1,13 +1,12 @@
 //! The draft of a frame.
 ghost use Rattle.std.specs.Prelude.{◌≡◌, ◌≤◌, length, IfErr, IfNone, IfOk, IfSome};
-ghost use Rattle.std.specs.List.{AllZip};
 ghost use Rattle.dvg_named.specs.HeldRows.{rows_of};
 ghost use Rattle.dvg_named.specs.LaidValues.{AreLow, laid_sections};
 ghost use Rattle.dvg_named.specs.Meanings.{IsDrafted};
 ghost use Rattle.dvg_named.specs.NamedFaults.{IsUngiven};
 ghost use Rattle.dvg_named.specs.Places.{doings};
 ghost use Rattle.dvg_named.specs.RowValues.{doing_of};
-ghost use Rattle.dvg_named.specs.Ungiven.{IsFirstUngiven, framed};
+ghost use Rattle.dvg_named.specs.Ungiven.{Drafts, IsFirstInFrame, framed};
 
 use crate::laid::{LaidRows, address_of};
 use crate::number::number_of;
@@ -21,8 +20,8 @@ use dvg_frame::{Draft, Op, OpKind};
 pub fn draft_of(rows: &[Row], rom: &[LaidRows]) -> Result<Draft, usize>
     requires few { length (doings (rows_of rows.now)) ≤ 511 }
     requires low { AreLow (laid_sections rom.now) }
-    ensures draft { IfOk result (AllZip (IsDrafted (laid_sections rom.now) (rows_of rows.now)) (doings (rows_of rows.now))) }
-    ensures ungiven { IfErr result (IsFirstUngiven (laid_sections rom.now) (framed (rows_of rows.now))) }
+    ensures draft { IfOk result (Drafts rom.now rows.now) }
+    ensures ungiven { IfErr result (IsFirstInFrame rom.now rows.now) }
 {
     let mut draft = Draft::new();
     for (place, row) in rows.iter().enumerate() {
@@ -40,8 +39,10 @@ pub fn draft_of(rows: &[Row], rom: &[LaidRows]) -> Result<Draft, usize>
 fn op_of(rows: &[Row], rom: &[LaidRows], doing: &Doing) -> Option<Op>
     requires few { length (doings (rows_of rows.now)) ≤ 511 }
     requires low { AreLow (laid_sections rom.now) }
-    ensures drafted { IfSome result (IsDrafted (laid_sections rom.now) (rows_of rows.now) (doing_of doing.now)) }
-    ensures ungiven { IfNone result (IsUngiven (laid_sections rom.now) (framed (rows_of rows.now)) (doing_of doing.now)) }
+    ensures drafted { let laid = laid_sections rom.now in
+        IfSome result (IsDrafted laid (rows_of rows.now) (doing_of doing.now)) }
+    ensures ungiven { let laid = laid_sections rom.now in
+        IfNone result (IsUngiven laid (framed (rows_of rows.now)) (doing_of doing.now)) }
 {
     match doing {
         Doing::Plainly(op) => Some(*op),

@@ -1,9 +1,9 @@
 //! Where sections of the ROM are laid.
 ghost use Rattle.std.specs.Prelude.{◌≡◌, ◌≤◌, ◌<◌, ◌+◌, ◌^◌, ℕ, List, [], ◌∷◌, ◌++◌, length, max, unwrap_or, IfNone, IfOk, IfSome, Some};
 ghost use Rattle.dvg_text.specs.RomTexts.{RomLine};
-ghost use Rattle.dvg_named.specs.LaidValues.{AreLow, laid_sections, rows_in, rows_laid, sections_of};
+ghost use Rattle.dvg_named.specs.LaidValues.{AreLaid, AreLow, NoneNames, laid_sections, rows_in, rows_laid, sections_of};
 ghost use Rattle.dvg_named.specs.NamedFaults.{AreDistinct, names_of};
-ghost use Rattle.dvg_named.specs.Places.{IsAddress, free_after, laid_from, size as words_of_rows};
+ghost use Rattle.dvg_named.specs.Places.{IsAddress, free_after, size as words_of_rows};
 
 use crate::number::place_of;
 use crate::row::Row;
@@ -31,9 +31,8 @@ pub struct LaidRows<'a> {
 }
 
 /// The sections as they are laid, in order: each from its address on, or else from the first word
-/// after all that were laid before, which for the first is `free` (this project's own choice). So
-/// many words are asked for at once that memory may be refused (`OutOfMemory`). The time grows with
-/// the number of rows.
+/// after all that were laid before, which for the first is `free` (this project's own choice). A
+/// growth of the list may be refused (`OutOfMemory`). The time grows with the number of rows.
 pub fn lay<'a, A: Allocator>(
     alloc: A,
     free: usize,
@@ -41,7 +40,7 @@ pub fn lay<'a, A: Allocator>(
 ) -> Result<Vec<LaidRows<'a>, A>, OutOfMemory>
     requires low { free < 2 ^ 32 }
     requires few { words_of_rows (rows_in (sections_of sections.now)) < 2 ^ 32 }
-    ensures { IfOk result (λ laid. laid_sections laid.items ≡ laid_from free (sections_of sections.now)) }
+    ensures { IfOk result (λ laid. AreLaid free sections.now laid.items) }
 {
     let mut laid = Vec::new(alloc);
     let mut next = free;
@@ -56,8 +55,9 @@ pub fn lay<'a, A: Allocator>(
     Ok(laid)
 }
 
-/// The first word address that is free after one line `rom` more, where `free` was it before, and `end`
-/// is the address after the line's words. Before the first line it is that of the ROM's first word.
+/// The first word address that is free after one line `rom` more, where `free` was it before, and
+/// `end` is the address after the line's words. Before the first line it is that of the ROM's first
+/// word.
 pub fn free_with(free: u16, end: u16) -> u16
     ensures { (first : ℕ) (given : List RomLine) (line : RomLine) → free ≡ free_after first given
         → end ≡ line.address + length line.words → result ≡ free_after first (given ++ line ∷ []) }
@@ -76,9 +76,9 @@ fn start_of(address: Option<u16>, next: usize) -> usize
     }
 }
 
-/// The word address that a name names in the ROM: that of the first section that gives it, and in it
-/// of the first row. None exactly where no row of these sections gives it. The time grows with the
-/// number of rows.
+/// The word address that a name names in the ROM: that of the first section that gives it, and in
+/// it of the first row. None exactly where no row of these sections gives it. The time grows with
+/// the number of rows.
 ///
 /// Where each name is given once, no other address is that of the name. A name after the last
 /// operation of its section is the address after the section (this project's own choice).
@@ -86,7 +86,7 @@ pub fn address_of(sections: &[LaidRows], name: &[u8]) -> Option<u16>
     requires { AreLow (laid_sections sections.now) }
     ensures found { IfSome result (IsAddress (laid_sections sections.now) name.now) }
     ensures low { IfSome result (λ address. address ≤ 0xC00) }
-    ensures none { IfNone result ((address : ℕ) → ¬ IsAddress (laid_sections sections.now) name.now address) }
+    ensures none { IfNone result (NoneNames sections.now name.now) }
     ensures only { AreDistinct (names_of (rows_laid (laid_sections sections.now))) → (address : ℕ)
         → IsAddress (laid_sections sections.now) name.now address → result ≡ Some address }
 {

@@ -1,7 +1,7 @@
 //! Which operation of a frame a name names.
-ghost use Rattle.std.specs.Prelude.{◌≡◌, ◌≤◌, ◌<◌, ◌↔◌, ℕ, List, length, IfNone, IfSome, IsSome, IsTrue, Some, take};
+ghost use Rattle.std.specs.Prelude.{◌≡◌, ◌≤◌, ◌<◌, ◌↔◌, ℕ, List, length, IfNone, IfSome, IsSome, IsTrue, Some};
 ghost use Rattle.std.specs.Option.{is_some};
-ghost use Rattle.dvg_named.specs.HeldRows.{Gives, IsLeast, rows_of};
+ghost use Rattle.dvg_named.specs.HeldRows.{Gives, GivesAt, IsLeast, NoneGives, rows_of};
 ghost use Rattle.dvg_named.specs.NamedFaults.{AreDistinct, names_of};
 ghost use Rattle.dvg_named.specs.Places.{IsNamedAfter, IsNumber, doings};
 ghost use Rattle.dvg_named.specs.Rows.{Row as SpelledRow};
@@ -9,8 +9,8 @@ ghost use Rattle.dvg_named.specs.Rows.{Row as SpelledRow};
 use crate::row::Row;
 
 /// The number of the operation that a name names in a frame, counted from 0: as many operations
-/// stand before the first row that gives it. None exactly where no row gives it. The time grows with
-/// the number of rows.
+/// stand before the first row that gives it. None exactly where no row gives it. The time grows
+/// with the number of rows.
 ///
 /// Where each name is given once, no other number is that of the name. A name after the last
 /// operation has the number of one that isn't there (this project's own choice).
@@ -26,13 +26,13 @@ pub fn number_of(rows: &[Row], name: &[u8]) -> Option<usize>
     }
 }
 
-/// The place of the first row that gives a name, counted from 0. None exactly where no row gives it.
+/// The place of the first row that gives a name, counted from 0. None exactly where no row does.
 pub fn place_of(rows: &[Row], name: &[u8]) -> Option<usize>
     ensures low { IfSome result (λ place. place < length rows.now) }
-    ensures found { IfSome result (λ place. IsNamedAfter (rows_of rows.now) name.now (rows_of (take place rows.now))) }
+    ensures found { IfSome result (GivesAt rows.now name.now) }
     ensures first { IfSome result (λ place. (before : List SpelledRow)
         → IsNamedAfter (rows_of rows.now) name.now before → place ≤ length before) }
-    ensures none { IfNone result ((before : List SpelledRow) → ¬ IsNamedAfter (rows_of rows.now) name.now before) }
+    ensures none { IfNone result (NoneGives rows.now name.now) }
 {
     for (place, row) in rows.iter().enumerate() {
         if gives(row, name) {

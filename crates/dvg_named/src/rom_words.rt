@@ -7,14 +7,14 @@ ghost use Rattle.dvg_frame.specs.declared.op.OpKind.TheVariants.{Call, Jump};
 ghost use Rattle.dvg_frame.specs.Ops.{IsOp};
 ghost use Rattle.dvg_text.specs.RomTexts.{IsRomOf, RomText};
 ghost use Rattle.dvg_named.specs.HeldRows.{rows_of};
-ghost use Rattle.dvg_named.specs.LaidValues.{AreLow, laid_section, laid_sections};
+ghost use Rattle.dvg_named.specs.LaidValues.{AreLow, IsAddressIn, NoneNames, laid_section, laid_sections};
 ghost use Rattle.dvg_named.specs.Meanings.{IsEncoded};
 ghost use Rattle.dvg_named.specs.NamedFaults.{IsUngiven};
 ghost use Rattle.dvg_named.specs.Places.{IsAddress, Laid, laid_end};
-ghost use Rattle.dvg_named.specs.RomBytes.{ArePut, IsFirstInRom, IsPut, LieInRom, MayStandInRom, TellsSections};
+ghost use Rattle.dvg_named.specs.RomBytes.{ArePut, IsFirstInRom, LieInRom, MayBeEncoded, MayStandInRom, PutsSection, TellsSections};
 ghost use Rattle.dvg_named.specs.RowValues.{doing_of};
 ghost use Rattle.dvg_named.specs.Rows.{plainly};
-ghost use Rattle.dvg_named.specs.Ungiven.{IsFirstUngiven, WantsAt, in_rom};
+ghost use Rattle.dvg_named.specs.Ungiven.{IsFirstInSection, WantsAt, WantsInRom, in_rom};
 
 use crate::laid::{LaidRows, address_of};
 use crate::row::Doing;
@@ -33,9 +33,9 @@ pub struct RomRow {
     pub row: usize,
 }
 
-/// Puts the canonical words of laid sections into the bytes of a ROM, 2,048 or 4,096, each section at
-/// its address, the low byte of a word first. So bytes of which lines `rom` gave the words become
-/// those that the same words, given by further lines, would have made of them. Or else the first row
+/// Puts the canonical words of laid sections into the bytes of a ROM, 2,048 or 4,096, each section
+/// at its address, the low byte of a word first. So bytes of which lines `rom` gave the words
+/// become those that the same words would have made of them, given by further lines. Or else the first row
 /// that wants a name which isn't given; what was put before it stays. No memory is taken. The time
 /// grows with the number of rows times that of the rows that want a name.
 pub fn put_sections(rom: &mut [u8], sections: &[LaidRows]) -> Result<(), RomRow>
@@ -71,10 +71,10 @@ fn put_section(
     requires end { laid_end (laid_section section.now) ≤ 0xC00 }
     requires whole { 0x1800 ≤ length rom.old + 2 * first }
     requires may { MayStandInRom (rows_of section.now.rows.now) }
-    ensures put { OnOk result (IsPut (laid_sections sections.now) (laid_section section.now) first rom.old rom.new) }
+    ensures put { OnOk result (PutsSection sections.now section.now first rom.old rom.new) }
     ensures known { OnOk result ((place : ℕ)
         → ¬ WantsAt (laid_sections sections.now) (in_rom (rows_of section.now.rows.now)) place) }
-    ensures ungiven { IfErr result (IsFirstUngiven (laid_sections sections.now) (in_rom (rows_of section.now.rows.now))) }
+    ensures ungiven { IfErr result (IsFirstInSection sections.now section.now.rows.now) }
 {
     let mut next = section.start - first;
     for (place, row) in section.rows.iter().enumerate() {
@@ -119,9 +119,9 @@ fn put_word(rom: &mut [u8], place: usize, word: u16)
 // The instruction of a row of the ROM. None where it wants a name that isn't given.
 fn code_of(sections: &[LaidRows], doing: &Doing) -> Option<Code>
     requires low { AreLow (laid_sections sections.now) }
-    requires may { (n : ℕ) → (doing_of doing.now ≢ plainly (Call n)) × (doing_of doing.now ≢ plainly (Jump n)) }
+    requires may { MayBeEncoded (doing_of doing.now) }
     ensures encoded { IfSome result (IsEncoded (laid_sections sections.now) (doing_of doing.now)) }
-    ensures ungiven { IfNone result (IsUngiven (laid_sections sections.now) (in_rom []) (doing_of doing.now)) }
+    ensures ungiven { IfNone result (WantsInRom sections.now doing.now) }
 {
     match doing {
         Doing::Plainly(op) => Some(plain_code(op.kind())),
@@ -135,7 +135,7 @@ fn code_of(sections: &[LaidRows], doing: &Doing) -> Option<Code>
 // The instruction of an operation without a name.
 fn plain_code(kind: OpKind) -> Code
     requires op { IsOp kind }
-    requires may { (n : ℕ) → (plainly kind ≢ plainly (Call n)) × (plainly kind ≢ plainly (Jump n)) }
+    requires may { MayBeEncoded (plainly kind) }
     ensures { (laid : List Laid) → IsEncoded laid (plainly kind) result }
 {
     match kind {
@@ -151,9 +151,9 @@ fn plain_code(kind: OpKind) -> Code
 // The call of a name of the ROM. None where it isn't given.
 fn call_of(sections: &[LaidRows], name: &[u8]) -> Option<Code>
     requires { AreLow (laid_sections sections.now) }
-    ensures call { IfSome result (λ code. (address : ℕ) × IsAddress (laid_sections sections.now) name.now address
+    ensures call { IfSome result (λ code. (address : ℕ) × IsAddressIn sections.now name.now address
         × (code ≡ Jsrl address)) }
-    ensures ungiven { IfNone result ((address : ℕ) → ¬ IsAddress (laid_sections sections.now) name.now address) }
+    ensures ungiven { IfNone result (NoneNames sections.now name.now) }
 {
     match address_of(sections, name) {
         Some(address) => Some(Code::within(Instr::Jsrl(address))),
@@ -164,9 +164,9 @@ fn call_of(sections: &[LaidRows], name: &[u8]) -> Option<Code>
 // The jump to a name of the ROM. None where it isn't given.
 fn jump_of(sections: &[LaidRows], name: &[u8]) -> Option<Code>
     requires { AreLow (laid_sections sections.now) }
-    ensures jump { IfSome result (λ code. (address : ℕ) × IsAddress (laid_sections sections.now) name.now address
+    ensures jump { IfSome result (λ code. (address : ℕ) × IsAddressIn sections.now name.now address
         × (code ≡ Jmpl address)) }
-    ensures ungiven { IfNone result ((address : ℕ) → ¬ IsAddress (laid_sections sections.now) name.now address) }
+    ensures ungiven { IfNone result (NoneNames sections.now name.now) }
 {
     match address_of(sections, name) {
         Some(address) => Some(Code::within(Instr::Jmpl(address))),

@@ -10,8 +10,8 @@ use crate::row::{Doing, Row};
 use dvg_code::{Code, Instr};
 use dvg_frame::OpKind;
 
-/// How many words rows take: two for each VCTR and each LABS, one for each other operation, and none
-/// for a name alone.
+/// How many words rows take: two for each VCTR and each LABS, one for each other operation, and
+/// none for a name alone.
 pub fn size(rows: &[Row]) -> usize
     requires { words_of_rows (rows_of rows.now) < 2 ^ 64 }
     ensures { result ≡ words_of_rows (rows_of rows.now) }
