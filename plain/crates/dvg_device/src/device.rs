@@ -2,7 +2,7 @@
 use std::prelude::*;
 
 use crate::cabinet::Cabinet;
-use crate::desk::Desk;
+use crate::desk::ask_driver;
 use crate::lone::ask_generator;
 use crate::operation::Operation;
 use crate::reply::Reply;
@@ -11,6 +11,7 @@ use dvg_frame::Draft;
 use dvg_gen::{Generator, Stroke};
 use dvg_log::Entry;
 use dvg_mem::{MEMORY_BYTES, Rom};
+use dvg_world::Desk;
 use std::alloc::Global;
 use std::mem;
 
@@ -226,7 +227,7 @@ impl Device {
                 let staged = self.staged.as_slice();
                 world.ask(request, &self.draft, staged, &mut self.picture)
             }
-            Part::Driver(desk) => desk.ask(request, &self.draft),
+            Part::Driver(desk) => ask_driver(desk, request, &self.draft),
             Part::Generator(generator) => ask_generator(generator, request, &mut self.picture),
         }
     }

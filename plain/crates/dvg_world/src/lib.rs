@@ -10,12 +10,14 @@
 
 extern crate plain_std as std;
 
+mod desk;
 mod happens;
 mod judge;
 mod runs;
 mod stopped;
 mod world;
 
+pub use desk::Desk;
 pub use dvg_log::{Entry, Event, MOST_EVENTS, OwnEntry, OwnEvent, Trace, TraceEvent};
 pub use judge::{Judge, first_torn};
 pub use runs::{run, run_trace};

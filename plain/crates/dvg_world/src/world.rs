@@ -1,9 +1,8 @@
 //! The world: both ends of the vector RAM, one event at a time.
-use std::prelude::*;
-
+use crate::desk::Desk;
 use dvg_code::OutOfMemory;
-use dvg_driver::{Action, Driver, DriverFault};
-use dvg_frame::{Checker, Draft};
+use dvg_driver::Action;
+use dvg_frame::Draft;
 use dvg_gen::Generator;
 use dvg_log::{Entry, Event, OwnEntry, OwnEvent};
 use dvg_mem::{Image, MemFault, Rom, Store, fetch_byte};
@@ -19,13 +18,10 @@ use dvg_mem::{Image, MemFault, Rom, Store, fetch_byte};
 /// never, once or often (this project's own choice, as a strobe that the hardware passes over is one that
 /// never arrives).
 pub struct World<S: Store> {
-    rom: Rom<S::Alloc>,
+    desk: Desk<S::Alloc>,
     store: S,
     generator: Generator<S::Alloc>,
-    driver: Driver,
     strobe_sent: bool,
-    /// What drafts are checked by.
-    checker: Box<Checker, S::Alloc>,
 }
 
 impl<S: Store> World<S> {
@@ -41,14 +37,12 @@ impl<S: Store> World<S> {
         // An image is one of 2,048 bytes, as its type says.
         let _ = image.bytes();
         let store = S::make(alloc, image)?;
-        let checker = Box::new(alloc, Checker::new())?;
+        let desk = Desk::new(alloc, rom)?;
         Ok(World {
-            rom,
+            desk,
             store,
             generator: Generator::new(alloc),
-            driver: Driver::new(),
             strobe_sent: false,
-            checker,
         })
     }
 
@@ -61,7 +55,7 @@ impl<S: Store> World<S> {
         rom: &[u8],
         image: &Image<S::Alloc>,
     ) -> Result<(), MemFault> {
-        match self.rom.copy_from(alloc, rom) {
+        match self.desk.begin_anew(alloc, rom) {
             Ok(()) => {
                 self.power_up(alloc, image);
                 Ok(())
@@ -74,10 +68,10 @@ impl<S: Store> World<S> {
     fn power_up(&mut self, alloc: S::Alloc, image: &Image<S::Alloc>) {
         // An image is one of 2,048 bytes, and a ROM has 2,048 or 4,096, as their types say.
         let _ = image.bytes();
-        let _ = self.rom.len_words();
+        let _ = self.desk.rom().len_words();
         self.store.load(image);
         self.generator = Generator::new(alloc);
-        self.driver.reset();
+        self.desk.reset();
         self.strobe_sent = false;
     }
 
@@ -102,29 +96,18 @@ impl<S: Store> World<S> {
     pub fn offer(&mut self, draft: &Draft) -> OwnEntry<S::Alloc> {
         // A draft has at most 511 operations, as its type says.
         let _ = draft.len();
-        let checked = match self.checker.check(draft, &self.rom) {
-            Ok(checked) => checked,
-            Err(fault) => return Entry::Refused(fault),
-        };
-        match self.driver.offer_checked(&checked) {
-            Ok(()) => Entry::Offered,
-            Err(_) => Entry::Busy,
-        }
+        self.desk.offer(draft)
     }
 
     /// The driver is asked to have the published frame drawn again, as by `Event::Redraw`.
     pub fn redraw(&mut self) -> OwnEntry<S::Alloc> {
-        match self.driver.redraw() {
-            Ok(()) => Entry::Asked,
-            Err(DriverFault::NothingPublished) => Entry::NothingPublished,
-            Err(DriverFault::Busy) => Entry::Busy,
-        }
+        self.desk.redraw()
     }
 
     /// The driver does one action, as by `Event::Tick`.
     pub fn tick(&mut self) -> OwnEntry<S::Alloc> {
         let byte1 = self.store.read(1);
-        let action = self.driver.tick(self.generator.halted(), byte1);
+        let action = self.desk.tick(self.generator.halted(), byte1);
         self.perform(action);
         Entry::Acted(action)
     }
@@ -154,7 +137,7 @@ impl<S: Store> World<S> {
             return Ok(Entry::Still);
         };
         let low = self.generator.low_byte();
-        let byte = fetch_byte(&self.store, &self.rom, address, low.is_some());
+        let byte = fetch_byte(&self.store, self.desk.rom(), address, low.is_some());
         let taken = self.generator.take_byte(byte)?;
         Ok(Entry::of_fetch(address, low, byte, taken))
     }
@@ -167,7 +150,7 @@ impl<S: Store> World<S> {
 
     /// The driver is reset, as by `Event::ResetCpu`.
     pub fn reset_processor(&mut self) -> OwnEntry<S::Alloc> {
-        self.driver.reset();
+        self.desk.reset();
         Entry::Cleared
     }
 
@@ -175,7 +158,7 @@ impl<S: Store> World<S> {
     pub fn reset_all(&mut self, image: &Image<S::Alloc>) -> OwnEntry<S::Alloc> {
         self.store.load(image);
         self.generator.reset();
-        self.driver.reset();
+        self.desk.reset();
         self.strobe_sent = false; // No strobe is under way any more.
         Entry::Cleared
     }
