@@ -6,8 +6,8 @@
 mod drafting;
 pub mod examples;
 mod fault;
-pub mod laws;
 mod laid;
+pub mod laws;
 mod line_words;
 mod number;
 mod rom_words;
