@@ -1,6 +1,7 @@
 //! Sketches as texts: drafts with names, of one or more frames, and the shapes of their ROM (the
-//! format is this project's own choice). They are defined here, and of them only single lines are
-//! read so far: the words of a line, and the row or the beginning of a section that they spell.
+//! format is this project's own choice). They are defined here. So far single lines are read: their
+//! words, and the row or the beginning of a section that they spell; and rows become numbers and
+//! addresses of names, drafts and words of the ROM. What reads a whole text is missing.
 #![tactic(auto)]
 
 mod drafting;
