@@ -4,7 +4,7 @@ use Rattle.std.proofs.lemmas.List.{drop_more}
 use Rattle.dvg_gen.specs.declared.stroke.Stroke.{Stroke}
 use Rattle.dvg_lines.specs.Shows.{stroke_line}
 
--- the stroke that stands for one behind the end of a list
+-- the stroke that stands for one after the end of a list
 abbrev pub no_stroke : Stroke
 no_stroke = record { x0 = 0; y0 = 0; x1 = 0; y1 = 0; z = 0 }
 

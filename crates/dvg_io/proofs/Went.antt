@@ -1,7 +1,8 @@
 -- How far a text has gone out.
 use Rattle.std.proofs.Common.{◌≡◌, ℕ, List, [], ◌++◌, Option, OnErr, Result, Ok, Err, refl, sym, ap, ◌∙◌, subst, append_assoc, append-nil}
 use Rattle.std.specs.Io.KnownBytes.{Appends}
-use Rattle.dvg_io.specs.Watching.{BeginsToWrite}
+use Rattle.dvg_io.specs.declared.watched.Watched.{Watched}
+use Rattle.dvg_io.specs.Watching.{BeginsToWrite, Writes, device_of, failures_of, one_more}
 use Rattle.dvg_io.proofs.Known.{Appends-nil, Appends-trans}
 
 -- the text went out but for this rest
@@ -35,7 +36,7 @@ piece_begun {old = old} {now = now} {new = new} piece later went is begun = reco
 pub all_of_it : {text rest : List ℕ} {old now : Option (List ℕ)} → Went text rest old now → rest ≡ [] → Appends old now text
 all_of_it {old = old} {now = now} went none = subst (Appends old now) (sym (went.parts ∙ ap (λ l. went.done ++ l) none ∙ append-nil went.done)) went.wrote
 
--- one text behind another, of which both went out, or a beginning of the second
+-- one text after another, of which both went out, or a beginning of the second
 pub both : (first second : List ℕ) (old now new : Option (List ℕ)) → Appends old now first → Appends now new second → Appends old new (first ++ second)
 both first second old now new one other = Appends-trans old now new first second one other
 
@@ -51,3 +52,25 @@ pub or_second_begun : {V E : Type 0} (first second : List ℕ) (old now new : Op
     → OnErr answer (BeginsToWrite (first ++ second) old new)
 or_second_begun first second old now new (Ok done) wrote begun = tt
 or_second_begun first second old now new (Err fault) wrote begun = second_begun first second wrote begun
+
+-- a text that went out whole, and nothing failed
+abbrev pub Wrote : {W : Type 0} → (contents : W → Option (List ℕ)) → (text : List ℕ) → (old new : Watched W) → Type 0
+Wrote contents text old new =
+    Appends (contents (device_of old)) (contents (device_of new)) text × (failures_of new ≡ failures_of old)
+
+-- a text of which a beginning went out, with one failure more
+abbrev pub BrokeOff : {W : Type 0} → (contents : W → Option (List ℕ)) → (text : List ℕ) → (old new : Watched W) → Type 0
+BrokeOff contents text old new =
+    BeginsToWrite text (contents (device_of old)) (contents (device_of new)) × (failures_of new ≡ one_more (failures_of old))
+
+module _ {W : Type 0} (contents : W → Option (List ℕ)) (first second : List ℕ) where
+  -- the first of two texts broke off
+  pub writes_first : (old new : Watched W) → BrokeOff contents first old new → BrokeOff contents (first ++ second) old new
+  writes_first old new broke = (first_begun second broke.0, broke.1)
+
+  -- the first went out, and then the second is written
+  pub writes_second : {V E : Type 0} (answer : Result V E) (old now new : Watched W) → Wrote contents first old now
+      → Writes contents second answer now new → Writes contents (first ++ second) answer old new
+  writes_second (Ok done) old now new wrote more = (both first second _ _ _ wrote.0 more.0, more.1 ∙ wrote.1)
+  writes_second (Err fault) old now new wrote more =
+      (second_begun first second wrote.0 more.0, more.1 ∙ ap one_more wrote.1)

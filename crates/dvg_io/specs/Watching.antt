@@ -19,7 +19,8 @@ one_more count = min (count + 1) (2 ^ 32 - 1)
 abbrev pub CountsErrors : {V E : Type 0} → Result V E → ℕ → ℕ → Type 0
 CountsErrors answer old new = MatchResult answer (λ _. new ≡ old) (λ _. new ≡ one_more old)
 
--- of the bytes that a reader is known to have left, some at its front were taken, no more than this many
+-- of the bytes that a reader is known to have left, some at its front were taken, no more than this
+-- many
 abbrev pub TakesAtMost : ℕ → Option (List ℕ) → Option (List ℕ) → Type 0
 TakesAtMost most old new = (taken : List ℕ) × (length taken ≤ most) × Consumes old new taken
 
@@ -29,3 +30,12 @@ pub record BeginsToWrite (text : List ℕ) (old new : Option (List ℕ)) : Type 
   pub rest : List ℕ
   pub parts : text ≡ front ++ rest
   pub wrote : Appends old new front
+
+-- the text went out, or a beginning of it with one failure more
+abbrev pub Writes : {W V E : Type 0} → (contents : W → Option (List ℕ)) → (text : List ℕ)
+    → Result V E → (old new : Watched W) → Type 0
+Writes contents text answer old new = MatchResult answer
+    (λ _. Appends (contents (device_of old)) (contents (device_of new)) text
+    × (failures_of new ≡ failures_of old))
+    (λ _. BeginsToWrite text (contents (device_of old)) (contents (device_of new))
+    × (failures_of new ≡ one_more (failures_of old)))

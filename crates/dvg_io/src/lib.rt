@@ -1,12 +1,14 @@
-//! Readers and writers whose failures are counted, whole reads and writes through them, and why an engine stops: what all
-//! engines of the program `dvg` stand on.
+//! Readers and writers whose failures are counted, whole reads and writes through them, and why an
+//! engine stops: what all engines of the program `dvg` stand on.
 #![tactic(auto)]
 
+mod engine;
 mod fault;
 mod strokes;
 mod transfer;
 mod watched;
 
+pub use engine::{Engine, serve};
 pub use fault::ToolFault;
 pub use strokes::write_strokes;
 pub use transfer::{collect_words, read_up_to, write_whole};

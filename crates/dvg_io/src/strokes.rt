@@ -1,8 +1,7 @@
 //! Strokes that are written.
-ghost use Rattle.std.specs.Prelude.{flat_map, OnErr, OnOk};
-ghost use Rattle.std.specs.Io.KnownBytes.{Appends};
+ghost use Rattle.std.specs.Prelude.{flat_map};
 ghost use Rattle.dvg_lines.specs.Shows.{stroke_line};
-ghost use Rattle.dvg_io.specs.Watching.{BeginsToWrite, CountsErrors, device_of, failures_of};
+ghost use Rattle.dvg_io.specs.Watching.{Writes};
 
 use crate::transfer::write_whole;
 use crate::watched::{DeviceFailed, Watched};
@@ -16,9 +15,7 @@ pub fn write_strokes<W: Write>(
     strokes: &[Stroke],
     writer: &mut Watched<W>,
 ) -> Result<(), DeviceFailed>
-    ensures ok { OnOk result (Appends (W.contents (device_of writer.old)) (W.contents (device_of writer.new)) (flat_map stroke_line strokes.now)) }
-    ensures err { OnErr result (BeginsToWrite (flat_map stroke_line strokes.now) (W.contents (device_of writer.old)) (W.contents (device_of writer.new))) }
-    ensures counts { CountsErrors result (failures_of writer.old) (failures_of writer.new) }
+    ensures { Writes W.contents (flat_map stroke_line strokes.now) result writer.old writer.new }
 {
     for stroke in strokes {
         line.become_stroke(*stroke);

@@ -1,8 +1,7 @@
 //! Whole reads and writes through watched devices.
-ghost use Rattle.std.specs.Prelude.{◌≡◌, ◌⊎◌, ◌↔◌, ◌+◌, ◌^◌, ◌<◌, ◌≤◌, ◌%◌, length, take, vec_len, IfOk, IfErr, IfSome, OnOk, OnErr, IsErrOf};
-ghost use Rattle.std.specs.Io.KnownBytes.{Appends};
+ghost use Rattle.std.specs.Prelude.{◌≡◌, ◌⊎◌, ◌↔◌, ◌+◌, ◌^◌, ◌<◌, ◌≤◌, ◌%◌, length, take, vec_len, IfOk, IfErr, IfSome, IsErrOf};
 ghost use Rattle.dvg_code.specs.Words.{words_of};
-ghost use Rattle.dvg_io.specs.Watching.{BeginsToWrite, CountsErrors, TakesAtMost, device_of, failures_of};
+ghost use Rattle.dvg_io.specs.Watching.{TakesAtMost, Writes, device_of, failures_of};
 
 use crate::fault::ToolFault;
 use crate::watched::{DeviceFailed, Watched};
@@ -21,9 +20,11 @@ pub fn read_up_to<A: Allocator, R: Read>(
 ) -> Result<Vec<u8, A>, ToolFault>
     requires most { most < 2 ^ 32 }
     requires fresh { failures_of reader.old ≡ 0 }
-    ensures bytes { IfOk result (λ read. IfSome (R.remaining (device_of reader.old)) (λ input. read.items ≡ take (most + 1) input)) }
+    ensures bytes { IfOk result (λ read. IfSome (R.remaining (device_of reader.old)) (λ input.
+        read.items ≡ take (most + 1) input)) }
     ensures short { IfOk result (λ read. vec_len read ≤ most + 1) }
-    ensures took { TakesAtMost (most + 1) (R.remaining (device_of reader.old)) (R.remaining (device_of reader.new)) }
+    ensures took { TakesAtMost (most + 1)
+        (R.remaining (device_of reader.old)) (R.remaining (device_of reader.new)) }
     ensures fault { IfErr result (λ fault. (fault ≡ ToolFault.Reader) ⊎ (fault ≡ ToolFault.Memory)) }
     ensures reader { IsErrOf result ToolFault.Reader ↔ (failures_of reader.new ≡ 1) }
     ensures stops { failures_of reader.new ≤ 1 }
@@ -57,12 +58,10 @@ pub fn collect_words<A: Allocator>(alloc: A, bytes: &[u8]) -> Result<Vec<u16, A>
     Ok(words)
 }
 
-/// Writes the whole of a text, by as many writes as it takes. After a failure a beginning of it went
-/// out.
+/// Writes the whole of a text, by as many writes as it takes. After a failure a beginning of it
+/// went out.
 pub fn write_whole<W: Write>(writer: &mut Watched<W>, text: &[u8]) -> Result<(), DeviceFailed>
-    ensures ok { OnOk result (Appends (W.contents (device_of writer.old)) (W.contents (device_of writer.new)) text.now) }
-    ensures err { OnErr result (BeginsToWrite text.now (W.contents (device_of writer.old)) (W.contents (device_of writer.new))) }
-    ensures counts { CountsErrors result (failures_of writer.old) (failures_of writer.new) }
+    ensures { Writes W.contents text.now result writer.old writer.new }
 {
     let mut rest = text;
     while !rest.is_empty() {

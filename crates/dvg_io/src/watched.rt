@@ -13,8 +13,8 @@ use thiserror::Error;
 pub struct DeviceFailed;
 
 /// A reader or writer behind calls that count its failures. A failure is an error that it answers,
-/// and a write that takes nothing of a part that isn't empty; an interrupted call is an error like any
-/// other. It is no `Read` or `Write` itself, so that no call goes past the count.
+/// and a write that takes nothing of a part that isn't empty; an interrupted call is an error like
+/// any other. It is no `Read` or `Write` itself, so that no call goes past the count.
 #[derive(Drop)]
 pub struct Watched<T> {
     device: T,
@@ -58,11 +58,12 @@ impl<T> Watched<T> {
 }
 
 impl<R: Read> Watched<R> {
-    /// One read into `buf`, which answers how many bytes it gave. At an error no byte was taken, and the
-    /// failure is counted.
+    /// One read into `buf`, which answers how many bytes it gave. At an error no byte was taken,
+    /// and the failure is counted.
     pub fn read(&mut self, buf: &mut [u8]) -> Result<usize, DeviceFailed>
         ensures bound { ReadsAtMost result buf.new }
-        ensures bytes { ReadConsumes (R.remaining (device_of self.old)) (R.remaining (device_of self.new)) result buf.new }
+        ensures bytes { ReadConsumes (R.remaining (device_of self.old)) (R.remaining (device_of self.new))
+            result buf.new }
         ensures counts { CountsErrors result (failures_of self.old) (failures_of self.new) }
     {
         match self.device.read(buf) {
@@ -73,11 +74,12 @@ impl<R: Read> Watched<R> {
 }
 
 impl<W: Write> Watched<W> {
-    /// One write of a part of a text, which answers how many bytes were taken. At an error no byte went
-    /// out, and the failure is counted.
+    /// One write of a part of a text, which answers how many bytes were taken. At an error no byte
+    /// went out, and the failure is counted.
     pub fn write(&mut self, part: &[u8]) -> Result<usize, DeviceFailed>
         ensures bound { WritesAtMost result part.now }
-        ensures bytes { WriteAppends (W.contents (device_of self.old)) (W.contents (device_of self.new)) result part.now }
+        ensures bytes { WriteAppends (W.contents (device_of self.old)) (W.contents (device_of self.new))
+            result part.now }
         ensures some { IfOk result (λ count. 0 < length part.now → 0 < count) }
         ensures counts { CountsErrors result (failures_of self.old) (failures_of self.new) }
     {

@@ -1,19 +1,22 @@
 -- From the run that is told to what is shown of the input.
-use Rattle.std.proofs.Common.{◌≡◌, ℕ, ◌+◌, ◌<◌, ◌≤◌, List, ◌++◌, inl, inr, Bool, Option, None, Some, IfSome, Result, Ok, Err, length, take, take_all, drop, get_or, flat_map, ap, sym, ◌∙◌, subst, arith}
+use Rattle.std.proofs.Common.{◌≡◌, ℕ, ◌+◌, ◌<◌, ◌≤◌, List, ◌++◌, inl, inr, Bool, Option, Result, Ok, Err, IfOk, IfErr, length, take, take_all, drop, get_or, flat_map, ap, sym, ◌∙◌, subst, arith}
 use Rattle.std.proofs.lemmas.List.{drop_more}
 use Rattle.std.specs.Io.KnownBytes.{Appends}
+use Rattle.dvg_text.specs.declared.fault.TextFault.{TextFault}
 use Rattle.dvg_text.specs.declared.fault.TextFault.TheVariants.{DumpSize}
 use Rattle.dvg_io.specs.declared.fault.ToolFault.{ToolFault}
 use Rattle.dvg_io.specs.declared.fault.ToolFault.TheVariants.{Text, Reader, Writer, Memory}
 use Rattle.dvg_io.specs.Watching.{BeginsToWrite}
-use Rattle.dvg_io.proofs.Inputs.{Read, whole}
+use Rattle.dvg_io.specs.Serving.{Answers, IsFinding, OfInput}
+use Rattle.dvg_io.proofs.Inputs.{whole}
 use Rattle.dvg_dump.specs.declared.ending.Outcome.{Outcome}
 use Rattle.dvg_dump.specs.declared.ran.Ran.{Ran}
-use Rattle.dvg_dump.specs.Endings.{outcome_of}
+use Rattle.dvg_dump.specs.declared.runs.Traced.{Traced}
+use Rattle.dvg_dump.specs.Endings.{end_of, outcome_of}
 use Rattle.dvg_dump.specs.Ends.{End}
 use Rattle.dvg_dump.specs.Memory.{HasDumpSize}
-use Rattle.dvg_picture.specs.Pictures.{IsDumpFault, IsRunOf, Pictures, ShowsRun}
-use Rattle.dvg_picture.specs.Texts.{end_text, ran_text}
+use Rattle.dvg_picture.specs.Pictures.{HasDumpFault, IsDumpFault, IsRunOf, Pictures, ShowsRun}
+use Rattle.dvg_picture.specs.Texts.{ran_text, run_text}
 
 -- the next instruction is that at this index
 pub next_ran : (trace : List Ran) (i : ℕ) (ran : Ran) → i < length trace → ran ≡ get_or trace i ran
@@ -30,39 +33,44 @@ pub wrong_size : (input read : List ℕ) → read ≡ take 6145 input → ¬ Has
 wrong_size input read e h = λ size. let few = short input size in h (subst HasDumpSize (sym (e ∙ take_all 6145 input (omega arith))) size)
 
 -- the fault of what was read is that of the input
-stopped_by : (all : Bool) (fault : ToolFault) (known old new : Option (List ℕ)) (read : List ℕ) → Read 6144 known read → IsDumpFault read fault
-    → IfSome known (λ input. Pictures all (Err fault) input old new)
-stopped_by all fault None old new read e h = tt
-stopped_by all (Text DumpSize) (Some input) old new read e h = wrong_size input read e h
-stopped_by all (Text _) (Some input) old new read e h = absurd h
-stopped_by all Reader (Some input) old new read e h = absurd h
-stopped_by all Writer (Some input) old new read e h = absurd h
-stopped_by all Memory (Some input) old new read e h = tt
+pub faulted : (fault : TextFault) (input read : List ℕ) → read ≡ take 6145 input → HasDumpFault read fault → HasDumpFault input fault
+faulted DumpSize input read e h = wrong_size input read e h
+faulted _ input read e h = absurd h
 
-pub stopped : (all : Bool) (answer : Result Outcome ToolFault) (fault : ToolFault) (known old new : Option (List ℕ)) (read : List ℕ) → answer ≡ Err fault → Read 6144 known read → IsDumpFault read fault
-    → IfSome known (λ input. Pictures all answer input old new)
-stopped all answer fault known old new read is e h = subst (λ answer. IfSome known (λ input. Pictures all answer input old new)) (sym is) (stopped_by all fault known old new read e h)
+-- the run over what was read is that over the input
+pub run_of : (all : Bool) (input read : List ℕ) (ran : List Ran) (end : End) → read ≡ take 6145 input → IsRunOf all read ran end → IsRunOf all input ran end
+run_of all input read ran end e run = subst (λ dump. IsRunOf all dump ran end) (whole 6144 read input e (short read run.0)) run
 
--- the run that is told is shown
-shows : (all : Bool) (input read : List ℕ) (ran : List Ran) (end : End) (Holds : End → List ℕ → Type 0) → read ≡ take 6145 input → IsRunOf all read ran end
-    → Holds end (flat_map ran_text ran ++ end_text end) → ShowsRun all input Holds
-shows all input read ran end Holds e run holds =
-    let same : read ≡ input = whole 6144 read input e (short read run.0) in
-    let here = subst (λ dump. IsRunOf all dump ran end) same run in
-    record {
-      size = here.0;
-      visits = here.1.0;
-      end = end;
-      ends = here.1.1;
-      holds = subst (λ told. Holds end (flat_map ran_text told ++ end_text end)) here.1.2 holds;
-    }
+-- what is found of what was read is found of the input
+pub finds : {A : Type 0} (all : Bool) (read : List ℕ) (answer : Result (Traced A) ToolFault)
+    → IfOk answer (λ run. IsRunOf all read run.ran.items (end_of run.ending)) → IfErr answer (IsDumpFault read)
+    → OfInput 6144 read (λ input. IsFinding (λ run. IsRunOf all input run.ran.items (end_of run.ending)) (HasDumpFault input) answer)
+finds all read (Ok run) ok err input e = run_of all input read run.ran.items (end_of run.ending) e ok
+finds all read (Err (Text fault)) ok err input e = faulted fault input read e err
+finds all read (Err Memory) ok err input e = tt
+finds all read (Err Reader) ok err input e = absurd err
+finds all read (Err Writer) ok err input e = absurd err
 
-pub drew : (all : Bool) (known old new : Option (List ℕ)) (read : List ℕ) (ran : List Ran) (end : End) (outcome : Outcome) → Read 6144 known read → IsRunOf all read ran end → outcome ≡ outcome_of end
-    → Appends old new (flat_map ran_text ran ++ end_text end) → IfSome known (λ input. Pictures all (Ok outcome) input old new)
-drew all None old new read ran end outcome e run called wrote = tt
-drew all (Some input) old new read ran end outcome e run called wrote = shows all input read ran end (λ end text. (outcome ≡ outcome_of end) × Appends old new text) e run (called, wrote)
+-- a run is shown
+shows : (all : Bool) (input : List ℕ) (ran : List Ran) (end : End) (Holds : End → List ℕ → Type 0) → IsRunOf all input ran end
+    → Holds end (run_text ran end) → ShowsRun all input Holds
+shows all input ran end Holds run holds = record {
+  size = run.0;
+  visits = run.1.0;
+  end = end;
+  ends = run.1.1;
+  holds = subst (λ told. Holds end (run_text told end)) run.1.2 holds;
+}
 
-pub broken_off : (all : Bool) (known old new : Option (List ℕ)) (read : List ℕ) (ran : List Ran) (end : End) → Read 6144 known read → IsRunOf all read ran end
-    → BeginsToWrite (flat_map ran_text ran ++ end_text end) old new → IfSome known (λ input. Pictures all (Err Writer) input old new)
-broken_off all None old new read ran end e run begun = tt
-broken_off all (Some input) old new read ran end e run begun = shows all input read ran end (λ end text. BeginsToWrite text old new) e run begun
+pub drew : (all : Bool) (outcome : Outcome) (ran : List Ran) (end : End) (old new : Option (List ℕ)) (input : List ℕ) → outcome ≡ outcome_of end
+    → IsRunOf all input ran end × Appends old new (run_text ran end) → Pictures all (Ok outcome) input old new
+drew all outcome ran end old new input called run = shows all input ran end (λ end text. (outcome ≡ outcome_of end) × Appends old new text) run.0 (called, run.1)
+
+-- where it stops
+pub stops : (A : Type 0) (all : Bool) (fault : ToolFault) (old new : Option (List ℕ)) (input : List ℕ)
+    → Answers {F = Traced A} (λ input run. IsRunOf all input run.ran.items (end_of run.ending)) HasDumpFault (λ run. run_text run.ran.items (end_of run.ending)) (Err fault) input old new
+    → Pictures all (Err fault) input old new
+stops A all (Text fault) old new input h = h
+stops A all Reader old new input h = tt
+stops A all Memory old new input h = tt
+stops A all Writer old new input (run, found, begun) = shows all input run.ran.items (end_of run.ending) (λ end text. BeginsToWrite text old new) found begun

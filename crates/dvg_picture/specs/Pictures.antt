@@ -2,6 +2,7 @@
 use Rattle.std.specs.Prelude.{◌≡◌, ℕ, List, Bool, Option, Result, Ok, Err}
 use Rattle.std.specs.Io.KnownBytes.{Appends}
 use Rattle.dvg_gen.specs.Run.{Visit}
+use Rattle.dvg_text.specs.declared.fault.TextFault.{TextFault}
 use Rattle.dvg_text.specs.declared.fault.TextFault.TheVariants.{DumpSize}
 use Rattle.dvg_io.specs.declared.fault.ToolFault.{ToolFault}
 use Rattle.dvg_io.specs.declared.fault.ToolFault.TheVariants.{Text, Writer, Memory}
@@ -14,7 +15,8 @@ use Rattle.dvg_dump.specs.Following.{TellsRun}
 use Rattle.dvg_dump.specs.Memory.{HasDumpSize, memory_of, parts_of}
 use Rattle.dvg_picture.specs.Texts.{picture_text}
 
--- the input is a dump, whose run ends so, and this holds of that end and of the text that is shown of the run
+-- the input is a dump, whose run ends so, and this holds of that end and of the text that is shown
+-- of the run
 pub record ShowsRun (all : Bool) (input : List ℕ) (Holds : End → List ℕ → Type 0) : Type 0 where
   pub size : HasDumpSize input
   pub visits : List Visit
@@ -22,11 +24,16 @@ pub record ShowsRun (all : Bool) (input : List ℕ) (Holds : End → List ℕ �
   pub ends : Ends (memory_of (parts_of input)) visits end
   pub holds : Holds end (picture_text all (memory_of (parts_of input)) visits end)
 
--- what `picture` answers of an input, and what went out: the text, or at `Writer` a beginning of it (that nothing went out at the other faults is a clause of its own)
+-- the fault of an input that isn't a dump: its size
+abbrev pub HasDumpFault : List ℕ → TextFault → Type 0
+HasDumpFault input DumpSize = ¬ HasDumpSize input
+HasDumpFault input _ = ⊥
+
+-- what `picture` answers of an input, and what went out: the text, or at `Writer` a beginning of it
+-- (that nothing went out at the other faults is a part of `Serves`)
 abbrev pub Pictures : Bool → Result Outcome ToolFault → (input : List ℕ) → Option (List ℕ) → Option (List ℕ) → Type 0
 Pictures all (Ok outcome) input old new = ShowsRun all input (λ end text. (outcome ≡ outcome_of end) × Appends old new text)
-Pictures all (Err (Text DumpSize)) input old new = ¬ HasDumpSize input
-Pictures all (Err (Text _)) input old new = ⊥
+Pictures all (Err (Text fault)) input old new = HasDumpFault input fault
 Pictures all (Err Writer) input old new = ShowsRun all input (λ end text. BeginsToWrite text old new)
 Pictures all _ input old new = Unit {0}
 
@@ -34,8 +41,9 @@ Pictures all _ input old new = Unit {0}
 abbrev pub IsRunOf : Bool → List ℕ → List Ran → End → Type 0
 IsRunOf traces dump ran end = HasDumpSize dump × TellsRun traces (memory_of (parts_of dump)) ran end
 
--- a fault at which no run is told: that of the size, or want of memory for a dump of a right size (for a private contract)
+-- a fault at which no run is told: that of the size, or want of memory for a dump of a right size
+-- (for a private contract)
 abbrev pub IsDumpFault : List ℕ → ToolFault → Type 0
-IsDumpFault dump (Text DumpSize) = ¬ HasDumpSize dump
+IsDumpFault dump (Text fault) = HasDumpFault dump fault
 IsDumpFault dump Memory = HasDumpSize dump
 IsDumpFault dump _ = ⊥

@@ -1,13 +1,14 @@
 //! The engine `picture`.
-ghost use Rattle.std.specs.Prelude.{◌≡◌, ◌↔◌, ◌≤◌, IfErr, IfOk, IfSome, IsErrOf};
+ghost use Rattle.std.specs.Prelude.{IfErr, IfOk};
 ghost use Rattle.dvg_dump.specs.Endings.{end_of};
 ghost use Rattle.dvg_io.specs.Faults.{StopsBeforeWriting};
-ghost use Rattle.dvg_io.specs.Watching.{TakesAtMost, device_of, failures_of};
-ghost use Rattle.dvg_picture.specs.Pictures.{IsDumpFault, IsRunOf, Pictures};
+ghost use Rattle.dvg_io.specs.Serving.{AreFresh, Serves};
+ghost use Rattle.dvg_picture.specs.Pictures.{HasDumpFault, IsDumpFault, IsRunOf, Pictures};
+ghost use Rattle.dvg_picture.specs.Texts.{run_text};
 
 use crate::writes::write_run;
 use dvg_dump::{Dump, DumpFault, LARGE_DUMP_BYTES, Outcome, Traced};
-use dvg_io::{ToolFault, Watched, read_up_to};
+use dvg_io::{DeviceFailed, Engine, ToolFault, Watched, serve};
 use dvg_text::TextFault;
 use std::alloc::Allocator;
 use std::io::{Read, Write};
@@ -32,13 +33,50 @@ fn run_dump<A: Allocator + Copy>(
     Ok(run)
 }
 
-/// Reads a dump of vector memory, 2,048 bytes of RAM and then 2,048 or 4,096 of ROM, starts a new generator once over it,
-/// which doesn't change, and writes how that ends: `picture` with the numbers of words that were fetched and of
-/// strokes, and a line for each stroke; `broke` with the address of the fetch and the fault's number; or `endless`, where
-/// there is neither within 65,536 words. With `all` it first writes a line for each instruction that was run, with the beam after it,
-/// and behind it that of its stroke (the texts are this project's own choice). It answers which of the three it was.
+// The engine: of a dump it finds how its run ends.
+#[derive(Drop)]
+struct PictureEngine {
+    // Whether it finds the instructions, too.
+    all: bool,
+}
+
+impl<A: Allocator + Copy> Engine<A> for PictureEngine {
+    type Found = Traced<A>;
+
+    const MOST: u32 = LARGE_DUMP_BYTES as u32;
+
+    ghost MOST = { 6144 };
+
+    ghost Finds = { λ engine input run.
+        IsRunOf engine.all input run.ran.items (end_of run.ending) };
+
+    ghost HasFault = { λ engine. HasDumpFault };
+
+    ghost text = { λ engine run. run_text run.ran.items (end_of run.ending) };
+
+    fn find(&self, alloc: A, read: &[u8]) -> Result<Traced<A>, ToolFault> {
+        run_dump(alloc, read, self.all)
+    }
+
+    fn write<W: Write>(
+        &self,
+        run: &Traced<A>,
+        writer: &mut Watched<W>,
+    ) -> Result<(), DeviceFailed> {
+        write_run(run, writer)
+    }
+}
+
+/// Reads a dump of vector memory, 2,048 bytes of RAM and then 2,048 or 4,096 of ROM, starts a new
+/// generator once over it, which doesn't change, and writes how that ends: `picture` with the
+/// numbers of words that were fetched and of strokes, and a line for each stroke; `broke` with the
+/// address of the fetch and the fault's number; or `endless`, where there is neither within 65,536
+/// words. With `all` it first writes a line for each instruction that was run, with the beam after
+/// it, and after it that of its stroke (the texts are this project's own choice). It answers which
+/// of the three it was.
 ///
-/// - `DumpSize`: the input has neither 4,096 bytes nor 6,144, of which no more than 6,145 are taken.
+/// - `DumpSize`: the input has neither 4,096 bytes nor 6,144, of which no more than 6,145 are
+///   taken.
 /// - `Reader`, `Writer`: that device failed. After `Writer` a beginning of the text went out.
 /// - `Memory`: a growth was refused.
 ///
@@ -50,26 +88,10 @@ pub fn picture<A: Allocator + Copy, R: Read, W: Write>(
     writer: &mut Watched<W>,
     all: bool,
 ) -> Result<Outcome, ToolFault>
-    requires fresh_reader { failures_of reader.old ≡ 0 }
-    requires fresh_writer { failures_of writer.old ≡ 0 }
-
-    // Of a reader that tells its bytes: what is answered and what went out, when the fault of the text comes, what was taken.
-    ensures pictures { IfSome (R.remaining (device_of reader.old)) (λ input.
-        Pictures all result input (W.contents (device_of writer.old)) (W.contents (device_of writer.new))) }
-    ensures took { TakesAtMost 6145 (R.remaining (device_of reader.old)) (R.remaining (device_of reader.new)) }
-
-    // Whatever the reader and the writer are.
-    ensures unwritten { IfErr result (λ fault. StopsBeforeWriting fault → writer.new ≡ writer.old) }
-    ensures reader { IsErrOf result ToolFault.Reader ↔ (failures_of reader.new ≡ 1) }
-    ensures writer { IsErrOf result ToolFault.Writer ↔ (failures_of writer.new ≡ 1) }
-    ensures stops { (failures_of reader.new ≤ 1) × (failures_of writer.new ≤ 1) }
+    requires fresh { AreFresh reader.old writer.old }
+    ensures { Serves R.remaining W.contents 6145 StopsBeforeWriting (Pictures all)
+        result reader.old reader.new writer.old writer.new }
 {
-    let run = {
-        let bytes = read_up_to(alloc, reader, LARGE_DUMP_BYTES)?;
-        run_dump(alloc, bytes.as_slice(), all)?
-    };
-    if write_run(&run, writer).is_err() {
-        return Err(ToolFault::Writer);
-    }
+    let run = serve(&PictureEngine { all }, alloc, reader, writer)?;
     Ok(run.ending.outcome())
 }

@@ -1,10 +1,9 @@
 //! What is written of a run.
-ghost use Rattle.std.specs.Prelude.{◌++◌, flat_map, OnErr, OnOk};
-ghost use Rattle.std.specs.Io.KnownBytes.{Appends};
+ghost use Rattle.std.specs.Prelude.{◌++◌, flat_map};
 ghost use Rattle.dvg_dump.specs.Endings.{end_of};
-ghost use Rattle.dvg_io.specs.Watching.{BeginsToWrite, CountsErrors, device_of, failures_of};
+ghost use Rattle.dvg_io.specs.Watching.{Writes};
 ghost use Rattle.dvg_lines.specs.Shows.{stroke_line};
-ghost use Rattle.dvg_picture.specs.Texts.{end_text, ran_text};
+ghost use Rattle.dvg_picture.specs.Texts.{end_text, ran_text, run_text};
 
 use dvg_dump::{Ending, Ran, Traced};
 use dvg_gen::Stroke;
@@ -13,15 +12,14 @@ use dvg_lines::Line;
 use std::alloc::Allocator;
 use std::io::Write;
 
-// Writes the line, and behind it those of strokes, which are made in its place.
+// Writes the line, and after it those of strokes, which are made in its place.
 fn write_with_strokes<W: Write>(
     line: &mut Line,
     strokes: &[Stroke],
     writer: &mut Watched<W>,
 ) -> Result<(), DeviceFailed>
-    ensures ok { OnOk result (Appends (W.contents (device_of writer.old)) (W.contents (device_of writer.new)) (line.old ++ flat_map stroke_line strokes.now)) }
-    ensures err { OnErr result (BeginsToWrite (line.old ++ flat_map stroke_line strokes.now) (W.contents (device_of writer.old)) (W.contents (device_of writer.new))) }
-    ensures counts { CountsErrors result (failures_of writer.old) (failures_of writer.new) }
+    ensures { Writes W.contents (line.old ++ flat_map stroke_line strokes.now)
+        result writer.old writer.new }
 {
     write_whole(writer, line.as_bytes())?;
     write_strokes(line, strokes, writer)
@@ -33,9 +31,7 @@ fn write_ran<W: Write>(
     ran: &Ran,
     writer: &mut Watched<W>,
 ) -> Result<(), DeviceFailed>
-    ensures ok { OnOk result (Appends (W.contents (device_of writer.old)) (W.contents (device_of writer.new)) (ran_text ran.now)) }
-    ensures err { OnErr result (BeginsToWrite (ran_text ran.now) (W.contents (device_of writer.old)) (W.contents (device_of writer.new))) }
-    ensures counts { CountsErrors result (failures_of writer.old) (failures_of writer.new) }
+    ensures { Writes W.contents (ran_text ran.now) result writer.old writer.new }
 {
     line.become_instruction(ran.address, &ran.code, ran.canonical, &ran.beam);
     write_with_strokes(line, ran.stroke.as_slice(), writer)
@@ -47,9 +43,7 @@ fn write_trace<W: Write>(
     trace: &[Ran],
     writer: &mut Watched<W>,
 ) -> Result<(), DeviceFailed>
-    ensures ok { OnOk result (Appends (W.contents (device_of writer.old)) (W.contents (device_of writer.new)) (flat_map ran_text trace.now)) }
-    ensures err { OnErr result (BeginsToWrite (flat_map ran_text trace.now) (W.contents (device_of writer.old)) (W.contents (device_of writer.new))) }
-    ensures counts { CountsErrors result (failures_of writer.old) (failures_of writer.new) }
+    ensures { Writes W.contents (flat_map ran_text trace.now) result writer.old writer.new }
 {
     for ran in trace {
         write_ran(line, ran, writer)?;
@@ -63,9 +57,7 @@ fn write_end<A: Allocator, W: Write>(
     ending: &Ending<A>,
     writer: &mut Watched<W>,
 ) -> Result<(), DeviceFailed>
-    ensures ok { OnOk result (Appends (W.contents (device_of writer.old)) (W.contents (device_of writer.new)) (end_text (end_of ending.now))) }
-    ensures err { OnErr result (BeginsToWrite (end_text (end_of ending.now)) (W.contents (device_of writer.old)) (W.contents (device_of writer.new))) }
-    ensures counts { CountsErrors result (failures_of writer.old) (failures_of writer.new) }
+    ensures { Writes W.contents (end_text (end_of ending.now)) result writer.old writer.new }
 {
     match ending {
         Ending::Finished { words, strokes } => {
@@ -88,9 +80,8 @@ pub(crate) fn write_run<A: Allocator, W: Write>(
     run: &Traced<A>,
     writer: &mut Watched<W>,
 ) -> Result<(), DeviceFailed>
-    ensures ok { OnOk result (Appends (W.contents (device_of writer.old)) (W.contents (device_of writer.new)) (flat_map ran_text run.now.ran.items ++ end_text (end_of run.now.ending))) }
-    ensures err { OnErr result (BeginsToWrite (flat_map ran_text run.now.ran.items ++ end_text (end_of run.now.ending)) (W.contents (device_of writer.old)) (W.contents (device_of writer.new))) }
-    ensures counts { CountsErrors result (failures_of writer.old) (failures_of writer.new) }
+    ensures { Writes W.contents (run_text run.now.ran.items (end_of run.now.ending))
+        result writer.old writer.new }
 {
     let mut line = Line::new();
     write_trace(&mut line, run.ran.as_slice(), writer)?;

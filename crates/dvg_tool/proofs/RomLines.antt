@@ -1,46 +1,53 @@
 -- How far the lines of a ROM have come.
-use Rattle.std.proofs.Common.{◌≡◌, ℕ, ◌+◌, ◌*◌, ◌≤◌, List, [], ◌∷◌, ◌++◌, Option, Result, Ok, Err, length, take, drop, refl, sym, ap, subst, codes, ◌∙◌, arith, length-drop, inl, inr, ◌%◌}
-use Rattle.std.proofs.lemmas.List.{drop-drop, drop_all}
+use Rattle.std.proofs.Common.{◌≡◌, ℕ, ◌+◌, ◌*◌, ◌≤◌, ◌<◌, ◌≢◌, ◌==◌, if◌then◌else◌, List, [], ◌∷◌, ◌++◌, Option, length, take, drop, refl, sym, ap, subst, codes, ◌∙◌, arith, length-drop, inl, inr, ⊎_elim}
+use Rattle.std.proofs.lemmas.List.{drop-drop}
+use Rattle.std.proofs.lemmas.Bool.Decides.{eqb_tells}
 use Rattle.std.specs.Io.KnownBytes.{Appends}
 use Rattle.dvg_code.specs.Words.{words_of}
 use Rattle.dvg_mem.proofs.Roms.{large_first, small_first}
 use Rattle.dvg_lines.specs.Lines.{map_text, rom_line, rom_lines, rom_text}
-use Rattle.dvg_io.specs.Faults.{WritesText}
-use Rattle.dvg_tool.specs.Roms.{HasRomSize}
-use Rattle.dvg_io.specs.declared.fault.ToolFault.{ToolFault}
-use Rattle.dvg_io.specs.declared.fault.ToolFault.TheVariants.{Writer}
+use Rattle.dvg_tool.specs.Roms.{HasRomSize, words_text}
 use Rattle.dvg_io.specs.Watching.{BeginsToWrite}
 use Rattle.dvg_io.proofs.Inputs.{length-words_of}
-use Rattle.dvg_io.proofs.Went.{Went, all_of_it, both, nothing, piece_begun, piece_more, second_begun}
+use Rattle.dvg_io.proofs.Went.{Went, all_of_it, nothing, piece_begun, piece_more}
+
+-- the text of words by how many they are
+pub small_words : (words : List ℕ) → length words ≡ 1024 → [] ++ rom_lines 0x800 words ≡ words_text words
+small_words words few = sym (ap (λ n. if n == 1024 then rom_lines 0x800 words else (codes "map 4096" ++ 10 ∷ []) ++ rom_lines 0x400 words) few)
+
+pub large_words : (words : List ℕ) → length words ≢ 1024 → (codes "map 4096" ++ 10 ∷ []) ++ rom_lines 0x400 words ≡ words_text words
+large_words words many = ⊎_elim
+    (λ few. absurd (many few.1))
+    (λ other. sym (ap (λ b. if b then rom_lines 0x800 words else (codes "map 4096" ++ 10 ∷ []) ++ rom_lines 0x400 words) other.0))
+    (eqb_tells (length words) 1024)
 
 -- the text of either size
-pub small_text : (R : List ℕ) → length R ≡ 2048 → [] ++ rom_lines 0x800 (words_of R) ≡ rom_text R
+small_text : (R : List ℕ) → length R ≡ 2048 → [] ++ rom_lines 0x800 (words_of R) ≡ rom_text R
 small_text R size =
     let none : map_text R ≡ [] = rw size in
     let first = small_first R size in
     sym (rw (none, first))
 
-pub large_text : (R : List ℕ) → length R ≡ 4096 → (codes "map 4096" ++ 10 ∷ []) ++ rom_lines 0x400 (words_of R) ≡ rom_text R
+large_text : (R : List ℕ) → length R ≡ 4096 → (codes "map 4096" ++ 10 ∷ []) ++ rom_lines 0x400 (words_of R) ≡ rom_text R
 large_text R size =
     let map : map_text R ≡ codes "map 4096" ++ 10 ∷ [] = rw size in
     let first = large_first R size in
     sym (rw (map, first))
 
--- the words of either size make whole rows
-pub whole_rows : (R : List ℕ) → HasRomSize R → length (words_of R) % 8 ≡ 0
-whole_rows R (inl small) = let words = length-words_of R (omega (arith, small)) in omega (arith, small, words)
-whole_rows R (inr large) = let words = length-words_of R (omega (arith, large)) in omega (arith, large, words)
+-- so it is of the words of either size
+pub text_of_words : (R : List ℕ) → HasRomSize R → words_text (words_of R) ≡ rom_text R
+text_of_words R (inl small) =
+    let words = length-words_of R (omega (arith, small)) in
+    let few : length (words_of R) ≡ 1024 = omega (arith, small, words) in
+    sym (small_words (words_of R) few) ∙ small_text R small
+text_of_words R (inr large) =
+    let words = length-words_of R (omega (arith, large)) in
+    sym (large_words (words_of R) (λ few. omega (arith, large, words))) ∙ large_text R large
 
 -- the first line is that of the first eight words
 first_line : (address : ℕ) (words : List ℕ) → 8 ≤ length words → rom_lines address words ≡ rom_line address (take 8 words) ++ rom_lines (address + 8) (drop 8 words)
 first_line address (a ∷ b ∷ c ∷ d ∷ e ∷ f ∷ g ∷ h ∷ words) long = refl
 first_line address words long = absurd (omega arith)
-
--- one text behind another
-pub text_more : {T : Type 0} (answer : Result T ToolFault) (first second : List ℕ) (old now new : Option (List ℕ)) → Appends old now first → WritesText answer second now new → WritesText answer (first ++ second) old new
-text_more (Ok done) first second old now new wrote more = both first second old now new wrote more
-text_more (Err Writer) first second old now new wrote more = second_begun first second wrote more
-text_more (Err _) first second old now new wrote more = more
 
 -- the lines of the words before this row went out
 abbrev pub RowsWritten : (first : ℕ) (words : List ℕ) (row : ℕ) (old now : Option (List ℕ)) → Type 0
@@ -77,6 +84,20 @@ pub row_begun : (first : ℕ) (words line : List ℕ) (row : ℕ) (old now new :
     → line ≡ rom_line (first + row * 8) (take 8 (drop (row * 8) words)) → BeginsToWrite line now new → BeginsToWrite (rom_lines first words) old new
 row_begun first words line row old now new within went is begun = piece_begun line _ went (next_row first words line row within is) begun
 
+-- fewer than eight words have no line
+no_line : (address : ℕ) (words : List ℕ) → length words < 8 → rom_lines address words ≡ []
+no_line address [] few = refl
+no_line address (a ∷ []) few = refl
+no_line address (a ∷ b ∷ []) few = refl
+no_line address (a ∷ b ∷ c ∷ []) few = refl
+no_line address (a ∷ b ∷ c ∷ d ∷ []) few = refl
+no_line address (a ∷ b ∷ c ∷ d ∷ e ∷ []) few = refl
+no_line address (a ∷ b ∷ c ∷ d ∷ e ∷ f ∷ []) few = refl
+no_line address (a ∷ b ∷ c ∷ d ∷ e ∷ f ∷ g ∷ []) few = refl
+no_line address (a ∷ b ∷ c ∷ d ∷ e ∷ f ∷ g ∷ h ∷ words) few = absurd (omega arith)
+
 -- all rows
-pub all_rows : (first : ℕ) (words : List ℕ) (rows : ℕ) (old now : Option (List ℕ)) → length words ≤ rows * 8 → RowsWritten first words rows old now → Appends old now (rom_lines first words)
-all_rows first words rows old now whole went = all_of_it went (ap (rom_lines (first + rows * 8)) (drop_all (rows * 8) words whole))
+pub all_rows : (first : ℕ) (words : List ℕ) (rows : ℕ) (old now : Option (List ℕ)) → length words < rows * 8 + 8 → RowsWritten first words rows old now
+    → Appends old now (rom_lines first words)
+all_rows first words rows old now whole went =
+    all_of_it went (no_line (first + rows * 8) (drop (rows * 8) words) (omega (arith, length-drop (rows * 8) words)))

@@ -1,27 +1,29 @@
 -- From what was read of a trace to what the reader had.
-use Rattle.std.proofs.Common.{◌≡◌, ℕ, List, [], ◌⊎◌, inl, inr, ⊎_elim, Bool, Option, None, Some, IfSome, Result, Ok, Err, length, take, length-take, ap, refl, subst, sym, ◌∙◌, arith}
+use Rattle.std.proofs.Common.{◌≡◌, ℕ, List, [], inl, inr, ⊎_elim, Bool, Option, Result, Ok, Err, IfErr, IfOk, Vec, length, take, drop, length-take, ap, refl, subst, sym, arith}
 use Rattle.std.specs.Io.KnownBytes.{Appends}
+use Rattle.dvg_log.specs.Entries.{OwnEntry}
 use Rattle.dvg_log.specs.Events.{Happening}
-use Rattle.dvg_log.specs.Log.{Log}
+use Rattle.dvg_log.specs.Headline.{KeepsHeadline}
+use Rattle.dvg_log.specs.Legal.{IsLegal}
+use Rattle.dvg_log.specs.Log.{Log, Throughout}
+use Rattle.dvg_world.specs.declared.stopped.Stopped.{Stopped}
+use Rattle.dvg_world.specs.Runs.{IsStop, log_by, log_of}
 use Rattle.dvg_text.specs.declared.fault.TextFault.{TextFault}
 use Rattle.dvg_text.specs.declared.fault.TextFault.TheVariants.{TooLong, Syntax, Full, Many, Unended}
-use Rattle.dvg_io.specs.declared.fault.ToolFault.{ToolFault}
-use Rattle.dvg_io.specs.declared.fault.ToolFault.TheVariants.{Text, Reader, Writer, Memory}
 use Rattle.dvg_text.specs.declared.fault.TraceFault.{TraceFault}
 use Rattle.dvg_text.specs.declared.fault.TraceFault.TheVariants as of_trace
-use Rattle.dvg_io.specs.Faults.{called}
-use Rattle.dvg_tool.specs.Plays.{IsPlayed, Plays, log_text}
-use Rattle.dvg_io.specs.Faults.{StopsWriting, WritesText}
-use Rattle.dvg_text.specs.TraceGives.{StopsReading}
+use Rattle.dvg_text.specs.TraceGives.{GivesTrace, StopsReading}
 use Rattle.dvg_text.specs.TraceTexts.{HasTraceFault, TraceMeetsSyntax, TraceMeetsFull, MeetsMany, EndsInside}
-use Rattle.dvg_io.specs.Watching.{BeginsToWrite}
+use Rattle.dvg_io.specs.declared.fault.ToolFault.{ToolFault}
+use Rattle.dvg_io.specs.declared.fault.ToolFault.TheVariants.{Text, Reader, Writer, Memory}
+use Rattle.dvg_io.specs.declared.watched.Watched.{Watched}
+use Rattle.dvg_io.specs.Faults.{StopsBeforeWriting, called}
+use Rattle.dvg_io.specs.Serving.{Answers, IsFinding, OfInput}
+use Rattle.dvg_io.specs.Watching.{BeginsToWrite, device_of}
+use Rattle.dvg_io.proofs.Inputs.{whole}
 use Rattle.dvg_io.proofs.Known.{Appends-nil}
-use Rattle.dvg_tool.proofs.Played.{PlayedPart}
-use Rattle.dvg_io.proofs.Inputs.{Read, whole}
-
--- what is answered at a fault, whatever else could have been
-abbrev pub Stops : Bool → ToolFault → (input : List ℕ) → Option (List ℕ) → Option (List ℕ) → Type 0
-Stops all fault input old new = Plays {T = Unit {0}} all (Err fault) input old new
+use Rattle.dvg_tool.specs.Plays.{IsPlayed, IsRun, Plays, StopsBeforeShowing, log_text, run_shown, zeros}
+use Rattle.dvg_tool.proofs.Played.{PlayedPart, few, log_shown, played_part, played_whole}
 
 -- the fault of what was read is that of the input
 faulted : (fault : TextFault) (input read : List ℕ) → read ≡ take 1048577 input → HasTraceFault read fault → HasTraceFault input fault
@@ -36,56 +38,80 @@ faulted _ input read e h = absurd h
 played : {log : Log} {later : List Happening} (input read : List ℕ) → read ≡ take 1048577 input → IsPlayed read log later → IsPlayed input log later
 played {log = log} {later = later} input read e p = subst (λ text. IsPlayed text log later) (whole 1048576 read input e p.gives.denotes.short) p
 
--- nothing was read
-pub unread : (all : Bool) (fault : ToolFault) (known old : Option (List ℕ)) → (fault ≡ Reader) ⊎ (fault ≡ Memory) → IfSome known (λ input. Stops all fault input old old)
-unread all fault None old is = tt
-unread all Reader (Some input) old is = tt
-unread all Memory (Some input) old is = inl (Appends-nil old)
-unread all (Text fault) (Some input) old is = ⊎_elim (λ e. cc) (λ e. cc) is
-unread all Writer (Some input) old is = ⊎_elim (λ e. cc) (λ e. cc) is
-
--- what was read is at fault, or memory was refused
-pub misread : (all : Bool) (fault : TraceFault) (known old : Option (List ℕ)) (read : List ℕ) → Read 1048576 known read → StopsReading fault read → IfSome known (λ input. Stops all (called fault) input old old)
-misread all fault None old read e h = tt
-misread all (of_trace.Text fault) (Some input) old read e h = faulted fault input read e h
-misread all of_trace.Memory (Some input) old read e h = inl (Appends-nil old)
-
 -- so was a part
 played_so_far : {log : Log} {later : List Happening} (input read : List ℕ) → read ≡ take 1048577 input → PlayedPart read log later → PlayedPart input log later
 played_so_far {log = log} {later = later} input read e p = subst (λ text. PlayedPart text log later) (whole 1048576 read input e p.played.gives.denotes.short) p
 
--- all events were played, and what is shown of them was written, or the writer failed
-pub told_whole : {T : Type 0} {log : Log} (all : Bool) (answer : Result T ToolFault) (known old new : Option (List ℕ)) (read text : List ℕ) → Read 1048576 known read → IsPlayed read log [] → text ≡ log_text all log
-    → WritesText answer text old new → IfSome known (λ input. Plays all answer input old new)
-told_whole all answer None old new read text e p is wrote = tt
-told_whole {log = log} all (Ok done) (Some input) old new read text e p is wrote = (log, played input read e p, subst (Appends old new) is wrote)
-told_whole {log = log} all (Err Writer) (Some input) old new read text e p is wrote =
-    record { log = log; later = []; played = played input read e p; ends = inl refl; holds = subst (λ text. BeginsToWrite text old new) is wrote }
-told_whole all (Err _) (Some input) old new read text e p is wrote = absurd wrote
+-- what is found of a trace that was read is found of the input
+pub finds_run : {A : Type 0} (all : Bool) (read R : List ℕ) (events : List Happening) (run : Result (Vec (OwnEntry A) A) (Stopped A))
+    → GivesTrace read events R → IsLegal R zeros (log_by events run) → Throughout (KeepsHeadline R zeros) (log_by events run)
+    → IfOk run (λ entries. length entries.items ≡ length events) → IfErr run (λ stopped. length stopped.entries.items ≡ stopped.event)
+    → IfErr run (IsStop R zeros events) → OfInput 1048576 read (λ input. IsRun all input run)
+finds_run all read R events (Ok entries) gives legal headline all_of_them count early input e = record {
+  log = log_of events entries.items;
+  later = [];
+  played = played input read e (played_whole read R events entries.items gives legal headline all_of_them);
+  ends = refl;
+  holds = log_shown all events entries.items (omega arith);
+}
+finds_run all read R events (Err stopped) gives legal headline all_of_them count early input e =
+    let part = played_so_far input read e (played_part read R events stopped gives legal headline count early) in
+    record {
+      log = log_of events stopped.entries.items;
+      later = drop (length stopped.entries.items) events;
+      played = part.played;
+      ends = part.stops;
+      holds = log_shown all events stopped.entries.items (few R events stopped count early);
+    }
 
--- some events were played, and what is shown of them was written
-pub told_part : {log : Log} {later : List Happening} (all : Bool) (known old new : Option (List ℕ)) (read text : List ℕ) → Read 1048576 known read → PlayedPart read log later → text ≡ log_text all log → Appends old new text
-    → IfSome known (λ input. Stops all Memory input old new)
-told_part all None old new read text e p is wrote = tt
-told_part {log = log} {later = later} all (Some input) old new read text e p is wrote =
-    let here = played_so_far input read e p in
+-- or the trace is at fault, or memory was refused
+misread_by : {F : Type 0} (Finds : List ℕ → F → Type 0) (fault : TraceFault) (read : List ℕ) → StopsReading fault read
+    → OfInput 1048576 read (λ input. IsFinding {F = F} (Finds input) (HasTraceFault input) (Err (called fault)))
+misread_by Finds (of_trace.Text fault) read h input e = faulted fault input read e h
+misread_by Finds of_trace.Memory read h input e = tt
+
+pub misread : {F : Type 0} (Finds : List ℕ → F → Type 0) (answer : Result F ToolFault) (fault : TraceFault) (read : List ℕ) → answer ≡ Err (called fault)
+    → StopsReading fault read → OfInput 1048576 read (λ input. IsFinding (Finds input) (HasTraceFault input) answer)
+misread Finds answer fault read is h =
+    subst (λ answer. OfInput 1048576 read (λ input. IsFinding (Finds input) (HasTraceFault input) answer)) (sym is) (misread_by Finds fault read h)
+
+-- a run is played whole, and what is shown of it went out
+pub told_whole : {A T : Type 0} (all : Bool) (entries : Vec (OwnEntry A) A) (done : T) (old new : Option (List ℕ)) (input : List ℕ)
+    → IsRun {A = A} all input (Ok entries) × Appends old new (run_shown {A = A} all (Ok entries)) → Plays all (Ok done) input old new
+told_whole all entries done old new input h = (h.0.log, subst (λ later. IsPlayed input h.0.log later) h.0.ends h.0.played, subst (Appends old new) h.0.holds h.1)
+
+-- or up to where it stopped
+pub told_part : {A : Type 0} (T : Type 0) (all : Bool) (stopped : Stopped A) (old new : Option (List ℕ)) (input : List ℕ)
+    → IsRun {A = A} all input (Err stopped) × Appends old new (run_shown {A = A} all (Err stopped)) → Plays {T = T} all (Err Memory) input old new
+told_part T all stopped old new input h =
+    let wrote = subst (Appends old new) h.0.holds h.1 in
     ⊎_elim
-    (λ none. inl (subst (Appends old new) (is ∙ ap (log_text all) none) wrote))
-    (λ stops. inr (record { log = log; later = later; played = here.played; ends = stops; holds = subst (Appends old new) is wrote }))
-    here.stops
+    (λ none. inl (subst (Appends old new) (ap (log_text all) none) wrote))
+    (λ stops. inr (record { log = h.0.log; later = h.0.later; played = h.0.played; ends = stops; holds = wrote }))
+    h.0.ends
 
 -- or the writer failed
-pub broke_off : {log : Log} {later : List Happening} (all : Bool) (fault : ToolFault) (known old new : Option (List ℕ)) (read text : List ℕ) → Read 1048576 known read → PlayedPart read log later → text ≡ log_text all log
-    → StopsWriting fault text old new → IfSome known (λ input. Stops all fault input old new)
-broke_off all fault None old new read text e p is wrote = tt
-broke_off {log = log} {later = later} all Writer (Some input) old new read text e p is wrote =
-    let here = played_so_far input read e p in
-    record { log = log; later = later; played = here.played; ends = inr here.stops; holds = subst (λ text. BeginsToWrite text old new) is wrote }
-broke_off all (Text fault) (Some input) old new read text e p is wrote = absurd wrote
-broke_off all Reader (Some input) old new read text e p is wrote = absurd wrote
-broke_off all Memory (Some input) old new read text e p is wrote = absurd wrote
+broke_off : {A : Type 0} (T : Type 0) (all : Bool) (run : Result (Vec (OwnEntry A) A) (Stopped A)) (old new : Option (List ℕ)) (input : List ℕ)
+    → IsRun {A = A} all input run → BeginsToWrite (run_shown {A = A} all run) old new → Plays {T = T} all (Err Writer) input old new
+broke_off T all (Ok entries) old new input run begun =
+    record { log = run.log; later = run.later; played = run.played; ends = inl run.ends; holds = subst (λ text. BeginsToWrite text old new) run.holds begun }
+broke_off T all (Err stopped) old new input run begun =
+    record { log = run.log; later = run.later; played = run.played; ends = inr run.ends; holds = subst (λ text. BeginsToWrite text old new) run.holds begun }
 
--- what holds of the fault holds of the answer
-pub answered : {T : Type 0} (all : Bool) (answer : Result T ToolFault) (fault : ToolFault) (known old new : Option (List ℕ)) → answer ≡ Err fault → IfSome known (λ input. Stops all fault input old new)
-    → IfSome known (λ input. Plays all answer input old new)
-answered all answer fault known old new is stops = subst (λ answer. IfSome known (λ input. Plays all answer input old new)) (sym is) stops
+-- where it stops
+pub stops : {W : Type 0} (A T : Type 0) (all : Bool) (fault : ToolFault) (contents : W → Option (List ℕ)) (old new : Watched W) (input : List ℕ)
+    → (StopsBeforeWriting fault → new ≡ old)
+    → Answers (λ input. IsRun {A = A} all input) HasTraceFault (run_shown {A = A} all) (Err fault) input (contents (device_of old)) (contents (device_of new))
+    → Plays {T = T} all (Err fault) input (contents (device_of old)) (contents (device_of new))
+stops A T all (Text fault) contents old new input same h = h
+stops A T all Reader contents old new input same h = tt
+stops A T all Memory contents old new input same h =
+    inl (subst (λ writer. Appends (contents (device_of old)) (contents (device_of writer)) []) (sym (same tt)) (Appends-nil (contents (device_of old))))
+stops A T all Writer contents old new input same (run, found, begun) = broke_off T all run _ _ input found begun
+
+-- what comes before the first line is shown comes before the first write
+pub earlier : (fault : ToolFault) → StopsBeforeShowing fault → StopsBeforeWriting fault
+earlier (Text fault) early = early
+earlier Reader early = early
+earlier Writer early = early
+earlier Memory early = absurd early

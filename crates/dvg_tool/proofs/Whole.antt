@@ -1,19 +1,20 @@
 -- From what was read to what an engine says of the input.
-use Rattle.std.proofs.Common.{◌≡◌, ℕ, refl, sym, ◌%◌, ◌≤◌, List, Option, None, Some, Result, Ok, Err, IfSome, length, take, take_all, ap, subst, ◌∙◌, arith, ◌⊎◌, inl, inr, ⊎_elim}
+use Rattle.std.proofs.Common.{◌≡◌, ℕ, refl, sym, ◌%◌, ◌≤◌, List, Option, None, Some, Result, Ok, Err, IfErr, IfOk, IfSome, Vec, length, take, take_all, ap, subst, ◌∙◌, arith, ◌⊎◌, inl, inr, ⊎_elim}
 use Rattle.std.specs.Io.KnownBytes.{Appends}
 use Rattle.dvg_code.specs.Words.{words_of}
 use Rattle.dvg_text.specs.declared.fault.TextFault.{TextFault}
 use Rattle.dvg_frame.specs.declared.op.OpKind.{OpKind}
 use Rattle.dvg_lines.specs.declared.verdict.BoundedVerdict.{BoundedVerdict}
 use Rattle.dvg_lines.specs.declared.verdict.BoundedVerdict.TheVariants as bounded
-use Rattle.dvg_lines.specs.Verdicts.{without_bound}
-use Rattle.dvg_tool.specs.Checks.{ChecksBy, IsJudgingFault, Judges, JudgesBound, JudgesBy}
+use Rattle.dvg_lines.specs.Verdicts.{IsBoundedVerdict, without_bound}
+use Rattle.dvg_io.specs.Serving.{Answers, IsFinding, OfInput}
+use Rattle.dvg_tool.specs.Checks.{IsJudgingFault, Judges, JudgesBound, JudgesBy}
 use Rattle.dvg_text.specs.DraftTexts.{HasDraftFault}
 use Rattle.dvg_io.specs.Watching.{BeginsToWrite}
 use Rattle.dvg_io.proofs.Inputs.{Read, whole, whole_or_long}
 use Rattle.dvg_lines.specs.Lines.{rom_text}
-use Rattle.dvg_io.specs.Faults.{WritesText}
-use Rattle.dvg_tool.specs.Roms.{HasRomSize, IsRomFault, WritesRom}
+use Rattle.dvg_tool.specs.Roms.{HasRomFault, HasRomSize, IsRomFault, IsRomOf, WritesRom, words_text}
+use Rattle.dvg_tool.proofs.RomLines.{text_of_words}
 use Rattle.dvg_tool.specs.Lists.{IsListable, Lists, ListsWords}
 use Rattle.dvg_text.specs.declared.fault.TextFault.TheVariants.{TooLong, Cut, RomSize, Syntax, Full}
 use Rattle.dvg_io.specs.declared.fault.ToolFault.{ToolFault}
@@ -47,33 +48,41 @@ wrong_size input read e h size = h (⊎_elim
     (λ large. inr (ap length e ∙ ap length (take_all 4097 input (omega arith)) ∙ large))
     size)
 
--- where no words are made
-no_words : (T : Type 0) (fault : ToolFault) (known old new : Option (List ℕ)) (read : List ℕ) → Read 4096 known read → IsRomFault read fault
-    → IfSome known (λ input. WritesRom {T = T} (Err fault) input old new)
-no_words T fault None old new read e h = tt
-no_words T (Text RomSize) (Some input) old new read e h = wrong_size input read e h
-no_words T (Text _) (Some input) old new read e h = absurd h
-no_words T Memory (Some input) old new read e h = tt
-no_words T Reader (Some input) old new read e h = absurd h
-no_words T Writer (Some input) old new read e h = absurd h
+rom_faulted : (fault : TextFault) (input read : List ℕ) → read ≡ take 4097 input → HasRomFault read fault → HasRomFault input fault
+rom_faulted RomSize input read e h = wrong_size input read e h
+rom_faulted _ input read e h = absurd h
 
-pub unmade : {T : Type 0} (answer : Result T ToolFault) (fault : ToolFault) (known old new : Option (List ℕ)) (read : List ℕ) → answer ≡ Err fault → Read 4096 known read → IsRomFault read fault
-    → IfSome known (λ input. WritesRom answer input old new)
-unmade {T} answer fault known old new read is e h = subst (λ answer. IfSome known (λ input. WritesRom answer input old new)) (sym is) (no_words T fault known old new read e h)
+short_rom : (read : List ℕ) → HasRomSize read → length read ≤ 4096
+short_rom read (inl small) = omega arith
+short_rom read (inr large) = omega arith
 
-rom_written : {T : Type 0} (answer : Result T ToolFault) (input : List ℕ) (old new : Option (List ℕ)) → HasRomSize input → WritesText answer (rom_text input) old new → WritesRom answer input old new
-rom_written (Ok done) input old new size h = (size, h)
-rom_written (Err (Text fault)) input old new size h = absurd h
-rom_written (Err Reader) input old new size h = absurd h
-rom_written (Err Writer) input old new size h = (size, h)
-rom_written (Err Memory) input old new size h = absurd h
+-- the words of what was read are those of the input
+pub finds_rom : {A : Type 0} (read : List ℕ) (answer : Result (Vec ℕ A) ToolFault) → IfOk answer (λ _. HasRomSize read)
+    → IfOk answer (λ words. words.items ≡ words_of read) → IfErr answer (IsRomFault read)
+    → OfInput 4096 read (λ input. IsFinding (λ words. IsRomOf input words.items) (HasRomFault input) answer)
+finds_rom read (Ok words) size is fault input e =
+    let same = whole 4096 read input e (short_rom read size) in
+    (subst HasRomSize same size, is ∙ ap words_of same)
+finds_rom read (Err (Text fault)) size is h input e = rom_faulted fault input read e h
+finds_rom read (Err Memory) size is h input e = tt
+finds_rom read (Err Reader) size is h input e = absurd h
+finds_rom read (Err Writer) size is h input e = absurd h
 
-pub writes_rom : {T : Type 0} (answer : Result T ToolFault) (known old new : Option (List ℕ)) (read : List ℕ) → Read 4096 known read → length read ≤ 4096 → HasRomSize read
-    → WritesText answer (rom_text read) old new → IfSome known (λ input. WritesRom answer input old new)
-writes_rom answer None old new read e few h w = tt
-writes_rom answer (Some input) old new read e few h w =
-    let same = whole 4096 read input e few in
-    rom_written answer input old new (subst HasRomSize same h) (subst (λ l. WritesText answer (rom_text l) old new) same w)
+-- what is written of a ROM's words is the text of the ROM
+rom_said : (input words : List ℕ) → IsRomOf input words → words_text words ≡ rom_text input
+rom_said input words rom = ap words_text rom.1 ∙ text_of_words input rom.0
+
+pub rom_written : {A T : Type 0} (words : Vec ℕ A) (done : T) (old new : Option (List ℕ)) (input : List ℕ)
+    → IsRomOf input words.items × Appends old new (words_text words.items) → WritesRom (Ok done) input old new
+rom_written words done old new input h = (h.0.0, subst (Appends old new) (rom_said input words.items h.0) h.1)
+
+pub rom_stops : (A T : Type 0) (fault : ToolFault) (old new : Option (List ℕ)) (input : List ℕ)
+    → Answers {F = Vec ℕ A} (λ input words. IsRomOf input words.items) HasRomFault (λ words. words_text words.items) (Err fault) input old new
+    → WritesRom {T = T} (Err fault) input old new
+rom_stops A T (Text fault) old new input h = h
+rom_stops A T Reader old new input h = tt
+rom_stops A T Memory old new input h = tt
+rom_stops A T Writer old new input (words, rom, begun) = (rom.0, subst (λ text. BeginsToWrite text old new) (rom_said input words.items rom) begun)
 
 -- what is said of what was read is said of the input
 pub judged : {V : Type 0} (IsSaid : List OpKind → List ℕ → V → Type 0) (verdict : V) (input read : List ℕ) → read ≡ take 1048577 input
@@ -95,34 +104,26 @@ short_or_long (Full n) read h = inr h.reaches.short
 short_or_long _ read h = absurd h
 
 -- the fault of what was read is that of the input
-pub faulted : (fault : TextFault) (input read : List ℕ) → read ≡ take 1048577 input → HasDraftFault read fault → HasDraftFault input fault
+faulted : (fault : TextFault) (input read : List ℕ) → read ≡ take 1048577 input → HasDraftFault read fault → HasDraftFault input fault
 faulted fault input read e h = ⊎_elim
     (λ same. subst (λ text. HasDraftFault text fault) same h)
     (λ long. ⊎_elim (λ is. subst (HasDraftFault input) (sym is) long.1) (λ short. absurd (omega arith)) (short_or_long fault read h))
     (whole_or_long 1048576 read input e)
 
-module _ {V : Type 0} (IsSaid : List OpKind → List ℕ → V → Type 0) (line : V → List ℕ) where
-  -- so is where nothing is said
-  stopped_by : (fault : ToolFault) (known old new : Option (List ℕ)) (read : List ℕ) → Read 1048576 known read → IsJudgingFault read fault
-      → IfSome known (λ input. ChecksBy (JudgesBy IsSaid) line (Err fault) input old new)
-  stopped_by fault None old new read e h = tt
-  stopped_by (Text fault) (Some input) old new read e h = faulted fault input read e h
-  stopped_by Memory (Some input) old new read e h = tt
-  stopped_by Reader (Some input) old new read e h = absurd h
-  stopped_by Writer (Some input) old new read e h = absurd h
+-- so is where nothing is said
+stopped_by : {V : Type 0} (Says : List ℕ → V → Type 0) (fault : ToolFault) (read : List ℕ) → IsJudgingFault read fault
+    → OfInput 1048576 read (λ input. IsFinding {F = V} (Says input) (HasDraftFault input) (Err fault))
+stopped_by Says (Text fault) read h input e = faulted fault input read e h
+stopped_by Says Memory read h input e = tt
+stopped_by Says Reader read h input e = absurd h
+stopped_by Says Writer read h input e = absurd h
 
-  pub stopped : (answer : Result V ToolFault) (fault : ToolFault) (known old new : Option (List ℕ)) (read : List ℕ) → answer ≡ Err fault → Read 1048576 known read
-      → IsJudgingFault read fault → IfSome known (λ input. ChecksBy (JudgesBy IsSaid) line answer input old new)
-  stopped answer fault known old new read is e h =
-      subst (λ answer. IfSome known (λ input. ChecksBy (JudgesBy IsSaid) line answer input old new)) (sym is) (stopped_by fault known old new read e h)
+pub unjudged : {V : Type 0} (Says : List ℕ → V → Type 0) (answer : Result V ToolFault) (fault : ToolFault) (read : List ℕ) → answer ≡ Err fault
+    → IsJudgingFault read fault → OfInput 1048576 read (λ input. IsFinding (Says input) (HasDraftFault input) answer)
+unjudged Says answer fault read is h =
+    subst (λ answer. OfInput 1048576 read (λ input. IsFinding (Says input) (HasDraftFault input) answer)) (sym is) (stopped_by Says fault read h)
 
-  -- and what went out
-  pub said : (verdict : V) (known old new : Option (List ℕ)) (read : List ℕ) → Read 1048576 known read → JudgesBy IsSaid read verdict
-      → Appends old new (line verdict) → IfSome known (λ input. JudgesBy IsSaid input verdict × Appends old new (line verdict))
-  said verdict None old new read e j w = tt
-  said verdict (Some input) old new read e j w = (judged IsSaid verdict input read e j, w)
-
-  pub broken_off : (verdict : V) (known old new : Option (List ℕ)) (read : List ℕ) → Read 1048576 known read → JudgesBy IsSaid read verdict
-      → BeginsToWrite (line verdict) old new → IfSome known (λ input. ChecksBy (JudgesBy IsSaid) line (Err Writer) input old new)
-  broken_off verdict None old new read e j w = tt
-  broken_off verdict (Some input) old new read e j w = (verdict, judged IsSaid verdict input read e j, w)
+pub finds_bound : (read : List ℕ) (answer : Result BoundedVerdict ToolFault) → IfOk answer (JudgesBound read) → IfErr answer (IsJudgingFault read)
+    → OfInput 1048576 read (λ input. IsFinding (JudgesBound input) (HasDraftFault input) answer)
+finds_bound read (Ok verdict) said fault input e = judged IsBoundedVerdict verdict input read e said
+finds_bound read (Err fault) said h input e = stopped_by JudgesBound fault read h input e

@@ -14,7 +14,8 @@ use Rattle.dvg_tool.specs.declared.outcome.Done.TheVariants.{Written, Judged, Bo
 use Rattle.dvg_words.specs.declared.task.Job.{Job}
 use Rattle.dvg_words.specs.declared.task.Job.TheVariants.{List as list_job, Rom, Picture, Check, Play, Torn}
 
--- what is answered of an input, and what went out: a check tells its verdict, `picture` what the run came to, `torn` what is said of the log, and no other job tells anything
+-- what is answered of an input, and what went out: a check tells its verdict, `picture` what the
+-- run came to, `torn` what is said of the log, and no other job tells anything
 abbrev pub Performs : Job → Result Done ToolFault → (input : List ℕ) → Option (List ℕ) → Option (List ℕ) → Type 0
 Performs list_job (Ok Written) input old new = Lists (Ok Written) input old new
 Performs list_job (Err fault) input old new = Lists {T = Done} (Err fault) input old new
@@ -37,7 +38,8 @@ abbrev pub StaysUnwritten : Job → ToolFault → Type 0
 StaysUnwritten (Play all banked) fault = StopsBeforeShowing fault
 StaysUnwritten _ fault = StopsBeforeWriting fault
 
--- what is taken of the input: so many bytes at most, and of a log no more than a piece behind the line that decides
+-- what is taken of the input: so many bytes at most, and of a log no more than a piece after the
+-- line that decides
 abbrev pub TakesBy : Job → Result Done ToolFault → Option (List ℕ) → Option (List ℕ) → Type 0
 TakesBy list_job answer old new = TakesAtMost 8193 old new
 TakesBy Rom answer old new = TakesAtMost 4097 old new

@@ -16,14 +16,16 @@ use Rattle.dvg_io.specs.declared.fault.ToolFault.TheVariants.{Text, Writer}
 abbrev pub line_at : List ℕ → ℕ → Instr → List ℕ
 line_at words place instr = line_text place instr (starts_with nat_eq (drop place words) (canon instr))
 
--- where the words' cutting leaves a rest, its place is answered and the text before it went out; at `Writer` a beginning of the text (for a private contract)
+-- where the words' cutting leaves a rest, its place is answered and the text before it went out; at
+-- `Writer` a beginning of the text (for a private contract)
 abbrev pub StopsListing : ToolFault → (words : List ℕ) → Option (List ℕ) → Option (List ℕ) → Type 0
 StopsListing (Text (Cut place)) words old new =
     (cutting : Cutting words) → (cutting.rest ≢ []) × (place ≡ cutting.end) × Appends old new (list_text cutting.items)
 StopsListing Writer words old new = (cutting : Cutting words) → BeginsToWrite (list_text cutting.items) old new
 StopsListing _ words old new = ⊥
 
--- where the words' cutting leaves no rest, the text of its instructions went out; else by the fault (for a private contract)
+-- where the words' cutting leaves no rest, the text of its instructions went out; else by the fault
+-- (for a private contract)
 abbrev pub ListsWords : {T : Type 0} → Result T ToolFault → (words : List ℕ) → Option (List ℕ) → Option (List ℕ) → Type 0
 ListsWords answer words old new = MatchResult answer
     (λ _. (cutting : Cutting words) → (cutting.rest ≡ []) × Appends old new (list_text cutting.items))
@@ -33,7 +35,9 @@ ListsWords answer words old new = MatchResult answer
 abbrev pub IsListable : List ℕ → Type 0
 IsListable input = (length input ≤ 8192) × (length input % 2 ≡ 0)
 
--- what `list` answers of an input, and what went out: the text of the instructions, at `Cut` of those before the rest, at `Writer` a beginning of it (that nothing went out at the others is a clause of its own)
+-- what `list` answers of an input, and what went out: the text of the instructions, at `Cut` of
+-- those before the rest, at `Writer` a beginning of it (that nothing went out at the others is a
+-- part of `Serves`)
 abbrev pub Lists : {T : Type 0} → Result T ToolFault → (input : List ℕ) → Option (List ℕ) → Option (List ℕ) → Type 0
 Lists (Ok done) input old new =
     IsListable input × ((cutting : Cutting (words_of input)) → (cutting.rest ≡ []) × Appends old new (list_text cutting.items))

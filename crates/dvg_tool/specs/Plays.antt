@@ -1,11 +1,14 @@
 -- What `play` answers and writes.
-use Rattle.std.specs.Prelude.{◌≡◌, ℕ, ◌⊎◌, List, [], ◌∷◌, ◌++◌, map, replicate, reverse, Bool, Option, Result, Ok, Err}
+use Rattle.std.specs.Prelude.{◌≡◌, ℕ, ◌⊎◌, List, [], ◌∷◌, ◌++◌, map, replicate, reverse, Bool, Option, Result, Ok, Err, Vec}
 use Rattle.std.specs.Io.KnownBytes.{Appends}
-use Rattle.dvg_log.specs.Entries.{Shown}
+use Rattle.dvg_log.specs.Entries.{OwnEntry}
+use Rattle.dvg_log.specs.Entries.{Shown, shown_of}
 use Rattle.dvg_log.specs.Events.{Happening}
 use Rattle.dvg_log.specs.Headline.{KeepsHeadline}
 use Rattle.dvg_log.specs.Legal.{IsLegal}
 use Rattle.dvg_log.specs.Log.{Line, Log, Throughout, ◌⟼◌}
+use Rattle.dvg_world.specs.declared.stopped.Stopped.{Stopped}
+use Rattle.dvg_world.specs.Runs.{entries_of}
 use Rattle.dvg_world.specs.Wanting.{TakesMemory}
 use Rattle.dvg_io.specs.declared.fault.ToolFault.{ToolFault}
 use Rattle.dvg_io.specs.declared.fault.ToolFault.TheVariants.{Text, Reader, Writer, Memory}
@@ -40,7 +43,8 @@ StopsNext R log (event ∷ later) = TakesMemory R zeros log event
 abbrev pub IsEnd : (R : List ℕ) → Log → (later : List Happening) → Type 0
 IsEnd R log later = (later ≡ []) ⊎ ((log ≡ []) ⊎ StopsNext R log later)
 
--- the text denotes the events of this legal log, and then these, over the ROM that it denotes and from a memory of zeros; and each line of the log keeps the headline
+-- the text denotes the events of this legal log, and then these, over the ROM that it denotes and
+-- from a memory of zeros; and each line of the log keeps the headline
 pub record IsPlayed (text : List ℕ) (log : Log) (later : List Happening) : Type 0 where
   pub events : List Happening
   pub R : List ℕ
@@ -57,12 +61,30 @@ pub record ShowsUntil (all : Bool) (text : List ℕ) (Ends : List ℕ → Log �
   pub ends : Ends played.R log later
   pub holds : Holds (log_text all log)
 
+-- no event came, or the next one takes memory
+abbrev pub IsStopped : (R : List ℕ) → Log → (later : List Happening) → Type 0
+IsStopped R log later = (log ≡ []) ⊎ StopsNext R log later
+
+-- what is shown of a run (for a private contract)
+abbrev pub run_shown : {A : Type 0} → Bool → Result (Vec (OwnEntry A) A) (Stopped A) → List ℕ
+run_shown all run = shown all 0 (map shown_of (entries_of run))
+
+-- a log that was played is shown so: the whole one, or that of a run that stopped (for a private
+-- contract)
+abbrev pub IsRun : {A : Type 0} → Bool → (text : List ℕ)
+    → Result (Vec (OwnEntry A) A) (Stopped A) → Type 0
+IsRun all text (Ok entries) =
+    ShowsUntil all text (λ R log later. later ≡ []) (λ shown. run_shown all (Ok entries) ≡ shown)
+IsRun all text (Err stopped) =
+    ShowsUntil all text IsStopped (λ shown. run_shown all (Err stopped) ≡ shown)
+
 -- the faults that come before the first write; want of memory may come after it
 abbrev pub StopsBeforeShowing : ToolFault → Type 0
 StopsBeforeShowing Memory = ⊥
 StopsBeforeShowing fault = StopsBeforeWriting fault
 
--- what `play` answers of an input, and what went out: what is shown of the log, or at `Memory` and `Writer` of its front (that nothing went out at the first two faults is a clause of its own)
+-- what `play` answers of an input, and what went out: what is shown of the log, or at `Memory` and
+-- `Writer` of its front (that nothing went out at the first two faults is a part of `Serves`)
 abbrev pub Plays : {T : Type 0} → Bool → Result T ToolFault → (input : List ℕ) → Option (List ℕ) → Option (List ℕ) → Type 0
 Plays all (Ok done) input old new = (log : Log) × IsPlayed input log [] × Appends old new (log_text all log)
 Plays all (Err (Text fault)) input old new = HasTraceFault input fault

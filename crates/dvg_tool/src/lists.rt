@@ -1,10 +1,10 @@
-//! The engine `list`.
-ghost use Rattle.std.specs.Prelude.{◌≡◌, ◌↔◌, ◌≤◌, ◌%◌, length, IfErr, IfSome, IsErrOf, OnErr, OnOk};
-ghost use Rattle.std.specs.Io.KnownBytes.{Appends};
-ghost use Rattle.dvg_code.specs.Words.{words_of};
+//! The engine `list`. Its fault `Cut` comes in the midst of its writing, so it is no `Engine` that
+//! is served.
+ghost use Rattle.std.specs.Prelude.{◌≡◌, ◌↔◌, ◌≤◌, length, IsErrOf};
 ghost use Rattle.dvg_tool.specs.Lists.{Lists, ListsWords, line_at};
 ghost use Rattle.dvg_io.specs.Faults.{StopsBeforeWriting};
-ghost use Rattle.dvg_io.specs.Watching.{BeginsToWrite, CountsErrors, TakesAtMost, device_of, failures_of};
+ghost use Rattle.dvg_io.specs.Serving.{AreFresh, Serves};
+ghost use Rattle.dvg_io.specs.Watching.{Writes, device_of, failures_of};
 
 use dvg_code::{Code, Listed, Listing, encode};
 use dvg_io::{DeviceFailed, ToolFault, Watched, collect_words, read_up_to, write_whole};
@@ -17,7 +17,8 @@ use std::io::{Read, Write};
 /// (this project's own choice).
 pub const MOST_LIST_BYTES: usize = 8192;
 
-// Writes the line of the instruction that stands at a place of the words. The line is made in `line`.
+// Writes the line of the instruction that stands at a place of the words. The line is made in
+// `line`.
 fn write_item<W: Write>(
     line: &mut Line,
     words: &[u16],
@@ -26,9 +27,7 @@ fn write_item<W: Write>(
     writer: &mut Watched<W>,
 ) -> Result<(), DeviceFailed>
     requires { place ≤ length words.now }
-    ensures ok { OnOk result (Appends (W.contents (device_of writer.old)) (W.contents (device_of writer.new)) (line_at words.now place code.now)) }
-    ensures err { OnErr result (BeginsToWrite (line_at words.now place code.now) (W.contents (device_of writer.old)) (W.contents (device_of writer.new))) }
-    ensures counts { CountsErrors result (failures_of writer.old) (failures_of writer.new) }
+    ensures { Writes W.contents (line_at words.now place code.now) result writer.old writer.new }
 {
     let canonical = words[place..].starts_with(encode(code).as_slice());
     line.become_listed(place, code, canonical);
@@ -38,7 +37,8 @@ fn write_item<W: Write>(
 // Writes a line for each instruction of the words.
 fn list_words<W: Write>(words: &[u16], writer: &mut Watched<W>) -> Result<(), ToolFault>
     requires fresh { failures_of writer.old ≡ 0 }
-    ensures lists { ListsWords result words.now (W.contents (device_of writer.old)) (W.contents (device_of writer.new)) }
+    ensures lists { ListsWords result words.now
+        (W.contents (device_of writer.old)) (W.contents (device_of writer.new)) }
     ensures writer { IsErrOf result ToolFault.Writer ↔ (failures_of writer.new ≡ 1) }
     ensures stops { failures_of writer.new ≤ 1 }
 {
@@ -56,36 +56,27 @@ fn list_words<W: Write>(words: &[u16], writer: &mut Watched<W>) -> Result<(), To
     Ok(())
 }
 
-/// Reads words, two bytes each, the low one first, and writes a line for each instruction: its place
-/// in words, its name and operands, and a star where its words aren't canonical (the text is this
-/// project's own choice).
+/// Reads words, two bytes each, the low one first, and writes a line for each instruction: its
+/// place in words, its name and operands, and a star where its words aren't canonical (the text is
+/// this project's own choice).
 ///
 /// - `TooLong`: the input has more than 8,192 bytes, of which no more than 8,193 are taken.
 /// - `Odd`: it has an odd number of bytes.
-/// - `Cut`: the last word is the first of two, and the second is missing; the lines before it are written.
+/// - `Cut`: the last word is the first of two, and the second is missing; the lines before it are
+///   written.
 /// - `Reader`, `Writer`: that device failed. After `Writer` a beginning of the text went out.
 /// - `Memory`: a growth was refused.
 ///
-/// Where it stops before it writes, which is at any fault but `Cut` and `Writer`, the writer is as it
-/// was.
+/// Where it stops before it writes, which is at any fault but `Cut` and `Writer`, the writer is as
+/// it was.
 pub fn list<A: Allocator, R: Read, W: Write>(
     alloc: A,
     reader: &mut Watched<R>,
     writer: &mut Watched<W>,
 ) -> Result<(), ToolFault>
-    requires fresh_reader { failures_of reader.old ≡ 0 }
-    requires fresh_writer { failures_of writer.old ≡ 0 }
-
-    // Of a reader that tells its bytes: what went out, when each fault of the text comes, what was taken.
-    ensures lists { IfSome (R.remaining (device_of reader.old)) (λ input.
-        Lists result input (W.contents (device_of writer.old)) (W.contents (device_of writer.new))) }
-    ensures took { TakesAtMost 8193 (R.remaining (device_of reader.old)) (R.remaining (device_of reader.new)) }
-
-    // Whatever the reader and the writer are.
-    ensures unwritten { IfErr result (λ fault. StopsBeforeWriting fault → writer.new ≡ writer.old) }
-    ensures reader { IsErrOf result ToolFault.Reader ↔ (failures_of reader.new ≡ 1) }
-    ensures writer { IsErrOf result ToolFault.Writer ↔ (failures_of writer.new ≡ 1) }
-    ensures stops { (failures_of reader.new ≤ 1) × (failures_of writer.new ≤ 1) }
+    requires fresh { AreFresh reader.old writer.old }
+    ensures { Serves R.remaining W.contents 8193 StopsBeforeWriting Lists
+        result reader.old reader.new writer.old writer.new }
 {
     let bytes = read_up_to(&alloc, reader, MOST_LIST_BYTES)?;
     if bytes.len() > MOST_LIST_BYTES {

@@ -1,22 +1,23 @@
 //! The engine `play`.
-ghost use Rattle.std.specs.Prelude.{◌≡◌, ◌↔◌, ◌≤◌, [], length, IfErr, IfOk, IfSome, IsErrOf};
+ghost use Rattle.std.specs.Prelude.{◌≡◌, [], length, IfErr, IfOk};
 ghost use Rattle.dvg_mem.specs.Memory.{IsRom};
 ghost use Rattle.dvg_log.specs.Headline.{KeepsHeadline};
 ghost use Rattle.dvg_log.specs.Legal.{IsLegal};
 ghost use Rattle.dvg_log.specs.Log.{Throughout};
 ghost use Rattle.dvg_world.specs.Runs.{IsStop, log_by};
-ghost use Rattle.dvg_tool.specs.Plays.{Plays, StopsBeforeShowing, zeros};
-ghost use Rattle.dvg_text.specs.TraceGives.{GivesTrace, StopsReading};
-ghost use Rattle.dvg_io.specs.Watching.{TakesAtMost, device_of, failures_of};
+ghost use Rattle.dvg_io.specs.Serving.{AreFresh, Serves};
+ghost use Rattle.dvg_text.specs.TraceTexts.{HasTraceFault};
+ghost use Rattle.dvg_tool.specs.Plays.{IsRun, Plays, StopsBeforeShowing, run_shown, zeros};
 
 use crate::shows::write_entries;
-use dvg_io::{ToolFault, Watched, read_up_to};
+use dvg_io::{DeviceFailed, Engine, ToolFault, Watched, serve};
 use dvg_log::OwnEntry;
 use dvg_mem::{Flat, Image, MEMORY_BYTES, Rom, Store};
 use dvg_text::{MOST_TEXT_BYTES, TraceText, read_trace};
 use dvg_world::{Stopped, run_trace};
 use std::alloc::Allocator;
 use std::io::{Read, Write};
+use std::marker::PhantomData;
 
 // A run that stopped before its first event.
 fn unstarted<A: Allocator>(alloc: A) -> Stopped<A>
@@ -50,25 +51,68 @@ fn run_text<S: Store>(
     run_trace::<S>(alloc, rom, &image, &told.events)
 }
 
-/// Reads a trace as text, with the lines of a memory map and of a ROM before it, lets its events happen from a RAM of zeros, and
-/// writes what the log shows: with `all` a line for each entry, and else for each finished run; and behind
-/// the line of a finished run one for each of its strokes, in the order drawn (the texts are this project's
-/// own choice).
+// The engine: of a trace it finds how its events happen, over a RAM that is kept in a store.
+#[derive(Drop)]
+struct PlayEngine<S> {
+    // Whether each entry is shown.
+    all: bool,
+    store: PhantomData<S>,
+}
+
+impl<S: Store> Engine<S::Alloc> for PlayEngine<S> {
+    type Found = Result<Vec<OwnEntry<S::Alloc>, S::Alloc>, Stopped<S::Alloc>>;
+
+    const MOST: u32 = MOST_TEXT_BYTES as u32;
+
+    ghost MOST = { 1048576 };
+
+    ghost Finds = { λ engine. IsRun engine.all };
+
+    ghost HasFault = { λ engine. HasTraceFault };
+
+    ghost text = { λ engine. run_shown engine.all };
+
+    fn find(&self, alloc: S::Alloc, read: &[u8]) -> Result<Self::Found, ToolFault> {
+        let told = read_trace(alloc, read)?;
+        Ok(run_text::<S>(alloc, &told))
+    }
+
+    fn write<W: Write>(
+        &self,
+        run: &Self::Found,
+        writer: &mut Watched<W>,
+    ) -> Result<(), DeviceFailed> {
+        match run {
+            Ok(entries) => write_entries(entries.as_slice(), self.all, writer),
+            Err(stopped) => write_entries(stopped.entries.as_slice(), self.all, writer),
+        }
+    }
+}
+
+/// Reads a trace as text, with the lines of a memory map and of a ROM before it, lets its events
+/// happen from a RAM of zeros, and writes what the log shows: with `all` a line for each entry, and
+/// else for each finished run; and after the line of a finished run one for each of its strokes, in
+/// the order drawn (the texts are this project's own choice).
 ///
-/// The events happen by `dvg_world::run_trace`: the log is the one legal log of them, and each of its lines keeps the
-/// headline, which `plays` says, too. The whole text is read before the first event happens, and what writes is handed no allocator.
+/// The events happen by `dvg_world::run_trace`: the log is the one legal log of them, and each of
+/// its lines keeps the headline, which `Plays` says, too. The whole text is read before the first
+/// event happens, and what writes is handed no allocator.
 ///
-/// - `TooLong`: the text has more than 1,048,576 bytes, of which no more than 1,048,577 are taken. This
-///   is decided before all others.
-/// - `Syntax`, `Full`, `Many`, `Unended`: this is the first fault of the text, as `read_trace` tells it.
+/// - `TooLong`: the text has more than 1,048,576 bytes, of which no more than 1,048,577 are taken.
+///   This is decided before all others.
+/// - `Syntax`, `Full`, `Many`, `Unended`: this is the first fault of the text, as `read_trace`
+///   tells it.
 /// - `Reader`, `Writer`: that device failed. After `Writer` a beginning of the text went out.
-/// - `Memory`: a growth was refused. At an event, which is a fetch that completes a vector with an intensity
-///   of at least 1, the text of the events before it went out first. The contract can't tell where memory was
-///   refused, so by it nothing at all may have gone out; tests show that text.
+/// - `Memory`: a growth was refused. At an event, which is a fetch that completes a vector with an
+///   intensity of at least 1, the text of the events before it went out first. The contract can't
+///   tell where memory was refused, so by it nothing at all may have gone out; tests show that
+///   text.
 ///
-/// Where it stops before it writes, which is at any fault but `Writer` and `Memory`, the writer is as it was.
+/// Where it stops before it writes, which is at any fault but `Writer` and `Memory`, the writer is
+/// as it was.
 ///
-/// The RAM is kept in any store. All of this holds whichever it is, so what is written doesn't depend on it.
+/// The RAM is kept in any store. All of this holds whichever it is, so what is written doesn't
+/// depend on it.
 #[inline(never)]
 pub fn play_in<S: Store, R: Read, W: Write>(
     alloc: S::Alloc,
@@ -76,51 +120,31 @@ pub fn play_in<S: Store, R: Read, W: Write>(
     writer: &mut Watched<W>,
     all: bool,
 ) -> Result<(), ToolFault>
-    requires fresh_reader { failures_of reader.old ≡ 0 }
-    requires fresh_writer { failures_of writer.old ≡ 0 }
-
-    // Of a reader that tells its bytes: what went out, when each fault of the text comes, what was taken.
-    ensures plays { IfSome (R.remaining (device_of reader.old)) (λ input.
-        Plays all result input (W.contents (device_of writer.old)) (W.contents (device_of writer.new))) }
-    ensures took { TakesAtMost 1048577 (R.remaining (device_of reader.old)) (R.remaining (device_of reader.new)) }
-
-    // Whatever the reader and the writer are.
-    ensures unwritten { IfErr result (λ fault. StopsBeforeShowing fault → writer.new ≡ writer.old) }
-    ensures reader { IsErrOf result ToolFault.Reader ↔ (failures_of reader.new ≡ 1) }
-    ensures writer { IsErrOf result ToolFault.Writer ↔ (failures_of writer.new ≡ 1) }
-    ensures stops { (failures_of reader.new ≤ 1) × (failures_of writer.new ≤ 1) }
+    requires fresh { AreFresh reader.old writer.old }
+    ensures { Serves R.remaining W.contents 1048577 StopsBeforeShowing (Plays all)
+        result reader.old reader.new writer.old writer.new }
 {
-    let told = {
-        let text = read_up_to(alloc, reader, MOST_TEXT_BYTES)?;
-        read_trace(alloc, text.as_slice())?
+    let engine = PlayEngine::<S> {
+        all,
+        store: PhantomData,
     };
-    match run_text::<S>(alloc, &told) {
-        Ok(entries) => write_entries(entries.as_slice(), all, writer),
-        Err(stopped) => {
-            write_entries(stopped.entries.as_slice(), all, writer)?;
-            Err(ToolFault::Memory)
-        }
+    match serve(&engine, alloc, reader, writer)? {
+        Ok(_) => Ok(()),
+        Err(_) => Err(ToolFault::Memory),
     }
 }
 
-/// Plays a trace over a RAM that is kept in one array: `play_in` with the store `Flat`, and with its clauses.
+/// Plays a trace over a RAM that is kept in one array: `play_in` with the store `Flat`, and with
+/// its clauses.
 pub fn play<A: Allocator + Copy, R: Read, W: Write>(
     alloc: A,
     reader: &mut Watched<R>,
     writer: &mut Watched<W>,
     all: bool,
 ) -> Result<(), ToolFault>
-    requires fresh_reader { failures_of reader.old ≡ 0 }
-    requires fresh_writer { failures_of writer.old ≡ 0 }
-
-    ensures plays { IfSome (R.remaining (device_of reader.old)) (λ input.
-        Plays all result input (W.contents (device_of writer.old)) (W.contents (device_of writer.new))) }
-    ensures took { TakesAtMost 1048577 (R.remaining (device_of reader.old)) (R.remaining (device_of reader.new)) }
-
-    ensures unwritten { IfErr result (λ fault. StopsBeforeShowing fault → writer.new ≡ writer.old) }
-    ensures reader { IsErrOf result ToolFault.Reader ↔ (failures_of reader.new ≡ 1) }
-    ensures writer { IsErrOf result ToolFault.Writer ↔ (failures_of writer.new ≡ 1) }
-    ensures stops { (failures_of reader.new ≤ 1) × (failures_of writer.new ≤ 1) }
+    requires fresh { AreFresh reader.old writer.old }
+    ensures { Serves R.remaining W.contents 1048577 StopsBeforeShowing (Plays all)
+        result reader.old reader.new writer.old writer.new }
 {
     play_in::<Flat<A>, R, W>(alloc, reader, writer, all)
 }

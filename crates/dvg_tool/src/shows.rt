@@ -1,19 +1,17 @@
 //! What is written of a log's entries.
-ghost use Rattle.std.specs.Prelude.{◌≡◌, ◌↔◌, ◌≤◌, flat_map, map, IsErrOf, OnErr, OnOk};
-ghost use Rattle.std.specs.Io.KnownBytes.{Appends};
+ghost use Rattle.std.specs.Prelude.{map};
 ghost use Rattle.dvg_log.specs.Entries.{shown_of};
-ghost use Rattle.dvg_io.specs.Faults.{WritesText};
-ghost use Rattle.dvg_lines.specs.Shows.{head_line, shown, shown_entry, stroke_line, strokes_of};
-ghost use Rattle.dvg_io.specs.Watching.{BeginsToWrite, CountsErrors, device_of, failures_of};
+ghost use Rattle.dvg_lines.specs.Shows.{head_line, shown, shown_entry, strokes_of};
+ghost use Rattle.dvg_io.specs.Watching.{Writes};
 
-use dvg_io::{DeviceFailed, ToolFault, Watched, write_strokes, write_whole};
+use dvg_io::{DeviceFailed, Watched, write_strokes, write_whole};
 use dvg_lines::Line;
 use dvg_log::{Entry, OwnEntry};
 use std::alloc::Allocator;
 use std::io::Write;
 
-// Writes the line of an entry, or with its pictures alone that of a picture, if it is one. The line is made
-// in `line`.
+// Writes the line of an entry, or with its pictures alone that of a picture, if it is one. The line
+// is made in `line`.
 fn write_head<A: Allocator, W: Write>(
     line: &mut Line,
     number: usize,
@@ -21,9 +19,8 @@ fn write_head<A: Allocator, W: Write>(
     all: bool,
     writer: &mut Watched<W>,
 ) -> Result<(), DeviceFailed>
-    ensures ok { OnOk result (Appends (W.contents (device_of writer.old)) (W.contents (device_of writer.new)) (head_line all number (shown_of entry.now))) }
-    ensures err { OnErr result (BeginsToWrite (head_line all number (shown_of entry.now)) (W.contents (device_of writer.old)) (W.contents (device_of writer.new))) }
-    ensures counts { CountsErrors result (failures_of writer.old) (failures_of writer.new) }
+    ensures { Writes W.contents (head_line all number (shown_of entry.now))
+        result writer.old writer.new }
 {
     if all {
         line.become_entry(number, entry);
@@ -41,9 +38,8 @@ fn write_drawn<A: Allocator, W: Write>(
     entry: &OwnEntry<A>,
     writer: &mut Watched<W>,
 ) -> Result<(), DeviceFailed>
-    ensures ok { OnOk result (Appends (W.contents (device_of writer.old)) (W.contents (device_of writer.new)) (strokes_of (shown_of entry.now))) }
-    ensures err { OnErr result (BeginsToWrite (strokes_of (shown_of entry.now)) (W.contents (device_of writer.old)) (W.contents (device_of writer.new))) }
-    ensures counts { CountsErrors result (failures_of writer.old) (failures_of writer.new) }
+    ensures { Writes W.contents (strokes_of (shown_of entry.now))
+        result writer.old writer.new }
 {
     match entry {
         Entry::Done(_, _, strokes) => write_strokes(line, strokes.as_slice(), writer),
@@ -59,31 +55,26 @@ fn write_entry<A: Allocator, W: Write>(
     all: bool,
     writer: &mut Watched<W>,
 ) -> Result<(), DeviceFailed>
-    ensures ok { OnOk result (Appends (W.contents (device_of writer.old)) (W.contents (device_of writer.new)) (shown_entry all number (shown_of entry.now))) }
-    ensures err { OnErr result (BeginsToWrite (shown_entry all number (shown_of entry.now)) (W.contents (device_of writer.old)) (W.contents (device_of writer.new))) }
-    ensures counts { CountsErrors result (failures_of writer.old) (failures_of writer.new) }
+    ensures { Writes W.contents (shown_entry all number (shown_of entry.now))
+        result writer.old writer.new }
 {
     write_head(line, number, entry, all, writer)?;
     write_drawn(line, entry, writer)
 }
 
-/// Writes what is shown of entries, the first of which is that of event 0: with `all` of each, and else of
-/// finished runs alone.
+/// Writes what is shown of entries, the first of which is that of event 0: with `all` of each, and
+/// else of finished runs alone.
 pub fn write_entries<A: Allocator, W: Write>(
     entries: &[OwnEntry<A>],
     all: bool,
     writer: &mut Watched<W>,
-) -> Result<(), ToolFault>
-    requires fresh { failures_of writer.old ≡ 0 }
-    ensures writes { WritesText result (shown all 0 (map shown_of entries.now)) (W.contents (device_of writer.old)) (W.contents (device_of writer.new)) }
-    ensures writer { IsErrOf result ToolFault.Writer ↔ (failures_of writer.new ≡ 1) }
-    ensures stops { failures_of writer.new ≤ 1 }
+) -> Result<(), DeviceFailed>
+    ensures { Writes W.contents (shown all 0 (map shown_of entries.now))
+        result writer.old writer.new }
 {
     let mut line = Line::new();
     for (number, entry) in entries.iter().enumerate() {
-        if write_entry(&mut line, number, entry, all, writer).is_err() {
-            return Err(ToolFault::Writer);
-        }
+        write_entry(&mut line, number, entry, all, writer)?;
     }
     Ok(())
 }

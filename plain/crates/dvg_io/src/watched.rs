@@ -8,8 +8,8 @@ use thiserror::Error;
 pub struct DeviceFailed;
 
 /// A reader or writer behind calls that count its failures. A failure is an error that it answers,
-/// and a write that takes nothing of a part that isn't empty; an interrupted call is an error like any
-/// other. It is no `Read` or `Write` itself, so that no call goes past the count.
+/// and a write that takes nothing of a part that isn't empty; an interrupted call is an error like
+/// any other. It is no `Read` or `Write` itself, so that no call goes past the count.
 pub struct Watched<T> {
     device: T,
     failures: u32,
@@ -42,8 +42,8 @@ impl<T> Watched<T> {
 }
 
 impl<R: Read> Watched<R> {
-    /// One read into `buf`, which answers how many bytes it gave. At an error no byte was taken, and the
-    /// failure is counted.
+    /// One read into `buf`, which answers how many bytes it gave. At an error no byte was taken,
+    /// and the failure is counted.
     pub fn read(&mut self, buf: &mut [u8]) -> Result<usize, DeviceFailed> {
         match self.device.read(buf) {
             Ok(count) => Ok(count),
@@ -53,8 +53,8 @@ impl<R: Read> Watched<R> {
 }
 
 impl<W: Write> Watched<W> {
-    /// One write of a part of a text, which answers how many bytes were taken. At an error no byte went
-    /// out, and the failure is counted.
+    /// One write of a part of a text, which answers how many bytes were taken. At an error no byte
+    /// went out, and the failure is counted.
     pub fn write(&mut self, part: &[u8]) -> Result<usize, DeviceFailed> {
         match self.device.write(part) {
             Ok(0) if !part.is_empty() => Err(self.failed()),

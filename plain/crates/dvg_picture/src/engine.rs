@@ -1,7 +1,7 @@
 //! The engine `picture`.
 use crate::writes::write_run;
 use dvg_dump::{Dump, DumpFault, LARGE_DUMP_BYTES, Outcome, Traced};
-use dvg_io::{ToolFault, Watched, read_up_to};
+use dvg_io::{DeviceFailed, Engine, ToolFault, Watched, serve};
 use dvg_text::TextFault;
 use std::alloc::Allocator;
 use std::io::{Read, Write};
@@ -23,13 +23,40 @@ fn run_dump<A: Allocator + Copy>(
     Ok(run)
 }
 
-/// Reads a dump of vector memory, 2,048 bytes of RAM and then 2,048 or 4,096 of ROM, starts a new generator once over it,
-/// which doesn't change, and writes how that ends: `picture` with the numbers of words that were fetched and of
-/// strokes, and a line for each stroke; `broke` with the address of the fetch and the fault's number; or `endless`, where
-/// there is neither within 65,536 words. With `all` it first writes a line for each instruction that was run, with the beam after it,
-/// and behind it that of its stroke (the texts are this project's own choice). It answers which of the three it was.
+// The engine: of a dump it finds how its run ends.
+struct PictureEngine {
+    // Whether it finds the instructions, too.
+    all: bool,
+}
+
+impl<A: Allocator + Copy> Engine<A> for PictureEngine {
+    type Found = Traced<A>;
+
+    const MOST: u32 = LARGE_DUMP_BYTES as u32;
+
+    fn find(&self, alloc: A, read: &[u8]) -> Result<Traced<A>, ToolFault> {
+        run_dump(alloc, read, self.all)
+    }
+
+    fn write<W: Write>(
+        &self,
+        run: &Traced<A>,
+        writer: &mut Watched<W>,
+    ) -> Result<(), DeviceFailed> {
+        write_run(run, writer)
+    }
+}
+
+/// Reads a dump of vector memory, 2,048 bytes of RAM and then 2,048 or 4,096 of ROM, starts a new
+/// generator once over it, which doesn't change, and writes how that ends: `picture` with the
+/// numbers of words that were fetched and of strokes, and a line for each stroke; `broke` with the
+/// address of the fetch and the fault's number; or `endless`, where there is neither within 65,536
+/// words. With `all` it first writes a line for each instruction that was run, with the beam after
+/// it, and after it that of its stroke (the texts are this project's own choice). It answers which
+/// of the three it was.
 ///
-/// - `DumpSize`: the input has neither 4,096 bytes nor 6,144, of which no more than 6,145 are taken.
+/// - `DumpSize`: the input has neither 4,096 bytes nor 6,144, of which no more than 6,145 are
+///   taken.
 /// - `Reader`, `Writer`: that device failed. After `Writer` a beginning of the text went out.
 /// - `Memory`: a growth was refused.
 ///
@@ -41,12 +68,6 @@ pub fn picture<A: Allocator + Copy, R: Read, W: Write>(
     writer: &mut Watched<W>,
     all: bool,
 ) -> Result<Outcome, ToolFault> {
-    let run = {
-        let bytes = read_up_to(alloc, reader, LARGE_DUMP_BYTES)?;
-        run_dump(alloc, bytes.as_slice(), all)?
-    };
-    if write_run(&run, writer).is_err() {
-        return Err(ToolFault::Writer);
-    }
+    let run = serve(&PictureEngine { all }, alloc, reader, writer)?;
     Ok(run.ending.outcome())
 }

@@ -6,7 +6,7 @@ use dvg_lines::Line;
 use std::alloc::Allocator;
 use std::io::Write;
 
-// Writes the line, and behind it those of strokes, which are made in its place.
+// Writes the line, and after it those of strokes, which are made in its place.
 fn write_with_strokes<W: Write>(
     line: &mut Line,
     strokes: &[Stroke],

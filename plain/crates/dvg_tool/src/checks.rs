@@ -1,6 +1,6 @@
 //! The engines `check_text` and `check_bound`.
 use dvg_frame::check;
-use dvg_io::{ToolFault, Watched, read_up_to, write_whole};
+use dvg_io::{DeviceFailed, Engine, ToolFault, Watched, serve, write_whole};
 use dvg_lines::{BoundedVerdict, Line, Verdict};
 use dvg_mem::Rom;
 use dvg_text::{MOST_TEXT_BYTES, read_draft};
@@ -26,14 +26,62 @@ fn judge<A: Allocator>(alloc: A, text: &[u8]) -> Result<BoundedVerdict, ToolFaul
     }
 }
 
-/// Reads a draft as text, with the lines of a memory map and of a ROM before it, and writes in one line what the check says
-/// of the draft over that ROM: `ok` and its number of words, or `fault` and the fault's number, name and
-/// place (the texts are this project's own choice). It answers what it wrote.
+// The engine `check_text`: of a draft it finds what the check says.
+struct CheckEngine;
+
+impl<A: Allocator + Copy> Engine<A> for CheckEngine {
+    type Found = Verdict;
+
+    const MOST: u32 = MOST_TEXT_BYTES as u32;
+
+    fn find(&self, alloc: A, read: &[u8]) -> Result<Verdict, ToolFault> {
+        let bounded = judge(alloc, read)?;
+        Ok(bounded.verdict())
+    }
+
+    fn write<W: Write>(
+        &self,
+        verdict: &Verdict,
+        writer: &mut Watched<W>,
+    ) -> Result<(), DeviceFailed> {
+        let mut line = Line::new();
+        line.become_verdict(*verdict);
+        write_whole(writer, line.as_bytes())
+    }
+}
+
+// The engine `check_bound`: it finds the bound of a good draft, too.
+struct BoundEngine;
+
+impl<A: Allocator + Copy> Engine<A> for BoundEngine {
+    type Found = BoundedVerdict;
+
+    const MOST: u32 = MOST_TEXT_BYTES as u32;
+
+    fn find(&self, alloc: A, read: &[u8]) -> Result<BoundedVerdict, ToolFault> {
+        judge(alloc, read)
+    }
+
+    fn write<W: Write>(
+        &self,
+        verdict: &BoundedVerdict,
+        writer: &mut Watched<W>,
+    ) -> Result<(), DeviceFailed> {
+        let mut line = Line::new();
+        line.become_bounded(*verdict);
+        write_whole(writer, line.as_bytes())
+    }
+}
+
+/// Reads a draft as text, with the lines of a memory map and of a ROM before it, and writes in one
+/// line what the check says of the draft over that ROM: `ok` and its number of words, or `fault`
+/// and the fault's number, name and place (the texts are this project's own choice). It answers
+/// what it wrote.
 ///
-/// - `TooLong`: the text has more than 1,048,576 bytes, of which no more than 1,048,577 are taken. This
-///   is decided before all others.
-/// - `Syntax`, `Full`: this line is the first at fault. It spells nothing that may stand at its place, or
-///   it spells operation number 511.
+/// - `TooLong`: the text has more than 1,048,576 bytes, of which no more than 1,048,577 are taken.
+///   This is decided before all others.
+/// - `Syntax`, `Full`: this line is the first at fault. It spells nothing that may stand at its
+///   place, or it spells operation number 511.
 /// - `Reader`, `Writer`: that device failed. After `Writer` a beginning of the line went out.
 /// - `Memory`: a growth was refused.
 ///
@@ -44,31 +92,17 @@ pub fn check_text<A: Allocator, R: Read, W: Write>(
     reader: &mut Watched<R>,
     writer: &mut Watched<W>,
 ) -> Result<Verdict, ToolFault> {
-    let text = read_up_to(&alloc, reader, MOST_TEXT_BYTES)?;
-    let bounded = judge(&alloc, text.as_slice())?;
-    let verdict = bounded.verdict();
-    let mut line = Line::new();
-    line.become_verdict(verdict);
-    if write_whole(writer, line.as_bytes()).is_err() {
-        return Err(ToolFault::Writer);
-    }
-    Ok(verdict)
+    serve(&CheckEngine, &alloc, reader, writer)
 }
 
-/// The same, but the line of a good draft tells its bound, too: `ok`, its number of words and how many fetches
-/// its whole run takes, which are the words that the generator fetches, word zero included.
+/// The same, but the line of a good draft tells its bound, too: `ok`, its number of words and how
+/// many fetches its whole run takes, which are the words that the generator fetches, word zero
+/// included.
 #[inline(never)]
 pub fn check_bound<A: Allocator, R: Read, W: Write>(
     alloc: A,
     reader: &mut Watched<R>,
     writer: &mut Watched<W>,
 ) -> Result<BoundedVerdict, ToolFault> {
-    let text = read_up_to(&alloc, reader, MOST_TEXT_BYTES)?;
-    let verdict = judge(&alloc, text.as_slice())?;
-    let mut line = Line::new();
-    line.become_bounded(verdict);
-    if write_whole(writer, line.as_bytes()).is_err() {
-        return Err(ToolFault::Writer);
-    }
-    Ok(verdict)
+    serve(&BoundEngine, &alloc, reader, writer)
 }

@@ -12,8 +12,9 @@ use dvg_words::Job;
 use std::alloc::Allocator;
 use std::io::{Read, Write};
 
-/// Does a job by its engine: `list`, `rom_text`, `picture`, `check_text` or `check_bound`, `play`, or `play_in` over
-/// the store `Banked`, or `torn`; and tells what `picture`, a check and `torn` have to tell.
+/// Does a job by its engine: `list`, `rom_text`, `picture`, `check_text` or `check_bound`, `play`,
+/// or `play_in` over the store `Banked`, or `torn`; and tells what `picture`, a check and `torn`
+/// have to tell.
 pub fn perform<A: Allocator + Copy, R: Read, W: Write>(
     alloc: A,
     job: Job,

@@ -1,4 +1,5 @@
-//! The engine `list`.
+//! The engine `list`. Its fault `Cut` comes in the midst of its writing, so it is no `Engine` that
+//! is served.
 use dvg_code::{Code, Listed, Listing, encode};
 use dvg_io::{DeviceFailed, ToolFault, Watched, collect_words, read_up_to, write_whole};
 use dvg_lines::Line;
@@ -10,7 +11,8 @@ use std::io::{Read, Write};
 /// (this project's own choice).
 pub const MOST_LIST_BYTES: usize = 8192;
 
-// Writes the line of the instruction that stands at a place of the words. The line is made in `line`.
+// Writes the line of the instruction that stands at a place of the words. The line is made in
+// `line`.
 fn write_item<W: Write>(
     line: &mut Line,
     words: &[u16],
@@ -39,18 +41,19 @@ fn list_words<W: Write>(words: &[u16], writer: &mut Watched<W>) -> Result<(), To
     Ok(())
 }
 
-/// Reads words, two bytes each, the low one first, and writes a line for each instruction: its place
-/// in words, its name and operands, and a star where its words aren't canonical (the text is this
-/// project's own choice).
+/// Reads words, two bytes each, the low one first, and writes a line for each instruction: its
+/// place in words, its name and operands, and a star where its words aren't canonical (the text is
+/// this project's own choice).
 ///
 /// - `TooLong`: the input has more than 8,192 bytes, of which no more than 8,193 are taken.
 /// - `Odd`: it has an odd number of bytes.
-/// - `Cut`: the last word is the first of two, and the second is missing; the lines before it are written.
+/// - `Cut`: the last word is the first of two, and the second is missing; the lines before it are
+///   written.
 /// - `Reader`, `Writer`: that device failed. After `Writer` a beginning of the text went out.
 /// - `Memory`: a growth was refused.
 ///
-/// Where it stops before it writes, which is at any fault but `Cut` and `Writer`, the writer is as it
-/// was.
+/// Where it stops before it writes, which is at any fault but `Cut` and `Writer`, the writer is as
+/// it was.
 pub fn list<A: Allocator, R: Read, W: Write>(
     alloc: A,
     reader: &mut Watched<R>,

@@ -20,8 +20,8 @@ pub enum Done {
     Searched(LogVerdict),
 }
 
-/// Flushes the writer of an engine that is done. A flush that fails is `Writer`, whatever the engine
-/// answered; else the engine's answer stays.
+/// Flushes the writer of an engine that is done. A flush that fails is `Writer`, whatever the
+/// engine answered; else the engine's answer stays.
 pub fn finish<W: Write>(
     answer: Result<Done, ToolFault>,
     writer: &mut Watched<W>,
@@ -32,10 +32,10 @@ pub fn finish<W: Write>(
     }
 }
 
-/// The program's exit status: 0 where the job is done, 1 for a fault of the text, and where what was asked about isn't
-/// good: a draft that `check` refuses, a dump that draws no picture, a log with a torn picture or of which no run drew;
-/// 2 for a device that failed or want of memory; words that ask for no job are 64, which is not an answer of an engine
-/// (this project's own choice).
+/// The program's exit status: 0 where the job is done, 1 for a fault of the text, and where what
+/// was asked about isn't good: a draft that `check` refuses, a dump that draws no picture, a log
+/// with a torn picture or of which no run drew; 2 for a device that failed or want of memory; words
+/// that ask for no job are 64, which is not an answer of an engine (this project's own choice).
 pub fn status(answer: &Result<Done, ToolFault>) -> u8 {
     match answer {
         Ok(

@@ -2,13 +2,14 @@
 use std::prelude::*;
 
 use crate::shows::write_entries;
-use dvg_io::{ToolFault, Watched, read_up_to};
+use dvg_io::{DeviceFailed, Engine, ToolFault, Watched, serve};
 use dvg_log::OwnEntry;
 use dvg_mem::{Flat, Image, MEMORY_BYTES, Rom, Store};
 use dvg_text::{MOST_TEXT_BYTES, TraceText, read_trace};
 use dvg_world::{Stopped, run_trace};
 use std::alloc::Allocator;
 use std::io::{Read, Write};
+use std::marker::PhantomData;
 
 // A run that stopped before its first event.
 fn unstarted<A: Allocator>(alloc: A) -> Stopped<A> {
@@ -32,25 +33,59 @@ fn run_text<S: Store>(
     run_trace::<S>(alloc, rom, &image, &told.events)
 }
 
-/// Reads a trace as text, with the lines of a memory map and of a ROM before it, lets its events happen from a RAM of zeros, and
-/// writes what the log shows: with `all` a line for each entry, and else for each finished run; and behind
-/// the line of a finished run one for each of its strokes, in the order drawn (the texts are this project's
-/// own choice).
+// The engine: of a trace it finds how its events happen, over a RAM that is kept in a store.
+struct PlayEngine<S> {
+    // Whether each entry is shown.
+    all: bool,
+    store: PhantomData<S>,
+}
+
+impl<S: Store> Engine<S::Alloc> for PlayEngine<S> {
+    type Found = Result<Vec<OwnEntry<S::Alloc>, S::Alloc>, Stopped<S::Alloc>>;
+
+    const MOST: u32 = MOST_TEXT_BYTES as u32;
+
+    fn find(&self, alloc: S::Alloc, read: &[u8]) -> Result<Self::Found, ToolFault> {
+        let told = read_trace(alloc, read)?;
+        Ok(run_text::<S>(alloc, &told))
+    }
+
+    fn write<W: Write>(
+        &self,
+        run: &Self::Found,
+        writer: &mut Watched<W>,
+    ) -> Result<(), DeviceFailed> {
+        match run {
+            Ok(entries) => write_entries(entries.as_slice(), self.all, writer),
+            Err(stopped) => write_entries(stopped.entries.as_slice(), self.all, writer),
+        }
+    }
+}
+
+/// Reads a trace as text, with the lines of a memory map and of a ROM before it, lets its events
+/// happen from a RAM of zeros, and writes what the log shows: with `all` a line for each entry, and
+/// else for each finished run; and after the line of a finished run one for each of its strokes, in
+/// the order drawn (the texts are this project's own choice).
 ///
-/// The events happen by `dvg_world::run_trace`: the log is the one legal log of them, and each of its lines keeps the
-/// headline, which `plays` says, too. The whole text is read before the first event happens, and what writes is handed no allocator.
+/// The events happen by `dvg_world::run_trace`: the log is the one legal log of them, and each of
+/// its lines keeps the headline, which `Plays` says, too. The whole text is read before the first
+/// event happens, and what writes is handed no allocator.
 ///
-/// - `TooLong`: the text has more than 1,048,576 bytes, of which no more than 1,048,577 are taken. This
-///   is decided before all others.
-/// - `Syntax`, `Full`, `Many`, `Unended`: this is the first fault of the text, as `read_trace` tells it.
+/// - `TooLong`: the text has more than 1,048,576 bytes, of which no more than 1,048,577 are taken.
+///   This is decided before all others.
+/// - `Syntax`, `Full`, `Many`, `Unended`: this is the first fault of the text, as `read_trace`
+///   tells it.
 /// - `Reader`, `Writer`: that device failed. After `Writer` a beginning of the text went out.
-/// - `Memory`: a growth was refused. At an event, which is a fetch that completes a vector with an intensity
-///   of at least 1, the text of the events before it went out first. The contract can't tell where memory was
-///   refused, so by it nothing at all may have gone out; tests show that text.
+/// - `Memory`: a growth was refused. At an event, which is a fetch that completes a vector with an
+///   intensity of at least 1, the text of the events before it went out first. The contract can't
+///   tell where memory was refused, so by it nothing at all may have gone out; tests show that
+///   text.
 ///
-/// Where it stops before it writes, which is at any fault but `Writer` and `Memory`, the writer is as it was.
+/// Where it stops before it writes, which is at any fault but `Writer` and `Memory`, the writer is
+/// as it was.
 ///
-/// The RAM is kept in any store. All of this holds whichever it is, so what is written doesn't depend on it.
+/// The RAM is kept in any store. All of this holds whichever it is, so what is written doesn't
+/// depend on it.
 #[inline(never)]
 pub fn play_in<S: Store, R: Read, W: Write>(
     alloc: S::Alloc,
@@ -58,20 +93,18 @@ pub fn play_in<S: Store, R: Read, W: Write>(
     writer: &mut Watched<W>,
     all: bool,
 ) -> Result<(), ToolFault> {
-    let told = {
-        let text = read_up_to(alloc, reader, MOST_TEXT_BYTES)?;
-        read_trace(alloc, text.as_slice())?
+    let engine = PlayEngine::<S> {
+        all,
+        store: PhantomData,
     };
-    match run_text::<S>(alloc, &told) {
-        Ok(entries) => write_entries(entries.as_slice(), all, writer),
-        Err(stopped) => {
-            write_entries(stopped.entries.as_slice(), all, writer)?;
-            Err(ToolFault::Memory)
-        }
+    match serve(&engine, alloc, reader, writer)? {
+        Ok(_) => Ok(()),
+        Err(_) => Err(ToolFault::Memory),
     }
 }
 
-/// Plays a trace over a RAM that is kept in one array: `play_in` with the store `Flat`, and with its clauses.
+/// Plays a trace over a RAM that is kept in one array: `play_in` with the store `Flat`, and with
+/// its clauses.
 pub fn play<A: Allocator + Copy, R: Read, W: Write>(
     alloc: A,
     reader: &mut Watched<R>,

@@ -1,7 +1,7 @@
 //! The engine `rom_text`.
 use std::prelude::*;
 
-use dvg_io::{ToolFault, Watched, collect_words, read_up_to, write_whole};
+use dvg_io::{DeviceFailed, Engine, ToolFault, Watched, collect_words, serve, write_whole};
 use dvg_lines::Line;
 use dvg_mem::{FIRST_LARGE_ROM_WORD, FIRST_ROM_WORD, LARGE_ROM_BYTES, MEMORY_BYTES};
 use dvg_text::TextFault;
@@ -15,7 +15,11 @@ const LINE_WORDS: usize = 8;
 const LARGE_MAP: &[u8] = b"map 4096\n";
 
 // Writes a line for each eight words of a ROM, from the first one's address on.
-fn write_rows<W: Write>(first: u16, words: &[u16], writer: &mut Watched<W>) -> Result<(), ToolFault> {
+fn write_rows<W: Write>(
+    first: u16,
+    words: &[u16],
+    writer: &mut Watched<W>,
+) -> Result<(), DeviceFailed> {
     let mut line = Line::new();
     for row in 0..words.len() / LINE_WORDS {
         let begin = row * LINE_WORDS;
@@ -23,9 +27,7 @@ fn write_rows<W: Write>(first: u16, words: &[u16], writer: &mut Watched<W>) -> R
             usize::from(first) + begin,
             &words[begin..begin + LINE_WORDS],
         );
-        if write_whole(writer, line.as_bytes()).is_err() {
-            return Err(ToolFault::Writer);
-        }
+        write_whole(writer, line.as_bytes())?;
     }
     Ok(())
 }
@@ -36,10 +38,8 @@ fn write_rom<W: Write>(
     first: u16,
     words: &[u16],
     writer: &mut Watched<W>,
-) -> Result<(), ToolFault> {
-    if write_whole(writer, map).is_err() {
-        return Err(ToolFault::Writer);
-    }
+) -> Result<(), DeviceFailed> {
+    write_whole(writer, map)?;
     write_rows(first, words, writer)
 }
 
@@ -54,9 +54,34 @@ fn words_of_rom<A: Allocator>(alloc: A, bytes: &[u8]) -> Result<Vec<u16, A>, Too
     }
 }
 
-/// Reads the bytes of a ROM, 2,048 or 4,096, and writes them as ROM lines of eight words each: of 2,048 bytes 128 lines,
-/// from word address 800 on, and of 4,096 bytes the line `map 4096` and 256 lines, from word address 400 on (the text is
-/// this project's own choice).
+// The engine: of a ROM it finds the words.
+struct RomEngine;
+
+impl<A: Allocator + Copy> Engine<A> for RomEngine {
+    type Found = Vec<u16, A>;
+
+    const MOST: u32 = LARGE_ROM_BYTES as u32;
+
+    fn find(&self, alloc: A, read: &[u8]) -> Result<Vec<u16, A>, ToolFault> {
+        words_of_rom(alloc, read)
+    }
+
+    fn write<W: Write>(
+        &self,
+        words: &Vec<u16, A>,
+        writer: &mut Watched<W>,
+    ) -> Result<(), DeviceFailed> {
+        if words.len() == MEMORY_BYTES / 2 {
+            write_rom(b"", FIRST_ROM_WORD, words.as_slice(), writer)
+        } else {
+            write_rom(LARGE_MAP, FIRST_LARGE_ROM_WORD, words.as_slice(), writer)
+        }
+    }
+}
+
+/// Reads the bytes of a ROM, 2,048 or 4,096, and writes them as ROM lines of eight words each: of
+/// 2,048 bytes 128 lines, from word address 800 on, and of 4,096 bytes the line `map 4096` and 256
+/// lines, from word address 400 on (the text is this project's own choice).
 ///
 /// - `RomSize`: the input has another number of bytes; no more than 4,097 are taken.
 /// - `Reader`, `Writer`: that device failed. After `Writer` a beginning of the text went out.
@@ -68,11 +93,6 @@ pub fn rom_text<A: Allocator, R: Read, W: Write>(
     reader: &mut Watched<R>,
     writer: &mut Watched<W>,
 ) -> Result<(), ToolFault> {
-    let bytes = read_up_to(&alloc, reader, LARGE_ROM_BYTES)?;
-    let words = words_of_rom(&alloc, bytes.as_slice())?;
-    if bytes.len() == MEMORY_BYTES {
-        write_rom(b"", FIRST_ROM_WORD, words.as_slice(), writer)
-    } else {
-        write_rom(LARGE_MAP, FIRST_LARGE_ROM_WORD, words.as_slice(), writer)
-    }
+    serve(&RomEngine, &alloc, reader, writer)?;
+    Ok(())
 }

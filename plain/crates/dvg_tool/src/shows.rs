@@ -1,12 +1,12 @@
 //! What is written of a log's entries.
-use dvg_io::{DeviceFailed, ToolFault, Watched, write_strokes, write_whole};
+use dvg_io::{DeviceFailed, Watched, write_strokes, write_whole};
 use dvg_lines::Line;
 use dvg_log::{Entry, OwnEntry};
 use std::alloc::Allocator;
 use std::io::Write;
 
-// Writes the line of an entry, or with its pictures alone that of a picture, if it is one. The line is made
-// in `line`.
+// Writes the line of an entry, or with its pictures alone that of a picture, if it is one. The line
+// is made in `line`.
 fn write_head<A: Allocator, W: Write>(
     line: &mut Line,
     number: usize,
@@ -48,18 +48,16 @@ fn write_entry<A: Allocator, W: Write>(
     write_drawn(line, entry, writer)
 }
 
-/// Writes what is shown of entries, the first of which is that of event 0: with `all` of each, and else of
-/// finished runs alone.
+/// Writes what is shown of entries, the first of which is that of event 0: with `all` of each, and
+/// else of finished runs alone.
 pub fn write_entries<A: Allocator, W: Write>(
     entries: &[OwnEntry<A>],
     all: bool,
     writer: &mut Watched<W>,
-) -> Result<(), ToolFault> {
+) -> Result<(), DeviceFailed> {
     let mut line = Line::new();
     for (number, entry) in entries.iter().enumerate() {
-        if write_entry(&mut line, number, entry, all, writer).is_err() {
-            return Err(ToolFault::Writer);
-        }
+        write_entry(&mut line, number, entry, all, writer)?;
     }
     Ok(())
 }

@@ -18,7 +18,7 @@ pub mod io;
 #[cfg(feature = "program")]
 pub mod runtime;
 
-pub use core::{convert, fmt, iter, mem};
+pub use core::{convert, fmt, iter, marker, mem};
 #[cfg(feature = "program")]
 pub use host::process;
 #[cfg(feature = "program")]

@@ -5,8 +5,8 @@ use Rattle.dvg_io.proofs.StrokeLines.{next_stroke, no_stroke}
 use Rattle.dvg_io.proofs.Went.{piece_begun, piece_more}
 use Rattle.dvg_io.proofs.strokes.write_strokes.Goals as goal
 
-pub returns-in_err-write_whole-clause-err : goal.returns-in_err-write_whole-clause-err
-returns-in_err-write_whole-clause-err g c =
+pub returns-in_err-write_whole : goal.returns-in_err-write_whole
+returns-in_err-write_whole g c =
     let i = c.loop-stroke.stroke-index in
     let line = stroke_line (get_or c.args.strokes.now i no_stroke) in
     let next = next_stroke c.args.strokes.now i c.loop-stroke-test.true in

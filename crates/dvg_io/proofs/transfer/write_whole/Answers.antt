@@ -1,4 +1,5 @@
-use Rattle.std.proofs.Common.{◌++◌, ◌∙◌, take}
+use Rattle.std.proofs.Common.{◌++◌, ◌∙◌, take, rules}
+use Rattle.dvg_io.specs.Watching.{BeginsToWrite}
 use Rattle.dvg_io.proofs.Known.{Appends-trans, Appends-kept, moves_front}
 use Rattle.dvg_io.proofs.transfer.write_whole.Goals as goal
 
@@ -12,7 +13,13 @@ loop-rest-preserved g c =
       counted = c.in-Ok.ensures.counts ∙ c.loop-rest.invariant.counted;
     }
 
-pub returns-in_default-clause-err : goal.returns-in_default-clause-err
-returns-in_default-clause-err g c =
+pub returns-in_default : goal.returns-in_default
+returns-in_default g c =
     let (done, split, appended) = c.loop-rest.invariant.went_out in
-    record { front = done; rest = c.loop-rest.rest.now; parts = split; wrote = Appends-kept _ _ _ _ appended c.in_default.ensures.bytes }
+    let begun : BeginsToWrite c.args.text.now _ _ = record {
+      front = done;
+      rest = c.loop-rest.rest.now;
+      parts = split;
+      wrote = Appends-kept _ _ _ _ appended c.in_default.ensures.bytes;
+    } in
+    (begun, search rules)

@@ -1,24 +1,19 @@
-use Rattle.std.proofs.Common.{rules, ap, ◌∙◌, Err}
+use Rattle.std.proofs.Common.{ap, ◌∙◌, Err}
 use Rattle.std.proofs.lemmas.Result.{err_from_is_err_and}
 use Rattle.dvg_dump.specs.Endings.{end_of}
-use Rattle.dvg_picture.specs.Pictures.{IsDumpFault, IsRunOf}
-use Rattle.dvg_picture.proofs.Shown.{broken_off, drew, stopped}
+use Rattle.dvg_io.proofs.Served.{served, unserved}
+use Rattle.dvg_picture.proofs.Shown.{drew, stops}
 use Rattle.dvg_picture.proofs.engine.picture.Goals as goal
 
-pub returns-in_err-run-clause-pictures : goal.returns-in_err-run-clause-pictures
-returns-in_err-run-clause-pictures g c =
-    let is = err_from_is_err_and c.from_residual-in_err-run.result c.from_residual-in_err-run.ensures.1 in
-    let h : IsDumpFault c.in_ok-bytes.bytes.items c.in_err-run.field-0.0 = search rules in
-    stopped c.args.all _ c.in_err-run.field-0.0 _ _ _ c.in_ok-bytes.bytes.items (is.1 ∙ ap Err is.2) c.in_ok-bytes.ensures.bytes h
+pub returns-in_err-run : goal.returns-in_err-run
+returns-in_err-run g c =
+    let is = err_from_is_err_and c.from_residual.result c.from_residual.ensures.1 in
+    let fault = c.in_err-run.field-0.0 in
+    unserved g.R.Read.remaining g.W.Write.contents 6145 _ _ _ _ c.args.reader.now c.serve.new.reader c.args.writer.now c.serve.new.writer
+    c.from_residual.result fault (is.1 ∙ ap Err is.2) (λ early. early) (stops _ c.args.all fault _ _) c.in_err-run.ensures
 
-pub returns-then-is_err-clause-pictures : goal.returns-then-is_err-clause-pictures
-returns-then-is_err-clause-pictures g c =
+pub returns : goal.returns
+returns g c =
     let run = c.in_ok-run.run' in
-    let told : IsRunOf c.args.all c.in_ok-bytes.bytes.items run.ran.items (end_of run.ending) = search rules in
-    broken_off c.args.all _ _ _ c.in_ok-bytes.bytes.items run.ran.items (end_of run.ending) c.in_ok-bytes.ensures.bytes told (search rules)
-
-pub returns-clause-pictures : goal.returns-clause-pictures
-returns-clause-pictures g c =
-    let run = c.in_ok-run.run' in
-    let told : IsRunOf c.args.all c.in_ok-bytes.bytes.items run.ran.items (end_of run.ending) = search rules in
-    drew c.args.all _ _ _ c.in_ok-bytes.bytes.items run.ran.items (end_of run.ending) _ c.in_ok-bytes.ensures.bytes told c.outcome.ensures (search rules)
+    served g.R.Read.remaining g.W.Write.contents 6145 _ _ _ _ c.args.reader.now c.serve.new.reader c.args.writer.now c.serve.new.writer
+    run c.outcome.result (λ input. drew c.args.all c.outcome.result run.ran.items (end_of run.ending) _ _ input c.outcome.ensures) c.in_ok-run.ensures

@@ -5,8 +5,8 @@ use Rattle.dvg_picture.specs.Texts.{ran_text}
 use Rattle.dvg_picture.proofs.Shown.{next_ran}
 use Rattle.dvg_picture.proofs.writes.write_trace.Goals as goal
 
-pub returns-in_err-write_ran-clause-err : goal.returns-in_err-write_ran-clause-err
-returns-in_err-write_ran-clause-err g c =
+pub returns-in_err-write_ran : goal.returns-in_err-write_ran
+returns-in_err-write_ran g c =
     let i = c.loop-ran.ran-index in
     let ran = c.ran-item.result in
     let next = next_ran c.args.trace.now i ran c.loop-ran-test.true c.ran-item.is in

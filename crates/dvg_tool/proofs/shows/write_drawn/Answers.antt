@@ -8,4 +8,4 @@ use Rattle.dvg_tool.proofs.shows.write_drawn.Goals as goal
 pub returns-in_default : goal.returns-in_default
 returns-in_default g c =
     let known = g.W.Write.contents (device_of c.args.writer.now) in
-    record { ok = subst (Appends known known) (no_strokes c.args.entry.now c.in_default.not-Done) (Appends-nil known); err = tt; counts = refl }
+    (subst (Appends known known) (no_strokes c.args.entry.now c.in_default.not-Done) (Appends-nil known), refl)

@@ -6,12 +6,13 @@ use Rattle.dvg_tool.proofs.Shown.{next_entry}
 use Rattle.dvg_io.proofs.Went.{piece_begun, piece_more}
 use Rattle.dvg_tool.proofs.shows.write_entries.Goals as goal
 
-pub returns-then-is_err-clause-writes : goal.returns-then-is_err-clause-writes
-returns-then-is_err-clause-writes g c =
+pub returns-in_err-write_entry : goal.returns-in_err-write_entry
+returns-in_err-write_entry g c =
     let entry = c.index-entries-number.result in
     let next = next_entry c.args.all c.args.entries.now c.loop-number.number entry c.loop-number-test.true c.index-entries-number.is in
     let begun : BeginsToWrite (shown_entry c.args.all c.loop-number.number (shown_of entry)) (g.W.Write.contents (device_of c.loop-number.writer)) (g.W.Write.contents (device_of c.write_entry.new.writer)) = search rules in
-    piece_begun (shown_entry c.args.all c.loop-number.number (shown_of entry)) (shown c.args.all (c.loop-number.number + 1) (map shown_of (drop (c.loop-number.number + 1) c.args.entries.now))) c.loop-number.invariant.went next begun
+    let all = piece_begun (shown_entry c.args.all c.loop-number.number (shown_of entry)) (shown c.args.all (c.loop-number.number + 1) (map shown_of (drop (c.loop-number.number + 1) c.args.entries.now))) c.loop-number.invariant.went next begun in
+    search rules
 
 pub loop-number-preserved : goal.loop-number-preserved
 loop-number-preserved g c =

@@ -1,20 +1,19 @@
 use Rattle.std.proofs.Common.{rules}
-use Rattle.std.specs.Io.KnownBytes.{Appends}
 use Rattle.dvg_log.specs.Entries.{shown_of}
 use Rattle.dvg_lines.specs.Shows.{head_line, strokes_of}
-use Rattle.dvg_io.specs.Watching.{BeginsToWrite, device_of}
-use Rattle.dvg_io.proofs.Went.{first_begun, or_second_begun}
+use Rattle.dvg_io.proofs.Went.{writes_first, writes_second}
 use Rattle.dvg_tool.proofs.shows.write_entry.Goals as goal
 
-pub returns-in_err-write_head-clause-err : goal.returns-in_err-write_head-clause-err
-returns-in_err-write_head-clause-err g c =
+pub returns-in_err-write_head : goal.returns-in_err-write_head
+returns-in_err-write_head g c =
     let entry = shown_of c.args.entry.now in
-    let begun : BeginsToWrite (head_line c.args.all c.args.number entry) (g.W.Write.contents (device_of c.args.writer.now)) (g.W.Write.contents (device_of c.write_head.new.writer)) = search rules in
-    let both = first_begun (strokes_of entry) begun in
+    let head = head_line c.args.all c.args.number entry in
+    let broke = writes_first g.W.Write.contents head (strokes_of entry) c.args.writer.now c.write_head.new.writer (search rules) in
     search rules
 
-pub returns-clause-err : goal.returns-clause-err
-returns-clause-err g c =
+pub returns : goal.returns
+returns g c =
     let entry = shown_of c.args.entry.now in
-    let head : Appends (g.W.Write.contents (device_of c.args.writer.now)) (g.W.Write.contents (device_of c.write_head.new.writer)) (head_line c.args.all c.args.number entry) = search rules in
-    or_second_begun (head_line c.args.all c.args.number entry) (strokes_of entry) _ _ _ c.write_drawn.result head c.write_drawn.ensures.err
+    let head = head_line c.args.all c.args.number entry in
+    writes_second g.W.Write.contents head (strokes_of entry) c.write_drawn.result
+    c.args.writer.now c.write_head.new.writer c.write_drawn.new.writer (search rules) c.write_drawn.ensures

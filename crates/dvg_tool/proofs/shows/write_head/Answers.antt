@@ -11,4 +11,4 @@ pub returns-in_default : goal.returns-in_default
 returns-in_default g c =
     let known = g.W.Write.contents (device_of c.args.writer.now) in
     let none = no_line c.args.number c.args.entry.now c.in_default.not-Done ∙ sym (ap (λ all. head_line all c.args.number (shown_of c.args.entry.now)) c.if-all.false) in
-    record { ok = subst (Appends known known) none (Appends-nil known); err = tt; counts = refl }
+    (subst (Appends known known) none (Appends-nil known), refl)

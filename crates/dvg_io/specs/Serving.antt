@@ -1,0 +1,57 @@
+-- What an engine finds of its input, and what it is to serve an input with it.
+use Rattle.std.specs.Prelude.{◌≡◌, ℕ, ◌+◌, ◌≤◌, ◌↔◌, List, take, Option, Result, Ok, Err, IfErr, IfSome, IsErrOf}
+use Rattle.std.specs.Io.KnownBytes.{Appends}
+use Rattle.dvg_text.specs.declared.fault.TextFault.{TextFault}
+use Rattle.dvg_io.specs.declared.fault.ToolFault.{ToolFault}
+use Rattle.dvg_io.specs.declared.fault.ToolFault.TheVariants.{Text, Reader, Writer, Memory}
+use Rattle.dvg_io.specs.declared.watched.Watched.{Watched}
+use Rattle.dvg_io.specs.Watching.{BeginsToWrite, TakesAtMost, device_of, failures_of}
+
+-- this holds of each input of which these bytes are read: the whole input, or one byte more than
+-- the most
+abbrev pub OfInput : (most : ℕ) → (read : List ℕ) → (List ℕ → Type 0) → Type 0
+OfInput most read Holds = (input : List ℕ) → read ≡ take (most + 1) input → Holds input
+
+-- what is found, or why nothing is: a fault of the text, or want of memory
+abbrev pub IsFinding : {F : Type 0} → (Finds : F → Type 0) → (HasFault : TextFault → Type 0)
+    → Result F ToolFault → Type 0
+IsFinding Finds HasFault (Ok found) = Finds found
+IsFinding Finds HasFault (Err (Text fault)) = HasFault fault
+IsFinding Finds HasFault (Err Memory) = Unit {0}
+IsFinding Finds HasFault (Err _) = ⊥
+
+-- what an answer to an input says, with what was written before it and after it
+abbrev pub Meaning : Type 0 → Type 1
+Meaning V = Result V ToolFault → (input : List ℕ) → (old new : Option (List ℕ)) → Type 0
+
+-- what is answered of an input, and what went out: the text of what is found, or at `Writer` a
+-- beginning of it (that nothing went out at the other faults is a part of `Serves`)
+abbrev pub Answers : {F : Type 0} → (Finds : List ℕ → F → Type 0)
+    → (HasFault : List ℕ → TextFault → Type 0) → (text : F → List ℕ)
+    → Result F ToolFault → (input : List ℕ) → (old new : Option (List ℕ)) → Type 0
+Answers Finds HasFault text (Ok found) input old new =
+    Finds input found × Appends old new (text found)
+Answers Finds HasFault text (Err (Text fault)) input old new = HasFault input fault
+Answers {F} Finds HasFault text (Err Writer) input old new =
+    (found : F) × Finds input found × BeginsToWrite (text found) old new
+Answers Finds HasFault text (Err _) input old new = Unit {0}
+
+-- neither of the two devices has failed
+abbrev pub AreFresh : {R W : Type 0} → Watched R → Watched W → Type 0
+AreFresh reader writer = (failures_of reader ≡ 0) × (failures_of writer ≡ 0)
+
+-- what an engine keeps: of a reader that tells its bytes this is answered and went out; no more
+-- than so many bytes are taken; at an early fault the writer is as it was; and a device's failure is
+-- counted and answered
+pub record Serves {R W V : Type 0}
+    (remaining : R → Option (List ℕ)) (contents : W → Option (List ℕ)) (most : ℕ)
+    (IsEarly : ToolFault → Type 0) (Means : Meaning V) (answer : Result V ToolFault)
+    (old_reader new_reader : Watched R) (old_writer new_writer : Watched W) : Type 0 where
+  pub means : IfSome (remaining (device_of old_reader)) (λ input.
+      Means answer input (contents (device_of old_writer)) (contents (device_of new_writer)))
+  pub took : TakesAtMost most
+      (remaining (device_of old_reader)) (remaining (device_of new_reader))
+  pub unwritten : IfErr answer (λ fault. IsEarly fault → new_writer ≡ old_writer)
+  pub reader : IsErrOf answer Reader ↔ (failures_of new_reader ≡ 1)
+  pub writer : IsErrOf answer Writer ↔ (failures_of new_writer ≡ 1)
+  pub stops : (failures_of new_reader ≤ 1) × (failures_of new_writer ≤ 1)

@@ -1,0 +1,52 @@
+//! What the engines of the program `dvg` have in common.
+use std::prelude::*;
+
+use crate::fault::ToolFault;
+use crate::transfer::read_up_to;
+use crate::watched::{DeviceFailed, Watched};
+use std::alloc::Allocator;
+use std::io::{Read, Write};
+
+/// What one engine does and no other: what it finds of an input, and the text that it writes of
+/// that. How an input is read, and what becomes of the failures of devices, is `serve`'s.
+pub trait Engine<A: Allocator> {
+    /// What is found of an input.
+    type Found: Drop;
+
+    /// The most bytes that an input may have. One more is read, if there is one.
+    const MOST: u32;
+
+    /// Finds what there is in the bytes that were read.
+    fn find(&self, alloc: A, read: &[u8]) -> Result<Self::Found, ToolFault>;
+
+    /// Writes the text of what was found.
+    fn write<W: Write>(
+        &self,
+        found: &Self::Found,
+        writer: &mut Watched<W>,
+    ) -> Result<(), DeviceFailed>;
+}
+
+/// Serves an input: reads it, lets the engine find what there is in it, and writes the text of
+/// that. It answers what was found.
+///
+/// - A fault of the text: the engine's. No more than `MOST + 1` bytes are taken.
+/// - `Reader`, `Writer`: that device failed. After `Writer` a beginning of the text went out.
+/// - `Memory`: a growth was refused.
+///
+/// At any fault but `Writer` nothing is written.
+pub fn serve<E: Engine<A>, A: Allocator + Copy, R: Read, W: Write>(
+    engine: &E,
+    alloc: A,
+    reader: &mut Watched<R>,
+    writer: &mut Watched<W>,
+) -> Result<E::Found, ToolFault> {
+    let found = {
+        let read = read_up_to(alloc, reader, E::MOST as usize)?;
+        engine.find(alloc, read.as_slice())?
+    };
+    match engine.write(&found, writer) {
+        Ok(()) => Ok(found),
+        Err(DeviceFailed) => Err(ToolFault::Writer),
+    }
+}
