@@ -3,8 +3,8 @@ use Rattle.std.proofs.Common.{◌≡◌, ℕ, List, [], ◌∷◌, refl, arith}
 use Rattle.std.specs.Prelude.{Result, Ok, Err}
 use Rattle.dvg_frame.specs.declared.op.OpKind.{OpKind}
 use Rattle.dvg_frame.specs.declared.op.OpKind.TheVariants.{Halt}
-use Rattle.dvg_frame.specs.declared.place.FrameFault.{FrameFault}
-use Rattle.dvg_frame.specs.declared.place.FrameFault.TheVariants.{Empty, NoLabs, TooLong, Target, RunsOff, OutOfRom, TooDeep, NoCaller, Loops}
+use Rattle.dvg_frame.specs.declared.fault.FrameFault.{FrameFault}
+use Rattle.dvg_frame.specs.declared.fault.FrameFault.TheVariants.{Empty, NoLabs, TooLong, Target, RunsOff, OutOfRom, TooDeep, NoCaller, Loops}
 use Rattle.dvg_frame.specs.Faults.{FrameState, IsChecked}
 use Rattle.dvg_frame.specs.Steps.{BeginsWithLabs, labs}
 

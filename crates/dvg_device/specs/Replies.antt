@@ -4,8 +4,8 @@ use Rattle.dvg_gen.specs.declared.stroke.Stroke.{Stroke}
 use Rattle.dvg_gen.specs.Numbers.{fault_number}
 use Rattle.dvg_driver.specs.declared.action.Action.{Action}
 use Rattle.dvg_driver.specs.declared.action.Action.TheVariants as actions
-use Rattle.dvg_frame.specs.declared.place.FrameFault.{FrameFault}
-use Rattle.dvg_frame.specs.declared.place.FrameFault.TheVariants.{Empty, NoLabs, TooLong, Target, RunsOff, OutOfRom, TooDeep, NoCaller, Loops}
+use Rattle.dvg_frame.specs.declared.fault.FrameFault.{FrameFault}
+use Rattle.dvg_frame.specs.FaultNumbers as faults
 use Rattle.dvg_frame.specs.declared.place.Place.{Place}
 use Rattle.dvg_frame.specs.declared.place.Place.TheVariants.{InFrame, InRom}
 use Rattle.dvg_log.specs.declared.entry.Entry.{Entry}
@@ -18,22 +18,16 @@ use Rattle.dvg_device.specs.declared.reply.Reply.TheVariants.{Came, Pushed, NoOp
 abbrev pub packed : ℕ → ℕ → ℕ → ℕ
 packed kind address value = kind + 0x100 * address + 0x100_0000 * value
 
--- a fault at a place: the operation's number or the ROM word's address, and the fault's number, with 0x100 more where it is in the ROM
-abbrev pub placed : ℕ → Place → ℕ
-placed fault (InFrame i) = packed 1 i fault
-placed fault (InRom a) = packed 1 a (0x100 + fault)
+-- a fault: its number, and the place that it names, which is an operation's number or the address of
+-- a word of the ROM; in the ROM the fault's number is 0x100 more
+abbrev pub placed : ℕ → Option Place → ℕ
+placed fault None = packed 1 0 fault
+placed fault (Some (InFrame i)) = packed 1 i fault
+placed fault (Some (InRom a)) = packed 1 a (0x100 + fault)
 
--- a refused draft: its fault by the number of `check`, at a place
+-- a refused draft: its fault by the number of `check`, at the place that it names
 abbrev pub refusal : FrameFault → ℕ
-refusal Empty = packed 1 0 1
-refusal NoLabs = packed 1 0 2
-refusal TooLong = packed 1 0 3
-refusal (Target i) = placed 4 (InFrame i)
-refusal (RunsOff i) = placed 5 (InFrame i)
-refusal (OutOfRom place) = placed 6 place
-refusal (TooDeep place) = placed 7 place
-refusal (NoCaller place) = placed 8 place
-refusal Loops = packed 1 0 9
+refusal fault = placed (faults.number_of fault) (faults.place_of fault)
 
 -- what the driver did
 abbrev pub acted : Action → ℕ

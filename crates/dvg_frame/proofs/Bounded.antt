@@ -18,12 +18,12 @@ use Rattle.dvg_frame.specs.declared.op.OpKind.{OpKind}
 use Rattle.dvg_frame.specs.declared.op.OpKind.TheVariants.{Return}
 use Rattle.dvg_frame.specs.declared.place.Place.{Place}
 use Rattle.dvg_frame.specs.declared.place.Place.TheVariants.{InFrame, InRom}
-use Rattle.dvg_frame.specs.declared.place.FrameFault.TheVariants.{OutOfRom, NoCaller}
+use Rattle.dvg_frame.specs.declared.fault.FrameFault.TheVariants.{OutOfRom, NoCaller}
 use Rattle.dvg_frame.specs.Steps.{one, two, Stands, in_frame, in_rom, second, bare, IsFine, Leads, on, jump, call, back, Reached, begin, step, Closed, Begins}
-use Rattle.dvg_frame.specs.Pairs.{pair_of}
-use Rattle.dvg_frame.specs.Ways.{IsPlaceOf}
+use Rattle.dvg_frame.specs.own.Pairs.{pair_of}
+use Rattle.dvg_frame.specs.own.Ways.{IsPlaceOf}
 use Rattle.dvg_frame.specs.Picture.{End, AtHalt, AtReturn, Draws, halts, returns, moves, jumps, call_halts, calls, IsPicture, IsBound}
-use Rattle.dvg_frame.specs.Tables.{places}
+use Rattle.dvg_frame.specs.own.Tables.{places}
 use Rattle.dvg_frame.specs.Loops.{Walks, none, more, HasLoop}
 use Rattle.dvg_frame.proofs.Swept.{few_ops, pair_in, reached_pair}
 use Rattle.dvg_frame.proofs.Pictures.{one_picture}

@@ -7,7 +7,7 @@ use Rattle.dvg_code.specs.declared.instr.Instr.TheVariants.{Vctr, Labs}
 use Rattle.dvg_frame.specs.declared.op.OpKind.{OpKind}
 use Rattle.dvg_frame.specs.declared.op.OpKind.TheVariants.{Draw}
 use Rattle.dvg_frame.specs.Layout.{op_words, size}
-use Rattle.dvg_frame.specs.Counting.{counts_from, IsCounted}
+use Rattle.dvg_frame.specs.own.Counting.{counts_from, IsCounted}
 use Rattle.dvg_frame.specs.Ops.{IsDraft, IsOp}
 
 pub counts-length : (n : ℕ) (F : List OpKind) → length (counts_from n F) ≡ suc (length F)

@@ -9,13 +9,13 @@ use Rattle.dvg_frame.specs.declared.op.OpKind.{OpKind}
 use Rattle.dvg_frame.specs.declared.op.OpKind.TheVariants.{Draw, CallRom, JumpRom, Call, Jump, Return, Halt as Stop}
 use Rattle.dvg_frame.specs.declared.place.Place.TheVariants.{InFrame, InRom}
 use Rattle.dvg_frame.specs.declared.place.Place.{Place}
-use Rattle.dvg_frame.specs.declared.place.FrameFault.{FrameFault}
-use Rattle.dvg_frame.specs.declared.place.FrameFault.TheVariants.{Empty, NoLabs, TooLong, Target, RunsOff, OutOfRom, TooDeep, NoCaller, Loops}
+use Rattle.dvg_frame.specs.declared.fault.FrameFault.{FrameFault}
+use Rattle.dvg_frame.specs.declared.fault.FrameFault.TheVariants.{Empty, NoLabs, TooLong, Target, RunsOff, OutOfRom, TooDeep, NoCaller, Loops}
 use Rattle.dvg_frame.specs.Layout.{size}
 use Rattle.dvg_frame.specs.Steps.{op_act, Names, Bad, last, target, second, past, deep, bare, IsFine, Reached, BeginsWithLabs, labs, Closed, Misses, misses, Begins}
 use Rattle.dvg_frame.specs.Faults.{Least, Refuses}
-use Rattle.dvg_frame.specs.Firsts.{DrawsLabs, NamesNone, number}
-use Rattle.dvg_frame.specs.Frames.{IsFrame}
+use Rattle.dvg_frame.specs.own.Firsts.{DrawsLabs, NamesNone, number}
+use Rattle.dvg_frame.specs.own.Frames.{IsFrame}
 use Rattle.dvg_frame.specs.Ops.{IsDraft}
 
 -- operation 0 is a LABS exactly where the draft begins with one

@@ -10,11 +10,11 @@ use Rattle.dvg_mem.proofs.Roms.{large_first, none_there, rom_none, rom_some}
 use Rattle.dvg_frame.specs.declared.op.OpKind.{OpKind}
 use Rattle.dvg_frame.specs.declared.place.Place.{Place}
 use Rattle.dvg_frame.specs.declared.place.Place.TheVariants.{InFrame, InRom}
-use Rattle.dvg_frame.specs.declared.place.FrameFault.{FrameFault}
-use Rattle.dvg_frame.specs.Pairs.{pair_of}
+use Rattle.dvg_frame.specs.declared.fault.FrameFault.{FrameFault}
+use Rattle.dvg_frame.specs.own.Pairs.{pair_of}
 use Rattle.dvg_frame.specs.Steps.{SpelledAt, one, two, Stands, in_frame, in_rom, Bad, last, target, second, past, deep, bare, Leads, on, jump, call, back, Reached, begin, step, Closed}
 use Rattle.dvg_frame.specs.Picture.{End, Draws, halts, returns, moves, jumps, call_halts, calls, IsPicture}
-use Rattle.dvg_frame.specs.Ways.{IsPlaceOf}
+use Rattle.dvg_frame.specs.own.Ways.{IsPlaceOf}
 use Rattle.dvg_frame.proofs.Swept.{few_ops, pair_in}
 
 module _ (F : List OpKind) (R S : List ℕ) (grown : IsGrown R S) (small : first_word R ≡ 0x800) where

@@ -10,14 +10,14 @@ use Rattle.dvg_mem.proofs.Roms.{none_there}
 use Rattle.dvg_frame.specs.declared.op.OpKind.{OpKind}
 use Rattle.dvg_frame.specs.declared.place.Place.{Place}
 use Rattle.dvg_frame.specs.declared.place.Place.TheVariants.{InFrame, InRom}
-use Rattle.dvg_frame.specs.declared.place.FrameFault.{FrameFault}
-use Rattle.dvg_frame.specs.declared.place.FrameFault.TheVariants.{RunsOff, OutOfRom, TooDeep, NoCaller}
-use Rattle.dvg_frame.specs.declared.pair.TheConstants.{DEEPEST}
-use Rattle.dvg_frame.specs.declared.pair.Pair.{Pair}
-use Rattle.dvg_frame.specs.declared.way.Way.{Way}
+use Rattle.dvg_frame.specs.declared.fault.FrameFault.{FrameFault}
+use Rattle.dvg_frame.specs.declared.fault.FrameFault.TheVariants.{RunsOff, OutOfRom, TooDeep, NoCaller}
+use Rattle.dvg_frame.specs.declared.checking.pair.TheConstants.{DEEPEST}
+use Rattle.dvg_frame.specs.declared.checking.pair.Pair.{Pair}
+use Rattle.dvg_frame.specs.declared.checking.way.Way.{Way}
 use Rattle.dvg_frame.specs.Steps.{SpelledAt, one, two, op_act, Stands, in_frame, in_rom, GoesPast, Names, Bad, last, target, second, past, deep, bare, IsFine}
 use Rattle.dvg_frame.specs.Faults.{rank}
-use Rattle.dvg_frame.specs.Ways.{way, EndsWithin, StandsSo, GoesOn, Outside, LeadsOutside, IsCall, IsReturn, HasFaultAt, IsLeast}
+use Rattle.dvg_frame.specs.own.Ways.{way, EndsWithin, StandsSo, GoesOn, Outside, LeadsOutside, IsCall, IsReturn, HasFaultAt, IsLeast}
 
 -- one instruction at most is spelled at an address
 spelled_once : (mem : ℕ → Option ℕ) (a : ℕ) (instr other : Instr) → SpelledAt mem a instr → SpelledAt mem a other → instr ≡ other

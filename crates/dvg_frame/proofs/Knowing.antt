@@ -1,12 +1,12 @@
 -- A table with one more entry.
 use Rattle.std.proofs.Common.{◌≡◌, ◌<◌, List, length, Option, None, get_or-set_same, get_or-set_other, set, sym, ap, ◌∙◌, arith}
 use Rattle.std.specs.Prelude.{slice_index_or}
-use Rattle.dvg_frame.specs.declared.pair.TheConstants.{PLACES}
+use Rattle.dvg_frame.specs.declared.checking.pair.TheConstants.{PLACES}
 use Rattle.dvg_frame.specs.declared.place.Place.{Place}
 use Rattle.dvg_frame.specs.declared.place.Place.TheVariants.{InFrame, InRom}
-use Rattle.dvg_frame.specs.declared.table.Drawn.{Drawn}
-use Rattle.dvg_frame.specs.Pairs.{IsPlace, place_index}
-use Rattle.dvg_frame.specs.Tables.{known_at}
+use Rattle.dvg_frame.specs.declared.checking.table.Drawn.{Drawn}
+use Rattle.dvg_frame.specs.own.Pairs.{IsPlace, place_index}
+use Rattle.dvg_frame.specs.own.Tables.{known_at}
 use Rattle.dvg_frame.proofs.Marks.{same_place}
 
 place_low : (p : Place) → IsPlace p → place_index p < PLACES

@@ -6,12 +6,12 @@ use Rattle.std.proofs.lemmas.List.Elements.{All-nil, All-pop, All-push, Contains
 use Rattle.std.proofs.lemmas.List.Sums.{sum_by-set, sum_by-cons, count_by-le-length}
 use Rattle.std.proofs.lemmas.Bool.{cases_lt, cases_eq}
 use Rattle.std.proofs.Math.ListN.{get_or-eq_default}
-use Rattle.dvg_frame.specs.declared.pair.TheConstants.{PAIRS}
-use Rattle.dvg_frame.specs.declared.pair.Pair.{Pair}
+use Rattle.dvg_frame.specs.declared.checking.pair.TheConstants.{PAIRS}
+use Rattle.dvg_frame.specs.declared.checking.pair.Pair.{Pair}
 use Rattle.dvg_frame.specs.declared.place.Place.{Place}
 use Rattle.dvg_frame.specs.declared.place.Place.TheVariants.{InFrame, InRom}
-use Rattle.dvg_frame.specs.Growth.{Grows, AreListed, AreMarked}
-use Rattle.dvg_frame.specs.Pairs.{IsPlace, IsPair, pair_of, place_index, index}
+use Rattle.dvg_frame.specs.own.Growth.{Grows, AreListed, AreMarked}
+use Rattle.dvg_frame.specs.own.Pairs.{IsPlace, IsPair, pair_of, place_index, index}
 
 -- pairs that have one index are one
 pub same_place : (p q : Place) → IsPlace p → IsPlace q → place_index p ≡ place_index q → p ≡ q

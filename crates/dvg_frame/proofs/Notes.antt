@@ -3,16 +3,16 @@ use Rattle.std.proofs.Common.{⊎_elim, inl, inr, ◌≡◌, ℕ, ◌<◌, ◌�
 use Rattle.std.specs.Option.{is_some}
 use Rattle.std.proofs.lemmas.List.{length-map, length-replicate, get_or-replicate, get_or-map, map-set}
 use Rattle.std.proofs.Math.ListN.{get_or-eq_default}
-use Rattle.dvg_frame.specs.declared.table.Ending.TheVariants.{Halts}
+use Rattle.dvg_frame.specs.declared.checking.table.Ending.TheVariants.{Halts}
 use Rattle.std.proofs.lemmas.List.Elements.{All-from_get_or}
 use Rattle.std.proofs.lemmas.Bool.{cases_lt, eqb-true, false_from_ne_true}
 use Rattle.std.proofs.lemmas.Bool.Decides.{eqb_tells}
-use Rattle.dvg_frame.specs.declared.pair.TheConstants.{PLACES}
+use Rattle.dvg_frame.specs.declared.checking.pair.TheConstants.{PLACES}
 use Rattle.dvg_frame.specs.declared.place.Place.{Place}
-use Rattle.dvg_frame.specs.declared.table.Drawn.{Drawn}
-use Rattle.dvg_frame.specs.declared.table.Note.{Note}
-use Rattle.dvg_frame.specs.Pairs.{place_index}
-use Rattle.dvg_frame.specs.Tables.{HasNone, noted, AreNotes}
+use Rattle.dvg_frame.specs.declared.checking.table.Drawn.{Drawn}
+use Rattle.dvg_frame.specs.declared.checking.table.Note.{Note}
+use Rattle.dvg_frame.specs.own.Pairs.{place_index}
+use Rattle.dvg_frame.specs.own.Tables.{HasNone, noted, AreNotes}
 
 -- notes of a round are notes of a later one
 pub notes_later : (round later : ℕ) (notes : List Note) → AreNotes round notes → round ≤ later → AreNotes later notes

@@ -6,11 +6,11 @@ use Rattle.std.proofs.lemmas.List.Elements.{All-get_or}
 use Rattle.std.proofs.lemmas.List.{length-map, map-append}
 use Rattle.std.proofs.lemmas.Bool.{cases_lt, lt-ltb, le-ltb}
 use Rattle.dvg_frame.specs.declared.draft.TheConstants.{MAX_OPS}
-use Rattle.dvg_frame.specs.declared.pair.Pair.{Pair}
-use Rattle.dvg_frame.specs.declared.pair.TheConstants.{DEEPEST, ROM_FIRST, PLACES, PAIRS}
+use Rattle.dvg_frame.specs.declared.checking.pair.Pair.{Pair}
+use Rattle.dvg_frame.specs.declared.checking.pair.TheConstants.{DEEPEST, ROM_FIRST, PLACES, PAIRS}
 use Rattle.dvg_frame.specs.declared.place.Place.{Place}
 use Rattle.dvg_frame.specs.declared.place.Place.TheVariants.{InFrame, InRom}
-use Rattle.dvg_frame.specs.Pairs.{IsPlace, IsPair, place_index, place_at, pair_of, pair_at, index}
+use Rattle.dvg_frame.specs.own.Pairs.{IsPlace, IsPair, place_index, place_at, pair_of, pair_at, index}
 
 pub frame_at : (n : ℕ) → n < MAX_OPS → place_at n ≡ InFrame n
 frame_at n low = ap (λ b. if b then InFrame n else InRom (ROM_FIRST + (n - MAX_OPS))) (lt-ltb n MAX_OPS low)

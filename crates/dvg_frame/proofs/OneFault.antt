@@ -4,11 +4,11 @@ use Rattle.std.proofs.lemmas.Bool.{cases_lt}
 use Rattle.dvg_frame.specs.declared.op.OpKind.{OpKind}
 use Rattle.dvg_frame.specs.declared.place.Place.{Place}
 use Rattle.dvg_frame.specs.declared.place.Place.TheVariants.{InFrame, InRom}
-use Rattle.dvg_frame.specs.declared.place.FrameFault.{FrameFault}
-use Rattle.dvg_frame.specs.declared.place.FrameFault.TheVariants.{Empty, NoLabs, TooLong, Target, RunsOff, OutOfRom, TooDeep, NoCaller, Loops}
+use Rattle.dvg_frame.specs.declared.fault.FrameFault.{FrameFault}
+use Rattle.dvg_frame.specs.declared.fault.FrameFault.TheVariants.{Empty, NoLabs, TooLong, Target, RunsOff, OutOfRom, TooDeep, NoCaller, Loops}
 use Rattle.dvg_frame.specs.Layout.{size}
 use Rattle.dvg_frame.specs.Steps.{Bad, last, target, second, past, deep, bare, BeginsWithLabs, Closed, Misses}
-use Rattle.dvg_frame.specs.Firsts.{number}
+use Rattle.dvg_frame.specs.own.Firsts.{number}
 use Rattle.dvg_frame.specs.Faults.{rank, Precedes, Least, Refuses, Accepts, FrameState, IsChecked}
 use Rattle.dvg_frame.specs.Laws.{OneAnswer}
 use Rattle.dvg_frame.proofs.Pictures.{one_picture}

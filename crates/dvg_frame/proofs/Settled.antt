@@ -3,16 +3,16 @@ use Rattle.std.proofs.Common.{◌≡◌, ℕ, suc, ◌+◌, ◌<◌, ◌≤◌, 
 use Rattle.dvg_mem.specs.Memory.{IsRom}
 use Rattle.dvg_gen.specs.declared.beam.Beam.{Beam}
 use Rattle.dvg_frame.specs.declared.op.OpKind.{OpKind}
-use Rattle.dvg_frame.specs.declared.pair.TheConstants.{DEEPEST}
+use Rattle.dvg_frame.specs.declared.checking.pair.TheConstants.{DEEPEST}
 use Rattle.dvg_frame.specs.declared.place.Place.{Place}
 use Rattle.dvg_frame.specs.declared.place.Place.TheVariants.{InFrame}
-use Rattle.dvg_frame.specs.declared.table.Drawn.{Drawn}
+use Rattle.dvg_frame.specs.declared.checking.table.Drawn.{Drawn}
 use Rattle.dvg_frame.specs.Faults.{Accepts}
 use Rattle.dvg_frame.specs.Loops.{HasLoop}
-use Rattle.dvg_frame.specs.Pairs.{IsPlace}
+use Rattle.dvg_frame.specs.own.Pairs.{IsPlace}
 use Rattle.dvg_frame.specs.Picture.{AtHalt, Draws, IsBound}
 use Rattle.dvg_frame.specs.Steps.{Reached, begin, step, Closed, Begins}
-use Rattle.dvg_frame.specs.Tables.{IsRefused, known_at, HasNone, FitsAt, GoesTo, IsKnown, IsTable, end_of}
+use Rattle.dvg_frame.specs.own.Tables.{IsRefused, known_at, HasNone, FitsAt, GoesTo, IsKnown, IsTable, end_of}
 use Rattle.dvg_frame.proofs.Firsts.{closed_by}
 use Rattle.dvg_frame.proofs.Bounded.{at_depth_0, bound_low}
 use Rattle.dvg_frame.proofs.Turns.{walks_few}

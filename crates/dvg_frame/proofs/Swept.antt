@@ -12,22 +12,22 @@ use Rattle.dvg_code.specs.Acts.{Act, Moves, Jumps, Calls, Returns, Halts, act_by
 use Rattle.dvg_frame.specs.declared.op.OpKind.{OpKind}
 use Rattle.dvg_frame.specs.declared.place.Place.{Place}
 use Rattle.dvg_frame.specs.declared.place.Place.TheVariants.{InFrame, InRom}
-use Rattle.dvg_frame.specs.declared.place.FrameFault.{FrameFault}
-use Rattle.dvg_frame.specs.declared.place.FrameFault.TheVariants.{RunsOff, OutOfRom, TooDeep}
-use Rattle.dvg_frame.specs.declared.pair.TheConstants.{DEEPEST, ROM_END}
+use Rattle.dvg_frame.specs.declared.fault.FrameFault.{FrameFault}
+use Rattle.dvg_frame.specs.declared.fault.FrameFault.TheVariants.{RunsOff, OutOfRom, TooDeep}
+use Rattle.dvg_frame.specs.declared.checking.pair.TheConstants.{DEEPEST, ROM_END}
 use Rattle.dvg_mem.specs.Memory.{first_word, rom_word}
 use Rattle.dvg_mem.proofs.Roms.{behind_ram, none_there}
-use Rattle.dvg_frame.specs.declared.pair.Pair.{Pair}
-use Rattle.dvg_frame.specs.declared.way.Way.{Way}
-use Rattle.dvg_frame.specs.declared.way.Way.TheVariants.{Move, Jump, Call}
-use Rattle.dvg_frame.specs.declared.sweep.Found.{Found}
+use Rattle.dvg_frame.specs.declared.checking.pair.Pair.{Pair}
+use Rattle.dvg_frame.specs.declared.checking.way.Way.{Way}
+use Rattle.dvg_frame.specs.declared.checking.way.Way.TheVariants.{Move, Jump, Call}
+use Rattle.dvg_frame.specs.declared.checking.sweep.Found.{Found}
 use Rattle.dvg_frame.specs.Steps.{Stands, in_frame, in_rom, GoesPast, Names, last, target, past, deep, IsFine, Leads, on, jump, call, back, Reached, begin, step, BeginsWithLabs, labs, misses, Begins}
 use Rattle.dvg_frame.specs.Faults.{Precedes, Least}
-use Rattle.dvg_frame.specs.Growth.{Grows}
+use Rattle.dvg_frame.specs.own.Growth.{Grows}
 use Rattle.dvg_frame.specs.Layout.{size}
-use Rattle.dvg_frame.specs.Pairs.{IsPlace, IsPair, pair_of, first_pair, index}
-use Rattle.dvg_frame.specs.Ways.{way, IsPlaceOf, StandsSo, IsLeast}
-use Rattle.dvg_frame.specs.Sweeps.{ReachedPair, BadPair, FinePair, Follows, StaysIn, IsFound, IsUpTo, IsDone, Sweeps}
+use Rattle.dvg_frame.specs.own.Pairs.{IsPlace, IsPair, pair_of, first_pair, index}
+use Rattle.dvg_frame.specs.own.Ways.{way, IsPlaceOf, StandsSo, IsLeast}
+use Rattle.dvg_frame.specs.own.Sweeps.{ReachedPair, BadPair, FinePair, Follows, StaysIn, IsFound, IsUpTo, IsDone, Sweeps}
 use Rattle.dvg_frame.proofs.Judged.{same_standing}
 use Rattle.dvg_frame.proofs.Sizes.{some_words}
 use Rattle.dvg_frame.proofs.Marks.{contains_nil, both_grow}

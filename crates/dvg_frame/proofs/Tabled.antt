@@ -7,22 +7,22 @@ use Rattle.dvg_code.specs.Acts.{Act, Moves, Jumps, Calls, Returns as GoesBack, H
 use Rattle.dvg_code.specs.declared.instr.Instr.{Instr}
 use Rattle.dvg_mem.proofs.Roms.{none_there}
 use Rattle.dvg_frame.specs.declared.op.OpKind.{OpKind}
-use Rattle.dvg_frame.specs.declared.pair.TheConstants.{PLACES}
-use Rattle.dvg_frame.specs.declared.pair.Pair.{Pair}
+use Rattle.dvg_frame.specs.declared.checking.pair.TheConstants.{PLACES}
+use Rattle.dvg_frame.specs.declared.checking.pair.Pair.{Pair}
 use Rattle.dvg_frame.specs.declared.place.Place.{Place}
 use Rattle.dvg_frame.specs.declared.place.Place.TheVariants.{InFrame, InRom}
-use Rattle.dvg_frame.specs.declared.table.Drawn.{Drawn}
-use Rattle.dvg_frame.specs.declared.table.Ending.{Ending}
-use Rattle.dvg_frame.specs.declared.table.Ending.TheVariants.{Halts, Returns}
-use Rattle.dvg_frame.specs.declared.way.Way.{Way}
-use Rattle.dvg_frame.specs.declared.way.Way.TheVariants.{Move, Jump, Call, Return, Halt}
-use Rattle.dvg_frame.specs.declared.place.FrameFault.TheVariants.{RunsOff, OutOfRom, TooDeep, NoCaller}
-use Rattle.dvg_frame.specs.Pairs.{IsPlace, pair_of, place_index}
+use Rattle.dvg_frame.specs.declared.checking.table.Drawn.{Drawn}
+use Rattle.dvg_frame.specs.declared.checking.table.Ending.{Ending}
+use Rattle.dvg_frame.specs.declared.checking.table.Ending.TheVariants.{Halts, Returns}
+use Rattle.dvg_frame.specs.declared.checking.way.Way.{Way}
+use Rattle.dvg_frame.specs.declared.checking.way.Way.TheVariants.{Move, Jump, Call, Return, Halt}
+use Rattle.dvg_frame.specs.declared.fault.FrameFault.TheVariants.{RunsOff, OutOfRom, TooDeep, NoCaller}
+use Rattle.dvg_frame.specs.own.Pairs.{IsPlace, pair_of, place_index}
 use Rattle.dvg_frame.specs.Steps.{Stands, last, target, second, past, deep, bare, IsFine, Leads, on, jump, call, back, Reached, step, Begins}
 use Rattle.dvg_frame.specs.Picture.{End, AtHalt, AtReturn}
 use Rattle.dvg_frame.specs.Loops.{Walks, none, more, HasLoop}
-use Rattle.dvg_frame.specs.Ways.{way, StandsSo, IsPlaceOf, EndsWithin}
-use Rattle.dvg_frame.specs.Tables.{AllFine, known_at, HasPlace, KeepsKnown, end_of, FitsAt, IsDrawnFrom, IsKnown, IsTable, Next, StepsOn, IsGood, IsReady, Linked, IsChain, HasChain, onward, IsLonger, IsCalled, places}
+use Rattle.dvg_frame.specs.own.Ways.{way, StandsSo, IsPlaceOf, EndsWithin}
+use Rattle.dvg_frame.specs.own.Tables.{AllFine, known_at, HasPlace, KeepsKnown, end_of, FitsAt, IsDrawnFrom, IsKnown, IsTable, Next, StepsOn, IsGood, IsReady, Linked, IsChain, HasChain, onward, IsLonger, IsCalled, places}
 use Rattle.dvg_frame.proofs.Judged.{same_standing}
 use Rattle.dvg_frame.proofs.Marks.{same_place}
 use Rattle.dvg_frame.proofs.Knowing.{put_here, put_other}

@@ -12,9 +12,9 @@ use Rattle.dvg_frame.specs.declared.op.OpKind.{OpKind}
 use Rattle.dvg_frame.specs.declared.place.Place.{Place}
 use Rattle.dvg_frame.specs.declared.place.Place.TheVariants.{InFrame, InRom}
 use Rattle.dvg_frame.specs.Steps.{Reached, step, Closed}
-use Rattle.dvg_frame.specs.Pairs.{pair_of}
-use Rattle.dvg_frame.specs.Ways.{IsPlaceOf}
-use Rattle.dvg_frame.specs.Tables.{places}
+use Rattle.dvg_frame.specs.own.Pairs.{pair_of}
+use Rattle.dvg_frame.specs.own.Ways.{IsPlaceOf}
+use Rattle.dvg_frame.specs.own.Tables.{places}
 use Rattle.dvg_frame.specs.Loops.{Walks, none, more, HasLoop, ComesBack}
 use Rattle.dvg_frame.proofs.Swept.{few_ops, pair_in}
 use Rattle.dvg_frame.proofs.Walks.{walked, turns, turns_from}

@@ -10,9 +10,9 @@ use Rattle.dvg_frame.specs.declared.op.OpKind.{OpKind}
 use Rattle.dvg_code.specs.Acts.{act_by}
 use Rattle.dvg_frame.specs.declared.place.Place.{Place}
 use Rattle.dvg_frame.specs.declared.place.Place.TheVariants.{InRom}
-use Rattle.dvg_frame.specs.declared.way.Way.TheVariants.{Move, Jump, Call, Return, Halt}
+use Rattle.dvg_frame.specs.declared.checking.way.Way.TheVariants.{Move, Jump, Call, Return, Halt}
 use Rattle.dvg_frame.specs.Steps.{one, two, in_rom}
-use Rattle.dvg_frame.specs.Ways.{way, StandsSo}
+use Rattle.dvg_frame.specs.own.Ways.{way, StandsSo}
 
 -- an instruction of two words, or one of opcode F, leads to the place after it
 long_moves : {first second : ℕ} {instr : Instr} (after : Place) → Spells instr (first ∷ second ∷ []) → (way (act_by InRom instr) after ≡ Move after 2) × (word_count instr ≡ 2)

@@ -1,7 +1,7 @@
 //! Checked drafts, where they lie.
 ghost use Rattle.std.specs.Prelude.{◌≡◌, ◌<◌, ◌≤◌, ◌^◌};
 ghost use Rattle.dvg_frame.specs.Faults.{FrameState};
-ghost use Rattle.dvg_frame.specs.Frames.{IsMeasured};
+ghost use Rattle.dvg_frame.specs.own.Frames.{IsMeasured};
 ghost use Rattle.dvg_frame.specs.Layout.{size};
 
 use crate::draft::Draft;

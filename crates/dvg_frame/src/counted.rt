@@ -1,6 +1,6 @@
 //! Drafts with the places of their operations.
 ghost use Rattle.std.specs.Prelude.{◌≡◌, ◌≤◌, ◌<◌, List, Some, length, slice_get, take};
-ghost use Rattle.dvg_frame.specs.Counting.{IsCounted, counts_from};
+ghost use Rattle.dvg_frame.specs.own.Counting.{IsCounted, counts_from};
 ghost use Rattle.dvg_frame.specs.Layout.{size};
 ghost use Rattle.dvg_frame.specs.Ops.{IsDraft};
 ghost use Rattle.dvg_frame.specs.declared.op.OpKind.{OpKind};

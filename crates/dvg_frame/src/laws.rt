@@ -1,7 +1,7 @@
 //! Laws of the check's answer. Each is the contract of a function that does nothing else.
 ghost use Rattle.dvg_frame.specs.Laws.{AcceptedStays, GrownStays, LoopsComeBack, OneAnswer, OneFault, OnePicture};
 
-use crate::checks::check;
+use crate::checking::check;
 use crate::draft::Draft;
 use dvg_mem::Rom;
 use std::alloc::Allocator;

@@ -10,7 +10,7 @@ use Rattle.dvg_gen.specs.Run.{Visit, first as opens, one as alone, two as closes
 use Rattle.dvg_gen.specs.Told.{Newest, nothing, grown, begun as begun_run, starts, new}
 use Rattle.dvg_frame.specs.declared.op.OpKind.{OpKind}
 use Rattle.dvg_frame.specs.declared.op.OpKind.TheVariants.{Draw, Halt as Stop}
-use Rattle.dvg_frame.specs.declared.place.FrameFault.{FrameFault}
+use Rattle.dvg_frame.specs.declared.fault.FrameFault.{FrameFault}
 use Rattle.dvg_frame.specs.declared.place.Place.{Place}
 use Rattle.dvg_frame.specs.declared.place.Place.TheVariants.{InFrame, InRom}
 use Rattle.dvg_frame.specs.Ops.{IsDraft, IsOp}

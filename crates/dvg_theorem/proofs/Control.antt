@@ -11,7 +11,7 @@ use Rattle.dvg_code.specs.Acts.{Act, Moves, Jumps, Calls, Returns, Halts, act_of
 use Rattle.dvg_gen.specs.Run.{on}
 use Rattle.dvg_frame.specs.declared.op.OpKind.{OpKind}
 use Rattle.dvg_frame.specs.declared.place.Place.{Place}
-use Rattle.dvg_frame.specs.declared.place.FrameFault.TheVariants.{TooDeep}
+use Rattle.dvg_frame.specs.declared.fault.FrameFault.TheVariants.{TooDeep}
 use Rattle.dvg_frame.specs.Steps.{Stands, GoesPast, IsFine, deep, Leads, on as leads_on, jump as leads_jump, call as leads_call, back as leads_back, Reached, begin, step, Closed}
 use Rattle.dvg_frame.specs.Picture.{End, AtHalt, AtReturn, Draws, halts, returns, moves, jumps, call_halts, calls}
 use Rattle.dvg_gen.specs.Stacks.{stack_by, to_of, CanGo}

@@ -21,7 +21,7 @@ use Rattle.dvg_frame.specs.declared.op.OpKind.TheVariants.{Draw}
 use Rattle.dvg_frame.specs.declared.place.Place.{Place}
 use Rattle.dvg_frame.specs.declared.place.Place.TheVariants.{InFrame}
 use Rattle.dvg_frame.specs.Layout.{at}
-use Rattle.dvg_frame.specs.declared.place.FrameFault.TheVariants.{NoCaller}
+use Rattle.dvg_frame.specs.declared.fault.FrameFault.TheVariants.{NoCaller}
 use Rattle.dvg_frame.specs.Steps.{Stands, in_frame, op_act, GoesPast, bare, Reached, begin, step, Closed, BeginsWithLabs, labs}
 use Rattle.dvg_frame.specs.Steps.{on as leads_on, jump as leads_jump, call as leads_call, back as leads_back}
 use Rattle.dvg_frame.specs.Picture.{End, AtHalt, Draws as Drawing, halts, returns, moves, jumps, call_halts, calls, IsPicture}

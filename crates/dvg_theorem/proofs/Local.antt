@@ -25,7 +25,7 @@ use Rattle.dvg_frame.specs.declared.place.Place.{Place}
 use Rattle.dvg_frame.specs.declared.place.Place.TheVariants.{InFrame, InRom}
 use Rattle.dvg_frame.specs.Ops.{IsOp, IsDraft}
 use Rattle.dvg_frame.specs.Layout.{op_words, size, at, op_code, laid}
-use Rattle.dvg_frame.specs.declared.place.FrameFault.TheVariants.{RunsOff, OutOfRom}
+use Rattle.dvg_frame.specs.declared.fault.FrameFault.TheVariants.{RunsOff, OutOfRom}
 use Rattle.dvg_frame.specs.Steps.{SpelledAt, one, two, op_act, Stands, in_frame, in_rom, GoesPast, Names, misses, IsFine, last, target, second, past, Leads, Reached, begin, step, Closed, BeginsWithLabs, labs}
 use Rattle.dvg_frame.specs.Steps.{on as leads_on, jump as leads_jump, call as leads_call, back as leads_back}
 use Rattle.dvg_frame.proofs.Sizes.{canon_length}

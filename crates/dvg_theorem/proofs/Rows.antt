@@ -18,7 +18,7 @@ use Rattle.dvg_gen.specs.Run.{Visit, first, one, two}
 use Rattle.dvg_gen.specs.Told.{Told, Fed, Newest, nothing, begun, grown, Leaves, new, starts, takes}
 use Rattle.dvg_frame.specs.declared.op.OpKind.{OpKind}
 use Rattle.dvg_frame.specs.declared.op.OpKind.TheVariants.{Draw, Halt as Stop}
-use Rattle.dvg_frame.specs.declared.place.FrameFault.{FrameFault}
+use Rattle.dvg_frame.specs.declared.fault.FrameFault.{FrameFault}
 use Rattle.dvg_frame.specs.declared.place.Place.{Place}
 use Rattle.dvg_frame.specs.declared.place.Place.TheVariants.{InFrame, InRom}
 use Rattle.dvg_frame.specs.Ops.{IsDraft, IsOp}

@@ -17,7 +17,7 @@ use Rattle.dvg_gen.specs.Told.{Told, Start, Reset, Fed, Reply, More, Drew, Fails
 use Rattle.dvg_gen.proofs.Same.{held_first}
 use Rattle.dvg_gen.proofs.Seen.{draws_some}
 use Rattle.dvg_frame.specs.declared.op.OpKind.{OpKind}
-use Rattle.dvg_frame.specs.declared.place.FrameFault.{FrameFault}
+use Rattle.dvg_frame.specs.declared.fault.FrameFault.{FrameFault}
 use Rattle.dvg_frame.specs.Ops.{IsDraft}
 use Rattle.dvg_frame.specs.Faults.{Refuses, Accepts}
 use Rattle.dvg_driver.specs.declared.action.Action.{Action}

@@ -1,5 +1,5 @@
 use Rattle.std.proofs.Common.{◌≡◌, take}
-use Rattle.dvg_frame.specs.Counting.{counts_from}
+use Rattle.dvg_frame.specs.own.Counting.{counts_from}
 use Rattle.dvg_frame.specs.Layout.{size}
 use Rattle.dvg_frame.proofs.counted.words_before_each.Given as goal
 

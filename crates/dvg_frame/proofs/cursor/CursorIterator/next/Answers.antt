@@ -1,7 +1,7 @@
 use Rattle.std.proofs.Common.{◌≡◌, ◌+◌, ◌-◌, ◌*◌, ◌/◌, ◌<◌, length, refl, sym, ap, ◌∙◌, subst, Some, get_or, arith}
 use Rattle.std.specs.Prelude.{slice_get}
 use Rattle.std.proofs.lemmas.Option.{slice_get-get_or}
-use Rattle.dvg_frame.specs.Counting.{IsCounted}
+use Rattle.dvg_frame.specs.own.Counting.{IsCounted}
 use Rattle.dvg_frame.proofs.Cursors.{one_more, turns, stays, gives, GoesOn, IsNext, next_items, next_kept}
 use Rattle.dvg_frame.proofs.cursor.CursorIterator.next.Goals as goal
 use Rattle.dvg_frame.proofs.cursor.CursorIterator.next.Goals.{After-len, After-deref, After-byte_of, then-from-len, else-from-len}

@@ -1,0 +1,10 @@
+-- What only private contracts and invariants cite.
+pub mod Counting
+pub mod Cursors
+pub mod Firsts
+pub mod Frames
+pub mod Growth
+pub mod Pairs
+pub mod Sweeps
+pub mod Tables
+pub mod Ways

@@ -1,0 +1,241 @@
+//! What is drawn from each place, whether a run from it breaks, and whether steps at one depth come to no end.
+ghost use Rattle.std.specs.Prelude.{◌≡◌, ◌+◌, ◌*◌, ◌<◌, ◌≤◌, ◌^◌, ℕ, List, Some, None, length, Option, MatchOption, MatchBool};
+ghost use Rattle.dvg_mem.specs.Memory.{IsRom};
+ghost use Rattle.dvg_frame.specs.Faults.{Accepts};
+ghost use Rattle.dvg_frame.specs.Picture.{IsBound};
+ghost use Rattle.dvg_frame.specs.Steps.{IsFine, Begins};
+ghost use Rattle.dvg_frame.specs.own.Tables.{HasChain, HasNone, HasPlace, IsCalled, IsKnown, IsLonger, IsReady, IsRefused, IsTable, KeepsKnown, AllFine, known_at, onward};
+ghost use Rattle.dvg_frame.specs.own.Sweeps.{ReachedPair};
+ghost use Rattle.dvg_frame.specs.own.Ways.{IsPlaceOf, StandsSo};
+ghost use Rattle.dvg_frame.specs.declared.checking.chain.TheConstants.{LONGEST};
+ghost use Rattle.dvg_frame.specs.declared.op.OpKind.{OpKind};
+ghost use Rattle.dvg_frame.specs.declared.checking.pair.Pair.{Pair};
+ghost use Rattle.dvg_frame.specs.declared.place.Place.{Place};
+
+use crate::checking::chain::Chain;
+use crate::checking::look::look;
+use crate::checking::pair::{DEEPEST, Pair};
+use crate::checking::table::{Drawn, Ending, Table};
+use crate::checking::way::{Way, way_at};
+use crate::draft::Draft;
+use crate::place::Place;
+use dvg_mem::Rom;
+use std::alloc::Allocator;
+
+// Where a way leads on at its own depth.
+fn onward(way: Way) -> Option<Place>
+    ensures { result ≡ onward way }
+{
+    match way {
+        Way::Move(next, _) | Way::Jump(next) | Way::Call(_, next) => Some(next),
+        Way::Return | Way::Halt => None,
+    }
+}
+
+// The same with so many words more.
+fn longer(rest: Drawn, more: u64) -> Drawn
+    ensures { IsLonger rest more result }
+{
+    Drawn {
+        words: rest.words.saturating_add(more),
+        end: rest.end,
+        returns: rest.returns,
+        calls: rest.calls,
+    }
+}
+
+// What is drawn from a call, by what is drawn from its target and from the place after it.
+fn called(inside: Drawn, rest: Drawn) -> Drawn
+    ensures { IsCalled inside rest result }
+{
+    let calls = rest.calls.max(inside.calls.saturating_add(1));
+    let words = inside.words.saturating_add(1);
+    match inside.end {
+        Ending::Halts => Drawn {
+            words,
+            end: Ending::Halts,
+            returns: rest.returns,
+            calls,
+        },
+        Ending::Returns => Drawn {
+            words: words.saturating_add(rest.words),
+            end: rest.end,
+            returns: rest.returns,
+            calls,
+        },
+    }
+}
+
+// What the table has of a place.
+fn entry(table: &Table, place: Place) -> Drawn
+    requires { HasPlace table.now place }
+    ensures { known_at table.now place ≡ Some result }
+{
+    let Some(drawn) = table.at(place) else {
+        unreachable!()
+    };
+    drawn
+}
+
+// What is drawn from a place that leads on so.
+#[inline(always)]
+fn draw(table: &Table, way: Way) -> Drawn
+    requires { (F : List OpKind) × (R : List ℕ) × (p : Place) × (d : ℕ) × StandsSo F R p way × IsReady F R table.now p d }
+    ensures { (F : List OpKind) (R : List ℕ) (p : Place) (d : ℕ) → StandsSo F R p way → IsReady F R table.now p d → IsKnown F R table.now p result }
+{
+    match way {
+        Way::Move(after, words) => longer(entry(table, after), words),
+        Way::Jump(to) => longer(entry(table, to), 1),
+        Way::Call(to, after) => called(entry(table, to), entry(table, after)),
+        Way::Return => Drawn {
+            words: 1,
+            end: Ending::Returns,
+            returns: true,
+            calls: 0,
+        },
+        Way::Halt => Drawn {
+            words: 1,
+            end: Ending::Halts,
+            returns: false,
+            calls: 0,
+        },
+    }
+}
+
+// Puts down what is drawn from a place that leads on so, where that isn't there.
+#[inline(always)]
+fn put_drawn(table: &mut Table, place: Place, way: Way)
+    requires { (F : List OpKind) × (R : List ℕ) × (d : ℕ) × StandsSo F R place way × IsReady F R table.old place d }
+    ensures entries { (F : List OpKind) (R : List ℕ) (d : ℕ) → StandsSo F R place way → IsReady F R table.old place d → IsTable F R table.new }
+    ensures kept { KeepsKnown table.old table.new }
+    ensures has { HasPlace table.new place }
+{
+    if table.at(place).is_none() {
+        let drawn = draw(table, way);
+        table.put(place, drawn);
+    }
+}
+
+// Follows the steps at one depth from a pair, up to a place of which the table has what is drawn from it, or
+// from which nothing leads on. The chain gets the pairs on the way. False where a pair has a fault, or the steps
+// come to no end.
+#[inline(always)]
+fn follow<A: Allocator>(
+    draft: &Draft,
+    rom: &Rom<A>,
+    table: &Table,
+    chain: &mut Chain,
+    start: Pair,
+) -> bool
+    requires rom { IsRom rom.now }
+    requires begins { Begins draft.now }
+    requires inside { IsPlaceOf draft.now rom.now start.place }
+    requires depth { start.depth ≤ DEEPEST }
+    requires reached { AllFine draft.now rom.now → ReachedPair draft.now rom.now start }
+    requires room { length chain.old ≤ start.depth * LONGEST }
+    ensures room { length chain.new ≤ length chain.old + LONGEST }
+    ensures followed { MatchBool result (HasChain draft.now rom.now table.now start.depth start.place chain.old chain.new) (IsRefused draft.now rom.now) }
+{
+    let mut place = start.place;
+    for step in 0..draft.len() + usize::from(rom.len_words()) + 1 {
+        if table.at(place).is_some() {
+            return true;
+        }
+        let pair = Pair {
+            place,
+            depth: start.depth,
+        };
+        let Ok(way) = look(draft, rom, pair) else {
+            return false;
+        };
+        chain.push(pair);
+        match onward(way) {
+            Some(next) => place = next,
+            None => return true,
+        }
+    }
+    false
+}
+
+// How a place without a fault leads on.
+#[inline(always)]
+fn way_on<A: Allocator>(draft: &Draft, rom: &Rom<A>, place: Place) -> Way
+    requires rom { IsRom rom.now }
+    requires inside { IsPlaceOf draft.now rom.now place }
+    requires fine { (d : ℕ) × IsFine draft.now rom.now place d }
+    ensures { StandsSo draft.now rom.now place result }
+{
+    let Some(way) = way_at(draft, rom, place) else {
+        unreachable!()
+    };
+    way
+}
+
+// Finds what is drawn from a pair's place, and from each place on the way from it. False where a pair has a fault,
+// or steps at one depth come to no end. What the chain has of other depths stays there.
+fn settle<A: Allocator>(
+    draft: &Draft,
+    rom: &Rom<A>,
+    table: &mut Table,
+    chain: &mut Chain,
+    start: Pair,
+) -> bool
+    requires rom { IsRom rom.now }
+    requires begins { Begins draft.now }
+    requires inside { IsPlaceOf draft.now rom.now start.place }
+    requires depth { start.depth ≤ DEEPEST }
+    requires reached { AllFine draft.now rom.now → ReachedPair draft.now rom.now start }
+    requires room { length chain.old ≤ start.depth * LONGEST }
+    requires entries { IsTable draft.now rom.now table.old }
+    ensures entries { IsTable draft.now rom.now table.new }
+    ensures kept { KeepsKnown table.old table.new }
+    ensures settled { MatchBool result (HasPlace table.new start.place × (chain.new ≡ chain.old)) (IsRefused draft.now rom.now) }
+{
+    let base = chain.len();
+    if !follow(draft, rom, table, chain, start) {
+        return false;
+    }
+    while chain.len() > base {
+        let place = chain.pop().place;
+        let way = way_on(draft, rom, place);
+        if let Way::Call(to, _) = way {
+            let inside = Pair {
+                place: to,
+                depth: start.depth + 1,
+            };
+            if !settle(draft, rom, table, chain, inside) {
+                return false;
+            }
+        }
+        put_drawn(table, place, way);
+    }
+    true
+}
+
+/// How many words the whole run of a draft fetches, that of word zero included. None where a reached pair has a
+/// fault, or steps at one depth come to no end. The table has nothing at first.
+///
+/// Each place is gone over once, however many depths it is reached at: what is drawn from it is the same at each,
+/// and the table has at which depths no run from it breaks. So the time is linear in the places that are reached, but that
+/// a loop is followed for as many steps as there are operations and ROM words.
+pub(crate) fn bound_of<A: Allocator>(
+    draft: &Draft,
+    rom: &Rom<A>,
+    table: &mut Table,
+    chain: &mut Chain,
+) -> Option<u64>
+    requires rom { IsRom rom.now }
+    requires begins { Begins draft.now }
+    requires none { HasNone table.old }
+    ensures { MatchOption result (IsRefused draft.now rom.now) (λ n. Accepts draft.now rom.now × IsBound draft.now rom.now n × (n < 2 ^ 63)) }
+{
+    chain.clear();
+    if !settle(draft, rom, table, chain, Pair::default()) {
+        return None;
+    }
+    let first = entry(table, Place::InFrame(0));
+    if first.returns || first.calls > DEEPEST {
+        return None;
+    }
+    Some(first.words + 1)
+}

@@ -1,0 +1,199 @@
+//! The check of a draft.
+ghost use Rattle.std.specs.Prelude.{◌≡◌, [], ℕ, ◌<◌, ◌↔◌, List, IsTrue, MatchOption, MatchResult};
+ghost use Rattle.dvg_mem.specs.Memory.{IsRom};
+ghost use Rattle.dvg_frame.specs.Steps.{Begins, Misses};
+ghost use Rattle.dvg_frame.specs.Faults.{IsChecked, Refuses};
+ghost use Rattle.dvg_frame.specs.own.Firsts.{DrawsLabs, NamesNone};
+ghost use Rattle.dvg_frame.specs.own.Frames.{IsFrame};
+ghost use Rattle.dvg_frame.specs.Layout.{size};
+ghost use Rattle.dvg_frame.specs.own.Tables.{BoundOrFault, HasNone, IsRefused};
+
+use crate::checked::Checked;
+use crate::checking::bounds::bound_of;
+use crate::checking::chain::Chain;
+use crate::checking::sweep::sweep;
+use crate::checking::table::Table;
+use crate::checking::worklist::Worklist;
+use crate::draft::{Draft, words_of};
+use crate::fault::FrameFault;
+use crate::frame::{Frame, MAX_WORDS};
+use crate::op::OpKind;
+use dvg_code::Instr;
+use dvg_mem::Rom;
+use std::alloc::Allocator;
+use std::marker::Model;
+
+// Whether it is a LABS.
+fn is_labs(kind: OpKind) -> bool
+    ensures { IsTrue result ↔ DrawsLabs kind }
+{
+    match kind {
+        OpKind::Draw(code) => matches!(code.instr(), Instr::Labs { .. }),
+        _ => false,
+    }
+}
+
+// Whether it names an operation that is none of so many.
+fn names_none(count: usize, kind: OpKind) -> bool
+    ensures { IsTrue result ↔ NamesNone count kind }
+{
+    match kind {
+        OpKind::Call(j) | OpKind::Jump(j) => count <= usize::from(j),
+        _ => false,
+    }
+}
+
+// The least operation that names one which the draft doesn't have.
+fn first_miss(draft: &Draft) -> Option<u16>
+    ensures { MatchOption result
+        ((i : ℕ) → ¬ Misses draft.now i)
+        (λ i. Misses draft.now i × ((k : ℕ) → k < i → ¬ Misses draft.now k)) }
+{
+    let count = draft.len();
+    for i in 0..count {
+        if names_none(count, draft.op(i).kind()) {
+            return Some(i as u16);
+        }
+    }
+    None
+}
+
+// How many words the operations of a draft have.
+fn words_of_all(draft: &Draft) -> u16
+    ensures { result ≡ size draft.now }
+{
+    let mut words = 0;
+    for op in draft.ops() {
+        words += words_of(op.kind());
+    }
+    words
+}
+
+// How many words a draft without the faults 1 to 4 has, or the first of them that holds.
+fn words_or_fault(draft: &Draft) -> Result<u16, FrameFault>
+    ensures { MatchResult result (λ words. IsFrame draft.now × (words ≡ size draft.now)) (λ fault. (R : List ℕ) → Refuses draft.now R fault) }
+{
+    let count = draft.len();
+    if count == 0 {
+        return Err(FrameFault::Empty);
+    }
+    if !is_labs(draft.op(0).kind()) {
+        return Err(FrameFault::NoLabs);
+    }
+    let words = words_of_all(draft);
+    if words > MAX_WORDS {
+        return Err(FrameFault::TooLong);
+    }
+    match first_miss(draft) {
+        Some(i) => Err(FrameFault::Target(i)),
+        None => Ok(words),
+    }
+}
+
+/// The check, with tables of a fixed size that are kept from one check to the next: a check takes time for the operations
+/// and for the places and pairs that it reaches, and none for the size of the tables, which is about 105 KB. What it
+/// answers doesn't depend on what it checked before. Whoever checks many drafts keeps one, on the heap.
+#[derive(Drop)]
+pub struct Checker {
+    reached: Worklist,
+    table: Table,
+    chain: Chain,
+}
+
+// Contracts see nothing of it: between checks nothing is known of a place, and no pair is reached.
+impl Model for Checker {
+    ghost Value = { Unit {0} };
+
+    ghost view = { λ checker. tt };
+
+    ghost invariant = { λ checker. (checker.reached ≡ []) × HasNone checker.table };
+}
+
+impl Checker {
+    /// A checker.
+    pub fn new() -> Checker {
+        Checker {
+            reached: Worklist::new(),
+            table: Table::new(),
+            chain: Chain::new(),
+        }
+    }
+
+    /// The draft, checked, where it has no fault over the ROM, and else the fault that is picked: faults 1 to
+    /// 4 in their order, then that of the first reached pair of place and depth that has one, then fault 9.
+    /// Operations come before ROM words, each by number, and of one place the lesser depth comes first; if
+    /// several faults hold at that pair, the least number is answered (this project's own choice).
+    ///
+    /// The pairs begin with operation 0 at depth 0. A vector or a LABS leads to the place after it, a jump
+    /// to its target, a call to its target one deeper and to the place after it at its own depth. A return,
+    /// a halt and a pair with a fault lead nowhere.
+    ///
+    /// Exactly one answer holds of each draft and ROM. The time is linear in the draft's operations and the
+    /// places and pairs that are reached, but that a loop is followed for as many steps as there are places.
+    pub fn check<'a, A: Allocator>(
+        &mut self,
+        draft: &'a Draft,
+        rom: &Rom<A>,
+    ) -> Result<Checked<'a>, FrameFault>
+        ensures { IsChecked draft.now rom.now result }
+    {
+        let words = match words_or_fault(draft) {
+            Ok(words) => words,
+            Err(fault) => return Err(fault),
+        };
+        // A ROM has 2,048 or 4,096 bytes, as its type says.
+        let _ = rom.len_words();
+        match self.bound_or_fault(draft, rom) {
+            Ok(bound) => Ok(Checked::of(draft, words, bound)),
+            Err(fault) => Err(fault),
+        }
+    }
+
+    // The bound of a draft without the faults 1 to 4, or the fault that is picked.
+    fn bound_or_fault<A: Allocator>(
+        &mut self,
+        draft: &Draft,
+        rom: &Rom<A>,
+    ) -> Result<u64, FrameFault>
+        requires rom { IsRom rom.now }
+        requires begins { Begins draft.now }
+        ensures { BoundOrFault draft.now rom.now result }
+    {
+        let bound = bound_of(draft, rom, &mut self.table, &mut self.chain);
+        self.table.clear();
+        match bound {
+            Some(bound) => Ok(bound),
+            None => {
+                let fault = fault_of(draft, rom, &mut self.reached);
+                self.reached.clear();
+                Err(fault)
+            }
+        }
+    }
+}
+
+// The fault that is picked of a draft that has one after the first four, or a loop. The list has no pair at first,
+// and the reached ones at the end.
+fn fault_of<A: Allocator>(draft: &Draft, rom: &Rom<A>, list: &mut Worklist) -> FrameFault
+    requires rom { IsRom rom.now }
+    requires empty { list.old ≡ [] }
+    requires begins { Begins draft.now }
+    requires refused { IsRefused draft.now rom.now }
+    ensures { Refuses draft.now rom.now result }
+{
+    match sweep(list, draft, rom) {
+        Some(found) => found.fault,
+        None => FrameFault::Loops,
+    }
+}
+
+/// The frame of a draft that has no fault over the ROM, and else the fault that is picked, as by a
+/// `Checker`, which it lays out on the stack. Whoever checks many drafts keeps a `Checker`, and saves the time for that.
+pub fn check<A: Allocator>(draft: &Draft, rom: &Rom<A>) -> Result<Frame, FrameFault>
+    ensures { IsChecked draft.now rom.now result }
+{
+    match Checker::new().check(draft, rom) {
+        Ok(checked) => Ok(checked.to_frame()),
+        Err(fault) => Err(fault),
+    }
+}

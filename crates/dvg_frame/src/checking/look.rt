@@ -1,0 +1,70 @@
+//! What is wrong at a pair of place and depth.
+ghost use Rattle.std.specs.Prelude.{◌≡◌, ◌≢◌, ◌+◌, ℕ, MatchOption, MatchResult};
+ghost use Rattle.dvg_mem.specs.Memory.{IsRom};
+ghost use Rattle.dvg_frame.specs.Steps.{Bad, IsFine};
+ghost use Rattle.dvg_frame.specs.own.Ways.{HasFaultAt, IsPlaceOf, IsLeast, StandsSo};
+ghost use Rattle.dvg_frame.specs.declared.fault.FrameFault.{FrameFault};
+
+use crate::checking::pair::{DEEPEST, Pair};
+use crate::checking::way::{Way, way_at};
+use crate::draft::Draft;
+use crate::fault::FrameFault;
+use crate::place::Place;
+use dvg_mem::Rom;
+use std::alloc::Allocator;
+
+// The operation at a place, if it is the last one of so many.
+fn last_op(count: usize, place: Place) -> Option<u16>
+    ensures { MatchOption result ((i : ℕ) → i + 1 ≡ count → place ≢ Place.InFrame i) (λ i. (place ≡ Place.InFrame i) × (i + 1 ≡ count)) }
+{
+    match place {
+        Place::InFrame(i) => {
+            if usize::from(i) + 1 == count {
+                Some(i)
+            } else {
+                None
+            }
+        }
+        Place::InRom(_) => None,
+    }
+}
+
+// The fault at a pair among so many operations, where this is the way on: that of least number.
+#[inline(always)]
+fn fault_at<A: Allocator>(rom: &Rom<A>, count: usize, pair: Pair, seen: Way) -> Option<FrameFault>
+    ensures { MatchOption result ((fault : FrameFault) → ¬ HasFaultAt rom.now count pair seen fault) (λ fault. IsLeast (HasFaultAt rom.now count pair seen) fault) }
+{
+    if seen.goes_on() {
+        if let Some(i) = last_op(count, pair.place) {
+            return Some(FrameFault::RunsOff(i));
+        }
+    }
+    if seen.leads_outside(rom) {
+        return Some(FrameFault::OutOfRom(pair.place));
+    }
+    if seen.is_call() && pair.depth == DEEPEST {
+        return Some(FrameFault::TooDeep(pair.place));
+    }
+    if seen.is_return() && pair.depth == 0 {
+        return Some(FrameFault::NoCaller(pair.place));
+    }
+    None
+}
+
+// The way on from a pair without a fault, or the fault of least number there.
+#[inline(always)]
+pub(crate) fn look<A: Allocator>(draft: &Draft, rom: &Rom<A>, pair: Pair) -> Result<Way, FrameFault>
+    requires rom { IsRom rom.now }
+    requires inside { IsPlaceOf draft.now rom.now pair.place }
+    ensures { MatchResult result
+        (λ seen. IsFine draft.now rom.now pair.place pair.depth × StandsSo draft.now rom.now pair.place seen)
+        (λ fault. IsLeast (Bad draft.now rom.now pair.place pair.depth) fault) }
+{
+    match way_at(draft, rom, pair.place) {
+        Some(seen) => match fault_at(rom, draft.len(), pair, seen) {
+            Some(fault) => Err(fault),
+            None => Ok(seen),
+        },
+        None => Err(FrameFault::OutOfRom(pair.place)),
+    }
+}

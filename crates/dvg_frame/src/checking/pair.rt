@@ -1,0 +1,77 @@
+//! Pairs of a place and a depth.
+ghost use Rattle.std.specs.Prelude.{◌≡◌, ◌<◌};
+ghost use Rattle.dvg_frame.specs.own.Pairs.{IsPair, index, pair_at};
+
+use crate::draft::MAX_OPS;
+use crate::place::Place;
+use dvg_mem::{FIRST_LARGE_ROM_WORD, LAST_ROM_WORD};
+
+/// The most calls that are open at once: the generator's return stack holds four addresses.
+pub(crate) const DEEPEST: u8 = 4;
+
+/// The word address of the first word that a ROM can have, and that after its last.
+pub(crate) const ROM_FIRST: u16 = FIRST_LARGE_ROM_WORD;
+
+pub(crate) const ROM_END: u16 = LAST_ROM_WORD + 1;
+
+/// How many words a ROM can have.
+pub(crate) const ROM_WORDS: usize = (ROM_END - ROM_FIRST) as usize;
+
+/// How many places there are: each operation and each word that a ROM can have.
+pub(crate) const PLACES: usize = MAX_OPS + ROM_WORDS;
+
+/// How many depths there are: none to four open calls.
+const DEPTHS: u16 = DEEPEST as u16 + 1;
+
+/// How many pairs there are: at each place one for each depth.
+pub(crate) const PAIRS: usize = PLACES * (DEEPEST as usize + 1);
+
+/// A place, and how many calls are open there.
+#[derive(Clone, Copy)]
+pub(crate) struct Pair {
+    pub(crate) place: Place,
+    pub(crate) depth: u8,
+}
+
+/// The pair at which each run begins.
+impl Default for Pair {
+    ghost use Rattle.std.specs.Prelude.{◌≡◌};
+    ghost use Rattle.dvg_frame.specs.own.Pairs.{first_pair};
+
+    ghost is_default = { λ pair. pair ≡ first_pair };
+
+    fn default() -> Pair {
+        Pair {
+            place: Place::InFrame(0),
+            depth: 0,
+        }
+    }
+}
+
+// The number of a pair, counted in the order in which faults are picked.
+pub(crate) fn index_of(pair: Pair) -> usize
+    requires { IsPair pair }
+    ensures value { result ≡ index pair }
+    ensures bound { result < PAIRS }
+{
+    let place = match pair.place {
+        Place::InFrame(i) => usize::from(i),
+        Place::InRom(a) => MAX_OPS + usize::from(a - ROM_FIRST),
+    };
+    (usize::from(DEEPEST) + 1) * place + usize::from(pair.depth)
+}
+
+// The pair of a number.
+pub(crate) fn pair_of(number: u16) -> Pair
+    ensures { result ≡ pair_at number }
+{
+    let place = number / DEPTHS;
+    let depth = (number % DEPTHS) as u8;
+    let ops = MAX_OPS as u16;
+    let place = if place < ops {
+        Place::InFrame(place)
+    } else {
+        Place::InRom(ROM_FIRST + (place - ops))
+    };
+    Pair { place, depth }
+}

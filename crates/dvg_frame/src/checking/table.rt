@@ -1,0 +1,142 @@
+//! What is known of each place: what is drawn from it, and at which depths no run from it breaks.
+ghost use Rattle.std.specs.Prelude.{◌≡◌, ◌<◌, List, Option, Some, length, map, set};
+ghost use Rattle.dvg_frame.specs.own.Pairs.{IsPlace, place_index};
+ghost use Rattle.dvg_frame.specs.own.Tables.{AreNotes, HasNone, known_at, noted};
+ghost use Rattle.dvg_frame.specs.declared.checking.pair.TheConstants.{PLACES};
+ghost use Rattle.dvg_frame.specs.declared.place.Place.{Place};
+ghost use Rattle.dvg_frame.specs.declared.checking.table.Drawn.{Drawn};
+
+use crate::checking::pair::{PLACES, ROM_FIRST};
+use crate::draft::MAX_OPS;
+use crate::place::Place;
+use std::marker::Model;
+
+/// How what is drawn from a place ends.
+#[derive(Clone, Copy)]
+pub(crate) enum Ending {
+    Halts,
+    Returns,
+}
+
+/// What is drawn from a place.
+#[derive(Clone, Copy)]
+pub(crate) struct Drawn {
+    /// How many words are fetched. It stops at the greatest number, to which no draft without a fault comes.
+    pub(crate) words: u64,
+    /// How it ends.
+    pub(crate) end: Ending,
+    /// Whether the steps at its own depth come to a return, also where a call on the way halts.
+    pub(crate) returns: bool,
+    /// How many calls are open at once at most, of those that are made on the way.
+    pub(crate) calls: u8,
+}
+
+/// What was put down of a place, and in which round. Before the first round each place has a note of round 0.
+#[derive(Clone, Copy)]
+pub(crate) struct Note {
+    words: u64,
+    round: u32,
+    end: Ending,
+    returns: bool,
+    calls: u8,
+}
+
+/// The note of a place of which nothing was put down.
+const BLANK: Note = Note {
+    words: 0,
+    round: 0,
+    end: Ending::Halts,
+    returns: false,
+    calls: 0,
+};
+
+/// For each place what is known of it: its note, where that is of the newest round. So to forget all is to begin a round.
+#[derive(Drop)]
+pub(crate) struct Table {
+    notes: [Note; PLACES],
+    round: u32,
+}
+
+/// Contracts see what is known of each place, in a list.
+impl Model for Table {
+    ghost Value = { List (Option Drawn) };
+
+    ghost view = { λ table. map (noted table.round) table.notes };
+
+    ghost invariant = { λ table. AreNotes table.round table.notes };
+}
+
+impl Table {
+    // A table in which nothing is known.
+    pub(crate) fn new() -> Table
+        ensures { HasNone result }
+    {
+        Table {
+            notes: blanks(),
+            round: 1,
+        }
+    }
+
+    // What is known of a place.
+    pub(crate) fn at(&self, place: Place) -> Option<Drawn>
+        requires { IsPlace place }
+        ensures { known_at self.now place ≡ result }
+    {
+        let note = self.notes[number_of(place)];
+        if note.round == self.round {
+            Some(Drawn {
+                words: note.words,
+                end: note.end,
+                returns: note.returns,
+                calls: note.calls,
+            })
+        } else {
+            None
+        }
+    }
+
+    // Puts down what is drawn from a place.
+    pub(crate) fn put(&mut self, place: Place, drawn: Drawn)
+        requires place { IsPlace place }
+        ensures table { self.new ≡ set self.old (place_index place) (Some drawn) }
+        ensures size { length self.old ≡ PLACES }
+    {
+        self.notes[number_of(place)] = Note {
+            words: drawn.words,
+            round: self.round,
+            end: drawn.end,
+            returns: drawn.returns,
+            calls: drawn.calls,
+        };
+    }
+
+    // Forgets what is known. No note is gone over but where the rounds are at their greatest number.
+    pub(crate) fn clear(&mut self)
+        ensures { HasNone self.new }
+    {
+        if self.round == u32::MAX {
+            *self = Table::new();
+            return;
+        }
+        self.round += 1;
+    }
+}
+
+// The note of each place before the first round.
+fn blanks() -> [Note; PLACES]
+    ensures { AreNotes 0 result }
+{
+    [BLANK; PLACES]
+}
+
+// The number of a place, counted in the order of the places.
+fn number_of(place: Place) -> usize
+    requires { IsPlace place }
+    ensures value { result ≡ place_index place }
+    ensures bound { result < PLACES }
+{
+    match place {
+        Place::InFrame(i) => usize::from(i),
+        Place::InRom(a) => MAX_OPS + usize::from(a - ROM_FIRST),
+    }
+}

@@ -1,0 +1,83 @@
+//! A work list of pairs.
+ghost use Rattle.std.specs.Prelude.{◌≡◌, ◌<◌, ◌≤◌, List, [], Some, length, slice_get};
+ghost use Rattle.dvg_frame.specs.own.Growth.{AreMarked, Grows};
+ghost use Rattle.dvg_frame.specs.own.Pairs.{IsPair};
+ghost use Rattle.dvg_frame.specs.declared.checking.pair.Pair.{Pair};
+
+use crate::checking::pair::{PAIRS, Pair, index_of};
+use crate::checking::pair_list::PairList;
+use std::marker::Model;
+
+/// Pairs, each once, in the order in which they came.
+#[derive(Drop)]
+pub(crate) struct Worklist {
+    marks: [bool; PAIRS],
+    pairs: PairList<PAIRS>,
+}
+
+/// Contracts see the list of the pairs.
+impl Model for Worklist {
+    ghost Value = { List Pair };
+
+    ghost view = { λ list. list.pairs };
+
+    ghost invariant = { λ list. AreMarked list.marks list.pairs };
+}
+
+impl Worklist {
+    // A list with no pair.
+    pub(crate) fn new() -> Worklist
+        ensures { result ≡ [] }
+    {
+        Worklist {
+            marks: no_marks(),
+            pairs: PairList::new(),
+        }
+    }
+
+    // How many pairs there are.
+    pub(crate) fn len(&self) -> usize
+        ensures value { result ≡ length self.now }
+        ensures bound { result ≤ PAIRS }
+    {
+        self.pairs.len()
+    }
+
+    // The pair at this position.
+    pub(crate) fn at(&self, i: usize) -> Pair
+        requires { i < length self.now }
+        ensures value { slice_get self.now i ≡ Some result }
+        ensures valid { IsPair result }
+    {
+        self.pairs.at(i)
+    }
+
+    // Takes all pairs out. Only their own marks are taken back, so the time is linear in their number.
+    pub(crate) fn clear(&mut self)
+        ensures { self.new ≡ [] }
+    {
+        while self.pairs.len() > 0 {
+            let pair = self.pairs.pop();
+            self.marks[index_of(pair)] = false;
+        }
+    }
+
+    // Adds a pair at the end, unless it is there.
+    pub(crate) fn add(&mut self, pair: Pair)
+        requires { IsPair pair }
+        ensures { Grows self.old self.new (λ new. new ≡ pair) }
+    {
+        let i = index_of(pair);
+        if !self.marks[i] {
+            self.marks[i] = true;
+            self.pairs.push(pair);
+        }
+    }
+}
+
+// The marks of no pair.
+fn no_marks() -> [bool; PAIRS]
+    ensures { AreMarked result [] }
+{
+    [false; PAIRS]
+}
