@@ -557,15 +557,28 @@ fn erased(text: &str, role: Role) -> Result<String, Refused> {
 
 // --- Files ---
 
-/// The files of a folder, in order.
+/// The files of a folder and of those in it, in order.
 fn files_of(folder: &Path) -> Result<Vec<PathBuf>, String> {
     let why = |error| format!("{}: {error}", folder.display());
     let mut files = Vec::new();
     for entry in fs::read_dir(folder).map_err(why)? {
-        files.push(entry.map_err(why)?.path());
+        let path = entry.map_err(why)?.path();
+        if path.is_dir() {
+            files.append(&mut files_of(&path)?);
+        } else {
+            files.push(path);
+        }
     }
     files.sort();
     Ok(files)
+}
+
+/// The name of a file within a folder, with another ending.
+fn name_within(file: &Path, folder: &Path, ending: &str) -> Result<String, String> {
+    let why = || format!("{}: no text", file.display());
+    let within = file.strip_prefix(folder).map_err(|_| why())?;
+    let name = within.with_extension(ending);
+    name.to_str().map(str::to_owned).ok_or_else(why)
 }
 
 /// The line of a source at which a byte stands.
@@ -604,14 +617,14 @@ fn erased_crate(folder: &Path) -> Result<Vec<(String, String)>, String> {
                 refused.why
             )
         })?;
-        made.push((format!("{stem}.rs"), plain));
+        made.push((name_within(&file, folder, "rs")?, plain));
     }
     Ok(made)
 }
 
 /// The files of a folder that stand for no source.
 fn strays(folder: &Path, made: &[(String, String)]) -> Vec<PathBuf> {
-    let is_made = |file: &Path| made.iter().any(|(name, _)| file.ends_with(name));
+    let is_made = |file: &Path| made.iter().any(|(name, _)| file == folder.join(name));
     files_of(folder)
         .unwrap_or_default()
         .into_iter()
@@ -644,6 +657,7 @@ fn write(folder: &Path, made: &[(String, String)]) -> Result<(), String> {
     for (name, text) in made {
         let path = folder.join(name);
         if fs::read_to_string(&path).ok().as_deref() != Some(text) {
+            fs::create_dir_all(path.parent().unwrap_or(folder)).map_err(why)?;
             fs::write(path, text).map_err(why)?;
         }
     }

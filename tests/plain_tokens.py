@@ -174,8 +174,13 @@ def fault_of(source, plain):
 
 
 def files_of(folder):
-    """The files of a folder that have code, by their names without an ending."""
-    return {path.stem: path for path in folder.iterdir() if path.stem not in MODULES_WITHOUT_CODE}
+    """The files in a folder that have code, by their names within it, without an ending."""
+    files = (path for path in folder.rglob("*") if path.is_file())
+    return {
+        str(path.relative_to(folder).with_suffix("")): path
+        for path in files
+        if path.stem not in MODULES_WITHOUT_CODE
+    }
 
 
 def main(crates, plain, names):

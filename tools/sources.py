@@ -31,14 +31,29 @@ def items(text):
                 item = []
 
 
+def modules_of(text):
+    """The modules that a file names, each with whether it is public; those of tests are left out."""
+    text = re.sub(r"#\[cfg\(test\)\]\nmod.*", "", text)
+    return [(name, bool(public)) for public, name in re.findall(r"^(pub )?mod (\w+);", text, re.M)]
+
+
+def files_of_module(path):
+    """The file of a module, or those of the modules in its folder."""
+    if path.with_suffix(".rt").exists():
+        return [path.with_suffix(".rt")]
+    names = [name for name, _ in modules_of((path / "mod.rt").read_text())]
+    return [file for name in names for file in files_of_module(path / name)]
+
+
 def exports_of(crate):
     """The files of a crate's code, each with the names that the crate exports, or None for all."""
     sources = ROOT / "crates" / crate / "src"
     text = (sources / "lib.rt").read_text()
     exports = set(re.findall(r"\w+", " ".join(re.findall(r"^pub use \w+::([^;]*);", text, re.M))))
-    modules = re.findall(r"^(pub )?mod (\w+);", re.sub(r"#\[cfg\(test\)\]\nmod.*", "", text), re.M)
-    files = [("lib", None), *((name, None if public else exports) for public, name in modules)]
-    return [(sources / f"{name}.rt", exported) for name, exported in files]
+    files = [(sources / "lib.rt", None)]
+    for name, public in modules_of(text):
+        files += [(file, None if public else exports) for file in files_of_module(sources / name)]
+    return files
 
 
 def all_crates():

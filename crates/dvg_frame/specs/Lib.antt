@@ -5,6 +5,7 @@ pub mod Steps
 pub mod Faults
 pub mod FaultNumbers
 pub mod Picture
+pub mod Cursors
 pub mod Loops
 pub mod Laws
 pub mod own

@@ -1,6 +1,5 @@
 -- What only private contracts and invariants cite.
 pub mod Counting
-pub mod Cursors
 pub mod Firsts
 pub mod Frames
 pub mod Growth

@@ -37,7 +37,7 @@ impl Model for Cursor {
 
     ghost Value = { List (ℕ × ℕ) };
 
-    ghost use Rattle.dvg_frame.specs.own.Cursors.{IsCursor, items_left};
+    ghost use Rattle.dvg_frame.specs.Cursors.{IsCursor, items_left};
 
     ghost view = { items_left };
 

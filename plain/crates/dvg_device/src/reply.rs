@@ -108,27 +108,18 @@ fn packed(kind: u8, address: u16, value: u16) -> u64 {
     u64::from(kind) + 0x100 * u64::from(address) + 0x100_0000 * u64::from(value)
 }
 
-// The number of a fault at a place.
-fn placed(fault: u8, place: Place) -> u64 {
+// The number of a fault at the place that it names, if it names one.
+fn placed(fault: u8, place: Option<Place>) -> u64 {
     match place {
-        Place::InFrame(i) => packed(1, i, u16::from(fault)),
-        Place::InRom(a) => packed(1, a, 0x100 + u16::from(fault)),
+        None => packed(1, 0, u16::from(fault)),
+        Some(Place::InFrame(i)) => packed(1, i, u16::from(fault)),
+        Some(Place::InRom(a)) => packed(1, a, 0x100 + u16::from(fault)),
     }
 }
 
 // The number of a refusal.
 fn refusal(fault: FrameFault) -> u64 {
-    match fault {
-        FrameFault::Empty => packed(1, 0, 1),
-        FrameFault::NoLabs => packed(1, 0, 2),
-        FrameFault::TooLong => packed(1, 0, 3),
-        FrameFault::Target(i) => packed(1, i, 4),
-        FrameFault::RunsOff(i) => packed(1, i, 5),
-        FrameFault::OutOfRom(place) => placed(6, place),
-        FrameFault::TooDeep(place) => placed(7, place),
-        FrameFault::NoCaller(place) => placed(8, place),
-        FrameFault::Loops => packed(1, 0, 9),
-    }
+    placed(fault.number(), fault.place())
 }
 
 // The number of an action.

@@ -12,28 +12,21 @@
 
 extern crate plain_std as std;
 
-mod bounds;
-mod chain;
 mod checked;
-mod checks;
+mod checking;
 mod counted;
 mod cursor;
 mod draft;
-mod faults;
+mod fault;
 mod frame;
 mod op;
-mod pair;
-mod pair_list;
 mod place;
-mod sweep;
-mod table;
-mod way;
-mod worklist;
 
 pub use checked::Checked;
-pub use checks::{Checker, check};
+pub use checking::{Checker, check};
 pub use cursor::Cursor;
 pub use draft::{Draft, DraftFull};
+pub use fault::FrameFault;
 pub use frame::Frame;
 pub use op::{Op, OpKind};
-pub use place::{FrameFault, Place};
+pub use place::Place;

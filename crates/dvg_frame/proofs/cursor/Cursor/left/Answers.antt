@@ -1,5 +1,5 @@
 use Rattle.std.proofs.Common.{◌∙◌, ap, length, sym}
-use Rattle.dvg_frame.specs.own.Cursors.{bytes_left}
+use Rattle.dvg_frame.specs.Cursors.{bytes_left}
 use Rattle.dvg_frame.proofs.Bytes.{addressed-length}
 use Rattle.dvg_frame.proofs.cursor.Cursor.left.Goals as goal
 

@@ -1,7 +1,7 @@
 //! How what stands at a place leads on.
+use crate::checking::pair::ROM_END;
 use crate::draft::{Draft, words_of};
 use crate::op::OpKind;
-use crate::pair::ROM_END;
 use crate::place::Place;
 use dvg_mem::Rom;
 use std::alloc::Allocator;

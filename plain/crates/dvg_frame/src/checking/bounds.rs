@@ -1,11 +1,11 @@
 //! What is drawn from each place, whether a run from it breaks, and whether steps at one depth come to no end.
-use crate::chain::Chain;
+use crate::checking::chain::Chain;
+use crate::checking::look::look;
+use crate::checking::pair::{DEEPEST, Pair};
+use crate::checking::table::{Drawn, Ending, Table};
+use crate::checking::way::{Way, way_at};
 use crate::draft::Draft;
-use crate::faults::look;
-use crate::pair::{DEEPEST, Pair};
 use crate::place::Place;
-use crate::table::{Drawn, Ending, Table};
-use crate::way::{Way, way_at};
 use dvg_mem::Rom;
 use std::alloc::Allocator;
 

@@ -1,6 +1,6 @@
 //! A chain of pairs, of which each leads on to the next one at its depth.
-use crate::pair::{DEEPEST, PLACES};
-use crate::pair_list::PairList;
+use crate::checking::pair::{DEEPEST, PLACES};
+use crate::checking::pair_list::PairList;
 
 /// The most pairs of one depth: one more than there are places.
 pub(crate) const LONGEST: usize = PLACES + 1;

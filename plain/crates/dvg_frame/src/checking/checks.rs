@@ -1,14 +1,14 @@
 //! The check of a draft.
-use crate::bounds::bound_of;
-use crate::chain::Chain;
 use crate::checked::Checked;
+use crate::checking::bounds::bound_of;
+use crate::checking::chain::Chain;
+use crate::checking::sweep::sweep;
+use crate::checking::table::Table;
+use crate::checking::worklist::Worklist;
 use crate::draft::{Draft, words_of};
+use crate::fault::FrameFault;
 use crate::frame::{Frame, MAX_WORDS};
 use crate::op::OpKind;
-use crate::place::FrameFault;
-use crate::sweep::sweep;
-use crate::table::Table;
-use crate::worklist::Worklist;
 use dvg_code::Instr;
 use dvg_mem::Rom;
 use std::alloc::Allocator;

@@ -1,10 +1,10 @@
 //! The sweep over all pairs that a draft's run can come to.
+use crate::checking::look::look;
+use crate::checking::pair::{DEEPEST, Pair, index_of};
+use crate::checking::way::Way;
+use crate::checking::worklist::Worklist;
 use crate::draft::Draft;
-use crate::faults::look;
-use crate::pair::{DEEPEST, Pair, index_of};
-use crate::place::FrameFault;
-use crate::way::Way;
-use crate::worklist::Worklist;
+use crate::fault::FrameFault;
 use dvg_mem::Rom;
 use std::alloc::Allocator;
 

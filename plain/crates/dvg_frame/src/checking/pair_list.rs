@@ -1,5 +1,5 @@
 //! Lists of pairs.
-use crate::pair::{Pair, index_of, pair_of};
+use crate::checking::pair::{Pair, index_of, pair_of};
 use arrayvec::ArrayVec;
 
 /// A list of at most so many pairs. Each takes two bytes: its number in the order in which faults are picked.

@@ -1,8 +1,9 @@
 //! What is wrong at a pair of place and depth.
+use crate::checking::pair::{DEEPEST, Pair};
+use crate::checking::way::{Way, way_at};
 use crate::draft::Draft;
-use crate::pair::{DEEPEST, Pair};
-use crate::place::{FrameFault, Place};
-use crate::way::{Way, way_at};
+use crate::fault::FrameFault;
+use crate::place::Place;
 use dvg_mem::Rom;
 use std::alloc::Allocator;
 

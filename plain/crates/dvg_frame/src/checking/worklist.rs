@@ -1,6 +1,6 @@
 //! A work list of pairs.
-use crate::pair::{PAIRS, Pair, index_of};
-use crate::pair_list::PairList;
+use crate::checking::pair::{PAIRS, Pair, index_of};
+use crate::checking::pair_list::PairList;
 
 /// Pairs, each once, in the order in which they came.
 pub(crate) struct Worklist {

@@ -1,6 +1,6 @@
 //! What is known of each place: what is drawn from it, and at which depths no run from it breaks.
+use crate::checking::pair::{PLACES, ROM_FIRST};
 use crate::draft::MAX_OPS;
-use crate::pair::{PLACES, ROM_FIRST};
 use crate::place::Place;
 
 /// How what is drawn from a place ends.

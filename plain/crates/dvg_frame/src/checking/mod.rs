@@ -1,0 +1,14 @@
+//! The check of drafts: what is drawn from each place, and which pairs of place and depth are
+//! reached.
+mod bounds;
+mod chain;
+mod checks;
+mod look;
+mod pair;
+mod pair_list;
+mod sweep;
+mod table;
+mod way;
+mod worklist;
+
+pub use checks::{Checker, check};
