@@ -46,8 +46,8 @@ pub fn redraw()
 {}
 
 /// Over all calls since a reset, with any memory at first, in which nobody else writes the driver's
-/// bytes, its code, the vector RAM or a table while it is being written: the accesses of the devices,
-/// in their order, with the frames and redraws that were taken, are a life of the script.
+/// bytes, its code, the vector RAM or a table while it is being written: the accesses of the
+/// devices, in their order, with the frames and redraws that were taken, are a life of the script.
 pub fn calls_live()
     ensures { CallsLive }
 {}
@@ -62,15 +62,16 @@ pub fn one_life()
     ensures { OneLife }
 {}
 
-/// Of all calls, an offer is taken exactly where the life is whole, and a redraw where it has a flip, too.
+/// Of all calls, an offer is taken exactly where the life is whole, and a redraw where it has a
+/// flip, too.
 pub fn answers()
     ensures offer { OfferAnswers }
     ensures redraw { RedrawAnswers }
 {}
 
 /// A log whose driver's lines are accesses and answers of the machine code is legal, and keeps the
-/// headline: no byte is written in the half being drawn, and each picture is that of the frame newest
-/// published.
+/// headline: no byte is written in the half being drawn, and each picture is that of the frame
+/// newest published.
 pub fn board_keeps()
     ensures { BoardKeeps }
 {}

@@ -93,8 +93,8 @@ fn short() -> Option<Draft> {
     Some(draft)
 }
 
-/// Checks the nested draft over a ROM of which it comes to so many words, with new tables each time. None where
-/// there is no memory.
+/// Checks the nested draft over a ROM of which it comes to so many words, with new tables each
+/// time. None where there is no memory.
 pub fn check_often(alloc: Global, words: usize) -> Option<Passed> {
     let rom = rom(alloc, words)?;
     let draft = nested(rom.first())?;

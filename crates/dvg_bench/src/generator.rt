@@ -6,8 +6,8 @@ use std::alloc::Global;
 /// How many steps are made: of each 29, one start and 28 bytes taken, so 2,000,000 bytes in all.
 const STEPS: u32 = 2_071_429;
 
-/// The display list, from word zero on: LABS, a vector, a call, a blank move, a short vector and HALT, and
-/// at 010 a subroutine of two blank moves.
+/// The display list, from word zero on: LABS, a vector, a call, a blank move, a short vector and
+/// HALT, and at 010 a subroutine of two blank moves.
 const LIST: [u16; 21] = [
     0xA190, 0x0200, 0x9064, 0x7464, 0xC010, 0x9064, 0x0064, 0xFE37, 0xB000, 0, 0, 0, 0, 0, 0, 0,
     0x5010, 0x0410, 0x5410, 0x0010, 0xD000,

@@ -102,7 +102,8 @@ fn event(alloc: Global, random: &mut Random) -> Option<Event> {
     })
 }
 
-/// Mixed events. A fetch of a low byte is followed by one of a high byte, where there is room for both.
+/// Mixed events. A fetch of a low byte is followed by one of a high byte, where there is room for
+/// both.
 fn mixed_events(alloc: Global) -> Option<Vec<Event>> {
     let mut random = Random { state: 1979 };
     let mut events = Vec::new(alloc);
@@ -139,15 +140,16 @@ pub fn run_often(alloc: Global) -> Option<Shown> {
     Some(shown)
 }
 
-/// What judges found: how many logs weren't torn, and the sum of the numbers of what tore the others.
+/// What judges found: how many logs weren't torn, and the sum of the numbers of what tore the
+/// others.
 #[derive(Clone, Copy)]
 pub struct Judged {
     pub whole: u32,
     pub sum: u64,
 }
 
-/// Judges the log of the events, first whole, and then each time without one line more at its front. None where there
-/// is no memory.
+/// Judges the log of the events, first whole, and then each time without one line more at its
+/// front. None where there is no memory.
 pub fn judge_often(alloc: Global) -> Option<Judged> {
     let events = mixed_events(alloc)?;
     let image = Image::new(alloc, &[0; MEMORY_BYTES]).ok()?;

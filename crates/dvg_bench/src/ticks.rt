@@ -30,7 +30,8 @@ impl Ticked {
     }
 }
 
-/// A draft of 511 words: a LABS, then calls, vectors and short vectors by turns, and HALT before a return.
+/// A draft of 511 words: a LABS, then calls, vectors and short vectors by turns, and HALT before a
+/// return.
 fn full_draft() -> Option<Draft> {
     let call = Op::new(OpKind::Call(382))?;
     let vector = draw(Instr::Vctr {
@@ -60,8 +61,8 @@ fn full_draft() -> Option<Draft> {
     Some(draft)
 }
 
-/// Ticks, and offers the frame again wherever the driver is idle. The flag always shows halted. None where
-/// there is no memory.
+/// Ticks, and offers the frame again wherever the driver is idle. The flag always shows halted.
+/// None where there is no memory.
 pub fn tick_often(alloc: Global) -> Option<Ticked> {
     let rom = Rom::new(alloc, &[0; MEMORY_BYTES]).ok()?;
     let draft = full_draft()?;

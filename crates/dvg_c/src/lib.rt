@@ -1,8 +1,9 @@
 //! The device, for C: `dvg_new` makes one, `dvg_turn` asks it, `dvg_free` frees it.
 //!
-//! What C owes, as nothing checks it: it hands `dvg_turn` and `dvg_free` a pointer that `dvg_new` wrote and that it hasn't
-//! freed, and gives one device to one call at a time. What `out` points to holds a pointer, as null, before the call. A
-//! `Global` takes no bytes, so C passes nothing for one.
+//! What C owes, as nothing checks it: it hands `dvg_turn` and `dvg_free` a pointer that `dvg_new`
+//! wrote and that it hasn't freed, and gives one device to one call at a time. What `out` points to
+//! holds a pointer, as null, before the call. A `Global` takes no bytes, so C passes nothing for
+//! one.
 #![tactic(auto)]
 
 ghost use Rattle.std.specs.Prelude.{◌≡◌, IfSome};
@@ -20,10 +21,13 @@ pub struct Handle {
     unused: u8,
 }
 
-/// Makes a device, and hands it to C: 0, and the pointer to it in `out`; 2 for want of memory, and `out` is as it was.
+/// Makes a device, and hands it to C: 0, and the pointer to it in `out`; 2 for want of memory, and
+/// `out` is as it was.
 #[unsafe(no_mangle)]
 pub extern "C" fn dvg_new(alloc: Global, out: &mut *mut Handle) -> u32
-    ensures* { (⌜ result ≡ 0 ⌝ ∗ ∃ₛ (λ (device : Held). ⌜ IsNew device ⌝ ∗ sem 𝓛 (owned out.new device))) ∨ₛ ⌜ (result ≡ 2) × (out.new ≡ out.old) ⌝ }
+    ensures* { (⌜ result ≡ 0 ⌝ ∗ ∃ₛ
+        (λ (device : Held). ⌜ IsNew device ⌝ ∗ sem 𝓛 (owned out.new device))) ∨ₛ ⌜ (result ≡ 2)
+        × (out.new ≡ out.old) ⌝ }
 {
     match made(alloc) {
         Some(device) => {
@@ -46,7 +50,8 @@ fn made(alloc: Global) -> Option<Box<Device>>
 pub unsafe extern "C" fn dvg_turn(at: *mut Handle, request: u64) -> u64
     ghost device: { Held }
     requires* { sem 𝓛 (owned at device) }
-    ensures* { ∃ₛ (λ (after : Held). sem 𝓛 (owned at after) ∗ ⌜ Turned device request after result ⌝) }
+    ensures* { ∃ₛ (λ (after : Held). sem 𝓛
+        (owned at after) ∗ ⌜ Turned device request after result ⌝) }
 {
     (*(at as *mut Device)).turn(request)
 }

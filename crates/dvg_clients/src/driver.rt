@@ -15,7 +15,8 @@ pub fn first_ticks() -> (Action, Action)
     (first, second)
 }
 
-/// The first frame that is offered after the boot is taken, and the next one is not; its first byte goes to 402.
+/// The first frame that is offered after the boot is taken, and the next one is not; its first byte
+/// goes to 402.
 pub fn first_write(checked: &Checked) -> Option<Action>
     requires { checked.now.operations ≡ blank_frame }
     ensures { result ≡ Some (Action.Wrote 0x402 0x90) }

@@ -17,7 +17,8 @@ pub fn short_dump_is_refused(alloc: Global, bytes: &[u8]) -> Result<Dump, DumpFa
     Dump::new(alloc, bytes)
 }
 
-/// A dump of which word zero is a HALT has a picture without strokes, after one word, and no memory is refused for it.
+/// A dump of which word zero is a HALT has a picture without strokes, after one word, and no memory
+/// is refused for it.
 pub fn halts_at_once(dump: &Dump) -> Result<Ending, OutOfMemory>
     requires { memory_of dump.now 0 ≡ Some 0xB000 }
     ensures ends { IfOk result (λ ending. end_of ending ≡ Complete 1 []) }

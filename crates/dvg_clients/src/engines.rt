@@ -8,7 +8,8 @@ use dvg_tool::{Watched, play};
 use std::alloc::Global;
 use std::io::{Read, Write};
 
-/// Of a reader that has the text `tick`, `play --all` writes the line `0 peek` and nothing else, where it answers Ok.
+/// Of a reader that has the text `tick`, `play --all` writes the line `0 peek` and nothing else,
+/// where it answers Ok.
 pub fn plays_a_tick<R: Read, W: Write>(
     alloc: Global,
     reader: &mut Watched<R>,
@@ -17,7 +18,8 @@ pub fn plays_a_tick<R: Read, W: Write>(
     requires fresh_reader { failures_of reader.old ≡ 0 }
     requires fresh_writer { failures_of writer.old ≡ 0 }
     requires text { R.remaining (device_of reader.old) ≡ Some tick_text }
-    ensures { IsTrue result → Appends (W.contents (device_of writer.old)) (W.contents (device_of writer.new)) peek_line }
+    ensures { IsTrue result → Appends (W.contents (device_of writer.old))
+        (W.contents (device_of writer.new)) peek_line }
 {
     match play(alloc, reader, writer, true) {
         Ok(()) => true,

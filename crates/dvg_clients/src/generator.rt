@@ -4,7 +4,8 @@ ghost use Rattle.std.specs.Prelude.{◌≡◌, IfSome};
 use dvg_gen::{GenFault, Generator, Taken};
 use std::alloc::Global;
 
-/// A return at word zero breaks the run, as no call is open. None where the generator wants memory, which it doesn't.
+/// A return at word zero breaks the run, as no call is open. None where the generator wants memory,
+/// which it doesn't.
 pub fn return_without_a_call(alloc: Global) -> Option<Taken<Global>>
     ensures { IfSome result (λ taken. taken ≡ Taken.Broke GenFault.StackUnder) }
 {

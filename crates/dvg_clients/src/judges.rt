@@ -21,7 +21,8 @@ pub fn finds_nothing_in_a_run<S: Store>(
     }
 }
 
-/// A run that begins with a jump to half 1 is torn by a write of byte 402: by entry 2 of these three.
+/// A run that begins with a jump to half 1 is torn by a write of byte 402: by entry 2 of these
+/// three.
 pub fn finds_a_torn_write() -> Option<usize>
     ensures { result ≡ Some 2 }
 {

@@ -17,7 +17,8 @@ pub fn wants_word_zero(alloc: Global) -> (u64, u64, u64)
     (opened, started, device.turn(16))
 }
 
-/// A world that opens in a device, over a RAM and a ROM of zeros, peeks at its first tick. None where memory was refused.
+/// A world that opens in a device, over a RAM and a ROM of zeros, peeks at its first tick. None
+/// where memory was refused.
 pub fn peeks_in_a_world(alloc: Global) -> Option<Reply>
     ensures { IfSome result (λ reply. reply ≡ Came (Acted Action.Peek)) }
 {

@@ -1,6 +1,7 @@
 //! What follows from the contracts of worlds, traces and whole runs.
 ghost use Rattle.std.specs.Prelude.{◌≡◌, IfSome, map, true};
-ghost use Rattle.dvg_clients.specs.Facts.{first_picture, first_picture_events, two_ticks, two_ticks_shown};
+ghost use Rattle.dvg_clients.specs.Facts.{first_picture, first_picture_events, two_ticks};
+ghost use Rattle.dvg_clients.specs.Facts.{two_ticks_shown};
 ghost use Rattle.dvg_tool.specs.Plays.{zeros};
 ghost use Rattle.dvg_log.specs.Entries.{shown_of};
 ghost use Rattle.dvg_log.specs.declared.entry.Entry.TheVariants.{Acted};
@@ -11,7 +12,8 @@ use dvg_mem::{Flat, Image, Rom};
 use dvg_world::{Event, OwnEntry, OwnEvent, Trace, TraceEvent, World, run, run_trace};
 use std::alloc::Global;
 
-/// The first tick of a new world is the driver's peek, over each ROM and image. None where there is no memory for a world.
+/// The first tick of a new world is the driver's peek, over each ROM and image. None where there is
+/// no memory for a world.
 pub fn first_tick(
     alloc: Global,
     rom: Rom<Global>,
@@ -92,8 +94,9 @@ pub fn trace_keeps_what_is_pushed_again(alloc: Global) -> Option<bool>
     Some(matches!(trace.event(2), TraceEvent::Strobe))
 }
 
-/// The first picture: over a ROM and a RAM of zeros a frame of one vector is offered, written, published and drawn, and each of
-/// the events has exactly this entry. None where memory was refused.
+/// The first picture: over a ROM and a RAM of zeros a frame of one vector is offered, written,
+/// published and drawn, and each of the events has exactly this entry. None where memory was
+/// refused.
 pub fn runs_the_first_picture(
     alloc: Global,
     rom: Rom<Global>,

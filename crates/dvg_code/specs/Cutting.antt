@@ -27,10 +27,12 @@ pub record Placed : Type 0 where
   pub instr : Instr
   pub words : List ℕ
 
--- these words, the first of which stands at this place, are the spellings of these instructions, one after the other, and then, at the place `end`, a rest
+-- these words, the first of which stands at this place, are the spellings of these instructions, one after the other,
+-- and then, at the place `end`, a rest
 pub data Cuts : ℕ → List ℕ → List Placed → ℕ → List ℕ → Type 0 where
   ends : {place : ℕ} {rest : List ℕ} → IsRest rest → Cuts place rest [] place rest
-  goes : {place end : ℕ} {instr : Instr} {words front after rest : List ℕ} {items : List Placed} → Spells instr front → words ≡ front ++ after
+  goes : {place end : ℕ} {instr : Instr} {words front after rest : List ℕ} {items : List Placed} → Spells instr front
+      → words ≡ front ++ after
       → Cuts (place + length front) after items end rest
       → Cuts place words (record { place = place; instr = instr; words = front } ∷ items) end rest
 

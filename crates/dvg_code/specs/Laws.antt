@@ -25,7 +25,8 @@ EachWordBegins = ((word : ℕ) → 0xB000 ≤ word → IsWord word → (instr : 
 
 -- two spellings at the front of the same words are one, with the same words after it
 abbrev pub OneFront : Type 0
-OneFront = (a b : Instr) (front front' after after' : List ℕ) → Spells a front → Spells b front' → front ++ after ≡ front' ++ after'
+OneFront = (a b : Instr) (front front' after after' : List ℕ) → Spells a front → Spells b front'
+    → front ++ after ≡ front' ++ after'
     → (a ≡ b) × (front ≡ front') × (after ≡ after')
 
 -- the rest of a cutting begins with no instruction
@@ -35,7 +36,8 @@ RestBeginsNone = (rest : List ℕ) → IsRest rest → (instr : Instr) (count : 
 -- each list of words of 16 bits has a cutting, and two cuttings of the same words are one, also of numbers past 16 bits
 abbrev pub OneCutting : Type 0
 OneCutting = ((words : List ℕ) → AreWords words → Cutting words)
-    × ((words : List ℕ) (one other : Cutting words) → (other.items ≡ one.items) × (other.end ≡ one.end) × (other.rest ≡ one.rest))
+    × ((words : List ℕ) (one other : Cutting words)
+    → (other.items ≡ one.items) × (other.end ≡ one.end) × (other.rest ≡ one.rest))
 
 -- the words of bytes have 16 bits, and word k of them is made of bytes 2k and 2k + 1
 abbrev pub BytesMakeWords : Type 0

@@ -14,11 +14,13 @@ words_left listing = listing.words.now
 abbrev pub place_of : Listing → ℕ
 place_of listing = listing.place
 
--- one call of `next`: None exactly where no word is left; an instruction is the front of the words that are left; a word whose second word is missing is a cut, and nothing is left after it
+-- one call of `next`: None exactly where no word is left; an instruction is the front of the words that are left; a
+-- word whose second word is missing is a cut, and nothing is left after it
 abbrev pub NextListed : Listing → Option Listed → Listing → Type 0
 NextListed old None new = (words_left old ≡ []) × (words_left new ≡ [])
 NextListed old (Some (At place instr)) new = (place ≡ place_of old)
-    × ((front : List ℕ) × Spells instr front × (words_left old ≡ front ++ words_left new) × (place_of new ≡ place_of old + length front))
+    × ((front : List ℕ) × Spells instr front × (words_left old ≡ front ++ words_left new)
+    × (place_of new ≡ place_of old + length front))
 NextListed old (Some (Cut place)) new = (place ≡ place_of old) × IsCut (words_left old) × (words_left new ≡ [])
 
 -- the cut that comes last where a rest is left

@@ -1,5 +1,6 @@
 -- Which words spell an instruction: sums of their fields.
-use Rattle.std.specs.Prelude.{◌≡◌, ℕ, zero, suc, ◌+◌, ◌-◌, ◌*◌, ◌/◌, ◌%◌, ◌<◌, ◌≤◌, ℤ, pos, negsuc, unsigned_abs, List, [], ◌∷◌}
+use Rattle.std.specs.Prelude.{◌≡◌, ℕ, zero, suc, ◌+◌, ◌-◌, ◌*◌, ◌/◌, ◌%◌, ◌<◌, ◌≤◌, ℤ, pos, negsuc, unsigned_abs, List}
+use Rattle.std.specs.Prelude.{[], ◌∷◌}
 use Rattle.dvg_code.specs.declared.instr.Instr.{Instr}
 use Rattle.dvg_code.specs.declared.instr.Instr.TheVariants.{Vctr, Labs, Halt, Jsrl, Rtsl, Jmpl, Svec}
 use Rattle.dvg_code.specs.Ranges.{InRange}
@@ -18,7 +19,8 @@ pub record LongWord (top : ℕ) (n : ℤ) (word : ℕ) : Type 0 where
   pub sign_is : IsSignOf n sign
   pub sum : word ≡ 4096 * top + 2048 * free + 1024 * sign + unsigned_abs n
 
--- the opcode F, two sign bits, two magnitudes of two bits, an intensity and the scale's two bits add up to the word; bit 11 has weight 1 in the scale, bit 3 weight 2 (the ranges are the instruction's)
+-- the opcode F, two sign bits, two magnitudes of two bits, an intensity and the scale's two bits add up to the word;
+-- bit 11 has weight 1 in the scale, bit 3 weight 2 (the ranges are the instruction's)
 pub record ShortWord (scale : ℕ) (dx dy : ℤ) (z word : ℕ) : Type 0 where
   pub bit_11 : ℕ
   pub bit_3 : ℕ
@@ -29,7 +31,8 @@ pub record ShortWord (scale : ℕ) (dx dy : ℤ) (z word : ℕ) : Type 0 where
   pub dy_sign_is : IsSignOf dy dy_sign
   pub dx_sign_is : IsSignOf dx dx_sign
   pub weights : scale ≡ 2 + 2 * bit_3 + bit_11
-  pub sum : word ≡ 0xF000 + 2048 * bit_11 + 1024 * dy_sign + 256 * unsigned_abs dy + 16 * z + 8 * bit_3 + 4 * dx_sign + unsigned_abs dx
+  pub sum : word ≡ 0xF000 + 2048 * bit_11 + 1024 * dy_sign + 256 * unsigned_abs dy + 16 * z + 8 * bit_3 + 4 * dx_sign +
+      unsigned_abs dx
 
 -- exactly these words spell this instruction
 pub data Spells : Instr → List ℕ → Type 0 where
@@ -41,7 +44,8 @@ pub data Spells : Instr → List ℕ → Type 0 where
   jsrl : {address word : ℕ} → InRange (Jsrl address) → word ≡ 0xC000 + address → Spells (Jsrl address) (word ∷ [])
   rtsl : {word : ℕ} → 0xD000 ≤ word → word < 0xE000 → Spells Rtsl (word ∷ [])
   jmpl : {address word : ℕ} → InRange (Jmpl address) → word ≡ 0xE000 + address → Spells (Jmpl address) (word ∷ [])
-  svec : {scale : ℕ} {dx dy : ℤ} {z word : ℕ} → InRange (Svec scale dx dy z) → ShortWord scale dx dy z word → Spells (Svec scale dx dy z) (word ∷ [])
+  svec : {scale : ℕ} {dx dy : ℤ} {z word : ℕ} → InRange (Svec scale dx dy z) → ShortWord scale dx dy z word
+      → Spells (Svec scale dx dy z) (word ∷ [])
 
 -- a word of opcode 0 to A: it wants a second word
 abbrev pub IsFirst : ℕ → Type 0
@@ -68,7 +72,8 @@ canon (Jsrl address) = (0xC000 + address) ∷ []
 canon Rtsl = 0xD000 ∷ []
 canon (Jmpl address) = (0xE000 + address) ∷ []
 canon (Svec scale dx dy z) =
-    (0xF000 + 2048 * ((scale - 2) % 2) + 1024 * sign_bit dy + 256 * unsigned_abs dy + 16 * z + 8 * ((scale - 2) / 2) + 4 * sign_bit dx + unsigned_abs dx) ∷ []
+    (0xF000 + 2048 * ((scale - 2) % 2) + 1024 * sign_bit dy + 256 * unsigned_abs dy + 16 * z + 8 *
+    ((scale - 2) / 2) + 4 * sign_bit dx + unsigned_abs dx) ∷ []
 
 -- the words are the canonical spelling of some instruction in range
 abbrev pub IsCanonical : List ℕ → Type 0

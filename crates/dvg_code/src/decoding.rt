@@ -1,5 +1,6 @@
 //! From words to instructions.
-ghost use Rattle.std.specs.Prelude.{◌≡◌, ◌↔◌, ◌+◌, ◌/◌, ◌%◌, ◌^◌, ◌<◌, ◌≤◌, ℕ, List, [], ◌∷◌, ◌++◌, length, IfOk, IsErrOf, Ok};
+ghost use Rattle.std.specs.Prelude.{◌≡◌, ◌↔◌, ◌+◌, ◌/◌, ◌%◌, ◌^◌, ◌<◌, ◌≤◌, ℕ, List, [], ◌∷◌, ◌++◌};
+ghost use Rattle.std.specs.Prelude.{length, IfOk, IsErrOf, Ok};
 ghost use Rattle.dvg_code.specs.Cutting.{Fronts, IsCut};
 ghost use Rattle.dvg_code.specs.Fields as spec;
 ghost use Rattle.dvg_code.specs.Ranges.{InRange};
@@ -114,28 +115,28 @@ fn read_one(word: u16) -> Code
 
 /// The instruction that the front of the words spells, and its number of words.
 ///
-/// | Opcode | Instruction | Fields |
-/// |---|---|---|
-/// | 0 to 9 | VCTR | first word: local scale (the opcode), bit 10 sign and bits 9 to 0 magnitude of y; second word: bits 15 to 12 intensity, bit 10 sign and bits 9 to 0 magnitude of x |
-/// | A | LABS | first word: bits 11 to 0 y; second word: bits 15 to 12 global scale, bits 11 to 0 x |
-/// | B | HALT | |
-/// | C | JSRL | bits 11 to 0 word address |
-/// | D | RTSL | |
-/// | E | JMPL | bits 11 to 0 word address |
-/// | F | SVEC | bit 11 scale weight 1, bit 10 sign and bits 9 to 8 magnitude of y, bits 7 to 4 intensity, bit 3 scale weight 2, bit 2 sign and bits 1 to 0 magnitude of x |
+/// | Opcode | Instruction | Fields | |---|---|---| | 0 to 9 | VCTR | first word: local scale (the
+/// opcode), bit 10 sign and bits 9 to 0 magnitude of y; second word: bits 15 to 12 intensity, bit
+/// 10 sign and bits 9 to 0 magnitude of x | | A | LABS | first word: bits 11 to 0 y; second word:
+/// bits 15 to 12 global scale, bits 11 to 0 x | | B | HALT | | | C | JSRL | bits 11 to 0 word
+/// address | | D | RTSL | | | E | JMPL | bits 11 to 0 word address | | F | SVEC | bit 11 scale
+/// weight 1, bit 10 sign and bits 9 to 8 magnitude of y, bits 7 to 4 intensity, bit 3 scale weight
+/// 2, bit 2 sign and bits 1 to 0 magnitude of x |
 ///
-/// A sign bit of 1 means negative: sign and magnitude, where minus zero reads as zero. Bit 11 of both
-/// words of a VCTR and bits 11 to 0 of HALT and RTSL are ignored (this project's own choice), so there
-/// are spellings that aren't canonical, and they are read all the same.
+/// A sign bit of 1 means negative: sign and magnitude, where minus zero reads as zero. Bit 11 of
+/// both words of a VCTR and bits 11 to 0 of HALT and RTSL are ignored (this project's own choice),
+/// so there are spellings that aren't canonical, and they are read all the same.
 #[inline(always)]
 pub fn decode(words: &[u16]) -> Result<(Code, usize), CodeFault>
     ensures spelled { IfOk result (λ read. Fronts words.now read.0 read.1) }
-    ensures found { (instr : Instr) (count : ℕ) → Fronts words.now instr count → result ≡ Ok (instr, count) }
+    ensures found { (instr : Instr) (count : ℕ) → Fronts words.now instr count
+        → result ≡ Ok (instr, count) }
     ensures empty { IsErrOf result CodeFault.Empty ↔ (words.now ≡ []) }
     ensures cut { IsErrOf result CodeFault.Cut ↔ IsCut words.now }
 
     // What `encode` writes is read back, whatever words come after it.
-    ensures encoded { (instr : Instr) (after : List ℕ) → InRange instr → words.now ≡ canon instr ++ after
+    ensures encoded { (instr : Instr) (after : List ℕ) → InRange instr
+        → words.now ≡ canon instr ++ after
         → result ≡ Ok (instr, length (canon instr)) }
 {
     match words {

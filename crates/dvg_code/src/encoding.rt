@@ -63,8 +63,8 @@ fn two_words(first: u16, second: u16) -> Words
     words
 }
 
-/// The canonical words of an instruction: every ignored bit is 0, and so is the sign of a magnitude of
-/// zero (this project's own choice).
+/// The canonical words of an instruction: every ignored bit is 0, and so is the sign of a magnitude
+/// of zero (this project's own choice).
 #[tactic(auto, using(crate::proofs::Reading::written_spells))]
 pub fn encode(code: &Code) -> Words
     ensures canonical { result.items ≡ canon code.now }

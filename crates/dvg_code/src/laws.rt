@@ -1,5 +1,6 @@
 //! Laws of the definitions alone. Each is the contract of a function that does nothing.
-ghost use Rattle.dvg_code.specs.Laws.{BytesMakeWords, CanonicalSpells, EachWordBegins, OneCutting, OneFront, OneSpelling, RestBeginsNone, SpellingLength};
+ghost use Rattle.dvg_code.specs.Laws.{BytesMakeWords, CanonicalSpells, EachWordBegins, OneCutting};
+ghost use Rattle.dvg_code.specs.Laws.{OneFront, OneSpelling, RestBeginsNone, SpellingLength};
 
 /// Words spell one instruction at most.
 pub fn one_spelling()
@@ -11,13 +12,14 @@ pub fn canonical_spells()
     ensures { CanonicalSpells }
 {}
 
-/// Each spelling of an instruction has its number of words: two for VCTR and LABS, one for the others.
+/// Each spelling of an instruction has its number of words: two for VCTR and LABS, one for the
+/// others.
 pub fn spelling_length()
     ensures { SpellingLength }
 {}
 
-/// Each word of 16 bits begins an instruction: one of opcode B to F is one alone, and one of opcode 0
-/// to A is one with any second word.
+/// Each word of 16 bits begins an instruction: one of opcode B to F is one alone, and one of opcode
+/// 0 to A is one with any second word.
 pub fn each_word_begins()
     ensures { EachWordBegins }
 {}

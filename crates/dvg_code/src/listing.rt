@@ -31,7 +31,8 @@ impl<'a> Listing<'a> {
     pub fn new(words: &'a [u16]) -> Listing<'a>
         ensures words { words_left result ≡ words.entry.now }
         ensures place { place_of result ≡ 0 }
-        ensures runs { EachRunFrom NextListed result (λ run. IsListing words.entry.now run.items run.whole) }
+        ensures runs { EachRunFrom NextListed result
+            (λ run. IsListing words.entry.now run.items run.whole) }
     {
         Listing { words, place: 0 }
     }

@@ -1,5 +1,6 @@
 -- What a device answers to a request.
-use Rattle.std.specs.Prelude.{◌≡◌, ◌+◌, ◌<◌, ◌≤◌, ◌⊎◌, ℕ, List, [], ◌∷◌, ◌++◌, length, take, drop, replicate, slice_get, None}
+use Rattle.std.specs.Prelude.{◌≡◌, ◌+◌, ◌<◌, ◌≤◌, ◌⊎◌, ℕ, List, [], ◌∷◌, ◌++◌, length, take, drop, replicate, slice_get}
+use Rattle.std.specs.Prelude.{None}
 use Rattle.dvg_gen.specs.declared.stroke.Stroke.{Stroke}
 use Rattle.dvg_gen.specs.Machine.{Machine, HasTaken}
 use Rattle.dvg_frame.specs.declared.op.OpKind.{OpKind}
@@ -36,16 +37,19 @@ pub record Held : Type 0 where
 abbrev pub closed : Held
 closed = record { staged = []; draft = []; picture = []; open_part = Nothing }
 
--- an operation is pushed: it stands at the end of the draft, under that number; or the numbers name none; or there are 511
+-- an operation is pushed: it stands at the end of the draft, under that number; or the numbers name none; or there are
+-- 511
 abbrev pub PushAnswers : Operation → Held → Held → Reply → Type 0
-PushAnswers numbers old new (replies.Pushed i) = (op : OpKind) × Names numbers op × (i ≡ length old.draft) × (length old.draft < 511) × (new ≡ record old { draft = old.draft ++ op ∷ [] })
+PushAnswers numbers old new (replies.Pushed i) = (op : OpKind) × Names numbers op × (i ≡ length old.draft)
+    × (length old.draft < 511) × (new ≡ record old { draft = old.draft ++ op ∷ [] })
 PushAnswers numbers old new replies.NoOperation = ((op : OpKind) → ¬ Names numbers op) × (new ≡ old)
 PushAnswers numbers old new replies.Full = (op : OpKind) × Names numbers op × (511 ≤ length old.draft) × (new ≡ old)
 PushAnswers numbers old new _ = ⊥
 
 -- a byte is staged so often: behind the bytes that are, of which there are 6,144 at most
 abbrev pub StageAnswers : ℕ → ℕ → Held → Held → Reply → Type 0
-StageAnswers byte count old new (replies.Staged n) = (n ≡ length old.staged + count) × (n ≤ 6144) × (new ≡ record old { staged = old.staged ++ replicate count byte })
+StageAnswers byte count old new (replies.Staged n) = (n ≡ length old.staged + count) × (n ≤ 6144)
+    × (new ≡ record old { staged = old.staged ++ replicate count byte })
 StageAnswers byte count old new replies.Full = (6144 < length old.staged + count) × (new ≡ old)
 StageAnswers byte count old new replies.NoMemory = (length old.staged + count ≤ 6144) × (new ≡ old)
 StageAnswers byte count old new _ = ⊥
@@ -54,14 +58,17 @@ StageAnswers byte count old new _ = ⊥
 abbrev pub IsOneOf : ℕ → ℕ → ℕ → Type 0
 IsOneOf n small large = (n ≡ small) ⊎ (n ≡ large)
 
--- something is opened where the staged bytes are those that it takes: this holds of what is open then, and no stroke is drawn
+-- something is opened where the staged bytes are those that it takes: this holds of what is open then, and no stroke is
+-- drawn
 abbrev pub OpenAnswers : Type 0 → (Open → Type 0) → Held → Held → Reply → Type 0
-OpenAnswers Fits P old new replies.Opened = Fits × (part : Open) × P part × (new ≡ record old { picture = []; open_part = part })
+OpenAnswers Fits P old new replies.Opened = Fits × (part : Open) × P part
+    × (new ≡ record old { picture = []; open_part = part })
 OpenAnswers Fits P old new replies.WrongSize = ¬ Fits × (new ≡ old)
 OpenAnswers Fits P old new replies.NoMemory = Fits × (new ≡ old)
 OpenAnswers Fits P old new _ = ⊥
 
--- a world over the ROM of the bytes behind the first 2,048, with those as the first image of its RAM, that stands after the empty log
+-- a world over the ROM of the bytes behind the first 2,048, with those as the first image of its RAM, that stands after
+-- the empty log
 abbrev pub IsNewWorld : List ℕ → Open → Type 0
 IsNewWorld staged (World world) = WorldAfter (drop 2048 staged) (take 2048 staged) [] world
 IsNewWorld staged part = ⊥
@@ -79,9 +86,14 @@ unopened asked = replies.Closed
 -- what is open comes to this by a request, beside the draft and the staged bytes
 abbrev pub PartAnswers : Open → Request → Held → Held → Reply → Type 0
 PartAnswers Nothing asked old new answer = (new ≡ old) × (answer ≡ unopened asked)
-PartAnswers (World world) asked old new answer = (later : State) × (left : List Stroke) × (new ≡ record old { picture = left; open_part = World later }) × WorldAnswers old.draft old.staged asked world later old.picture left answer
-PartAnswers (Driver driven) asked old new answer = (later : Driven) × (new ≡ record old { open_part = Driver later }) × (later.rom ≡ driven.rom) × DriverAnswers driven.rom old.draft asked driven.stage later.stage answer
-PartAnswers (Generator machine) asked old new answer = (later : Machine) × (left : List Stroke) × (new ≡ record old { picture = left; open_part = Generator later }) × GeneratorAnswers asked machine later old.picture left answer
+PartAnswers (World world) asked old new answer = (later : State) × (left : List Stroke)
+    × (new ≡ record old { picture = left; open_part = World later })
+    × WorldAnswers old.draft old.staged asked world later old.picture left answer
+PartAnswers (Driver driven) asked old new answer = (later : Driven) × (new ≡ record old { open_part = Driver later })
+    × (later.rom ≡ driven.rom) × DriverAnswers driven.rom old.draft asked driven.stage later.stage answer
+PartAnswers (Generator machine) asked old new answer = (later : Machine) × (left : List Stroke)
+    × (new ≡ record old { picture = left; open_part = Generator later })
+    × GeneratorAnswers asked machine later old.picture left answer
 
 -- what a device comes to by a request, and what it answers
 abbrev pub Answered : Request → Held → Held → Reply → Type 0
@@ -89,9 +101,12 @@ Answered (requests.Push numbers) old new answer = PushAnswers numbers old new an
 Answered requests.ClearDraft old new answer = (new ≡ record old { draft = [] }) × (answer ≡ replies.Came Cleared)
 Answered (requests.Stage byte count) old new answer = StageAnswers byte count old new answer
 Answered requests.Unstage old new answer = (new ≡ record old { staged = [] }) × (answer ≡ replies.Came Cleared)
-Answered requests.OpenWorld old new answer = OpenAnswers (IsOneOf (length old.staged) 4096 6144) (IsNewWorld old.staged) old new answer
-Answered requests.OpenDriver old new answer = OpenAnswers (IsOneOf (length old.staged) 2048 4096) (IsNewDriver old.staged) old new answer
-Answered requests.OpenGenerator old new answer = (machine : Machine) × HasTaken machine [] None × (new ≡ record old { picture = []; open_part = Generator machine }) × (answer ≡ replies.Opened)
+Answered requests.OpenWorld old new answer = OpenAnswers (IsOneOf (length old.staged) 4096 6144)
+    (IsNewWorld old.staged) old new answer
+Answered requests.OpenDriver old new answer = OpenAnswers (IsOneOf (length old.staged) 2048 4096)
+    (IsNewDriver old.staged) old new answer
+Answered requests.OpenGenerator old new answer = (machine : Machine) × HasTaken machine [] None
+    × (new ≡ record old { picture = []; open_part = Generator machine }) × (answer ≡ replies.Opened)
 Answered requests.Close old new answer = (new ≡ closed) × (answer ≡ replies.Closed)
 Answered requests.CountStrokes old new answer = (new ≡ old) × (answer ≡ replies.Count (length old.picture))
 Answered (requests.StrokeFrom n) old new answer = (new ≡ old) × (answer ≡ begins (slice_get old.picture n))

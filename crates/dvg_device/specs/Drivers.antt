@@ -26,5 +26,6 @@ abbrev pub DriverAnswers : List ℕ → List OpKind → Request → Stage → St
 DriverAnswers R F Offer stage later reply = OfEntry (OfferAnswers R F stage later) reply
 DriverAnswers R F Redraw stage later reply = OfEntry (RedrawAnswers stage later) reply
 DriverAnswers R F (Tick halted byte1) stage later reply = OfAction (TickAnswers halted byte1 stage later) reply
-DriverAnswers R F ResetProcessor stage later reply = ((peeked : ℕ) → StandsAfter later peeked []) × (reply ≡ Came Cleared)
+DriverAnswers R F ResetProcessor stage later reply = ((peeked : ℕ) → StandsAfter later peeked [])
+    × (reply ≡ Came Cleared)
 DriverAnswers R F request stage later reply = (later ≡ stage) × (reply ≡ Unknown)

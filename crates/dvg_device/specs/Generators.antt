@@ -15,16 +15,20 @@ use Rattle.dvg_device.specs.declared.reply.Reply.TheVariants.{Came, Wants, Unkno
 use Rattle.dvg_device.specs.declared.request.Request.{Request}
 use Rattle.dvg_device.specs.declared.request.Request.TheVariants as requests
 
--- this holds of each history of words, with the low byte behind it, that the generator stands after, and of the run that it leaves
+-- this holds of each history of words, with the low byte behind it, that the generator stands after, and of the run
+-- that it leaves
 abbrev pub OfHistories : Machine → (List Told → Option ℕ → Newest → Type 0) → Type 0
-OfHistories machine P = (history : List Told) (low : Option ℕ) (after : HasTaken machine history low) → P history low after.run
+OfHistories machine P = (history : List Told) (low : Option ℕ) (after : HasTaken machine history low)
+    → P history low after.run
 
--- which byte is wanted: one of the word at an address, the high one where the low one was fetched; none where no run is open
+-- which byte is wanted: one of the word at an address, the high one where the low one was fetched; none where no run is
+-- open
 abbrev pub wanting : Option ℕ → Option ℕ → Reply
 wanting None low = Came Still
 wanting (Some address) low = Wants address (is_some low)
 
--- a byte or a hole is fetched: at the address that is wanted, and the answer is that of the entry that such a fetch has in a log; the strokes are those of the newest finished run
+-- a byte or a hole is fetched: at the address that is wanted, and the answer is that of the entry that such a fetch has
+-- in a log; the strokes are those of the newest finished run
 pub record Fetches (byte : Option ℕ) (machine later : Machine) (drawn left : List Stroke) (reply : Reply) : Type 0 where
   pub address : ℕ
   pub taken : Taken Global
@@ -36,7 +40,8 @@ pub record Fetches (byte : Option ℕ) (machine later : Machine) (drawn left : L
   pub picture : left ≡ picture_by entry drawn
 
 -- there was no memory for the stroke of a vector that the byte completes, and nothing has changed
-pub record LacksRoom (byte : Option ℕ) (machine later : Machine) (drawn left : List Stroke) (reply : Reply) : Type 0 where
+pub record LacksRoom (byte : Option ℕ) (machine later : Machine) (drawn left : List Stroke)
+    (reply : Reply) : Type 0 where
   pub room : OfHistories machine (λ history low run. ¬ DrawsNothing run.held (met low byte))
   pub told : reply ≡ NoMemory
   pub same : later ≡ machine
@@ -51,8 +56,12 @@ pub record StaysStill (machine later : Machine) (drawn left : List Stroke) (repl
 
 -- what a generator with these strokes of the newest finished run comes to by a request
 abbrev pub GeneratorAnswers : Request → Machine → Machine → List Stroke → List Stroke → Reply → Type 0
-GeneratorAnswers requests.Strobe machine later drawn left reply = OfHistories machine (λ history low run. HasTaken later (Start ∷ history) None) × (left ≡ drawn) × (reply ≡ Came Started)
-GeneratorAnswers requests.ResetGenerator machine later drawn left reply = OfHistories machine (λ history low run. HasTaken later (Reset ∷ history) None) × (left ≡ drawn) × (reply ≡ Came Cleared)
-GeneratorAnswers requests.Wants machine later drawn left reply = (later ≡ machine) × (left ≡ drawn) × OfHistories machine (λ history low run. reply ≡ wanting (wants run) low)
-GeneratorAnswers (requests.Fetch byte) machine later drawn left reply = Fetches byte machine later drawn left reply ⊎ (LacksRoom byte machine later drawn left reply ⊎ StaysStill machine later drawn left reply)
+GeneratorAnswers requests.Strobe machine later drawn left reply = OfHistories machine
+    (λ history low run. HasTaken later (Start ∷ history) None) × (left ≡ drawn) × (reply ≡ Came Started)
+GeneratorAnswers requests.ResetGenerator machine later drawn left reply = OfHistories machine
+    (λ history low run. HasTaken later (Reset ∷ history) None) × (left ≡ drawn) × (reply ≡ Came Cleared)
+GeneratorAnswers requests.Wants machine later drawn left reply = (later ≡ machine) × (left ≡ drawn)
+    × OfHistories machine (λ history low run. reply ≡ wanting (wants run) low)
+GeneratorAnswers (requests.Fetch byte) machine later drawn left reply = Fetches byte machine later drawn left reply
+    ⊎ (LacksRoom byte machine later drawn left reply ⊎ StaysStill machine later drawn left reply)
 GeneratorAnswers request machine later drawn left reply = (later ≡ machine) × (left ≡ drawn) × (reply ≡ Unknown)

@@ -21,7 +21,9 @@ labs_of o = Labs o.x o.y o.scale
 
 -- what is done by each kind
 abbrev pub named : Operation → Option OpKind
-named o = looked_up None o.kind ((0, Some (Draw (vctr_of o))) ∷ (1, Some (Draw (svec_of o))) ∷ (2, Some (Draw (labs_of o))) ∷ (3, Some (Call o.x)) ∷ (4, Some (Jump o.x)) ∷ (5, Some (CallRom o.x)) ∷ (6, Some (JumpRom o.x))
+named o = looked_up None o.kind
+    ((0, Some (Draw (vctr_of o))) ∷ (1, Some (Draw (svec_of o))) ∷ (2, Some (Draw (labs_of o))) ∷ (3, Some (Call o.x))
+    ∷ (4, Some (Jump o.x)) ∷ (5, Some (CallRom o.x)) ∷ (6, Some (JumpRom o.x))
     ∷ (7, Some Return) ∷ (8, Some Halt) ∷ [])
 
 -- the numbers name this operation, and a draft may hold it

@@ -9,10 +9,13 @@ use Rattle.dvg_frame.specs.FaultNumbers as faults
 use Rattle.dvg_frame.specs.declared.place.Place.{Place}
 use Rattle.dvg_frame.specs.declared.place.Place.TheVariants.{InFrame, InRom}
 use Rattle.dvg_log.specs.declared.entry.Entry.{Entry}
-use Rattle.dvg_log.specs.declared.entry.Entry.TheVariants.{Offered, Refused, Busy, Asked, NothingPublished, Acted, Started, NoStrobe, Low, Fetched, Done, Broke, Still, Cleared}
+use Rattle.dvg_log.specs.declared.entry.Entry.TheVariants.{Offered, Refused, Busy, Asked, NothingPublished, Acted}
+use Rattle.dvg_log.specs.declared.entry.Entry.TheVariants.{Started, NoStrobe, Low, Fetched, Done, Broke, Still, Cleared}
 use Rattle.dvg_log.specs.Entries.{Shown, map_entry}
 use Rattle.dvg_device.specs.declared.reply.Reply.{Reply}
-use Rattle.dvg_device.specs.declared.reply.Reply.TheVariants.{Came, Pushed, NoOperation, Full, Staged, Opened, WrongSize, Closed, Wants, Count, Point, Intensity, Unknown, NoMemory}
+use Rattle.dvg_device.specs.declared.reply.Reply.TheVariants.{Came, Pushed, NoOperation, Full, Staged, Opened}
+use Rattle.dvg_device.specs.declared.reply.Reply.TheVariants.{WrongSize, Closed, Wants, Count, Point, Intensity}
+use Rattle.dvg_device.specs.declared.reply.Reply.TheVariants.{Unknown, NoMemory}
 
 -- 8 bits of a kind, 16 of an address and then a value
 abbrev pub packed : ℕ → ℕ → ℕ → ℕ

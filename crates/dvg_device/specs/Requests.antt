@@ -3,11 +3,22 @@ use Rattle.std.specs.Prelude.{ℕ, ◌/◌, ◌%◌, [], ◌∷◌, ◌==◌, if
 use Rattle.dvg_device.specs.Lookup.{looked_up}
 use Rattle.dvg_device.specs.declared.operation.Operation.{Operation}
 use Rattle.dvg_device.specs.declared.request.Request.{Request}
-use Rattle.dvg_device.specs.declared.request.Request.TheVariants.{Offer, Redraw, Tick, Strobe, Fetch, ResetGenerator, ResetProcessor, ResetAll, Push, ClearDraft, Stage, Unstage, OpenWorld, OpenDriver, OpenGenerator, Close, Wants, CountStrokes, StrokeFrom, StrokeTo, StrokeIntensity, Unknown}
+use Rattle.dvg_device.specs.declared.request.Request.TheVariants.{Offer, Redraw, Tick, Strobe, Fetch, ResetGenerator}
+use Rattle.dvg_device.specs.declared.request.Request.TheVariants.{ResetProcessor, ResetAll, Push, ClearDraft, Stage}
+use Rattle.dvg_device.specs.declared.request.Request.TheVariants.{Unstage, OpenWorld, OpenDriver, OpenGenerator, Close}
+use Rattle.dvg_device.specs.declared.request.Request.TheVariants.{Wants, CountStrokes, StrokeFrom, StrokeTo}
+use Rattle.dvg_device.specs.declared.request.Request.TheVariants.{StrokeIntensity, Unknown}
 
--- the fields of an operation: a byte each of its kind, its scale and its intensity above the lowest byte, and 16 bits each of x and y
+-- the fields of an operation: a byte each of its kind, its scale and its intensity above the lowest byte, and 16 bits
+-- each of x and y
 abbrev pub operation_of : ℕ → Operation
-operation_of n = record { kind = n / 0x100 % 0x100; scale = n / 0x1_0000 % 0x100; z = n / 0x100_0000 % 0x100; x = n / 0x1_0000_0000 % 0x1_0000; y = n / 0x1_0000_0000_0000 % 0x1_0000 }
+operation_of n = record {
+  kind = n / 0x100 % 0x100;
+  scale = n / 0x1_0000 % 0x100;
+  z = n / 0x100_0000 % 0x100;
+  x = n / 0x1_0000_0000 % 0x1_0000;
+  y = n / 0x1_0000_0000_0000 % 0x1_0000;
+}
 
 -- a flag is the bit of weight 0x100
 abbrev pub flag_of : ℕ → Bool
@@ -20,6 +31,10 @@ byte_of n = n / 0x1_0000 % 0x100
 -- the request that a number is: its lowest byte says which, and what it brings stands above
 abbrev pub request_of : ℕ → Request
 request_of n = looked_up Unknown (n % 0x100)
-    ((0, Offer) ∷ (1, Redraw) ∷ (2, Tick (flag_of n) (byte_of n)) ∷ (3, Strobe) ∷ (4, Fetch (if flag_of n then None else Some (byte_of n))) ∷ (5, ResetGenerator) ∷ (6, ResetProcessor) ∷ (7, ResetAll)
-    ∷ (8, Push (operation_of n)) ∷ (9, ClearDraft) ∷ (10, Stage (byte_of n) (n / 0x100_0000 % 0x1_0000)) ∷ (11, Unstage) ∷ (12, OpenWorld) ∷ (13, OpenDriver) ∷ (14, OpenGenerator) ∷ (15, Close)
-    ∷ (16, Wants) ∷ (17, CountStrokes) ∷ (18, StrokeFrom (n / 0x100)) ∷ (19, StrokeTo (n / 0x100)) ∷ (20, StrokeIntensity (n / 0x100)) ∷ [])
+    ((0, Offer) ∷ (1, Redraw) ∷ (2, Tick (flag_of n) (byte_of n)) ∷ (3, Strobe)
+    ∷ (4, Fetch (if flag_of n then None else Some (byte_of n))) ∷ (5, ResetGenerator) ∷ (6, ResetProcessor)
+    ∷ (7, ResetAll)
+    ∷ (8, Push (operation_of n)) ∷ (9, ClearDraft) ∷ (10, Stage (byte_of n) (n / 0x100_0000 % 0x1_0000)) ∷ (11, Unstage)
+    ∷ (12, OpenWorld) ∷ (13, OpenDriver) ∷ (14, OpenGenerator) ∷ (15, Close)
+    ∷ (16, Wants) ∷ (17, CountStrokes) ∷ (18, StrokeFrom (n / 0x100)) ∷ (19, StrokeTo (n / 0x100))
+    ∷ (20, StrokeIntensity (n / 0x100)) ∷ [])

@@ -10,7 +10,8 @@ use Rattle.dvg_device.specs.Replies.{told_by, picture_by}
 use Rattle.dvg_device.specs.declared.reply.Reply.{Reply}
 use Rattle.dvg_device.specs.declared.reply.Reply.TheVariants.{NoMemory, Unknown, WrongSize}
 use Rattle.dvg_device.specs.declared.request.Request.{Request}
-use Rattle.dvg_device.specs.declared.request.Request.TheVariants.{Offer, Redraw, Tick, Strobe, Fetch, ResetGenerator, ResetProcessor, ResetAll}
+use Rattle.dvg_device.specs.declared.request.Request.TheVariants.{Offer, Redraw, Tick, Strobe, Fetch, ResetGenerator}
+use Rattle.dvg_device.specs.declared.request.Request.TheVariants.{ResetProcessor, ResetAll}
 
 -- the event that a request asks a world for, with this draft and these staged bytes
 abbrev pub event_of : List OpKind → List ℕ → Request → Option Happening
@@ -24,7 +25,8 @@ event_of F staged ResetProcessor = Some events.ResetCpu
 event_of F staged ResetAll = if length staged == 2048 then Some (events.ResetAll staged) else None
 event_of F staged request = None
 
--- the event happens: over each log that the world stands after, it adds a line, which keeps the headline; the reply is of its entry, and the strokes are those of the newest finished run
+-- the event happens: over each log that the world stands after, it adds a line, which keeps the headline; the reply is
+-- of its entry, and the strokes are those of the newest finished run
 pub record Happens (event : Happening) (world later : State) (drawn left : List Stroke) (reply : Reply) : Type 0 where
   pub entry : Shown
   pub stands : AddsLine world event entry later
@@ -51,7 +53,8 @@ declined request = Unknown
 
 -- a request that asks for an event has it happen, or there is no memory for it; another one leaves all as it was
 abbrev pub Goes : Option Happening → Request → State → State → List Stroke → List Stroke → Reply → Type 0
-Goes (Some event) request world later drawn left reply = Happens event world later drawn left reply ⊎ Lacks event world later drawn left reply
+Goes (Some event) request world later drawn left reply = Happens event world later drawn left reply
+    ⊎ Lacks event world later drawn left reply
 Goes None request world later drawn left reply = (later ≡ world) × (left ≡ drawn) × (reply ≡ declined request)
 
 -- what a world with this draft, these staged bytes and these strokes of the newest finished run comes to by a request

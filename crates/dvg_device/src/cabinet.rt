@@ -13,7 +13,8 @@ use dvg_world::World;
 use std::alloc::Global;
 use std::marker::Model;
 
-/// A world, and room for the image of a reset of the whole system, so that no such reset takes memory.
+/// A world, and room for the image of a reset of the whole system, so that no such reset takes
+/// memory.
 #[derive(Drop)]
 pub(crate) struct Cabinet {
     world: World<Flat>,
@@ -40,7 +41,8 @@ impl Cabinet {
         Some(Cabinet { world, image })
     }
 
-    // The world begins anew over a ROM of these bytes, with this first image. False for want of memory.
+    // The world begins anew over a ROM of these bytes, with this first image. False for want of
+    // memory.
     pub(crate) fn begin_anew(&mut self, alloc: Global, image: &[u8], rom: &[u8]) -> bool
         requires { length image.now ≡ 2048 }
         ensures { MatchBool result (WorldAfter rom.now image.now [] self.new) (Unit {0}) }
@@ -49,8 +51,8 @@ impl Cabinet {
         self.world.begin_anew(alloc, rom, &self.image).is_ok()
     }
 
-    // Asks the world, with this draft and these staged bytes. The strokes are those of the newest run that came to a
-    // HALT.
+    // Asks the world, with this draft and these staged bytes. The strokes are those of the newest
+    // run that came to a HALT.
     #[inline(always)]
     pub(crate) fn ask(
         &mut self,
@@ -59,7 +61,8 @@ impl Cabinet {
         staged: &[u8],
         picture: &mut Vec<Stroke>,
     ) -> Reply
-        ensures { WorldAnswers draft.now staged.now request self.old self.new picture.old.items picture.new.items result }
+        ensures { WorldAnswers draft.now staged.now request self.old self.new picture.old.items
+            picture.new.items result }
     {
         let image = &mut self.image;
         ask_world(&mut self.world, image, request, draft, staged, picture)

@@ -12,7 +12,8 @@ use dvg_world::Desk;
 #[inline(always)]
 pub(crate) fn ask_driver(desk: &mut Desk, request: Request, draft: &Draft) -> Reply
     ensures rom { desk.new.rom ≡ desk.old.rom }
-    ensures answers { DriverAnswers desk.old.rom draft.now request desk.old.stage desk.new.stage result }
+    ensures answers { DriverAnswers desk.old.rom draft.now request desk.old.stage desk.new.stage
+        result }
 {
     match request {
         Request::Offer => Reply::Came(desk.offer(draft)),

@@ -1,7 +1,8 @@
 //! The device.
 ghost use Rattle.std.specs.Prelude.{◌≡◌, ◌↔◌, [], length, drop, take, slice_get, IfSome, IsTrue};
 ghost use Rattle.dvg_world.specs.Standing.{WorldAfter};
-ghost use Rattle.dvg_device.specs.Devices.{Answered, Driver, IsNewDriver, IsOneOf, PartAnswers, PushAnswers, StageAnswers, Turned, closed, unopened};
+ghost use Rattle.dvg_device.specs.Devices.{Answered, Driver, IsNewDriver, IsOneOf, PartAnswers};
+ghost use Rattle.dvg_device.specs.Devices.{PushAnswers, StageAnswers, Turned, closed, unopened};
 ghost use Rattle.dvg_device.specs.Parts.{open_of};
 ghost use Rattle.dvg_device.specs.Replies.{begins, ends, shines};
 
@@ -32,9 +33,9 @@ pub(crate) enum Part {
     Generator(Generator<Global>),
 }
 
-/// A device, in which a world, a driver alone or a generator alone may be open. It has a draft, which requests make and
-/// an offer hands to the driver; bytes that are staged for what is opened, and for a reset of the whole system; and the
-/// strokes of the newest run that came to a HALT.
+/// A device, in which a world, a driver alone or a generator alone may be open. It has a draft,
+/// which requests make and an offer hands to the driver; bytes that are staged for what is opened,
+/// and for a reset of the whole system; and the strokes of the newest run that came to a HALT.
 #[derive(Drop)]
 pub struct Device {
     alloc: Global,
@@ -78,12 +79,13 @@ impl Device {
         }
     }
 
-    /// One request, as a number of 64 bits, and its answer. `Request` says which requests there are, and `Reply` which
-    /// answers.
+    /// One request, as a number of 64 bits, and its answer. `Request` says which requests there
+    /// are, and `Reply` which answers.
     pub fn turn(&mut self, request: u64) -> u64
         ensures turned { Turned self.old request self.new result }
     {
-        // Those that come most often go their way at once, so that what they bring stays in registers.
+        // Those that come most often go their way at once, so that what they bring stays in
+        // registers.
         match request % 0x100 {
             2 => self.ask(Request::of(request)).number(),
             4 => self.ask(Request::of(request)).number(),
@@ -207,7 +209,8 @@ impl Device {
         self.open(Part::Generator(Generator::new(self.alloc)))
     }
 
-    // Opens this, in which nothing was drawn yet. The memory of what was open stays, for the next one of its kind.
+    // Opens this, in which nothing was drawn yet. The memory of what was open stays, for the next
+    // one of its kind.
     fn open(&mut self, part: Part) -> Reply
         ensures opened { result ≡ Reply.Opened }
         ensures device { self.new ≡ record self.old { picture = []; open_part = open_of part } }
@@ -313,10 +316,11 @@ fn is_one_of(n: usize, small: usize, large: usize) -> bool
     n == small || n == large
 }
 
-// A world over the ROM of the bytes after the first 2,048, with those as the first image of its RAM, in this memory where
-// there is some. None for want of memory.
+// A world over the ROM of the bytes after the first 2,048, with those as the first image of its
+// RAM, in this memory where there is some. None for want of memory.
 fn new_world(alloc: Global, staged: &[u8], spare: Option<Box<Cabinet>>) -> Option<Box<Cabinet>>
-    ensures { IfSome result (λ world. WorldAfter (drop 2048 staged.now) (take 2048 staged.now) [] world.value) }
+    ensures { IfSome result (λ world. WorldAfter (drop 2048 staged.now)
+        (take 2048 staged.now) [] world.value) }
 {
     let (image, rom) = staged.split_at_checked(MEMORY_BYTES)?;
     let Some(mut world) = spare else {
@@ -329,7 +333,8 @@ fn new_world(alloc: Global, staged: &[u8], spare: Option<Box<Cabinet>>) -> Optio
     }
 }
 
-// A driver alone over the ROM of these bytes, in this memory where there is some. None for want of memory.
+// A driver alone over the ROM of these bytes, in this memory where there is some. None for want of
+// memory.
 fn new_desk(alloc: Global, rom: &[u8], spare: Option<Box<Desk>>) -> Option<Box<Desk>>
     ensures { IfSome result (λ desk. IsNewDriver rom.now (Driver desk.value)) }
 {

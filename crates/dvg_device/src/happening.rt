@@ -9,8 +9,8 @@ use dvg_gen::Stroke;
 use dvg_mem::{Flat, Image, MEMORY_BYTES};
 use dvg_world::World;
 
-// Asks a world, with this draft and these staged bytes. The strokes are those of the newest run that came to a HALT. The
-// image is the room for that of a reset of the whole system.
+// Asks a world, with this draft and these staged bytes. The strokes are those of the newest run
+// that came to a HALT. The image is the room for that of a reset of the whole system.
 #[inline(always)]
 pub(crate) fn ask_world(
     world: &mut World<Flat>,
@@ -20,7 +20,8 @@ pub(crate) fn ask_world(
     staged: &[u8],
     picture: &mut Vec<Stroke>,
 ) -> Reply
-    ensures { WorldAnswers draft.now staged.now request world.old world.new picture.old.items picture.new.items result }
+    ensures { WorldAnswers draft.now staged.now request world.old world.new picture.old.items
+        picture.new.items result }
 {
     match request {
         Request::Offer => told(world.offer(draft), picture),
@@ -45,7 +46,8 @@ fn reset_all(
     staged: &[u8],
     picture: &mut Vec<Stroke>,
 ) -> Reply
-    ensures { WorldAnswers [] staged.now Request.ResetAll world.old world.new picture.old.items picture.new.items result }
+    ensures { WorldAnswers [] staged.now Request.ResetAll world.old world.new picture.old.items
+        picture.new.items result }
 {
     if staged.len() != MEMORY_BYTES {
         return Reply::WrongSize;

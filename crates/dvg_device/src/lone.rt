@@ -1,7 +1,8 @@
 //! A generator alone.
 ghost use Rattle.std.specs.Prelude.{◌≡◌, ◌⊎◌};
 ghost use Rattle.dvg_gen.specs.Told.{wants};
-ghost use Rattle.dvg_device.specs.Generators.{Fetches, GeneratorAnswers, LacksRoom, OfHistories, StaysStill, wanting};
+ghost use Rattle.dvg_device.specs.Generators.{Fetches, GeneratorAnswers, LacksRoom, OfHistories};
+ghost use Rattle.dvg_device.specs.Generators.{StaysStill, wanting};
 
 use crate::reply::{Reply, told};
 use crate::request::Request;
@@ -16,7 +17,8 @@ pub(crate) fn ask_generator(
     request: Request,
     picture: &mut Vec<Stroke>,
 ) -> Reply
-    ensures { GeneratorAnswers request generator.old generator.new picture.old.items picture.new.items result }
+    ensures { GeneratorAnswers request generator.old generator.new picture.old.items
+        picture.new.items result }
 {
     match request {
         Request::Strobe => {

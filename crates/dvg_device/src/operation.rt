@@ -33,7 +33,8 @@ pub struct Operation {
 }
 
 impl Operation {
-    /// The operation. None exactly where the kind is over 8, or a field that counts is out of its range.
+    /// The operation. None exactly where the kind is over 8, or a field that counts is out of its
+    /// range.
     pub fn op(self) -> Option<Op>
         ensures { MatchOption result ((op : OpKind) → ¬ Names self op) (Names self) }
     {
@@ -76,7 +77,8 @@ impl Operation {
 
     // An SVEC of the fields, where they are in range.
     fn svec(self) -> Option<Op>
-        ensures { MatchOption result (¬ IsOp (Draw (svec_of self))) (λ op. (op ≡ Draw (svec_of self)) × IsOp op) }
+        ensures { MatchOption result (¬ IsOp (Draw (svec_of self)))
+            (λ op. (op ≡ Draw (svec_of self)) × IsOp op) }
     {
         let (Ok(dx), Ok(dy)) = (
             i8::try_from(self.x.cast_signed()),

@@ -1,33 +1,38 @@
 //! What a device answers.
 ghost use Rattle.std.specs.Prelude.{◌≡◌};
 ghost use Rattle.dvg_log.specs.Entries.{shown_of};
-ghost use Rattle.dvg_device.specs.Replies.{acted, came, number_of, packed, picture_by, placed, refusal, told_by};
+ghost use Rattle.dvg_device.specs.Replies.{acted, came, number_of, packed, picture_by, placed};
+ghost use Rattle.dvg_device.specs.Replies.{refusal, told_by};
 
 use dvg_driver::Action;
 use dvg_frame::{FrameFault, Place};
 use dvg_gen::Stroke;
 use dvg_log::Entry;
 
-/// What a device answers. As a number, its lowest byte is the kind, which stands first here, an address stands in bits 8
-/// to 23, and a value from bit 24 on; but the answers to questions for strokes are what was asked for, and nothing else.
+/// What a device answers. As a number, its lowest byte is the kind, which stands first here, an
+/// address stands in bits 8 to 23, and a value from bit 24 on; but the answers to questions for
+/// strokes are what was asked for, and nothing else.
 #[derive(Clone, Copy, Debug, PartialEq, Eq)]
 pub enum Reply {
-    /// 0 to 17: what came of it, as a log shows it; the strokes of a run that came to a HALT can be asked for. In the
-    /// order of `Entry`, which says what each is:
+    /// 0 to 17: what came of it, as a log shows it; the strokes of a run that came to a HALT can be
+    /// asked for. In the order of `Entry`, which says what each is:
     ///
     /// - 0, `Offered`;
-    /// - 1, `Refused`: the value is the fault's number, 1 to 9, as `dvg check` has it, and 0x100 more where its place is
-    ///   in the ROM; the address is the number of an operation, or there a word address;
+    /// - 1, `Refused`: the value is the fault's number, 1 to 9, as `dvg check` has it, and 0x100
+    ///   more where its place is in the ROM; the address is the number of an operation, or there a
+    ///   word address;
     /// - 2, `Busy`, and nothing has changed;
     /// - 3, `Asked`;
     /// - 4, `NothingPublished`, and nothing has changed;
-    /// - 5 to 9, `Acted`: a peek at byte 001; a write of a value at a byte address; a read of the HALT flag, 1 where it
-    ///   showed the generator halted, else 0; the sending of a strobe; or nothing;
+    /// - 5 to 9, `Acted`: a peek at byte 001; a write of a value at a byte address; a read of the
+    ///   HALT flag, 1 where it showed the generator halted, else 0; the sending of a strobe; or
+    ///   nothing;
     /// - 10, `Started`;
     /// - 11, `NoStrobe`;
     /// - 12, `Low`: a word address, and the low byte as the value;
     /// - 13, `Fetched`, and 14, `Done`: a word address, and the word as the value;
-    /// - 15, `Broke`: a word address, and as the value the fault's number, 1 to 3, as `dvg play` has it;
+    /// - 15, `Broke`: a word address, and as the value the fault's number, 1 to 3, as `dvg play`
+    ///   has it;
     /// - 16, `Still`, and nothing has changed;
     /// - 17, `Cleared`: a reset was done, or the draft or the staged bytes were cleared.
     Came(Entry<()>),
@@ -35,7 +40,8 @@ pub enum Reply {
     Pushed(u16),
     /// 19: the fields are those of no operation, and nothing has changed.
     NoOperation,
-    /// 20: the draft has 511 operations, or more than 6,144 bytes would be staged. Nothing has changed.
+    /// 20: the draft has 511 operations, or more than 6,144 bytes would be staged. Nothing has
+    /// changed.
     Full,
     /// 21: so many bytes are staged.
     Staged(u16),
@@ -45,11 +51,13 @@ pub enum Reply {
     WrongSize,
     /// 24: nothing is open, or not any more.
     Closed,
-    /// 25: a generator wants a byte of the word at this address, the high one (1) or the low one (0).
+    /// 25: a generator wants a byte of the word at this address, the high one (1) or the low one
+    /// (0).
     Wants(u16, bool),
     /// So many strokes.
     Count(u64),
-    /// A place, in 1/512 of a screen unit, below 2,097,152 each: x in bits 0 to 31, and y in bits 32 to 63.
+    /// A place, in 1/512 of a screen unit, below 2,097,152 each: x in bits 0 to 31, and y in bits
+    /// 32 to 63.
     Point(u32, u32),
     /// An intensity, 1 to 15, and 0 where there is no such stroke.
     Intensity(u8),
@@ -149,7 +157,8 @@ fn acted(action: Action) -> u64
     }
 }
 
-// The reply to an event, by its entry. The strokes of a run that came to a HALT take the place of those before them.
+// The reply to an event, by its entry. The strokes of a run that came to a HALT take the place of
+// those before them.
 #[inline(always)]
 pub(crate) fn told(entry: Entry, picture: &mut Vec<Stroke>) -> Reply
     ensures told { result ≡ told_by (shown_of entry) }

@@ -7,9 +7,12 @@ use Rattle.dvg_driver.specs.Stands.{Tells}
 
 -- a life has a place exactly where the script allows it, and rests exactly where it is of whole parts
 abbrev pub PlaceTells : Type 0
-PlaceTells = (life : List Item) → (IsLife life ↔ ((place : Place) × (place_of_life life ≡ Some place))) × (IsWhole life ↔ ((first : Bool) × (place_of_life life ≡ Some (Resting first))))
+PlaceTells = (life : List Item)
+    → (IsLife life ↔ ((place : Place) × (place_of_life life ≡ Some place)))
+    × (IsWhole life ↔ ((first : Bool) × (place_of_life life ≡ Some (Resting first))))
 
 -- for each flag that is handed in, exactly one action goes on a life
 abbrev pub OneAction : Type 0
-OneAction = (life : List Item) (halted : Bool) → IsLife life → (action : Action) × IsLife (Did action ∷ life) × Tells action halted
+OneAction = (life : List Item) (halted : Bool) → IsLife life
+    → (action : Action) × IsLife (Did action ∷ life) × Tells action halted
     × ((other : Action) → IsLife (Did other ∷ life) → Tells other halted → other ≡ action)

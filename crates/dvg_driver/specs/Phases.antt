@@ -27,9 +27,14 @@ place_in phase.Sending cursor half flipped = Sending (not flipped)
 
 -- a driver as contracts see it
 abbrev pub stage_of : Inside → Stage
-stage_of driver = record { place = place_in driver.phase driver.cursor driver.half driver.flipped; half = driver.half; flipped = driver.flipped }
+stage_of driver = record {
+  place = place_in driver.phase driver.cursor driver.half driver.flipped;
+  half = driver.half;
+  flipped = driver.flipped;
+}
 
--- what a phase keeps: before its first frame part a driver has not flipped, and the bytes of a frame go to no place of word zero
+-- what a phase keeps: before its first frame part a driver has not flipped, and the bytes of a frame go to no place of
+-- word zero
 abbrev pub KeepsPhase : Phase → Option (List (ℕ × ℕ)) → Bool → Type 0
 KeepsPhase phase.Start cursor flipped = flipped ≡ false
 KeepsPhase phase.Booting cursor flipped = flipped ≡ false

@@ -1,5 +1,6 @@
 -- The script of a life: what a driver shows from one reset to the next.
-use Rattle.std.specs.Prelude.{ℕ, Bool, true, false, List, [], ◌∷◌, ◌++◌, map, reverse, replicate, ◌*◌, ◌≡◌, nat_eq, ◌||◌}
+use Rattle.std.specs.Prelude.{ℕ, Bool, true, false, List, [], ◌∷◌, ◌++◌, map, reverse, replicate, ◌*◌, ◌≡◌, nat_eq}
+use Rattle.std.specs.Prelude.{◌||◌}
 use Rattle.dvg_mem.specs.declared.half.Half.{Half}
 use Rattle.dvg_mem.specs.Areas.{base, high}
 use Rattle.dvg_frame.specs.declared.op.OpKind.{OpKind}
@@ -28,7 +29,8 @@ wrote writes = map (λ write. Did (Wrote write.0 write.1)) writes
 abbrev pub waited : ℕ → List Item
 waited reads = replicate reads (Did (Read false)) ++ Did (Read true) ∷ []
 
--- the writes of word zero: 01 to byte 000 if this is a life's first frame part, and the flip, which is the half's high byte to byte 001
+-- the writes of word zero: 01 to byte 000 if this is a life's first frame part, and the flip, which is the half's high
+-- byte to byte 001
 abbrev pub word_zero : Half → Bool → List (ℕ × ℕ)
 word_zero half true = (0, 0x01) ∷ (1, high half) ∷ []
 word_zero half false = (1, high half) ∷ []
@@ -41,7 +43,8 @@ frame_writes half F first = addressed (2 * base half) (bytes (laid half F)) ++ w
 abbrev pub script : Bool → List Part → List Item
 script first [] = []
 script first (Rest ∷ parts) = Did Idle ∷ script first parts
-script first (Frame half F reads ∷ parts) = Offered half F ∷ (wrote (frame_writes half F first) ++ (waited reads ++ Did Sent ∷ script false parts))
+script first (Frame half F reads ∷ parts) = Offered half F
+    ∷ (wrote (frame_writes half F first) ++ (waited reads ++ Did Sent ∷ script false parts))
 script first (Redraw reads ∷ parts) = Asked ∷ (waited reads ++ Did Sent ∷ script first parts)
 
 -- a whole life, its oldest item first: the boot, which peeks at byte 001 and waits, and then parts

@@ -1,11 +1,13 @@
 //! The driver.
-ghost use Rattle.std.specs.Prelude.{◌≡◌, ◌↔◌, ℕ, ◌*◌, true, false, All, List, [], ◌∷◌, IfErr, IfNone, IfSome, IsOk, IsTrue, OnErr, OnOk};
+ghost use Rattle.std.specs.Prelude.{◌≡◌, ◌↔◌, ℕ, ◌*◌, true, false, All, List, [], ◌∷◌, IfErr};
+ghost use Rattle.std.specs.Prelude.{IfNone, IfSome, IsOk, IsTrue, OnErr, OnOk};
 ghost use Rattle.dvg_frame.specs.Bytes.{IsBehindWordZero, addressed, bytes};
 ghost use Rattle.dvg_frame.specs.Layout.{laid};
 ghost use Rattle.dvg_mem.specs.Areas.{base, half_of_high, high, other};
 ghost use Rattle.dvg_driver.specs.Phases.{items_of};
 ghost use Rattle.dvg_driver.specs.Place.{Waiting, Writing};
-ghost use Rattle.dvg_driver.specs.Script.{Item, Offered, Asked, Did, IsLife, IsWhole, has_flip, word_zero};
+ghost use Rattle.dvg_driver.specs.Script.{Item, Offered, Asked, Did, IsLife, IsWhole, has_flip};
+ghost use Rattle.dvg_driver.specs.Script.{word_zero};
 ghost use Rattle.dvg_driver.specs.Stands.{IsInRam, StandsAfter, Tells, byte1_of, peeked_after};
 
 use crate::action::Action;
@@ -14,8 +16,8 @@ use dvg_frame::{Checked, Cursor, Frame};
 use dvg_mem::Half;
 use std::marker::Model;
 
-/// How far the driver is. What it writes of a frame stands beside it, so that a change of the phase moves
-/// no frame.
+/// How far the driver is. What it writes of a frame stands beside it, so that a change of the phase
+/// moves no frame.
 #[derive(Clone, Copy)]
 enum Phase {
     /// It has done nothing since its reset.
@@ -34,8 +36,8 @@ enum Phase {
     Sending,
 }
 
-/// The driver of the vector generator, from one reset to the next and beyond. It keeps one frame at most,
-/// while it writes it.
+/// The driver of the vector generator, from one reset to the next and beyond. It keeps one frame at
+/// most, while it writes it.
 #[derive(Drop)]
 pub struct Driver {
     phase: Phase,
@@ -84,7 +86,8 @@ impl Driver {
 
     /// Whether it is idle, so that it would take a frame.
     pub fn is_idle(&self) -> bool
-        ensures { (peeked : ℕ) (life : List Item) → StandsAfter self.now peeked life → (IsTrue result ↔ IsWhole life) }
+        ensures { (peeked : ℕ) (life : List Item) → StandsAfter self.now peeked life
+            → (IsTrue result ↔ IsWhole life) }
     {
         match self.phase {
             Phase::Resting => true,
@@ -92,13 +95,16 @@ impl Driver {
         }
     }
 
-    /// Takes a frame, which the next ticks write into the free half and publish. It is refused exactly
-    /// where the driver isn't idle; the frame is dropped then, and nothing else has changed.
+    /// Takes a frame, which the next ticks write into the free half and publish. It is refused
+    /// exactly where the driver isn't idle; the frame is dropped then, and nothing else has
+    /// changed.
     pub fn offer(&mut self, frame: Frame) -> Result<(), DriverFault>
-        ensures accepted { (peeked : ℕ) (life : List Item) → StandsAfter self.old peeked life → (IsOk result ↔ IsWhole life) }
+        ensures accepted { (peeked : ℕ) (life : List Item) → StandsAfter self.old peeked life
+            → (IsOk result ↔ IsWhole life) }
         ensures busy { IfErr result (λ fault. fault ≡ DriverFault.Busy) }
         ensures stands { (peeked : ℕ) (life : List Item) → StandsAfter self.old peeked life →
-            OnOk result (StandsAfter self.new peeked (Offered (other (half_of_high (byte1_of peeked life))) frame.operations ∷ life)) }
+            OnOk result (StandsAfter self.new peeked
+            (Offered (other (half_of_high (byte1_of peeked life))) frame.operations ∷ life)) }
         ensures refused { OnErr result (self.new ≡ self.old) }
     {
         match self.phase {
@@ -111,13 +117,15 @@ impl Driver {
         }
     }
 
-    /// Takes a checked draft, as `offer` takes its frame. It is copied only where it is taken, into the memory
-    /// that the driver has.
+    /// Takes a checked draft, as `offer` takes its frame. It is copied only where it is taken, into
+    /// the memory that the driver has.
     pub fn offer_checked(&mut self, checked: &Checked) -> Result<(), DriverFault>
-        ensures accepted { (peeked : ℕ) (life : List Item) → StandsAfter self.old peeked life → (IsOk result ↔ IsWhole life) }
+        ensures accepted { (peeked : ℕ) (life : List Item) → StandsAfter self.old peeked life
+            → (IsOk result ↔ IsWhole life) }
         ensures busy { IfErr result (λ fault. fault ≡ DriverFault.Busy) }
         ensures stands { (peeked : ℕ) (life : List Item) → StandsAfter self.old peeked life →
-            OnOk result (StandsAfter self.new peeked (Offered (other (half_of_high (byte1_of peeked life))) checked.now.operations ∷ life)) }
+            OnOk result (StandsAfter self.new peeked
+            (Offered (other (half_of_high (byte1_of peeked life))) checked.now.operations ∷ life)) }
         ensures refused { OnErr result (self.new ≡ self.old) }
     {
         match self.phase {
@@ -130,9 +138,9 @@ impl Driver {
         }
     }
 
-    /// Asks for the published frame once more. It is refused as `NothingPublished` exactly where the
-    /// driver hasn't flipped since its reset, and else as `Busy` exactly where it isn't idle. Nothing has
-    /// changed then.
+    /// Asks for the published frame once more. It is refused as `NothingPublished` exactly where
+    /// the driver hasn't flipped since its reset, and else as `Busy` exactly where it isn't idle.
+    /// Nothing has changed then.
     pub fn redraw(&mut self) -> Result<(), DriverFault>
         ensures accepted { (peeked : ℕ) (life : List Item) → StandsAfter self.old peeked life →
             (IsOk result ↔ ((has_flip life ≡ true) × IsWhole life)) }
@@ -154,12 +162,14 @@ impl Driver {
         }
     }
 
-    /// Does the next action of the script. `halted` is the HALT flag, and `byte1` is byte 001 of the RAM;
-    /// what isn't read has no effect. A `Wrote` is for the caller to do, and so is a `Sent`.
+    /// Does the next action of the script. `halted` is the HALT flag, and `byte1` is byte 001 of
+    /// the RAM; what isn't read has no effect. A `Wrote` is for the caller to do, and so is a
+    /// `Sent`.
     pub fn tick(&mut self, halted: bool, byte1: u8) -> Action
         ensures stands { (peeked : ℕ) (life : List Item) → StandsAfter self.old peeked life →
             StandsAfter self.new (peeked_after result byte1 peeked) (Did result ∷ life) }
-        ensures scripted { (peeked : ℕ) (life : List Item) → StandsAfter self.old peeked life → IsLife (Did result ∷ life) }
+        ensures scripted { (peeked : ℕ) (life : List Item) → StandsAfter self.old peeked life
+            → IsLife (Did result ∷ life) }
         ensures told { Tells result halted }
         ensures in_ram { IsInRam result }
     {
@@ -212,7 +222,8 @@ impl Driver {
     fn flip(&mut self) -> Action
         requires { self.old.place ≡ Writing (word_zero (other self.old.half) false) }
         ensures action { result ≡ Action.Wrote 1 (high (other self.old.half)) }
-        ensures flipped { self.new ≡ record { place = Waiting false; half = other self.old.half; flipped = true } }
+        ensures flipped { self.new ≡ record
+            { place = Waiting false; half = other self.old.half; flipped = true } }
     {
         self.half = self.half.other();
         self.flipped = true;
@@ -223,7 +234,8 @@ impl Driver {
 
 // Begins a cursor over the bytes of a checked draft's frame.
 fn begin(cursor: &mut Option<Cursor>, checked: &Checked, half: Half)
-    ensures items { items_of cursor.new ≡ addressed (2 * base half) (bytes (laid half checked.now.operations)) }
+    ensures items { items_of cursor.new
+        ≡ addressed (2 * base half) (bytes (laid half checked.now.operations)) }
     ensures in_ram { All IsBehindWordZero (items_of cursor.new) }
 {
     match cursor {

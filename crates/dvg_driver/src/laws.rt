@@ -1,8 +1,8 @@
 //! Laws of the script. Each is the contract of a function that does nothing.
 ghost use Rattle.dvg_driver.specs.Laws.{OneAction, PlaceTells};
 
-/// A life has a place in the script exactly where the script allows it, and it rests exactly where it is
-/// made of whole parts.
+/// A life has a place in the script exactly where the script allows it, and it rests exactly where
+/// it is made of whole parts.
 pub fn place_tells()
     ensures { PlaceTells }
 {}

@@ -14,7 +14,8 @@ abbrev pub opened : List Visit → Option ℕ → Newest
 opened visits held = record { first = nothing.first; visits = visits; held = held; is_open = true }
 
 -- a generator is in an open run over a memory, after so many words, with these instructions, and holds this first word
-pub record Follows (memory : ℕ → Option ℕ) (machine : Machine) (words : ℕ) (visits : List Visit) (held : Option ℕ) : Type 0 where
+pub record Follows (memory : ℕ → Option ℕ) (machine : Machine) (words : ℕ) (visits : List Visit)
+    (held : Option ℕ) : Type 0 where
   pub history : List Told
   pub after : HasTaken machine history None
   pub run : after.run ≡ opened visits held
@@ -23,7 +24,8 @@ pub record Follows (memory : ℕ → Option ℕ) (machine : Machine) (words : �
 
 -- a whole word or a hole was told, with the answer that the definition gives to it
 abbrev pub TakesWord : {A : Type 0} → Machine → Option ℕ → Machine → Taken A → Type 0
-TakesWord old word new taken = (history : List Told) → HasTaken old history None → Answers history (Whole word) new taken
+TakesWord old word new taken = (history : List Told) → HasTaken old history None
+    → Answers history (Whole word) new taken
 
 -- a run over a memory, of which these instructions are told, ends so
 abbrev pub TellsRun : Bool → (ℕ → Option ℕ) → List Ran → End → Type 0

@@ -18,7 +18,8 @@ abbrev pub stand_at : (ℕ → Option ℕ) → ℕ → List ℕ → Bool
 stand_at memory address [] = true
 stand_at memory address (word ∷ words) = is_word (memory address) word && stand_at memory (on address 1) words
 
--- an instruction at an address, whose words are canonical or not, that was run from this beam: with the beam after it, and its stroke, if it drew one
+-- an instruction at an address, whose words are canonical or not, that was run from this beam: with the beam after it,
+-- and its stroke, if it drew one
 abbrev pub run_at : ℕ → Instr → Bool → Beam → Ran
 run_at address code canonical before = record {
   address = address;
@@ -28,7 +29,8 @@ run_at address code canonical before = record {
   stroke = slice_get (drawn before code) 0;
 }
 
--- an instruction of a run over a memory, from the beam before it: it is canonical where its canonical words stand at its place
+-- an instruction of a run over a memory, from the beam before it: it is canonical where its canonical words stand at
+-- its place
 abbrev pub ran_of : (ℕ → Option ℕ) → Beam → Visit → Ran
 ran_of memory before visit = run_at visit.place visit.code (stand_at memory visit.place (canon visit.code)) before
 

@@ -12,7 +12,8 @@ use Rattle.dvg_dump.specs.Ends.{Ends, Complete, Broken}
 use Rattle.dvg_dump.specs.Following.{Follows}
 use Rattle.dvg_dump.specs.Traces.{run_at, trace, trace_if}
 
--- what a tracer keeps: whether it traces, the first word that it holds, the address where an instruction began, the beam, and what was told
+-- what a tracer keeps: whether it traces, the first word that it holds, the address where an instruction began, the
+-- beam, and what was told
 pub record Trail : Type 0 where
   pub traces : Bool
   pub held : Option ℕ
@@ -24,7 +25,8 @@ pub record Trail : Type 0 where
 abbrev pub fresh : Bool → Trail
 fresh traces = record { traces = traces; held = None; address = 0; beam = nothing.first; ran = [] }
 
--- where the instruction began to which a word at an address belongs, by the first word that is held and where the newest one began
+-- where the instruction began to which a word at an address belongs, by the first word that is held and where the
+-- newest one began
 abbrev pub began : Option ℕ → ℕ → ℕ → ℕ
 began None address newest = address
 began (Some first) address newest = newest
@@ -35,7 +37,14 @@ ran_by trail read = run_at trail.address read.code read.canonical trail.beam
 
 -- with an instruction more
 abbrev pub told : Trail → Ran → Trail
-told trail ran = record { traces = trail.traces; held = None; address = trail.address; beam = ran.beam; ran = trail.ran ++ ran ∷ [] }
+told trail ran = record {
+  traces = trail.traces;
+  held = None;
+  address = trail.address;
+  beam = ran.beam;
+  ran = trail.ran
+      ++ ran ∷ [];
+}
 
 -- after a word that completes an instruction, or is held
 abbrev pub taken_by : Option Spelled → ℕ → Trail → Trail
@@ -55,13 +64,15 @@ pub record IsBeside (memory : ℕ → Option ℕ) (visits : List Visit) (held : 
   pub ran_is : trail.ran ≡ trace memory visits
 
 -- it is, if it traces; else it has told nothing
-pub record Traces (traces : Bool) (memory : ℕ → Option ℕ) (visits : List Visit) (held : Option ℕ) (trail : Trail) : Type 0 where
+pub record Traces (traces : Bool) (memory : ℕ → Option ℕ) (visits : List Visit) (held : Option ℕ)
+    (trail : Trail) : Type 0 where
   pub flag : trail.traces ≡ traces
   pub beside : traces ≡ true → IsBeside memory visits held trail
   pub silent : traces ≡ false → trail.ran ≡ []
 
 -- a word more of a run over a memory, which was fetched at an address
-pub record Fetches (memory : ℕ → Option ℕ) (address word : ℕ) (visits : List Visit) (held : Option ℕ) (visits' : List Visit) (held' : Option ℕ) : Type 0 where
+pub record Fetches (memory : ℕ → Option ℕ) (address word : ℕ) (visits : List Visit) (held : Option ℕ)
+    (visits' : List Visit) (held' : Option ℕ) : Type 0 where
   pub words : ℕ
   pub runs : Runs memory words visits held
   pub address_is : address ≡ wanted visits held
@@ -71,20 +82,28 @@ pub record Fetches (memory : ℕ → Option ℕ) (address word : ℕ) (visits : 
 -- the tracer is still where the run is after a word more; a hole changes nothing
 abbrev pub TracesWord : ℕ → Option ℕ → Trail → Trail → Type 0
 TracesWord address None old new = new ≡ old
-TracesWord address (Some word) old new = (traces : Bool) (memory : ℕ → Option ℕ) (visits visits' : List Visit) (held held' : Option ℕ)
-    → Fetches memory address word visits held visits' held' → Traces traces memory visits held old → Traces traces memory visits' held' new
+TracesWord address (Some word) old new = (traces : Bool) (memory : ℕ → Option ℕ) (visits visits' : List Visit)
+    (held held' : Option ℕ)
+    → Fetches memory address word visits held visits' held' → Traces traces memory visits held old
+    → Traces traces memory visits' held' new
 
 -- the run over a memory after a word more, by the answer: it goes on, or that was how it ends; and what was told then
-abbrev pub Stepped : {A : Type 0} → (memory : ℕ → Option ℕ) → Bool → (words address : ℕ) → Machine → Trail → Taken A → Type 0
+abbrev pub Stepped : {A : Type 0} → (memory : ℕ → Option ℕ) → Bool → (words address : ℕ) → Machine → Trail → Taken A
+    → Type 0
 Stepped memory traces words address machine trail Low = ⊥
 Stepped memory traces words address machine trail Word =
-    (visits : List Visit) × (held : Option ℕ) × Follows memory machine (words + 1) visits held × Traces traces memory visits held trail
+    (visits : List Visit) × (held : Option ℕ) × Follows memory machine (words + 1) visits held
+    × Traces traces memory visits held trail
 Stepped memory traces words address machine trail (Done list) =
-    (visits : List Visit) × Ends memory visits (Complete (words + 1) list.items) × (trail.ran ≡ trace_if traces memory visits)
+    (visits : List Visit) × Ends memory visits (Complete (words + 1) list.items)
+    × (trail.ran ≡ trace_if traces memory visits)
 Stepped memory traces words address machine trail (Broke fault) =
     (visits : List Visit) × Ends memory visits (Broken address fault) × (trail.ran ≡ trace_if traces memory visits)
 
 -- a generator and a tracer that follow a run follow it a word more
-abbrev pub Steps : {A : Type 0} → (memory : ℕ → Option ℕ) → (address : ℕ) → Machine → Trail → Machine → Trail → Taken A → Type 0
-Steps memory address old trail new trail' taken = (traces : Bool) (words : ℕ) (visits : List Visit) (held : Option ℕ) → words < 65536 → address ≡ wanted visits held
-    → Follows memory old words visits held → Traces traces memory visits held trail → Stepped memory traces words address new trail' taken
+abbrev pub Steps : {A : Type 0} → (memory : ℕ → Option ℕ) → (address : ℕ) → Machine → Trail → Machine → Trail → Taken A
+    → Type 0
+Steps memory address old trail new trail' taken = (traces : Bool) (words : ℕ) (visits : List Visit) (held : Option ℕ)
+    → words < 65536 → address ≡ wanted visits held
+    → Follows memory old words visits held → Traces traces memory visits held trail
+    → Stepped memory traces words address new trail' taken

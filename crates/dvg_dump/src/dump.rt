@@ -24,7 +24,8 @@ pub enum DumpFault {
     OutOfMemory,
 }
 
-/// A dump of vector memory: the 2,048 bytes of the RAM, and behind them the 2,048 or 4,096 bytes of the ROM.
+/// A dump of vector memory: the 2,048 bytes of the RAM, and behind them the 2,048 or 4,096 bytes of
+/// the ROM.
 #[derive(Drop)]
 pub struct Dump<A: Allocator = Global> {
     pub(crate) alloc: A,
@@ -46,8 +47,9 @@ impl<A: Allocator> Model for Dump<A> {
 }
 
 impl<A: Allocator + Copy> Dump<A> {
-    /// The dump of these bytes: the RAM's from address 000 on, and then the ROM's. It is refused as `Size` exactly where
-    /// they are neither 4,096 nor 6,144. What a run takes later is of this allocator, too.
+    /// The dump of these bytes: the RAM's from address 000 on, and then the ROM's. It is refused as
+    /// `Size` exactly where they are neither 4,096 nor 6,144. What a run takes later is of this
+    /// allocator, too.
     pub fn new(alloc: A, bytes: &[u8]) -> Result<Dump<A>, DumpFault>
         ensures bytes { IfOk result (λ dump. dump ≡ parts_of bytes.now) }
         ensures taken { OnOk result (HasDumpSize bytes.now) }

@@ -1,8 +1,8 @@
 //! Laws of the definitions alone. Each is the contract of a function that does nothing.
 ghost use Rattle.dvg_dump.specs.Laws.{OneEnd, StrokesOfTrace};
 
-/// The run over a memory of words ends in exactly one way within 65,536 words, of which not ending is one, and after exactly
-/// one list of instructions.
+/// The run over a memory of words ends in exactly one way within 65,536 words, of which not ending
+/// is one, and after exactly one list of instructions.
 pub fn one_end()
     ensures { OneEnd }
 {}

@@ -20,7 +20,8 @@ use dvg_gen::{Generator, Taken};
 use dvg_mem::fetch;
 use std::alloc::{Allocator, Global};
 
-/// The most words that a run is followed (this project's own choice): all that an address of 12 bits names, sixteen times.
+/// The most words that a run is followed (this project's own choice): all that an address of 12
+/// bits names, sixteen times.
 pub const MOST_WORDS: u32 = 65_536;
 
 /// A run: its instructions, and how it ends.
@@ -55,9 +56,11 @@ fn take_word<A: Allocator + Copy>(
 impl<A: Allocator + Copy> Dump<A> {
     /// The run of a new generator over this memory, and how it ends.
     ///
-    /// An error is want of memory, of which the strokes take some, one by one. A run that draws none is never refused.
+    /// An error is want of memory, of which the strokes take some, one by one. A run that draws
+    /// none is never refused.
     pub fn run(&self) -> Result<Ending<A>, OutOfMemory>
-        ensures ends { IfOk result (λ ending. (visits : List Visit) × Ends (memory_of self.now) visits (end_of ending)) }
+        ensures ends { IfOk result (λ ending. (visits : List Visit)
+            × Ends (memory_of self.now) visits (end_of ending)) }
         ensures room { DrawsNoStroke (memory_of self.now) → IsOk result }
     {
         Ok(self.run_telling(false)?.ending)
@@ -65,14 +68,17 @@ impl<A: Allocator + Copy> Dump<A> {
 
     /// The same run, with the instructions that were run. These take memory, too.
     pub fn run_traced(&self) -> Result<Traced<A>, OutOfMemory>
-        ensures { IfOk result (λ traced. TellsRun true (memory_of self.now) traced.ran.items (end_of traced.ending)) }
+        ensures { IfOk result (λ traced. TellsRun true (memory_of self.now) traced.ran.items
+            (end_of traced.ending)) }
     {
         self.run_telling(true)
     }
 
-    /// The same run, with the instructions that were run where that is asked for, and else with none.
+    /// The same run, with the instructions that were run where that is asked for, and else with
+    /// none.
     pub fn run_telling(&self, traces: bool) -> Result<Traced<A>, OutOfMemory>
-        ensures tells { IfOk result (λ traced. TellsRun traces (memory_of self.now) traced.ran.items (end_of traced.ending)) }
+        ensures tells { IfOk result (λ traced. TellsRun traces (memory_of self.now) traced.ran.items
+            (end_of traced.ending)) }
         ensures room { traces ≡ false → DrawsNoStroke (memory_of self.now) → IsOk result }
     {
         let mut tracer = Tracer::new(self.alloc, traces);
@@ -86,8 +92,10 @@ impl<A: Allocator + Copy> Dump<A> {
     // How the run ends, of which the tracer is told.
     fn run_beside(&self, tracer: &mut Tracer<A>) -> Result<Ending<A>, OutOfMemory>
         requires { tracer.old ≡ fresh tracer.old.traces }
-        ensures tells { IfOk result (λ ending. TellsRun tracer.old.traces (memory_of self.now) tracer.new.ran (end_of ending)) }
-        ensures room { tracer.old.traces ≡ false → DrawsNoStroke (memory_of self.now) → IsOk result }
+        ensures tells { IfOk result (λ ending. TellsRun tracer.old.traces
+            (memory_of self.now) tracer.new.ran (end_of ending)) }
+        ensures room { tracer.old.traces ≡ false → DrawsNoStroke (memory_of self.now)
+            → IsOk result }
     {
         let mut generator = Generator::new(self.alloc);
         generator.start();
@@ -119,8 +127,10 @@ impl<A: Allocator + Copy> Dump<A> {
         requires address { address < 4096 }
         requires open { generator.old.is_open ≡ true }
         requires stands { (history : List Told) × HasTaken generator.old history None }
-        ensures steps { IfOk result (Steps (memory_of self.now) address generator.old tracer.old generator.new tracer.new) }
-        ensures room { tracer.old.traces ≡ false → DrawsNothing generator.old.held (Whole (memory_of self.now address)) → IsOk result }
+        ensures steps { IfOk result (Steps
+            (memory_of self.now) address generator.old tracer.old generator.new tracer.new) }
+        ensures room { tracer.old.traces ≡ false
+            → DrawsNothing generator.old.held (Whole (memory_of self.now address)) → IsOk result }
     {
         let word = fetch(&self.ram, &self.rom, address);
         tracer.take(address, word)?;

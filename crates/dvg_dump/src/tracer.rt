@@ -13,7 +13,8 @@ use dvg_gen::Beam;
 use std::alloc::Allocator;
 use std::marker::Model;
 
-/// Follows a run beside its generator, and keeps what is told of its instructions, if that is asked for.
+/// Follows a run beside its generator, and keeps what is told of its instructions, if that is asked
+/// for.
 #[derive(Drop)]
 pub(crate) struct Tracer<A: Allocator> {
     traces: bool,
@@ -31,7 +32,13 @@ impl<A: Allocator> Model for Tracer<A> {
 
     ghost Value = { Trail };
 
-    ghost view = { λ tracer. record { traces = tracer.traces; held = tracer.held; address = tracer.address; beam = tracer.beam; ran = tracer.ran.items } };
+    ghost view = { λ tracer. record {
+      traces = tracer.traces;
+      held = tracer.held;
+      address = tracer.address;
+      beam = tracer.beam;
+      ran = tracer.ran.items;
+    } };
 }
 
 // An instruction that was read, and whether its words are canonical.
@@ -45,7 +52,10 @@ struct Spelled {
 #[inline(always)]
 fn read(words: &[u16]) -> Option<Spelled>
     ensures found { (code : Instr) → Fronts words.now code (length words.now)
-        → result ≡ Some (record { code = code; canonical = pointwise nat_eq (canon code) words.now }) }
+        → result ≡ Some (record {
+          code = code;
+          canonical = pointwise nat_eq (canon code) words.now;
+        }) }
     ensures cut { IsCut words.now → result ≡ None }
 {
     match decode(words) {
@@ -61,7 +71,10 @@ fn read(words: &[u16]) -> Option<Spelled>
 #[inline(always)]
 fn completed(held: Option<u16>, word: u16) -> Option<Spelled>
     ensures found { (code : Instr) → Completes held word code
-        → result ≡ Some (record { code = code; canonical = pointwise nat_eq (canon code) (words_by held word) }) }
+        → result ≡ Some (record {
+          code = code;
+          canonical = pointwise nat_eq (canon code) (words_by held word);
+        }) }
     ensures first { IsFirst word → held ≡ None → result ≡ None }
 {
     match held {

@@ -1,4 +1,5 @@
-//! What no trace shows of a driver: a frame that is handed over, a checked draft, and whether the driver is idle.
+//! What no trace shows of a driver: a frame that is handed over, a checked draft, and whether the
+//! driver is idle.
 use crate::drafts::{behind_labs, rom, vctr};
 use dvg_driver::{Action, Driver, DriverFault};
 use dvg_frame::{Checker, Draft, OpKind, check};

@@ -1,4 +1,5 @@
-//! What a generator wants and answers, of which a trace never shows a fault or a word at any address.
+//! What a generator wants and answers, of which a trace never shows a fault or a word at any
+//! address.
 use dvg_code::OutOfMemory;
 use dvg_gen::{GenFault, Generator, Stroke, Taken};
 use std::alloc::Global;
@@ -119,7 +120,8 @@ fn a_start_or_a_reset_drops_a_low_byte(rt: HostRuntime) -> Result<(), OutOfMemor
     Ok(())
 }
 
-/// The stroke of LABS 512 400 0, VCTR 9 -100 100 7, and that of a point behind it and behind SVEC 2 1 0 1.
+/// The stroke of LABS 512 400 0, VCTR 9 -100 100 7, and that of a point behind it and behind SVEC 2
+/// 1 0 1.
 const LINE: Stroke = Stroke {
     x0: 262_144,
     y0: 204_800,

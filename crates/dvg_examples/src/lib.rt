@@ -1,6 +1,6 @@
-//! Worked examples of the library's calls as tests, where no text shows them (what a text shows is told by the cases of
-//! tests/cases). They stand here and not beside the code, since a crate with tests of its own is proved a second time
-//! with them. The crate exports nothing.
+//! Worked examples of the library's calls as tests, where no text shows them (what a text shows is
+//! told by the cases of tests/cases). They stand here and not beside the code, since a crate with
+//! tests of its own is proved a second time with them. The crate exports nothing.
 #![tactic(auto)]
 
 #[cfg(test)]

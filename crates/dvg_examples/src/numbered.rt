@@ -11,7 +11,8 @@ const FIRST_DRAFT: [u64; 3] = [
     0x0000_0000_0000_0808,
 ];
 
-/// The requests that open a world over zeros: 4,096 bytes are staged, 2,048 of the RAM and 2,048 of the ROM.
+/// The requests that open a world over zeros: 4,096 bytes are staged, 2,048 of the RAM and 2,048 of
+/// the ROM.
 const OPENS_WORLD: [u64; 2] = [0x10_0000_000A, 12];
 
 /// Asks all of them, and answers the last answer.
@@ -31,7 +32,8 @@ fn a_world_draws_the_first_picture(rt: HostRuntime) {
     // The operations have the numbers 0 to 2.
     assert_eq!(rt; asked(&mut device, &FIRST_DRAFT), 0x200_0012);
     assert_eq!(rt; device.turn(0), 0);
-    // The first byte that is written is 90, at 402; behind the last one and the flip the flag is read, and a strobe sent.
+    // The first byte that is written is 90, at 402; behind the last one and the flip the flag is
+    // read, and a strobe sent.
     assert_eq!(rt; device.turn(2), 0x9004_0206);
     assert_eq!(rt; asked(&mut device, &[2; 13]), 8);
     assert_eq!(rt; device.turn(3), 10);

@@ -13,7 +13,8 @@ fn offer(alloc: Global) -> Result<Event, Fail> {
     Ok(Event::Offer(Box::new(alloc, draft)?))
 }
 
-/// What an event of a trace is: an offer of so many operations, or a reset of all with a RAM of this byte.
+/// What an event of a trace is: an offer of so many operations, or a reset of all with a RAM of
+/// this byte.
 #[derive(Clone, Copy, Debug, PartialEq, Eq)]
 enum Shown {
     Offer(usize),

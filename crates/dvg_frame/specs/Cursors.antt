@@ -19,7 +19,8 @@ bytes_left cursor = bytes_from cursor.half cursor.frame.operations cursor.words.
 abbrev pub items_left : Inside → List (ℕ × ℕ)
 items_left cursor = addressed cursor.address (bytes_left cursor)
 
--- the words before each operation are counted, no more bytes of the words at hand were given than they have, the number of the bytes to come is known, and their addresses lie in the RAM
+-- the words before each operation are counted, no more bytes of the words at hand were given than they have, the number
+-- of the bytes to come is known, and their addresses lie in the RAM
 pub record IsCursor (cursor : Inside) : Type 0 where
   pub counted : IsCounted cursor.frame.operations cursor.words_before.items
   pub given : cursor.given ≤ 2 * length cursor.words.items

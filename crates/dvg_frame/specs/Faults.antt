@@ -4,7 +4,8 @@ use Rattle.dvg_frame.specs.declared.op.OpKind.{OpKind}
 use Rattle.dvg_frame.specs.declared.place.Place.{Place}
 use Rattle.dvg_frame.specs.declared.place.Place.TheVariants.{InFrame, InRom}
 use Rattle.dvg_frame.specs.declared.fault.FrameFault.{FrameFault}
-use Rattle.dvg_frame.specs.declared.fault.FrameFault.TheVariants.{Empty, NoLabs, TooLong, Target, RunsOff, OutOfRom, TooDeep, Loops}
+use Rattle.dvg_frame.specs.declared.fault.FrameFault.TheVariants.{Empty, NoLabs, TooLong, Target, RunsOff, OutOfRom}
+use Rattle.dvg_frame.specs.declared.fault.FrameFault.TheVariants.{TooDeep, Loops}
 use Rattle.dvg_frame.specs.Layout.{size}
 use Rattle.dvg_frame.specs.Steps.{Bad, Reached, BeginsWithLabs, Misses, Begins, Closed}
 use Rattle.dvg_frame.specs.Loops.{HasLoop}
@@ -52,7 +53,8 @@ pub record FrameState : Type 0 where
   pub operations : List OpKind
   pub bound : ℕ
 
--- what the check answers: a frame of the draft with its bound, where there is no fault, and else the fault that is picked
+-- what the check answers: a frame of the draft with its bound, where there is no fault, and else the fault that is
+-- picked
 abbrev pub IsChecked : List OpKind → List ℕ → Result FrameState FrameFault → Type 0
 IsChecked F R (Ok frame) = Accepts F R × (frame.operations ≡ F) × IsBound F R frame.bound
 IsChecked F R (Err fault) = Refuses F R fault

@@ -25,7 +25,8 @@ OneAnswer F R = (answer : Result FrameState FrameFault) × IsChecked F R answer
 -- a draft with no fault and no loop has exactly one picture, of fewer than 2^63 words
 abbrev pub OnePicture : Type 0
 OnePicture = (F : List OpKind) (R : List ℕ) → IsRom R → Accepts F R
-    → (strokes : List Stroke) × (n : ℕ) × IsPicture F R strokes n × (n < 2 ^ 63) × ((others : List Stroke) (m : ℕ) → IsPicture F R others m → (others ≡ strokes) × (m ≡ n))
+    → (strokes : List Stroke) × (n : ℕ) × IsPicture F R strokes n × (n < 2 ^ 63)
+    × ((others : List Stroke) (m : ℕ) → IsPicture F R others m → (others ≡ strokes) × (m ≡ n))
 
 -- a draft without the faults 1 to 8 has a loop exactly where a reached pair comes back to itself
 abbrev pub LoopsComeBack : Type 0

@@ -1,4 +1,5 @@
--- What a draft draws, by its operations and the ROM's instructions: no stack, no address of the RAM and no memory that changes.
+-- What a draft draws, by its operations and the ROM's instructions: no stack, no address of the RAM and no memory that
+-- changes.
 use Rattle.std.specs.Prelude.{◌≡◌, ℕ, suc, ◌+◌, List, [], ◌++◌}
 use Rattle.dvg_code.specs.declared.instr.Instr.{Instr}
 use Rattle.dvg_code.specs.Spelling.{word_count}
@@ -21,16 +22,21 @@ pub data Draws (F : List OpKind) (R : List ℕ) : Place → Beam → List Stroke
   halts : {p after : Place} {beam : Beam} → Stands F R p Halts after → Draws F R p beam [] beam AtHalt 1
   returns : {p after : Place} {beam : Beam} → Stands F R p Returns after → Draws F R p beam [] beam AtReturn 1
   -- a vector or LABS: what it draws, and then what the place after it draws
-  moves : {p after : Place} {beam last : Beam} {instr : Instr} {strokes : List Stroke} {end : End} {n : ℕ} → Stands F R p (Moves instr) after
-      → Draws F R after (moved beam instr) strokes last end n → Draws F R p beam (drawn beam instr ++ strokes) last end (word_count instr + n)
-  jumps : {p to after : Place} {beam last : Beam} {strokes : List Stroke} {end : End} {n : ℕ} → Stands F R p (Jumps to) after
+  moves : {p after : Place} {beam last : Beam} {instr : Instr} {strokes : List Stroke} {end : End} {n : ℕ}
+      → Stands F R p (Moves instr) after
+      → Draws F R after (moved beam instr) strokes last end n
+      → Draws F R p beam (drawn beam instr ++ strokes) last end (word_count instr + n)
+  jumps : {p to after : Place} {beam last : Beam} {strokes : List Stroke} {end : End} {n : ℕ}
+      → Stands F R p (Jumps to) after
       → Draws F R to beam strokes last end n → Draws F R p beam strokes last end (suc n)
   -- a call whose target halts
   call_halts : {p to after : Place} {beam last : Beam} {strokes : List Stroke} {n : ℕ} → Stands F R p (Calls to) after
       → Draws F R to beam strokes last AtHalt n → Draws F R p beam strokes last AtHalt (suc n)
   -- a call whose target returns: what it draws, and then what the place after the call draws
-  calls : {p to after : Place} {beam back last : Beam} {strokes more : List Stroke} {end : End} {n m : ℕ} → Stands F R p (Calls to) after
-      → Draws F R to beam strokes back AtReturn n → Draws F R after back more last end m → Draws F R p beam (strokes ++ more) last end (suc (n + m))
+  calls : {p to after : Place} {beam back last : Beam} {strokes more : List Stroke} {end : End} {n m : ℕ}
+      → Stands F R p (Calls to) after
+      → Draws F R to beam strokes back AtReturn n → Draws F R after back more last end m
+      → Draws F R p beam (strokes ++ more) last end (suc (n + m))
 
 -- the picture of a draft, and the words of its whole run, word zero included
 pub record IsPicture (F : List OpKind) (R : List ℕ) (strokes : List Stroke) (n : ℕ) : Type 0 where

@@ -16,7 +16,8 @@ use Rattle.dvg_frame.specs.Layout.{size}
 -- the words of a memory from this address on spell this instruction
 pub data SpelledAt (mem : ℕ → Option ℕ) : ℕ → Instr → Type 0 where
   one : {a word : ℕ} {instr : Instr} → mem a ≡ Some word → Spells instr (word ∷ []) → SpelledAt mem a instr
-  two : {a first second : ℕ} {instr : Instr} → mem a ≡ Some first → mem (a + 1) ≡ Some second → Spells instr (first ∷ second ∷ []) → SpelledAt mem a instr
+  two : {a first second : ℕ} {instr : Instr} → mem a ≡ Some first → mem (a + 1) ≡ Some second
+      → Spells instr (first ∷ second ∷ []) → SpelledAt mem a instr
 
 -- how an operation leads on
 abbrev pub op_act : OpKind → Act Place
@@ -30,7 +31,8 @@ op_act Stop = Halts
 
 -- what stands at a place, and the place after it
 pub data Stands (F : List OpKind) (R : List ℕ) : Place → Act Place → Place → Type 0 where
-  in_frame : {i : ℕ} {op : OpKind} {act : Act Place} → slice_get F i ≡ Some op → act ≡ op_act op → Stands F R (InFrame i) act (InFrame (i + 1))
+  in_frame : {i : ℕ} {op : OpKind} {act : Act Place} → slice_get F i ≡ Some op → act ≡ op_act op
+      → Stands F R (InFrame i) act (InFrame (i + 1))
   in_rom : {a : ℕ} {instr : Instr} {act : Act Place} → SpelledAt (rom_word R) a instr → act ≡ act_by InRom instr
       → Stands F R (InRom a) act (InRom (a + word_count instr))
 
@@ -49,13 +51,17 @@ Names _ p = ⊥
 -- this fault holds at a pair of place and depth
 pub data Bad (F : List OpKind) (R : List ℕ) : Place → ℕ → FrameFault → Type 0 where
   -- the last operation goes on at the place after it
-  last : {i d : ℕ} {act : Act Place} {after : Place} → Stands F R (InFrame i) act after → GoesPast act → i + 1 ≡ length F → Bad F R (InFrame i) d (RunsOff i)
+  last : {i d : ℕ} {act : Act Place} {after : Place} → Stands F R (InFrame i) act after → GoesPast act
+      → i + 1 ≡ length F → Bad F R (InFrame i) d (RunsOff i)
   -- a jump or a call names an address at which the ROM has no word
-  target : {p after : Place} {d : ℕ} {act : Act Place} (a : ℕ) → Stands F R p act after → Names act (InRom a) → rom_word R a ≡ None → Bad F R p d (OutOfRom p)
+  target : {p after : Place} {d : ℕ} {act : Act Place} (a : ℕ) → Stands F R p act after → Names act (InRom a)
+      → rom_word R a ≡ None → Bad F R p d (OutOfRom p)
   -- a second word lies outside the ROM
-  second : {a d word : ℕ} → rom_word R a ≡ Some word → IsFirst word → rom_word R (a + 1) ≡ None → Bad F R (InRom a) d (OutOfRom (InRom a))
+  second : {a d word : ℕ} → rom_word R a ≡ Some word → IsFirst word → rom_word R (a + 1) ≡ None
+      → Bad F R (InRom a) d (OutOfRom (InRom a))
   -- the place after, at which a ROM word goes on, lies outside the ROM
-  past : {a b d : ℕ} {act : Act Place} → Stands F R (InRom a) act (InRom b) → GoesPast act → rom_word R b ≡ None → Bad F R (InRom a) d (OutOfRom (InRom a))
+  past : {a b d : ℕ} {act : Act Place} → Stands F R (InRom a) act (InRom b) → GoesPast act → rom_word R b ≡ None
+      → Bad F R (InRom a) d (OutOfRom (InRom a))
   -- a call while four are open
   deep : {p to after : Place} {d : ℕ} → Stands F R p (Calls to) after → d ≡ 4 → Bad F R p d (TooDeep p)
   -- a return while no call is open

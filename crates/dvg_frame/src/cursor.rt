@@ -8,11 +8,11 @@ use dvg_mem::Half;
 use std::iter::FusedIterator;
 use std::marker::Model;
 
-/// An iterator over the bytes of a frame that is laid out for a half, each with its byte address in the
-/// RAM: from the low byte of the half's first word on, in rising order.
+/// An iterator over the bytes of a frame that is laid out for a half, each with its byte address in
+/// the RAM: from the low byte of the half's first word on, in rising order.
 ///
-/// A cursor keeps the frame, its place in it, and how many words stand before each operation, so that an item takes
-/// constant time.
+/// A cursor keeps the frame, its place in it, and how many words stand before each operation, so
+/// that an item takes constant time.
 #[derive(Drop)]
 pub struct Cursor {
     frame: Frame,
@@ -69,11 +69,12 @@ impl Cursor {
         }
     }
 
-    /// Begins anew, with the bytes of a checked draft's frame, laid out for this half. The draft is copied
-    /// into the memory that the cursor has: the time is linear in its operations, and in those of the frame
-    /// that the cursor kept.
+    /// Begins anew, with the bytes of a checked draft's frame, laid out for this half. The draft is
+    /// copied into the memory that the cursor has: the time is linear in its operations, and in
+    /// those of the frame that the cursor kept.
     pub fn restart(&mut self, checked: &Checked, half: Half)
-        ensures items { self.new ≡ addressed (2 * base half) (bytes (laid half checked.now.operations)) }
+        ensures items { self.new ≡ addressed (2 * base half)
+            (bytes (laid half checked.now.operations)) }
         ensures in_ram { All IsBehindWordZero self.new }
     {
         checked.copy_to(&mut self.frame);

@@ -1,5 +1,6 @@
 //! Drafts.
-ghost use Rattle.std.specs.Prelude.{All, ◌≡◌, ◌+◌, ◌<◌, ◌≤◌, ◌↔◌, List, [], ◌∷◌, ◌++◌, length, IfOk, IsOk, IsTrue, OnErr, OnOk, Some, slice_get};
+ghost use Rattle.std.specs.Prelude.{All, ◌≡◌, ◌+◌, ◌<◌, ◌≤◌, ◌↔◌, List, [], ◌∷◌, ◌++◌, length};
+ghost use Rattle.std.specs.Prelude.{IfOk, IsOk, IsTrue, OnErr, OnOk, Some, slice_get};
 ghost use Rattle.dvg_code.specs.Spelling.{word_count as words_of_code};
 ghost use Rattle.dvg_frame.specs.Layout.{op_words};
 ghost use Rattle.dvg_frame.specs.Ops.{IsDraft, IsOp};
@@ -61,8 +62,8 @@ impl Draft {
         self.ops.is_empty()
     }
 
-    /// Adds an operation at the end, and answers its number. It is refused exactly where there are 511
-    /// operations, and nothing has changed then.
+    /// Adds an operation at the end, and answers its number. It is refused exactly where there are
+    /// 511 operations, and nothing has changed then.
     pub fn push(&mut self, op: Op) -> Result<u16, DraftFull>
         ensures room { IsOk result ↔ (length self.old < 511) }
         ensures number { IfOk result (λ number. number ≡ length self.old) }
@@ -77,8 +78,8 @@ impl Draft {
         Ok(number)
     }
 
-    /// Adds operations at the end. They are refused exactly where there would be more than 511 then, and nothing
-    /// has changed.
+    /// Adds operations at the end. They are refused exactly where there would be more than 511
+    /// then, and nothing has changed.
     pub fn try_extend_from_slice(&mut self, ops: &[Op]) -> Result<(), DraftFull>
         ensures room { IsOk result ↔ (length self.old + length ops.now ≤ 511) }
         ensures pushed { OnOk result (self.new ≡ self.old ++ ops.now) }

@@ -24,8 +24,8 @@ pub enum FrameFault {
     /// 5: this operation is the last one, and goes on at the place after it.
     #[error("operation {0} is the last one, and goes on")]
     RunsOff(u16),
-    /// 6: this place leads to an address outside the ROM, which is at `Rom::first` to BFF: by a target, by a second word,
-    /// or by the place after it.
+    /// 6: this place leads to an address outside the ROM, which is at `Rom::first` to BFF: by a
+    /// target, by a second word, or by the place after it.
     #[error("{0} leads to an address outside the ROM")]
     OutOfRom(Place),
     /// 7: at this place there is a call while four are open.
@@ -34,8 +34,8 @@ pub enum FrameFault {
     /// 8: at this place there is a return while no call is open.
     #[error("{0} returns while no call is open")]
     NoCaller(Place),
-    /// 9: none of the others holds, and steps at one depth lead from a reached place back to it, so that
-    /// its run may come to no end.
+    /// 9: none of the others holds, and steps at one depth lead from a reached place back to it, so
+    /// that its run may come to no end.
     #[error("steps at one depth lead back to a place")]
     Loops,
 }

@@ -1,5 +1,6 @@
 //! Laws of the check's answer. Each is the contract of a function that does nothing else.
-ghost use Rattle.dvg_frame.specs.Laws.{AcceptedStays, GrownStays, LoopsComeBack, OneAnswer, OneFault, OnePicture};
+ghost use Rattle.dvg_frame.specs.Laws.{AcceptedStays, GrownStays, LoopsComeBack, OneAnswer};
+ghost use Rattle.dvg_frame.specs.Laws.{OneFault, OnePicture};
 
 use crate::checking::check;
 use crate::draft::Draft;
@@ -34,8 +35,8 @@ pub fn loops_come_back()
     ensures { LoopsComeBack }
 {}
 
-/// A draft that is closed over a ROM of 2,048 bytes is closed over the ROM that `Rom::grow` makes of it, with the same
-/// pictures.
+/// A draft that is closed over a ROM of 2,048 bytes is closed over the ROM that `Rom::grow` makes
+/// of it, with the same pictures.
 pub fn grown_stays()
     ensures { GrownStays }
 {}

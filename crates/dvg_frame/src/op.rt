@@ -57,8 +57,8 @@ impl Default for Op {
 }
 
 impl Op {
-    /// The operation. None exactly for a `Draw` of another instruction than VCTR, SVEC or LABS, and for
-    /// a `CallRom` or `JumpRom` whose address is over FFF.
+    /// The operation. None exactly for a `Draw` of another instruction than VCTR, SVEC or LABS, and
+    /// for a `CallRom` or `JumpRom` whose address is over FFF.
     pub fn new(kind: OpKind) -> Option<Op>
         ensures made { IsSome result ↔ IsOp kind }
         ensures value { IfSome result (λ op. op ≡ kind) }

@@ -1,5 +1,6 @@
 -- What an instruction does to the beam, and what it draws.
-use Rattle.std.specs.Prelude.{ℕ, zero, suc, ◌+◌, ◌-◌, ◌*◌, ◌%◌, ◌^◌, ℤ, pos, negsuc, List, [], ◌∷◌, if◌then◌else◌, nat_le}
+use Rattle.std.specs.Prelude.{ℕ, zero, suc, ◌+◌, ◌-◌, ◌*◌, ◌%◌, ◌^◌, ℤ, pos, negsuc, List, [], ◌∷◌, if◌then◌else◌}
+use Rattle.std.specs.Prelude.{nat_le}
 use Rattle.dvg_code.specs.declared.instr.Instr.{Instr}
 use Rattle.dvg_code.specs.declared.instr.Instr.TheVariants.{Vctr, Labs, Svec}
 use Rattle.dvg_gen.specs.declared.beam.Beam.{Beam}
@@ -22,7 +23,8 @@ slid beam dx dy unit = record { x = shifted beam.x dx unit; y = shifted beam.y d
 abbrev pub placed : ℕ → ℕ → ℕ → Beam
 placed x y scale = record { x = 512 * x; y = 512 * y; scale = scale }
 
--- the beam after an instruction: a vector moves it by its effective scale, where a magnitude of SVEC stands for 256 times that of VCTR; LABS puts it somewhere; the others leave it
+-- the beam after an instruction: a vector moves it by its effective scale, where a magnitude of SVEC stands for 256
+-- times that of VCTR; LABS puts it somewhere; the others leave it
 abbrev pub moved : Beam → Instr → Beam
 moved beam (Vctr scale dx dy z) = slid beam dx dy (unit ((beam.scale + scale) % 16))
 moved beam (Labs x y scale) = placed x y scale

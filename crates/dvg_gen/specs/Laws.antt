@@ -46,14 +46,16 @@ CanBeTold run (Fed (Some word)) = (run.is_open ≡ true) × IsWord word
 -- a history leaves one run at most, and one that leaves a run still leaves one with whatever can be told then
 abbrev pub OneRun : Type 0
 OneRun = ((history : List Told) (one other : Newest) → Leaves history one → Leaves history other → one ≡ other)
-    × ((history : List Told) (run : Newest) (told : Told) → Leaves history run → CanBeTold run told → (later : Newest) × Leaves (told ∷ history) later)
+    × ((history : List Told) (run : Newest) (told : Told) → Leaves history run → CanBeTold run told
+    → (later : Newest) × Leaves (told ∷ history) later)
 
 -- a memory that does not change has one run of so many words at most
 abbrev pub OneRunOfMemory : Type 0
 OneRunOfMemory = (memory : ℕ → Option ℕ) (count : ℕ) (visits visits' : List Visit) (held held' : Option ℕ)
     → Runs memory count visits held → Runs memory count visits' held' → (visits ≡ visits') × (held ≡ held')
 
--- a history that leaves a run has a list of all instructions that it completed, and the beam is that of all of them, from 0, 0 with scale 0
+-- a history that leaves a run has a list of all instructions that it completed, and the beam is that of all of them,
+-- from 0, 0 with scale 0
 abbrev pub BeamOfAll : Type 0
 BeamOfAll = ((history : List Told) (run : Newest) → Leaves history run → (all : List Visit) × Completed history all)
     × ((history : List Told) (run : Newest) (all : List Visit) → Leaves history run → Completed history all
@@ -70,4 +72,5 @@ AnswersACall = (older : List Visit) (call : Visit) → IsAnswered older call →
 
 -- a return leads to one past the call that it answers
 abbrev pub PastTheCall : Type 0
-PastTheCall = (back : Visit) (older : List Visit) (call : Visit) → act_of back.code ≡ Returns → IsAnswered older call → next (back ∷ older) ≡ on call.place 1
+PastTheCall = (back : Visit) (older : List Visit) (call : Visit) → act_of back.code ≡ Returns → IsAnswered older call
+    → next (back ∷ older) ≡ on call.place 1

@@ -1,5 +1,6 @@
 -- What contracts see of a generator, and after which histories it stands.
-use Rattle.std.specs.Prelude.{◌≡◌, ℕ, ◌+◌, ◌<◌, List, ◌∷◌, length, slice_index, Option, Some, None, Bool, true, All, IfSome, IsSome}
+use Rattle.std.specs.Prelude.{◌≡◌, ℕ, ◌+◌, ◌<◌, List, ◌∷◌, length, slice_index, Option, Some, None, Bool, true, All}
+use Rattle.std.specs.Prelude.{IfSome, IsSome}
 use Rattle.dvg_code.specs.Spelling.{IsFirst}
 use Rattle.dvg_gen.specs.declared.beam.Beam.{Beam}
 use Rattle.dvg_gen.specs.declared.stroke.Stroke.{Stroke}
@@ -9,7 +10,8 @@ use Rattle.dvg_gen.specs.Run.{past_call, wanted, calls, returns, beam_after, str
 use Rattle.dvg_gen.specs.Told.{Told, Fed, Newest, Leaves, Reply, More, Drew, Fails, reply}
 use Rattle.dvg_gen.specs.Bytes.{Met, Waits, Whole}
 
--- the address of the next word, the first word of its instruction and its low byte where they were fetched, the return addresses, newest first, the beam, the run's strokes so far, and whether a run is open
+-- the address of the next word, the first word of its instruction and its low byte where they were fetched, the return
+-- addresses, newest first, the beam, the run's strokes so far, and whether a run is open
 pub record Machine : Type 0 where
   pub at : ℕ
   pub held : Option ℕ
@@ -25,7 +27,8 @@ pub record IsKept (at : ℕ) (held : Option ℕ) (stack : List ℕ) : Type 0 whe
   pub held_is_first : IfSome held IsFirst
   pub stack_is_addresses : All (λ address. address < 4096) stack
 
--- a machine is in an open run: it is at the run's next word, and its stack has the address past each call that is still open
+-- a machine is in an open run: it is at the run's next word, and its stack has the address past each call that is still
+-- open
 pub record IsInRun (machine : Machine) (run : Newest) : Type 0 where
   pub at : machine.at ≡ wanted run.visits run.held
   pub held : machine.held ≡ run.held
@@ -33,13 +36,15 @@ pub record IsInRun (machine : Machine) (run : Newest) : Type 0 where
   pub count : calls run.visits ≡ returns run.visits + length machine.stack
   pub brackets : (k : ℕ) → k < length machine.stack → slice_index machine.stack k ≡ past_call k run.visits
 
--- a machine stands at a run: its beam is the one that all instructions so far left, and where the run is open it is in it
+-- a machine stands at a run: its beam is the one that all instructions so far left, and where the run is open it is in
+-- it
 pub record IsAtRun (machine : Machine) (run : Newest) : Type 0 where
   pub is_open : machine.is_open ≡ run.is_open
   pub beam : machine.beam ≡ beam_after run.first run.visits
   pub running : run.is_open ≡ true → IsInRun machine run
 
--- a machine stands after a history of words and a low byte that waits behind them: it stands at the run that the words leave, and has that low byte, for which the run is open
+-- a machine stands after a history of words and a low byte that waits behind them: it stands at the run that the words
+-- leave, and has that low byte, for which the run is open
 pub record HasTaken (machine : Machine) (history : List Told) (waiting : Option ℕ) : Type 0 where
   pub run : Newest
   pub leaves : Leaves history run
@@ -54,10 +59,12 @@ IsReply (Done list) (Drew strokes) = list.items ≡ strokes
 IsReply (Broke fault) (Fails other) = fault ≡ other
 IsReply _ _ = ⊥
 
--- a machine stands after a history and one fetch more, which met this, with the answer that the definition gives to it: a low byte waits, and a word or a hole is told
+-- a machine stands after a history and one fetch more, which met this, with the answer that the definition gives to it:
+-- a low byte waits, and a word or a hole is told
 abbrev pub Answers : {A : Type 0} → List Told → Met → Machine → Taken A → Type 0
 Answers history (Waits byte) machine taken = HasTaken machine history (Some byte) × (taken ≡ Low)
-Answers history (Whole word) machine taken = (after : HasTaken machine (Fed word ∷ history) None) × IsReply taken (reply word after.run)
+Answers history (Whole word) machine taken = (after : HasTaken machine (Fed word ∷ history) None)
+    × IsReply taken (reply word after.run)
 
 -- the run goes on with this answer
 abbrev pub IsOnward : {A : Type 0} → Taken A → Type 0

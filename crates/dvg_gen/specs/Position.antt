@@ -16,4 +16,5 @@ pub record IsBeam (x y scale : ℕ) : Type 0 where
 
 -- a stroke leads from a position to a position, with an intensity of 1 to 15
 abbrev pub IsStroke : Stroke → Type 0
-IsStroke stroke = (stroke.x0 < 2097152) × (stroke.y0 < 2097152) × (stroke.x1 < 2097152) × (stroke.y1 < 2097152) × (1 ≤ stroke.z) × (stroke.z ≤ 15)
+IsStroke stroke = (stroke.x0 < 2097152) × (stroke.y0 < 2097152) × (stroke.x1 < 2097152) × (stroke.y1 < 2097152)
+    × (1 ≤ stroke.z) × (stroke.z ≤ 15)

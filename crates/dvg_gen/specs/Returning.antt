@@ -2,7 +2,8 @@
 use Rattle.std.specs.Prelude.{◌≡◌, ◌≢◌, ◌+◌, List, [], ◌∷◌, ◌++◌}
 use Rattle.dvg_gen.specs.Run.{Visit, calls, returns}
 
--- reading back from a return over the older instructions, newest first, the call is the first place where there is one call more than returns
+-- reading back from a return over the older instructions, newest first, the call is the first place where there is one
+-- call more than returns
 pub record IsAnswered (older : List Visit) (call : Visit) : Type 0 where
   pub between : List Visit
   pub before : List Visit

@@ -96,7 +96,8 @@ abbrev pub strokes : Beam → List Visit → List Stroke
 strokes beam [] = []
 strokes beam (visit ∷ older) = strokes beam older ++ drawn (beam_after beam older) visit.code
 
--- one more word of a run, which may hold an instruction's first word: a first word is held, and any other word completes an instruction
+-- one more word of a run, which may hold an instruction's first word: a first word is held, and any other word
+-- completes an instruction
 pub data Adds : List Visit → Option ℕ → ℕ → List Visit → Option ℕ → Type 0 where
   first : {visits : List Visit} {word : ℕ} → IsFirst word → Adds visits None word visits (Some word)
   one : {visits : List Visit} {word : ℕ} {code : Instr} → Spells code (word ∷ [])
@@ -107,5 +108,7 @@ pub data Adds : List Visit → Option ℕ → ℕ → List Visit → Option ℕ 
 -- a lawful run of so many words over a memory that does not change
 pub data Runs (memory : ℕ → Option ℕ) : ℕ → List Visit → Option ℕ → Type 0 where
   begins : Runs memory 0 [] None
-  fetches : {count word : ℕ} {visits visits' : List Visit} {held held' : Option ℕ} → Runs memory count visits held → fate visits ≡ Goes
-      → memory (wanted visits held) ≡ Some word → Adds visits held word visits' held' → Runs memory (suc count) visits' held'
+  fetches : {count word : ℕ} {visits visits' : List Visit} {held held' : Option ℕ} → Runs memory count visits held
+      → fate visits ≡ Goes
+      → memory (wanted visits held) ≡ Some word → Adds visits held word visits' held'
+      → Runs memory (suc count) visits' held'

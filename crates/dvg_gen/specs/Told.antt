@@ -45,8 +45,10 @@ pub data Leaves : List Told → Newest → Type 0 where
   new : Leaves [] nothing
   starts : {history : List Told} {run : Newest} → Leaves history run → Leaves (Start ∷ history) (begun run)
   resets : {history : List Told} {run : Newest} → Leaves history run → Leaves (Reset ∷ history) (stopped run)
-  meets_hole : {history : List Told} {run : Newest} → Leaves history run → run.is_open ≡ true → Leaves (Fed None ∷ history) (stopped run)
-  takes : {history : List Told} {run : Newest} {word : ℕ} {visits : List Visit} {held : Option ℕ} → Leaves history run → run.is_open ≡ true
+  meets_hole : {history : List Told} {run : Newest} → Leaves history run → run.is_open ≡ true
+      → Leaves (Fed None ∷ history) (stopped run)
+  takes : {history : List Told} {run : Newest} {word : ℕ} {visits : List Visit} {held : Option ℕ} → Leaves history run
+      → run.is_open ≡ true
       → Adds run.visits run.held word visits held → Leaves (Fed (Some word) ∷ history) (grown run visits held)
 
 -- what a fetch is answered: the run goes on, it is finished with these strokes, or it breaks

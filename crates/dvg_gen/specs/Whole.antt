@@ -9,5 +9,6 @@ pub data Completed : List Told → List Visit → Type 0 where
   starts : {history : List Told} {all : List Visit} → Completed history all → Completed (Start ∷ history) all
   resets : {history : List Told} {all : List Visit} → Completed history all → Completed (Reset ∷ history) all
   meets_hole : {history : List Told} {all : List Visit} → Completed history all → Completed (Fed None ∷ history) all
-  takes : {history : List Told} {all : List Visit} {run : Newest} {word : ℕ} {held : Option ℕ} (added : List Visit) → Completed history all → Leaves history run
+  takes : {history : List Told} {all : List Visit} {run : Newest} {word : ℕ} {held : Option ℕ} (added : List Visit)
+      → Completed history all → Leaves history run
       → Adds run.visits run.held word (added ++ run.visits) held → Completed (Fed (Some word) ∷ history) (added ++ all)

@@ -13,8 +13,8 @@ const CIRCLE: u32 = 2_097_152;
 
 /// Where the beam stands, in 1/512 of a screen unit, and the global scale.
 ///
-/// Positions are exact, and go round: past the edge at 4,096 units the beam comes in at the other one.
-/// Nothing is rounded or clipped (this project's own choice).
+/// Positions are exact, and go round: past the edge at 4,096 units the beam comes in at the other
+/// one. Nothing is rounded or clipped (this project's own choice).
 #[derive(Clone, Copy, Debug, PartialEq, Eq)]
 pub struct Beam {
     /// The position along x, below 2,097,152.
@@ -39,8 +39,8 @@ impl Model for Beam {
 }
 
 impl Beam {
-    /// The beam that LABS leaves: at this position in screen units, 0 to 4095, with this global scale,
-    /// 0 to 15.
+    /// The beam that LABS leaves: at this position in screen units, 0 to 4095, with this global
+    /// scale, 0 to 15.
     pub fn place(x: u16, y: u16, scale: u8) -> Beam
         requires { InRange (Instr.Labs x y scale) }
         ensures { result ≡ spec.placed x y scale }
@@ -54,10 +54,10 @@ impl Beam {
 
     /// Moves the beam by an instruction, and answers the stroke that it draws, if any.
     ///
-    /// The effective scale is the sum of the global and the local scale, modulo 16. At 0 to 9 it doubles
-    /// a move so many times; 10 to 15 move the beam by nothing (this project's own choice). A vector of
-    /// intensity 1 to 15 draws one stroke, also where it moves by nothing. Instructions other than
-    /// LABS, VCTR and SVEC leave the beam as it is.
+    /// The effective scale is the sum of the global and the local scale, modulo 16. At 0 to 9 it
+    /// doubles a move so many times; 10 to 15 move the beam by nothing (this project's own choice).
+    /// A vector of intensity 1 to 15 draws one stroke, also where it moves by nothing. Instructions
+    /// other than LABS, VCTR and SVEC leave the beam as it is.
     #[inline(always)]
     pub fn step(&mut self, code: &Code) -> Option<Stroke>
         ensures moved { self.new ≡ spec.moved self.old code.now }

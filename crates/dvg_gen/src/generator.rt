@@ -1,5 +1,7 @@
 //! The generator.
-ghost use Rattle.std.specs.Prelude.{◌≡◌, ◌↔◌, ◌+◌, ◌%◌, ◌<◌, ◌≤◌, true, false, ℕ, List, Option, [], ◌∷◌, ◌++◌, IsTrue, IsNone, IsSome, IsOk, IfSome, IfOk, OnErr, Some, None};
+ghost use Rattle.std.specs.Prelude.{◌≡◌, ◌↔◌, ◌+◌, ◌%◌, ◌<◌, ◌≤◌, true, false, ℕ, List, Option, []};
+ghost use Rattle.std.specs.Prelude.{◌∷◌, ◌++◌, IsTrue, IsNone, IsSome, IsOk, IfSome, IfOk, OnErr};
+ghost use Rattle.std.specs.Prelude.{Some, None};
 ghost use Rattle.dvg_code.specs.Acts.{Moves, act_of};
 ghost use Rattle.dvg_code.specs.Ranges.{InRange};
 ghost use Rattle.dvg_code.specs.Spelling.{IsFirst};
@@ -22,17 +24,18 @@ use std::alloc::Allocator;
 use std::marker::Model;
 use std::mem;
 
-/// The vector generator, which is handed one byte a call: the low byte of a word, and then its high byte
-/// (this project's own choice).
+/// The vector generator, which is handed one byte a call: the low byte of a word, and then its high
+/// byte (this project's own choice).
 ///
-/// A new one is halted, with the beam at 0, 0 and the global scale 0. Beam and scale are kept from run to
-/// run (this project's own choice).
+/// A new one is halted, with the beam at 0, 0 and the global scale 0. Beam and scale are kept from
+/// run to run (this project's own choice).
 #[derive(Drop)]
 pub struct Generator<A: Allocator> {
     alloc: A,
     is_open: bool,
-    // Neither this nor the address lies at a multiple of four bytes, where the processor would be made to wait
-    // for it: each fetch reads them as the one before has written them. So this is no part of an `Option`.
+    // Neither this nor the address lies at a multiple of four bytes, where the processor would be
+    // made to wait for it: each fetch reads them as the one before has written them. So this is no
+    // part of an `Option`.
     has_low: bool,
     // The address of the next word.
     at: u16,
@@ -83,12 +86,13 @@ impl<A: Allocator + Copy> Generator<A> {
         }
     }
 
-    /// Begins a run at word zero, with no return address and no stroke. A run that was open is abandoned
-    /// with its strokes and its low byte (this project's own choice).
+    /// Begins a run at word zero, with no return address and no stroke. A run that was open is
+    /// abandoned with its strokes and its low byte (this project's own choice).
     pub fn start(&mut self)
         ensures stands { (history : List Told) (low : Option ℕ) → HasTaken self.old history low
             → HasTaken self.new (Start ∷ history) None }
-        ensures machine { self.new ≡ record self.old { at = 0; held = None; low = None; stack = []; strokes = []; is_open = true } }
+        ensures machine { self.new ≡ record self.old
+            { at = 0; held = None; low = None; stack = []; strokes = []; is_open = true } }
     {
         self.reset();
         self.at = 0;
@@ -120,18 +124,21 @@ impl<A: Allocator + Copy> Generator<A> {
     /// The address of the next word, or None where the generator is halted.
     pub fn wants(&self) -> Option<u16>
         ensures halted { IsNone result ↔ (self.now.is_open ≡ false) }
-        ensures address { (history : List Told) (low : Option ℕ) (after : HasTaken self.now history low)
+        ensures address { (history : List Told) (low : Option ℕ)
+            (after : HasTaken self.now history low)
             → result ≡ wants after.run }
         ensures in_range { IfSome result (λ address. address < 4096) }
     {
         (!self.halted()).then_some(self.at)
     }
 
-    /// Whether the next byte is the high one of its word: the last fetch of the open run was of the low byte.
+    /// Whether the next byte is the high one of its word: the last fetch of the open run was of the
+    /// low byte.
     pub fn wants_high(&self) -> bool
         ensures run { (history : List Told) (low : Option ℕ) → HasTaken self.now history low
             → IsTrue result ↔ IsSome low }
-        ensures open { (history : List Told) (low : Option ℕ) (after : HasTaken self.now history low)
+        ensures open { (history : List Told) (low : Option ℕ)
+            (after : HasTaken self.now history low)
             → IsTrue result → after.run.is_open ≡ true }
     {
         self.low_byte().is_some()
@@ -146,14 +153,16 @@ impl<A: Allocator + Copy> Generator<A> {
     }
 
     /// Takes the low byte of the word at the address that `wants` gives, or its high byte where
-    /// `wants_high`; None where no memory answers there. After `Done` or `Broke` the generator is halted.
+    /// `wants_high`; None where no memory answers there. After `Done` or `Broke` the generator is
+    /// halted.
     ///
-    /// An error is want of memory, and then nothing has changed. It comes only where a high byte completes
-    /// a vector with an intensity of at least 1.
+    /// An error is want of memory, and then nothing has changed. It comes only where a high byte
+    /// completes a vector with an intensity of at least 1.
     #[inline(always)]
     pub fn take_byte(&mut self, byte: Option<u8>) -> Result<Taken<A>, OutOfMemory>
         requires { self.old.is_open ≡ true }
-        ensures answers { IfOk result (λ taken. (history : List Told) (low : Option ℕ) → HasTaken self.old history low
+        ensures answers { IfOk result (λ taken. (history : List Told) (low : Option ℕ)
+            → HasTaken self.old history low
             → Answers history (met low byte) self.new taken) }
         ensures goes_on { IfOk result (λ taken. (self.new.is_open ≡ true) ↔ IsOnward taken) }
         ensures room { DrawsNothing self.old.held (met self.old.low byte) → IsOk result }
@@ -174,13 +183,15 @@ impl<A: Allocator + Copy> Generator<A> {
     #[inline(always)]
     fn take(&mut self, word: u16) -> Result<Taken<A>, OutOfMemory>
         requires { self.old.is_open ≡ true }
-        ensures answers { IfOk result (λ taken. (history : List Told) (low : Option ℕ) → HasTaken self.old history low
+        ensures answers { IfOk result (λ taken. (history : List Told) (low : Option ℕ)
+            → HasTaken self.old history low
             → Answers history (Whole (Some word)) self.new taken) }
         ensures goes_on { IfOk result (λ taken. (self.new.is_open ≡ true) ↔ IsOnward taken) }
         ensures room { DrawsNothing self.old.held (Whole (Some word)) → IsOk result }
         ensures refused { OnErr result (self.new ≡ self.old) }
     {
-        // The opcode says which instruction it is. To tell the decoded ones apart once more would take time.
+        // The opcode says which instruction it is. To tell the decoded ones apart once more would
+        // take time.
         if let Some(first) = self.held {
             let code = of_two(first, word);
             return if first < 0xA000 {

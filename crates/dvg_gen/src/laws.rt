@@ -1,5 +1,7 @@
 //! Laws of the definitions alone. Each is the contract of a function that does nothing.
-ghost use Rattle.dvg_gen.specs.Laws.{AnswersACall, BeamOfAll, LeastResidue, OneCall, OneRun, OneRunOfMemory, PastTheCall, RunInRange, SeenDraws, StaysInRange, UnseenDrawsNothing};
+ghost use Rattle.dvg_gen.specs.Laws.{AnswersACall, BeamOfAll, LeastResidue, OneCall, OneRun};
+ghost use Rattle.dvg_gen.specs.Laws.{OneRunOfMemory, PastTheCall, RunInRange, SeenDraws};
+ghost use Rattle.dvg_gen.specs.Laws.{StaysInRange, UnseenDrawsNothing};
 
 /// A moved position is exact: the least residue modulo 2,097,152 of the old one and the way.
 pub fn least_residue()
@@ -13,21 +15,21 @@ pub fn what_draws()
     ensures unseen { UnseenDrawsNothing }
 {}
 
-/// What is drawn is in range: positions are below 2,097,152, and the intensity is 1 to 15. It is so of an instruction in
-/// range, from each beam, and of the strokes of each history's newest run.
+/// What is drawn is in range: positions are below 2,097,152, and the intensity is 1 to 15. It is so
+/// of an instruction in range, from each beam, and of the strokes of each history's newest run.
 pub fn strokes_in_range()
     ensures step { StaysInRange }
     ensures run { RunInRange }
 {}
 
-/// A return answers exactly one call, wherever there are more calls than returns: reading back from it,
-/// the first place where there is one call more than returns.
+/// A return answers exactly one call, wherever there are more calls than returns: reading back from
+/// it, the first place where there is one call more than returns.
 pub fn one_call()
     ensures { OneCall }
 {}
 
-/// What a return answers is a call, and it leads to one past it. So a reader of the definition, which
-/// counts how many returns still want a call, need not trust its counter.
+/// What a return answers is a call, and it leads to one past it. So a reader of the definition,
+/// which counts how many returns still want a call, need not trust its counter.
 pub fn past_the_call()
     ensures call { AnswersACall }
     ensures address { PastTheCall }

@@ -1,5 +1,6 @@
 //! Whole reads and writes through watched devices.
-ghost use Rattle.std.specs.Prelude.{◌≡◌, ◌⊎◌, ◌↔◌, ◌+◌, ◌^◌, ◌<◌, ◌≤◌, ◌%◌, length, take, vec_len, IfOk, IfErr, IfSome, IsErrOf};
+ghost use Rattle.std.specs.Prelude.{◌≡◌, ◌⊎◌, ◌↔◌, ◌+◌, ◌^◌, ◌<◌, ◌≤◌, ◌%◌, length, take, vec_len};
+ghost use Rattle.std.specs.Prelude.{IfOk, IfErr, IfSome, IsErrOf};
 ghost use Rattle.dvg_code.specs.Words.{words_of};
 ghost use Rattle.dvg_io.specs.Watching.{TakesAtMost, Writes, device_of, failures_of};
 
@@ -25,7 +26,8 @@ pub fn read_up_to<A: Allocator, R: Read>(
     ensures short { IfOk result (λ read. vec_len read ≤ most + 1) }
     ensures took { TakesAtMost (most + 1)
         (R.remaining (device_of reader.old)) (R.remaining (device_of reader.new)) }
-    ensures fault { IfErr result (λ fault. (fault ≡ ToolFault.Reader) ⊎ (fault ≡ ToolFault.Memory)) }
+    ensures fault { IfErr result (λ fault. (fault ≡ ToolFault.Reader)
+        ⊎ (fault ≡ ToolFault.Memory)) }
     ensures reader { IsErrOf result ToolFault.Reader ↔ (failures_of reader.new ≡ 1) }
     ensures stops { failures_of reader.new ≤ 1 }
 {

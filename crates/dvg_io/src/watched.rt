@@ -62,7 +62,8 @@ impl<R: Read> Watched<R> {
     /// and the failure is counted.
     pub fn read(&mut self, buf: &mut [u8]) -> Result<usize, DeviceFailed>
         ensures bound { ReadsAtMost result buf.new }
-        ensures bytes { ReadConsumes (R.remaining (device_of self.old)) (R.remaining (device_of self.new))
+        ensures bytes { ReadConsumes (R.remaining (device_of self.old))
+            (R.remaining (device_of self.new))
             result buf.new }
         ensures counts { CountsErrors result (failures_of self.old) (failures_of self.new) }
     {
@@ -78,7 +79,8 @@ impl<W: Write> Watched<W> {
     /// went out, and the failure is counted.
     pub fn write(&mut self, part: &[u8]) -> Result<usize, DeviceFailed>
         ensures bound { WritesAtMost result part.now }
-        ensures bytes { WriteAppends (W.contents (device_of self.old)) (W.contents (device_of self.new))
+        ensures bytes { WriteAppends (W.contents (device_of self.old))
+            (W.contents (device_of self.new))
             result part.now }
         ensures some { IfOk result (λ count. 0 < length part.now → 0 < count) }
         ensures counts { CountsErrors result (failures_of self.old) (failures_of self.new) }

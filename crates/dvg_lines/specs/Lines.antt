@@ -1,5 +1,6 @@
 -- The lines that the engines write.
-use Rattle.std.specs.Prelude.{ℕ, ℤ, ◌+◌, ◌/◌, ◌%◌, Bool, true, cond, if◌then◌else◌, ◌==◌, length, List, [], ◌∷◌, ◌++◌, flat_map, map, nat_eq, codes}
+use Rattle.std.specs.Prelude.{ℕ, ℤ, ◌+◌, ◌/◌, ◌%◌, Bool, true, cond, if◌then◌else◌, ◌==◌, length, List, [], ◌∷◌, ◌++◌}
+use Rattle.std.specs.Prelude.{flat_map, map, nat_eq, codes}
 use Rattle.std.specs.Fmt.{decimal, signed_decimal, digit_glyph}
 use lib.Pointwise.{pointwise}
 use Rattle.dvg_code.specs.declared.instr.Instr.{Instr}
@@ -61,7 +62,8 @@ rom_line address words = codes "rom" ++ spaced (hex_3 address ∷ map hex_4 word
 
 -- a ROM line for each eight words, from an address on; fewer at the end have none
 abbrev pub rom_lines : ℕ → List ℕ → List ℕ
-rom_lines address (a ∷ b ∷ c ∷ d ∷ e ∷ f ∷ g ∷ h ∷ words) = rom_line address (a ∷ b ∷ c ∷ d ∷ e ∷ f ∷ g ∷ h ∷ []) ++ rom_lines (address + 8) words
+rom_lines address (a ∷ b ∷ c ∷ d ∷ e ∷ f ∷ g ∷ h ∷ words) = rom_line address (a ∷ b ∷ c ∷ d ∷ e ∷ f ∷ g ∷ h ∷ [])
+    ++ rom_lines (address + 8) words
 rom_lines address _ = []
 
 -- the line of a ROM's map; none where it has 2,048 bytes

@@ -12,11 +12,13 @@ use Rattle.dvg_lines.specs.declared.log_verdict.LogVerdict.{LogVerdict}
 abbrev pub finding_text : LogFinding → List ℕ
 finding_text NotTorn = codes "not torn:"
 finding_text NoRunDrew = codes "no run drew:"
-finding_text (Torn line address byte) = codes "torn at line" ++ spaced (decimal line ∷ []) ++ codes ":" ++ spaced (action_parts (Wrote address byte)) ++ 10 ∷ codes "so far:"
+finding_text (Torn line address byte) = codes "torn at line" ++ spaced (decimal line ∷ []) ++ codes ":"
+    ++ spaced (action_parts (Wrote address byte)) ++ 10 ∷ codes "so far:"
 
 -- how many runs began and ended by a HALT
 abbrev pub runs_text : LogCounts → List ℕ
-runs_text counts = spaced (decimal counts.runs ∷ []) ++ codes " runs," ++ spaced (decimal counts.halted ∷ []) ++ codes " halted,"
+runs_text counts = spaced (decimal counts.runs ∷ []) ++ codes " runs," ++ spaced (decimal counts.halted ∷ [])
+    ++ codes " halted,"
 
 -- how many bytes were written
 abbrev pub writes_text : LogCounts → List ℕ

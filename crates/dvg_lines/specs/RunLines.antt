@@ -12,7 +12,8 @@ beam_parts beam = codes "at" ∷ decimal beam.x ∷ decimal beam.y ∷ decimal b
 
 -- the line of an instruction that was run: as it is listed at its address, and the beam after it; 10 is LF
 abbrev pub instruction_line : ℕ → Instr → Bool → Beam → List ℕ
-instruction_line address instr canonical beam = hex_3 address ++ spaced (listed_parts instr canonical ++ beam_parts beam) ++ 10 ∷ []
+instruction_line address instr canonical beam = hex_3 address
+    ++ spaced (listed_parts instr canonical ++ beam_parts beam) ++ 10 ∷ []
 
 -- the line of a run that broke: the address of the fetch, and the fault's number
 abbrev pub broke_line : ℕ → GenFault → List ℕ

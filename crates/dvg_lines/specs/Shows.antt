@@ -5,7 +5,8 @@ use Rattle.dvg_gen.specs.Numbers.{fault_number}
 use Rattle.dvg_driver.specs.declared.action.Action.{Action}
 use Rattle.dvg_driver.specs.declared.action.Action.TheVariants.{Peek, Wrote, Read, Sent, Idle}
 use Rattle.dvg_log.specs.Entries.{Shown}
-use Rattle.dvg_log.specs.declared.entry.Entry.TheVariants.{Offered, Refused, Busy, Asked, NothingPublished, Acted, Started, NoStrobe, Low, Fetched, Done, Broke, Still, Cleared}
+use Rattle.dvg_log.specs.declared.entry.Entry.TheVariants.{Offered, Refused, Busy, Asked, NothingPublished, Acted}
+use Rattle.dvg_log.specs.declared.entry.Entry.TheVariants.{Started, NoStrobe, Low, Fetched, Done, Broke, Still, Cleared}
 use Rattle.dvg_lines.specs.Lines.{hex_2, hex_3, hex_4, spaced}
 use Rattle.dvg_lines.specs.Verdicts.{fault_parts}
 
@@ -37,7 +38,8 @@ entry_parts Cleared = codes "cleared" ∷ []
 
 -- the line of a stroke, positions in 1/512 units; 10 is LF
 abbrev pub stroke_line : Stroke → List ℕ
-stroke_line stroke = decimal stroke.x0 ++ spaced (decimal stroke.y0 ∷ decimal stroke.x1 ∷ decimal stroke.y1 ∷ decimal stroke.z ∷ []) ++ 10 ∷ []
+stroke_line stroke = decimal stroke.x0
+    ++ spaced (decimal stroke.y0 ∷ decimal stroke.x1 ∷ decimal stroke.y1 ∷ decimal stroke.z ∷ []) ++ 10 ∷ []
 
 -- the strokes of a finished run, in the order drawn, a line each
 abbrev pub strokes_of : Shown → List ℕ
@@ -50,7 +52,8 @@ entry_line number entry = decimal number ++ spaced (entry_parts entry) ++ 10 ∷
 
 -- the line of a picture: the event's number and how many strokes there are; none for another entry
 abbrev pub picture_line : ℕ → Shown → List ℕ
-picture_line number (Done address word drew) = codes "picture" ++ spaced (decimal number ∷ decimal (length drew) ∷ []) ++ 10 ∷ []
+picture_line number (Done address word drew) = codes "picture" ++ spaced (decimal number ∷ decimal (length drew) ∷ [])
+    ++ 10 ∷ []
 picture_line number _ = []
 
 -- the first line that is shown of an entry: with `all` of each, and else of finished runs alone

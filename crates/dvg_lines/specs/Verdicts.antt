@@ -4,7 +4,8 @@ use Rattle.dvg_frame.specs.declared.op.OpKind.{OpKind}
 use Rattle.dvg_frame.specs.declared.place.Place.{Place}
 use Rattle.dvg_frame.specs.declared.place.Place.TheVariants.{InFrame, InRom}
 use Rattle.dvg_frame.specs.declared.fault.FrameFault.{FrameFault}
-use Rattle.dvg_frame.specs.declared.fault.FrameFault.TheVariants.{Empty, NoLabs, TooLong, Target, RunsOff, OutOfRom, TooDeep, NoCaller, Loops}
+use Rattle.dvg_frame.specs.declared.fault.FrameFault.TheVariants.{Empty, NoLabs, TooLong, Target, RunsOff, OutOfRom}
+use Rattle.dvg_frame.specs.declared.fault.FrameFault.TheVariants.{TooDeep, NoCaller, Loops}
 use Rattle.dvg_frame.specs.Layout.{size}
 use Rattle.dvg_frame.specs.Faults.{Accepts, Refuses}
 use Rattle.dvg_frame.specs.Picture.{IsBound}

@@ -1,5 +1,6 @@
-//! Lines that the program `dvg` writes, in memory: of instructions, ROMs, verdicts, entries, runs and strokes (all formats
-//! are this project's own choice). A line is written without taking memory.
+//! Lines that the program `dvg` writes, in memory: of instructions, ROMs, verdicts, entries, runs
+//! and strokes (all formats are this project's own choice). A line is written without taking
+//! memory.
 #![tactic(auto)]
 
 mod line;

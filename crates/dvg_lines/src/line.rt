@@ -1,7 +1,9 @@
 //! Lines of output, made without taking memory.
-ghost use Rattle.std.specs.Prelude.{◌≡◌, ◌≤◌, ◌<◌, ◌+◌, ◌++◌, ◌∷◌, [], List, ℕ, length, codes, decimal, true};
+ghost use Rattle.std.specs.Prelude.{◌≡◌, ◌≤◌, ◌<◌, ◌+◌, ◌++◌, ◌∷◌, [], List, ℕ, length, codes};
+ghost use Rattle.std.specs.Prelude.{decimal, true};
 ghost use Rattle.std.specs.Fmt.{digit_glyph};
-ghost use Rattle.dvg_lines.specs.Lines.{hex_2, hex_3, hex_4, instr_parts, line_text, listed_parts, rom_line, spaced, vector_parts};
+ghost use Rattle.dvg_lines.specs.Lines.{hex_2, hex_3, hex_4, instr_parts, line_text, listed_parts};
+ghost use Rattle.dvg_lines.specs.Lines.{rom_line, spaced, vector_parts};
 ghost use Rattle.dvg_lines.specs.Verdicts.{bounded_line, fault_parts, place_parts, verdict_line};
 
 use crate::verdict::{BoundedVerdict, Verdict};
@@ -149,7 +151,8 @@ impl Line {
     // Appends the name of a LABS and its numbers.
     fn labs(&mut self, x: u16, y: u16, scale: u8)
         requires { length self.old + 21 ≤ 64 }
-        ensures text { self.new ≡ self.old ++ spaced (codes "LABS" ∷ decimal x ∷ decimal y ∷ decimal scale ∷ []) }
+        ensures text { self.new ≡ self.old
+            ++ spaced (codes "LABS" ∷ decimal x ∷ decimal y ∷ decimal scale ∷ []) }
         ensures grew { length self.new ≤ length self.old + 21 }
     {
         self.part(b"LABS");
@@ -242,7 +245,8 @@ impl Line {
         }
     }
 
-    // Becomes the place of an instruction, its name and operands, and a star where its words aren't canonical.
+    // Becomes the place of an instruction, its name and operands, and a star where its words aren't
+    // canonical.
     pub(crate) fn become_placed(&mut self, place: usize, code: &Code, canonical: bool)
         ensures text { self.new ≡ hex_3 place ++ spaced (listed_parts code.now canonical) }
         ensures short { length self.new ≤ 32 }
@@ -255,8 +259,8 @@ impl Line {
         }
     }
 
-    /// Becomes the line that `list` writes of an instruction at a place, of words that are canonical or
-    /// not.
+    /// Becomes the line that `list` writes of an instruction at a place, of words that are
+    /// canonical or not.
     pub fn become_listed(&mut self, place: usize, code: &Code, canonical: bool)
         ensures { self.new ≡ line_text place code.now canonical }
     {

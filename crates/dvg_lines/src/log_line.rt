@@ -85,9 +85,11 @@ impl Line {
         self.text(b"\n");
     }
 
-    /// Becomes the line of a picture of so many strokes, by the number of the event that finished it.
+    /// Becomes the line of a picture of so many strokes, by the number of the event that finished
+    /// it.
     pub fn become_picture(&mut self, number: usize, strokes: usize)
-        ensures { self.new ≡ codes "picture" ++ spaced (decimal number ∷ decimal strokes ∷ []) ++ 10 ∷ [] }
+        ensures { self.new ≡ codes "picture" ++ spaced (decimal number ∷ decimal strokes ∷ [])
+            ++ 10 ∷ [] }
     {
         self.clear();
         self.text(b"picture");

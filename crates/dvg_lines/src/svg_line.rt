@@ -72,9 +72,9 @@ impl Line {
         }
     }
 
-    /// Becomes the line of a stroke in an SVG whose unit is 1/512 of a screen unit: a path from where it
-    /// begins, from -2,048 to 2,047 screen units, the shorter way to where it ends; and its intensity
-    /// as an opacity from 0.30 to 1 (this project's own choice).
+    /// Becomes the line of a stroke in an SVG whose unit is 1/512 of a screen unit: a path from
+    /// where it begins, from -2,048 to 2,047 screen units, the shorter way to where it ends; and
+    /// its intensity as an opacity from 0.30 to 1 (this project's own choice).
     pub fn become_path(&mut self, stroke: Stroke)
         ensures { self.new ≡ path_line stroke }
     {

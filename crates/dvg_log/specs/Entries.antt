@@ -6,7 +6,8 @@ use Rattle.dvg_gen.specs.declared.taken.GenFault.TheVariants.{Hole}
 use Rattle.dvg_gen.specs.declared.taken.Taken.{Taken}
 use Rattle.dvg_gen.specs.declared.taken.Taken.TheVariants as taken
 use Rattle.dvg_log.specs.declared.entry.Entry.{Entry}
-use Rattle.dvg_log.specs.declared.entry.Entry.TheVariants.{Offered, Refused, Busy, Asked, NothingPublished, Acted, Started, NoStrobe, Low, Fetched, Done, Broke, Still, Cleared}
+use Rattle.dvg_log.specs.declared.entry.Entry.TheVariants.{Offered, Refused, Busy, Asked, NothingPublished, Acted}
+use Rattle.dvg_log.specs.declared.entry.Entry.TheVariants.{Started, NoStrobe, Low, Fetched, Done, Broke, Still, Cleared}
 
 -- the same entry, with f of what the run drew
 abbrev pub map_entry : {S T : Type 0} → (S → T) → Entry S → Entry T

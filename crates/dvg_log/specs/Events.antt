@@ -4,7 +4,8 @@ use Rattle.dvg_mem.specs.Memory.{IsImage}
 use Rattle.dvg_frame.specs.declared.op.OpKind.{OpKind}
 use Rattle.dvg_frame.specs.Ops.{IsDraft}
 use Rattle.dvg_log.specs.declared.event.Event.{Event}
-use Rattle.dvg_log.specs.declared.event.Event.TheVariants.{Offer, Redraw, Tick, Strobe, Fetch, ResetGen, ResetCpu, ResetAll}
+use Rattle.dvg_log.specs.declared.event.Event.TheVariants.{Offer, Redraw, Tick, Strobe, Fetch, ResetGen, ResetCpu}
+use Rattle.dvg_log.specs.declared.event.Event.TheVariants.{ResetAll}
 
 -- the same event, with f of its draft and g of its image
 abbrev pub map_event : {D I E J : Type 0} → (D → E) → (I → J) → Event D I → Event E J

@@ -1,5 +1,6 @@
 -- What every legal log shows.
-use Rattle.std.specs.Prelude.{◌≡◌, ℕ, suc, ◌+◌, ◌*◌, ◌/◌, ◌^◌, ◌≤◌, ◌<◌, true, List, [], ◌∷◌, length, Option, Some, None}
+use Rattle.std.specs.Prelude.{◌≡◌, ℕ, suc, ◌+◌, ◌*◌, ◌/◌, ◌^◌, ◌≤◌, ◌<◌, true, List, [], ◌∷◌, length, Option, Some}
+use Rattle.std.specs.Prelude.{None}
 use Rattle.dvg_mem.specs.declared.half.Half.{Half}
 use Rattle.dvg_mem.specs.Areas.{IsInHalf}
 use Rattle.dvg_gen.specs.declared.stroke.Stroke.{Stroke}
@@ -14,7 +15,8 @@ use Rattle.dvg_log.specs.declared.event.Event.TheVariants.{Fetch}
 use Rattle.dvg_log.specs.Entries.{Shown}
 use Rattle.dvg_log.specs.declared.entry.Entry.TheVariants.{Acted, Started, Done, Broke}
 use Rattle.dvg_log.specs.Held.{HoldsDraft, HoldsFrame}
-use Rattle.dvg_log.specs.Log.{◌⟼◌, Log, Throughout, ram, low_byte, open_run, IsBeingDrawn, published, publication, has_fetched, at_zero}
+use Rattle.dvg_log.specs.Log.{◌⟼◌, Log, Throughout, ram, low_byte, open_run, IsBeingDrawn, published, publication}
+use Rattle.dvg_log.specs.Log.{has_fetched, at_zero}
 use Rattle.dvg_log.specs.Legal.{IsLegal}
 
 -- a byte that is written isn't in a half being drawn
@@ -52,7 +54,8 @@ IsNoLater n log event entry = Unit {0}
 
 -- a run that reaches HALT shows no publication older than one that was shown before
 abbrev pub IsNoOlder : Log → Happening → Shown → Type 0
-IsNoOlder log event (Done address word drew) = (n : ℕ) → publication (at_zero log) ≡ Some n → Throughout (IsNoLater n) log
+IsNoOlder log event (Done address word drew) = (n : ℕ) → publication (at_zero log) ≡ Some n
+    → Throughout (IsNoLater n) log
 IsNoOlder log event entry = Unit {0}
 
 -- how many bytes the open run has fetched: two a word, and the low byte that waits
@@ -60,16 +63,19 @@ abbrev pub fetch_count : List (ℕ × ℕ) → Option ℕ → ℕ
 fetch_count words None = 2 * length words
 fetch_count words (Some low) = 2 * length words + 1
 
--- a fetch of this number, in a run whose picture has n words: the run goes on, or it is the last one and drew the picture
+-- a fetch of this number, in a run whose picture has n words: the run goes on, or it is the last one and drew the
+-- picture
 abbrev pub EndsAt : ℕ → List Stroke → ℕ → Shown → Type 0
 EndsAt number drew n (Done address word strokes) = (number ≡ 2 * n) × (strokes ≡ drew)
 EndsAt number drew n (Broke address fault) = ⊥
 EndsAt number drew n entry = number < 2 * n
 
--- what the open run shows has a picture, of n words, and the run's fetch number 2n is the one that finishes it, with the picture's strokes
+-- what the open run shows has a picture, of n words, and the run's fetch number 2n is the one that finishes it, with
+-- the picture's strokes
 abbrev pub KeepsTime : List ℕ → Log → Happening → Shown → Type 0
 KeepsTime R log Fetch entry = (words : List (ℕ × ℕ)) (F : List OpKind) → open_run log ≡ Some words → IsShown log F
-    → (drew : List Stroke) × (n : ℕ) × IsPicture F R drew n × (n < 2 ^ 63) × EndsAt (suc (fetch_count words (low_byte log))) drew n entry
+    → (drew : List Stroke) × (n : ℕ) × IsPicture F R drew n × (n < 2 ^ 63)
+    × EndsAt (suc (fetch_count words (low_byte log))) drew n entry
 KeepsTime R log event entry = Unit {0}
 
 -- no byte was written since the newest run began
@@ -79,9 +85,11 @@ IsUntouched ((event ⟼ Started) ∷ log) = Unit {0}
 IsUntouched ((event ⟼ Acted (Wrote a byte)) ∷ log) = ⊥
 IsUntouched (line ∷ log) = IsUntouched log
 
--- where the RAM holds a checked frame with the jump to it, and has done so since the run began, a run that reaches HALT drew the picture of the frame's draft, in as many words
+-- where the RAM holds a checked frame with the jump to it, and has done so since the run began, a run that reaches HALT
+-- drew the picture of the frame's draft, in as many words
 abbrev pub DrewHeld : List ℕ → List ℕ → Log → Happening → Shown → Type 0
-DrewHeld R image log event (Done address word drew) = (half : Half) (F : List OpKind) (fetches : List (ℕ × ℕ)) → IsDraft F → Closed F R → HoldsFrame (ram image log) half F → IsUntouched log
+DrewHeld R image log event (Done address word drew) = (half : Half) (F : List OpKind) (fetches : List (ℕ × ℕ))
+    → IsDraft F → Closed F R → HoldsFrame (ram image log) half F → IsUntouched log
     → open_run log ≡ Some fetches → IsPicture F R drew (suc (length fetches))
 DrewHeld R image log event entry = Unit {0}
 
@@ -106,11 +114,13 @@ pub record KeepsHeadline (R image : List ℕ) (log : Log) (event : Happening) (e
   pub never_older : IsNoOlder log event entry
   -- what a run shows has a picture, at whose last fetch the run is finished: after two bytes for each of its words
   pub always_in_time : KeepsTime R log event entry
-  -- a run that reaches HALT, during which nothing was written and the RAM held a checked frame, drew that frame's picture
+  -- a run that reaches HALT, during which nothing was written and the RAM held a checked frame, drew that frame's
+  -- picture
   pub draws_undisturbed : DrewHeld R image log event entry
   -- after the line, an open run that has fetched word zero is drawing a half, which holds the draft that the run shows
   pub draws_a_half : has_fetched (open_run ((event ⟼ entry) ∷ log)) ≡ true → DrawsHalf R image ((event ⟼ entry) ∷ log)
 
 -- a run that has fetched word zero is drawing a half, which holds the draft that the run shows
 abbrev pub DrawsAHalf : Type 0
-DrawsAHalf = (R image : List ℕ) (log : Log) → IsLegal R image log → has_fetched (open_run log) ≡ true → DrawsHalf R image log
+DrawsAHalf = (R image : List ℕ) (log : Log) → IsLegal R image log → has_fetched (open_run log) ≡ true
+    → DrawsHalf R image log

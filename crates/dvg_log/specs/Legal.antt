@@ -7,9 +7,11 @@ use Rattle.dvg_frame.specs.Faults.{Refuses, Accepts}
 use Rattle.dvg_driver.specs.Script.{Did, IsWhole, IsLife, has_flip}
 use Rattle.dvg_driver.specs.Stands.{Tells}
 use Rattle.dvg_log.specs.Events.{Happening, IsEvent}
-use Rattle.dvg_log.specs.declared.event.Event.TheVariants.{Offer, Redraw, Tick, Strobe, Fetch, ResetGen, ResetCpu, ResetAll}
+use Rattle.dvg_log.specs.declared.event.Event.TheVariants.{Offer, Redraw, Tick, Strobe, Fetch, ResetGen, ResetCpu}
+use Rattle.dvg_log.specs.declared.event.Event.TheVariants.{ResetAll}
 use Rattle.dvg_log.specs.Entries.{Shown}
-use Rattle.dvg_log.specs.declared.entry.Entry.TheVariants.{Offered, Refused, Busy, Asked, NothingPublished, Acted, Started, NoStrobe, Low, Fetched, Done, Broke, Still, Cleared}
+use Rattle.dvg_log.specs.declared.entry.Entry.TheVariants.{Offered, Refused, Busy, Asked, NothingPublished, Acted}
+use Rattle.dvg_log.specs.declared.entry.Entry.TheVariants.{Started, NoStrobe, Low, Fetched, Done, Broke, Still, Cleared}
 use Rattle.dvg_log.specs.Log.{◌⟼◌, Log, events_of, Throughout, meets, history, open_run, life, strobed}
 
 -- after this history the next word is that at this address
@@ -27,7 +29,8 @@ pub record IsFetch (before : List Told) (address : ℕ) (word : Option ℕ) (ans
 
 -- the event gets this entry over the log before it
 abbrev pub Fits : List ℕ → List ℕ → Log → Happening → Shown → Type 0
--- a draft that the check refuses is refused for the fault that is picked, one that it accepts while the driver isn't idle
+-- a draft that the check refuses is refused for the fault that is picked, one that it accepts while the driver isn't
+-- idle
 Fits R image log (Offer F) (Refused fault) = Refuses F R fault
 Fits R image log (Offer F) Busy = Accepts F R × ¬ IsWhole (life image log)
 Fits R image log (Offer F) Offered = Accepts F R × IsWhole (life image log)
@@ -39,12 +42,17 @@ Fits R image log Redraw Asked = (has_flip (life image log) ≡ true) × IsWhole 
 Fits R image log Tick (Acted action) = IsLife (Did action ∷ life image log) × Tells action (is_none (open_run log))
 Fits R image log Strobe Started = strobed log ≡ true
 Fits R image log Strobe NoStrobe = strobed log ≡ false
--- a fetch is of the address that is wanted: a low byte waits; a whole word goes on with the run, finishes it or breaks it, as a hole does
+-- a fetch is of the address that is wanted: a low byte waits; a whole word goes on with the run, finishes it or breaks
+-- it, as a hole does
 Fits R image log Fetch Still = open_run log ≡ None
-Fits R image log Fetch (Low address byte) = (meets R image log address ≡ Waits byte) × IsWanted (history R image log) address
-Fits R image log Fetch (Fetched address word) = (meets R image log address ≡ Whole (Some word)) × IsFetch (history R image log) address (Some word) More
-Fits R image log Fetch (Done address word strokes) = (meets R image log address ≡ Whole (Some word)) × IsFetch (history R image log) address (Some word) (Drew strokes)
-Fits R image log Fetch (Broke address fault) = (word : Option ℕ) × (meets R image log address ≡ Whole word) × IsFetch (history R image log) address word (Fails fault)
+Fits R image log Fetch (Low address byte) = (meets R image log address ≡ Waits byte)
+    × IsWanted (history R image log) address
+Fits R image log Fetch (Fetched address word) = (meets R image log address ≡ Whole (Some word))
+    × IsFetch (history R image log) address (Some word) More
+Fits R image log Fetch (Done address word strokes) = (meets R image log address ≡ Whole (Some word))
+    × IsFetch (history R image log) address (Some word) (Drew strokes)
+Fits R image log Fetch (Broke address fault) = (word : Option ℕ) × (meets R image log address ≡ Whole word)
+    × IsFetch (history R image log) address word (Fails fault)
 Fits R image log ResetGen Cleared = Unit {0}
 Fits R image log ResetCpu Cleared = Unit {0}
 Fits R image log (ResetAll bytes) Cleared = Unit {0}
@@ -61,4 +69,5 @@ Always P = (R image : List ℕ) (log : Log) → IsLegal R image log → Througho
 
 -- a list of events has one legal log at most
 abbrev pub SameLog : Type 0
-SameLog = (R image : List ℕ) (one other : Log) → IsLegal R image one → IsLegal R image other → events_of one ≡ events_of other → one ≡ other
+SameLog = (R image : List ℕ) (one other : Log) → IsLegal R image one → IsLegal R image other
+    → events_of one ≡ events_of other → one ≡ other

@@ -1,5 +1,6 @@
 -- Logs, and what they tell: memory, runs, lives of the driver, what is published and what is drawn.
-use Rattle.std.specs.Prelude.{◌≡◌, ◌+◌, ◌==◌, ℕ, Bool, true, false, List, [], ◌∷◌, ◌++◌, length, slice_index, slice_set, if◌then◌else◌, Option, Some, None, is_some, option_and_then, option_map}
+use Rattle.std.specs.Prelude.{◌≡◌, ◌+◌, ◌==◌, ℕ, Bool, true, false, List, [], ◌∷◌, ◌++◌, length, slice_index, slice_set}
+use Rattle.std.specs.Prelude.{if◌then◌else◌, Option, Some, None, is_some, option_and_then, option_map}
 use Rattle.dvg_mem.specs.declared.half.Half.{Half}
 use Rattle.dvg_mem.specs.Areas.{IsInHalf, half_of_high, other}
 use Rattle.dvg_mem.specs.Memory.{fetched_byte}
@@ -56,7 +57,8 @@ waiting (line ∷ log) = waiting log
 abbrev pub low_byte : Log → Option ℕ
 low_byte log = option_map (λ low. low.1) (waiting log)
 
--- what a fetch at this address meets now: it reads the word's high byte behind a low byte that waits, and else its low one
+-- what a fetch at this address meets now: it reads the word's high byte behind a low byte that waits, and else its low
+-- one
 abbrev pub meets : List ℕ → List ℕ → Log → ℕ → Met
 meets R image log address = met (low_byte log) (fetched_byte (ram image log) R address (is_some (low_byte log)))
 

@@ -8,9 +8,11 @@ use Rattle.dvg_log.specs.Entries.{Shown}
 use Rattle.dvg_log.specs.declared.entry.Entry.TheVariants.{Acted}
 use Rattle.dvg_log.specs.Log.{◌⟼◌, Log, Throughout, IsBeingDrawn}
 
--- a byte is written in the half that the open run draws; a reset of the generator, or of the whole system, has ended the run before its own entry counts
+-- a byte is written in the half that the open run draws; a reset of the generator, or of the whole system, has ended
+-- the run before its own entry counts
 abbrev pub IsTorn : Log → Happening → Shown → Type 0
-IsTorn log event (Acted (Wrote a byte)) = (half : Half) × IsBeingDrawn ((event ⟼ Acted (Wrote a byte)) ∷ log) half × IsInHalf half (a / 2)
+IsTorn log event (Acted (Wrote a byte)) = (half : Half) × IsBeingDrawn ((event ⟼ Acted (Wrote a byte)) ∷ log) half
+    × IsInHalf half (a / 2)
 IsTorn log event entry = ⊥
 
 -- the line isn't torn

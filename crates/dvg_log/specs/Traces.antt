@@ -12,7 +12,8 @@ Step = Event (ℕ × ℕ) ℕ
 
 -- the event of a step, by the operations of all offers and the images of all resets
 abbrev pub step_event : List OpKind → List (List ℕ) → Step → Happening
-step_event ops images step = map_event (λ range. slice_range ops range.0 (range.0 + range.1)) (λ number. get_or images number []) step
+step_event ops images step = map_event (λ range. slice_range ops range.0 (range.0 + range.1))
+    (λ number. get_or images number []) step
 
 -- the events of steps
 abbrev pub step_events : List Step → List OpKind → List (List ℕ) → List Happening

@@ -27,15 +27,16 @@ pub enum Entry<S = Vec<Stroke>> {
     Acted(Action),
     /// The strobe began a run, at word zero. A run that was open is abandoned.
     Started,
-    /// The strobe had no effect: the driver hasn't sent one since the last reset of the whole system, or
-    /// the beginning.
+    /// The strobe had no effect: the driver hasn't sent one since the last reset of the whole
+    /// system, or the beginning.
     NoStrobe,
     /// The generator fetched the low byte of the word at this word address.
     Low(u16, u8),
-    /// The generator fetched the high byte at this word address. This is the word, and its run goes on.
+    /// The generator fetched the high byte at this word address. This is the word, and its run goes
+    /// on.
     Fetched(u16, u16),
-    /// The generator fetched the high byte at this word address. This is the word, a HALT. Its run is
-    /// finished, and drew these strokes, in this order.
+    /// The generator fetched the high byte at this word address. This is the word, a HALT. Its run
+    /// is finished, and drew these strokes, in this order.
     Done(u16, u16, S),
     /// The fetch at this word address broke the run.
     Broke(u16, GenFault),
@@ -49,8 +50,8 @@ pub enum Entry<S = Vec<Stroke>> {
 pub type OwnEntry<A = Global> = Entry<Vec<Stroke, A>>;
 
 impl<A: Allocator> Entry<Vec<Stroke, A>> {
-    /// The entry of a fetch at this word address, of a byte behind this low one, or of a hole, by what the generator
-    /// answers to it.
+    /// The entry of a fetch at this word address, of a byte behind this low one, or of a hole, by
+    /// what the generator answers to it.
     pub fn of_fetch(address: u16, low: Option<u8>, byte: Option<u8>, taken: Taken<A>) -> OwnEntry<A>
         ensures { shown_of result ≡ entry_by address (met low byte) taken }
     {

@@ -3,8 +3,8 @@ use dvg_frame::{Draft, Op};
 use dvg_mem::Image;
 use std::alloc::Global;
 
-/// One thing that happens. Events come in any order and number: a strobe that is sent and never given as
-/// an event is a lost one, and one that is given again is a repeated one.
+/// One thing that happens. Events come in any order and number: a strobe that is sent and never
+/// given as an event is a lost one, and one that is given again is a repeated one.
 ///
 /// `D` is what an offer brings, and `I` what a reset of the whole system does.
 #[derive(Clone, Copy, Debug, PartialEq, Eq, Drop)]
@@ -15,18 +15,19 @@ pub enum Event<D = Box<Draft>, I = Image> {
     Redraw,
     /// The driver does one action.
     Tick,
-    /// A start strobe reaches the generator. It has no effect unless the driver sent one since the last
-    /// reset of the whole system, or the beginning.
+    /// A start strobe reaches the generator. It has no effect unless the driver sent one since the
+    /// last reset of the whole system, or the beginning.
     Strobe,
-    /// The generator fetches one byte: the low byte of a word, or the high byte of the word whose low byte it
-    /// fetched before (this project's own choice).
+    /// The generator fetches one byte: the low byte of a word, or the high byte of the word whose
+    /// low byte it fetched before (this project's own choice).
     Fetch,
     /// A reset of the generator alone: its run is abandoned.
     ResetGen,
-    /// A reset of the processor alone: the driver forgets everything. RAM, generator and strobes under way
-    /// stay as they are.
+    /// A reset of the processor alone: the driver forgets everything. RAM, generator and strobes
+    /// under way stay as they are.
     ResetCpu,
-    /// A reset of the whole system: both of them, strobes under way end, and the RAM holds these bytes.
+    /// A reset of the whole system: both of them, strobes under way end, and the RAM holds these
+    /// bytes.
     ResetAll(I),
 }
 

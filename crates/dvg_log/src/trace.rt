@@ -1,5 +1,6 @@
 //! Lists of events that take little room.
-ghost use Rattle.std.specs.Prelude.{◌≡◌, ◌+◌, ◌<◌, ◌≤◌, ◌↔◌, ◌++◌, ◌∷◌, [], List, Some, length, slice_get, vec_capacity, vec_len, IsTrue, OnErr, OnOk};
+ghost use Rattle.std.specs.Prelude.{◌≡◌, ◌+◌, ◌<◌, ◌≤◌, ◌↔◌, ◌++◌, ◌∷◌, [], List, Some, length};
+ghost use Rattle.std.specs.Prelude.{slice_get, vec_capacity, vec_len, IsTrue, OnErr, OnOk};
 ghost use Rattle.dvg_log.specs.Events.{Happening, happening_of};
 ghost use Rattle.dvg_log.specs.declared.event.Event.TheVariants.{Offer, ResetAll};
 ghost use Rattle.dvg_log.specs.Traces.{FitsInDraft, step_events, seen_as};
@@ -15,9 +16,10 @@ use std::marker::Model;
 /// The most events of a trace (this project's own choice).
 pub const MOST_EVENTS: usize = 65_536;
 
-/// Events in order, at most 65,536 of them, in little room: the operations of all its offers lie in one list, so
-/// an offer takes what its own operations want, where a `Draft` has room for 511. The images of its resets lie in
-/// another, and an event that is pushed again has the operations or the image of the one before.
+/// Events in order, at most 65,536 of them, in little room: the operations of all its offers lie in
+/// one list, so an offer takes what its own operations want, where a `Draft` has room for 511. The
+/// images of its resets lie in another, and an event that is pushed again has the operations or the
+/// image of the one before.
 #[derive(Drop)]
 pub struct Trace<A: Allocator = Global> {
     steps: Vec<Step, A>,
@@ -36,8 +38,8 @@ impl<A: Allocator> Model for Trace<A> {
     ghost invariant = { λ trace. IsTrace trace.steps.items trace.ops.items trace.images.items };
 }
 
-/// An event of a trace: an offer has the number of its first operation among those of all offers, and how many it
-/// has, and a reset of the whole system the number of its image among all.
+/// An event of a trace: an offer has the number of its first operation among those of all offers,
+/// and how many it has, and a reset of the whole system the number of its image among all.
 pub(crate) type Step = Event<(u32, u16), u32>;
 
 impl<A: Allocator + Copy> Trace<A> {
@@ -90,7 +92,8 @@ impl<A: Allocator> Trace<A> {
         }
     }
 
-    /// Adds an event at the end of fewer than 65,536. An error is want of memory, and then nothing has changed.
+    /// Adds an event at the end of fewer than 65,536. An error is want of memory, and then nothing
+    /// has changed.
     pub fn push(&mut self, event: OwnEvent<A>) -> Result<(), OutOfMemory>
         requires { length self.old < 65536 }
         ensures pushed { OnOk result (self.new ≡ self.old ++ happening_of event ∷ []) }
@@ -110,8 +113,8 @@ impl<A: Allocator> Trace<A> {
         Ok(())
     }
 
-    /// Adds an offer of a draft, which is copied, at the end of fewer than 65,536 events. An error is want of
-    /// memory, and then nothing has changed.
+    /// Adds an offer of a draft, which is copied, at the end of fewer than 65,536 events. An error
+    /// is want of memory, and then nothing has changed.
     pub fn push_offer(&mut self, draft: &Draft) -> Result<(), OutOfMemory>
         requires { length self.old < 65536 }
         ensures pushed { OnOk result (self.new ≡ self.old ++ Offer draft.now ∷ []) }
@@ -126,8 +129,9 @@ impl<A: Allocator> Trace<A> {
         Ok(())
     }
 
-    /// Adds the event of this number, counted from 0, once more at the end of fewer than 65,536 events. Its draft or
-    /// image isn't copied. An error is want of memory, and then nothing has changed.
+    /// Adds the event of this number, counted from 0, once more at the end of fewer than 65,536
+    /// events. Its draft or image isn't copied. An error is want of memory, and then nothing has
+    /// changed.
     pub fn push_again(&mut self, number: usize) -> Result<(), OutOfMemory>
         requires inside { number < length self.old }
         requires room { length self.old < 65536 }

@@ -29,7 +29,13 @@ fetches _ = false
 
 -- how many lines of a log tell each of these
 abbrev pub counts_of : Log → LogCounts
-counts_of log = record { runs = count_by begins log; halted = count_by halts log; writes = count_by writes log; words = count_by fetches log }
+counts_of log = record {
+  runs = count_by begins log;
+  halted = count_by halts log;
+  writes = count_by writes log;
+  words =
+      count_by fetches log;
+}
 
 -- no run began and a byte was written, or runs began and no word was fetched
 abbrev pub no_run_drew : LogCounts → Bool

@@ -15,7 +15,8 @@ OneLogFault = (text : List ℕ) (n m : ℕ) → HasLogFault text (Syntax n) → 
 
 -- of a text that has such a line no verdict is given
 abbrev pub NoVerdictBesideFault : Type 0
-NoVerdictBesideFault = (text : List ℕ) (verdict : LogVerdict) (n : ℕ) → JudgesLog text verdict → ¬ HasLogFault text (Syntax n)
+NoVerdictBesideFault = (text : List ℕ) (verdict : LogVerdict) (n : ℕ) → JudgesLog text verdict
+    → ¬ HasLogFault text (Syntax n)
 
 -- of a text a verdict is given, or it has a fault
 abbrev pub IsJudged : List ℕ → Type 0

@@ -7,19 +7,24 @@ use Rattle.dvg_log.specs.declared.event.Event.TheVariants.{Tick, Strobe, Fetch, 
 use Rattle.dvg_log.specs.Log.{◌⟼◌, Line, Log}
 use Rattle.dvg_text.specs.Texts.{IsHex, is_passed, parts}
 
--- the parts of a line that tells this line of a log; a byte is written in the RAM; of a HALT no word, address or stroke is told: for these stand 0 and none
+-- the parts of a line that tells this line of a log; a byte is written in the RAM; of a HALT no word, address or stroke
+-- is told: for these stand 0 and none
 pub data LogRow : Line → List (List ℕ) → Type 0 where
   started : LogRow (Strobe ⟼ Started) (codes "started" ∷ [])
-  fetched : {a word : ℕ} {address digits : List ℕ} → IsHex 3 a address → IsHex 4 word digits → LogRow (Fetch ⟼ Fetched a word) (codes "fetched" ∷ address ∷ digits ∷ [])
-  low : {a byte : ℕ} {address digits : List ℕ} → IsHex 3 a address → IsHex 2 byte digits → LogRow (Fetch ⟼ Low a byte) (codes "low" ∷ address ∷ digits ∷ [])
-  wrote : {a byte : ℕ} {address digits : List ℕ} → a < 0x800 → IsHex 3 a address → IsHex 2 byte digits → LogRow (Tick ⟼ Acted (Wrote a byte)) (codes "wrote" ∷ address ∷ digits ∷ [])
+  fetched : {a word : ℕ} {address digits : List ℕ} → IsHex 3 a address → IsHex 4 word digits
+      → LogRow (Fetch ⟼ Fetched a word) (codes "fetched" ∷ address ∷ digits ∷ [])
+  low : {a byte : ℕ} {address digits : List ℕ} → IsHex 3 a address → IsHex 2 byte digits
+      → LogRow (Fetch ⟼ Low a byte) (codes "low" ∷ address ∷ digits ∷ [])
+  wrote : {a byte : ℕ} {address digits : List ℕ} → a < 0x800 → IsHex 3 a address → IsHex 2 byte digits
+      → LogRow (Tick ⟼ Acted (Wrote a byte)) (codes "wrote" ∷ address ∷ digits ∷ [])
   halted : LogRow (Fetch ⟼ Done 0 0 []) (codes "halted" ∷ [])
   reset : LogRow (ResetGen ⟼ Cleared) (codes "reset" ∷ [])
 
 -- a line of at most 64 bytes tells what its parts do, or is passed over, which is as much as an idle tick
 pub data Tells : Line → List ℕ → Type 0 where
   passed : {text : List ℕ} → length text ≤ 64 → is_passed text ≡ true → Tells (Tick ⟼ Acted Idle) text
-  told : {line : Line} {text : List ℕ} → length text ≤ 64 → is_passed text ≡ false → LogRow line (parts text) → Tells line text
+  told : {line : Line} {text : List ℕ} → length text ≤ 64 → is_passed text ≡ false → LogRow line (parts text)
+      → Tells line text
 
 -- these lines of text tell this log, a line each
 abbrev pub IsLogOf : Log → List (List ℕ) → Type 0

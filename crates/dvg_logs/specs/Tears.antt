@@ -12,11 +12,13 @@ use Rattle.dvg_io.specs.declared.fault.ToolFault.TheVariants.{Text, Reader, Writ
 use Rattle.dvg_io.specs.Watching.{BeginsToWrite, TakesAtMost}
 use Rattle.dvg_logs.specs.LogTexts.{HasLogFault, JudgesLog}
 
--- what `torn` answers of an input, and what went out: the verdict's text, or at `Writer` a beginning of it (that nothing went out at the others is a clause of its own)
+-- what `torn` answers of an input, and what went out: the verdict's text, or at `Writer` a beginning of it (that
+-- nothing went out at the others is a clause of its own)
 abbrev pub Tears : Result LogVerdict ToolFault → (input : List ℕ) → Option (List ℕ) → Option (List ℕ) → Type 0
 Tears (Ok verdict) input old new = JudgesLog input verdict × Appends old new (log_verdict_text verdict)
 Tears (Err (Text fault)) input old new = HasLogFault input fault
-Tears (Err Writer) input old new = (verdict : LogVerdict) × JudgesLog input verdict × BeginsToWrite (log_verdict_text verdict) old new
+Tears (Err Writer) input old new = (verdict : LogVerdict) × JudgesLog input verdict
+    × BeginsToWrite (log_verdict_text verdict) old new
 Tears (Err Reader) input old new = Unit {0}
 Tears (Err Memory) input old new = ⊥
 
@@ -24,7 +26,8 @@ Tears (Err Memory) input old new = ⊥
 abbrev pub ended : List (List ℕ) → List ℕ
 ended = flat_map (λ line. line ++ 10 ∷ [])
 
--- of an input no more was taken than the lines before line n and 32,832 bytes: an unfinished line of at most 64, and a piece of at most 32,768
+-- of an input no more was taken than the lines before line n and 32,832 bytes: an unfinished line of at most 64, and a
+-- piece of at most 32,768
 abbrev pub TakesUpTo : ℕ → (input : List ℕ) → Option (List ℕ) → Option (List ℕ) → Type 0
 TakesUpTo n input old new = TakesAtMost (length (ended (take (n - 1) (lines input))) + 32832) old new
 
@@ -39,5 +42,6 @@ abbrev pub Takes : Result LogVerdict ToolFault → (input : List ℕ) → Option
 Takes (Ok verdict) input old new = TakesFor verdict.finding input old new
 Takes (Err (Text (Syntax n))) input old new = TakesUpTo n input old new
 Takes (Err (Text _)) input old new = TakesUpTo (2 ^ 64) input old new
-Takes (Err Writer) input old new = (verdict : LogVerdict) × JudgesLog input verdict × TakesFor verdict.finding input old new
+Takes (Err Writer) input old new = (verdict : LogVerdict) × JudgesLog input verdict
+    × TakesFor verdict.finding input old new
 Takes (Err _) input old new = Unit {0}

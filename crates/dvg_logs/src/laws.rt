@@ -1,5 +1,7 @@
-//! Laws of the texts of logs. Each is the contract of a function that does nothing, but one, which reads the text.
-ghost use Rattle.dvg_logs.specs.LogLaws.{IsJudged, NoVerdictBesideFault, OneLogFault, OneLogVerdict};
+//! Laws of the texts of logs. Each is the contract of a function that does nothing, but one, which
+//! reads the text.
+ghost use Rattle.dvg_logs.specs.LogLaws.{IsJudged, NoVerdictBesideFault, OneLogFault};
+ghost use Rattle.dvg_logs.specs.LogLaws.{OneLogVerdict};
 
 use crate::log_reading::LogReading;
 
@@ -18,7 +20,8 @@ pub fn no_verdict_beside_fault()
     ensures { NoVerdictBesideFault }
 {}
 
-/// Of each text a verdict is given, or it has a fault. That one of them holds shows by what a reading of it comes to.
+/// Of each text a verdict is given, or it has a fault. That one of them holds shows by what a
+/// reading of it comes to.
 pub fn each_is_judged(text: &[u8])
     ensures { IsJudged text.now }
 {

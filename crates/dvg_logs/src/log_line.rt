@@ -32,13 +32,15 @@ pub enum LogLine {
     Reset,
 }
 
-/// What a line of a log tells. None exactly where it tells nothing that a line may: it is `started`, `fetched` with a
-/// word address and the word there, `low` with a word address and a byte, `wrote` with a byte address of the RAM, 000 to
-/// 7FF, and the byte, `halted` or `reset`, one space between the parts; or it is passed over, as it is empty or begins with `#`. An
-/// address has three hexadecimal digits, a word four and a byte two, of either case. It has at most 64 bytes.
+/// What a line of a log tells. None exactly where it tells nothing that a line may: it is
+/// `started`, `fetched` with a word address and the word there, `low` with a word address and a
+/// byte, `wrote` with a byte address of the RAM, 000 to 7FF, and the byte, `halted` or `reset`, one
+/// space between the parts; or it is passed over, as it is empty or begins with `#`. An address has
+/// three hexadecimal digits, a word four and a byte two, of either case. It has at most 64 bytes.
 pub fn read_log_line(line: &[u8]) -> Option<LogLine>
     ensures found { IfSome result (λ told. Tells (line_of told) line.now) }
-    ensures only { (told : Line) → Tells told line.now → IsSomeAnd result (λ found. line_of found ≡ told) }
+    ensures only { (told : Line) → Tells told line.now
+        → IsSomeAnd result (λ found. line_of found ≡ told) }
 {
     if line.len() > MOST_LINE_BYTES {
         return None;
@@ -52,7 +54,8 @@ pub fn read_log_line(line: &[u8]) -> Option<LogLine>
 // What a line tells that isn't passed over.
 fn row(line: &[u8]) -> Option<LogLine>
     ensures found { IfSome result (λ told. LogRow (line_of told) (parts line.now)) }
-    ensures only { (told : Line) → LogRow told (parts line.now) → IsSomeAnd result (λ found. line_of found ≡ told) }
+    ensures only { (told : Line) → LogRow told (parts line.now)
+        → IsSomeAnd result (λ found. line_of found ≡ told) }
 {
     if let Some(rest) = line.strip_prefix(b"wrote ") {
         let (address, byte) = numbers(rest, 2)?;
@@ -75,7 +78,8 @@ fn row(line: &[u8]) -> Option<LogLine>
 fn numbers(bytes: &[u8], digits: usize) -> Option<(u16, u16)>
     requires { digits ≤ 4 }
     ensures found { IfSome result (λ numbers. AreNumbers digits numbers.0 numbers.1 bytes.now) }
-    ensures only { (address number : ℕ) → AreNumbers digits address number bytes.now → result ≡ Some (address, number) }
+    ensures only { (address number : ℕ) → AreNumbers digits address number bytes.now
+        → result ≡ Some (address, number) }
 {
     if bytes.len() != 4 + digits || bytes[3] != b' ' {
         return None;
@@ -88,7 +92,8 @@ fn numbers(bytes: &[u8], digits: usize) -> Option<(u16, u16)>
 // What a name alone tells.
 fn bare(name: &[u8]) -> Option<LogLine>
     ensures found { IfSome result (λ told. LogRow (line_of told) (name.now ∷ [])) }
-    ensures only { (told : Line) → LogRow told (name.now ∷ []) → IsSomeAnd result (λ found. line_of found ≡ told) }
+    ensures only { (told : Line) → LogRow told (name.now ∷ [])
+        → IsSomeAnd result (λ found. line_of found ≡ told) }
 {
     match name {
         b"started" => Some(LogLine::Started),

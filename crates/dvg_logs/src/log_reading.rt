@@ -1,5 +1,6 @@
 //! The text of a log, as it is read in pieces.
-ghost use Rattle.std.specs.Prelude.{◌≡◌, ◌+◌, ◌-◌, ◌^◌, ◌<◌, [], ◌∷◌, ◌++◌, ℕ, List, length, IfErr, IfOk, IfSome, IsNone, IsTrue, OnOk};
+ghost use Rattle.std.specs.Prelude.{◌≡◌, ◌+◌, ◌-◌, ◌^◌, ◌<◌, [], ◌∷◌, ◌++◌, ℕ, List, length, IfErr};
+ghost use Rattle.std.specs.Prelude.{IfOk, IfSome, IsNone, IsTrue, OnOk};
 ghost use Rattle.dvg_driver.specs.declared.action.Action.TheVariants.{Wrote};
 ghost use Rattle.dvg_log.specs.declared.entry.Entry.TheVariants.{Acted};
 ghost use Rattle.dvg_log.specs.declared.event.Event.TheVariants.{Tick};
@@ -10,7 +11,8 @@ ghost use Rattle.dvg_logs.specs.LogLines.{Tells};
 ghost use Rattle.dvg_logs.specs.LogCounts.{counts_of};
 ghost use Rattle.dvg_logs.specs.LogTexts.{IsWhole};
 ghost use Rattle.dvg_logs.specs.LogLineTells.{line_of};
-ghost use Rattle.dvg_logs.specs.LogReading.{HasJudged, HasRead, IsOpen, IsTornLine, StopsAt, number_of, place_of};
+ghost use Rattle.dvg_logs.specs.LogReading.{HasJudged, HasRead, IsOpen, IsTornLine, StopsAt};
+ghost use Rattle.dvg_logs.specs.LogReading.{number_of, place_of};
 
 use crate::log_line::{LogLine, MOST_LINE_BYTES, read_log_line};
 use arrayvec::ArrayVec;
@@ -21,8 +23,8 @@ use memchr::memchr;
 /// Why the reading of a log stops before its text ends.
 #[derive(Clone, Copy, Debug, PartialEq, Eq)]
 pub enum LogStop {
-    /// The line of this number, counted from 1, writes a byte, at a byte address, in the half that the open run draws.
-    /// Up to there the lines count so.
+    /// The line of this number, counted from 1, writes a byte, at a byte address, in the half that
+    /// the open run draws. Up to there the lines count so.
     Torn {
         line: usize,
         address: u16,
@@ -35,12 +37,17 @@ pub enum LogStop {
     TooLong,
 }
 
-// Tells the judge what a line tells. The byte address and the byte of the write that tears a picture, where it does.
+// Tells the judge what a line tells. The byte address and the byte of the write that tears a
+// picture, where it does.
 #[inline(always)]
 fn tell(judge: &mut Judge, told: LogLine) -> Option<(u16, u8)>
-    ensures stands { (log : Log) → StandsAfter judge.old log → StandsAfter judge.new (line_of told ∷ log) }
-    ensures torn { (log : Log) → StandsAfter judge.old log → IfSome result (λ wrote. (line_of told ≡ Tick ⟼ Acted (Wrote wrote.0 wrote.1)) × IsTornLine log (line_of told)) }
-    ensures untorn { (log : Log) → StandsAfter judge.old log → IsNone result → ¬ IsTornLine log (line_of told) }
+    ensures stands { (log : Log) → StandsAfter judge.old log
+        → StandsAfter judge.new (line_of told ∷ log) }
+    ensures torn { (log : Log) → StandsAfter judge.old log
+        → IfSome result (λ wrote. (line_of told ≡ Tick ⟼ Acted (Wrote wrote.0 wrote.1))
+        × IsTornLine log (line_of told)) }
+    ensures untorn { (log : Log) → StandsAfter judge.old log → IsNone result
+        → ¬ IsTornLine log (line_of told) }
 {
     match told {
         LogLine::Started => judge.started(),
@@ -57,10 +64,12 @@ fn tell(judge: &mut Judge, told: LogLine) -> Option<(u16, u8)>
     None
 }
 
-// What was counted in some lines, and what one more tells. None of the numbers passes that of the lines, so none wraps.
+// What was counted in some lines, and what one more tells. None of the numbers passes that of the
+// lines, so none wraps.
 #[inline(always)]
 fn counted(counts: LogCounts, told: LogLine) -> LogCounts
-    ensures { (log : Log) → counts ≡ counts_of log → length log < 2 ^ 64 - 1 → result ≡ counts_of (line_of told ∷ log) }
+    ensures { (log : Log) → counts ≡ counts_of log → length log < 2 ^ 64 - 1
+        → result ≡ counts_of (line_of told ∷ log) }
 {
     let mut counts = counts;
     match told {
@@ -88,7 +97,9 @@ pub struct JudgedLines {
 impl JudgedLines {
     // Why the next line stops the reading, where it tells nothing that a line may.
     fn wrong(&self) -> LogStop
-        ensures stop { (before : List (List ℕ)) (line : List ℕ) (after : List (List ℕ)) → HasJudged self.now before → ((told : Line) → ¬ Tells told line) → StopsAt result (before ++ line ∷ after) }
+        ensures stop { (before : List (List ℕ)) (line : List ℕ) (after : List (List ℕ))
+            → HasJudged self.now before → ((told : Line) → ¬ Tells told line)
+            → StopsAt result (before ++ line ∷ after) }
         ensures next { number_of result ≡ self.now.count + 1 }
     {
         if self.count == usize::MAX {
@@ -99,8 +110,10 @@ impl JudgedLines {
 
     // Takes the next line.
     fn take(&mut self, line: &[u8]) -> Result<(), LogStop>
-        ensures taken { (before : List (List ℕ)) → HasJudged self.old before → OnOk result (HasJudged self.new (before ++ line.now ∷ [])) }
-        ensures stop { IfErr result (λ stop. (before after : List (List ℕ)) → HasJudged self.old before → StopsAt stop (before ++ line.now ∷ after)) }
+        ensures taken { (before : List (List ℕ)) → HasJudged self.old before
+            → OnOk result (HasJudged self.new (before ++ line.now ∷ [])) }
+        ensures stop { IfErr result (λ stop. (before after : List (List ℕ))
+            → HasJudged self.old before → StopsAt stop (before ++ line.now ∷ after)) }
         ensures next { IfErr result (λ stop. number_of stop ≡ self.old.count + 1) }
         ensures count { OnOk result (self.new.count ≡ self.old.count + 1) }
     {
@@ -131,7 +144,9 @@ impl JudgedLines {
     #[inline(always)]
     pub fn take_told(&mut self, told: LogLine) -> bool
         requires room { self.old.count < 2 ^ 64 - 1 }
-        ensures taken { IsTrue result → (before : List (List ℕ)) (line : List ℕ) → HasJudged self.old before → Tells (line_of told) line → HasJudged self.new (before ++ line ∷ []) }
+        ensures taken { IsTrue result → (before : List (List ℕ)) (line : List ℕ)
+            → HasJudged self.old before → Tells (line_of told) line
+            → HasJudged self.new (before ++ line ∷ []) }
         ensures count { IsTrue result → self.new.count ≡ self.old.count + 1 }
         ensures torn { ¬ IsTrue result → self.new ≡ self.old }
     {
@@ -177,10 +192,13 @@ impl LogReading {
     // Takes bytes of a line, of which it is not the end.
     fn begin_line(&mut self, bytes: &[u8]) -> Result<(), LogStop>
         requires { IsOpen bytes.now }
-        ensures read { (text : List ℕ) → HasRead self.old text → OnOk result (HasRead self.new (text ++ bytes.now)) }
-        ensures stop { IfErr result (λ stop. (text more : List ℕ) → HasRead self.old text → StopsAt stop (lines (text ++ (bytes.now ++ more)))) }
+        ensures read { (text : List ℕ) → HasRead self.old text
+            → OnOk result (HasRead self.new (text ++ bytes.now)) }
+        ensures stop { IfErr result (λ stop. (text more : List ℕ) → HasRead self.old text
+            → StopsAt stop (lines (text ++ (bytes.now ++ more)))) }
         ensures next { IfErr result (λ stop. number_of stop ≡ self.old.judged.count + 1) }
-        ensures bytes { OnOk result (self.new.unfinished.items ≡ self.old.unfinished.items ++ bytes.now) }
+        ensures bytes { OnOk result (self.new.unfinished.items
+            ≡ self.old.unfinished.items ++ bytes.now) }
         ensures judged { OnOk result (self.new.judged ≡ self.old.judged) }
     {
         match self.unfinished.try_extend_from_slice(bytes) {
@@ -192,8 +210,10 @@ impl LogReading {
     // Takes the last bytes of a line, and its end.
     fn end_line(&mut self, bytes: &[u8]) -> Result<(), LogStop>
         requires { IsOpen bytes.now }
-        ensures read { (text : List ℕ) → HasRead self.old text → OnOk result (HasRead self.new (text ++ (bytes.now ++ 10 ∷ []))) }
-        ensures stop { IfErr result (λ stop. (text more : List ℕ) → HasRead self.old text → StopsAt stop (lines (text ++ (bytes.now ++ 10 ∷ more)))) }
+        ensures read { (text : List ℕ) → HasRead self.old text
+            → OnOk result (HasRead self.new (text ++ (bytes.now ++ 10 ∷ []))) }
+        ensures stop { IfErr result (λ stop. (text more : List ℕ) → HasRead self.old text
+            → StopsAt stop (lines (text ++ (bytes.now ++ 10 ∷ more)))) }
         ensures next { IfErr result (λ stop. number_of stop ≡ self.old.judged.count + 1) }
         ensures count { OnOk result (self.new.judged.count ≡ self.old.judged.count + 1) }
         ensures farther { OnOk result (place_of self.old < place_of self.new) }
@@ -213,10 +233,13 @@ impl LogReading {
 
     /// Takes a piece more of the text.
     pub fn take_piece(&mut self, piece: &[u8]) -> Result<(), LogStop>
-        ensures read { (text : List ℕ) → HasRead self.old text → OnOk result (HasRead self.new (text ++ piece.now)) }
-        ensures stop { IfErr result (λ stop. (text more : List ℕ) → HasRead self.old text → StopsAt stop (lines (text ++ (piece.now ++ more)))) }
+        ensures read { (text : List ℕ) → HasRead self.old text
+            → OnOk result (HasRead self.new (text ++ piece.now)) }
+        ensures stop { IfErr result (λ stop. (text more : List ℕ) → HasRead self.old text
+            → StopsAt stop (lines (text ++ (piece.now ++ more)))) }
         ensures later { IfErr result (λ stop. self.old.judged.count < number_of stop) }
-        ensures farther { 0 < length piece.now → OnOk result (place_of self.old < place_of self.new) }
+        ensures farther { 0 < length piece.now
+            → OnOk result (place_of self.old < place_of self.new) }
     {
         let mut rest = piece;
         while let Some(end) = memchr(b'\n', rest) {
@@ -231,8 +254,10 @@ impl LogReading {
 
     /// Takes the end of the text, which ends a line that has begun. What was counted in all lines.
     pub fn finish(self) -> Result<LogCounts, LogStop>
-        ensures read { IfOk result (λ counts. (text : List ℕ) → HasRead self text → (log : Log) × IsWhole (lines text) log × (counts ≡ counts_of log)) }
-        ensures stop { IfErr result (λ stop. (text : List ℕ) → HasRead self text → StopsAt stop (lines text)) }
+        ensures read { IfOk result (λ counts. (text : List ℕ) → HasRead self text
+            → (log : Log) × IsWhole (lines text) log × (counts ≡ counts_of log)) }
+        ensures stop { IfErr result (λ stop. (text : List ℕ) → HasRead self text
+            → StopsAt stop (lines text)) }
         ensures next { IfErr result (λ stop. number_of stop ≡ self.judged.count + 1) }
     {
         let mut judged = self.judged;

@@ -1,4 +1,5 @@
-//! Lines of logs that tell numbers, as most do: each is read at the head of a text, with no search for its end.
+//! Lines of logs that tell numbers, as most do: each is read at the head of a text, with no search
+//! for its end.
 ghost use Rattle.std.specs.Prelude.{[], ◌∷◌, IfSome};
 ghost use Rattle.dvg_text.specs.Texts.{IsHex};
 
@@ -45,8 +46,8 @@ fn of_four(a: u8, b: u8, c: u8, d: u8) -> Option<u16>
     Some(256 * u16::from(16 * a + b) + u16::from(16 * c + d))
 }
 
-// The lines that tell numbers are most of a log. Each is taken from the head of a text, where it ends and isn't torn, and
-// what comes after it is answered.
+// The lines that tell numbers are most of a log. Each is taken from the head of a text, where it
+// ends and isn't torn, and what comes after it is answered.
 impl JudgedLines {
     ghost use Rattle.std.specs.Prelude.{◌≡◌, ◌+◌, ◌-◌, ◌^◌, ◌<◌, IfSome, IsNone, IsSome};
     ghost use Rattle.dvg_logs.specs.LogReading.{TakesLine, TakesLines};
@@ -173,8 +174,8 @@ impl JudgedLines {
         }
     }
 
-    /// Takes lines that tell numbers from the head of a text, up to the first line that doesn't, that is torn or that
-    /// doesn't end. What comes after them.
+    /// Takes lines that tell numbers from the head of a text, up to the first line that doesn't,
+    /// that is torn or that doesn't end. What comes after them.
     #[inline(never)]
     pub fn take_number_lines<'a>(&mut self, text: &'a [u8]) -> &'a [u8]
         ensures { TakesLines self.old self.new text.now result.now }

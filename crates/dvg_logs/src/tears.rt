@@ -58,7 +58,9 @@ fn found(counts: LogCounts) -> LogFinding
 // What is said of the text of a log.
 fn judge_text<R: Read>(reader: &mut Watched<R>) -> Result<LogVerdict, ToolFault>
     requires fresh { failures_of reader.old ≡ 0 }
-    ensures judges { IfSome (R.remaining (device_of reader.old)) (λ input. JudgesInput result input (R.remaining (device_of reader.old)) (R.remaining (device_of reader.new))) }
+    ensures judges { IfSome (R.remaining (device_of reader.old))
+        (λ input. JudgesInput result input (R.remaining (device_of reader.old))
+        (R.remaining (device_of reader.new))) }
     ensures fault { IfErr result IsReadingFault }
     ensures reader { IsErrOf result ToolFault.Reader ↔ (failures_of reader.new ≡ 1) }
     ensures stops { failures_of reader.new ≤ 1 }
@@ -88,8 +90,10 @@ fn judge_text<R: Read>(reader: &mut Watched<R>) -> Result<LogVerdict, ToolFault>
 
 // Writes what is said of a log.
 fn write_verdict<W: Write>(writer: &mut Watched<W>, verdict: LogVerdict) -> Result<(), DeviceFailed>
-    ensures ok { OnOk result (Appends (W.contents (device_of writer.old)) (W.contents (device_of writer.new)) (log_verdict_text verdict)) }
-    ensures err { OnErr result (BeginsToWrite (log_verdict_text verdict) (W.contents (device_of writer.old)) (W.contents (device_of writer.new))) }
+    ensures ok { OnOk result (Appends (W.contents (device_of writer.old))
+        (W.contents (device_of writer.new)) (log_verdict_text verdict)) }
+    ensures err { OnErr result (BeginsToWrite (log_verdict_text verdict)
+        (W.contents (device_of writer.old)) (W.contents (device_of writer.new))) }
     ensures counts { CountsErrors result (failures_of writer.old) (failures_of writer.new) }
 {
     let mut line = Line::new();
@@ -101,23 +105,26 @@ fn write_verdict<W: Write>(writer: &mut Watched<W>, verdict: LogVerdict) -> Resu
     write_whole(writer, line.as_bytes())
 }
 
-/// Reads the text of a log, of any length, up to the first line that is torn or at fault, and writes what is said of it
-/// (the text is this project's own choice):
+/// Reads the text of a log, of any length, up to the first line that is torn or at fault, and
+/// writes what is said of it (the text is this project's own choice):
 ///
-/// - `not torn: R runs, H halted, W writes`, where no byte was written in the half that the open run draws: so many runs
-///   began, so many ended by a HALT, and so many bytes were written;
-/// - `no run drew:` and the same, where bytes were written and no run began, or runs began and no word was fetched;
-/// - `torn at line N: wrote A B` of the first write in such a half, by its line, its byte address and its byte, and on
-///   a line more `so far:` and the same numbers up to that line.
+/// - `not torn: R runs, H halted, W writes`, where no byte was written in the half that the open
+///   run draws: so many runs began, so many ended by a HALT, and so many bytes were written;
+/// - `no run drew:` and the same, where bytes were written and no run began, or runs began and no
+///   word was fetched;
+/// - `torn at line N: wrote A B` of the first write in such a half, by its line, its byte address
+///   and its byte, and on a line more `so far:` and the same numbers up to that line.
 ///
 /// It takes no memory.
 ///
-/// - `Syntax`: this line is the first that tells nothing that a line may, as `read_log_line` says, none before it being
-///   torn.
-/// - `TooLong`: none of the first 18,446,744,073,709,551,615 lines is torn or at fault, and there are more.
+/// - `Syntax`: this line is the first that tells nothing that a line may, as `read_log_line` says,
+///   none before it being torn.
+/// - `TooLong`: none of the first 18,446,744,073,709,551,615 lines is torn or at fault, and there
+///   are more.
 /// - `Reader`, `Writer`: that device failed. After `Writer` a beginning of the text went out.
 ///
-/// `Memory` never comes. Where it stops before it writes, which is at any fault but `Writer`, the writer is as it was.
+/// `Memory` never comes. Where it stops before it writes, which is at any fault but `Writer`, the
+/// writer is as it was.
 #[inline(never)]
 pub fn torn<R: Read, W: Write>(
     reader: &mut Watched<R>,
@@ -126,11 +133,14 @@ pub fn torn<R: Read, W: Write>(
     requires fresh_reader { failures_of reader.old ≡ 0 }
     requires fresh_writer { failures_of writer.old ≡ 0 }
 
-    // Of a reader that tells its bytes: what is said, what went out, when each fault of the text comes, what was taken.
+    // Of a reader that tells its bytes: what is said, what went out, when each fault of the text
+    // comes, what was taken.
     ensures tears { IfSome (R.remaining (device_of reader.old)) (λ input.
-        Tears result input (W.contents (device_of writer.old)) (W.contents (device_of writer.new))) }
+        Tears result input (W.contents (device_of writer.old))
+        (W.contents (device_of writer.new))) }
     ensures took { IfSome (R.remaining (device_of reader.old)) (λ input.
-        Takes result input (R.remaining (device_of reader.old)) (R.remaining (device_of reader.new))) }
+        Takes result input (R.remaining (device_of reader.old))
+        (R.remaining (device_of reader.new))) }
 
     // Whatever the reader and the writer are.
     ensures no_memory { ¬ IsErrOf result ToolFault.Memory }

@@ -12,7 +12,8 @@ abbrev pub OneArea : Type 0
 OneArea = (first w : ℕ) → 0x400 ≤ first → first ≤ 0xBFF → w ≤ 0xFFF
     → (one : Area) × IsInMap first one w × ((also : Area) → IsInMap first also w → also ≡ one)
 
--- word zero with a half's high byte over the low byte 01 is a jump to the half's first word, and the high byte names the half
+-- word zero with a half's high byte over the low byte 01 is a jump to the half's first word, and the high byte names
+-- the half
 abbrev pub HighNamesHalf : Type 0
 HighNamesHalf = (half : Half) → (0x01 + 256 * high half ≡ 0xE000 + base half) × (half_of_high (high half) ≡ half)
 
@@ -26,9 +27,11 @@ HalfFromBase = (first w : ℕ) (half : Half) → IsInMap first (Frame half) w �
 
 -- the ROM's words, from its first address on, are the words of its bytes in order
 abbrev pub RomWordsInOrder : Type 0
-RomWordsInOrder = (rom : List ℕ) (k : ℕ) → IsRom rom → 2 * k < length rom → rom_word rom (first_word rom + k) ≡ Some (slice_index (words_of rom) k)
+RomWordsInOrder = (rom : List ℕ) (k : ℕ) → IsRom rom → 2 * k < length rom
+    → rom_word rom (first_word rom + k) ≡ Some (slice_index (words_of rom) k)
 
 -- the bytes of a word of the RAM are those at twice its address, the low byte first
 abbrev pub BytesInOrder : Type 0
 BytesInOrder = (ram rom : List ℕ) (w : ℕ) → IsImage ram → w < 0x400
-    → (fetched_byte ram rom w false ≡ Some (slice_index ram (2 * w))) × (fetched_byte ram rom w true ≡ Some (slice_index ram (2 * w + 1)))
+    → (fetched_byte ram rom w false ≡ Some (slice_index ram (2 * w)))
+    × (fetched_byte ram rom w true ≡ Some (slice_index ram (2 * w + 1)))

@@ -1,5 +1,6 @@
 -- The words of the shared memory.
-use Rattle.std.specs.Prelude.{◌≡◌, ℕ, ◌-◌, ◌/◌, ◌%◌, ◌<◌, ◌≤◌, ◌⊎◌, ◌&&◌, nat_le, nat_lt, ◌==◌, if◌then◌else◌, Bool, List, All, length, Option, Some, None, option_map}
+use Rattle.std.specs.Prelude.{◌≡◌, ℕ, ◌-◌, ◌/◌, ◌%◌, ◌<◌, ◌≤◌, ◌⊎◌, ◌&&◌, nat_le, nat_lt, ◌==◌, if◌then◌else◌, Bool}
+use Rattle.std.specs.Prelude.{List, All, length, Option, Some, None, option_map}
 use Rattle.dvg_code.specs.Words.{word_in}
 
 -- the content of a memory of 2,048 bytes

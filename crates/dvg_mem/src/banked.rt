@@ -17,8 +17,8 @@ const UNUSED: usize = HALF_0 + HALF_BYTES;
 
 const HALF_1: usize = UNUSED + WORD_BYTES;
 
-/// A store that keeps word zero, half 0, the word that no frame uses and half 1 each on its own, as two banks of
-/// memory do: no part has bytes of both halves.
+/// A store that keeps word zero, half 0, the word that no frame uses and half 1 each on its own, as
+/// two banks of memory do: no part has bytes of both halves.
 #[derive(Drop)]
 pub struct Banked<A: Allocator = Global> {
     zero: [u8; WORD_BYTES],
@@ -34,9 +34,11 @@ impl<A: Allocator> Model for Banked<A> {
 
     ghost Value = { List ℕ };
 
-    ghost view = { λ banked. banked.zero ++ (banked.half_0.value ++ (banked.unused ++ banked.half_1.value)) };
+    ghost view = { λ banked. banked.zero
+        ++ (banked.half_0.value ++ (banked.unused ++ banked.half_1.value)) };
 
-    ghost invariant = { λ banked. AreBanks banked.zero banked.half_0.value banked.unused banked.half_1.value };
+    ghost invariant = { λ banked. AreBanks banked.zero banked.half_0.value banked.unused
+        banked.half_1.value };
 }
 
 impl<A: Allocator> Banked<A> {

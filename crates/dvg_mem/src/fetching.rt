@@ -8,8 +8,8 @@ use crate::rom::Rom;
 use crate::store::Store;
 use std::alloc::Allocator;
 
-/// The low byte of the word at a word address of 12 bits, in the RAM or in the ROM, or where `high` its high
-/// byte. None exactly for a hole.
+/// The low byte of the word at a word address of 12 bits, in the RAM or in the ROM, or where `high`
+/// its high byte. None exactly for a hole.
 pub fn fetch_byte<S: Store, A: Allocator>(store: &S, rom: &Rom<A>, w: u16, high: bool) -> Option<u8>
     requires { w ≤ 0xFFF }
     ensures byte { result ≡ fetched_byte (S.content store.now) rom.now w high }

@@ -44,8 +44,8 @@ impl Half {
         }
     }
 
-    /// The half that a high byte of word zero names, whatever its other bits: bit 1 is 0 for half 0,
-    /// and 1 for half 1.
+    /// The half that a high byte of word zero names, whatever its other bits: bit 1 is 0 for half
+    /// 0, and 1 for half 1.
     pub fn of_high(high: u8) -> Half
         ensures { result ≡ half_of_high high }
     {
@@ -56,7 +56,8 @@ impl Half {
         }
     }
 
-    /// The half in which a word of this number lies; none for word zero, word 200 and all from 400 on.
+    /// The half in which a word of this number lies; none for word zero, word 200 and all from 400
+    /// on.
     pub fn of_word(w: u16) -> Option<Half>
         ensures { (half : Half) → (result ≡ Some half) ↔ IsInHalf half w }
     {

@@ -1,5 +1,6 @@
 //! Laws of the definitions alone. Each is the contract of a function that does nothing.
-ghost use Rattle.dvg_mem.specs.Laws.{BytesInOrder, HalfFromBase, HalvesDiffer, HighNamesHalf, OneArea, RomWordsInOrder};
+ghost use Rattle.dvg_mem.specs.Laws.{BytesInOrder, HalfFromBase, HalvesDiffer, HighNamesHalf};
+ghost use Rattle.dvg_mem.specs.Laws.{OneArea, RomWordsInOrder};
 
 /// Each word address lies in exactly one area.
 pub fn one_area()

@@ -1,9 +1,9 @@
 //! The memory that the processor and the vector generator share, and its map.
 //!
-//! The processor sees 2,048 bytes of vector RAM at $4000 to $47FF and 2,048 bytes of vector ROM at $5000
-//! to $57FF, or 4,096 at $4800 to $57FF. The generator sees the same memory as words, at addresses of 12 bits: word `w` is the bytes
-//! at $4000 + `2w` (low) and $4000 + `2w` + 1 (high). Byte addresses of the RAM are offsets, 000 to 7FF; word addresses are
-//! 000 to FFF.
+//! The processor sees 2,048 bytes of vector RAM at $4000 to $47FF and 2,048 bytes of vector ROM at
+//! $5000 to $57FF, or 4,096 at $4800 to $57FF. The generator sees the same memory as words, at
+//! addresses of 12 bits: word `w` is the bytes at $4000 + `2w` (low) and $4000 + `2w` + 1 (high).
+//! Byte addresses of the RAM are offsets, 000 to 7FF; word addresses are 000 to FFF.
 //!
 //! | Words | Area |
 //! |---|---|
@@ -15,8 +15,9 @@
 //! | 800 to BFF | ROM |
 //! | C00 to FFF | hole (this project's own choice) |
 //!
-//! The RAM at 000 to 3FF and the ROM at 800 to BFF are those of Asteroids (Atari's schematics). Boards of Asteroids Deluxe
-//! have a ROM of 4,096 bytes, which is at 400 to BFF here (this project's own choice).
+//! The RAM at 000 to 3FF and the ROM at 800 to BFF are those of Asteroids (Atari's schematics).
+//! Boards of Asteroids Deluxe have a ROM of 4,096 bytes, which is at 400 to BFF here (this
+//! project's own choice).
 #![tactic(auto)]
 
 mod areas;

@@ -6,7 +6,8 @@ use crate::areas::Area;
 use crate::half::Half;
 use crate::{FIRST_ROM_WORD, LAST_ROM_WORD};
 
-/// The area of a word address, which has 12 bits, with a ROM of 2,048 bytes. `Rom::area` tells it of any ROM.
+/// The area of a word address, which has 12 bits, with a ROM of 2,048 bytes. `Rom::area` tells it
+/// of any ROM.
 pub fn area(w: u16) -> Area
     requires { w ≤ 0xFFF }
     ensures { IsInMap 0x800 result w }

@@ -1,5 +1,6 @@
 //! The vector ROM.
-ghost use Rattle.std.specs.Prelude.{◌≡◌, ◌≢◌, ◌*◌, ◌≤◌, ◌⊎◌, ◌↔◌, ◌++◌, length, IfErr, IfOk, IsErrOf, IsOk, OnErr, OnOk, Some};
+ghost use Rattle.std.specs.Prelude.{◌≡◌, ◌≢◌, ◌*◌, ◌≤◌, ◌⊎◌, ◌↔◌, ◌++◌, length, IfErr, IfOk};
+ghost use Rattle.std.specs.Prelude.{IsErrOf, IsOk, OnErr, OnOk, Some};
 ghost use Rattle.dvg_mem.specs.Areas.{IsInMap};
 ghost use Rattle.dvg_mem.specs.Memory.{IsGrown, IsRom, first_word, rom_word};
 ghost use Rattle.dvg_mem.specs.Grown.{ArePushedBack};
@@ -12,8 +13,8 @@ use dvg_code::word_at;
 use std::alloc::{AllocError, Allocator, Global};
 use std::marker::Model;
 
-/// The bytes of a vector ROM: 2,048 of the words 800 to BFF, as in Asteroids, or 4,096 of the words 400 to BFF, as on
-/// boards of Asteroids Deluxe (the second map is this project's own choice).
+/// The bytes of a vector ROM: 2,048 of the words 800 to BFF, as in Asteroids, or 4,096 of the words
+/// 400 to BFF, as on boards of Asteroids Deluxe (the second map is this project's own choice).
 #[derive(Drop)]
 pub struct Rom<A: Allocator = Global> {
     bytes: Vec<u8, A>,
@@ -32,10 +33,12 @@ impl<A: Allocator> Model for Rom<A> {
 }
 
 impl<A: Allocator> Rom<A> {
-    /// The ROM of these bytes. It is refused as `Size` exactly where they are neither 2,048 nor 4,096.
+    /// The ROM of these bytes. It is refused as `Size` exactly where they are neither 2,048 nor
+    /// 4,096.
     pub fn new(alloc: A, bytes: &[u8]) -> Result<Rom<A>, MemFault>
         ensures bytes { IfOk result (λ rom. rom ≡ bytes.now) }
-        ensures size { IsErrOf result MemFault.Size ↔ ((length bytes.now ≢ 2048) × (length bytes.now ≢ 4096)) }
+        ensures size { IsErrOf result MemFault.Size
+            ↔ ((length bytes.now ≢ 2048) × (length bytes.now ≢ 4096)) }
     {
         if bytes.len() != MEMORY_BYTES && bytes.len() != LARGE_ROM_BYTES {
             return Err(MemFault::Size);
@@ -48,12 +51,13 @@ impl<A: Allocator> Rom<A> {
         }
     }
 
-    /// Takes other bytes in place of its own, in the memory that it has where they are as many. They are refused as
-    /// `Size` exactly where they are neither 2,048 nor 4,096, and nothing has changed after an error. Memory is taken only
-    /// for a ROM of another size.
+    /// Takes other bytes in place of its own, in the memory that it has where they are as many.
+    /// They are refused as `Size` exactly where they are neither 2,048 nor 4,096, and nothing has
+    /// changed after an error. Memory is taken only for a ROM of another size.
     pub fn copy_from(&mut self, alloc: A, bytes: &[u8]) -> Result<(), MemFault>
         ensures bytes { OnOk result (self.new ≡ bytes.now) }
-        ensures size { IsErrOf result MemFault.Size ↔ ((length bytes.now ≢ 2048) × (length bytes.now ≢ 4096)) }
+        ensures size { IsErrOf result MemFault.Size
+            ↔ ((length bytes.now ≢ 2048) × (length bytes.now ≢ 4096)) }
         ensures room { length bytes.now ≡ length self.old → IsOk result }
         ensures refused { OnErr result (self.new ≡ self.old) }
     {
@@ -73,7 +77,8 @@ impl<A: Allocator> Rom<A> {
     /// The word address of the first word: 800 or 400.
     pub fn first(&self) -> u16
         ensures first { result ≡ first_word self.now }
-        ensures size { ((result ≡ 0x800) × (length self.now ≡ 2048)) ⊎ ((result ≡ 0x400) × (length self.now ≡ 4096)) }
+        ensures size { ((result ≡ 0x800) × (length self.now ≡ 2048))
+            ⊎ ((result ≡ 0x400) × (length self.now ≡ 4096)) }
     {
         if self.bytes.len() == MEMORY_BYTES {
             FIRST_ROM_WORD
@@ -99,8 +104,8 @@ impl<A: Allocator> Rom<A> {
         word_at(self.bytes.as_slice(), usize::from(a - self.first()))
     }
 
-    /// The ROM of 4,096 bytes that has this one's words from 800 on, and D000, a return, at 400 to 7FF. It takes its memory
-    /// from this allocator, and is refused as `OutOfMemory` alone.
+    /// The ROM of 4,096 bytes that has this one's words from 800 on, and D000, a return, at 400 to
+    /// 7FF. It takes its memory from this allocator, and is refused as `OutOfMemory` alone.
     #[tactic(auto, using(crate::proofs::Grown::is_rom, crate::proofs::Grown::grown))]
     pub fn grow(&self, alloc: A) -> Result<Rom<A>, MemFault>
         requires { first_word self.now ≡ 0x800 }

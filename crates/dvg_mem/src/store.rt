@@ -6,8 +6,8 @@ use crate::image::Image;
 use dvg_code::OutOfMemory;
 use std::alloc::Allocator;
 
-/// The vector RAM: 2,048 bytes at the addresses 000 to 7FF, however they are kept. Only `make` takes
-/// memory.
+/// The vector RAM: 2,048 bytes at the addresses 000 to 7FF, however they are kept. Only `make`
+/// takes memory.
 pub trait Store: Drop {
     /// What a store takes its room from.
     type Alloc: Allocator + Copy;

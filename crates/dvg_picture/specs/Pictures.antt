@@ -32,7 +32,8 @@ HasDumpFault input _ = ⊥
 -- what `picture` answers of an input, and what went out: the text, or at `Writer` a beginning of it
 -- (that nothing went out at the other faults is a part of `Serves`)
 abbrev pub Pictures : Bool → Result Outcome ToolFault → (input : List ℕ) → Option (List ℕ) → Option (List ℕ) → Type 0
-Pictures all (Ok outcome) input old new = ShowsRun all input (λ end text. (outcome ≡ outcome_of end) × Appends old new text)
+Pictures all (Ok outcome) input old new = ShowsRun all input
+    (λ end text. (outcome ≡ outcome_of end) × Appends old new text)
 Pictures all (Err (Text fault)) input old new = HasDumpFault input fault
 Pictures all (Err Writer) input old new = ShowsRun all input (λ end text. BeginsToWrite text old new)
 Pictures all _ input old new = Unit {0}

@@ -10,12 +10,14 @@ use Rattle.dvg_dump.specs.Traces.{trace_if}
 
 -- the line of an instruction that was run, and that of its stroke, if it drew one
 abbrev pub ran_text : Ran → List ℕ
-ran_text ran = instruction_line ran.address ran.code ran.canonical ran.beam ++ flat_map stroke_line (option_to_list ran.stroke)
+ran_text ran = instruction_line ran.address ran.code ran.canonical ran.beam
+    ++ flat_map stroke_line (option_to_list ran.stroke)
 
 -- how the run ends: `picture` with the numbers of words and of strokes, and the strokes' lines;
 -- `broke` with an address and a fault's number; or `endless`; 10 is LF
 abbrev pub end_text : End → List ℕ
-end_text (Complete words drew) = (codes "picture" ++ spaced (decimal words ∷ decimal (length drew) ∷ []) ++ 10 ∷ []) ++ flat_map stroke_line drew
+end_text (Complete words drew) = (codes "picture" ++ spaced (decimal words ∷ decimal (length drew) ∷ []) ++ 10 ∷ [])
+    ++ flat_map stroke_line drew
 end_text (Broken address fault) = broke_line address fault
 end_text Endless = endless_line
 

@@ -22,7 +22,8 @@ IsDraftOf steps draft = AllZip (IsDrafted steps) (filter is_operation steps) dra
 
 -- this step gives a name that one before it gives
 abbrev pub GivesAgain : List Step → ℕ → Type 0
-GivesAgain steps place = (step : Step) × (name : List ℕ) × (slice_get steps place ≡ Some step) × Names step name × ((number : ℕ) × IsNumberOf (take place steps) name number)
+GivesAgain steps place = (step : Step) × (name : List ℕ) × (slice_get steps place ≡ Some step) × Names step name
+    × ((number : ℕ) × IsNumberOf (take place steps) name number)
 
 -- this step calls or jumps to a name that no step gives
 abbrev pub WantsUnknown : List Step → Step → Type 0
@@ -36,8 +37,10 @@ IsUnknown steps place = (step : Step) × (slice_get steps place ≡ Some step) �
 abbrev pub IsFirst : (ℕ → Type 0) → ℕ → Type 0
 IsFirst P place = P place × ((earlier : ℕ) → earlier < place → ¬ P earlier)
 
--- the fault of a sketch: too many operations, else the first name that is given again, else the first that is wanted and not given
+-- the fault of a sketch: too many operations, else the first name that is given again, else the first that is wanted
+-- and not given
 abbrev pub HasFault : List Step → SketchFault → Type 0
 HasFault steps Full = 511 < op_count steps
 HasFault steps (Twice place) = (op_count steps ≤ 511) × IsFirst (GivesAgain steps) place
-HasFault steps (Unknown place) = (op_count steps ≤ 511) × ((again : ℕ) → ¬ GivesAgain steps again) × IsFirst (IsUnknown steps) place
+HasFault steps (Unknown place) = (op_count steps ≤ 511) × ((again : ℕ) → ¬ GivesAgain steps again)
+    × IsFirst (IsUnknown steps) place

@@ -1,4 +1,5 @@
-//! Sketches: drafts whose operations call and jump to each other by name, so that nobody counts them.
+//! Sketches: drafts whose operations call and jump to each other by name, so that nobody counts
+//! them.
 #![tactic(auto)]
 
 mod fault;

@@ -1,6 +1,7 @@
 //! The draft of a sketch.
 ghost use Rattle.std.specs.Prelude.{◌≡◌, ◌≤◌, ℕ, IfErr, IfOk, IsOk, MatchOption, true};
-ghost use Rattle.dvg_sketch.specs.Sketches.{GivesAgain, HasFault, IsDraftOf, IsDrafted, IsFirst, WantsUnknown};
+ghost use Rattle.dvg_sketch.specs.Sketches.{GivesAgain, HasFault, IsDraftOf, IsDrafted, IsFirst};
+ghost use Rattle.dvg_sketch.specs.Sketches.{WantsUnknown};
 ghost use Rattle.dvg_sketch.specs.Steps.{IsNumberOf, is_operation, op_count};
 
 use crate::fault::SketchFault;
@@ -13,7 +14,8 @@ const MOST_OPS: usize = 511;
 // The number of the operation that is named so.
 fn number_of(steps: &[Step], name: &str) -> Option<u16>
     requires { op_count steps.now ≤ 511 }
-    ensures { MatchOption result ((n : ℕ) → ¬ IsNumberOf steps.now name.now n) (IsNumberOf steps.now name.now) }
+    ensures { MatchOption result ((n : ℕ) → ¬ IsNumberOf steps.now name.now n)
+        (IsNumberOf steps.now name.now) }
 {
     let mut number = 0;
     for step in steps {
@@ -30,7 +32,8 @@ fn number_of(steps: &[Step], name: &str) -> Option<u16>
 // The first step that gives a name which one before it gives.
 fn given_again(steps: &[Step]) -> Option<usize>
     requires { op_count steps.now ≤ 511 }
-    ensures { MatchOption result ((place : ℕ) → ¬ GivesAgain steps.now place) (IsFirst (GivesAgain steps.now)) }
+    ensures { MatchOption result ((place : ℕ) → ¬ GivesAgain steps.now place)
+        (IsFirst (GivesAgain steps.now)) }
 {
     for (place, step) in steps.iter().enumerate() {
         if let Step::Name(name) = step {
@@ -62,14 +65,16 @@ fn operation(steps: &[Step], step: &Step) -> Option<Op>
     }
 }
 
-/// The draft whose operations are those of the sketch, in order, where each call and each jump has the number of the
-/// operation that its name stands before. No memory is taken. The time grows with the square of the number of steps.
+/// The draft whose operations are those of the sketch, in order, where each call and each jump has
+/// the number of the operation that its name stands before. No memory is taken. The time grows with
+/// the square of the number of steps.
 ///
 /// - `Full`: there are more than 511 operations.
 /// - `Twice`: else, this step is the first that gives a name which an earlier one gave.
 /// - `Unknown`: else, this step is the first that calls or jumps to a name which no step gives.
 ///
-/// A name behind the last operation names one that isn't there, which the check of a draft refuses where it is used.
+/// A name behind the last operation names one that isn't there, which the check of a draft refuses
+/// where it is used.
 pub fn draft_of(steps: &[Step]) -> Result<Draft, SketchFault>
     ensures draft { IfOk result (IsDraftOf steps.now) }
     ensures once { IsOk result → (place : ℕ) → ¬ GivesAgain steps.now place }

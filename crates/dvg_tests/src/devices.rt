@@ -13,7 +13,8 @@ pub enum Mishap {
     Nothing,
 }
 
-/// A reader and writer that moves at most `step` bytes a call, and fails at one call, or at each from then on.
+/// A reader and writer that moves at most `step` bytes a call, and fails at one call, or at each
+/// from then on.
 #[derive(Drop)]
 pub struct Failing<'a> {
     pub rest: &'a [u8],

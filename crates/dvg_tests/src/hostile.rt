@@ -1,5 +1,5 @@
-//! Hostile schedules: a strobe or a reset comes before each event of a worked run in turn, and the log is judged by
-//! the library and by a recount of its own.
+//! Hostile schedules: a strobe or a reset comes before each event of a worked run in turn, and the
+//! log is judged by the library and by a recount of its own.
 use crate::scripts::Picture::{F1, F2};
 use crate::scripts::Step::{Fetch, Offer, ResetAll, ResetCpu, ResetGen, Strobe, Tick};
 use crate::scripts::{Picture, Step, events, image, rom};
@@ -10,8 +10,8 @@ use dvg_world::{Entry, first_torn, run};
 use std::alloc::Global;
 use std::test::Fail;
 
-/// Two frames. The second is flipped in right after the generator fetched word zero for the first, which it draws once
-/// more. A fetch is of a whole word here.
+/// Two frames. The second is flipped in right after the generator fetched word zero for the first,
+/// which it draws once more. A fetch is of a whole word here.
 const RUN: [Step; 16] = [
     Tick(2),
     Offer(F1),
@@ -87,8 +87,8 @@ fn stroke_of(picture: Picture) -> Option<Stroke> {
     Some(Stroke { x0, y0, x1, y1, z })
 }
 
-/// What a recount keeps: the frame that was accepted last, the one published, the one that the open run shows, and
-/// whether that run has still to fetch word zero.
+/// What a recount keeps: the frame that was accepted last, the one published, the one that the open
+/// run shows, and whether that run has still to fetch word zero.
 #[derive(Clone, Copy)]
 struct Recount {
     accepted: Option<Picture>,
@@ -198,7 +198,8 @@ fn blows_between_bytes(rt: HostRuntime) -> Result<(), Fail> {
 /// The number of an event in which the driver reads the HALT flag, while half 1 is drawn.
 const READ: usize = 45;
 
-/// The worked run is whole. Where the driver writes half 1 in the place of a read, it is torn there.
+/// The worked run is whole. Where the driver writes half 1 in the place of a read, it is torn
+/// there.
 #[test]
 fn a_byte_in_the_half_being_drawn_is_found(rt: HostRuntime) -> Result<(), Fail> {
     let words = singles(rt.alloc(), &RUN)?;

@@ -1,5 +1,6 @@
-//! Tests of what crosses crates and can't be shown by the texts of a case (tests/cases): devices that fail, memory
-//! that is refused or counted, and calls of the library. The crate exports nothing.
+//! Tests of what crosses crates and can't be shown by the texts of a case (tests/cases): devices
+//! that fail, memory that is refused or counted, and calls of the library. The crate exports
+//! nothing.
 #![tactic(auto)]
 
 #[cfg(test)]

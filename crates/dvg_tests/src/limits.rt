@@ -16,7 +16,8 @@ const LIMITS: [(Job, usize, TextFault); 8] = [
     (BANKED_ENTRIES, 1_048_576, TextFault::TooLong),
 ];
 
-/// What a job answers of an input that never ends, and how many bytes were taken of it. None where it wrote something.
+/// What a job answers of an input that never ends, and how many bytes were taken of it. None where
+/// it wrote something.
 fn told(alloc: Global, job: Job) -> Option<(Result<Done, ToolFault>, usize)> {
     let mut reader = Watched::new(Endless { taken: 0 });
     let mut writer = Watched::new(Vec::new(alloc));

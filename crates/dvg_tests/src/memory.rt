@@ -103,7 +103,8 @@ fn a_banked_store_keeps_bytes(rt: HostRuntime) -> Result<(), Fail> {
     Ok(())
 }
 
-/// Whether a half of a store has as many bytes as a half, of which each is this one but the first and the last.
+/// Whether a half of a store has as many bytes as a half, of which each is this one but the first
+/// and the last.
 fn is_marked(store: &Banked, half: Half, byte: u8, first: u8, last: u8) -> bool {
     let bytes = store.half(half);
     let inside = bytes.iter().filter(|inside| **inside == byte).count();
@@ -131,7 +132,8 @@ fn a_half_is_one_bank(rt: HostRuntime) -> Result<(), Fail> {
     Ok(())
 }
 
-/// Word addresses, and what is fetched there where the ROM has grown: first its area, and then its word.
+/// Word addresses, and what is fetched there where the ROM has grown: first its area, and then its
+/// word.
 const GROWN: [(u16, Area, Option<u16>); 6] = [
     (0x3FF, Area::Frame(Half::H1), Some(0x1200)),
     (0x400, Area::Rom, Some(0xD000)),

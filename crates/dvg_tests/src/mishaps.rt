@@ -1,5 +1,5 @@
-//! Devices that fail at each call in turn, once or from then on: every failure is told at once, and nothing is tried
-//! again.
+//! Devices that fail at each call in turn, once or from then on: every failure is told at once, and
+//! nothing is tried again.
 use crate::devices::{Failing, Mishap};
 use crate::tasks::{NOT_TORN, Task, tasks, written};
 use dvg_frame::FrameFault;
@@ -79,8 +79,8 @@ fn reads(task: Task) -> Result<u32, Fail> {
     Ok(u32::try_from(some.ok_or("no step")?)?.saturating_add(1))
 }
 
-/// Whether a task whose reader fails after all of its reads, and whose writer never does, does as if both moved all at
-/// once.
+/// Whether a task whose reader fails after all of its reads, and whose writer never does, does as
+/// if both moved all at once.
 fn does_well(alloc: Global, task: Task) -> Result<bool, Fail> {
     let mut reader = Watched::new(device(alloc, task.input, task.step, reads(task)?, WAYS[0]));
     let mut writer = Watched::new(device(alloc, &[], task.step, u32::MAX, WAYS[0]));
@@ -124,8 +124,8 @@ fn writes(bytes: &[u8], step: usize) -> usize {
     }
 }
 
-/// Whether a write after so many others fails a task, and what went out before is a beginning of what is written where
-/// none fails.
+/// Whether a write after so many others fails a task, and what went out before is a beginning of
+/// what is written where none fails.
 fn write_fails(
     alloc: Global,
     task: Task,
@@ -169,7 +169,8 @@ fn each_write_fails_in_turn(rt: HostRuntime) -> Result<(), Fail> {
     Ok(())
 }
 
-/// Whether a flush that fails is the writer's fault, whatever was answered, and one that does well leaves the answer.
+/// Whether a flush that fails is the writer's fault, whatever was answered, and one that does well
+/// leaves the answer.
 fn flush_fails(alloc: Global, answer: Result<Done, ToolFault>) -> bool {
     let mut failing = Watched::new(device(alloc, &[], 1, 0, WAYS[0]));
     let mut fine = Watched::new(device(alloc, &[], 1, 1, WAYS[0]));

@@ -5,7 +5,8 @@ use linked_list_allocator::LocalHeap;
 use std::alloc::Global;
 use std::test::Fail;
 
-/// A trace, how it is played, what is written of it in ample memory, and the events that complete a vector.
+/// A trace, how it is played, what is written of it in ample memory, and the events that complete a
+/// vector.
 #[derive(Clone, Copy)]
 struct Wanted<'a> {
     trace: &'a str,
@@ -33,8 +34,8 @@ fn played_in(
     Ok((writer.into_inner(), answer))
 }
 
-/// What a heap leads to: a refusal before anything is written, the log before an event that completes a vector, or
-/// everything.
+/// What a heap leads to: a refusal before anything is written, the log before an event that
+/// completes a vector, or everything.
 #[derive(Clone, Copy, Debug, PartialEq, Eq)]
 enum Led {
     Nothing,
@@ -77,7 +78,8 @@ fn led_to(alloc: Global, wanted: Wanted, bytes: usize) -> Result<Led, Fail> {
     Err("another text".into())
 }
 
-/// The heaps of whole KB that lead to nothing: how many there are, up to the first that leads to more.
+/// The heaps of whole KB that lead to nothing: how many there are, up to the first that leads to
+/// more.
 fn silent_heaps(alloc: Global, wanted: Wanted) -> Result<usize, Fail> {
     for kilobytes in 0..256usize {
         if led_to(alloc, wanted, kilobytes * 1024)? != Led::Nothing {
@@ -87,8 +89,9 @@ fn silent_heaps(alloc: Global, wanted: Wanted) -> Result<usize, Fail> {
     Err("no heap has room".into())
 }
 
-/// How many heaps, each of 16 bytes more than the one before, lead to nothing and to a beginning, from the greatest of whole
-/// KB that leads to nothing up to the first that has room for everything.
+/// How many heaps, each of 16 bytes more than the one before, lead to nothing and to a beginning,
+/// from the greatest of whole KB that leads to nothing up to the first that has room for
+/// everything.
 fn refusals(alloc: Global, wanted: Wanted, silent_heaps: usize) -> Result<(u32, u32), Fail> {
     let least = silent_heaps.saturating_sub(1).saturating_mul(1024);
     let (mut silent, mut begun) = (0u32, 0u32);
@@ -131,8 +134,8 @@ fn a_refusal_leaves_no_picture(rt: HostRuntime) -> Result<(), Fail> {
     Ok(())
 }
 
-/// A trace with a picture of 58 strokes: the high bytes of its vectors are fetched by every other event from 137 to
-/// 251.
+/// A trace with a picture of 58 strokes: the high bytes of its vectors are fetched by every other
+/// event from 137 to 251.
 fn long_picture(alloc: Global) -> Result<String, Fail> {
     let mut text = joined(alloc, &["tick 2\noffer\nlabs 0 0 0\n"])?;
     for _ in 0..58 {
@@ -142,7 +145,8 @@ fn long_picture(alloc: Global) -> Result<String, Fail> {
     Ok(text)
 }
 
-/// In some heaps the memory for one stroke more is refused: what goes out is the log before that fetch.
+/// In some heaps the memory for one stroke more is refused: what goes out is the log before that
+/// fetch.
 #[test]
 fn a_refusal_amid_a_picture_leaves_the_log_before(rt: HostRuntime) -> Result<(), Fail> {
     let trace = long_picture(rt.alloc())?;

@@ -8,7 +8,8 @@ use linked_list_allocator::LocalHeap;
 use std::alloc::Global;
 use std::test::Fail;
 
-/// The KB of a heap that has room for everything: a store, the tables of the check, the log and the strokes.
+/// The KB of a heap that has room for everything: a store, the tables of the check, the log and the
+/// strokes.
 const AMPLE_KB: usize = 256;
 
 /// Its bytes.
@@ -87,8 +88,8 @@ fn least_blocker(alloc: Global, wanted: &[u8], banked: bool) -> Result<usize, Fa
     Err("no room".into())
 }
 
-/// Ever smaller blockers, down to the first that leaves room for the whole run: whether the run stopped at once, and
-/// at the vector.
+/// Ever smaller blockers, down to the first that leaves room for the whole run: whether the run
+/// stopped at once, and at the vector.
 fn places_of_stops(alloc: Global, banked: bool) -> Result<(bool, bool), Fail> {
     let wanted = transcript::<Flat>(alloc, &[], &STEPS)?;
     let most = least_blocker(alloc, wanted.as_slice(), banked)?;
@@ -151,8 +152,8 @@ fn before_the_vector<'a>(
     Ok(world)
 }
 
-/// The low byte of a vector's second word takes no memory. Its high byte completes the vector, and is fetched again
-/// where the room for the stroke was refused.
+/// The low byte of a vector's second word takes no memory. Its high byte completes the vector, and
+/// is fetched again where the room for the stroke was refused.
 #[test]
 fn a_refused_fetch_can_be_given_again(rt: HostRuntime) -> Result<(), Fail> {
     let heap = LocalHeap::new(rt.alloc(), AMPLE)?;

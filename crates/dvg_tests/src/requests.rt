@@ -12,7 +12,8 @@ use std::test::Fail;
 /// The most times 16 bytes of a heap.
 const MOST_SLOTS: usize = 1024;
 
-/// In how many heaps of rising sizes this task is refused memory. Then nothing is written, and else all.
+/// In how many heaps of rising sizes this task is refused memory. Then nothing is written, and else
+/// all.
 fn refusals(alloc: Global, task: Task) -> Result<usize, Fail> {
     let wanted = written(alloc, task)?;
     let mut refused = 0usize;
@@ -34,8 +35,9 @@ fn refusals(alloc: Global, task: Task) -> Result<usize, Fail> {
     Ok(refused)
 }
 
-/// A heap refuses what does not fit it, so each size of heap refuses some growth, or none. All but `list` and `torn` want room for a
-/// ROM, which is 128 times 16 bytes, and `picture` for a dump. `torn` wants none. What `play` does is told by tests of its own.
+/// A heap refuses what does not fit it, so each size of heap refuses some growth, or none. All but
+/// `list` and `torn` want room for a ROM, which is 128 times 16 bytes, and `picture` for a dump.
+/// `torn` wants none. What `play` does is told by tests of its own.
 #[test]
 fn each_growth_is_refused_in_turn(rt: HostRuntime) -> Result<(), Fail> {
     let rom = vec![in rt.alloc(); 0xD0u8; MEMORY_BYTES]?;
@@ -58,8 +60,9 @@ fn each_growth_is_refused_in_turn(rt: HostRuntime) -> Result<(), Fail> {
     Ok(())
 }
 
-/// A writer that fills up the arena at its first write, and remembers how many bytes the arena has then. From then on
-/// each request makes the arena greater, and it stays so when the memory is given back.
+/// A writer that fills up the arena at its first write, and remembers how many bytes the arena has
+/// then. From then on each request makes the arena greater, and it stays so when the memory is
+/// given back.
 #[derive(Drop)]
 struct Filling<'a> {
     arena: &'a Bump,

@@ -1,5 +1,5 @@
-//! Worked runs of a list of events, over both stores, and of the trace of the same events. What their logs are is told by the cases of
-//! `play --all`, which runs a trace.
+//! Worked runs of a list of events, over both stores, and of the trace of the same events. What
+//! their logs are is told by the cases of `play --all`, which runs a trace.
 use crate::scripts::Picture::{F1, F2, F3, Shape};
 use crate::scripts::Step::{Fetch, Offer, Redraw, ResetAll, ResetCpu, ResetGen, Strobe, Tick};
 use crate::scripts::{Step, trace_transcript, transcript};
@@ -7,8 +7,8 @@ use dvg_log::{Event, Trace};
 use dvg_mem::{Banked, Flat};
 use std::test::Fail;
 
-/// What happens in each run. The first four are the first picture, a lost strobe, what is refused before the boot, and
-/// a run that a strobe begins again.
+/// What happens in each run. The first four are the first picture, a lost strobe, what is refused
+/// before the boot, and a run that a strobe begins again.
 const RUNS: [&[Step]; 12] = [
     &[Tick(2), Offer(F1), Tick(14), Strobe, Fetch(12)],
     &[

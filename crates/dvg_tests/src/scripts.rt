@@ -148,7 +148,8 @@ fn trace(alloc: Global, steps: &[Step]) -> Result<Trace, Fail> {
     Ok(trace)
 }
 
-/// The lines of entries, as `play --all` shows them: each with its number, and the strokes of a picture below it.
+/// The lines of entries, as `play --all` shows them: each with its number, and the strokes of a
+/// picture below it.
 pub fn entries_text<A: Allocator>(alloc: Global, entries: &[OwnEntry<A>]) -> Result<Vec<u8>, Fail> {
     let mut text = Vec::new(alloc);
     let mut line = Line::new();

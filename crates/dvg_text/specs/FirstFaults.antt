@@ -7,7 +7,8 @@ abbrev pub IsShort : List ℕ → Type 0
 IsShort text = length text ≤ 1048576
 
 -- line n isn't passed over, and the lines before it are without fault
-pub record Reaches (Fine : List (List ℕ) → Type 0) (text : List ℕ) (n : ℕ) (before : List (List ℕ)) (line : List ℕ) : Type 0 where
+pub record Reaches (Fine : List (List ℕ) → Type 0) (text : List ℕ) (n : ℕ) (before : List (List ℕ))
+    (line : List ℕ) : Type 0 where
   pub short : IsShort text
   pub after : List (List ℕ)
   pub cut : lines text ≡ before ++ line ∷ after

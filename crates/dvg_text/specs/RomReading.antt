@@ -21,8 +21,10 @@ untold = record { map = None; given = [] }
 
 -- what a line more tells of the ROM
 pub data TellsRom : RomText → List ℕ → RomText → Type 0 where
-  tells_map : {first : ℕ} {line : List ℕ} → IsMapLine first line → TellsRom untold line (record { map = Some first; given = [] })
-  gives_words : {map : Option ℕ} {before : List RomLine} {line : List ℕ} (given : RomLine) → IsRomLine (first_told map) given line
+  tells_map : {first : ℕ} {line : List ℕ} → IsMapLine first line
+      → TellsRom untold line (record { map = Some first; given = [] })
+  gives_words : {map : Option ℕ} {before : List RomLine} {line : List ℕ} (given : RomLine)
+      → IsRomLine (first_told map) given line
       → TellsRom (record { map = map; given = before }) line (record { map = map; given = before ++ given ∷ [] })
 
 -- the reader holds the ROM that was told, and whether something was told

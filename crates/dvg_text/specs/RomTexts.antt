@@ -1,5 +1,6 @@
 -- The lines that tell of a ROM, and the ROM that they give.
-use Rattle.std.specs.Prelude.{◌≡◌, ℕ, ◌+◌, ◌-◌, ◌<◌, ◌≤◌, ◌&&◌, nat_le, nat_lt, if◌then◌else◌, List, [], ◌∷◌, length, codes, slice_index, Option, Some, None, unwrap_or}
+use Rattle.std.specs.Prelude.{◌≡◌, ℕ, ◌+◌, ◌-◌, ◌<◌, ◌≤◌, ◌&&◌, nat_le, nat_lt, if◌then◌else◌, List, [], ◌∷◌, length}
+use Rattle.std.specs.Prelude.{codes, slice_index, Option, Some, None, unwrap_or}
 use Rattle.std.specs.List.{AllZip}
 use Rattle.dvg_mem.specs.Memory.{IsRom, first_word, rom_word}
 use Rattle.dvg_text.specs.Texts.{IsHex, parts}
@@ -26,7 +27,8 @@ pub data IsMapLine : (first : ℕ) → List ℕ → Type 0 where
   small : IsMapLine 0x800 (codes "map 2048")
   large : IsMapLine 0x400 (codes "map 4096")
 
--- what a text tells of the ROM: the word address of its first word, where a line tells the map, and the words that lines give
+-- what a text tells of the ROM: the word address of its first word, where a line tells the map, and the words that
+-- lines give
 pub record RomText : Type 0 where
   pub map : Option ℕ
   pub given : List RomLine
@@ -37,13 +39,16 @@ first_told map = unwrap_or map 0x800
 
 -- perhaps the line of a map, and then lines that give words
 pub data SpellsRom : RomText → List (List ℕ) → Type 0 where
-  unmapped : {given : List RomLine} {ls : List (List ℕ)} → AllZip (IsRomLine 0x800) given ls → SpellsRom (record { map = None; given = given }) ls
-  mapped : {first : ℕ} {given : List RomLine} {line : List ℕ} {ls : List (List ℕ)} → IsMapLine first line → AllZip (IsRomLine first) given ls
+  unmapped : {given : List RomLine} {ls : List (List ℕ)} → AllZip (IsRomLine 0x800) given ls
+      → SpellsRom (record { map = None; given = given }) ls
+  mapped : {first : ℕ} {given : List RomLine} {line : List ℕ} {ls : List (List ℕ)} → IsMapLine first line
+      → AllZip (IsRomLine first) given ls
       → SpellsRom (record { map = Some first; given = given }) (line ∷ ls)
 
 -- the word at an address behind one line more, before which it was `word`
 abbrev pub word_behind : RomLine → (a word : ℕ) → ℕ
-word_behind given a word = if nat_le given.address a && nat_lt a (given.address + length given.words) then slice_index given.words (a - given.address) else word
+word_behind given a word = if nat_le given.address a && nat_lt a
+    (given.address + length given.words) then slice_index given.words (a - given.address) else word
 
 -- the word at an address behind these lines, before which it was `word`: a later line overwrites an earlier one
 abbrev pub word_after : List RomLine → (a word : ℕ) → ℕ

@@ -8,7 +8,8 @@ use Rattle.dvg_text.specs.RomTexts.{IsRomOf, RomText}
 
 -- a text denotes one draft, and tells one thing of the ROM, at most
 abbrev pub OneMeaning : Type 0
-OneMeaning = (text : List ℕ) (rom other : RomText) (F G : List OpKind) → Denotes text rom F → Denotes text other G → (other ≡ rom) × (G ≡ F)
+OneMeaning = (text : List ℕ) (rom other : RomText) (F G : List OpKind) → Denotes text rom F → Denotes text other G
+    → (other ≡ rom) × (G ≡ F)
 
 -- what is told of a ROM gives one ROM at most
 abbrev pub OneRom : Type 0
@@ -24,4 +25,5 @@ IsRead text = ((F : List OpKind) × (R : List ℕ) × Gives text F R) ⊎ ((faul
 
 -- a text that denotes something has no fault
 abbrev pub NoFaultBeside : Type 0
-NoFaultBeside = (text : List ℕ) (rom : RomText) (F : List OpKind) → Denotes text rom F → (fault : TextFault) → ¬ HasDraftFault text fault
+NoFaultBeside = (text : List ℕ) (rom : RomText) (F : List OpKind) → Denotes text rom F → (fault : TextFault)
+    → ¬ HasDraftFault text fault

@@ -1,5 +1,6 @@
 -- What the reader of traces answers.
-use Rattle.std.specs.Prelude.{ℕ, ◌+◌, ◌<◌, ◌≤◌, List, ◌∷◌, [], ◌++◌, length, get_or, slice_get, replicate, ◌≡◌, Bool, true, false, Option, Some, None}
+use Rattle.std.specs.Prelude.{ℕ, ◌+◌, ◌<◌, ◌≤◌, List, ◌∷◌, [], ◌++◌, length, get_or, slice_get, replicate, ◌≡◌, Bool}
+use Rattle.std.specs.Prelude.{true, false, Option, Some, None}
 use Rattle.dvg_frame.specs.declared.op.OpKind.{OpKind}
 use Rattle.dvg_log.specs.Events.{Happening}
 use Rattle.dvg_log.specs.declared.event.Event.TheVariants.{ResetAll}
@@ -64,7 +65,8 @@ opened_of reading = opened_by reading.is_open reading.draft
 
 -- where a byte has a number, the event of this number is a reset of the whole system with this byte
 pub record AreResets (numbers : List (Option ℕ)) (events : List Happening) : Type 0 where
-  pub found : (byte n : ℕ) → get_or numbers byte None ≡ Some n → slice_get events n ≡ Some (ResetAll (replicate 2048 byte))
+  pub found : (byte n : ℕ) → get_or numbers byte None ≡ Some n
+      → slice_get events n ≡ Some (ResetAll (replicate 2048 byte))
 
 -- what was read is within the limits, and the resets of its bytes are known
 pub record IsHeld {A : Type 0} (reading : Reading A) : Type 0 where
@@ -72,22 +74,28 @@ pub record IsHeld {A : Type 0} (reading : Reading A) : Type 0 where
   pub known : AreResets reading.resets (events_read reading)
 
 -- a line more was read, behind lines that told this ROM
-pub record TakesLine (rom : RomText) (old : List Happening) (opened : Option (List OpKind)) (line : List ℕ) (new : List Happening) (left : Option (List OpKind)) (held : RomReading) : Type 0 where
+pub record TakesLine (rom : RomText) (old : List Happening) (opened : Option (List OpKind)) (line : List ℕ)
+    (new : List Happening) (left : Option (List OpKind)) (held : RomReading) : Type 0 where
   pub now : RomText
   pub takes : Takes rom old opened line now new left
   pub holds : HoldsRom now held
 
 -- the same, of the reader before the line and behind it
 abbrev pub ReadsLine : {A : Type 0} → Reading A → List ℕ → Reading A → Type 0
-ReadsLine old line new = (rom : RomText) → HoldsRom rom old.rom → TakesLine rom (events_read old) (opened_of old) line (events_read new) (opened_of new) new.rom
+ReadsLine old line new = (rom : RomText) → HoldsRom rom old.rom
+    → TakesLine rom (events_read old) (opened_of old) line (events_read new) (opened_of new) new.rom
 
 -- why a line more isn't read
 abbrev pub StopsLine : LineFault → List Happening → Option (List OpKind) → RomReading → List ℕ → Type 0
-StopsLine line_fault.Syntax old opened held line = (rom now : RomText) (new : List Happening) (left : Option (List OpKind)) → HoldsRom rom held → ¬ Takes rom old opened line now new left
-StopsLine line_fault.Full old opened held line = (F : List OpKind) × (511 < length F) × ((rom : RomText) → Takes rom old opened line rom old (Some F))
-StopsLine line_fault.Many old opened held line = (new : List Happening) × (65536 < length new) × ((rom : RomText) → Takes rom old opened line rom new None)
+StopsLine line_fault.Syntax old opened held line = (rom now : RomText) (new : List Happening)
+    (left : Option (List OpKind)) → HoldsRom rom held → ¬ Takes rom old opened line now new left
+StopsLine line_fault.Full old opened held line = (F : List OpKind) × (511 < length F)
+    × ((rom : RomText) → Takes rom old opened line rom old (Some F))
+StopsLine line_fault.Many old opened held line = (new : List Happening) × (65536 < length new)
+    × ((rom : RomText) → Takes rom old opened line rom new None)
 StopsLine line_fault.Memory old opened held line =
-    (new : List Happening) × (1 ≤ length new) × (length new ≤ 65536) × ((rom : RomText) → Takes rom old opened line rom new None)
+    (new : List Happening) × (1 ≤ length new) × (length new ≤ 65536)
+    × ((rom : RomText) → Takes rom old opened line rom new None)
 
 -- why an operation more isn't read
 abbrev pub StopsOperation : LineFault → List OpKind → List ℕ → Type 0

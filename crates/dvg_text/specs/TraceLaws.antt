@@ -8,11 +8,13 @@ use Rattle.dvg_text.specs.TraceTexts.{DenotesTrace, HasTraceFault}
 
 -- a text denotes one list of events, and tells one thing of the ROM, at most
 abbrev pub OneTraceMeaning : Type 0
-OneTraceMeaning = (text : List ℕ) (rom also : RomText) (one other : List Happening) → DenotesTrace text rom one → DenotesTrace text also other → (also ≡ rom) × (other ≡ one)
+OneTraceMeaning = (text : List ℕ) (rom also : RomText) (one other : List Happening) → DenotesTrace text rom one
+    → DenotesTrace text also other → (also ≡ rom) × (other ≡ one)
 
 -- a text of a trace has one fault at most
 abbrev pub OneTraceFault : Type 0
-OneTraceFault = (text : List ℕ) (one other : TextFault) → HasTraceFault text one → HasTraceFault text other → other ≡ one
+OneTraceFault = (text : List ℕ) (one other : TextFault) → HasTraceFault text one → HasTraceFault text other
+    → other ≡ one
 
 -- the text of a trace denotes events and a ROM
 abbrev pub HasMeaning : List ℕ → Type 0
@@ -24,4 +26,5 @@ IsTraceRead text = HasMeaning text ⊎ ((fault : TextFault) × HasTraceFault tex
 
 -- a text that denotes events has no fault
 abbrev pub NoFaultBesideTrace : Type 0
-NoFaultBesideTrace = (text : List ℕ) (rom : RomText) (events : List Happening) → DenotesTrace text rom events → (fault : TextFault) → ¬ HasTraceFault text fault
+NoFaultBesideTrace = (text : List ℕ) (rom : RomText) (events : List Happening) → DenotesTrace text rom events
+    → (fault : TextFault) → ¬ HasTraceFault text fault

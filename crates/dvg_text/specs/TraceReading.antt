@@ -16,12 +16,16 @@ pub record SoFar : Type 0 where
   pub opened : Option (List OpKind)
 
 -- what a line more makes of a ROM, events and an open offer
-pub data Takes : RomText → List Happening → Option (List OpKind) → List ℕ → RomText → List Happening → Option (List OpKind) → Type 0 where
+pub data Takes : RomText → List Happening → Option (List OpKind) → List ℕ → RomText → List Happening
+    → Option (List OpKind) → Type 0 where
   tells : {rom now : RomText} {line : List ℕ} → TellsRom rom line now → Takes rom [] None line now [] None
-  events : {rom : RomText} {old more : List Happening} {line : List ℕ} → EventParts more (parts line) → Takes rom old None line rom (old ++ more) None
+  events : {rom : RomText} {old more : List Happening} {line : List ℕ} → EventParts more (parts line)
+      → Takes rom old None line rom (old ++ more) None
   opens : {rom : RomText} {old : List Happening} → Takes rom old None (codes "offer") rom old (Some [])
-  does : {rom : RomText} {old : List Happening} {F : List OpKind} {line : List ℕ} (op : OpKind) → IsOpLine op line → Takes rom old (Some F) line rom old (Some (F ++ op ∷ []))
-  ends : {rom : RomText} {old : List Happening} {F : List OpKind} → Takes rom old (Some F) (codes "end") rom (old ++ Offer F ∷ []) None
+  does : {rom : RomText} {old : List Happening} {F : List OpKind} {line : List ℕ} (op : OpKind) → IsOpLine op line
+      → Takes rom old (Some F) line rom old (Some (F ++ op ∷ []))
+  ends : {rom : RomText} {old : List Happening} {F : List OpKind}
+      → Takes rom old (Some F) (codes "end") rom (old ++ Offer F ∷ []) None
 
 -- the same, of whole states
 abbrev pub Goes : SoFar → List ℕ → SoFar → Type 0

@@ -1,9 +1,11 @@
 -- What the text of a trace denotes, and its first fault.
-use Rattle.std.specs.Prelude.{◌≡◌, ℕ, ◌<◌, ◌≤◌, List, [], ◌∷◌, ◌++◌, length, replicate, codes, decimal, Option, Some, None, All, IfSome}
+use Rattle.std.specs.Prelude.{◌≡◌, ℕ, ◌<◌, ◌≤◌, List, [], ◌∷◌, ◌++◌, length, replicate, codes, decimal, Option, Some}
+use Rattle.std.specs.Prelude.{None, All, IfSome}
 use Rattle.std.specs.List.{AllZip}
 use Rattle.dvg_frame.specs.declared.op.OpKind.{OpKind}
 use Rattle.dvg_log.specs.Events.{Happening}
-use Rattle.dvg_log.specs.declared.event.Event.TheVariants.{Offer, Redraw, Tick, Strobe, Fetch, ResetGen, ResetCpu, ResetAll}
+use Rattle.dvg_log.specs.declared.event.Event.TheVariants.{Offer, Redraw, Tick, Strobe, Fetch, ResetGen, ResetCpu}
+use Rattle.dvg_log.specs.declared.event.Event.TheVariants.{ResetAll}
 use Rattle.dvg_text.specs.declared.fault.TextFault.{TextFault}
 use Rattle.dvg_text.specs.declared.fault.TextFault.TheVariants.{TooLong, Syntax, Full, Many, Unended}
 use Rattle.dvg_text.specs.Texts.{IsHex, lines, parts, told}
@@ -24,23 +26,28 @@ pub data EventParts : List Happening → List (List ℕ) → Type 0 where
   fetch : {n : ℕ} {ps : List (List ℕ)} → Counts (codes "fetch") n ps → EventParts (replicate n Fetch) ps
   resetgen : EventParts (ResetGen ∷ []) (codes "resetgen" ∷ [])
   resetcpu : EventParts (ResetCpu ∷ []) (codes "resetcpu" ∷ [])
-  resetall : {byte : ℕ} {digits : List ℕ} → IsHex 2 byte digits → EventParts (ResetAll (replicate 2048 byte) ∷ []) (codes "resetall" ∷ digits ∷ [])
+  resetall : {byte : ℕ} {digits : List ℕ} → IsHex 2 byte digits
+      → EventParts (ResetAll (replicate 2048 byte) ∷ []) (codes "resetall" ∷ digits ∷ [])
 
 -- lines of whole events, in order: lines that spell events by themselves, and offers from `offer` to `end`
 pub data Whole : List Happening → List (List ℕ) → Type 0 where
   nothing : Whole [] []
-  alone : {events more : List Happening} {ls : List (List ℕ)} (line : List ℕ) → Whole events ls → EventParts more (parts line) → Whole (events ++ more) (ls ++ line ∷ [])
-  offer : {events : List Happening} {ls : List (List ℕ)} (F : List OpKind) (ops : List (List ℕ)) → Whole events ls → AllZip IsOpLine F ops
+  alone : {events more : List Happening} {ls : List (List ℕ)} (line : List ℕ) → Whole events ls
+      → EventParts more (parts line) → Whole (events ++ more) (ls ++ line ∷ [])
+  offer : {events : List Happening} {ls : List (List ℕ)} (F : List OpKind) (ops : List (List ℕ)) → Whole events ls
+      → AllZip IsOpLine F ops
       → Whole (events ++ Offer F ∷ []) (ls ++ codes "offer" ∷ ops ++ codes "end" ∷ [])
 
 -- lines of whole events, and perhaps those of an offer that isn't ended
 pub data Begun : List Happening → Option (List OpKind) → List (List ℕ) → Type 0 where
   whole : {events : List Happening} {ls : List (List ℕ)} → Whole events ls → Begun events None ls
-  inside : {events : List Happening} {ls : List (List ℕ)} (F : List OpKind) (ops : List (List ℕ)) → Whole events ls → AllZip IsOpLine F ops
+  inside : {events : List Happening} {ls : List (List ℕ)} (F : List OpKind) (ops : List (List ℕ)) → Whole events ls
+      → AllZip IsOpLine F ops
       → Begun events (Some F) (ls ++ codes "offer" ∷ ops)
 
 -- lines that tell of the ROM, and then lines of events
-pub record SpellsTrace (rom : RomText) (events : List Happening) (opened : Option (List OpKind)) (ls : List (List ℕ)) : Type 0 where
+pub record SpellsTrace (rom : RomText) (events : List Happening) (opened : Option (List OpKind))
+    (ls : List (List ℕ)) : Type 0 where
   pub front : List (List ℕ)
   pub rest : List (List ℕ)
   pub cut : ls ≡ front ++ rest
@@ -77,7 +84,8 @@ pub record TraceMeetsSyntax (text : List ℕ) (n : ℕ) : Type 0 where
   pub before : List (List ℕ)
   pub line : List ℕ
   pub reaches : Reaches IsFineTrace text n before line
-  pub wrong : (rom : RomText) (events : List Happening) (opened : Option (List OpKind)) → ¬ SpellsTrace rom events opened (told before ++ line ∷ [])
+  pub wrong : (rom : RomText) (events : List Happening) (opened : Option (List OpKind))
+      → ¬ SpellsTrace rom events opened (told before ++ line ∷ [])
 
 -- line n is that of operation number 511 of an offer, which no draft can hold
 pub record TraceMeetsFull (text : List ℕ) (n : ℕ) : Type 0 where

@@ -1,5 +1,6 @@
 //! Lines that spell events by themselves.
-ghost use Rattle.std.specs.Prelude.{◌≡◌, ◌↔◌, ℕ, ◌≤◌, List, [], ◌∷◌, decimal, length, IfSome, IsSomeAnd, IsTrue, Some};
+ghost use Rattle.std.specs.Prelude.{◌≡◌, ◌↔◌, ℕ, ◌≤◌, List, [], ◌∷◌, decimal, length, IfSome};
+ghost use Rattle.std.specs.Prelude.{IsSomeAnd, IsTrue, Some};
 ghost use Rattle.dvg_log.specs.Events.{Happening};
 ghost use Rattle.dvg_text.specs.Texts.{IsHex, parts};
 ghost use Rattle.dvg_text.specs.EventLines.{TakesCount, IsNamed, happenings, spelled_as};
@@ -13,8 +14,8 @@ use std::convert::Infallible;
 /// The most events of one line.
 const MAX_TIMES: u16 = 9999;
 
-/// An event that a line spells by itself. That is no offer, and a reset of the whole system has the byte that each byte
-/// of the RAM is after it.
+/// An event that a line spells by itself. That is no offer, and a reset of the whole system has the
+/// byte that each byte of the RAM is after it.
 pub(crate) type SpelledEvent = Event<Infallible, u8>;
 
 /// The events of a line: one event, so many times in a row.
@@ -27,7 +28,8 @@ pub struct EventLine {
 /// The events that a line spells by itself. None exactly where it spells none.
 pub fn read_event_line(line: &[u8]) -> Option<EventLine>
     ensures found { IfSome result (λ told. EventParts (happenings told) (parts line.now)) }
-    ensures only { (events : List Happening) → EventParts events (parts line.now) → IsSomeAnd result (λ told. happenings told ≡ events) }
+    ensures only { (events : List Happening) → EventParts events (parts line.now)
+        → IsSomeAnd result (λ told. happenings told ≡ events) }
 {
     match memchr(b' ', line) {
         Some(space) => with_operand(&line[..space], &line[space + 1..]),
@@ -38,7 +40,8 @@ pub fn read_event_line(line: &[u8]) -> Option<EventLine>
 // The event of a name alone.
 fn once(name: &[u8]) -> Option<EventLine>
     ensures found { IfSome result (λ told. EventParts (happenings told) (name.now ∷ [])) }
-    ensures only { (events : List Happening) → EventParts events (name.now ∷ []) → IsSomeAnd result (λ told. happenings told ≡ events) }
+    ensures only { (events : List Happening) → EventParts events (name.now ∷ [])
+        → IsSomeAnd result (λ told. happenings told ≡ events) }
 {
     Some(EventLine {
         event: event_named(name)?,
@@ -48,8 +51,10 @@ fn once(name: &[u8]) -> Option<EventLine>
 
 // The events of a name and its operand.
 fn with_operand(name: &[u8], operand: &[u8]) -> Option<EventLine>
-    ensures found { IfSome result (λ told. EventParts (happenings told) (name.now ∷ operand.now ∷ [])) }
-    ensures only { (events : List Happening) → EventParts events (name.now ∷ operand.now ∷ []) → IsSomeAnd result (λ told. happenings told ≡ events) }
+    ensures found { IfSome result (λ told. EventParts (happenings told)
+        (name.now ∷ operand.now ∷ [])) }
+    ensures only { (events : List Happening) → EventParts events (name.now ∷ operand.now ∷ [])
+        → IsSomeAnd result (λ told. happenings told ≡ events) }
 {
     if name == b"resetall".as_slice() {
         return Some(EventLine {
@@ -70,7 +75,8 @@ fn with_operand(name: &[u8], operand: &[u8]) -> Option<EventLine>
 // The event that this name tells whole.
 fn event_named(name: &[u8]) -> Option<SpelledEvent>
     ensures found { IfSome result (λ event. IsNamed (spelled_as event) name.now) }
-    ensures only { (event : Happening) → IsNamed event name.now → IsSomeAnd result (λ found. spelled_as found ≡ event) }
+    ensures only { (event : Happening) → IsNamed event name.now
+        → IsSomeAnd result (λ found. spelled_as found ≡ event) }
 {
     if name == b"redraw".as_slice() {
         Some(Event::Redraw)

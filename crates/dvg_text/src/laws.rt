@@ -1,6 +1,7 @@
-//! Laws of the texts of drafts and of traces. Each is the contract of a function that does nothing, but
-//! two, which read the text.
-ghost use Rattle.dvg_text.specs.TraceLaws.{IsTraceRead, NoFaultBesideTrace, OneTraceFault, OneTraceMeaning};
+//! Laws of the texts of drafts and of traces. Each is the contract of a function that does nothing,
+//! but two, which read the text.
+ghost use Rattle.dvg_text.specs.TraceLaws.{IsTraceRead, NoFaultBesideTrace, OneTraceFault};
+ghost use Rattle.dvg_text.specs.TraceLaws.{OneTraceMeaning};
 ghost use Rattle.dvg_text.specs.TextLaws.{IsRead, NoFaultBeside, OneMeaning, OneRom, OneTextFault};
 
 use crate::draft_text::read_draft;
@@ -21,8 +22,8 @@ pub fn one_text_fault()
     ensures { OneTextFault }
 {}
 
-/// Each text denotes a draft and a ROM, or has a fault. That one of them holds shows by what the reader
-/// of texts itself answers.
+/// Each text denotes a draft and a ROM, or has a fault. That one of them holds shows by what the
+/// reader of texts itself answers.
 pub fn each_is_read(text: &[u8])
     ensures { IsRead text.now }
 {

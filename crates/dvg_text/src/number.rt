@@ -1,5 +1,6 @@
 //! Numbers in a line of a text.
-ghost use Rattle.std.specs.Prelude.{◌≡◌, ◌<◌, ◌≤◌, ◌^◌, ℕ, ℤ, IfSome, Some, length, min, decimal, unsigned_abs};
+ghost use Rattle.std.specs.Prelude.{◌≡◌, ◌<◌, ◌≤◌, ◌^◌, ℕ, ℤ, IfSome, Some, length, min, decimal};
+ghost use Rattle.std.specs.Prelude.{unsigned_abs};
 ghost use Rattle.std.specs.Char.{digit_value};
 ghost use Rattle.std.specs.Fmt.{signed_decimal};
 ghost use Rattle.std.specs.Str.Parse.{AllDigits, digits_value};
@@ -43,7 +44,8 @@ fn value_of(digits: &[u8], radix: u32) -> Option<u32>
     requires few { length digits.now ≤ 5 }
     requires least { 2 ≤ radix }
     requires most { radix ≤ 16 }
-    ensures found { IfSome result (λ n. AllDigits radix digits.now × (digits_value radix digits.now ≡ n)) }
+    ensures found { IfSome result (λ n. AllDigits radix digits.now
+        × (digits_value radix digits.now ≡ n)) }
     ensures only { AllDigits radix digits.now → result ≡ Some (digits_value radix digits.now) }
 {
     let mut number = 0;
@@ -77,11 +79,12 @@ pub fn small_natural(part: &[u8]) -> Option<u8>
     u8::try_from(natural(part)?).ok()
 }
 
-/// A decimal number from -32,767 to 32,767, without leading zeros, with `-` before it exactly where it
-/// is negative.
+/// A decimal number from -32,767 to 32,767, without leading zeros, with `-` before it exactly where
+/// it is negative.
 pub fn integer(part: &[u8]) -> Option<i16>
     ensures found { IfSome result (λ n. part.now ≡ signed_decimal n) }
-    ensures only { (n : ℤ) → unsigned_abs n < 2 ^ 15 → part.now ≡ signed_decimal n → result ≡ Some n }
+    ensures only { (n : ℤ) → unsigned_abs n < 2 ^ 15 → part.now ≡ signed_decimal n
+        → result ≡ Some n }
 {
     let (first, digits) = part.split_first()?;
     if *first != b'-' {
@@ -94,7 +97,8 @@ pub fn integer(part: &[u8]) -> Option<i16>
 /// The same, from -128 to 127.
 pub fn small_integer(part: &[u8]) -> Option<i8>
     ensures found { IfSome result (λ n. part.now ≡ signed_decimal n) }
-    ensures only { (n : ℤ) → unsigned_abs n < 2 ^ 7 → part.now ≡ signed_decimal n → result ≡ Some n }
+    ensures only { (n : ℤ) → unsigned_abs n < 2 ^ 7 → part.now ≡ signed_decimal n
+        → result ≡ Some n }
 {
     i8::try_from(integer(part)?).ok()
 }

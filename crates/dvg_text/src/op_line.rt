@@ -72,7 +72,8 @@ fn targeting(name: &[u8], target: &[u8]) -> Option<OpKind>
 // The operation of a name, a position and a scale.
 fn labs(name: &[u8], x: &[u8], y: &[u8], scale: &[u8]) -> Option<OpKind>
     ensures found { IfSome result (λ op. OpParts op (name.now ∷ x.now ∷ y.now ∷ scale.now ∷ [])) }
-    ensures only { (op : OpKind) → OpParts op (name.now ∷ x.now ∷ y.now ∷ scale.now ∷ []) → result ≡ Some op }
+    ensures only { (op : OpKind) → OpParts op (name.now ∷ x.now ∷ y.now ∷ scale.now ∷ [])
+        → result ≡ Some op }
 {
     if name != b"labs".as_slice() {
         return None;
@@ -85,8 +86,10 @@ fn labs(name: &[u8], x: &[u8], y: &[u8], scale: &[u8]) -> Option<OpKind>
 
 // The operation of a name and the numbers of a vector.
 fn vector(name: &[u8], scale: &[u8], dx: &[u8], dy: &[u8], z: &[u8]) -> Option<OpKind>
-    ensures found { IfSome result (λ op. OpParts op (name.now ∷ scale.now ∷ dx.now ∷ dy.now ∷ z.now ∷ [])) }
-    ensures only { (op : OpKind) → OpParts op (name.now ∷ scale.now ∷ dx.now ∷ dy.now ∷ z.now ∷ []) → result ≡ Some op }
+    ensures found { IfSome result (λ op. OpParts op
+        (name.now ∷ scale.now ∷ dx.now ∷ dy.now ∷ z.now ∷ [])) }
+    ensures only { (op : OpKind) → OpParts op (name.now ∷ scale.now ∷ dx.now ∷ dy.now ∷ z.now ∷ [])
+        → result ≡ Some op }
 {
     match name {
         b"vctr" => vctr(scale, dx, dy, z),
@@ -97,8 +100,10 @@ fn vector(name: &[u8], scale: &[u8], dx: &[u8], dy: &[u8], z: &[u8]) -> Option<O
 
 // A VCTR of these numbers.
 fn vctr(scale: &[u8], dx: &[u8], dy: &[u8], z: &[u8]) -> Option<OpKind>
-    ensures found { IfSome result (λ op. OpParts op (codes "vctr" ∷ scale.now ∷ dx.now ∷ dy.now ∷ z.now ∷ [])) }
-    ensures only { (op : OpKind) → OpParts op (codes "vctr" ∷ scale.now ∷ dx.now ∷ dy.now ∷ z.now ∷ []) → result ≡ Some op }
+    ensures found { IfSome result (λ op. OpParts op
+        (codes "vctr" ∷ scale.now ∷ dx.now ∷ dy.now ∷ z.now ∷ [])) }
+    ensures only { (op : OpKind) → OpParts op
+        (codes "vctr" ∷ scale.now ∷ dx.now ∷ dy.now ∷ z.now ∷ []) → result ≡ Some op }
 {
     let scale = small_natural(scale)?;
     let dx = integer(dx)?;
@@ -109,8 +114,10 @@ fn vctr(scale: &[u8], dx: &[u8], dy: &[u8], z: &[u8]) -> Option<OpKind>
 
 // An SVEC of these numbers.
 fn svec(scale: &[u8], dx: &[u8], dy: &[u8], z: &[u8]) -> Option<OpKind>
-    ensures found { IfSome result (λ op. OpParts op (codes "svec" ∷ scale.now ∷ dx.now ∷ dy.now ∷ z.now ∷ [])) }
-    ensures only { (op : OpKind) → OpParts op (codes "svec" ∷ scale.now ∷ dx.now ∷ dy.now ∷ z.now ∷ []) → result ≡ Some op }
+    ensures found { IfSome result (λ op. OpParts op
+        (codes "svec" ∷ scale.now ∷ dx.now ∷ dy.now ∷ z.now ∷ [])) }
+    ensures only { (op : OpKind) → OpParts op
+        (codes "svec" ∷ scale.now ∷ dx.now ∷ dy.now ∷ z.now ∷ []) → result ≡ Some op }
 {
     let scale = small_natural(scale)?;
     let dx = small_integer(dx)?;

@@ -1,5 +1,6 @@
 //! Lines that give words of a ROM.
-ghost use Rattle.std.specs.Prelude.{◌≡◌, ◌≢◌, ℕ, ◌+◌, ◌*◌, ◌<◌, ◌≤◌, List, get_or, length, IfSome, IsSomeAnd, Some};
+ghost use Rattle.std.specs.Prelude.{◌≡◌, ◌≢◌, ℕ, ◌+◌, ◌*◌, ◌<◌, ◌≤◌, List, get_or, length, IfSome};
+ghost use Rattle.std.specs.Prelude.{IsSomeAnd, Some};
 ghost use Rattle.dvg_code.specs.Words.{word_in};
 ghost use Rattle.dvg_text.specs.LineParts.{bytes_of};
 ghost use Rattle.dvg_text.specs.RomTexts.{IsRomLine, RomLine};
@@ -34,8 +35,8 @@ impl Model for RomWords {
     ghost invariant = { λ given. given.address + length given.words.items ≤ 0xC00 };
 }
 
-/// The words that a line gives, where the ROM's first one is at this word address. None exactly where it is no line of
-/// the ROM.
+/// The words that a line gives, where the ROM's first one is at this word address. None exactly
+/// where it is no line of the ROM.
 pub fn read_rom_line(first: u16, line: &[u8]) -> Option<RomWords>
     ensures found { IfSome result (λ given. IsRomLine first given line.now) }
     ensures only { (given : RomLine) → IsRomLine first given line.now → result ≡ Some given }
@@ -44,8 +45,8 @@ pub fn read_rom_line(first: u16, line: &[u8]) -> Option<RomWords>
     read_rom_parts(first, parts.as_slice())
 }
 
-/// The words that a line of these parts gives, where the ROM's first one is at this word address. None
-/// exactly where it is no line of the ROM.
+/// The words that a line of these parts gives, where the ROM's first one is at this word address.
+/// None exactly where it is no line of the ROM.
 pub fn read_rom_parts(first: u16, cut: &[&[u8]]) -> Option<RomWords>
     ensures found { IfSome result (λ given. (line : List ℕ) → parts line ≡ bytes_of cut.now
         → IsRomLine first given line) }
@@ -73,7 +74,8 @@ pub fn read_rom_parts(first: u16, cut: &[&[u8]]) -> Option<RomWords>
 fn hex_words(parts: &[&[u8]]) -> Option<ArrayVec<u16, MAX_WORDS>>
     ensures found { IfSome result (λ words. SpellsWords words.items (bytes_of parts.now)) }
     ensures few { IfSome result (λ words. length words.items ≤ 8) }
-    ensures only { (words : List ℕ) → length words ≤ 8 → SpellsWords words (bytes_of parts.now) → IsSomeAnd result (λ found. found.items ≡ words) }
+    ensures only { (words : List ℕ) → length words ≤ 8 → SpellsWords words (bytes_of parts.now)
+        → IsSomeAnd result (λ found. found.items ≡ words) }
 {
     let mut words = ArrayVec::new();
     for part in parts {

@@ -1,5 +1,6 @@
 //! The lines of a text that tell of a ROM.
-ghost use Rattle.std.specs.Prelude.{◌≡◌, ◌⊎◌, ◌+◌, ◌-◌, ◌/◌, ℕ, length, IfSome, IsFalse, IsTrue, Some};
+ghost use Rattle.std.specs.Prelude.{◌≡◌, ◌⊎◌, ◌+◌, ◌-◌, ◌/◌, ℕ, length, IfSome, IsFalse, IsTrue};
+ghost use Rattle.std.specs.Prelude.{Some};
 ghost use Rattle.dvg_mem.specs.Grown.{AreReturns};
 ghost use Rattle.dvg_text.specs.RomReading.{HoldsRom, TellsMore, TellsRom, untold};
 ghost use Rattle.dvg_text.specs.RomTexts.{IsMapLine, RomText};
@@ -32,8 +33,10 @@ impl RomReading {
 
     /// Reads one line more. Whether it tells something of the ROM, and may stand here.
     pub fn take(&mut self, line: &[u8]) -> bool
-        ensures took { IsTrue result → (rom : RomText) → HoldsRom rom self.old → TellsMore rom line.now self.new }
-        ensures refused { IsFalse result → (rom now : RomText) → HoldsRom rom self.old → ¬ TellsRom rom line.now now }
+        ensures took { IsTrue result → (rom : RomText) → HoldsRom rom self.old
+            → TellsMore rom line.now self.new }
+        ensures refused { IsFalse result → (rom now : RomText) → HoldsRom rom self.old
+            → ¬ TellsRom rom line.now now }
         ensures kept { IsFalse result → self.new ≡ self.old }
     {
         if let Some(first) = read_map_line(line) {
@@ -68,7 +71,8 @@ impl RomReading {
     }
 }
 
-// The word address of the ROM's first word in the memory map that a line tells. None exactly where it tells none.
+// The word address of the ROM's first word in the memory map that a line tells. None exactly where
+// it tells none.
 fn read_map_line(line: &[u8]) -> Option<u16>
     ensures found { IfSome result (λ first. IsMapLine first line.now) }
     ensures only { (first : ℕ) → IsMapLine first line.now → result ≡ Some first }

@@ -4,8 +4,8 @@ ghost use Rattle.dvg_text.specs.Texts.{is_passed};
 
 use memchr::memchr;
 
-/// An iterator over the lines of a borrowed text, without their ends. Each line ends with LF, which the
-/// last one may lack.
+/// An iterator over the lines of a borrowed text, without their ends. Each line ends with LF, which
+/// the last one may lack.
 #[derive(Drop)]
 pub struct TextLines<'a> {
     rest: &'a [u8],

@@ -1,9 +1,12 @@
 //! Texts of traces.
-ghost use Rattle.std.specs.Prelude.{◌≡◌, ◌+◌, ◌^◌, ◌<◌, ◌≤◌, ◌∷◌, [], ◌++◌, ℕ, List, codes, length, replicate, IfErr, IfOk, IsFalse, IsTrue, OnOk};
+ghost use Rattle.std.specs.Prelude.{◌≡◌, ◌+◌, ◌^◌, ◌<◌, ◌≤◌, ◌∷◌, [], ◌++◌, ℕ, List, codes, length};
+ghost use Rattle.std.specs.Prelude.{replicate, IfErr, IfOk, IsFalse, IsTrue, OnOk};
 ghost use Rattle.dvg_frame.specs.declared.op.OpKind.{OpKind};
 ghost use Rattle.dvg_text.specs.EventLines.{happenings, spelled_as};
 ghost use Rattle.dvg_text.specs.OpLines.{IsOpLine};
-ghost use Rattle.dvg_text.specs.TraceGives.{AreResets, GivesTrace, IsHeld, ReadsLine, StopsEvents, StopsLine, StopsOperation, StopsReading, events_read, fault_at, opened_of};
+ghost use Rattle.dvg_text.specs.TraceGives.{AreResets, GivesTrace, IsHeld, ReadsLine, StopsEvents};
+ghost use Rattle.dvg_text.specs.TraceGives.{StopsLine, StopsOperation, StopsReading, events_read};
+ghost use Rattle.dvg_text.specs.TraceGives.{fault_at, opened_of};
 ghost use Rattle.dvg_log.specs.declared.event.Event.TheVariants.{ResetAll};
 
 use crate::draft_text::MOST_TEXT_BYTES;
@@ -24,7 +27,8 @@ use std::alloc::{Allocator, Global};
 pub struct TraceText<A: Allocator = Global> {
     /// Its events, in order.
     pub events: Trace<A>,
-    /// The bytes of the ROM, 2,048 or 4,096: the words that its ROM lines give, and D000, an RTSL, for each other.
+    /// The bytes of the ROM, 2,048 or 4,096: the words that its ROM lines give, and D000, an RTSL,
+    /// for each other.
     pub rom: ArrayVec<u8, LARGE_ROM_BYTES>,
 }
 
@@ -32,7 +36,8 @@ pub struct TraceText<A: Allocator = Global> {
 ///
 /// - `TooLong`: the text has more than 1,048,576 bytes. This is decided before all others.
 /// - `Syntax`: this line is the first that spells nothing that may stand at its place.
-/// - `Full`: this line spells operation number 511 of its offer, the lines before it being without fault.
+/// - `Full`: this line spells operation number 511 of its offer, the lines before it being without
+///   fault.
 /// - `Many`: this line brings the number of events above 65,536, the lines before it being without
 ///   fault. An offer is an event with its `end`.
 /// - `Unended`: no line is at fault, and the text ends inside an offer.
@@ -117,7 +122,8 @@ impl<A: Allocator + Copy> Reading<A> {
         requires held { IsHeld self.old }
         ensures taken { OnOk result (ReadsLine self.old line.now self.new) }
         ensures held { OnOk result (IsHeld self.new) }
-        ensures fault { IfErr result (λ fault. StopsLine fault (events_read self.old) (opened_of self.old) self.old.rom line.now) }
+        ensures fault { IfErr result (λ fault. StopsLine fault (events_read self.old)
+            (opened_of self.old) self.old.rom line.now) }
     {
         if !self.is_open {
             return self.take_outside(line);
@@ -134,7 +140,8 @@ impl<A: Allocator + Copy> Reading<A> {
         requires held { IsHeld self.old }
         ensures taken { OnOk result (ReadsLine self.old line.now self.new) }
         ensures held { OnOk result (IsHeld self.new) }
-        ensures fault { IfErr result (λ fault. StopsLine fault (events_read self.old) (opened_of self.old) self.old.rom line.now) }
+        ensures fault { IfErr result (λ fault. StopsLine fault (events_read self.old)
+            (opened_of self.old) self.old.rom line.now) }
     {
         if line == b"offer".as_slice() {
             self.draft.clear();
@@ -156,7 +163,8 @@ impl<A: Allocator + Copy> Reading<A> {
         requires held { IsHeld self.old }
         ensures taken { OnOk result (ReadsLine self.old (codes "end") self.new) }
         ensures held { OnOk result (IsHeld self.new) }
-        ensures fault { IfErr result (λ fault. StopsLine fault (events_read self.old) (opened_of self.old) self.old.rom (codes "end")) }
+        ensures fault { IfErr result (λ fault. StopsLine fault (events_read self.old)
+            (opened_of self.old) self.old.rom (codes "end")) }
     {
         if self.events.len() == MOST_EVENTS {
             return Err(LineFault::Many);
@@ -171,7 +179,8 @@ impl<A: Allocator + Copy> Reading<A> {
 
 // Adds the operation that a line spells.
 pub(crate) fn add_op(draft: &mut Draft, line: &[u8]) -> Result<(), LineFault>
-    ensures added { OnOk result ((op : OpKind) × IsOpLine op line.now × (draft.new ≡ draft.old ++ op ∷ [])) }
+    ensures added { OnOk result ((op : OpKind) × IsOpLine op line.now
+        × (draft.new ≡ draft.old ++ op ∷ [])) }
     ensures room { OnOk result (length draft.old < 511) }
     ensures fault { IfErr result (λ fault. StopsOperation fault draft.old line.now) }
 {
@@ -261,7 +270,8 @@ fn add_once<A: Allocator>(
     events.push(own)
 }
 
-// Adds a reset of the whole system, behind which each byte is this one. Its image is made where it is the first.
+// Adds a reset of the whole system, behind which each byte is this one. Its image is made where it
+// is the first.
 fn add_reset<A: Allocator>(
     alloc: A,
     byte: u8,

@@ -1,5 +1,6 @@
 -- What the fetches of every legal log show: words are whole, though they are fetched in two parts.
-use Rattle.std.specs.Prelude.{◌≡◌, ◌≢◌, ℕ, suc, ◌+◌, ◌-◌, ◌*◌, ◌%◌, ◌^◌, ◌<◌, ◌≤◌, true, false, All, List, ◌∷◌, length, slice_index, Some, None}
+use Rattle.std.specs.Prelude.{◌≡◌, ◌≢◌, ℕ, suc, ◌+◌, ◌-◌, ◌*◌, ◌%◌, ◌^◌, ◌<◌, ◌≤◌, true, false, All, List, ◌∷◌, length}
+use Rattle.std.specs.Prelude.{slice_index, Some, None}
 use Rattle.dvg_mem.specs.declared.half.Half.{Half}
 use Rattle.dvg_mem.specs.Areas.{IsInHalf, base}
 use Rattle.dvg_mem.specs.Memory.{fetched, fetched_byte}
@@ -20,7 +21,8 @@ use Rattle.dvg_log.specs.Legal.{IsWanted}
 abbrev pub IsInMemory : List ℕ → List ℕ → Log → Happening → Shown → Type 0
 IsInMemory R image log event (Fetched address word) = fetched (ram image log) R address ≡ Some word
 IsInMemory R image log event (Done address word drew) = fetched (ram image log) R address ≡ Some word
-IsInMemory R image log event (Broke address fault) = meets R image log address ≡ Whole (fetched (ram image log) R address)
+IsInMemory R image log event (Broke address fault) = meets R image log address
+    ≡ Whole (fetched (ram image log) R address)
 IsInMemory R image log event entry = Unit {0}
 
 -- a word comes right after its own low byte, from the same address, and a low byte after no other
@@ -33,13 +35,16 @@ IsPaired log event entry = Unit {0}
 -- while a run is open, an action changes no byte of the word that is fetched next, but for the high byte of word zero
 abbrev pub KeepsNext : List ℕ → List ℕ → Log → Happening → Shown → Type 0
 KeepsNext R image log event (Acted action) = (address : ℕ) → IsWanted (history R image log) address
-    → (fetched_byte (ram image ((event ⟼ Acted action) ∷ log)) R address false ≡ fetched_byte (ram image log) R address false)
-    × (address ≢ 0 → fetched_byte (ram image ((event ⟼ Acted action) ∷ log)) R address true ≡ fetched_byte (ram image log) R address true)
+    → (fetched_byte (ram image ((event ⟼ Acted action) ∷ log)) R address false
+    ≡ fetched_byte (ram image log) R address false)
+    × (address ≢ 0 → fetched_byte (ram image ((event ⟼ Acted action) ∷ log)) R address true
+    ≡ fetched_byte (ram image log) R address true)
 KeepsNext R image log event entry = Unit {0}
 
 -- a word that is fetched in the half being drawn is the one that the layout of what the run shows has there
 abbrev pub FromLayout : Log → ℕ → ℕ → Type 0
-FromLayout log address word = (half : Half) (F : List OpKind) → IsBeingDrawn log half → IsShown log F → IsInHalf half address
+FromLayout log address word = (half : Half) (F : List OpKind) → IsBeingDrawn log half → IsShown log F
+    → IsInHalf half address
     → (address < base half + length (laid half F)) × (word ≡ slice_index (laid half F) (address - base half))
 
 -- each word that a run fetches is so

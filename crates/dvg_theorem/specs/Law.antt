@@ -29,10 +29,13 @@ pub record Finishes (memory : ℕ → Option ℕ) (beam : Beam) (drew : List Str
 
 -- no run meets a hole, and none makes a call or a return that breaks it
 pub record NeverBreaks (memory : ℕ → Option ℕ) : Type 0 where
-  pub fault : (n : ℕ) (visits : List Visit) (held : Option ℕ) → Runs memory n visits held → (fault : GenFault) → fate visits ≢ Breaks fault
-  pub hole : (n : ℕ) (visits : List Visit) (held : Option ℕ) → Runs memory n visits held → fate visits ≡ Goes → memory (wanted visits held) ≢ None
+  pub fault : (n : ℕ) (visits : List Visit) (held : Option ℕ) → Runs memory n visits held → (fault : GenFault)
+      → fate visits ≢ Breaks fault
+  pub hole : (n : ℕ) (visits : List Visit) (held : Option ℕ) → Runs memory n visits held → fate visits ≡ Goes
+      → memory (wanted visits held) ≢ None
 
--- no run breaks, and from any beam there is one of n words that ends in HALT with these strokes exactly when they are the draft's picture in n words
+-- no run breaks, and from any beam there is one of n words that ends in HALT with these strokes exactly when they are
+-- the draft's picture in n words
 pub record IsDrawn (F : List OpKind) (R : List ℕ) (memory : ℕ → Option ℕ) : Type 0 where
   pub safe : NeverBreaks memory
   pub exact : (beam : Beam) (drew : List Stroke) (n : ℕ) → Finishes memory beam drew n ↔ IsPicture F R drew n
@@ -49,11 +52,15 @@ Undisturbed = (half : Half) (F : List OpKind) (ram R : List ℕ) → IsDraft F �
 
 -- no run that goes on wants word zero again
 abbrev pub OnlyFirst : Type 0
-OnlyFirst = (half : Half) (F : List OpKind) (R : List ℕ) (memory : ℕ → Option ℕ) → IsDraft F → IsRom R → Closed F R → HasFrame memory half F R
-    → (n : ℕ) (visits : List Visit) (held : Option ℕ) → Runs memory (suc n) visits held → fate visits ≡ Goes → wanted visits held ≢ 0
+OnlyFirst = (half : Half) (F : List OpKind) (R : List ℕ) (memory : ℕ → Option ℕ) → IsDraft F → IsRom R → Closed F R
+    → HasFrame memory half F R
+    → (n : ℕ) (visits : List Visit) (held : Option ℕ) → Runs memory (suc n) visits held → fate visits ≡ Goes
+    → wanted visits held ≢ 0
 
 -- where the draft has a picture of n words, no run has more, and each of n ends in HALT with the picture's strokes
 abbrev pub EndsInTime : Type 0
-EndsInTime = (half : Half) (F : List OpKind) (R : List ℕ) (memory : ℕ → Option ℕ) → IsDraft F → IsRom R → Closed F R → HasFrame memory half F R
-    → (beam : Beam) (drew : List Stroke) (n : ℕ) → IsPicture F R drew n → (m : ℕ) (visits : List Visit) (held : Option ℕ) → Runs memory m visits held
+EndsInTime = (half : Half) (F : List OpKind) (R : List ℕ) (memory : ℕ → Option ℕ) → IsDraft F → IsRom R → Closed F R
+    → HasFrame memory half F R
+    → (beam : Beam) (drew : List Stroke) (n : ℕ) → IsPicture F R drew n
+    → (m : ℕ) (visits : List Visit) (held : Option ℕ) → Runs memory m visits held
     → (m ≤ n) × (m ≡ n → (held ≡ None) × (fate visits ≡ Finished) × (strokes beam visits ≡ drew))

@@ -10,4 +10,5 @@ OneVerdict = (text : List ℕ) (one other : Verdict) → Judges text one → Jud
 
 -- and one with its bound
 abbrev pub OneBoundedVerdict : Type 0
-OneBoundedVerdict = (text : List ℕ) (one other : BoundedVerdict) → JudgesBound text one → JudgesBound text other → other ≡ one
+OneBoundedVerdict = (text : List ℕ) (one other : BoundedVerdict) → JudgesBound text one → JudgesBound text other
+    → other ≡ one

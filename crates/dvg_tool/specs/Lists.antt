@@ -1,5 +1,6 @@
 -- What `list` answers and writes.
-use Rattle.std.specs.Prelude.{◌≡◌, ◌≢◌, ◌%◌, ◌<◌, ◌≤◌, ℕ, List, [], drop, length, nat_eq, Option, Result, Ok, Err, MatchResult}
+use Rattle.std.specs.Prelude.{◌≡◌, ◌≢◌, ◌%◌, ◌<◌, ◌≤◌, ℕ, List, [], drop, length, nat_eq, Option, Result, Ok, Err}
+use Rattle.std.specs.Prelude.{MatchResult}
 use Rattle.std.specs.Io.KnownBytes.{Appends}
 use Rattle.std.specs.List.{starts_with}
 use Rattle.dvg_code.specs.declared.instr.Instr.{Instr}
@@ -26,7 +27,8 @@ StopsListing _ words old new = ⊥
 
 -- where the words' cutting leaves no rest, the text of its instructions went out; else by the fault
 -- (for a private contract)
-abbrev pub ListsWords : {T : Type 0} → Result T ToolFault → (words : List ℕ) → Option (List ℕ) → Option (List ℕ) → Type 0
+abbrev pub ListsWords : {T : Type 0} → Result T ToolFault → (words : List ℕ) → Option (List ℕ) → Option (List ℕ)
+    → Type 0
 ListsWords answer words old new = MatchResult answer
     (λ _. (cutting : Cutting words) → (cutting.rest ≡ []) × Appends old new (list_text cutting.items))
     (λ fault. StopsListing fault words old new)
@@ -40,11 +42,14 @@ IsListable input = (length input ≤ 8192) × (length input % 2 ≡ 0)
 -- part of `Serves`)
 abbrev pub Lists : {T : Type 0} → Result T ToolFault → (input : List ℕ) → Option (List ℕ) → Option (List ℕ) → Type 0
 Lists (Ok done) input old new =
-    IsListable input × ((cutting : Cutting (words_of input)) → (cutting.rest ≡ []) × Appends old new (list_text cutting.items))
+    IsListable input × ((cutting : Cutting (words_of input))
+    → (cutting.rest ≡ []) × Appends old new (list_text cutting.items))
 Lists (Err (Text TooLong)) input old new = 8192 < length input
 Lists (Err (Text Odd)) input old new = (length input ≤ 8192) × (length input % 2 ≡ 1)
 Lists (Err (Text (Cut place))) input old new =
-    IsListable input × ((cutting : Cutting (words_of input)) → (cutting.rest ≢ []) × (place ≡ cutting.end) × Appends old new (list_text cutting.items))
+    IsListable input × ((cutting : Cutting (words_of input))
+    → (cutting.rest ≢ []) × (place ≡ cutting.end) × Appends old new (list_text cutting.items))
 Lists (Err (Text _)) input old new = ⊥
-Lists (Err Writer) input old new = IsListable input × ((cutting : Cutting (words_of input)) → BeginsToWrite (list_text cutting.items) old new)
+Lists (Err Writer) input old new = IsListable input
+    × ((cutting : Cutting (words_of input)) → BeginsToWrite (list_text cutting.items) old new)
 Lists _ input old new = Unit {0}

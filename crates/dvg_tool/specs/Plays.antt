@@ -1,5 +1,6 @@
 -- What `play` answers and writes.
-use Rattle.std.specs.Prelude.{◌≡◌, ℕ, ◌⊎◌, List, [], ◌∷◌, ◌++◌, map, replicate, reverse, Bool, Option, Result, Ok, Err, Vec}
+use Rattle.std.specs.Prelude.{◌≡◌, ℕ, ◌⊎◌, List, [], ◌∷◌, ◌++◌, map, replicate, reverse, Bool, Option, Result, Ok, Err}
+use Rattle.std.specs.Prelude.{Vec}
 use Rattle.std.specs.Io.KnownBytes.{Appends}
 use Rattle.dvg_log.specs.Entries.{OwnEntry}
 use Rattle.dvg_log.specs.Entries.{Shown, shown_of}
@@ -54,7 +55,8 @@ pub record IsPlayed (text : List ℕ) (log : Log) (later : List Happening) : Typ
   pub in_order : events ≡ map event_of (reverse log) ++ later
 
 -- this holds of what is shown of a log that was played, which ends so
-pub record ShowsUntil (all : Bool) (text : List ℕ) (Ends : List ℕ → Log → List Happening → Type 0) (Holds : List ℕ → Type 0) : Type 0 where
+pub record ShowsUntil (all : Bool) (text : List ℕ) (Ends : List ℕ → Log → List Happening → Type 0)
+    (Holds : List ℕ → Type 0) : Type 0 where
   pub log : Log
   pub later : List Happening
   pub played : IsPlayed text log later
@@ -85,7 +87,8 @@ StopsBeforeShowing fault = StopsBeforeWriting fault
 
 -- what `play` answers of an input, and what went out: what is shown of the log, or at `Memory` and
 -- `Writer` of its front (that nothing went out at the first two faults is a part of `Serves`)
-abbrev pub Plays : {T : Type 0} → Bool → Result T ToolFault → (input : List ℕ) → Option (List ℕ) → Option (List ℕ) → Type 0
+abbrev pub Plays : {T : Type 0} → Bool → Result T ToolFault → (input : List ℕ) → Option (List ℕ) → Option (List ℕ)
+    → Type 0
 Plays all (Ok done) input old new = (log : Log) × IsPlayed input log [] × Appends old new (log_text all log)
 Plays all (Err (Text fault)) input old new = HasTraceFault input fault
 Plays all (Err Reader) input old new = Unit {0}

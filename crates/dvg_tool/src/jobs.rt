@@ -30,8 +30,10 @@ pub fn perform<A: Allocator + Copy, R: Read, W: Write>(
 
     // Of a reader that tells its bytes.
     ensures performs { IfSome (R.remaining (device_of reader.old)) (λ input.
-        Performs job result input (W.contents (device_of writer.old)) (W.contents (device_of writer.new))) }
-    ensures took { TakesBy job result (R.remaining (device_of reader.old)) (R.remaining (device_of reader.new)) }
+        Performs job result input (W.contents (device_of writer.old))
+        (W.contents (device_of writer.new))) }
+    ensures took { TakesBy job result (R.remaining (device_of reader.old))
+        (R.remaining (device_of reader.new)) }
 
     // Whatever the reader and the writer are.
     ensures unwritten { IfErr result (λ fault. StaysUnwritten job fault → writer.new ≡ writer.old) }

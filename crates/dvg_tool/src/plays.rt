@@ -37,7 +37,8 @@ fn run_text<S: Store>(
 ) -> Result<Vec<OwnEntry<S::Alloc>, S::Alloc>, Stopped<S::Alloc>>
     requires { IsRom told.now.rom.items }
     ensures legal { IsLegal told.now.rom.items zeros (log_by told.now.events result) }
-    ensures headline { Throughout (KeepsHeadline told.now.rom.items zeros) (log_by told.now.events result) }
+    ensures headline { Throughout (KeepsHeadline told.now.rom.items zeros)
+        (log_by told.now.events result) }
     ensures whole { IfOk result (λ entries. length entries.items ≡ length told.now.events) }
     ensures stopped { IfErr result (λ stopped. length stopped.entries.items ≡ stopped.event) }
     ensures early { IfErr result (IsStop told.now.rom.items zeros told.now.events) }

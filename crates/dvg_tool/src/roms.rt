@@ -5,7 +5,8 @@ ghost use Rattle.dvg_lines.specs.Lines.{rom_lines};
 ghost use Rattle.dvg_io.specs.Faults.{StopsBeforeWriting};
 ghost use Rattle.dvg_io.specs.Serving.{AreFresh, Serves};
 ghost use Rattle.dvg_io.specs.Watching.{Writes};
-ghost use Rattle.dvg_tool.specs.Roms.{HasRomFault, HasRomSize, IsRomFault, IsRomOf, WritesRom, words_text};
+ghost use Rattle.dvg_tool.specs.Roms.{HasRomFault, HasRomSize, IsRomFault, IsRomOf, WritesRom};
+ghost use Rattle.dvg_tool.specs.Roms.{words_text};
 
 use dvg_io::{DeviceFailed, Engine, ToolFault, Watched, collect_words, serve, write_whole};
 use dvg_lines::Line;

@@ -24,8 +24,8 @@ IsFresh R driven = (driven.rom ≡ R) × ((peeked : ℕ) → StandsAfter driven.
 abbrev pub OfLives : Stage → (ℕ → List Item → Type 0) → Type 0
 OfLives stage P = (peeked : ℕ) (life : List Item) → StandsAfter stage peeked life → P peeked life
 
--- an offer: a draft that the check refuses is refused for the fault that is picked; one that it accepts goes on the life
--- where that is of whole parts, for the half that is free
+-- an offer: a draft that the check refuses is refused for the fault that is picked; one that it accepts goes on the
+-- life where that is of whole parts, for the half that is free
 abbrev pub OfferAnswers : {S : Type 0} → List ℕ → List OpKind → Stage → Stage → Entry S → Type 0
 OfferAnswers R F stage later (Refused fault) = faults.Refuses F R fault × (later ≡ stage)
 OfferAnswers R F stage later Busy =
@@ -34,8 +34,8 @@ OfferAnswers R F stage later Offered = Accepts F R × OfLives stage (λ peeked l
     × StandsAfter later peeked (script.Offered (other (half_of_high (byte1_of peeked life))) F ∷ life))
 OfferAnswers R F stage later entry = ⊥
 
--- a redraw: there is nothing to draw again before the life's first flip; then it goes on the life where that is of whole
--- parts
+-- a redraw: there is nothing to draw again before the life's first flip; then it goes on the life where that is of
+-- whole parts
 abbrev pub RedrawAnswers : {S : Type 0} → Stage → Stage → Entry S → Type 0
 RedrawAnswers stage later NothingPublished =
     (later ≡ stage) × OfLives stage (λ peeked life. has_flip life ≡ false)

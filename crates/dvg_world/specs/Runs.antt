@@ -7,7 +7,8 @@ use Rattle.dvg_log.specs.Entries.{OwnEntry, shown_of}
 use Rattle.dvg_log.specs.Log.{Log, ◌⟼◌}
 use Rattle.dvg_world.specs.Wanting.{TakesMemory}
 
--- the entries that were answered, oldest first: all of them, or those of the events before the one at which the run stopped
+-- the entries that were answered, oldest first: all of them, or those of the events before the one at which the run
+-- stopped
 abbrev pub entries_of : {A : Type 0} → Result (Vec (OwnEntry A) A) (Stopped A) → List (OwnEntry A)
 entries_of (Ok entries) = entries.items
 entries_of (Err stopped) = stopped.entries.items
@@ -22,4 +23,6 @@ log_by events answer = log_of events (entries_of answer)
 
 -- the run stopped before the first event, or at an event that takes memory
 abbrev pub IsStop : {A : Type 0} → List ℕ → List ℕ → List Happening → Stopped A → Type 0
-IsStop R image events stopped = (stopped.event ≡ 0) ⊎ ((event : Happening) × (slice_get events stopped.event ≡ Some event) × TakesMemory R image (log_of events stopped.entries.items) event)
+IsStop R image events stopped = (stopped.event ≡ 0)
+    ⊎ ((event : Happening) × (slice_get events stopped.event ≡ Some event)
+    × TakesMemory R image (log_of events stopped.entries.items) event)

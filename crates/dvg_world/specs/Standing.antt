@@ -21,8 +21,10 @@ pub record State : Type 0 where
   pub stage : Stage
   pub sent : Bool
 
--- a world has this ROM and this RAM; its generator stands after the words that it was told and the low byte that waits, and its driver after its life, which tells byte 001 of the RAM; and it knows whether a strobe was sent
-pub record StandsAt (world : State) (R bytes : List ℕ) (told : List Told) (low : Option ℕ) (items : List Item) (strobe : Bool) : Type 0 where
+-- a world has this ROM and this RAM; its generator stands after the words that it was told and the low byte that waits,
+-- and its driver after its life, which tells byte 001 of the RAM; and it knows whether a strobe was sent
+pub record StandsAt (world : State) (R bytes : List ℕ) (told : List Told) (low : Option ℕ) (items : List Item)
+    (strobe : Bool) : Type 0 where
   pub rom : world.rom ≡ R
   pub ram : world.ram ≡ bytes
   pub machine : generator.HasTaken world.machine told low
@@ -38,11 +40,13 @@ pub record WorldAfter (R image : List ℕ) (log : Log) (world : State) : Type 0 
 
 -- after each log that the old world stands after, and this line, the new one stands: so the line is legal
 abbrev pub AddsLine : State → Happening → Shown → State → Type 0
-AddsLine old event entry new = (R image : List ℕ) (log : Log) → WorldAfter R image log old → WorldAfter R image ((event ⟼ entry) ∷ log) new
+AddsLine old event entry new = (R image : List ℕ) (log : Log) → WorldAfter R image log old
+    → WorldAfter R image ((event ⟼ entry) ∷ log) new
 
 -- over each log that the world stands after, this line keeps the headline
 abbrev pub KeepsHeadlineAfter : State → Happening → Shown → Type 0
-KeepsHeadlineAfter world event entry = (R image : List ℕ) (log : Log) → WorldAfter R image log world → KeepsHeadline R image log event entry
+KeepsHeadlineAfter world event entry = (R image : List ℕ) (log : Log) → WorldAfter R image log world
+    → KeepsHeadline R image log event entry
 
 -- after each log that the world stands after, the next fetch adds a stroke
 abbrev pub DrawsNow : State → Type 0

@@ -9,8 +9,8 @@ use dvg_mem::{MemFault, Rom};
 use std::alloc::{AllocError, Allocator, Global};
 use std::marker::Model;
 
-/// A driver with the ROM over which its drafts are checked, and what they are checked by. It knows no RAM: what it does
-/// is told by its answers.
+/// A driver with the ROM over which its drafts are checked, and what they are checked by. It knows
+/// no RAM: what it does is told by its answers.
 #[derive(Drop)]
 pub struct Desk<A: Allocator = Global> {
     rom: Rom<A>,
@@ -28,7 +28,8 @@ impl<A: Allocator> Model for Desk<A> {
 }
 
 impl<A: Allocator> Desk<A> {
-    /// A driver that was just reset, over this ROM. It takes some 105 KB for the tables of the check.
+    /// A driver that was just reset, over this ROM. It takes some 105 KB for the tables of the
+    /// check.
     pub fn new(alloc: A, rom: Rom<A>) -> Result<Desk<A>, AllocError>
         ensures { IfOk result (IsFresh rom) }
     {
@@ -39,11 +40,13 @@ impl<A: Allocator> Desk<A> {
         })
     }
 
-    /// The driver is just reset, over a ROM of these bytes. Memory is taken, and may be refused, only for a ROM of
-    /// another size. All is as it was after an error, which is `Size` exactly where a ROM has another number of bytes.
+    /// The driver is just reset, over a ROM of these bytes. Memory is taken, and may be refused,
+    /// only for a ROM of another size. All is as it was after an error, which is `Size` exactly
+    /// where a ROM has another number of bytes.
     pub fn begin_anew(&mut self, alloc: A, rom: &[u8]) -> Result<(), MemFault>
         ensures fresh { OnOk result (IsFresh rom.now self.new) }
-        ensures size { IsErrOf result MemFault.Size ↔ ((length rom.now ≢ 2048) × (length rom.now ≢ 4096)) }
+        ensures size { IsErrOf result MemFault.Size
+            ↔ ((length rom.now ≢ 2048) × (length rom.now ≢ 4096)) }
         ensures room { length rom.now ≡ length self.old.rom → IsOk result }
         ensures refused { OnErr result (self.new ≡ self.old) }
     {
@@ -90,7 +93,8 @@ impl<A: Allocator> Desk<A> {
         }
     }
 
-    /// The driver does one action. It is told whether the generator is halted, and the byte at 001 of the RAM.
+    /// The driver does one action. It is told whether the generator is halted, and the byte at 001
+    /// of the RAM.
     pub fn tick(&mut self, halted: bool, byte1: u8) -> Action
         ensures rom { self.new.rom ≡ self.old.rom }
         ensures answers { TickAnswers halted byte1 self.old.stage self.new.stage result }

@@ -27,7 +27,8 @@ pub(crate) fn happen_of<S: Store>(
     world: &mut World<S>,
 ) -> Result<OwnEntry<S::Alloc>, OutOfMemory>
     requires { number < length trace.now }
-    ensures stands { IfOk result (λ entry. AddsEvent trace.now number world.old (shown_of entry) world.new) }
+    ensures stands { IfOk result (λ entry. AddsEvent trace.now number world.old
+        (shown_of entry) world.new) }
     ensures room { OnErr result (WantsMemory trace.now number world.old) }
 {
     match trace.event(number) {

@@ -1,9 +1,11 @@
 //! A judge of logs, whoever made them.
-ghost use Rattle.std.specs.Prelude.{◌≡◌, ◌↔◌, ◌∷◌, [], List, ℕ, map, IfSome, IsNone, IsTrue, None, Option, Some};
+ghost use Rattle.std.specs.Prelude.{◌≡◌, ◌↔◌, ◌∷◌, [], List, ℕ, map, IfSome, IsNone, IsTrue, None};
+ghost use Rattle.std.specs.Prelude.{Option, Some};
 ghost use Rattle.dvg_driver.specs.declared.action.Action.TheVariants.{Wrote};
 ghost use Rattle.dvg_gen.specs.declared.stroke.Stroke.{Stroke};
 ghost use Rattle.dvg_log.specs.Entries.{shown_of};
-ghost use Rattle.dvg_log.specs.declared.entry.Entry.TheVariants.{Acted, Cleared, Done, Fetched, Started};
+ghost use Rattle.dvg_log.specs.declared.entry.Entry.TheVariants.{Acted, Cleared, Done, Fetched};
+ghost use Rattle.dvg_log.specs.declared.entry.Entry.TheVariants.{Started};
 ghost use Rattle.dvg_log.specs.Events.{Happening, happening_of};
 ghost use Rattle.dvg_log.specs.declared.event.Event.TheVariants.{Fetch, ResetGen, Strobe, Tick};
 ghost use Rattle.dvg_log.specs.Legal.{IsLegal};
@@ -45,7 +47,8 @@ impl Drawing {
 
     // What is left by an event.
     fn after_event<A: Allocator>(self, event: &OwnEvent<A>) -> Drawing
-        ensures { (run : Option (List (ℕ × ℕ))) → FitsRun self run → FitsRun result (left_by (happening_of event.now) run) }
+        ensures { (run : Option (List (ℕ × ℕ))) → FitsRun self run
+            → FitsRun result (left_by (happening_of event.now) run) }
     {
         match event {
             Event::ResetGen | Event::ResetAll(_) => Drawing::Nothing,
@@ -55,7 +58,8 @@ impl Drawing {
 
     // What is drawn behind the fetch of a word at this address.
     fn after_fetch(self, address: u16, word: u16) -> Drawing
-        ensures { (run : Option (List (ℕ × ℕ))) → FitsRun self run → FitsRun result (behind (Fetched address word) run) }
+        ensures { (run : Option (List (ℕ × ℕ))) → FitsRun self run
+            → FitsRun result (behind (Fetched address word) run) }
     {
         match self {
             Drawing::Begun => Drawing::from_first(address, word),
@@ -65,7 +69,8 @@ impl Drawing {
 
     // What is drawn behind an entry.
     fn after_entry<A: Allocator>(self, entry: &OwnEntry<A>) -> Drawing
-        ensures { (run : Option (List (ℕ × ℕ))) → FitsRun self run → FitsRun result (behind (shown_of entry.now) run) }
+        ensures { (run : Option (List (ℕ × ℕ))) → FitsRun self run
+            → FitsRun result (behind (shown_of entry.now) run) }
     {
         match entry {
             Entry::Started => Drawing::Begun,
@@ -75,9 +80,12 @@ impl Drawing {
         }
     }
 
-    // Whether this is drawn with the byte at this address of the RAM, so that to write it tears the picture.
+    // Whether this is drawn with the byte at this address of the RAM, so that to write it tears the
+    // picture.
     fn is_torn_at(self, address: u16) -> bool
-        ensures { (log : Log) (event : Happening) (byte : ℕ) → FitsRun self (open_run ((event ⟼ Acted (Wrote address byte)) ∷ log)) → IsTrue result ↔ IsTorn log event (Acted (Wrote address byte)) }
+        ensures { (log : Log) (event : Happening) (byte : ℕ)
+            → FitsRun self (open_run ((event ⟼ Acted (Wrote address byte)) ∷ log))
+            → IsTrue result ↔ IsTorn log event (Acted (Wrote address byte)) }
     {
         let Drawing::Within(half) = self else {
             return false;
@@ -87,7 +95,9 @@ impl Drawing {
 
     // Whether this entry, behind which that is drawn, tears the picture.
     fn is_torn_by<A: Allocator>(self, entry: &OwnEntry<A>) -> bool
-        ensures { (log : Log) (event : Happening) → FitsRun self (open_run ((event ⟼ shown_of entry.now) ∷ log)) → IsTrue result ↔ IsTorn log event (shown_of entry.now) }
+        ensures { (log : Log) (event : Happening)
+            → FitsRun self (open_run ((event ⟼ shown_of entry.now) ∷ log))
+            → IsTrue result ↔ IsTorn log event (shown_of entry.now) }
     {
         match entry {
             Entry::Acted(Action::Wrote(address, _)) => self.is_torn_at(*address),
@@ -96,8 +106,9 @@ impl Drawing {
     }
 }
 
-/// A judge of one log, whoever made it, that is told its lines in order: each by its event and its entry, or by what it
-/// shows. It keeps no more than which half the open run draws, and takes no memory.
+/// A judge of one log, whoever made it, that is told its lines in order: each by its event and its
+/// entry, or by what it shows. It keeps no more than which half the open run draws, and takes no
+/// memory.
 #[derive(Clone, Copy, Debug, PartialEq, Eq)]
 pub struct Judge {
     drawing: Drawing,
@@ -115,8 +126,10 @@ impl Judge {
 
     /// Is told a line more. Whether that tears a picture.
     pub fn take<A: Allocator>(&mut self, event: &OwnEvent<A>, entry: &OwnEntry<A>) -> bool
-        ensures stands { (log : Log) → StandsAfter self.old log → StandsAfter self.new ((happening_of event.now ⟼ shown_of entry.now) ∷ log) }
-        ensures torn { (log : Log) → StandsAfter self.old log → IsTrue result ↔ IsTorn log (happening_of event.now) (shown_of entry.now) }
+        ensures stands { (log : Log) → StandsAfter self.old log
+            → StandsAfter self.new ((happening_of event.now ⟼ shown_of entry.now) ∷ log) }
+        ensures torn { (log : Log) → StandsAfter self.old log
+            → IsTrue result ↔ IsTorn log (happening_of event.now) (shown_of entry.now) }
     {
         self.drawing = self.drawing.after_event(event).after_entry(entry);
         self.drawing.is_torn_by(entry)
@@ -124,55 +137,66 @@ impl Judge {
 
     /// Is told that a strobe began a run.
     pub fn started(&mut self)
-        ensures { (log : Log) → StandsAfter self.old log → StandsAfter self.new ((Strobe ⟼ Started) ∷ log) }
+        ensures { (log : Log) → StandsAfter self.old log
+            → StandsAfter self.new ((Strobe ⟼ Started) ∷ log) }
     {
         self.drawing = Drawing::Begun;
     }
 
     /// Is told that a fetch completed this word at this word address, and the run goes on.
     pub fn fetched(&mut self, address: u16, word: u16)
-        ensures { (log : Log) → StandsAfter self.old log → StandsAfter self.new ((Fetch ⟼ Fetched address word) ∷ log) }
+        ensures { (log : Log) → StandsAfter self.old log
+            → StandsAfter self.new ((Fetch ⟼ Fetched address word) ∷ log) }
     {
         self.drawing = self.drawing.after_fetch(address, word);
     }
 
-    /// Is told that a fetch ended the run by a HALT, whatever its word address, its word and what it drew.
+    /// Is told that a fetch ended the run by a HALT, whatever its word address, its word and what
+    /// it drew.
     pub fn halted(&mut self)
-        ensures { (address word : ℕ) (strokes : List Stroke) (log : Log) → StandsAfter self.old log → StandsAfter self.new ((Fetch ⟼ Done address word strokes) ∷ log) }
+        ensures { (address word : ℕ) (strokes : List Stroke) (log : Log) → StandsAfter self.old log
+            → StandsAfter self.new ((Fetch ⟼ Done address word strokes) ∷ log) }
     {
         self.drawing = Drawing::Nothing;
     }
 
     /// Is told of a reset of the generator.
     pub fn reset(&mut self)
-        ensures { (log : Log) → StandsAfter self.old log → StandsAfter self.new ((ResetGen ⟼ Cleared) ∷ log) }
+        ensures { (log : Log) → StandsAfter self.old log
+            → StandsAfter self.new ((ResetGen ⟼ Cleared) ∷ log) }
     {
         self.drawing = Drawing::Nothing;
     }
 
-    /// Is told that the driver wrote a byte at this byte address of the RAM. Whether that tears a picture.
+    /// Is told that the driver wrote a byte at this byte address of the RAM. Whether that tears a
+    /// picture.
     pub fn wrote(&self, address: u16) -> bool
-        ensures stands { (byte : ℕ) (log : Log) → StandsAfter self.now log → StandsAfter self.now ((Tick ⟼ Acted (Wrote address byte)) ∷ log) }
-        ensures torn { (byte : ℕ) (log : Log) → StandsAfter self.now log → IsTrue result ↔ IsTorn log Tick (Acted (Wrote address byte)) }
+        ensures stands { (byte : ℕ) (log : Log) → StandsAfter self.now log
+            → StandsAfter self.now ((Tick ⟼ Acted (Wrote address byte)) ∷ log) }
+        ensures torn { (byte : ℕ) (log : Log) → StandsAfter self.now log
+            → IsTrue result ↔ IsTorn log Tick (Acted (Wrote address byte)) }
     {
         self.drawing.is_torn_at(address)
     }
 }
 
-/// The number of the first entry that tears a picture: a byte written in the half that the open run draws. None
-/// exactly where there is none. The log may be any one, legal or not, as that of another driver or of a test program;
-/// where one list is longer than the other, what it has more is passed over.
+/// The number of the first entry that tears a picture: a byte written in the half that the open run
+/// draws. None exactly where there is none. The log may be any one, legal or not, as that of
+/// another driver or of a test program; where one list is longer than the other, what it has more
+/// is passed over.
 ///
-/// A strobe that began a run opens it, and a HALT, a fault, and a reset of the generator or of the whole system end
-/// it; such a reset ends it before its own entry counts. It draws a half where the first word that it fetched is the
-/// one at 000, a jump to a word of that half: from that entry on. No memory is taken, and each entry is looked at
-/// once.
+/// A strobe that began a run opens it, and a HALT, a fault, and a reset of the generator or of the
+/// whole system end it; such a reset ends it before its own entry counts. It draws a half where the
+/// first word that it fetched is the one at 000, a jump to a word of that half: from that entry on.
+/// No memory is taken, and each entry is looked at once.
 pub fn first_torn<A: Allocator>(events: &[OwnEvent<A>], entries: &[OwnEntry<A>]) -> Option<usize>
     ensures torn { IfSome result (IsFirstTorn (log_of (map happening_of events.now) entries.now)) }
-    ensures untorn { IsNone result → Throughout IsUntorn (log_of (map happening_of events.now) entries.now) }
+    ensures untorn { IsNone result
+        → Throughout IsUntorn (log_of (map happening_of events.now) entries.now) }
 
     // No legal log is torn.
-    ensures legal { (R image : List ℕ) → IsLegal R image (log_of (map happening_of events.now) entries.now) → result ≡ None }
+    ensures legal { (R image : List ℕ)
+        → IsLegal R image (log_of (map happening_of events.now) entries.now) → result ≡ None }
 {
     let mut judge = Judge::new();
     for number in 0..events.len().min(entries.len()) {

@@ -1,9 +1,12 @@
 //! The world: both ends of the vector RAM, one event at a time.
-ghost use Rattle.std.specs.Prelude.{◌≡◌, ◌≢◌, ◌↔◌, ℕ, List, [], length, IfOk, IsErrOf, IsOk, OnErr, OnOk};
+ghost use Rattle.std.specs.Prelude.{◌≡◌, ◌≢◌, ◌↔◌, ℕ, List, [], length, IfOk, IsErrOf, IsOk, OnErr};
+ghost use Rattle.std.specs.Prelude.{OnOk};
 ghost use Rattle.dvg_driver.specs.Stands.{IsInRam};
 ghost use Rattle.dvg_log.specs.Entries.{shown_of};
 ghost use Rattle.dvg_log.specs.Events.{happening_of};
-ghost use Rattle.dvg_log.specs.declared.event.Event.TheVariants.{Offer, Redraw, Tick, Strobe, Fetch, ResetGen, ResetCpu, ResetAll};
+ghost use Rattle.dvg_log.specs.declared.event.Event.TheVariants.{Offer, Redraw, Tick, Strobe};
+ghost use Rattle.dvg_log.specs.declared.event.Event.TheVariants.{Fetch, ResetGen, ResetCpu};
+ghost use Rattle.dvg_log.specs.declared.event.Event.TheVariants.{ResetAll};
 ghost use Rattle.dvg_log.specs.Legal.{IsLegal};
 ghost use Rattle.dvg_log.specs.Log.{Log};
 ghost use Rattle.dvg_world.specs.Standing.{AddsLine, DrawsNow, KeepsHeadlineAfter, WorldAfter};
@@ -19,16 +22,17 @@ use dvg_log::{Entry, Event, OwnEntry, OwnEvent};
 use dvg_mem::{Image, MemFault, Rom, Store, fetch_byte};
 use std::marker::Model;
 
-/// Both ends of the vector RAM: the driver that writes frames into it, and the generator that draws out of
-/// it and out of the ROM.
+/// Both ends of the vector RAM: the driver that writes frames into it, and the generator that draws
+/// out of it and out of the ROM.
 ///
-/// `apply` lets any event happen, and the calls beside it one each. Of a world that stands after a legal log each
-/// answers the entry that the event gets over that log; the world then stands after the log with this line (`stands`),
-/// and the line keeps the headline, as `run` says of each line (`headline`).
+/// `apply` lets any event happen, and the calls beside it one each. Of a world that stands after a
+/// legal log each answers the entry that the event gets over that log; the world then stands after
+/// the log with this line (`stands`), and the line keeps the headline, as `run` says of each line
+/// (`headline`).
 ///
-/// A strobe that the driver has sent is under way until the next reset of the whole system, and may arrive
-/// never, once or often (this project's own choice, as a strobe that the hardware passes over is one that
-/// never arrives).
+/// A strobe that the driver has sent is under way until the next reset of the whole system, and may
+/// arrive never, once or often (this project's own choice, as a strobe that the hardware passes
+/// over is one that never arrives).
 #[derive(Drop)]
 pub struct World<S: Store> {
     desk: Desk<S::Alloc>,
@@ -53,10 +57,11 @@ impl<S: Store> Model for World<S> {
 }
 
 impl<S: Store> World<S> {
-    /// A world after a reset of the whole system: the RAM holds this image, the generator is halted with the
-    /// beam at 0, 0 and scale 0, the driver boots, and no strobe is under way. It takes its memory from this
-    /// allocator: that of its store, and then some 105 KB for the tables of the check. A fetch takes memory later on, for the
-    /// list of a run's strokes, and nothing else does.
+    /// A world after a reset of the whole system: the RAM holds this image, the generator is halted
+    /// with the beam at 0, 0 and scale 0, the driver boots, and no strobe is under way. It takes
+    /// its memory from this allocator: that of its store, and then some 105 KB for the tables of
+    /// the check. A fetch takes memory later on, for the list of a run's strokes, and nothing else
+    /// does.
     pub fn new(
         alloc: S::Alloc,
         rom: Rom<S::Alloc>,
@@ -77,9 +82,10 @@ impl<S: Store> World<S> {
         })
     }
 
-    /// Makes this world one over a ROM of these bytes after a reset of the whole system, as `new` makes one, in the
-    /// memory that it has: for callers that open one world after another. Memory is taken, and may be refused, only for a
-    /// ROM of another size. The world is as it was after an error, which is `Size` exactly where a ROM has another number of bytes.
+    /// Makes this world one over a ROM of these bytes after a reset of the whole system, as `new`
+    /// makes one, in the memory that it has: for callers that open one world after another. Memory
+    /// is taken, and may be refused, only for a ROM of another size. The world is as it was after
+    /// an error, which is `Size` exactly where a ROM has another number of bytes.
     pub fn begin_anew(
         &mut self,
         alloc: S::Alloc,
@@ -87,7 +93,8 @@ impl<S: Store> World<S> {
         image: &Image<S::Alloc>,
     ) -> Result<(), MemFault>
         ensures stands { OnOk result (WorldAfter rom.now image.now [] self.new) }
-        ensures size { IsErrOf result MemFault.Size ↔ ((length rom.now ≢ 2048) × (length rom.now ≢ 4096)) }
+        ensures size { IsErrOf result MemFault.Size
+            ↔ ((length rom.now ≢ 2048) × (length rom.now ≢ 4096)) }
         ensures room { length rom.now ≡ length self.old.rom → IsOk result }
         ensures refused { OnErr result (self.new ≡ self.old) }
     {
@@ -115,11 +122,13 @@ impl<S: Store> World<S> {
 
     /// Lets an event happen, by the call that does it, and answers its entry.
     ///
-    /// An error is want of memory, and then the world is as it was. It comes only for a fetch that completes
-    /// a vector with an intensity of at least 1.
+    /// An error is want of memory, and then the world is as it was. It comes only for a fetch that
+    /// completes a vector with an intensity of at least 1.
     pub fn apply(&mut self, event: &OwnEvent<S::Alloc>) -> Result<OwnEntry<S::Alloc>, OutOfMemory>
-        ensures stands { IfOk result (λ entry. AddsLine self.old (happening_of event.now) (shown_of entry) self.new) }
-        ensures headline { IfOk result (λ entry. KeepsHeadlineAfter self.old (happening_of event.now) (shown_of entry)) }
+        ensures stands { IfOk result (λ entry. AddsLine self.old (happening_of event.now)
+            (shown_of entry) self.new) }
+        ensures headline { IfOk result
+            (λ entry. KeepsHeadlineAfter self.old (happening_of event.now) (shown_of entry)) }
         ensures refused { OnErr result (self.new ≡ self.old) }
         ensures room { (R image : List ℕ) (log : Log) → WorldAfter R image log self.old
             → OnErr result (TakesMemory R image log (happening_of event.now)) }
@@ -168,7 +177,8 @@ impl<S: Store> World<S> {
     // Does a write in the store, and puts a strobe under way.
     fn perform(&mut self, action: Action)
         requires { IsInRam action }
-        ensures { self.new ≡ record self.old { ram = ram_by action self.old.ram; sent = sent_by action self.old.sent } }
+        ensures { self.new ≡ record self.old
+            { ram = ram_by action self.old.ram; sent = sent_by action self.old.sent } }
     {
         match action {
             Action::Wrote(a, byte) => self.store.write(a, byte),
@@ -189,11 +199,13 @@ impl<S: Store> World<S> {
         Entry::Started
     }
 
-    /// The generator fetches one byte, as by `Event::Fetch`. This is the one event that takes memory, for the stroke of
-    /// a vector with an intensity of at least 1. An error is want of it, and then the world is as it was.
+    /// The generator fetches one byte, as by `Event::Fetch`. This is the one event that takes
+    /// memory, for the stroke of a vector with an intensity of at least 1. An error is want of it,
+    /// and then the world is as it was.
     pub fn fetch(&mut self) -> Result<OwnEntry<S::Alloc>, OutOfMemory>
         ensures stands { IfOk result (λ entry. AddsLine self.old Fetch (shown_of entry) self.new) }
-        ensures headline { IfOk result (λ entry. KeepsHeadlineAfter self.old Fetch (shown_of entry)) }
+        ensures headline { IfOk result
+            (λ entry. KeepsHeadlineAfter self.old Fetch (shown_of entry)) }
         ensures refused { OnErr result (self.new ≡ self.old) }
         ensures room { OnErr result (DrawsNow self.old) }
     {

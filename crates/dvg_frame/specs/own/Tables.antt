@@ -1,5 +1,6 @@
 -- What is known of each place, and the table of it. Only the check's own functions cite this.
-use Rattle.std.specs.Prelude.{◌≡◌, ℕ, ◌+◌, ◌/◌, ◌<◌, ◌≤◌, ◌^◌, ◌⊎◌, List, [], ◌∷◌, ◌++◌, length, true, Option, Some, None, slice_index_or, ◌==◌, if◌then◌else◌, All, Result, MatchResult}
+use Rattle.std.specs.Prelude.{◌≡◌, ℕ, ◌+◌, ◌/◌, ◌<◌, ◌≤◌, ◌^◌, ◌⊎◌, List, [], ◌∷◌, ◌++◌, length, true, Option, Some}
+use Rattle.std.specs.Prelude.{None, slice_index_or, ◌==◌, if◌then◌else◌, All, Result, MatchResult}
 use Rattle.dvg_code.specs.Acts.{Act, Moves, Jumps, Calls, Returns as GoesBack, Halts as Stops}
 use Rattle.dvg_gen.specs.declared.beam.Beam.{Beam}
 use Rattle.dvg_gen.specs.declared.stroke.Stroke.{Stroke}
@@ -31,7 +32,8 @@ IsRefused F R = AllFine F R → HasLoop F R
 
 -- the bound of a draft without the faults 1 to 4, which is accepted, or the fault that is picked of one that is refused
 abbrev pub BoundOrFault : List OpKind → List ℕ → Result ℕ FrameFault → Type 0
-BoundOrFault F R answer = MatchResult answer (λ n. Accepts F R × IsBound F R n × (n < 2 ^ 63)) (λ fault. Refuses F R fault)
+BoundOrFault F R answer = MatchResult answer (λ n. Accepts F R × IsBound F R n × (n < 2 ^ 63))
+    (λ fault. Refuses F R fault)
 
 -- how many places there are: the operations and the words of the ROM
 abbrev pub places : List OpKind → List ℕ → ℕ
@@ -55,7 +57,8 @@ KeepsKnown old new = (p : Place) (drawn : Drawn) → IsPlace p → known_at old 
 
 -- what a note tells in this round
 abbrev pub noted : ℕ → Note → Option Drawn
-noted round note = if note.round == round then Some (record { words = note.words; end = note.end; returns = note.returns; calls = note.calls }) else None
+noted round note = if note.round == round then Some
+    (record { words = note.words; end = note.end; returns = note.returns; calls = note.calls }) else None
 
 -- a note for each place, of this round or of one before it
 pub record AreNotes (round : ℕ) (notes : List Note) : Type 0 where
@@ -76,7 +79,8 @@ pub record FitsAt (drawn : Drawn) (d : ℕ) : Type 0 where
 pub record IsDrawnFrom (F : List OpKind) (R : List ℕ) (p : Place) (drawn : Drawn) : Type 0 where
   pub count : ℕ
   pub few : count < 2 ^ 64 → drawn.words ≡ count
-  pub draws : (beam : Beam) → (strokes : List Stroke) × (last : Beam) × DrawsSo F R p beam strokes last (end_of drawn.end) count
+  pub draws : (beam : Beam) → (strokes : List Stroke) × (last : Beam)
+      × DrawsSo F R p beam strokes last (end_of drawn.end) count
   pub ends : (k : ℕ) × ((d : ℕ) (q : Place) → ¬ Walks F R d p k q)
 
 -- a step leads to a place of the table that fits the depth there
@@ -86,8 +90,10 @@ pub record GoesTo (table : List (Option Drawn)) (q : Place) (e : ℕ) : Type 0 w
   pub known : known_at table q ≡ Some drawn
   pub fits : FitsAt drawn e
 
--- this is so of a place: at a depth that it fits it has no fault and leads to such places, and at a depth at which it is reached it fits where no reached pair has a fault
-pub record IsKnown (F : List OpKind) (R : List ℕ) (table : List (Option Drawn)) (p : Place) (drawn : Drawn) : Type 0 where
+-- this is so of a place: at a depth that it fits it has no fault and leads to such places, and at a depth at which it
+-- is reached it fits where no reached pair has a fault
+pub record IsKnown (F : List OpKind) (R : List ℕ) (table : List (Option Drawn)) (p : Place)
+    (drawn : Drawn) : Type 0 where
   pub fine : (d : ℕ) → FitsAt drawn d → IsFine F R p d
   pub leads : (d : ℕ) (q : Place) (e : ℕ) → FitsAt drawn d → Leads F R p d q e → GoesTo table q e
   pub tight : AllFine F R → (d : ℕ) → Reached F R p d → FitsAt drawn d
@@ -137,17 +143,20 @@ onward Halt = None
 -- steps at one depth lead through the places of these pairs, one after the other, and then to a place
 abbrev pub Linked : List OpKind → List ℕ → ℕ → Place → List Pair → Place → Type 0
 Linked F R d start [] last = start ≡ last
-Linked F R d start (pair ∷ pairs) last = (start ≡ pair.place) × IsGood F R d pair.place × ((next : Place) × StepsOn F R pair.place next × Linked F R d next pairs last)
+Linked F R d start (pair ∷ pairs) last = (start ≡ pair.place) × IsGood F R d pair.place
+    × ((next : Place) × StepsOn F R pair.place next × Linked F R d next pairs last)
 
 -- the same, where the table has what is drawn from the last place, or the last of these pairs leads nowhere
 abbrev pub IsChain : List OpKind → List ℕ → List (Option Drawn) → ℕ → Place → List Pair → Type 0
 IsChain F R table d start [] = HasPlace table start
 IsChain F R table d start (pair ∷ pairs) =
     (start ≡ pair.place) × IsGood F R d pair.place
-    × (((next : Place) × StepsOn F R pair.place next × IsChain F R table d next pairs) ⊎ (((q : Place) → ¬ StepsOn F R pair.place q) × (pairs ≡ [])))
+    × (((next : Place) × StepsOn F R pair.place next × IsChain F R table d next pairs)
+    ⊎ (((q : Place) → ¬ StepsOn F R pair.place q) × (pairs ≡ [])))
 
 -- a list has such a chain behind what was there before
-pub record HasChain (F : List OpKind) (R : List ℕ) (table : List (Option Drawn)) (d : ℕ) (start : Place) (before all : List Pair) : Type 0 where
+pub record HasChain (F : List OpKind) (R : List ℕ) (table : List (Option Drawn)) (d : ℕ) (start : Place)
+    (before all : List Pair) : Type 0 where
   pub pairs : List Pair
   pub is : all ≡ before ++ pairs
   pub chain : IsChain F R table d start pairs
@@ -162,7 +171,8 @@ pub record IsLonger (rest : Drawn) (more : ℕ) (new : Drawn) : Type 0 where
 -- this is drawn from a call, by what is drawn from its target and from the place after it
 pub record IsCalled (inside rest new : Drawn) : Type 0 where
   pub halts : inside.end ≡ Halts → (new.end ≡ Halts) × (inside.words + 1 < 2 ^ 64 → new.words ≡ inside.words + 1)
-  pub goes_on : inside.end ≡ Returns → (new.end ≡ rest.end) × (inside.words + rest.words + 1 < 2 ^ 64 → new.words ≡ inside.words + rest.words + 1)
+  pub goes_on : inside.end ≡ Returns
+      → (new.end ≡ rest.end) × (inside.words + rest.words + 1 < 2 ^ 64 → new.words ≡ inside.words + rest.words + 1)
   pub returns : new.returns ≡ rest.returns
   pub behind : rest.calls ≤ new.calls
   pub deeper : new.calls < 255 → inside.calls < new.calls

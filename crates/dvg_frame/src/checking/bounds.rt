@@ -1,10 +1,14 @@
-//! What is drawn from each place, whether a run from it breaks, and whether steps at one depth come to no end.
-ghost use Rattle.std.specs.Prelude.{◌≡◌, ◌+◌, ◌*◌, ◌<◌, ◌≤◌, ◌^◌, ℕ, List, Some, None, length, Option, MatchOption, MatchBool};
+//! What is drawn from each place, whether a run from it breaks, and whether steps at one depth come
+//! to no end.
+ghost use Rattle.std.specs.Prelude.{◌≡◌, ◌+◌, ◌*◌, ◌<◌, ◌≤◌, ◌^◌, ℕ, List, Some, None, length};
+ghost use Rattle.std.specs.Prelude.{Option, MatchOption, MatchBool};
 ghost use Rattle.dvg_mem.specs.Memory.{IsRom};
 ghost use Rattle.dvg_frame.specs.Faults.{Accepts};
 ghost use Rattle.dvg_frame.specs.Picture.{IsBound};
 ghost use Rattle.dvg_frame.specs.Steps.{IsFine, Begins};
-ghost use Rattle.dvg_frame.specs.own.Tables.{HasChain, HasNone, HasPlace, IsCalled, IsKnown, IsLonger, IsReady, IsRefused, IsTable, KeepsKnown, AllFine, known_at, onward};
+ghost use Rattle.dvg_frame.specs.own.Tables.{HasChain, HasNone, HasPlace, IsCalled, IsKnown};
+ghost use Rattle.dvg_frame.specs.own.Tables.{IsLonger, IsReady, IsRefused, IsTable, KeepsKnown};
+ghost use Rattle.dvg_frame.specs.own.Tables.{AllFine, known_at, onward};
 ghost use Rattle.dvg_frame.specs.own.Sweeps.{ReachedPair};
 ghost use Rattle.dvg_frame.specs.own.Ways.{IsPlaceOf, StandsSo};
 ghost use Rattle.dvg_frame.specs.declared.checking.chain.TheConstants.{LONGEST};
@@ -80,8 +84,10 @@ fn entry(table: &Table, place: Place) -> Drawn
 // What is drawn from a place that leads on so.
 #[inline(always)]
 fn draw(table: &Table, way: Way) -> Drawn
-    requires { (F : List OpKind) × (R : List ℕ) × (p : Place) × (d : ℕ) × StandsSo F R p way × IsReady F R table.now p d }
-    ensures { (F : List OpKind) (R : List ℕ) (p : Place) (d : ℕ) → StandsSo F R p way → IsReady F R table.now p d → IsKnown F R table.now p result }
+    requires { (F : List OpKind) × (R : List ℕ) × (p : Place) × (d : ℕ) × StandsSo F R p way
+        × IsReady F R table.now p d }
+    ensures { (F : List OpKind) (R : List ℕ) (p : Place) (d : ℕ) → StandsSo F R p way
+        → IsReady F R table.now p d → IsKnown F R table.now p result }
 {
     match way {
         Way::Move(after, words) => longer(entry(table, after), words),
@@ -105,8 +111,10 @@ fn draw(table: &Table, way: Way) -> Drawn
 // Puts down what is drawn from a place that leads on so, where that isn't there.
 #[inline(always)]
 fn put_drawn(table: &mut Table, place: Place, way: Way)
-    requires { (F : List OpKind) × (R : List ℕ) × (d : ℕ) × StandsSo F R place way × IsReady F R table.old place d }
-    ensures entries { (F : List OpKind) (R : List ℕ) (d : ℕ) → StandsSo F R place way → IsReady F R table.old place d → IsTable F R table.new }
+    requires { (F : List OpKind) × (R : List ℕ) × (d : ℕ) × StandsSo F R place way
+        × IsReady F R table.old place d }
+    ensures entries { (F : List OpKind) (R : List ℕ) (d : ℕ) → StandsSo F R place way
+        → IsReady F R table.old place d → IsTable F R table.new }
     ensures kept { KeepsKnown table.old table.new }
     ensures has { HasPlace table.new place }
 {
@@ -116,9 +124,9 @@ fn put_drawn(table: &mut Table, place: Place, way: Way)
     }
 }
 
-// Follows the steps at one depth from a pair, up to a place of which the table has what is drawn from it, or
-// from which nothing leads on. The chain gets the pairs on the way. False where a pair has a fault, or the steps
-// come to no end.
+// Follows the steps at one depth from a pair, up to a place of which the table has what is drawn
+// from it, or from which nothing leads on. The chain gets the pairs on the way. False where a pair
+// has a fault, or the steps come to no end.
 #[inline(always)]
 fn follow<A: Allocator>(
     draft: &Draft,
@@ -134,7 +142,9 @@ fn follow<A: Allocator>(
     requires reached { AllFine draft.now rom.now → ReachedPair draft.now rom.now start }
     requires room { length chain.old ≤ start.depth * LONGEST }
     ensures room { length chain.new ≤ length chain.old + LONGEST }
-    ensures followed { MatchBool result (HasChain draft.now rom.now table.now start.depth start.place chain.old chain.new) (IsRefused draft.now rom.now) }
+    ensures followed { MatchBool result
+        (HasChain draft.now rom.now table.now start.depth start.place chain.old chain.new)
+        (IsRefused draft.now rom.now) }
 {
     let mut place = start.place;
     for step in 0..draft.len() + usize::from(rom.len_words()) + 1 {
@@ -171,8 +181,9 @@ fn way_on<A: Allocator>(draft: &Draft, rom: &Rom<A>, place: Place) -> Way
     way
 }
 
-// Finds what is drawn from a pair's place, and from each place on the way from it. False where a pair has a fault,
-// or steps at one depth come to no end. What the chain has of other depths stays there.
+// Finds what is drawn from a pair's place, and from each place on the way from it. False where a
+// pair has a fault, or steps at one depth come to no end. What the chain has of other depths stays
+// there.
 fn settle<A: Allocator>(
     draft: &Draft,
     rom: &Rom<A>,
@@ -189,7 +200,8 @@ fn settle<A: Allocator>(
     requires entries { IsTable draft.now rom.now table.old }
     ensures entries { IsTable draft.now rom.now table.new }
     ensures kept { KeepsKnown table.old table.new }
-    ensures settled { MatchBool result (HasPlace table.new start.place × (chain.new ≡ chain.old)) (IsRefused draft.now rom.now) }
+    ensures settled { MatchBool result (HasPlace table.new start.place × (chain.new ≡ chain.old))
+        (IsRefused draft.now rom.now) }
 {
     let base = chain.len();
     if !follow(draft, rom, table, chain, start) {
@@ -212,12 +224,13 @@ fn settle<A: Allocator>(
     true
 }
 
-/// How many words the whole run of a draft fetches, that of word zero included. None where a reached pair has a
-/// fault, or steps at one depth come to no end. The table has nothing at first.
+/// How many words the whole run of a draft fetches, that of word zero included. None where a
+/// reached pair has a fault, or steps at one depth come to no end. The table has nothing at first.
 ///
-/// Each place is gone over once, however many depths it is reached at: what is drawn from it is the same at each,
-/// and the table has at which depths no run from it breaks. So the time is linear in the places that are reached, but that
-/// a loop is followed for as many steps as there are operations and ROM words.
+/// Each place is gone over once, however many depths it is reached at: what is drawn from it is the
+/// same at each, and the table has at which depths no run from it breaks. So the time is linear in
+/// the places that are reached, but that a loop is followed for as many steps as there are
+/// operations and ROM words.
 pub(crate) fn bound_of<A: Allocator>(
     draft: &Draft,
     rom: &Rom<A>,
@@ -227,7 +240,8 @@ pub(crate) fn bound_of<A: Allocator>(
     requires rom { IsRom rom.now }
     requires begins { Begins draft.now }
     requires none { HasNone table.old }
-    ensures { MatchOption result (IsRefused draft.now rom.now) (λ n. Accepts draft.now rom.now × IsBound draft.now rom.now n × (n < 2 ^ 63)) }
+    ensures { MatchOption result (IsRefused draft.now rom.now)
+        (λ n. Accepts draft.now rom.now × IsBound draft.now rom.now n × (n < 2 ^ 63)) }
 {
     chain.clear();
     if !settle(draft, rom, table, chain, Pair::default()) {

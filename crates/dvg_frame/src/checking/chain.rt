@@ -8,5 +8,6 @@ pub(crate) const LONGEST: usize = PLACES + 1;
 /// The most pairs of all depths.
 pub(crate) const ROOM: usize = LONGEST * (DEEPEST as usize + 1);
 
-/// Pairs of which each leads on to the next one at its depth, those of each depth after those of the one before.
+/// Pairs of which each leads on to the next one at its depth, those of each depth after those of
+/// the one before.
 pub(crate) type Chain = PairList<ROOM>;

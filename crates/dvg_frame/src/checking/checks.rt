@@ -71,7 +71,8 @@ fn words_of_all(draft: &Draft) -> u16
 
 // How many words a draft without the faults 1 to 4 has, or the first of them that holds.
 fn words_or_fault(draft: &Draft) -> Result<u16, FrameFault>
-    ensures { MatchResult result (λ words. IsFrame draft.now × (words ≡ size draft.now)) (λ fault. (R : List ℕ) → Refuses draft.now R fault) }
+    ensures { MatchResult result (λ words. IsFrame draft.now × (words ≡ size draft.now))
+        (λ fault. (R : List ℕ) → Refuses draft.now R fault) }
 {
     let count = draft.len();
     if count == 0 {
@@ -90,9 +91,10 @@ fn words_or_fault(draft: &Draft) -> Result<u16, FrameFault>
     }
 }
 
-/// The check, with tables of a fixed size that are kept from one check to the next: a check takes time for the operations
-/// and for the places and pairs that it reaches, and none for the size of the tables, which is about 105 KB. What it
-/// answers doesn't depend on what it checked before. Whoever checks many drafts keeps one, on the heap.
+/// The check, with tables of a fixed size that are kept from one check to the next: a check takes
+/// time for the operations and for the places and pairs that it reaches, and none for the size of
+/// the tables, which is about 105 KB. What it answers doesn't depend on what it checked before.
+/// Whoever checks many drafts keeps one, on the heap.
 #[derive(Drop)]
 pub struct Checker {
     reached: Worklist,
@@ -119,17 +121,19 @@ impl Checker {
         }
     }
 
-    /// The draft, checked, where it has no fault over the ROM, and else the fault that is picked: faults 1 to
-    /// 4 in their order, then that of the first reached pair of place and depth that has one, then fault 9.
-    /// Operations come before ROM words, each by number, and of one place the lesser depth comes first; if
-    /// several faults hold at that pair, the least number is answered (this project's own choice).
+    /// The draft, checked, where it has no fault over the ROM, and else the fault that is picked:
+    /// faults 1 to 4 in their order, then that of the first reached pair of place and depth that
+    /// has one, then fault 9. Operations come before ROM words, each by number, and of one place
+    /// the lesser depth comes first; if several faults hold at that pair, the least number is
+    /// answered (this project's own choice).
     ///
-    /// The pairs begin with operation 0 at depth 0. A vector or a LABS leads to the place after it, a jump
-    /// to its target, a call to its target one deeper and to the place after it at its own depth. A return,
-    /// a halt and a pair with a fault lead nowhere.
+    /// The pairs begin with operation 0 at depth 0. A vector or a LABS leads to the place after it,
+    /// a jump to its target, a call to its target one deeper and to the place after it at its own
+    /// depth. A return, a halt and a pair with a fault lead nowhere.
     ///
-    /// Exactly one answer holds of each draft and ROM. The time is linear in the draft's operations and the
-    /// places and pairs that are reached, but that a loop is followed for as many steps as there are places.
+    /// Exactly one answer holds of each draft and ROM. The time is linear in the draft's operations
+    /// and the places and pairs that are reached, but that a loop is followed for as many steps as
+    /// there are places.
     pub fn check<'a, A: Allocator>(
         &mut self,
         draft: &'a Draft,
@@ -172,8 +176,8 @@ impl Checker {
     }
 }
 
-// The fault that is picked of a draft that has one after the first four, or a loop. The list has no pair at first,
-// and the reached ones at the end.
+// The fault that is picked of a draft that has one after the first four, or a loop. The list has no
+// pair at first, and the reached ones at the end.
 fn fault_of<A: Allocator>(draft: &Draft, rom: &Rom<A>, list: &mut Worklist) -> FrameFault
     requires rom { IsRom rom.now }
     requires empty { list.old ≡ [] }
@@ -188,7 +192,8 @@ fn fault_of<A: Allocator>(draft: &Draft, rom: &Rom<A>, list: &mut Worklist) -> F
 }
 
 /// The frame of a draft that has no fault over the ROM, and else the fault that is picked, as by a
-/// `Checker`, which it lays out on the stack. Whoever checks many drafts keeps a `Checker`, and saves the time for that.
+/// `Checker`, which it lays out on the stack. Whoever checks many drafts keeps a `Checker`, and
+/// saves the time for that.
 pub fn check<A: Allocator>(draft: &Draft, rom: &Rom<A>) -> Result<Frame, FrameFault>
     ensures { IsChecked draft.now rom.now result }
 {

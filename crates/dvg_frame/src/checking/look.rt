@@ -15,7 +15,8 @@ use std::alloc::Allocator;
 
 // The operation at a place, if it is the last one of so many.
 fn last_op(count: usize, place: Place) -> Option<u16>
-    ensures { MatchOption result ((i : ℕ) → i + 1 ≡ count → place ≢ Place.InFrame i) (λ i. (place ≡ Place.InFrame i) × (i + 1 ≡ count)) }
+    ensures { MatchOption result ((i : ℕ) → i + 1 ≡ count → place ≢ Place.InFrame i)
+        (λ i. (place ≡ Place.InFrame i) × (i + 1 ≡ count)) }
 {
     match place {
         Place::InFrame(i) => {
@@ -32,7 +33,8 @@ fn last_op(count: usize, place: Place) -> Option<u16>
 // The fault at a pair among so many operations, where this is the way on: that of least number.
 #[inline(always)]
 fn fault_at<A: Allocator>(rom: &Rom<A>, count: usize, pair: Pair, seen: Way) -> Option<FrameFault>
-    ensures { MatchOption result ((fault : FrameFault) → ¬ HasFaultAt rom.now count pair seen fault) (λ fault. IsLeast (HasFaultAt rom.now count pair seen) fault) }
+    ensures { MatchOption result ((fault : FrameFault) → ¬ HasFaultAt rom.now count pair seen fault)
+        (λ fault. IsLeast (HasFaultAt rom.now count pair seen) fault) }
 {
     if seen.goes_on() {
         if let Some(i) = last_op(count, pair.place) {
@@ -57,7 +59,8 @@ pub(crate) fn look<A: Allocator>(draft: &Draft, rom: &Rom<A>, pair: Pair) -> Res
     requires rom { IsRom rom.now }
     requires inside { IsPlaceOf draft.now rom.now pair.place }
     ensures { MatchResult result
-        (λ seen. IsFine draft.now rom.now pair.place pair.depth × StandsSo draft.now rom.now pair.place seen)
+        (λ seen. IsFine draft.now rom.now pair.place pair.depth
+        × StandsSo draft.now rom.now pair.place seen)
         (λ fault. IsLeast (Bad draft.now rom.now pair.place pair.depth) fault) }
 {
     match way_at(draft, rom, pair.place) {

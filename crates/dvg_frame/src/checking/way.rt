@@ -2,7 +2,8 @@
 ghost use Rattle.std.specs.Prelude.{◌≡◌, ◌<◌, ◌≤◌, ◌↔◌, List, IsTrue, MatchOption};
 ghost use Rattle.dvg_mem.specs.Memory.{IsRom, first_word};
 ghost use Rattle.dvg_frame.specs.Steps.{op_act};
-ghost use Rattle.dvg_frame.specs.own.Ways.{EndsWithin, GoesOn, IsCall, IsPlaceOf, IsReturn, LeadsOutside, Outside, StandsSo, way};
+ghost use Rattle.dvg_frame.specs.own.Ways.{EndsWithin, GoesOn, IsCall, IsPlaceOf, IsReturn};
+ghost use Rattle.dvg_frame.specs.own.Ways.{LeadsOutside, Outside, StandsSo, way};
 ghost use Rattle.dvg_frame.specs.declared.op.OpKind.{OpKind};
 
 use crate::checking::pair::ROM_END;
@@ -92,7 +93,8 @@ fn rom_way<A: Allocator>(rom: &Rom<A>, a: u16) -> Option<Way>
     requires rom { IsRom rom.now }
     requires low { first_word rom.now ≤ a }
     requires high { a < ROM_END }
-    ensures { MatchOption result (EndsWithin rom.now (Place.InRom a)) (λ seen. (F : List OpKind) → StandsSo F rom.now (Place.InRom a) seen) }
+    ensures { MatchOption result (EndsWithin rom.now (Place.InRom a))
+        (λ seen. (F : List OpKind) → StandsSo F rom.now (Place.InRom a) seen) }
 {
     let word = rom.word(a);
     if word < 0xB000 {
@@ -119,7 +121,8 @@ fn rom_way<A: Allocator>(rom: &Rom<A>, a: u16) -> Option<Way>
 pub(crate) fn way_at<A: Allocator>(draft: &Draft, rom: &Rom<A>, place: Place) -> Option<Way>
     requires rom { IsRom rom.now }
     requires inside { IsPlaceOf draft.now rom.now place }
-    ensures { MatchOption result (EndsWithin rom.now place) (λ seen. StandsSo draft.now rom.now place seen) }
+    ensures { MatchOption result (EndsWithin rom.now place)
+        (λ seen. StandsSo draft.now rom.now place seen) }
 {
     match place {
         Place::InFrame(i) => {

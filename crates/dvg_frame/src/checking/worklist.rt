@@ -52,7 +52,8 @@ impl Worklist {
         self.pairs.at(i)
     }
 
-    // Takes all pairs out. Only their own marks are taken back, so the time is linear in their number.
+    // Takes all pairs out. Only their own marks are taken back, so the time is linear in their
+    // number.
     pub(crate) fn clear(&mut self)
         ensures { self.new ≡ [] }
     {

@@ -20,8 +20,10 @@ sent_by action sent = sent
 
 -- the event of this number adds such a line
 abbrev pub AddsEvent : List Happening → ℕ → State → Shown → State → Type 0
-AddsEvent events number old entry new = (event : Happening) → slice_get events number ≡ Some event → AddsLine old event entry new
+AddsEvent events number old entry new = (event : Happening) → slice_get events number ≡ Some event
+    → AddsLine old event entry new
 
 -- after each log that the world stands after, the event of this number takes memory
 abbrev pub WantsMemory : List Happening → ℕ → State → Type 0
-WantsMemory events number world = (R image : List ℕ) (log : Log) (event : Happening) → WorldAfter R image log world → slice_get events number ≡ Some event → TakesMemory R image log event
+WantsMemory events number world = (R image : List ℕ) (log : Log) (event : Happening) → WorldAfter R image log world
+    → slice_get events number ≡ Some event → TakesMemory R image log event

@@ -1,8 +1,9 @@
 //! The device, for C: `dvg_new` makes one, `dvg_turn` asks it, `dvg_free` frees it.
 //!
-//! What C owes, as nothing checks it: it hands `dvg_turn` and `dvg_free` a pointer that `dvg_new` wrote and that it hasn't
-//! freed, and gives one device to one call at a time. What `out` points to holds a pointer, as null, before the call. A
-//! `Global` takes no bytes, so C passes nothing for one.
+//! What C owes, as nothing checks it: it hands `dvg_turn` and `dvg_free` a pointer that `dvg_new`
+//! wrote and that it hasn't freed, and gives one device to one call at a time. What `out` points to
+//! holds a pointer, as null, before the call. A `Global` takes no bytes, so C passes nothing for
+//! one.
 #![no_std]
 
 extern crate plain_std as std;
@@ -18,7 +19,8 @@ pub struct Handle {
     unused: u8,
 }
 
-/// Makes a device, and hands it to C: 0, and the pointer to it in `out`; 2 for want of memory, and `out` is as it was.
+/// Makes a device, and hands it to C: 0, and the pointer to it in `out`; 2 for want of memory, and
+/// `out` is as it was.
 #[unsafe(no_mangle)]
 pub extern "C" fn dvg_new(alloc: Global, out: &mut *mut Handle) -> u32 {
     match made(alloc) {

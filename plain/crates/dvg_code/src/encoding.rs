@@ -45,8 +45,8 @@ fn two_words(first: u16, second: u16) -> Words {
     words
 }
 
-/// The canonical words of an instruction: every ignored bit is 0, and so is the sign of a magnitude of
-/// zero (this project's own choice).
+/// The canonical words of an instruction: every ignored bit is 0, and so is the sign of a magnitude
+/// of zero (this project's own choice).
 pub fn encode(code: &Code) -> Words {
     match code.instr() {
         Instr::Vctr { scale, dx, dy, z } => two_words(long_word(scale, dy), long_word(z, dx)),

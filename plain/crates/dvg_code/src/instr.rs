@@ -1,8 +1,8 @@
 //! The generator's instructions.
 /// An instruction, in range or not. `Code` is one that is in range.
 ///
-/// The formats and the names are those of Atari's DVG documentation and of Margolin's *The Secret Life
-/// of Vector Generators*.
+/// The formats and the names are those of Atari's DVG documentation and of Margolin's *The Secret
+/// Life of Vector Generators*.
 #[derive(Clone, Copy, Debug, PartialEq, Eq)]
 pub enum Instr {
     /// Moves the beam, drawing where the intensity isn't 0. Two words.
@@ -38,9 +38,11 @@ pub enum Instr {
         /// The local scale, 2 to 5. Its two bits stand at bit 11, with weight 1, and at bit 3, with
         /// weight 2 (these weights are this project's own choice).
         scale: u8,
-        /// The move along x, -3 to 3, which stands for 256 times that magnitude, before it is scaled.
+        /// The move along x, -3 to 3, which stands for 256 times that magnitude, before it is
+        /// scaled.
         dx: i8,
-        /// The move along y, -3 to 3, which stands for 256 times that magnitude, before it is scaled.
+        /// The move along y, -3 to 3, which stands for 256 times that magnitude, before it is
+        /// scaled.
         dy: i8,
         /// The intensity, 0 (blank) to 15.
         z: u8,

@@ -10,7 +10,8 @@ use dvg_mem::{Flat, Image, Rom};
 use dvg_world::World;
 use std::alloc::Global;
 
-/// A world, and room for the image of a reset of the whole system, so that no such reset takes memory.
+/// A world, and room for the image of a reset of the whole system, so that no such reset takes
+/// memory.
 pub(crate) struct Cabinet {
     world: World<Flat>,
     image: Image,
@@ -25,14 +26,15 @@ impl Cabinet {
         Some(Cabinet { world, image })
     }
 
-    // The world begins anew over a ROM of these bytes, with this first image. False for want of memory.
+    // The world begins anew over a ROM of these bytes, with this first image. False for want of
+    // memory.
     pub(crate) fn begin_anew(&mut self, alloc: Global, image: &[u8], rom: &[u8]) -> bool {
         self.image.copy_from(image);
         self.world.begin_anew(alloc, rom, &self.image).is_ok()
     }
 
-    // Asks the world, with this draft and these staged bytes. The strokes are those of the newest run that came to a
-    // HALT.
+    // Asks the world, with this draft and these staged bytes. The strokes are those of the newest
+    // run that came to a HALT.
     #[inline(always)]
     pub(crate) fn ask(
         &mut self,

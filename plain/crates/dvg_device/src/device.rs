@@ -26,9 +26,9 @@ pub(crate) enum Part {
     Generator(Generator<Global>),
 }
 
-/// A device, in which a world, a driver alone or a generator alone may be open. It has a draft, which requests make and
-/// an offer hands to the driver; bytes that are staged for what is opened, and for a reset of the whole system; and the
-/// strokes of the newest run that came to a HALT.
+/// A device, in which a world, a driver alone or a generator alone may be open. It has a draft,
+/// which requests make and an offer hands to the driver; bytes that are staged for what is opened,
+/// and for a reset of the whole system; and the strokes of the newest run that came to a HALT.
 pub struct Device {
     alloc: Global,
     staged: Vec<u8>,
@@ -54,10 +54,11 @@ impl Device {
         }
     }
 
-    /// One request, as a number of 64 bits, and its answer. `Request` says which requests there are, and `Reply` which
-    /// answers.
+    /// One request, as a number of 64 bits, and its answer. `Request` says which requests there
+    /// are, and `Reply` which answers.
     pub fn turn(&mut self, request: u64) -> u64 {
-        // Those that come most often go their way at once, so that what they bring stays in registers.
+        // Those that come most often go their way at once, so that what they bring stays in
+        // registers.
         match request % 0x100 {
             2 => self.ask(Request::of(request)).number(),
             4 => self.ask(Request::of(request)).number(),
@@ -161,7 +162,8 @@ impl Device {
         self.open(Part::Generator(Generator::new(self.alloc)))
     }
 
-    // Opens this, in which nothing was drawn yet. The memory of what was open stays, for the next one of its kind.
+    // Opens this, in which nothing was drawn yet. The memory of what was open stays, for the next
+    // one of its kind.
     fn open(&mut self, part: Part) -> Reply {
         let before = mem::replace(&mut self.part, part);
         self.keep(before);
@@ -246,8 +248,8 @@ fn is_one_of(n: usize, small: usize, large: usize) -> bool {
     n == small || n == large
 }
 
-// A world over the ROM of the bytes after the first 2,048, with those as the first image of its RAM, in this memory where
-// there is some. None for want of memory.
+// A world over the ROM of the bytes after the first 2,048, with those as the first image of its
+// RAM, in this memory where there is some. None for want of memory.
 fn new_world(alloc: Global, staged: &[u8], spare: Option<Box<Cabinet>>) -> Option<Box<Cabinet>> {
     let (image, rom) = staged.split_at_checked(MEMORY_BYTES)?;
     let Some(mut world) = spare else {
@@ -260,7 +262,8 @@ fn new_world(alloc: Global, staged: &[u8], spare: Option<Box<Cabinet>>) -> Optio
     }
 }
 
-// A driver alone over the ROM of these bytes, in this memory where there is some. None for want of memory.
+// A driver alone over the ROM of these bytes, in this memory where there is some. None for want of
+// memory.
 fn new_desk(alloc: Global, rom: &[u8], spare: Option<Box<Desk>>) -> Option<Box<Desk>> {
     match spare {
         Some(desk) => renewed_desk(alloc, rom, desk),

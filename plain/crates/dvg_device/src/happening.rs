@@ -8,8 +8,8 @@ use dvg_gen::Stroke;
 use dvg_mem::{Flat, Image, MEMORY_BYTES};
 use dvg_world::World;
 
-// Asks a world, with this draft and these staged bytes. The strokes are those of the newest run that came to a HALT. The
-// image is the room for that of a reset of the whole system.
+// Asks a world, with this draft and these staged bytes. The strokes are those of the newest run
+// that came to a HALT. The image is the room for that of a reset of the whole system.
 #[inline(always)]
 pub(crate) fn ask_world(
     world: &mut World<Flat>,

@@ -27,7 +27,8 @@ pub struct Operation {
 }
 
 impl Operation {
-    /// The operation. None exactly where the kind is over 8, or a field that counts is out of its range.
+    /// The operation. None exactly where the kind is over 8, or a field that counts is out of its
+    /// range.
     pub fn op(self) -> Option<Op> {
         match self.kind {
             0 => drawing(self.vctr()),

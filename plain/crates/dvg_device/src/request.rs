@@ -1,36 +1,39 @@
 //! What a device can be asked for.
 use crate::operation::Operation;
 
-/// What a device can be asked for. As a number, its lowest byte is the code, which stands first here, and what it brings
-/// stands above: a flag in bit 8, a byte in bits 16 to 23, a count in bits 24 to 39, and the number of a stroke from bit
-/// 8 on. Bits that say nothing may be any.
+/// What a device can be asked for. As a number, its lowest byte is the code, which stands first
+/// here, and what it brings stands above: a flag in bit 8, a byte in bits 16 to 23, a count in bits
+/// 24 to 39, and the number of a stroke from bit 8 on. Bits that say nothing may be any.
 #[derive(Clone, Copy, Debug, PartialEq, Eq)]
 pub enum Request {
     /// 0: the driver is handed the draft.
     Offer,
     /// 1: the driver is asked to have the published frame drawn again.
     Redraw,
-    /// 2: the driver does one action. A driver alone reads what is handed in here; a world reads its own.
+    /// 2: the driver does one action. A driver alone reads what is handed in here; a world reads
+    /// its own.
     Tick {
         /// The flag: the HALT flag, true where the generator is halted.
         halted: bool,
         /// The byte: byte 001 of the RAM.
         byte1: u8,
     },
-    /// 3: a start strobe reaches the generator. A generator alone begins a run; in a world there is no effect unless the
-    /// driver has sent one.
+    /// 3: a start strobe reaches the generator. A generator alone begins a run; in a world there is
+    /// no effect unless the driver has sent one.
     Strobe,
-    /// 4: the generator fetches a byte: the low byte of a word, and then its high byte. A generator alone is handed this
-    /// one, or None, by the flag, where no memory answers; a world reads its own.
+    /// 4: the generator fetches a byte: the low byte of a word, and then its high byte. A generator
+    /// alone is handed this one, or None, by the flag, where no memory answers; a world reads its
+    /// own.
     Fetch(Option<u8>),
     /// 5: a reset of the generator alone.
     ResetGenerator,
     /// 6: a reset of the processor alone, which is one of the driver.
     ResetProcessor,
-    /// 7: a reset of the whole system, which takes no memory. The RAM holds the 2,048 bytes that were staged.
+    /// 7: a reset of the whole system, which takes no memory. The RAM holds the 2,048 bytes that
+    /// were staged.
     ResetAll,
-    /// 8: one operation more for the draft. The kind stands in bits 8 to 15, the scale in 16 to 23, the intensity in 24
-    /// to 31, x in 32 to 47, and y in 48 to 63.
+    /// 8: one operation more for the draft. The kind stands in bits 8 to 15, the scale in 16 to 23,
+    /// the intensity in 24 to 31, x in 32 to 47, and y in 48 to 63.
     Push(Operation),
     /// 9: the draft has no operation any more.
     ClearDraft,
@@ -43,16 +46,16 @@ pub enum Request {
     },
     /// 11: no byte is staged any more.
     Unstage,
-    /// 12: a world begins. The first 2,048 bytes that were staged are those of its RAM, and the other 2,048 or 4,096
-    /// those of its ROM.
+    /// 12: a world begins. The first 2,048 bytes that were staged are those of its RAM, and the
+    /// other 2,048 or 4,096 those of its ROM.
     OpenWorld,
-    /// 13: a driver alone begins, just reset. The 2,048 or 4,096 bytes that were staged are those of the ROM over which
-    /// its drafts are checked.
+    /// 13: a driver alone begins, just reset. The 2,048 or 4,096 bytes that were staged are those
+    /// of the ROM over which its drafts are checked.
     OpenDriver,
     /// 14: a generator alone begins, halted, with the beam at 0, 0 and scale 0.
     OpenGenerator,
-    /// 15: what is open ends, and its memory is given back, with that of the staged bytes and of the strokes. The draft
-    /// is empty again.
+    /// 15: what is open ends, and its memory is given back, with that of the staged bytes and of
+    /// the strokes. The draft is empty again.
     Close,
     /// 16: which byte does a generator alone want?
     Wants,

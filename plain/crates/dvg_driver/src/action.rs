@@ -1,6 +1,6 @@
 //! What the driver does in a tick.
-/// What the driver did in a tick. Whoever calls `tick` has done the reads beforehand, and does the write
-/// or sends the strobe afterwards.
+/// What the driver did in a tick. Whoever calls `tick` has done the reads beforehand, and does the
+/// write or sends the strobe afterwards.
 #[derive(Clone, Copy, Debug, PartialEq, Eq)]
 pub enum Action {
     /// It looked at byte 001 of the RAM, which tells the current half.

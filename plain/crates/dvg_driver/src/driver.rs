@@ -4,8 +4,8 @@ use crate::fault::DriverFault;
 use dvg_frame::{Checked, Cursor, Frame};
 use dvg_mem::Half;
 
-/// How far the driver is. What it writes of a frame stands beside it, so that a change of the phase moves
-/// no frame.
+/// How far the driver is. What it writes of a frame stands beside it, so that a change of the phase
+/// moves no frame.
 #[derive(Clone, Copy)]
 enum Phase {
     /// It has done nothing since its reset.
@@ -24,8 +24,8 @@ enum Phase {
     Sending,
 }
 
-/// The driver of the vector generator, from one reset to the next and beyond. It keeps one frame at most,
-/// while it writes it.
+/// The driver of the vector generator, from one reset to the next and beyond. It keeps one frame at
+/// most, while it writes it.
 pub struct Driver {
     phase: Phase,
     /// The bytes of the newest frame. They count only while the driver writes.
@@ -62,8 +62,9 @@ impl Driver {
         }
     }
 
-    /// Takes a frame, which the next ticks write into the free half and publish. It is refused exactly
-    /// where the driver isn't idle; the frame is dropped then, and nothing else has changed.
+    /// Takes a frame, which the next ticks write into the free half and publish. It is refused
+    /// exactly where the driver isn't idle; the frame is dropped then, and nothing else has
+    /// changed.
     pub fn offer(&mut self, frame: Frame) -> Result<(), DriverFault> {
         match self.phase {
             Phase::Resting => {
@@ -75,8 +76,8 @@ impl Driver {
         }
     }
 
-    /// Takes a checked draft, as `offer` takes its frame. It is copied only where it is taken, into the memory
-    /// that the driver has.
+    /// Takes a checked draft, as `offer` takes its frame. It is copied only where it is taken, into
+    /// the memory that the driver has.
     pub fn offer_checked(&mut self, checked: &Checked) -> Result<(), DriverFault> {
         match self.phase {
             Phase::Resting => {
@@ -88,9 +89,9 @@ impl Driver {
         }
     }
 
-    /// Asks for the published frame once more. It is refused as `NothingPublished` exactly where the
-    /// driver hasn't flipped since its reset, and else as `Busy` exactly where it isn't idle. Nothing has
-    /// changed then.
+    /// Asks for the published frame once more. It is refused as `NothingPublished` exactly where
+    /// the driver hasn't flipped since its reset, and else as `Busy` exactly where it isn't idle.
+    /// Nothing has changed then.
     pub fn redraw(&mut self) -> Result<(), DriverFault> {
         if !self.flipped {
             return Err(DriverFault::NothingPublished);
@@ -104,8 +105,9 @@ impl Driver {
         }
     }
 
-    /// Does the next action of the script. `halted` is the HALT flag, and `byte1` is byte 001 of the RAM;
-    /// what isn't read has no effect. A `Wrote` is for the caller to do, and so is a `Sent`.
+    /// Does the next action of the script. `halted` is the HALT flag, and `byte1` is byte 001 of
+    /// the RAM; what isn't read has no effect. A `Wrote` is for the caller to do, and so is a
+    /// `Sent`.
     pub fn tick(&mut self, halted: bool, byte1: u8) -> Action {
         self.act(halted, byte1)
     }

@@ -20,7 +20,8 @@ pub enum DumpFault {
     OutOfMemory,
 }
 
-/// A dump of vector memory: the 2,048 bytes of the RAM, and behind them the 2,048 or 4,096 bytes of the ROM.
+/// A dump of vector memory: the 2,048 bytes of the RAM, and behind them the 2,048 or 4,096 bytes of
+/// the ROM.
 pub struct Dump<A: Allocator = Global> {
     pub(crate) alloc: A,
     pub(crate) ram: Flat<A>,
@@ -28,8 +29,9 @@ pub struct Dump<A: Allocator = Global> {
 }
 
 impl<A: Allocator + Copy> Dump<A> {
-    /// The dump of these bytes: the RAM's from address 000 on, and then the ROM's. It is refused as `Size` exactly where
-    /// they are neither 4,096 nor 6,144. What a run takes later is of this allocator, too.
+    /// The dump of these bytes: the RAM's from address 000 on, and then the ROM's. It is refused as
+    /// `Size` exactly where they are neither 4,096 nor 6,144. What a run takes later is of this
+    /// allocator, too.
     pub fn new(alloc: A, bytes: &[u8]) -> Result<Dump<A>, DumpFault> {
         if bytes.len() != SMALL_DUMP_BYTES && bytes.len() != LARGE_DUMP_BYTES {
             return Err(DumpFault::Size);

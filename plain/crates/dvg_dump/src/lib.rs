@@ -1,8 +1,9 @@
-//! What a dump of vector memory draws, or why that has no end: the run of the generator over a RAM and a ROM that don't
-//! change.
+//! What a dump of vector memory draws, or why that has no end: the run of the generator over a RAM
+//! and a ROM that don't change.
 //!
-//! The run is that of a new generator, which is started once. It ends at HALT or at a fault, and isn't followed past 65,536
-//! words (this project's own choice). A memory that doesn't change has exactly one such end, as the law `one_end` says.
+//! The run is that of a new generator, which is started once. It ends at HALT or at a fault, and
+//! isn't followed past 65,536 words (this project's own choice). A memory that doesn't change has
+//! exactly one such end, as the law `one_end` says.
 #![no_std]
 
 extern crate plain_std as std;

@@ -10,7 +10,8 @@ use dvg_gen::{Generator, Taken};
 use dvg_mem::fetch;
 use std::alloc::{Allocator, Global};
 
-/// The most words that a run is followed (this project's own choice): all that an address of 12 bits names, sixteen times.
+/// The most words that a run is followed (this project's own choice): all that an address of 12
+/// bits names, sixteen times.
 pub const MOST_WORDS: u32 = 65_536;
 
 /// A run: its instructions, and how it ends.
@@ -40,7 +41,8 @@ fn take_word<A: Allocator + Copy>(
 impl<A: Allocator + Copy> Dump<A> {
     /// The run of a new generator over this memory, and how it ends.
     ///
-    /// An error is want of memory, of which the strokes take some, one by one. A run that draws none is never refused.
+    /// An error is want of memory, of which the strokes take some, one by one. A run that draws
+    /// none is never refused.
     pub fn run(&self) -> Result<Ending<A>, OutOfMemory> {
         Ok(self.run_telling(false)?.ending)
     }
@@ -50,7 +52,8 @@ impl<A: Allocator + Copy> Dump<A> {
         self.run_telling(true)
     }
 
-    /// The same run, with the instructions that were run where that is asked for, and else with none.
+    /// The same run, with the instructions that were run where that is asked for, and else with
+    /// none.
     pub fn run_telling(&self, traces: bool) -> Result<Traced<A>, OutOfMemory> {
         let mut tracer = Tracer::new(self.alloc, traces);
         let ending = self.run_beside(&mut tracer)?;

@@ -6,7 +6,8 @@ use dvg_code::{Code, OutOfMemory, decode, encode};
 use dvg_gen::Beam;
 use std::alloc::Allocator;
 
-/// Follows a run beside its generator, and keeps what is told of its instructions, if that is asked for.
+/// Follows a run beside its generator, and keeps what is told of its instructions, if that is asked
+/// for.
 pub(crate) struct Tracer<A: Allocator> {
     traces: bool,
     /// The first word of an instruction that wants a second one.

@@ -6,8 +6,8 @@ use arrayvec::ArrayVec;
 /// One entry for each operation, and one for their end.
 pub(crate) const COUNTS: usize = MAX_OPS + 1;
 
-/// A draft and a table of how many words stand before each operation, both borrowed, so that the place of an operation
-/// is found in constant time.
+/// A draft and a table of how many words stand before each operation, both borrowed, so that the
+/// place of an operation is found in constant time.
 pub(crate) struct Counted<'a> {
     draft: &'a Draft,
     /// How many words the operations before each one have, and then how many all have.

@@ -7,11 +7,11 @@ use dvg_code::Words;
 use dvg_mem::Half;
 use std::iter::FusedIterator;
 
-/// An iterator over the bytes of a frame that is laid out for a half, each with its byte address in the
-/// RAM: from the low byte of the half's first word on, in rising order.
+/// An iterator over the bytes of a frame that is laid out for a half, each with its byte address in
+/// the RAM: from the low byte of the half's first word on, in rising order.
 ///
-/// A cursor keeps the frame, its place in it, and how many words stand before each operation, so that an item takes
-/// constant time.
+/// A cursor keeps the frame, its place in it, and how many words stand before each operation, so
+/// that an item takes constant time.
 pub struct Cursor {
     frame: Frame,
     /// How many words stand before each operation of the frame, and how many there are in all.
@@ -46,9 +46,9 @@ impl Cursor {
         }
     }
 
-    /// Begins anew, with the bytes of a checked draft's frame, laid out for this half. The draft is copied
-    /// into the memory that the cursor has: the time is linear in its operations, and in those of the frame
-    /// that the cursor kept.
+    /// Begins anew, with the bytes of a checked draft's frame, laid out for this half. The draft is
+    /// copied into the memory that the cursor has: the time is linear in its operations, and in
+    /// those of the frame that the cursor kept.
     pub fn restart(&mut self, checked: &Checked, half: Half) {
         checked.copy_to(&mut self.frame);
         self.words_before = self.frame.words_before_each();

@@ -36,8 +36,8 @@ impl Draft {
         self.ops.is_empty()
     }
 
-    /// Adds an operation at the end, and answers its number. It is refused exactly where there are 511
-    /// operations, and nothing has changed then.
+    /// Adds an operation at the end, and answers its number. It is refused exactly where there are
+    /// 511 operations, and nothing has changed then.
     pub fn push(&mut self, op: Op) -> Result<u16, DraftFull> {
         if self.ops.is_full() {
             return Err(DraftFull);
@@ -47,8 +47,8 @@ impl Draft {
         Ok(number)
     }
 
-    /// Adds operations at the end. They are refused exactly where there would be more than 511 then, and nothing
-    /// has changed.
+    /// Adds operations at the end. They are refused exactly where there would be more than 511
+    /// then, and nothing has changed.
     pub fn try_extend_from_slice(&mut self, ops: &[Op]) -> Result<(), DraftFull> {
         if self.ops.remaining_capacity() < ops.len() {
             return Err(DraftFull);

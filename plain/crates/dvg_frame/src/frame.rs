@@ -9,7 +9,8 @@ use dvg_mem::Half;
 /// The most words that a frame has: those of a half of the RAM.
 pub(crate) const MAX_WORDS: u16 = 511;
 
-/// A draft that was checked. It keeps the draft, its number of words and its bound, and no laid words.
+/// A draft that was checked. It keeps the draft, its number of words and its bound, and no laid
+/// words.
 pub struct Frame {
     draft: Draft,
     words: u16,
@@ -17,7 +18,8 @@ pub struct Frame {
 }
 
 impl Frame {
-    // The frame of a draft without the faults 1 to 4, with its number of words and its bound. The draft is copied.
+    // The frame of a draft without the faults 1 to 4, with its number of words and its bound. The
+    // draft is copied.
     pub(crate) fn of(draft: &Draft, words: u16, bound: u64) -> Frame {
         Frame {
             draft: draft.copy(),
@@ -26,8 +28,8 @@ impl Frame {
         }
     }
 
-    // Becomes the frame of a draft without the faults 1 to 4, with its number of words and its bound, in the memory that
-    // it has.
+    // Becomes the frame of a draft without the faults 1 to 4, with its number of words and its
+    // bound, in the memory that it has.
     pub(crate) fn copy_from(&mut self, draft: &Draft, words: u16, bound: u64) {
         self.draft.copy_from(draft);
         self.words = words;
@@ -40,15 +42,15 @@ impl Frame {
         self.words
     }
 
-    /// How many words the whole run of the frame fetches, from word zero to its HALT: that of any run of it
-    /// which nobody interrupts, over the ROM that it was checked with. It is below 2^63.
+    /// How many words the whole run of the frame fetches, from word zero to its HALT: that of any
+    /// run of it which nobody interrupts, over the ROM that it was checked with. It is below 2^63.
     pub fn bound(&self) -> u64 {
         self.bound
     }
 
-    /// Byte `k` of the frame's words in this half, the low byte of each word first. Byte 0 stands at
-    /// twice the word address of the half's first word. The time is linear in the operations; a `Cursor` gives all
-    /// bytes, each in constant time.
+    /// Byte `k` of the frame's words in this half, the low byte of each word first. Byte 0 stands
+    /// at twice the word address of the half's first word. The time is linear in the operations; a
+    /// `Cursor` gives all bytes, each in constant time.
     pub fn byte(&self, half: Half, k: u16) -> u8 {
         let words_before = words_before_each(&self.draft);
         let counted = Counted::of(&self.draft, words_before.as_slice());
@@ -60,7 +62,8 @@ impl Frame {
         words_before_each(&self.draft)
     }
 
-    // The words of the operation of this number, laid out for a half, by how many words stand before each.
+    // The words of the operation of this number, laid out for a half, by how many words stand
+    // before each.
     pub(crate) fn spelling(&self, words_before: &[u16], half: Half, i: u16) -> Words {
         spelling(
             &Counted::of(&self.draft, words_before),
@@ -70,7 +73,8 @@ impl Frame {
     }
 }
 
-// Byte `k` of words, of which this one holds it: the low byte where `k` is even, and else the high byte.
+// Byte `k` of words, of which this one holds it: the low byte where `k` is even, and else the high
+// byte.
 pub(crate) fn byte_of(word: u16, k: u16) -> u8 {
     word.to_le_bytes()[usize::from(k % 2)]
 }

@@ -9,16 +9,17 @@ use dvg_code::{Code, Instr, OutOfMemory, decode};
 use std::alloc::Allocator;
 use std::mem;
 
-/// The vector generator, which is handed one byte a call: the low byte of a word, and then its high byte
-/// (this project's own choice).
+/// The vector generator, which is handed one byte a call: the low byte of a word, and then its high
+/// byte (this project's own choice).
 ///
-/// A new one is halted, with the beam at 0, 0 and the global scale 0. Beam and scale are kept from run to
-/// run (this project's own choice).
+/// A new one is halted, with the beam at 0, 0 and the global scale 0. Beam and scale are kept from
+/// run to run (this project's own choice).
 pub struct Generator<A: Allocator> {
     alloc: A,
     is_open: bool,
-    // Neither this nor the address lies at a multiple of four bytes, where the processor would be made to wait
-    // for it: each fetch reads them as the one before has written them. So this is no part of an `Option`.
+    // Neither this nor the address lies at a multiple of four bytes, where the processor would be
+    // made to wait for it: each fetch reads them as the one before has written them. So this is no
+    // part of an `Option`.
     has_low: bool,
     // The address of the next word.
     at: u16,
@@ -46,8 +47,8 @@ impl<A: Allocator + Copy> Generator<A> {
         }
     }
 
-    /// Begins a run at word zero, with no return address and no stroke. A run that was open is abandoned
-    /// with its strokes and its low byte (this project's own choice).
+    /// Begins a run at word zero, with no return address and no stroke. A run that was open is
+    /// abandoned with its strokes and its low byte (this project's own choice).
     pub fn start(&mut self) {
         self.reset();
         self.at = 0;
@@ -73,7 +74,8 @@ impl<A: Allocator + Copy> Generator<A> {
         (!self.halted()).then_some(self.at)
     }
 
-    /// Whether the next byte is the high one of its word: the last fetch of the open run was of the low byte.
+    /// Whether the next byte is the high one of its word: the last fetch of the open run was of the
+    /// low byte.
     pub fn wants_high(&self) -> bool {
         self.low_byte().is_some()
     }
@@ -85,10 +87,11 @@ impl<A: Allocator + Copy> Generator<A> {
     }
 
     /// Takes the low byte of the word at the address that `wants` gives, or its high byte where
-    /// `wants_high`; None where no memory answers there. After `Done` or `Broke` the generator is halted.
+    /// `wants_high`; None where no memory answers there. After `Done` or `Broke` the generator is
+    /// halted.
     ///
-    /// An error is want of memory, and then nothing has changed. It comes only where a high byte completes
-    /// a vector with an intensity of at least 1.
+    /// An error is want of memory, and then nothing has changed. It comes only where a high byte
+    /// completes a vector with an intensity of at least 1.
     #[inline(always)]
     pub fn take_byte(&mut self, byte: Option<u8>) -> Result<Taken<A>, OutOfMemory> {
         let Some(byte) = byte else {
@@ -105,7 +108,8 @@ impl<A: Allocator + Copy> Generator<A> {
     // Takes a whole word.
     #[inline(always)]
     fn take(&mut self, word: u16) -> Result<Taken<A>, OutOfMemory> {
-        // The opcode says which instruction it is. To tell the decoded ones apart once more would take time.
+        // The opcode says which instruction it is. To tell the decoded ones apart once more would
+        // take time.
         if let Some(first) = self.held {
             let code = of_two(first, word);
             return if first < 0xA000 {

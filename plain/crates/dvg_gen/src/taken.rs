@@ -20,8 +20,8 @@ pub enum GenFault {
 }
 
 impl GenFault {
-    /// The number by which texts and answers tell the fault: 1 to 3, in the order in which they are declared (this
-    /// project's own choice).
+    /// The number by which texts and answers tell the fault: 1 to 3, in the order in which they are
+    /// declared (this project's own choice).
     pub fn number(self) -> u8 {
         match self {
             GenFault::StackOver => 1,

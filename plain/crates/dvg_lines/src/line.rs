@@ -155,7 +155,8 @@ impl Line {
         }
     }
 
-    // Becomes the place of an instruction, its name and operands, and a star where its words aren't canonical.
+    // Becomes the place of an instruction, its name and operands, and a star where its words aren't
+    // canonical.
     pub(crate) fn become_placed(&mut self, place: usize, code: &Code, canonical: bool) {
         self.bytes.clear();
         self.hex_3(place);
@@ -165,8 +166,8 @@ impl Line {
         }
     }
 
-    /// Becomes the line that `list` writes of an instruction at a place, of words that are canonical or
-    /// not.
+    /// Becomes the line that `list` writes of an instruction at a place, of words that are
+    /// canonical or not.
     pub fn become_listed(&mut self, place: usize, code: &Code, canonical: bool) {
         self.become_placed(place, code, canonical);
         self.text(b"\n");

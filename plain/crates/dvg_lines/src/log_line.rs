@@ -66,7 +66,8 @@ impl Line {
         self.text(b"\n");
     }
 
-    /// Becomes the line of a picture of so many strokes, by the number of the event that finished it.
+    /// Becomes the line of a picture of so many strokes, by the number of the event that finished
+    /// it.
     pub fn become_picture(&mut self, number: usize, strokes: usize) {
         self.clear();
         self.text(b"picture");

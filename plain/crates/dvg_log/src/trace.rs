@@ -10,9 +10,10 @@ use std::alloc::{Allocator, Global};
 /// The most events of a trace (this project's own choice).
 pub const MOST_EVENTS: usize = 65_536;
 
-/// Events in order, at most 65,536 of them, in little room: the operations of all its offers lie in one list, so
-/// an offer takes what its own operations want, where a `Draft` has room for 511. The images of its resets lie in
-/// another, and an event that is pushed again has the operations or the image of the one before.
+/// Events in order, at most 65,536 of them, in little room: the operations of all its offers lie in
+/// one list, so an offer takes what its own operations want, where a `Draft` has room for 511. The
+/// images of its resets lie in another, and an event that is pushed again has the operations or the
+/// image of the one before.
 pub struct Trace<A: Allocator = Global> {
     steps: Vec<Step, A>,
     /// The operations of all offers.
@@ -21,8 +22,8 @@ pub struct Trace<A: Allocator = Global> {
     images: Vec<Image<A>, A>,
 }
 
-/// An event of a trace: an offer has the number of its first operation among those of all offers, and how many it
-/// has, and a reset of the whole system the number of its image among all.
+/// An event of a trace: an offer has the number of its first operation among those of all offers,
+/// and how many it has, and a reset of the whole system the number of its image among all.
 pub(crate) type Step = Event<(u32, u16), u32>;
 
 impl<A: Allocator + Copy> Trace<A> {
@@ -64,7 +65,8 @@ impl<A: Allocator> Trace<A> {
         }
     }
 
-    /// Adds an event at the end of fewer than 65,536. An error is want of memory, and then nothing has changed.
+    /// Adds an event at the end of fewer than 65,536. An error is want of memory, and then nothing
+    /// has changed.
     pub fn push(&mut self, event: OwnEvent<A>) -> Result<(), OutOfMemory> {
         let step = match event {
             Event::Offer(draft) => return self.push_offer(&draft),
@@ -80,8 +82,8 @@ impl<A: Allocator> Trace<A> {
         Ok(())
     }
 
-    /// Adds an offer of a draft, which is copied, at the end of fewer than 65,536 events. An error is want of
-    /// memory, and then nothing has changed.
+    /// Adds an offer of a draft, which is copied, at the end of fewer than 65,536 events. An error
+    /// is want of memory, and then nothing has changed.
     pub fn push_offer(&mut self, draft: &Draft) -> Result<(), OutOfMemory> {
         let first = self.ops.len() as u32;
         let count = draft.len();
@@ -92,8 +94,9 @@ impl<A: Allocator> Trace<A> {
         Ok(())
     }
 
-    /// Adds the event of this number, counted from 0, once more at the end of fewer than 65,536 events. Its draft or
-    /// image isn't copied. An error is want of memory, and then nothing has changed.
+    /// Adds the event of this number, counted from 0, once more at the end of fewer than 65,536
+    /// events. Its draft or image isn't copied. An error is want of memory, and then nothing has
+    /// changed.
     pub fn push_again(&mut self, number: usize) -> Result<(), OutOfMemory> {
         let step = self.steps[number];
         self.steps.push(step)?;

@@ -1,5 +1,6 @@
-//! Logs as texts, of any length and whoever's: what each line tells, and the engine that answers the first write that
-//! tears a picture (the format is this project's own choice). A log is read in pieces and takes no memory.
+//! Logs as texts, of any length and whoever's: what each line tells, and the engine that answers
+//! the first write that tears a picture (the format is this project's own choice). A log is read in
+//! pieces and takes no memory.
 #![no_std]
 
 extern crate plain_std as std;

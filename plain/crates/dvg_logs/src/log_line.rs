@@ -26,10 +26,11 @@ pub enum LogLine {
     Reset,
 }
 
-/// What a line of a log tells. None exactly where it tells nothing that a line may: it is `started`, `fetched` with a
-/// word address and the word there, `low` with a word address and a byte, `wrote` with a byte address of the RAM, 000 to
-/// 7FF, and the byte, `halted` or `reset`, one space between the parts; or it is passed over, as it is empty or begins with `#`. An
-/// address has three hexadecimal digits, a word four and a byte two, of either case. It has at most 64 bytes.
+/// What a line of a log tells. None exactly where it tells nothing that a line may: it is
+/// `started`, `fetched` with a word address and the word there, `low` with a word address and a
+/// byte, `wrote` with a byte address of the RAM, 000 to 7FF, and the byte, `halted` or `reset`, one
+/// space between the parts; or it is passed over, as it is empty or begins with `#`. An address has
+/// three hexadecimal digits, a word four and a byte two, of either case. It has at most 64 bytes.
 pub fn read_log_line(line: &[u8]) -> Option<LogLine> {
     if line.len() > MOST_LINE_BYTES {
         return None;

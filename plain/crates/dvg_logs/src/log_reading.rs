@@ -8,8 +8,8 @@ use memchr::memchr;
 /// Why the reading of a log stops before its text ends.
 #[derive(Clone, Copy, Debug, PartialEq, Eq)]
 pub enum LogStop {
-    /// The line of this number, counted from 1, writes a byte, at a byte address, in the half that the open run draws.
-    /// Up to there the lines count so.
+    /// The line of this number, counted from 1, writes a byte, at a byte address, in the half that
+    /// the open run draws. Up to there the lines count so.
     Torn {
         line: usize,
         address: u16,
@@ -22,7 +22,8 @@ pub enum LogStop {
     TooLong,
 }
 
-// Tells the judge what a line tells. The byte address and the byte of the write that tears a picture, where it does.
+// Tells the judge what a line tells. The byte address and the byte of the write that tears a
+// picture, where it does.
 #[inline(always)]
 fn tell(judge: &mut Judge, told: LogLine) -> Option<(u16, u8)> {
     match told {
@@ -40,7 +41,8 @@ fn tell(judge: &mut Judge, told: LogLine) -> Option<(u16, u8)> {
     None
 }
 
-// What was counted in some lines, and what one more tells. None of the numbers passes that of the lines, so none wraps.
+// What was counted in some lines, and what one more tells. None of the numbers passes that of the
+// lines, so none wraps.
 #[inline(always)]
 fn counted(counts: LogCounts, told: LogLine) -> LogCounts {
     let mut counts = counts;

@@ -79,23 +79,26 @@ fn write_verdict<W: Write>(writer: &mut Watched<W>, verdict: LogVerdict) -> Resu
     write_whole(writer, line.as_bytes())
 }
 
-/// Reads the text of a log, of any length, up to the first line that is torn or at fault, and writes what is said of it
-/// (the text is this project's own choice):
+/// Reads the text of a log, of any length, up to the first line that is torn or at fault, and
+/// writes what is said of it (the text is this project's own choice):
 ///
-/// - `not torn: R runs, H halted, W writes`, where no byte was written in the half that the open run draws: so many runs
-///   began, so many ended by a HALT, and so many bytes were written;
-/// - `no run drew:` and the same, where bytes were written and no run began, or runs began and no word was fetched;
-/// - `torn at line N: wrote A B` of the first write in such a half, by its line, its byte address and its byte, and on
-///   a line more `so far:` and the same numbers up to that line.
+/// - `not torn: R runs, H halted, W writes`, where no byte was written in the half that the open
+///   run draws: so many runs began, so many ended by a HALT, and so many bytes were written;
+/// - `no run drew:` and the same, where bytes were written and no run began, or runs began and no
+///   word was fetched;
+/// - `torn at line N: wrote A B` of the first write in such a half, by its line, its byte address
+///   and its byte, and on a line more `so far:` and the same numbers up to that line.
 ///
 /// It takes no memory.
 ///
-/// - `Syntax`: this line is the first that tells nothing that a line may, as `read_log_line` says, none before it being
-///   torn.
-/// - `TooLong`: none of the first 18,446,744,073,709,551,615 lines is torn or at fault, and there are more.
+/// - `Syntax`: this line is the first that tells nothing that a line may, as `read_log_line` says,
+///   none before it being torn.
+/// - `TooLong`: none of the first 18,446,744,073,709,551,615 lines is torn or at fault, and there
+///   are more.
 /// - `Reader`, `Writer`: that device failed. After `Writer` a beginning of the text went out.
 ///
-/// `Memory` never comes. Where it stops before it writes, which is at any fault but `Writer`, the writer is as it was.
+/// `Memory` never comes. Where it stops before it writes, which is at any fault but `Writer`, the
+/// writer is as it was.
 #[inline(never)]
 pub fn torn<R: Read, W: Write>(
     reader: &mut Watched<R>,

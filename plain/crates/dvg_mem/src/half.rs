@@ -35,8 +35,8 @@ impl Half {
         }
     }
 
-    /// The half that a high byte of word zero names, whatever its other bits: bit 1 is 0 for half 0,
-    /// and 1 for half 1.
+    /// The half that a high byte of word zero names, whatever its other bits: bit 1 is 0 for half
+    /// 0, and 1 for half 1.
     pub fn of_high(high: u8) -> Half {
         if high / 2 % 2 == 0 {
             Half::H0
@@ -45,7 +45,8 @@ impl Half {
         }
     }
 
-    /// The half in which a word of this number lies; none for word zero, word 200 and all from 400 on.
+    /// The half in which a word of this number lies; none for word zero, word 200 and all from 400
+    /// on.
     pub fn of_word(w: u16) -> Option<Half> {
         match w {
             0x001..=0x1FF => Some(Half::H0),

@@ -8,14 +8,15 @@ use crate::{FIRST_LARGE_ROM_WORD, FIRST_ROM_WORD, LARGE_ROM_BYTES, MEMORY_BYTES}
 use dvg_code::word_at;
 use std::alloc::{AllocError, Allocator, Global};
 
-/// The bytes of a vector ROM: 2,048 of the words 800 to BFF, as in Asteroids, or 4,096 of the words 400 to BFF, as on
-/// boards of Asteroids Deluxe (the second map is this project's own choice).
+/// The bytes of a vector ROM: 2,048 of the words 800 to BFF, as in Asteroids, or 4,096 of the words
+/// 400 to BFF, as on boards of Asteroids Deluxe (the second map is this project's own choice).
 pub struct Rom<A: Allocator = Global> {
     bytes: Vec<u8, A>,
 }
 
 impl<A: Allocator> Rom<A> {
-    /// The ROM of these bytes. It is refused as `Size` exactly where they are neither 2,048 nor 4,096.
+    /// The ROM of these bytes. It is refused as `Size` exactly where they are neither 2,048 nor
+    /// 4,096.
     pub fn new(alloc: A, bytes: &[u8]) -> Result<Rom<A>, MemFault> {
         if bytes.len() != MEMORY_BYTES && bytes.len() != LARGE_ROM_BYTES {
             return Err(MemFault::Size);
@@ -28,9 +29,9 @@ impl<A: Allocator> Rom<A> {
         }
     }
 
-    /// Takes other bytes in place of its own, in the memory that it has where they are as many. They are refused as
-    /// `Size` exactly where they are neither 2,048 nor 4,096, and nothing has changed after an error. Memory is taken only
-    /// for a ROM of another size.
+    /// Takes other bytes in place of its own, in the memory that it has where they are as many.
+    /// They are refused as `Size` exactly where they are neither 2,048 nor 4,096, and nothing has
+    /// changed after an error. Memory is taken only for a ROM of another size.
     pub fn copy_from(&mut self, alloc: A, bytes: &[u8]) -> Result<(), MemFault> {
         if bytes.len() == self.bytes.len() {
             self.bytes.as_mut_slice().copy_from_slice(bytes);
@@ -64,8 +65,8 @@ impl<A: Allocator> Rom<A> {
         word_at(self.bytes.as_slice(), usize::from(a - self.first()))
     }
 
-    /// The ROM of 4,096 bytes that has this one's words from 800 on, and D000, a return, at 400 to 7FF. It takes its memory
-    /// from this allocator, and is refused as `OutOfMemory` alone.
+    /// The ROM of 4,096 bytes that has this one's words from 800 on, and D000, a return, at 400 to
+    /// 7FF. It takes its memory from this allocator, and is refused as `OutOfMemory` alone.
     pub fn grow(&self, alloc: A) -> Result<Rom<A>, MemFault> {
         let _ = &self.bytes;
         match self.grown_bytes(alloc) {

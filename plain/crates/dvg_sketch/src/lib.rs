@@ -1,4 +1,5 @@
-//! Sketches: drafts whose operations call and jump to each other by name, so that nobody counts them.
+//! Sketches: drafts whose operations call and jump to each other by name, so that nobody counts
+//! them.
 #![no_std]
 
 extern crate plain_std as std;

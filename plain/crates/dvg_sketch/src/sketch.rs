@@ -48,14 +48,16 @@ fn operation(steps: &[Step], step: &Step) -> Option<Op> {
     }
 }
 
-/// The draft whose operations are those of the sketch, in order, where each call and each jump has the number of the
-/// operation that its name stands before. No memory is taken. The time grows with the square of the number of steps.
+/// The draft whose operations are those of the sketch, in order, where each call and each jump has
+/// the number of the operation that its name stands before. No memory is taken. The time grows with
+/// the square of the number of steps.
 ///
 /// - `Full`: there are more than 511 operations.
 /// - `Twice`: else, this step is the first that gives a name which an earlier one gave.
 /// - `Unknown`: else, this step is the first that calls or jumps to a name which no step gives.
 ///
-/// A name behind the last operation names one that isn't there, which the check of a draft refuses where it is used.
+/// A name behind the last operation names one that isn't there, which the check of a draft refuses
+/// where it is used.
 pub fn draft_of(steps: &[Step]) -> Result<Draft, SketchFault> {
     if steps.iter().filter(|step| step.is_operation()).count() > MOST_OPS {
         return Err(SketchFault::Full);

@@ -14,13 +14,14 @@ pub const MOST_TEXT_BYTES: usize = 1_048_576;
 pub struct DraftText {
     /// Its operations.
     pub draft: Draft,
-    /// The bytes of the ROM, 2,048 or 4,096: the words that its lines `rom` give, and D000, an RTSL, for each other.
+    /// The bytes of the ROM, 2,048 or 4,096: the words that its lines `rom` give, and D000, an
+    /// RTSL, for each other.
     pub rom: ArrayVec<u8, LARGE_ROM_BYTES>,
 }
 
 /// Reads the text of a draft, in one pass over its lines and without taking memory. It answers for
-/// each text, so each either denotes a draft and a ROM, or has a fault (the format is this project's own
-/// choice).
+/// each text, so each either denotes a draft and a ROM, or has a fault (the format is this
+/// project's own choice).
 ///
 /// - `TooLong`: the text has more than 1,048,576 bytes. This is decided before all others.
 /// - `Syntax`: this line is the first that spells nothing that may stand at its place.

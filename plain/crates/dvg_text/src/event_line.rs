@@ -7,8 +7,8 @@ use std::convert::Infallible;
 /// The most events of one line.
 const MAX_TIMES: u16 = 9999;
 
-/// An event that a line spells by itself. That is no offer, and a reset of the whole system has the byte that each byte
-/// of the RAM is after it.
+/// An event that a line spells by itself. That is no offer, and a reset of the whole system has the
+/// byte that each byte of the RAM is after it.
 pub(crate) type SpelledEvent = Event<Infallible, u8>;
 
 /// The events of a line: one event, so many times in a row.

@@ -22,7 +22,8 @@ pub enum TextFault {
     /// The line of this number, counted from 1, spells nothing that may stand at its place.
     #[error("syntax at line {0}")]
     Syntax(usize),
-    /// The line of this number, counted from 1, spells operation number 511 of a draft, which can't hold it.
+    /// The line of this number, counted from 1, spells operation number 511 of a draft, which can't
+    /// hold it.
     #[error("full at line {0}")]
     Full(usize),
     /// The line of this number, counted from 1, brings the number of a trace's events above 65,536.
@@ -31,6 +32,20 @@ pub enum TextFault {
     /// The text ends inside an offer.
     #[error("offer without end")]
     Unended,
+    /// The line of this number, counted from 1, gives a name that a line before it gave.
+    #[error("name given again at line {0}")]
+    NameGivenAgain(usize),
+    /// The line of this number, counted from 1, begins a section at no word of the ROM, or lays an
+    /// operation past the ROM's end.
+    #[error("out of rom at line {0}")]
+    OutOfRom(usize),
+    /// The line of this number, counted from 1, lays an operation on a word on which another section
+    /// of the ROM lies.
+    #[error("overlap at line {0}")]
+    Overlap(usize),
+    /// The line of this number, counted from 1, wants a name that no line gives.
+    #[error("unknown name at line {0}")]
+    UnknownName(usize),
 }
 
 /// Why the text of a trace was not read.

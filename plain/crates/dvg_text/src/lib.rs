@@ -1,5 +1,5 @@
-//! Texts in memory that are read: the lines of numbers, drafts, ROMs and traces, which are the input of the program `dvg`
-//! (all formats are this project's own choice).
+//! Texts in memory that are read: the lines of numbers, drafts, ROMs and traces, which are the
+//! input of the program `dvg` (all formats are this project's own choice).
 #![no_std]
 
 extern crate plain_std as std;

@@ -57,8 +57,8 @@ pub fn small_natural(part: &[u8]) -> Option<u8> {
     u8::try_from(natural(part)?).ok()
 }
 
-/// A decimal number from -32,767 to 32,767, without leading zeros, with `-` before it exactly where it
-/// is negative.
+/// A decimal number from -32,767 to 32,767, without leading zeros, with `-` before it exactly where
+/// it is negative.
 pub fn integer(part: &[u8]) -> Option<i16> {
     let (first, digits) = part.split_first()?;
     if *first != b'-' {

@@ -13,15 +13,15 @@ pub struct RomWords {
     words: ArrayVec<u16, MAX_WORDS>,
 }
 
-/// The words that a line gives, where the ROM's first one is at this word address. None exactly where it is no line of
-/// the ROM.
+/// The words that a line gives, where the ROM's first one is at this word address. None exactly
+/// where it is no line of the ROM.
 pub fn read_rom_line(first: u16, line: &[u8]) -> Option<RomWords> {
     let parts = parts_of(line)?;
     read_rom_parts(first, parts.as_slice())
 }
 
-/// The words that a line of these parts gives, where the ROM's first one is at this word address. None
-/// exactly where it is no line of the ROM.
+/// The words that a line of these parts gives, where the ROM's first one is at this word address.
+/// None exactly where it is no line of the ROM.
 pub fn read_rom_parts(first: u16, cut: &[&[u8]]) -> Option<RomWords> {
     let [name, address, spelled @ ..] = cut else {
         return None;

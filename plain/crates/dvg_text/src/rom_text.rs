@@ -52,7 +52,8 @@ impl RomReading {
     }
 }
 
-// The word address of the ROM's first word in the memory map that a line tells. None exactly where it tells none.
+// The word address of the ROM's first word in the memory map that a line tells. None exactly where
+// it tells none.
 fn read_map_line(line: &[u8]) -> Option<u16> {
     if line == b"map 2048".as_slice() {
         Some(FIRST_ROM_WORD)

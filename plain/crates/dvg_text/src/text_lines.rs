@@ -1,8 +1,8 @@
 //! The lines of a text.
 use memchr::memchr;
 
-/// An iterator over the lines of a borrowed text, without their ends. Each line ends with LF, which the
-/// last one may lack.
+/// An iterator over the lines of a borrowed text, without their ends. Each line ends with LF, which
+/// the last one may lack.
 pub struct TextLines<'a> {
     rest: &'a [u8],
 }

@@ -16,7 +16,8 @@ use std::alloc::{Allocator, Global};
 pub struct TraceText<A: Allocator = Global> {
     /// Its events, in order.
     pub events: Trace<A>,
-    /// The bytes of the ROM, 2,048 or 4,096: the words that its ROM lines give, and D000, an RTSL, for each other.
+    /// The bytes of the ROM, 2,048 or 4,096: the words that its ROM lines give, and D000, an RTSL,
+    /// for each other.
     pub rom: ArrayVec<u8, LARGE_ROM_BYTES>,
 }
 
@@ -24,7 +25,8 @@ pub struct TraceText<A: Allocator = Global> {
 ///
 /// - `TooLong`: the text has more than 1,048,576 bytes. This is decided before all others.
 /// - `Syntax`: this line is the first that spells nothing that may stand at its place.
-/// - `Full`: this line spells operation number 511 of its offer, the lines before it being without fault.
+/// - `Full`: this line spells operation number 511 of its offer, the lines before it being without
+///   fault.
 /// - `Many`: this line brings the number of events above 65,536, the lines before it being without
 ///   fault. An offer is an event with its `end`.
 /// - `Unended`: no line is at fault, and the text ends inside an offer.
@@ -205,7 +207,8 @@ fn add_once<A: Allocator>(
     events.push(own)
 }
 
-// Adds a reset of the whole system, behind which each byte is this one. Its image is made where it is the first.
+// Adds a reset of the whole system, behind which each byte is this one. Its image is made where it
+// is the first.
 fn add_reset<A: Allocator>(
     alloc: A,
     byte: u8,

@@ -7,8 +7,8 @@ use dvg_log::Entry;
 use dvg_mem::{MemFault, Rom};
 use std::alloc::{AllocError, Allocator, Global};
 
-/// A driver with the ROM over which its drafts are checked, and what they are checked by. It knows no RAM: what it does
-/// is told by its answers.
+/// A driver with the ROM over which its drafts are checked, and what they are checked by. It knows
+/// no RAM: what it does is told by its answers.
 pub struct Desk<A: Allocator = Global> {
     rom: Rom<A>,
     driver: Driver,
@@ -16,7 +16,8 @@ pub struct Desk<A: Allocator = Global> {
 }
 
 impl<A: Allocator> Desk<A> {
-    /// A driver that was just reset, over this ROM. It takes some 105 KB for the tables of the check.
+    /// A driver that was just reset, over this ROM. It takes some 105 KB for the tables of the
+    /// check.
     pub fn new(alloc: A, rom: Rom<A>) -> Result<Desk<A>, AllocError> {
         Ok(Desk {
             rom,
@@ -25,8 +26,9 @@ impl<A: Allocator> Desk<A> {
         })
     }
 
-    /// The driver is just reset, over a ROM of these bytes. Memory is taken, and may be refused, only for a ROM of
-    /// another size. All is as it was after an error, which is `Size` exactly where a ROM has another number of bytes.
+    /// The driver is just reset, over a ROM of these bytes. Memory is taken, and may be refused,
+    /// only for a ROM of another size. All is as it was after an error, which is `Size` exactly
+    /// where a ROM has another number of bytes.
     pub fn begin_anew(&mut self, alloc: A, rom: &[u8]) -> Result<(), MemFault> {
         match self.rom.copy_from(alloc, rom) {
             Ok(()) => {
@@ -63,7 +65,8 @@ impl<A: Allocator> Desk<A> {
         }
     }
 
-    /// The driver does one action. It is told whether the generator is halted, and the byte at 001 of the RAM.
+    /// The driver does one action. It is told whether the generator is halted, and the byte at 001
+    /// of the RAM.
     pub fn tick(&mut self, halted: bool, byte1: u8) -> Action {
         self.driver.tick(halted, byte1)
     }

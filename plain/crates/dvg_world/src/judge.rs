@@ -53,7 +53,8 @@ impl Drawing {
         }
     }
 
-    // Whether this is drawn with the byte at this address of the RAM, so that to write it tears the picture.
+    // Whether this is drawn with the byte at this address of the RAM, so that to write it tears the
+    // picture.
     fn is_torn_at(self, address: u16) -> bool {
         let Drawing::Within(half) = self else {
             return false;
@@ -70,8 +71,9 @@ impl Drawing {
     }
 }
 
-/// A judge of one log, whoever made it, that is told its lines in order: each by its event and its entry, or by what it
-/// shows. It keeps no more than which half the open run draws, and takes no memory.
+/// A judge of one log, whoever made it, that is told its lines in order: each by its event and its
+/// entry, or by what it shows. It keeps no more than which half the open run draws, and takes no
+/// memory.
 #[derive(Clone, Copy, Debug, PartialEq, Eq)]
 pub struct Judge {
     drawing: Drawing,
@@ -101,7 +103,8 @@ impl Judge {
         self.drawing = self.drawing.after_fetch(address, word);
     }
 
-    /// Is told that a fetch ended the run by a HALT, whatever its word address, its word and what it drew.
+    /// Is told that a fetch ended the run by a HALT, whatever its word address, its word and what
+    /// it drew.
     pub fn halted(&mut self) {
         self.drawing = Drawing::Nothing;
     }
@@ -111,20 +114,22 @@ impl Judge {
         self.drawing = Drawing::Nothing;
     }
 
-    /// Is told that the driver wrote a byte at this byte address of the RAM. Whether that tears a picture.
+    /// Is told that the driver wrote a byte at this byte address of the RAM. Whether that tears a
+    /// picture.
     pub fn wrote(&self, address: u16) -> bool {
         self.drawing.is_torn_at(address)
     }
 }
 
-/// The number of the first entry that tears a picture: a byte written in the half that the open run draws. None
-/// exactly where there is none. The log may be any one, legal or not, as that of another driver or of a test program;
-/// where one list is longer than the other, what it has more is passed over.
+/// The number of the first entry that tears a picture: a byte written in the half that the open run
+/// draws. None exactly where there is none. The log may be any one, legal or not, as that of
+/// another driver or of a test program; where one list is longer than the other, what it has more
+/// is passed over.
 ///
-/// A strobe that began a run opens it, and a HALT, a fault, and a reset of the generator or of the whole system end
-/// it; such a reset ends it before its own entry counts. It draws a half where the first word that it fetched is the
-/// one at 000, a jump to a word of that half: from that entry on. No memory is taken, and each entry is looked at
-/// once.
+/// A strobe that began a run opens it, and a HALT, a fault, and a reset of the generator or of the
+/// whole system end it; such a reset ends it before its own entry counts. It draws a half where the
+/// first word that it fetched is the one at 000, a jump to a word of that half: from that entry on.
+/// No memory is taken, and each entry is looked at once.
 pub fn first_torn<A: Allocator>(events: &[OwnEvent<A>], entries: &[OwnEntry<A>]) -> Option<usize> {
     let mut judge = Judge::new();
     for number in 0..events.len().min(entries.len()) {

@@ -10,25 +10,27 @@ use dvg_log::{OwnEntry, OwnEvent, Trace};
 use dvg_mem::{Image, Rom, Store};
 use std::alloc::Allocator;
 
-/// Lets events happen to a new world, one after the other, and answers the entry of each, in their order.
+/// Lets events happen to a new world, one after the other, and answers the entry of each, in their
+/// order.
 ///
-/// For every ROM, first image of the RAM and list of events, whatever they are, each line of the log keeps the
-/// headline (`KeepsHeadline`, of which each part has a name): no byte is written in the half being drawn, the
-/// generator never faults, and every run that reaches HALT drew exactly the picture of the frame newest published
-/// when it fetched word zero, so no picture is older than the one before. Every frame that is accepted has exactly
-/// one picture: a run of it is finished at the picture's last fetch, and fetches at most two bytes for each word of
-/// the frame's bound. A run that has fetched word zero is drawing a half, and the half holds the frame that the run
-/// shows. The log has one entry for each event, and each entry is the one that its event gets over the log before
-/// it: the log is legal, so driver and generator really act.
+/// For every ROM, first image of the RAM and list of events, whatever they are, each line of the
+/// log keeps the headline (`KeepsHeadline`, of which each part has a name): no byte is written in
+/// the half being drawn, the generator never faults, and every run that reaches HALT drew exactly
+/// the picture of the frame newest published when it fetched word zero, so no picture is older than
+/// the one before. Every frame that is accepted has exactly one picture: a run of it is finished at
+/// the picture's last fetch, and fetches at most two bytes for each word of the frame's bound. A
+/// run that has fetched word zero is drawing a half, and the half holds the frame that the run
+/// shows. The log has one entry for each event, and each entry is the one that its event gets over
+/// the log before it: the log is legal, so driver and generator really act.
 ///
-/// This rests on three premises. The log ends early only for want of memory: before the first event, or at a
-/// fetch that completes a vector with an intensity of at least 1. `Stopped` then has the entries of the
-/// events before, and all this holds of their log. A strobe arrives only after the driver sent one since the
-/// last reset of the whole system, or the beginning; it may arrive never, once or often. One access of memory
-/// is whole: one byte written, or one byte fetched.
+/// This rests on three premises. The log ends early only for want of memory: before the first
+/// event, or at a fetch that completes a vector with an intensity of at least 1. `Stopped` then has
+/// the entries of the events before, and all this holds of their log. A strobe arrives only after
+/// the driver sent one since the last reset of the whole system, or the beginning; it may arrive
+/// never, once or often. One access of memory is whole: one byte written, or one byte fetched.
 ///
-/// It isn't said that a strobe, a tick or a fetch ever comes, that a picture is ever drawn, or that a frame
-/// that was accepted is: a later one may replace it. Nothing is said of real hardware.
+/// It isn't said that a strobe, a tick or a fetch ever comes, that a picture is ever drawn, or that
+/// a frame that was accepted is: a later one may replace it. Nothing is said of real hardware.
 ///
 /// The log is grown once, for all events, before the first happens.
 pub fn run<S: Store>(
@@ -40,8 +42,9 @@ pub fn run<S: Store>(
     run_each::<S, Listed<S::Alloc>>(alloc, rom, image, Listed { events })
 }
 
-/// Lets the events of a trace happen to a new world, as `run` does with a list of them: each line of the log keeps
-/// the headline, and the log is the one legal log of these events. Its clauses are those of `run`.
+/// Lets the events of a trace happen to a new world, as `run` does with a list of them: each line
+/// of the log keeps the headline, and the log is the one legal log of these events. Its clauses are
+/// those of `run`.
 pub fn run_trace<S: Store>(
     alloc: S::Alloc,
     rom: Rom<S::Alloc>,

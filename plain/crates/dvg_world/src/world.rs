@@ -7,16 +7,17 @@ use dvg_gen::Generator;
 use dvg_log::{Entry, Event, OwnEntry, OwnEvent};
 use dvg_mem::{Image, MemFault, Rom, Store, fetch_byte};
 
-/// Both ends of the vector RAM: the driver that writes frames into it, and the generator that draws out of
-/// it and out of the ROM.
+/// Both ends of the vector RAM: the driver that writes frames into it, and the generator that draws
+/// out of it and out of the ROM.
 ///
-/// `apply` lets any event happen, and the calls beside it one each. Of a world that stands after a legal log each
-/// answers the entry that the event gets over that log; the world then stands after the log with this line (`stands`),
-/// and the line keeps the headline, as `run` says of each line (`headline`).
+/// `apply` lets any event happen, and the calls beside it one each. Of a world that stands after a
+/// legal log each answers the entry that the event gets over that log; the world then stands after
+/// the log with this line (`stands`), and the line keeps the headline, as `run` says of each line
+/// (`headline`).
 ///
-/// A strobe that the driver has sent is under way until the next reset of the whole system, and may arrive
-/// never, once or often (this project's own choice, as a strobe that the hardware passes over is one that
-/// never arrives).
+/// A strobe that the driver has sent is under way until the next reset of the whole system, and may
+/// arrive never, once or often (this project's own choice, as a strobe that the hardware passes
+/// over is one that never arrives).
 pub struct World<S: Store> {
     desk: Desk<S::Alloc>,
     store: S,
@@ -25,10 +26,11 @@ pub struct World<S: Store> {
 }
 
 impl<S: Store> World<S> {
-    /// A world after a reset of the whole system: the RAM holds this image, the generator is halted with the
-    /// beam at 0, 0 and scale 0, the driver boots, and no strobe is under way. It takes its memory from this
-    /// allocator: that of its store, and then some 105 KB for the tables of the check. A fetch takes memory later on, for the
-    /// list of a run's strokes, and nothing else does.
+    /// A world after a reset of the whole system: the RAM holds this image, the generator is halted
+    /// with the beam at 0, 0 and scale 0, the driver boots, and no strobe is under way. It takes
+    /// its memory from this allocator: that of its store, and then some 105 KB for the tables of
+    /// the check. A fetch takes memory later on, for the list of a run's strokes, and nothing else
+    /// does.
     pub fn new(
         alloc: S::Alloc,
         rom: Rom<S::Alloc>,
@@ -46,9 +48,10 @@ impl<S: Store> World<S> {
         })
     }
 
-    /// Makes this world one over a ROM of these bytes after a reset of the whole system, as `new` makes one, in the
-    /// memory that it has: for callers that open one world after another. Memory is taken, and may be refused, only for a
-    /// ROM of another size. The world is as it was after an error, which is `Size` exactly where a ROM has another number of bytes.
+    /// Makes this world one over a ROM of these bytes after a reset of the whole system, as `new`
+    /// makes one, in the memory that it has: for callers that open one world after another. Memory
+    /// is taken, and may be refused, only for a ROM of another size. The world is as it was after
+    /// an error, which is `Size` exactly where a ROM has another number of bytes.
     pub fn begin_anew(
         &mut self,
         alloc: S::Alloc,
@@ -77,8 +80,8 @@ impl<S: Store> World<S> {
 
     /// Lets an event happen, by the call that does it, and answers its entry.
     ///
-    /// An error is want of memory, and then the world is as it was. It comes only for a fetch that completes
-    /// a vector with an intensity of at least 1.
+    /// An error is want of memory, and then the world is as it was. It comes only for a fetch that
+    /// completes a vector with an intensity of at least 1.
     pub fn apply(&mut self, event: &OwnEvent<S::Alloc>) -> Result<OwnEntry<S::Alloc>, OutOfMemory> {
         match event {
             Event::Offer(draft) => Ok(self.offer(draft)),
@@ -130,8 +133,9 @@ impl<S: Store> World<S> {
         Entry::Started
     }
 
-    /// The generator fetches one byte, as by `Event::Fetch`. This is the one event that takes memory, for the stroke of
-    /// a vector with an intensity of at least 1. An error is want of it, and then the world is as it was.
+    /// The generator fetches one byte, as by `Event::Fetch`. This is the one event that takes
+    /// memory, for the stroke of a vector with an intensity of at least 1. An error is want of it,
+    /// and then the world is as it was.
     pub fn fetch(&mut self) -> Result<OwnEntry<S::Alloc>, OutOfMemory> {
         let Some(address) = self.generator.wants() else {
             return Ok(Entry::Still);

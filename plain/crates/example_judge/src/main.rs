@@ -1,5 +1,5 @@
-//! An example: a trace is played over banked memory, and its log is judged. A test program would judge the log of its
-//! own driver so.
+//! An example: a trace is played over banked memory, and its log is judged. A test program would
+//! judge the log of its own driver so.
 extern crate plain_std as std;
 
 use std::prelude::*;
@@ -40,8 +40,8 @@ fn events(rt: &HostRuntime, trace: &Trace) -> Option<Vec<Event>> {
     Some(events)
 }
 
-/// Plays the trace of a text, and finds the first entry of its log that tears a picture. None where the text is no
-/// trace, or memory is refused.
+/// Plays the trace of a text, and finds the first entry of its log that tears a picture. None where
+/// the text is no trace, or memory is refused.
 fn judge(rt: &HostRuntime, text: &[u8]) -> Option<Option<usize>> {
     let told = read_trace(rt.alloc(), text).ok()?;
     let rom = Rom::new(rt.alloc(), told.rom.as_slice()).ok()?;

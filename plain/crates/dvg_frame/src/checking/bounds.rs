@@ -1,4 +1,5 @@
-//! What is drawn from each place, whether a run from it breaks, and whether steps at one depth come to no end.
+//! What is drawn from each place, whether a run from it breaks, and whether steps at one depth come
+//! to no end.
 use crate::checking::chain::Chain;
 use crate::checking::look::look;
 use crate::checking::pair::{DEEPEST, Pair};
@@ -86,9 +87,9 @@ fn put_drawn(table: &mut Table, place: Place, way: Way) {
     }
 }
 
-// Follows the steps at one depth from a pair, up to a place of which the table has what is drawn from it, or
-// from which nothing leads on. The chain gets the pairs on the way. False where a pair has a fault, or the steps
-// come to no end.
+// Follows the steps at one depth from a pair, up to a place of which the table has what is drawn
+// from it, or from which nothing leads on. The chain gets the pairs on the way. False where a pair
+// has a fault, or the steps come to no end.
 #[inline(always)]
 fn follow<A: Allocator>(
     draft: &Draft,
@@ -127,8 +128,9 @@ fn way_on<A: Allocator>(draft: &Draft, rom: &Rom<A>, place: Place) -> Way {
     way
 }
 
-// Finds what is drawn from a pair's place, and from each place on the way from it. False where a pair has a fault,
-// or steps at one depth come to no end. What the chain has of other depths stays there.
+// Finds what is drawn from a pair's place, and from each place on the way from it. False where a
+// pair has a fault, or steps at one depth come to no end. What the chain has of other depths stays
+// there.
 fn settle<A: Allocator>(
     draft: &Draft,
     rom: &Rom<A>,
@@ -157,12 +159,13 @@ fn settle<A: Allocator>(
     true
 }
 
-/// How many words the whole run of a draft fetches, that of word zero included. None where a reached pair has a
-/// fault, or steps at one depth come to no end. The table has nothing at first.
+/// How many words the whole run of a draft fetches, that of word zero included. None where a
+/// reached pair has a fault, or steps at one depth come to no end. The table has nothing at first.
 ///
-/// Each place is gone over once, however many depths it is reached at: what is drawn from it is the same at each,
-/// and the table has at which depths no run from it breaks. So the time is linear in the places that are reached, but that
-/// a loop is followed for as many steps as there are operations and ROM words.
+/// Each place is gone over once, however many depths it is reached at: what is drawn from it is the
+/// same at each, and the table has at which depths no run from it breaks. So the time is linear in
+/// the places that are reached, but that a loop is followed for as many steps as there are
+/// operations and ROM words.
 pub(crate) fn bound_of<A: Allocator>(
     draft: &Draft,
     rom: &Rom<A>,

@@ -49,11 +49,11 @@ fn first_of(best: Option<Found>, found: Found) -> Found {
     }
 }
 
-/// The first reached pair that has a fault, with that of least number there. The list has no pair at first,
-/// and the reached ones at the end.
+/// The first reached pair that has a fault, with that of least number there. The list has no pair
+/// at first, and the reached ones at the end.
 ///
-/// Each pair is looked at once, when its turn comes in a list without doubles, so the time is linear in
-/// the number of reached pairs.
+/// Each pair is looked at once, when its turn comes in a list without doubles, so the time is
+/// linear in the number of reached pairs.
 pub(crate) fn sweep<A: Allocator>(list: &mut Worklist, draft: &Draft, rom: &Rom<A>) -> Option<Found> {
     list.add(Pair::default());
     let mut best = None;

@@ -13,7 +13,8 @@ pub(crate) enum Ending {
 /// What is drawn from a place.
 #[derive(Clone, Copy)]
 pub(crate) struct Drawn {
-    /// How many words are fetched. It stops at the greatest number, to which no draft without a fault comes.
+    /// How many words are fetched. It stops at the greatest number, to which no draft without a
+    /// fault comes.
     pub(crate) words: u64,
     /// How it ends.
     pub(crate) end: Ending,
@@ -23,7 +24,8 @@ pub(crate) struct Drawn {
     pub(crate) calls: u8,
 }
 
-/// What was put down of a place, and in which round. Before the first round each place has a note of round 0.
+/// What was put down of a place, and in which round. Before the first round each place has a note
+/// of round 0.
 #[derive(Clone, Copy)]
 pub(crate) struct Note {
     words: u64,
@@ -42,7 +44,8 @@ const BLANK: Note = Note {
     calls: 0,
 };
 
-/// For each place what is known of it: its note, where that is of the newest round. So to forget all is to begin a round.
+/// For each place what is known of it: its note, where that is of the newest round. So to forget
+/// all is to begin a round.
 pub(crate) struct Table {
     notes: [Note; PLACES],
     round: u32,
@@ -83,7 +86,8 @@ impl Table {
         };
     }
 
-    // Forgets what is known. No note is gone over but where the rounds are at their greatest number.
+    // Forgets what is known. No note is gone over but where the rounds are at their greatest
+    // number.
     pub(crate) fn clear(&mut self) {
         if self.round == u32::MAX {
             *self = Table::new();

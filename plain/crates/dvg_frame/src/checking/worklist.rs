@@ -27,7 +27,8 @@ impl Worklist {
         self.pairs.at(i)
     }
 
-    // Takes all pairs out. Only their own marks are taken back, so the time is linear in their number.
+    // Takes all pairs out. Only their own marks are taken back, so the time is linear in their
+    // number.
     pub(crate) fn clear(&mut self) {
         while self.pairs.len() > 0 {
             let pair = self.pairs.pop();
