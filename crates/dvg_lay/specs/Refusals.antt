@@ -1,11 +1,13 @@
 -- Why frames are not laid out.
-use Rattle.std.specs.Prelude.{◌≡◌, ℕ, ◌<◌, ◌≤◌, List, ◌∷◌, ◌++◌, All, length, get_or, Option, Some, None, option_map, slice_get, take}
+use Rattle.std.specs.Prelude.{◌≡◌, ℕ, ◌<◌, ◌≤◌, List, ◌∷◌, ◌++◌, All, length, get_or, Option, Some, None}
+use Rattle.std.specs.Prelude.{option_map, slice_get, take}
 use Rattle.dvg_frame.specs.declared.op.OpKind.{OpKind}
 use Rattle.dvg_frame.specs.declared.op.OpKind.TheVariants.{CallRom, JumpRom}
 use Rattle.dvg_frame.specs.declared.place.Place.{Place}
 use Rattle.dvg_frame.specs.declared.place.Place.TheVariants.{InFrame, InRom}
 use Rattle.dvg_frame.specs.declared.place.FrameFault.{FrameFault}
-use Rattle.dvg_frame.specs.declared.place.FrameFault.TheVariants.{Target, RunsOff, OutOfRom, TooDeep, NoCaller}
+use Rattle.dvg_frame.specs.declared.place.FrameFault.TheVariants.{Target, RunsOff, OutOfRom, TooDeep}
+use Rattle.dvg_frame.specs.declared.place.FrameFault.TheVariants.{NoCaller}
 use Rattle.dvg_frame.specs.Faults.{Accepts, Refuses}
 use Rattle.dvg_named.specs.declared.meaning.NamedFrame.{NamedFrame}
 use Rattle.dvg_named.specs.declared.meaning.RomName.{RomName}
@@ -64,7 +66,8 @@ abbrev pub IsNearer : ℕ → Option RomName → RomName → Type 0
 IsNearer a None name = name.address ≤ a
 IsNearer a (Some found) name = (found.address ≤ name.address) × (name.address ≤ a)
 
--- the name that stands at a word or before it: that of the greatest address, and of such names the last one
+-- the name that stands at a word or before it: that of the greatest address, and of such names
+-- the last one
 pub record IsNameBefore (names : List RomName) (a : ℕ) (found : RomName) : Type 0 where
   pub before : List RomName
   pub after : List RomName
@@ -75,14 +78,16 @@ pub record IsNameBefore (names : List RomName) (a : ℕ) (found : RomName) : Typ
 
 -- the text of the name that stands at a word or before it; none where no name does
 abbrev pub NamesBefore : List RomName → ℕ → Option (List ℕ) → Type 0
-NamesBefore names a (Some text) = (found : RomName) × IsNameBefore names a found × (text ≡ found.name.now)
+NamesBefore names a (Some text) =
+    (found : RomName) × IsNameBefore names a found × (text ≡ found.name.now)
 NamesBefore names a None = All (λ name. a < name.address) names
 
--- this is blamed for a fault at a place of a frame: the line of the operation, or the word of the ROM
+-- this is blamed for a fault at a place of a frame: the operation's line, or the word of the ROM
 abbrev pub Blames : {A : Type 0} → List RomName → NamedFrame → Place → Blamed A → Type 0
 Blames names frame (InFrame i) (Line number text) =
     (number ≡ (line_of frame i).number) × (text.items ≡ said (line_of frame i).line.now)
-Blames names frame (InRom a) (Word name address) = (address ≡ a) × NamesBefore names a (option_map (λ text. text.items) name)
+Blames names frame (InRom a) (Word name address) =
+    (address ≡ a) × NamesBefore names a (option_map (λ text. text.items) name)
 Blames names frame _ _ = ⊥
 
 -- the refusal tells the fault that the check picks of a frame
@@ -91,7 +96,8 @@ TellsFault R names refusal frame = (fault : FrameFault) × Refuses frame.ops.now
     × (refusal.reason ≡ Fault fault) × Blames names frame (place_of fault) refusal.blamed
 
 -- it tells of the first frame that the check doesn't accept
-abbrev pub IsFault : {A : Type 0} → (R : List ℕ) → List RomName → List NamedFrame → Refusal A → Type 0
+abbrev pub IsFault : {A : Type 0} → (R : List ℕ) → List RomName → List NamedFrame → Refusal A
+    → Type 0
 IsFault R names frames refusal = IsFirst (IsGood R) (TellsFault R names refusal) frames
 
 -- this operation of a draft is the first that names a word of the ROM below 400
@@ -108,7 +114,8 @@ TellsLow names refusal frame = (i : ℕ) × IsFirstLow frame.ops.now i × (refus
 
 -- the check accepts all frames, and the refusal tells of the first that a table can't tell
 abbrev pub IsLow : {A : Type 0} → (R : List ℕ) → List RomName → List NamedFrame → Refusal A → Type 0
-IsLow R names frames refusal = All (IsGood R) frames × IsFirst IsTellable (TellsLow names refusal) frames
+IsLow R names frames refusal =
+    All (IsGood R) frames × IsFirst IsTellable (TellsLow names refusal) frames
 
 -- why nothing is laid out: the refusal that `Tells` allows, or want of memory
 abbrev pub IsUnlaid : {A : Type 0} → (Tells : Refusal A → Type 0) → Unlaid A → Type 0

@@ -1,5 +1,6 @@
 -- What is laid out of frames and of names.
-use Rattle.std.specs.Prelude.{ℕ, suc, List, [], ◌∷◌, ◌++◌, Option, Some, None, codes, decimal, flat_map}
+use Rattle.std.specs.Prelude.{ℕ, suc, List, [], ◌∷◌, ◌++◌, Option, Some, None, codes, decimal}
+use Rattle.std.specs.Prelude.{flat_map}
 use Rattle.std.specs.Borrow.{Bor}
 use Rattle.std.specs.List.{join_by}
 use Rattle.dvg_code.specs.Spelling.{canon}
@@ -28,11 +29,13 @@ word_line text = codes "        .word " ++ text ++ 10 ∷ []
 
 -- the line of an operation: its words, and as a comment what its line of the sketch says
 abbrev pub op_line : List ℕ → Source → List ℕ
-op_line words source = word_line (join_by dollar (codes ", ") words ++ codes " ; " ++ said source.line.now)
+op_line words source =
+    word_line (join_by dollar (codes ", ") words ++ codes " ; " ++ said source.line.now)
 
 -- the lines of these operations of a draft, as they lie in half 0
 abbrev pub op_lines : (F ops : List OpKind) → List Source → List ℕ
-op_lines F (op ∷ ops) (source ∷ sources) = op_line (canon (op_code H0 F op)) source ++ op_lines F ops sources
+op_lines F (op ∷ ops) (source ∷ sources) =
+    op_line (canon (op_code H0 F op)) source ++ op_lines F ops sources
 op_lines F _ _ = []
 
 -- the label of the frame of this number: its name, or else `frame_` and its number
@@ -40,10 +43,11 @@ abbrev pub label : ℕ → Option (Bor (List ℕ)) → List ℕ
 label number (Some name) = name.now
 label number None = codes "frame_" ++ decimal number
 
--- the table of the frame of this number: its label with a colon, how many words it has, and its operations; 58 is the
--- colon
+-- the table of the frame of this number: its label with a colon, which is 58, how many words it
+-- has, and its operations
 abbrev pub frame_table : ℕ → NamedFrame → List ℕ
-frame_table number frame = label number frame.name ++ 58 ∷ 10 ∷ [] ++ word_line (decimal (size frame.ops.now))
+frame_table number frame =
+    label number frame.name ++ 58 ∷ 10 ∷ [] ++ word_line (decimal (size frame.ops.now))
     ++ op_lines frame.ops.now frame.ops.now frame.sources.now
 
 -- the tables of frames in order, of which the first has this number

@@ -49,7 +49,8 @@ fn is_nearer(found: Option<RomName>, name: &RomName, address: u16) -> bool
 // The name that stands at a word or before it: that of the greatest address, and of such names the
 // last one.
 fn name_before<'a>(names: &[RomName<'a>], address: u16) -> Option<RomName<'a>>
-    ensures { MatchOption result (All (λ name. address < name.address) names.now) (IsNameBefore names.now address) }
+    ensures { MatchOption result (All (λ name. address < name.address) names.now)
+        (IsNameBefore names.now address) }
 {
     let mut found = None;
     for name in names {
@@ -66,7 +67,8 @@ fn name_text<A: Allocator + Copy>(
     names: &[RomName],
     address: u16,
 ) -> Result<Option<Vec<u8, A>>, AllocError>
-    ensures { IfOk result (λ name. NamesBefore names.now address (option_map (λ text. text.items) name)) }
+    ensures { IfOk result (λ name.
+        NamesBefore names.now address (option_map (λ text. text.items) name)) }
 {
     match name_before(names, address) {
         Some(found) => Ok(Some(Vec::from_slice(alloc, found.name)?)),
@@ -106,7 +108,8 @@ fn tell<A: Allocator + Copy>(
     place: Place,
     reason: Reason,
 ) -> Unlaid<A>
-    ensures { IsUnlaid (λ refusal. (refusal.reason ≡ reason) × Blames names.now frame.now place refusal.blamed) result }
+    ensures { IsUnlaid (λ refusal.
+        (refusal.reason ≡ reason) × Blames names.now frame.now place refusal.blamed) result }
 {
     match blame(alloc, names, frame, place) {
         Ok(blamed) => Unlaid::Refused(Refusal { blamed, reason }),
@@ -123,8 +126,10 @@ pub(crate) fn good_frame<A: Allocator + Copy>(
     frame: &NamedFrame,
 ) -> Result<Frame, Unlaid<A>>
     requires { IsLent frame.now }
-    ensures good { IfOk result (λ checked. IsGood rom.now frame.now × (checked.operations ≡ frame.now.ops.now)) }
-    ensures refused { IfErr result (IsUnlaid (λ refusal. TellsFault rom.now names.now refusal frame.now)) }
+    ensures good { IfOk result (λ checked.
+        IsGood rom.now frame.now × (checked.operations ≡ frame.now.ops.now)) }
+    ensures refused { IfErr result (IsUnlaid (λ refusal.
+        TellsFault rom.now names.now refusal frame.now)) }
 {
     let mut draft = Draft::new();
     draft.try_extend_from_slice(frame.ops).unwrap();
@@ -184,7 +189,8 @@ pub(crate) fn check_told<A: Allocator + Copy>(
 ) -> Result<(), Unlaid<A>>
     requires { All IsLent frames.now }
     ensures told { OnOk result (All IsTellable frames.now) }
-    ensures refused { IfErr result (IsUnlaid (λ refusal. IsFirst IsTellable (TellsLow names.now refusal) frames.now)) }
+    ensures refused { IfErr result (IsUnlaid (λ refusal.
+        IsFirst IsTellable (TellsLow names.now refusal) frames.now)) }
 {
     for frame in frames {
         if let Some(i) = first_low(frame.ops) {

@@ -17,8 +17,11 @@ const ROM_END: u16 = 0xC00;
 
 /// The bytes of frames in order, each as it lies in a half, the low byte of each word first.
 ///
-/// Each frame is checked over the ROM. The first that is refused is told with its fault, and with
-/// the line of the operation or the word of the ROM at fault.
+/// - `Refused`: the check refuses a frame over the ROM. The first such frame is told: its fault, and
+///   the line of the operation at fault, or the word of the ROM with the name that stands there or
+///   before it. Of a fault of the whole draft it is the line of operation 0, or else that which
+///   begins the frame.
+/// - `Memory`: a growth was refused.
 pub fn lay_bytes<A: Allocator + Copy>(
     alloc: A,
     rom: &Rom<A>,
@@ -75,9 +78,10 @@ fn put_tables<A: Allocator + Copy>(
 /// label, or else `frame_` and its number from 0; how many words it has; and a line for each
 /// operation, with its words as it lies in half 0, and what its line of the sketch says.
 ///
-/// Each frame is checked over the ROM, as by `lay_bytes`. Of frames that are all accepted the first
-/// is refused that calls or jumps to a word of the ROM below 400, as such a word of a table is one
-/// of the frame; the first such operation is told.
+/// - `Refused`: the check refuses a frame over the ROM, as with `lay_bytes`. Or it accepts all, and
+///   an operation calls or jumps to a word of the ROM below 400, which in a table is one of the
+///   frame. The first such operation of the first such frame is told.
+/// - `Memory`: a growth was refused.
 pub fn lay_tables<A: Allocator + Copy>(
     alloc: A,
     rom: &Rom<A>,
@@ -88,8 +92,8 @@ pub fn lay_tables<A: Allocator + Copy>(
     ensures good { OnOk result (All (IsGood rom.now) frames.now) }
     ensures told { OnOk result (All IsTellable frames.now) }
     ensures laid { IfOk result (λ text. text.items ≡ tables 0 frames.now) }
-    ensures refused { IfErr result (IsUnlaid (λ refusal.
-        IsFault rom.now names.now frames.now refusal ⊎ IsLow rom.now names.now frames.now refusal)) }
+    ensures refused { IfErr result (IsUnlaid (λ refusal. IsFault rom.now names.now frames.now refusal
+        ⊎ IsLow rom.now names.now frames.now refusal)) }
 {
     let text = match put_tables(alloc, rom, names, frames) {
         Ok(text) => text,
@@ -101,8 +105,10 @@ pub fn lay_tables<A: Allocator + Copy>(
     }
 }
 
-/// The names of the ROM with their word addresses, a line for each. Each frame is checked over the
-/// ROM, as by `lay_bytes`.
+/// The names of the ROM with their word addresses, a line `NAME = $HHH` for each.
+///
+/// - `Refused`: the check refuses a frame over the ROM, as with `lay_bytes`.
+/// - `Memory`: a growth was refused.
 pub fn lay_names<A: Allocator + Copy>(
     alloc: A,
     rom: &Rom<A>,
@@ -137,8 +143,10 @@ fn rom_bytes<A: Allocator + Copy>(alloc: A, rom: &Rom<A>) -> Result<Vec<u8, A>, 
     Ok(text)
 }
 
-/// The bytes of the ROM, the low byte of each word first. Each frame is checked over the ROM, as by
-/// `lay_bytes`.
+/// The bytes of the ROM, 2,048 or 4,096, the low byte of each word first.
+///
+/// - `Refused`: the check refuses a frame over the ROM, as with `lay_bytes`.
+/// - `Memory`: a growth was refused.
 pub fn lay_rom<A: Allocator + Copy>(
     alloc: A,
     rom: &Rom<A>,

@@ -27,7 +27,8 @@ fn after_name<'a, 'b>(words: &'b [&'a [u8]]) -> &'b [&'a [u8]]
 
 // Appends words, with a space between each two.
 fn put_joined<A: Allocator>(text: &mut Vec<u8, A>, words: &[&[u8]]) -> Result<(), AllocError>
-    ensures { OnOk result (text.new.items ≡ text.old.items ++ join_with_byte 32 (bytes_of words.now)) }
+    ensures { OnOk result (text.new.items
+        ≡ text.old.items ++ join_with_byte 32 (bytes_of words.now)) }
 {
     let [first, rest @ ..] = words else {
         return Ok(());

@@ -51,7 +51,8 @@ pub(crate) fn put_words<A: Allocator>(
     text: &mut Vec<u8, A>,
     words: &[u16],
 ) -> Result<(), AllocError>
-    ensures { OnOk result (text.new.items ≡ text.old.items ++ join_by dollar (codes ", ") words.now) }
+    ensures { OnOk result (text.new.items
+        ≡ text.old.items ++ join_by dollar (codes ", ") words.now) }
 {
     let [first, rest @ ..] = words else {
         return Ok(());

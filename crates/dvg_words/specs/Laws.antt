@@ -22,9 +22,12 @@ JobWords = AskFor (codes "list" ∷ []) list_job × AskFor (codes "rom" ∷ []) 
     × AskFor (codes "picture" ∷ []) (Picture false) × AskFor (codes "picture" ∷ codes "--all" ∷ []) (Picture true) × AskFor (codes "check" ∷ []) (Check false)
     × AskFor (codes "check" ∷ codes "--bound" ∷ []) (Check true) × AskFor (codes "play" ∷ []) (Play false false) × AskFor (codes "play" ∷ codes "--all" ∷ []) (Play true false)
     × AskFor (codes "play" ∷ codes "--banked" ∷ []) (Play false true) × AskFor (codes "play" ∷ codes "--banked" ∷ codes "--all" ∷ []) (Play true true) × AskFor (codes "torn" ∷ []) Torn
-    × AskFor (codes "lay" ∷ []) (Lay Half0) × AskFor (codes "lay" ∷ codes "--half" ∷ codes "0" ∷ []) (Lay Half0)
-    × AskFor (codes "lay" ∷ codes "--half" ∷ codes "1" ∷ []) (Lay Half1) × AskFor (codes "lay" ∷ codes "--half=1" ∷ []) (Lay Half1)
-    × AskFor (codes "lay" ∷ codes "--table" ∷ []) (Lay Table) × AskFor (codes "lay" ∷ codes "--rom" ∷ []) (Lay RomBytes)
+    × AskFor (codes "lay" ∷ []) (Lay Half0)
+    × AskFor (codes "lay" ∷ codes "--half" ∷ codes "0" ∷ []) (Lay Half0)
+    × AskFor (codes "lay" ∷ codes "--half" ∷ codes "1" ∷ []) (Lay Half1)
+    × AskFor (codes "lay" ∷ codes "--half=1" ∷ []) (Lay Half1)
+    × AskFor (codes "lay" ∷ codes "--table" ∷ []) (Lay Table)
+    × AskFor (codes "lay" ∷ codes "--rom" ∷ []) (Lay RomBytes)
     × AskFor (codes "lay" ∷ codes "--equates" ∷ []) (Lay Equates)
 
 -- words that ask for help, or for the version; the words behind `help` may name no subcommand
@@ -47,4 +50,5 @@ OtherWords = FailAs [] (MissingSubcommand ∷ []) × FailAs (codes "draw" ∷ []
     × FailAs (codes "lay" ∷ codes "--half" ∷ []) (InvalidValue ∷ [])
     × FailAs (codes "lay" ∷ codes "--half" ∷ codes "0" ∷ codes "--rom" ∷ []) (ArgumentConflict ∷ [])
     × FailAs (codes "lay" ∷ codes "--rom" ∷ codes "--table" ∷ []) (ArgumentConflict ∷ [])
-    × FailAs (codes "lay" ∷ codes "--half" ∷ codes "0" ∷ codes "--half" ∷ codes "1" ∷ []) (ArgumentConflict ∷ [])
+    × FailAs (codes "lay" ∷ codes "--half" ∷ codes "0" ∷ codes "--half" ∷ codes "1" ∷ [])
+    (ArgumentConflict ∷ [])

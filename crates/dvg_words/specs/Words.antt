@@ -30,7 +30,9 @@ with_flag part option = with_rule part (flag option)
 
 -- the subcommand `lay`: a half by its number, or one of three other forms
 abbrev pub lay_app : App
-lay_app = with_flag (with_flag (with_flag (with_rule (new_app (codes "lay")) (valued (codes "half"))) (codes "table")) (codes "rom")) (codes "equates")
+lay_app =
+    let with_half = with_rule (new_app (codes "lay")) (valued (codes "half")) in
+    with_flag (with_flag (with_flag with_half (codes "table")) (codes "rom")) (codes "equates")
 
 -- the program's command, which requires one of seven subcommands and has a version; clap adds `help` and the options `--help` and `--version`
 unfoldable pub dvg_app : App
@@ -48,11 +50,13 @@ sets id rows = option_map_or (λ t. bytes_eq t (codes "true")) (first_of id rows
 
 -- how many of the four options of `lay` are given
 abbrev pub given_count : (half table rom equates : Bool) → ℕ
-given_count half table rom equates = count_by (λ is_given. is_given) (half ∷ table ∷ rom ∷ equates ∷ [])
+given_count half table rom equates =
+    count_by (λ is_given. is_given) (half ∷ table ∷ rom ∷ equates ∷ [])
 
 -- the form in a half of this number
 abbrev pub half_form : Text → Option LayForm
-half_form number = if bytes_eq number (codes "0") then Some Half0 else (if bytes_eq number (codes "1") then Some Half1 else None)
+half_form number = if bytes_eq number (codes "0") then Some Half0
+    else (if bytes_eq number (codes "1") then Some Half1 else None)
 
 -- the form that an option asks for; without one it is half 0
 abbrev pub form_by : (table rom equates : Bool) → (half : Option Text) → Option LayForm
@@ -63,16 +67,19 @@ form_by false false false half = option_map_or half_form half (Some Half0)
 
 -- how many of the options of `lay` the matching gives
 abbrev pub forms_given : List Row → ℕ
-forms_given rows = given_count (is_some (first_of (codes "half") rows)) (sets (codes "table") rows) (sets (codes "rom") rows) (sets (codes "equates") rows)
+forms_given rows = given_count (is_some (first_of (codes "half") rows)) (sets (codes "table") rows)
+    (sets (codes "rom") rows) (sets (codes "equates") rows)
 
 -- the form that the options of `lay` ask for
 abbrev pub form_of : List Row → Option LayForm
-form_of rows = form_by (sets (codes "table") rows) (sets (codes "rom") rows) (sets (codes "equates") rows) (first_of (codes "half") rows)
+form_of rows = form_by (sets (codes "table") rows) (sets (codes "rom") rows)
+    (sets (codes "equates") rows) (first_of (codes "half") rows)
 
 -- how so many options that ask for this form are refused: two of them, or a half that is neither 0
 -- nor 1
 abbrev pub refused_by : ℕ → Option LayForm → Kinds
-refused_by count form = if nat_lt 1 count then ArgumentConflict ∷ [] else (if is_some form then [] else InvalidValue ∷ [])
+refused_by count form = if nat_lt 1 count then ArgumentConflict ∷ []
+    else (if is_some form then [] else InvalidValue ∷ [])
 
 -- how the options of `lay` are refused
 abbrev pub lay_fault : List Row → Kinds
@@ -103,7 +110,8 @@ IsJob (Picture all) met = option_map {U = Text × Bool} (λ p. (p.0, sets (codes
 IsJob (Check bound) met = option_map {U = Text × Bool} (λ p. (p.0, sets (codes "bound") p.1)) met ≡ Some (codes "check", bound)
 IsJob (Play all banked) met = option_map {U = Text × Bool × Bool} (λ p. (p.0, sets (codes "all") p.1, sets (codes "banked") p.1)) met ≡ Some (codes "play", all, banked)
 IsJob Torn met = option_map (λ p. p.0) met ≡ Some (codes "torn")
-IsJob (Lay form) met = option_map {U = Text × Option LayForm} (λ p. (p.0, form_of p.1)) met ≡ Some (codes "lay", Some form)
+IsJob (Lay form) met =
+    option_map {U = Text × Option LayForm} (λ p. (p.0, form_of p.1)) met ≡ Some (codes "lay", Some form)
 
 -- the name of a subcommand that is a job
 abbrev pub IsJobName : Text → Type 0

@@ -134,7 +134,8 @@ fn play_with_all<'a>(alloc: Global) -> Result<Command<'a>, AllocError>
 // The subcommand `lay`, with two of its four options.
 fn lay_with_table<'a>(alloc: Global) -> Result<Command<'a>, AllocError>
     ensures app { let lay = new_app (codes "lay") in
-        IfOk result (λ c. app_of c ≡ with_flag (with_rule lay (valued (codes "half"))) (codes "table")) }
+        IfOk result (λ c.
+        app_of c ≡ with_flag (with_rule lay (valued (codes "half"))) (codes "table")) }
     ensures local { IfOk result (λ c. (fields_of c).has_globals ≡ false) }
 {
     let lay = helped(
