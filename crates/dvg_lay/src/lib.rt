@@ -8,11 +8,13 @@
 
 mod checking;
 mod laying;
+mod lent;
 mod names;
 mod refusal;
 mod said;
 mod table;
 mod text;
 
+pub use lent::are_lent;
 pub use laying::{lay_bytes, lay_names, lay_rom, lay_tables};
 pub use refusal::{Blamed, Reason, Refusal, Unlaid};
