@@ -7,6 +7,7 @@
 #![tactic(auto)]
 
 mod checking;
+mod form;
 mod laying;
 mod lent;
 mod names;
@@ -15,6 +16,7 @@ mod said;
 mod table;
 mod text;
 
-pub use lent::are_lent;
+pub use form::{Form, Laid, lay};
 pub use laying::{lay_bytes, lay_names, lay_rom, lay_tables};
+pub use lent::are_lent;
 pub use refusal::{Blamed, Reason, Refusal, Unlaid};
