@@ -1,0 +1,41 @@
+-- What is laid out of a sketch in each form.
+use Rattle.std.specs.Prelude.{◌≡◌, ◌⊎◌, ℕ, List, [], All}
+use Rattle.dvg_named.specs.declared.meaning.NamedFrame.{NamedFrame}
+use Rattle.dvg_named.specs.declared.meaning.RomName.{RomName}
+use Rattle.dvg_lay.specs.declared.form.Form.{Form}
+use Rattle.dvg_lay.specs.declared.form.Form.TheVariants.{Bytes, Tables, RomBytes, RomNames}
+use Rattle.dvg_lay.specs.declared.form.Laid.{Laid}
+use Rattle.dvg_lay.specs.declared.form.Laid.TheVariants as laids
+use Rattle.dvg_lay.specs.declared.refusal.Refusal.{Refusal}
+use Rattle.dvg_lay.specs.Refusals.{IsFault, IsGood, IsLow, IsTellable}
+use Rattle.dvg_lay.specs.Texts.{frames_bytes, name_lines, tables}
+
+-- what is laid out over a ROM
+abbrev pub form_text : Form → (R : List ℕ) → List RomName → List NamedFrame → List ℕ
+form_text (Bytes half) R names frames = frames_bytes half frames
+form_text Tables R names frames = tables 0 frames
+form_text RomBytes R names frames = R
+form_text RomNames R names frames = name_lines names
+
+-- of these frames it may be: the check accepts all, and a table can tell all
+abbrev pub MayLay : Form → (R : List ℕ) → List NamedFrame → Type 0
+MayLay Tables R frames = All (IsGood R) frames × All IsTellable frames
+MayLay _ R frames = All (IsGood R) frames
+
+-- the refusal tells why it may not be
+abbrev pub IsRefusal : {A : Type 0} → Form → (R : List ℕ) → List RomName → List NamedFrame
+    → Refusal A → Type 0
+IsRefusal Tables R names frames refusal = IsFault R names frames refusal ⊎ IsLow R names frames refusal
+IsRefusal _ R names frames refusal = IsFault R names frames refusal
+
+-- what came of it: the text, or a refusal
+abbrev pub IsLaid : {A : Type 0} → Form → (R : List ℕ) → List RomName → List NamedFrame → Laid A
+    → Type 0
+IsLaid form R names frames (laids.Text text) =
+    MayLay form R frames × (text.items ≡ form_text form R names frames)
+IsLaid form R names frames (laids.Refused refusal) = IsRefusal form R names frames refusal
+
+-- the text that is written of it: none of a refusal
+abbrev pub shown : {A : Type 0} → Laid A → List ℕ
+shown (laids.Text text) = text.items
+shown (laids.Refused refusal) = []

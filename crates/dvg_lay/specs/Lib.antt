@@ -1,0 +1,4 @@
+pub mod Said
+pub mod Texts
+pub mod Refusals
+pub mod Forms

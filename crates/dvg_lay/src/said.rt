@@ -1,0 +1,61 @@
+//! What a line of a sketch says.
+ghost use Rattle.std.specs.Prelude.{◌≡◌, ◌++◌, IfOk, OnOk};
+ghost use Rattle.std.specs.List.{join_with_byte};
+ghost use Rattle.dvg_text.specs.LineParts.{bytes_of};
+ghost use Rattle.dvg_lay.specs.Said.{after_name, gives_name, said};
+
+use crate::text::put;
+use dvg_named::words_of;
+use std::alloc::{AllocError, Allocator};
+
+// Whether a word gives a name.
+fn gives_name(word: &[u8]) -> bool
+    ensures { result ≡ gives_name word.now }
+{
+    word.ends_with(b":")
+}
+
+// The words after the name that the first one gives.
+fn after_name<'a, 'b>(words: &'b [&'a [u8]]) -> &'b [&'a [u8]]
+    ensures { bytes_of result.now ≡ after_name (bytes_of words.now) }
+{
+    match words {
+        [first, rest @ ..] if gives_name(first) => rest,
+        _ => words,
+    }
+}
+
+// Appends words, with a space between each two.
+fn put_joined<A: Allocator>(text: &mut Vec<u8, A>, words: &[&[u8]]) -> Result<(), AllocError>
+    ensures { OnOk result (text.new.items
+        ≡ text.old.items ++ join_with_byte 32 (bytes_of words.now)) }
+{
+    let [first, rest @ ..] = words else {
+        return Ok(());
+    };
+    put(text, first)?;
+    for word in rest {
+        put(text, b" ")?;
+        put(text, word)?;
+    }
+    Ok(())
+}
+
+/// Appends what a line says.
+pub(crate) fn put_said<A: Allocator>(text: &mut Vec<u8, A>, line: &[u8]) -> Result<(), AllocError>
+    ensures { OnOk result (text.new.items ≡ text.old.items ++ said line.now) }
+{
+    match words_of(line) {
+        Some(found) => put_joined(text, after_name(found.as_slice())),
+        None => Ok(()),
+    }
+}
+
+/// What a line says.
+pub(crate) fn said<A: Allocator>(alloc: A, line: &[u8]) -> Result<Vec<u8, A>, AllocError>
+    ensures { IfOk result (λ text. text.items ≡ said line.now) }
+{
+    let mut text = Vec::new(alloc);
+    put_said(&mut text, line)?;
+    Ok(text)
+}

@@ -1,0 +1,66 @@
+//! Texts that grow in memory.
+ghost use Rattle.std.specs.Prelude.{◌≡◌, ◌<◌, ◌++◌, ◌∷◌, [], OnOk, codes, decimal, true};
+ghost use Rattle.std.specs.Fmt.{digit_glyph};
+ghost use Rattle.std.specs.List.{join_by};
+ghost use Rattle.dvg_lines.specs.Lines.{hex_3};
+ghost use Rattle.dvg_lay.specs.Texts.{dollar};
+
+use itoa::Buffer;
+use std::alloc::{AllocError, Allocator};
+
+/// Appends bytes.
+pub(crate) fn put<A: Allocator>(text: &mut Vec<u8, A>, bytes: &[u8]) -> Result<(), AllocError>
+    ensures { OnOk result (text.new.items ≡ text.old.items ++ bytes.now) }
+{
+    text.extend_from_slice(bytes)
+}
+
+/// Appends a number in decimal.
+pub(crate) fn put_decimal<A: Allocator>(text: &mut Vec<u8, A>, n: usize) -> Result<(), AllocError>
+    ensures { OnOk result (text.new.items ≡ text.old.items ++ decimal n) }
+{
+    put(text, Buffer::new().format(n).as_bytes())
+}
+
+// A hexadecimal digit in upper case.
+fn digit(n: u16) -> u8
+    requires { n < 16 }
+    ensures { result ≡ digit_glyph true n }
+{
+    b"0123456789ABCDEF"[usize::from(n)]
+}
+
+/// Appends three hexadecimal digits.
+pub(crate) fn put_hex_3<A: Allocator>(text: &mut Vec<u8, A>, n: u16) -> Result<(), AllocError>
+    ensures { OnOk result (text.new.items ≡ text.old.items ++ hex_3 n) }
+{
+    let digits = [digit(n / 256 % 16), digit(n / 16 % 16), digit(n % 16)];
+    put(text, &digits)
+}
+
+// Appends a word: a dollar sign and four hexadecimal digits.
+fn put_word<A: Allocator>(text: &mut Vec<u8, A>, word: u16) -> Result<(), AllocError>
+    ensures { OnOk result (text.new.items ≡ text.old.items ++ dollar word) }
+{
+    put(text, &[b'$', digit(word / 4096 % 16)])?;
+    put_hex_3(text, word)
+}
+
+/// Appends words, with a comma and a space between each two.
+pub(crate) fn put_words<A: Allocator>(
+    text: &mut Vec<u8, A>,
+    words: &[u16],
+) -> Result<(), AllocError>
+    ensures { OnOk result (text.new.items
+        ≡ text.old.items ++ join_by dollar (codes ", ") words.now) }
+{
+    let [first, rest @ ..] = words else {
+        return Ok(());
+    };
+    put_word(text, *first)?;
+    for word in rest {
+        put(text, b", ")?;
+        put_word(text, *word)?;
+    }
+    Ok(())
+}
