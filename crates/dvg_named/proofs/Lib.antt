@@ -10,3 +10,9 @@ mod NamedSections
 mod RomWritten
 mod RowSizes
 mod WholeTexts
+mod ReadCuts
+mod NamesMore
+mod LaidMore
+mod ReadLimits
+mod ReadMoves
+mod ReadRows

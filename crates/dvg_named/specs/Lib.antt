@@ -11,5 +11,11 @@ pub mod SketchLaws
 pub mod HeldRows
 pub mod LaidValues
 pub mod RomBytes
+pub mod ToldRoms
+pub mod GivenNames
+pub mod RomAreas
+pub mod ReadParts
+pub mod RowMoves
+pub mod SketchReading
 pub mod Examples
 pub mod TextExamples

@@ -7,14 +7,20 @@
 mod drafting;
 pub mod examples;
 mod fault;
+mod given_names;
 mod laid;
 pub mod laws;
+mod line_fault;
 mod line_words;
 mod meaning;
 mod number;
+mod part;
+mod reading;
+mod rom_area;
 mod rom_words;
 mod row;
 mod sizes;
+mod told_rom;
 
 pub use drafting::draft_of;
 pub use fault::NamedFault;
