@@ -16,3 +16,5 @@ mod LaidMore
 mod ReadLimits
 mod ReadMoves
 mod ReadRows
+mod ToldLines
+mod ReadBegins

@@ -1,7 +1,6 @@
 -- What one row more does to the section that it stands in (for private contracts).
 use Rattle.std.specs.Prelude.{◌≡◌, ◌+◌, ◌<◌, ◌≤◌, ℕ, Option, None, Some}
-use Rattle.dvg_frame.specs.declared.op.OpKind.{OpKind}
-use Rattle.dvg_named.specs.Rows.{Doing, Head, Row, frame, plainly, rom, top}
+use Rattle.dvg_named.specs.Rows.{Doing, Head, frame, rom, top}
 
 -- a frame begins so, or the text does
 abbrev pub IsFrameHead : Head → Type 0
@@ -14,10 +13,6 @@ abbrev pub IsRomHead : Head → Type 0
 IsRomHead top = ⊥
 IsRomHead (frame name) = ⊥
 IsRomHead (rom address) = Unit {0}
-
--- a row that does nothing but this operation
-abbrev pub does_plainly : OpKind → Row
-does_plainly op = record { name = None; doing = Some (plainly op) }
 
 -- with a row that does this, a frame has so many operations
 abbrev pub IsCounted : (count : ℕ) → Option Doing → (now : ℕ) → Type 0

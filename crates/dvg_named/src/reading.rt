@@ -1,8 +1,9 @@
 //! What the lines of a sketch spell that were read.
 ghost use Rattle.std.specs.Prelude.{◌↔◌, IfNone, IfSome, IsTrue};
-ghost use Rattle.dvg_named.specs.RowMoves.{IsCounted, IsFull, does_plainly};
-ghost use Rattle.dvg_named.specs.RowValues.{row_of};
-ghost use Rattle.dvg_named.specs.Rows.{rom};
+ghost use Rattle.dvg_named.specs.RowMoves.{IsCounted, IsFull};
+ghost use Rattle.dvg_named.specs.RomBytes.{MayBeEncoded};
+ghost use Rattle.dvg_named.specs.RowValues.{doing_of, row_of};
+ghost use Rattle.dvg_named.specs.Rows.{plainly, rom};
 ghost use Rattle.dvg_named.specs.Sections.{MayStand};
 
 use crate::given_names::GivenNames;
@@ -236,14 +237,24 @@ fn may_stand_in_rom(row: &Row) -> bool
     ensures { IsTrue result ↔ MayStand (rom None) (row_of row.now) }
 {
     match &row.doing {
-        Some(Doing::Plainly(op)) => is_without_number(op.kind()),
-        _ => true,
+        Some(doing) => may_be_encoded(doing),
+        None => true,
+    }
+}
+
+// Whether what a row does may be done in the ROM.
+fn may_be_encoded(doing: &Doing) -> bool
+    ensures { IsTrue result ↔ MayBeEncoded (doing_of doing.now) }
+{
+    match doing {
+        Doing::Plainly(op) => is_without_number(op.kind()),
+        Doing::Calls(_) | Doing::Jumps(_) | Doing::CallsRom(_) | Doing::JumpsRom(_) => true,
     }
 }
 
 // Whether an operation neither calls nor jumps by a number.
 fn is_without_number(kind: OpKind) -> bool
-    ensures { IsTrue result ↔ MayStand (rom None) (does_plainly kind) }
+    ensures { IsTrue result ↔ MayBeEncoded (plainly kind) }
 {
     !matches!(kind, OpKind::Call(_) | OpKind::Jump(_))
 }
