@@ -1,9 +1,8 @@
 -- One section of the ROM more, and one row more in the last one.
 use Rattle.std.proofs.Common.{◌≡◌, ◌<◌, ◌≤◌, ◌+◌, ◌⊎◌, inl, inr, ℕ, List, [], ◌∷◌, ◌++◌, length, get_or, max, refl, sym, ap, subst, ◌∙◌, arith}
-use Rattle.std.proofs.Common.{length-append, unwrap_or, All, Any, Bool, true, false, Option}
+use Rattle.std.proofs.Common.{length-append, unwrap_or, Any, Bool, true, false}
 use Rattle.std.proofs.lemmas.Bool.{cases_lt}
 use Rattle.std.proofs.lemmas.List.{get_or_append_left, get_or_default}
-use Rattle.std.proofs.lemmas.List.Elements.{All-push}
 use Rattle.std.proofs.lemmas.List.Quantifiers.{Any-push, all_pairs_push}
 use Rattle.std.proofs.Math.Seq.{get_or-append_seam}
 use Rattle.std.specs.List.{AllPairs}
@@ -13,7 +12,7 @@ use Rattle.dvg_named.specs.ReadParts.{free_from}
 use Rattle.dvg_named.specs.RomAreas.{IsFree}
 use Rattle.dvg_named.specs.Rows.{Row}
 use Rattle.dvg_named.specs.Sections.{RomRows}
-use Rattle.dvg_named.proofs.NamesMore.{all_front, all_last, pairs_front, pairs_last}
+use Rattle.dvg_named.proofs.NamesMore.{pairs_front, pairs_last}
 
 -- a section that is laid after others
 abbrev pub laid_after : (free : ℕ) → List RomRows → RomRows → Laid

@@ -1,5 +1,5 @@
 -- What the reader of a sketch holds before the first row, and after a section begins.
-use Rattle.std.proofs.Common.{◌≡◌, ◌<◌, ◌≤◌, ◌+◌, ◌⊎◌, ℕ, List, [], ◌∷◌, ◌++◌, get_or, length, map, refl, sym, ap, subst, ◌∙◌, arith, Option, Some, None, true, false, All}
+use Rattle.std.proofs.Common.{◌≡◌, ℕ, List, [], ◌∷◌, ◌++◌, get_or, map, refl, sym, ap, subst, ◌∙◌, arith, Option, None, true, false}
 use Rattle.std.proofs.lemmas.List.Elements.{All-cons, All-nil}
 use Rattle.std.specs.Option.{option_to_list}
 use Rattle.dvg_text.specs.LineParts.{bytes_of}
@@ -11,14 +11,14 @@ use Rattle.dvg_named.specs.declared.line_fault.LineFault.TheVariants.{Full, Memo
 use Rattle.dvg_named.specs.declared.reading.Reading.{Reading}
 use Rattle.dvg_named.specs.declared.rom_area.RomArea.{RomArea}
 use Rattle.dvg_named.specs.declared.told_rom.ToldRom.{ToldRom}
-use Rattle.dvg_named.specs.GivenNames.{IsAgain, IsFresh, StopsNames}
+use Rattle.dvg_named.specs.GivenNames.{IsFresh, StopsNames}
 use Rattle.dvg_named.specs.HeldRows.{rows_of}
 use Rattle.dvg_named.specs.NamedFaults.{AreDistinct, KeepsLimits}
 use Rattle.dvg_named.specs.ReadParts.{KeepsNext, free_told, sketch_of}
 use Rattle.dvg_named.specs.RomAreas.{BeginsAt, StopsBegin}
-use Rattle.dvg_named.specs.Rows.{Head, IsHeadLine, Row, frame, rom, top}
-use Rattle.dvg_named.specs.Sections.{Section, Spelled}
-use Rattle.dvg_named.specs.SketchReading.{Breaks, IsBare, Keeps, Opens, Reads, ReadsMore, StopsSketch, closed_in, head_in, section_in, spelled_in}
+use Rattle.dvg_named.specs.Rows.{Head, IsHeadLine, frame, rom, top}
+use Rattle.dvg_named.specs.Sections.{Section}
+use Rattle.dvg_named.specs.SketchReading.{IsBare, Keeps, Opens, Reads, ReadsMore, StopsSketch, closed_in, head_in, section_in, spelled_in}
 use Rattle.dvg_named.specs.SketchSteps.{Goes, begun, tells}
 use Rattle.dvg_named.specs.ToldRoms.{HoldsTold, TellsTold}
 use Rattle.dvg_named.proofs.ReadCuts.{goes_begin}

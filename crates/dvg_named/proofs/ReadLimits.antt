@@ -1,9 +1,9 @@
 -- The limits of a sketch, as its frames and the sections of its ROM keep them.
-use Rattle.std.proofs.Common.{◌≡◌, ◌<◌, ◌≤◌, ◌+◌, ◌⊎◌, inl, inr, ℕ, List, [], ◌∷◌, ◌++◌, length, get_or, max, refl, sym, ap, subst, ◌∙◌, arith}
-use Rattle.std.proofs.Common.{append-nil, append_assoc, length-append, unwrap_or, All, Bool, true, false, Option, Some, None}
+use Rattle.std.proofs.Common.{◌≡◌, ◌≤◌, ◌+◌, ℕ, List, [], ◌∷◌, ◌++◌, length, refl, sym, ap, subst, ◌∙◌, arith}
+use Rattle.std.proofs.Common.{append-nil, append_assoc, length-append, unwrap_or, All, Option, Some, None}
 use Rattle.std.proofs.lemmas.Grind.{flat_map-append}
 use Rattle.std.proofs.lemmas.List.Elements.{All-nil, All-push, filter_map-append}
-use Rattle.std.specs.List.{AllPairs, cons_option, filter_map, flat_map}
+use Rattle.std.specs.List.{cons_option, filter_map, flat_map}
 use Rattle.std.specs.Option.{option_to_list}
 use Rattle.dvg_text.specs.RomTexts.{RomText, first_told}
 use Rattle.dvg_named.specs.GivenNames.{IsAgain, IsFresh}
@@ -13,7 +13,7 @@ use Rattle.dvg_named.specs.ReadParts.{free_from, free_told}
 use Rattle.dvg_named.specs.RowMoves.{IsCounted, IsFull}
 use Rattle.dvg_named.specs.Rows.{Doing, Row}
 use Rattle.dvg_named.specs.Sections.{FrameRows, RomRows, Spelled, frames, rom_sections}
-use Rattle.dvg_named.proofs.LaidMore.{Apart, apart_begun, laid_after, laid_push}
+use Rattle.dvg_named.proofs.LaidMore.{Apart, laid_push}
 use Rattle.dvg_named.proofs.NamesMore.{again_breaks, all_front, all_last, as_list, distinct_push, names_more}
 use Rattle.dvg_named.proofs.ReadCuts.{Closes, whole, without}
 

@@ -1,7 +1,6 @@
 -- What a line more makes of a sketch within the limits.
-use Rattle.std.proofs.Common.{◌≡◌, ◌<◌, ◌≤◌, ◌+◌, ◌⊎◌, inl, inr, ℕ, List, [], ◌∷◌, ◌++◌, length, get_or, max, refl, sym, ap, subst, ◌∙◌, arith}
-use Rattle.std.proofs.Common.{append-nil, unwrap_or, All, Bool, true, false, Option, Some, None}
-use Rattle.std.proofs.lemmas.List.Elements.{filter_map-append}
+use Rattle.std.proofs.Common.{◌≡◌, ◌<◌, ◌≤◌, ◌+◌, ◌⊎◌, inl, inr, ℕ, List, [], ◌∷◌, ◌++◌, length, get_or, refl, sym, ap, subst, ◌∙◌, arith}
+use Rattle.std.proofs.Common.{append-nil, unwrap_or, All, true, false, Option, None}
 use Rattle.std.specs.List.{filter_map, flat_map}
 use Rattle.std.specs.Option.{option_to_list}
 use Rattle.dvg_text.specs.RomTexts.{RomText, first_told}
@@ -9,16 +8,16 @@ use Rattle.dvg_named.specs.declared.rom_area.RomArea.{RomArea}
 use Rattle.dvg_named.specs.GivenNames.{IsAgain, IsFresh}
 use Rattle.dvg_named.specs.NamedFaults.{DraftsFit, GivesOnce, LieApart, RomFits, names_of}
 use Rattle.dvg_named.specs.Places.{Laid, doings, size}
-use Rattle.dvg_named.specs.ReadParts.{KeepsArea, KeepsFrame, KeepsNext, StartsAtTop, frame_names, free_from, free_told, front_roms, rom_names, sketch_of}
+use Rattle.dvg_named.specs.ReadParts.{KeepsArea, KeepsFrame, KeepsNext, StartsAtTop, free_from, free_told, front_roms, sketch_of}
 use Rattle.dvg_named.specs.RomAreas.{BeginsAt, IsFree, Takes}
 use Rattle.dvg_named.specs.RowMoves.{IsCounted, IsFrameHead, IsFull}
 use Rattle.dvg_named.specs.Rows.{Head, IsHeadLine, IsRowLine, Row, frame, rom, top}
 use Rattle.dvg_named.specs.Sections.{FrameRows, MayStand, RomRows, Section, Spelled, frames, rom_sections}
 use Rattle.dvg_named.specs.SketchReading.{Breaks, Keeps}
-use Rattle.dvg_named.specs.SketchSteps.{Goes, begun, so_far, with_row}
+use Rattle.dvg_named.specs.SketchSteps.{Goes, begun}
 use Rattle.dvg_named.proofs.LaidMore.{Apart, Covers, apart_free, apart_longer, apart_begun, covers_begun, covers_front, free_push, on_longer, only_longer}
 use Rattle.dvg_named.proofs.ReadCuts.{frame_list, frames_close, frames_cut, front_frames, goes_begin, goes_row, rom_list, roms_close, roms_cut, starts_later, starts_with}
-use Rattle.dvg_named.proofs.ReadLimits.{IsInRom, IsOnce, IsSmall, Once, Within, drafts_out, drafts_in, framed, laid_all, laid_last, of_rom, once_in, once_out, rom_in, rom_out, apart_in, apart_out, start_at, within_in, within_out}
+use Rattle.dvg_named.proofs.ReadLimits.{IsInRom, IsSmall, Once, Within, drafts_out, drafts_in, framed, laid_all, laid_last, of_rom, once_in, once_out, rom_in, rom_out, apart_in, start_at, within_in, within_out}
 use Rattle.dvg_named.proofs.ReadLimits.{begun_again, begun_names, begun_once, begun_small, closed_names, closed_once, closed_small, counted_more, fits_front, fits_last, frame_row_again, frame_row_full, frame_row_once, frame_row_small, last_fits, rom_begun_once, rom_names_begun, rom_names_more, rom_row_again, rom_row_once, row_names}
 use Rattle.dvg_named.proofs.NamesMore.{names_more}
 use Rattle.dvg_named.proofs.RowSizes.{size-append}
@@ -110,9 +109,12 @@ module _ (told : RomText) (closed : List Section) (head : Head) (name : Option (
     frame_row_fills line spelled full = record {
       now = is;
       goes = goes_row told closed (part head rows) row line may spelled;
-      breaks = (once_out is new_frames same_roms is_frames is_roms once, λ fits.
-          frame_row_full (front_frames closed) name rows row same_roms count kept.1 full
-          (drafts_in is new_frames same_roms is_frames is_roms fits));
+      breaks = (
+        once_out is new_frames same_roms is_frames is_roms once,
+        λ fits.
+            frame_row_full (front_frames closed) name rows row same_roms count kept.1 full
+            (drafts_in is new_frames same_roms is_frames is_roms fits),
+      );
     }
 
   frame_row_twice : (line : List ℕ) → IsRowLine row line → IsAgain names row.name → Breaks (λ now. ¬ GivesOnce now) was line
@@ -245,10 +247,14 @@ module _ (told : RomText) (closed : List Section) (address : Option ℕ) (rows :
     rom_out_of line spelled over = record {
       now = after;
       goes = goes_on line spelled;
-      breaks = (gives_once, drafts_fit, λ fits.
-          let high = (last_fits told (front_roms closed) address (rows ++ row ∷ []) (rom_in after fs new_roms after_frames after_roms fits)).1 in
-          let at = h.next in
-          omega (arith, longer, over, high, at));
+      breaks = (
+        gives_once,
+        drafts_fit,
+        λ fits.
+            let high = (last_fits told (front_roms closed) address (rows ++ row ∷ []) (rom_in after fs new_roms after_frames after_roms fits)).1 in
+            let at = h.next in
+            omega (arith, longer, over, high, at),
+      );
     }
 
     module _ (high : held.next + size (row ∷ []) ≤ 0xC00) where
@@ -286,13 +292,18 @@ module _ (told : RomText) (closed : List Section) (address : Option ℕ) (rows :
       rom_overlaps line spelled taken = record {
         now = after;
         goes = goes_on line spelled;
-        breaks = (gives_once, drafts_fit, rom_out after fs new_roms after_frames after_roms all_fit, λ apart.
-            let end = held.next + size (row ∷ []) in
-            let free = apart_free lower from rows (rows ++ row ∷ []) held.is_taken end (ends end refl) (grows end refl) on only
-            (subst Apart (laid_last told (front_roms closed) address (rows ++ row ∷ []))
-            (apart_in after fs new_roms after_frames after_roms apart)) in
-            let at = h.next in
-            taken (λ a low below. free a (omega (arith, low, at)) below));
+        breaks = (
+          gives_once,
+          drafts_fit,
+          rom_out after fs new_roms after_frames after_roms all_fit,
+          λ apart.
+              let end = held.next + size (row ∷ []) in
+              let free = apart_free lower from rows (rows ++ row ∷ []) held.is_taken end (ends end refl) (grows end refl) on only
+              (subst Apart (laid_last told (front_roms closed) address (rows ++ row ∷ []))
+              (apart_in after fs new_roms after_frames after_roms apart)) in
+              let at = h.next in
+              taken (λ a low below. free a (omega (arith, low, at)) below),
+        );
       }
 
     pub rom_row : (new : RomArea) → Takes (size (row ∷ [])) held new
@@ -314,13 +325,13 @@ module _ (told : RomText) (closed : List Section) (address : Option ℕ) (rows :
         record {
           starts = still;
           limits = within_out after fs new_roms after_frames after_roms (record {
-                once = rom_once;
-                drafts = was_within.drafts;
-                rom = all_fit high;
-                apart = subst Apart (sym (laid_last told (front_roms closed) address (rows ++ row ∷ [])))
-                    (apart_longer low from rows (rows ++ row ∷ []) held.is_taken new.next end grown (on high)
-                    (subst Apart (laid_last told (front_roms closed) address rows) was_within.apart) free);
-              });
+            once = rom_once;
+            drafts = was_within.drafts;
+            rom = all_fit high;
+            apart = subst Apart (sym (laid_last told (front_roms closed) address (rows ++ row ∷ [])))
+                (apart_longer low from rows (rows ++ row ∷ []) held.is_taken new.next end grown (on high)
+                (subst Apart (laid_last told (front_roms closed) address rows) was_within.apart) free);
+          });
           frames = h.frames ∙ ap (filter_map name_in) (before_frames ∙ sym after_frames);
           roms = ap (λ l. l ++ option_to_list row.name) names_are
               ∙ sym (rom_names_more (front_roms closed) address rows row) ∙ sym (ap all_names after_roms);
@@ -413,11 +424,11 @@ module _ (told : RomText) (closed : List Section) (last : Section) (of_frames of
     begun_frame fresh = record {
       starts = frame_starts;
       limits = within_out with_frame grown_frames all_roms frames_now roms_now (record {
-            once = begun_once front name all_roms front_once (subst (λ names. IsFresh names name) frame_names_are fresh);
-            drafts = begun_small front name front_small;
-            rom = all_within.rom;
-            apart = all_within.apart;
-          });
+        once = begun_once front name all_roms front_once (subst (λ names. IsFresh names name) frame_names_are fresh);
+        drafts = begun_small front name front_small;
+        rom = all_within.rom;
+        apart = all_within.apart;
+      });
       frames = ap (λ l. l ++ option_to_list name) frame_names_are ∙ sym (begun_names front name)
           ∙ sym (ap (filter_map name_in) frames_now);
       roms = h.roms ∙ ap all_names (all_roms_are ∙ sym roms_now);
@@ -463,12 +474,16 @@ module _ (told : RomText) (closed : List Section) (last : Section) (of_frames of
     begun_out line spelled first e out = record {
       now = with_rom;
       goes = goes_begin told closed last (rom address) line spelled;
-      breaks = (rom_gives_once, rom_drafts_fit, λ fits.
-          let last = last_fits told all_roms address [] (rom_in with_rom front grown_roms frames_with roms_with fits) in
-          let low = last.0 in
-          let high = last.1 in
-          let at = is_start in
-          elim out [ inl below ↦ omega (arith, below, low, at, e) | inr above ↦ omega (arith, above, high, at) ]);
+      breaks = (
+        rom_gives_once,
+        rom_drafts_fit,
+        λ fits.
+            let last = last_fits told all_roms address [] (rom_in with_rom front grown_roms frames_with roms_with fits) in
+            let low = last.0 in
+            let high = last.1 in
+            let at = is_start in
+            elim out [ inl below ↦ omega (arith, below, low, at, e) | inr above ↦ omega (arith, above, high, at) ],
+      );
     }
 
     pub begun_rom : (first : ℕ) → first ≡ first_told told.map → (new : RomArea) → BeginsAt first address held new
@@ -482,12 +497,12 @@ module _ (told : RomText) (closed : List Section) (last : Section) (of_frames of
         record {
           starts = rom_starts;
           limits = within_out with_rom front grown_roms frames_with roms_with (record {
-                once = rom_begun_once front all_roms address front_once;
-                drafts = front_small;
-                rom = fits_last told all_roms address [] all_within.rom (omega (arith, low, at, e)) (omega (arith, high, at));
-                apart = subst Apart (sym (laid_last told all_roms address []))
-                    (apart_begun (laid_all told all_roms) (start_at told all_roms address) all_within.apart);
-              });
+            once = rom_begun_once front all_roms address front_once;
+            drafts = front_small;
+            rom = fits_last told all_roms address [] all_within.rom (omega (arith, low, at, e)) (omega (arith, high, at));
+            apart = subst Apart (sym (laid_last told all_roms address []))
+                (apart_begun (laid_all told all_roms) (start_at told all_roms address) all_within.apart);
+          });
           frames = frame_names_are ∙ sym (ap (filter_map name_in) frames_with);
           roms = h.roms ∙ ap all_names all_roms_are ∙ sym (rom_names_begun all_roms address) ∙ sym (ap all_names roms_with);
           frame = tt;

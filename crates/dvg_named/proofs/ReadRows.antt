@@ -1,9 +1,9 @@
 -- A row or a section more, in what the reader of a sketch holds.
-use Rattle.std.proofs.Common.{◌≡◌, ◌<◌, ◌≤◌, ◌+◌, ℕ, List, [], ◌∷◌, ◌++◌, refl, sym, ap, subst, ◌∙◌, Option, Some, None, Result, Ok, Err, OnOk}
+use Rattle.std.proofs.Common.{◌≡◌, ℕ, List, [], ◌∷◌, ◌++◌, sym, ap, subst, ◌∙◌, Option, None, Result, Ok, Err, OnOk}
 use Rattle.std.proofs.lemmas.List.{map-append}
 use Rattle.std.specs.Option.{option_to_list}
 use Rattle.dvg_text.specs.LineParts.{bytes_of}
-use Rattle.dvg_text.specs.RomTexts.{RomText, first_told}
+use Rattle.dvg_text.specs.RomTexts.{RomText}
 use Rattle.dvg_text.specs.Texts.{parts}
 use Rattle.dvg_named.specs.declared.given_names.GivenNames.{GivenNames}
 use Rattle.dvg_named.specs.declared.line_fault.LineFault.{LineFault}
@@ -16,17 +16,17 @@ use Rattle.dvg_named.specs.GivenNames.{IsAgain, IsFresh, StopsNames}
 use Rattle.dvg_named.specs.HeldRows.{rows_of}
 use Rattle.dvg_named.specs.NamedFaults.{DraftsFit, GivesOnce, LieApart, RomFits}
 use Rattle.dvg_named.specs.Places.{size}
-use Rattle.dvg_named.specs.ReadParts.{StartsAtTop, sketch_of}
-use Rattle.dvg_named.specs.RomAreas.{BeginsAt, IsFree, StopsArea, StopsBegin, Takes}
+use Rattle.dvg_named.specs.ReadParts.{sketch_of}
+use Rattle.dvg_named.specs.RomAreas.{StopsArea, Takes}
 use Rattle.dvg_named.specs.RowMoves.{IsCounted, IsFrameHead, IsFull, IsRomHead}
-use Rattle.dvg_named.specs.Rows.{Head, IsHeadLine, IsRowLine, Row, frame, rom, top}
-use Rattle.dvg_named.specs.RowValues.{head_of, row_of}
-use Rattle.dvg_named.specs.Sections.{MayStand, Section, Spelled}
-use Rattle.dvg_named.specs.SketchReading.{Breaks, Keeps, Opens, Reads, ReadsMore, StopsSketch, closed_in, head_in, section_in, spelled_in}
-use Rattle.dvg_named.specs.SketchSteps.{Goes, begun, with_row}
+use Rattle.dvg_named.specs.Rows.{Head, IsRowLine, Row, frame, rom, top}
+use Rattle.dvg_named.specs.RowValues.{row_of}
+use Rattle.dvg_named.specs.Sections.{MayStand, Spelled}
+use Rattle.dvg_named.specs.SketchReading.{Breaks, Keeps, Reads, ReadsMore, StopsSketch, closed_in, head_in, section_in, spelled_in}
+use Rattle.dvg_named.specs.SketchSteps.{Goes, with_row}
 use Rattle.dvg_named.proofs.OneSketch.{head_is_no_row, one_row, tells_no_row}
-use Rattle.dvg_named.proofs.ReadCuts.{goes_begin, goes_row, nothing_goes}
-use Rattle.dvg_named.proofs.ReadMoves.{begun_frame, begun_out, begun_rom, begun_twice, frame_full, frame_row, frame_twice, rom_out_of, rom_overlaps, rom_row, rom_twice}
+use Rattle.dvg_named.proofs.ReadCuts.{goes_row, nothing_goes}
+use Rattle.dvg_named.proofs.ReadMoves.{frame_full, frame_row, frame_twice, rom_out_of, rom_overlaps, rom_row, rom_twice}
 
 pub on_ok : {A E : Type 0} (r : Result A E) {P Q : Type 0} → OnOk r P → (P → Q) → OnOk r Q
 on_ok (Ok x) h f = f h
@@ -76,13 +76,13 @@ module _ {A : Type 0} (old : Reading A) (row : held_row.Row) (told : RomText) (l
         goes = subst (λ s. Goes (spelled_in told old) line (sketch_of told closed s)) (sym pushed)
             (goes_row told closed (section_in old.last) (row_of row) line (frame_may (head_in old.last.head) (row_of row) head) spelled);
         reads = record {
-              rom = reads.rom;
-              keeps =
-                  subst (λ s. Keeps told closed s (bytes_of old.frame_names.given.items) (bytes_of old.rom_names.given.items) (bytes_of names.given.items) count old.area)
-                  (sym pushed)
-                  (subst (λ l. Keeps told closed (with_row (section_in old.last) (row_of row)) (bytes_of old.frame_names.given.items) (bytes_of old.rom_names.given.items) l count old.area)
-                  (sym given) kept);
-            };
+          rom = reads.rom;
+          keeps =
+              subst (λ s. Keeps told closed s (bytes_of old.frame_names.given.items) (bytes_of old.rom_names.given.items) (bytes_of names.given.items) count old.area)
+              (sym pushed)
+              (subst (λ l. Keeps told closed (with_row (section_in old.last) (row_of row)) (bytes_of old.frame_names.given.items) (bytes_of old.rom_names.given.items) l count old.area)
+              (sym given) kept);
+        };
       }
 
   pub frame_given : (fault : LineFault) → IsFrameHead (head_in old.last.head)
@@ -125,13 +125,13 @@ module _ {A : Type 0} (old : Reading A) (row : held_row.Row) (told : RomText) (l
         goes = subst (λ s. Goes (spelled_in told old) line (sketch_of told closed s)) (sym pushed)
             (goes_row told closed (section_in old.last) (row_of row) line (subst (λ head. MayStand head (row_of row)) e may) spelled);
         reads = record {
-              rom = reads.rom;
-              keeps =
-                  subst (λ s. Keeps told closed s (bytes_of old.frame_names.given.items) (bytes_of names.given.items) (bytes_of old.names.given.items) old.count area)
-                  (sym is)
-                  (subst (λ l. Keeps told closed (record { head = rom address; rows = rows ++ row_of row ∷ [] }) (bytes_of old.frame_names.given.items) l (bytes_of old.names.given.items) old.count area)
-                  (sym given) kept);
-            };
+          rom = reads.rom;
+          keeps =
+              subst (λ s. Keeps told closed s (bytes_of old.frame_names.given.items) (bytes_of names.given.items) (bytes_of old.names.given.items) old.count area)
+              (sym is)
+              (subst (λ l. Keeps told closed (record { head = rom address; rows = rows ++ row_of row ∷ [] }) (bytes_of old.frame_names.given.items) l (bytes_of old.names.given.items) old.count area)
+              (sym given) kept);
+        };
       }
 
   module _ (address : Option ℕ) (e : rom address ≡ head_in old.last.head) (may : MayStand (rom None) (row_of row)) where

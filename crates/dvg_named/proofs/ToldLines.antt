@@ -1,18 +1,18 @@
 -- The ROM that the reader of a sketch holds after each line that tells of it.
-use Rattle.std.proofs.Common.{◌≡◌, ◌<◌, ◌+◌, ◌-◌, ◌⊎◌, ℕ, List, [], ◌∷◌, ◌++◌, length, get_or, refl, sym, ap, subst, ◌∙◌, arith, true, false, Bool, Option, Some, take, append-nil}
+use Rattle.std.proofs.Common.{◌≡◌, ◌<◌, ◌+◌, ◌-◌, ℕ, List, [], ◌∷◌, ◌++◌, length, get_or, refl, sym, ap, subst, ◌∙◌, arith, true, Bool, Option, Some, take, append-nil}
 use Rattle.std.specs.Prelude.{IsFalse, ◌↔◌, ◌/◌}
 use Rattle.std.proofs.lemmas.List.{drop_all, length-append, take_all}
 use Rattle.std.proofs.lemmas.Option.{none-some}
 use Rattle.std.specs.List.{refill}
 use Rattle.dvg_mem.specs.Grown.{AreReturns}
 use Rattle.dvg_mem.proofs.Roms.{words_from_first}
-use Rattle.dvg_text.specs.RomReading.{IsBehind, TellsRom, gives_words, tells_map, untold}
+use Rattle.dvg_text.specs.RomReading.{IsBehind, gives_words, tells_map, untold}
 use Rattle.dvg_text.specs.RomTexts.{IsMapLine, IsRomLine, IsRomOf, RomLine, RomText, first_told}
 use Rattle.dvg_text.proofs.HeldRom.{all_fit, first_of_map, returns_held, words_held}
 use Rattle.dvg_text.proofs.RomSteps.{told_rom}
 use Rattle.dvg_named.specs.declared.told_rom.ToldRom.{ToldRom}
 use Rattle.dvg_named.specs.Places.{free_after}
-use Rattle.dvg_named.specs.ToldRoms.{HoldsTold, TellsTold, as_drafted}
+use Rattle.dvg_named.specs.ToldRoms.{HoldsTold, TellsTold}
 
 told_now : (rom : RomText) (told : Bool) → told ≡ true → (rom ≡ untold → ⊥) → IsFalse told ↔ (rom ≡ untold)
 told_now rom told is other = (λ none. absurd cc, λ none. absurd (other none))

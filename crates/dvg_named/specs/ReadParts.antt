@@ -1,6 +1,6 @@
 -- The sketch that lines spell, as the reader of lines cuts it: the sections before the last one, and that one
 -- (for private contracts).
-use Rattle.std.specs.Prelude.{◌≡◌, ◌≢◌, ℕ, ◌+◌, max, List, [], ◌∷◌, ◌++◌, Any, Bool, Option, None, Some, get_or}
+use Rattle.std.specs.Prelude.{◌≡◌, ◌≢◌, ℕ, ◌+◌, max, List, [], ◌∷◌, ◌++◌, Any, get_or}
 use Rattle.std.specs.Prelude.{length, false, true, unwrap_or}
 use Rattle.std.specs.List.{filter_map, flat_map}
 use Rattle.dvg_text.specs.RomTexts.{RomText, first_told}

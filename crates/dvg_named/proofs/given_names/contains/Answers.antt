@@ -1,4 +1,4 @@
-use Rattle.std.proofs.Common.{◌≡◌, ◌<◌, ◌+◌, ℕ, List, get_or, length, sym, ◌∙◌, arith, refl, below_more}
+use Rattle.std.proofs.Common.{◌≡◌, ◌<◌, ℕ, List, get_or, length, sym, ◌∙◌, arith, refl, below_more}
 use Rattle.std.proofs.lemmas.List.{get_or-map, length-map}
 use Rattle.std.specs.Borrow.{Bor}
 use Rattle.dvg_text.specs.LineParts.{bytes_of}
@@ -12,9 +12,14 @@ here names i name d low = get_or-map (λ (part : Bor (List ℕ)). part.now) name
 pub returns-then-is_same : goal.returns-then-is_same
 returns-then-is_same c =
     let low = c.loop-given-test.true in
-    let count = length-map c.args.names.now (λ (part : Bor (List ℕ)). part.now) in
-    (λ found. (c.loop-given.given-index, omega arith,
-    here c.args.names.now c.loop-given.given-index c.args.name.now _ low ∙ c.is_same.ensures.0 c.if-is_same.true), λ found. refl)
+    let count = length-map c.args.names.now (λ (part : Bor (List ℕ)). part.now) in (
+      λ found. (
+        c.loop-given.given-index,
+        omega arith,
+        here c.args.names.now c.loop-given.given-index c.args.name.now _ low ∙ c.is_same.ensures.0 c.if-is_same.true,
+      ),
+      λ found. refl,
+    )
 
 pub loop-given-preserved : goal.loop-given-preserved
 loop-given-preserved c =

@@ -21,9 +21,10 @@ not_both false e f = cc
 pub returns : goal.returns
 returns c = elim c.match-matches.branch [
   | in-Call w ↦
-    (λ yes. absurd (not_both c.match-matches.matches yes w.matches-is), λ may. absurd (numbered c.args.kind w.in-Call.is may))
-  | in_default w ↦
-    (λ yes n.
-    (λ e. w.in_default.not-Call n (same_kind c.args.kind (Call n) e), λ e. w.in_default.not-Jump n (same_kind c.args.kind (Jump n) e)),
-    λ may. ap not w.matches-is)
+      (λ yes. absurd (not_both c.match-matches.matches yes w.matches-is), λ may. absurd (numbered c.args.kind w.in-Call.is may))
+  | in_default w ↦ (
+    λ yes n.
+        (λ e. w.in_default.not-Call n (same_kind c.args.kind (Call n) e), λ e. w.in_default.not-Jump n (same_kind c.args.kind (Jump n) e)),
+    λ may. ap not w.matches-is,
+  )
 ]

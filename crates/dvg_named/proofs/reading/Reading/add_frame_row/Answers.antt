@@ -1,4 +1,3 @@
-use Rattle.std.proofs.Common.{ℕ, List}
 use Rattle.dvg_named.proofs.ReadRows.{frame_added, frame_filled, frame_given, on_ok, section_pushed}
 use Rattle.dvg_named.proofs.reading.Reading.add_frame_row.Goals as goal
 

@@ -1,7 +1,6 @@
-use Rattle.std.proofs.Common.{◌≡◌, ◌∷◌, [], ℕ, List, false, refl, subst, sym}
+use Rattle.std.proofs.Common.{refl, subst}
 use Rattle.dvg_named.proofs.ReadRows.{on_ok, rom_added, rom_given, rom_refused, rom_stops, section_pushed}
 use Rattle.dvg_named.specs.SketchReading.{head_in}
-use Rattle.dvg_named.specs.declared.line_fault.LineFault.{LineFault}
 use Rattle.dvg_named.specs.RomAreas.{StopsArea, Takes}
 use Rattle.dvg_named.proofs.reading.Reading.add_rom_row.Goals as goal
 

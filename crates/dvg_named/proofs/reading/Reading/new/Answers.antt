@@ -1,5 +1,4 @@
 use Rattle.std.proofs.Common.{refl}
-use Rattle.dvg_named.specs.declared.reading.Reading.{Reading}
 use Rattle.dvg_named.proofs.ReadBegins.{begins_bare}
 use Rattle.dvg_named.proofs.reading.Reading.new.Goals as goal
 

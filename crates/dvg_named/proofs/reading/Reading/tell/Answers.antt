@@ -1,4 +1,4 @@
-use Rattle.std.proofs.Common.{◌∙◌, rules, sym}
+use Rattle.std.proofs.Common.{◌∙◌}
 use Rattle.dvg_text.specs.LineParts.{bytes_of}
 use Rattle.dvg_named.specs.SketchSteps.{line_of}
 use Rattle.dvg_named.proofs.ReadBegins.{rom_told}
