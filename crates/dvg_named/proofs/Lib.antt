@@ -18,3 +18,5 @@ mod ReadMoves
 mod ReadRows
 mod ToldLines
 mod ReadBegins
+mod FewWords
+mod SketchRead

@@ -17,5 +17,6 @@ pub mod RomAreas
 pub mod ReadParts
 pub mod RowMoves
 pub mod SketchReading
+pub mod TextReading
 pub mod Examples
 pub mod TextExamples

@@ -20,10 +20,11 @@ mod rom_area;
 mod rom_words;
 mod row;
 mod sizes;
+mod text_reading;
 mod told_rom;
 
 pub use drafting::draft_of;
-pub use fault::NamedFault;
+pub use fault::{NamedFault, SketchFault};
 pub use laid::{LaidRows, RomRows, address_of, free_with, lay};
 pub use line_words::{MAX_WORDS, words_of};
 pub use meaning::{NamedFrame, RomName, Source};

@@ -52,7 +52,8 @@ impl<'a, A: Allocator + Copy> Reading<'a, A> {
 
     /// Before the first line, which is this one.
     pub fn new(alloc: A, first: Source<'a>) -> Reading<'a, A>
-        ensures { Reads untold result }
+        ensures reads { Reads untold result }
+        ensures bare { IsBare result }
     {
         Reading {
             alloc,
