@@ -20,3 +20,4 @@ mod ToldLines
 mod ReadBegins
 mod FewWords
 mod SketchRead
+mod SourcedMore

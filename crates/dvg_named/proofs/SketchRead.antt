@@ -19,6 +19,8 @@ use Rattle.dvg_named.specs.ReadParts.{sketch_of}
 use Rattle.dvg_named.specs.Sections.{Section, Spelled, SpellsSketch}
 use Rattle.dvg_named.specs.SketchReading.{Breaks, IsBare, Reads, ReadsMore, StopsSketch, section_in, spelled_in}
 use Rattle.dvg_named.specs.SketchSteps.{AreParts, Goes, line_of}
+use Rattle.dvg_named.specs.declared.meaning.Source.{Source}
+use Rattle.dvg_named.specs.SourcedRows.{AreSourced, IsLineAt}
 use Rattle.dvg_named.specs.TextReading.{StopsText, ReadsText, fault_at}
 use Rattle.dvg_named.proofs.FewWords.{few_words}
 use Rattle.dvg_named.proofs.OneSketch.{goes_on, says_more, says_nothing}
@@ -53,6 +55,15 @@ module _ {A : Type 0} (text : List ℕ) (left rest : List (List ℕ)) (n : ℕ) 
     (next : left ≡ line ∷ rest) (r : ReadTo text left n reading) where
   cut_on : lines text ≡ (r.before ++ line ∷ []) ++ rest
   cut_on = r.cut ∙ ap (λ l. r.before ++ l) next ∙ sym (append_assoc r.before (line ∷ []) rest)
+
+  -- the line that is read next
+  pub line_at : (source : Source) → source.number ≡ n + 1 → source.line.now ≡ line → IsLineAt text source
+  line_at source number is = record {
+    before = r.before;
+    after = rest;
+    cut = r.cut ∙ ap (λ l. r.before ++ l) next ∙ ap (λ line. r.before ++ line ∷ rest) (sym is);
+    number = number ∙ ap (λ n. n + 1) r.number;
+  }
 
   plain_on : map plain (r.before ++ line ∷ []) ≡ map plain r.before ++ plain line ∷ []
   plain_on = map-append plain r.before (line ∷ [])
@@ -150,6 +161,9 @@ module _ {A : Type 0} (text : List ℕ) (left rest : List (List ℕ)) (n : ℕ) 
     pub are_parts : AreParts cut
     are_parts = subst AreParts (sym e) (parts_of_plain line some)
 
+    pub plain_is : plain line ≡ line_of cut
+    plain_is = ap line_of (sym e)
+
     pub goes_by : (new : Reading A) → ((rom : RomText) → Reads rom reading → ReadsMore rom reading (line_of cut) new)
         → ReadTo text rest (n + 1) new
     goes_by new more =
@@ -190,13 +204,14 @@ no_words held line r e all is = sym is ∙ none_held held (sym e ∙ all)
 
 -- at the text's end
 pub reads_all : {A : Type 0} (text : List ℕ) (left : List (List ℕ)) (n : ℕ) (reading : Reading A) → left ≡ []
-    → ReadTo text left n reading → length text ≤ 1048576 → ReadsText text reading
-reads_all text left n reading none r short = record {
+    → ReadTo text left n reading → length text ≤ 1048576 → AreSourced text reading → ReadsText text reading
+reads_all text left n reading none r short sourced = record {
   short = short;
   rom = r.rom;
   spelled = subst (λ ls. SpellsSketch (spelled_in r.rom reading) (told (map plain ls)))
       (sym (r.cut ∙ ap (λ l. r.before ++ l) none ∙ append-nil r.before)) r.spelled;
   reads = r.reads;
+  sourced = sourced;
 }
 
 -- no more lines were read than there are bytes

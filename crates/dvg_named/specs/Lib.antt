@@ -17,6 +17,7 @@ pub mod RomAreas
 pub mod ReadParts
 pub mod RowMoves
 pub mod SketchReading
+pub mod SourcedRows
 pub mod TextReading
 pub mod Examples
 pub mod TextExamples

@@ -12,13 +12,15 @@ use Rattle.dvg_named.specs.NamedFaults.{HasNamedFault}
 use Rattle.dvg_named.specs.PlainLines.{plain}
 use Rattle.dvg_named.specs.Sections.{SpellsSketch}
 use Rattle.dvg_named.specs.SketchReading.{Reads, spelled_in}
+use Rattle.dvg_named.specs.SourcedRows.{AreSourced}
 
--- all lines of a text in small letters spell what the reader holds, within the limits
+-- all lines of a text in small letters spell what the reader holds, within the limits; it holds the line of each row
 pub record ReadsText {A : Type 0} (small : List ℕ) (reading : Reading A) : Type 0 where
   pub short : length small ≤ 1048576
   pub rom : RomText
   pub spelled : SpellsSketch (spelled_in rom reading) (told (map plain (lines small)))
   pub reads : Reads rom reading
+  pub sourced : AreSourced small reading
 
 -- why a text isn't read: its fault, or want of memory
 abbrev pub StopsText : SketchFault → (text : List ℕ) → Type 0

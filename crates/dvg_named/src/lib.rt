@@ -1,7 +1,8 @@
 //! Sketches as texts: drafts with names, of one or more frames, and the shapes of their ROM (the
-//! format is this project's own choice). They are defined here. So far single lines are read: their
-//! words, and the row or the beginning of a section that they spell; and rows become numbers and
-//! addresses of names, drafts and words of the ROM. What reads a whole text is missing.
+//! format is this project's own choice). They are defined here. All lines of a text are read, within
+//! the limits or up to the first line at fault; and rows become numbers and addresses of names,
+//! drafts and words of the ROM. What joins both to a whole sketch, and tells a name that no line
+//! gives, is missing.
 #![tactic(auto)]
 
 mod drafting;

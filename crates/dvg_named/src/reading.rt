@@ -48,12 +48,15 @@ impl<'a, A: Allocator + Copy> Reading<'a, A> {
     ghost use Rattle.dvg_named.specs.Rows.{IsHeadLine, IsRowLine, frame, rom};
     ghost use Rattle.dvg_named.specs.RowMoves.{IsFrameHead, IsRomHead};
     ghost use Rattle.dvg_named.specs.SketchReading.{IsBare, Opens, Reads, ReadsMore, StopsSketch, head_in, spelled_in};
+    ghost use Rattle.dvg_named.specs.PlainLines.{plain};
     ghost use Rattle.dvg_named.specs.SketchSteps.{AreParts, line_of};
+    ghost use Rattle.dvg_named.specs.SourcedRows.{AreSourced, BeginsIn, IsHeadAt, IsLineAt, IsRowAt};
 
     /// Before the first line, which is this one.
     pub fn new(alloc: A, first: Source<'a>) -> Reading<'a, A>
         ensures reads { Reads untold result }
         ensures bare { IsBare result }
+        ensures sources { (small : List ℕ) → BeginsIn small None first.entry → AreSourced small result }
     {
         Reading {
             alloc,
@@ -75,6 +78,10 @@ impl<'a, A: Allocator + Copy> Reading<'a, A> {
             → ReadsMore told self.old (line_of (bytes_of words.now)) self.new) }
         ensures fault { IfErr result (λ fault. (told : RomText) → Reads told self.old
             → StopsSketch fault (spelled_in told self.old) (line_of (bytes_of words.now))) }
+        ensures sources { OnOk result ((small : List ℕ) → AreSourced small self.old
+            → IsLineAt small source.entry
+            → plain source.entry.line.now ≡ line_of (bytes_of words.now)
+            → AreSourced small self.new) }
     {
         if self.is_bare() && self.tell(words) {
             return Ok(());
@@ -103,6 +110,8 @@ impl<'a, A: Allocator + Copy> Reading<'a, A> {
         ensures refused { IsFalse result → (told now : RomText) → Reads told self.old
             → ¬ TellsRom told (line_of (bytes_of words.now)) now }
         ensures kept { IsFalse result → self.new ≡ self.old }
+        ensures sources { IsTrue result → (small : List ℕ) → AreSourced small self.old
+            → AreSourced small self.new }
     {
         if !self.rom.take(words) {
             return false;
@@ -117,6 +126,8 @@ impl<'a, A: Allocator + Copy> Reading<'a, A> {
             → IsHeadLine (head_of head.entry) line → ReadsMore told self.old line self.new) }
         ensures fault { IfErr result (λ fault. (told : RomText) (line : List ℕ) → Reads told self.old
             → IsHeadLine (head_of head.entry) line → StopsSketch fault (spelled_in told self.old) line) }
+        ensures sources { OnOk result ((small : List ℕ) → AreSourced small self.old
+            → IsHeadAt small head.entry source.entry → AreSourced small self.new) }
     {
         match head {
             Head::Frame(name) => self.begin_frame(name, source),
@@ -131,6 +142,8 @@ impl<'a, A: Allocator + Copy> Reading<'a, A> {
         ensures fault { IfErr result (λ fault. (told : RomText) (line : List ℕ) → Reads told self.old
             → IsHeadLine (frame (name_of name.entry)) line
             → StopsSketch fault (spelled_in told self.old) line) }
+        ensures sources { OnOk result ((small : List ℕ) → AreSourced small self.old
+            → IsHeadAt small (Head.Frame name.entry) source.entry → AreSourced small self.new) }
     {
         if let Err(fault) = self.frame_names.give(name) {
             return Err(fault);
@@ -144,6 +157,8 @@ impl<'a, A: Allocator + Copy> Reading<'a, A> {
             → IsHeadLine (rom address) line → ReadsMore told self.old line self.new) }
         ensures fault { IfErr result (λ fault. (told : RomText) (line : List ℕ) → Reads told self.old
             → IsHeadLine (rom address) line → StopsSketch fault (spelled_in told self.old) line) }
+        ensures sources { OnOk result ((small : List ℕ) → AreSourced small self.old
+            → IsHeadAt small (Head.Rom address) source.entry → AreSourced small self.new) }
     {
         let first = self.rom.first();
         if let Err(fault) = self.area.begin(first, address) {
@@ -155,6 +170,8 @@ impl<'a, A: Allocator + Copy> Reading<'a, A> {
     // Closes the last section, and opens another one.
     fn open_part(&mut self, head: Head<'a>, source: Source<'a>) -> Result<(), LineFault>
         ensures opened { OnOk result (Opens self.old (head_of head.entry) self.new) }
+        ensures sources { OnOk result ((small : List ℕ) → AreSourced small self.old
+            → IsHeadAt small head.entry source.entry → AreSourced small self.new) }
         ensures fault { IfErr result (λ fault. fault ≡ LineFault.Memory) }
     {
         let part = Part::new(self.alloc, Some(head), source);
@@ -173,6 +190,8 @@ impl<'a, A: Allocator + Copy> Reading<'a, A> {
             → IsRowLine (row_of row.now) line → ReadsMore told self.old line self.new) }
         ensures fault { IfErr result (λ fault. (told : RomText) (line : List ℕ) → Reads told self.old
             → IsRowLine (row_of row.now) line → StopsSketch fault (spelled_in told self.old) line) }
+        ensures sources { OnOk result ((small : List ℕ) → AreSourced small self.old
+            → IsRowAt small row.now source.entry → AreSourced small self.new) }
     {
         match self.last.head {
             Some(Head::Rom(_)) => self.add_rom_row(row, source),
@@ -187,6 +206,8 @@ impl<'a, A: Allocator + Copy> Reading<'a, A> {
             → IsRowLine (row_of row.now) line → ReadsMore told self.old line self.new) }
         ensures fault { IfErr result (λ fault. (told : RomText) (line : List ℕ) → Reads told self.old
             → IsRowLine (row_of row.now) line → StopsSketch fault (spelled_in told self.old) line) }
+        ensures sources { OnOk result ((small : List ℕ) → AreSourced small self.old
+            → IsRowAt small row.now source.entry → AreSourced small self.new) }
     {
         if let Err(fault) = self.names.give(row.name) {
             return Err(fault);
@@ -205,6 +226,8 @@ impl<'a, A: Allocator + Copy> Reading<'a, A> {
             → IsRowLine (row_of row.now) line → ReadsMore told self.old line self.new) }
         ensures fault { IfErr result (λ fault. (told : RomText) (line : List ℕ) → Reads told self.old
             → IsRowLine (row_of row.now) line → StopsSketch fault (spelled_in told self.old) line) }
+        ensures sources { OnOk result ((small : List ℕ) → AreSourced small self.old
+            → IsRowAt small row.now source.entry → AreSourced small self.new) }
     {
         if !may_stand_in_rom(row) {
             return Err(LineFault::Syntax);

@@ -1,6 +1,8 @@
 //! What all lines of a sketch spell.
 ghost use Rattle.std.specs.Prelude.{◌≡◌, ℕ, List, IfErr, IfOk, map};
 ghost use Rattle.std.specs.Char.{to_ascii_lowercase};
+ghost use Rattle.dvg_text.specs.Texts.{lines};
+ghost use Rattle.dvg_named.specs.SourcedRows.{first_of};
 ghost use Rattle.dvg_named.specs.TextReading.{ReadsText, StopsText, fault_at};
 
 use crate::fault::{NamedFault, SketchFault};
@@ -42,12 +44,18 @@ pub(crate) fn read_lines<'a, A: Allocator + Copy>(
 }
 
 // The first line of a text, which is empty where there is none.
-fn first_line(text: &[u8]) -> Source<'_> {
-    let line = match TextLines::new(text).next() {
-        Some(line) => line,
-        None => &[],
-    };
-    Source { number: 1, line }
+fn first_line(text: &[u8]) -> Source<'_>
+    ensures number { result.number ≡ 1 }
+    ensures line { result.line.now ≡ first_of (lines text.now) }
+{
+    let mut lines = TextLines::new(text);
+    match lines.next() {
+        Some(line) => Source { number: 1, line },
+        None => Source {
+            number: 1,
+            line: &[],
+        },
+    }
 }
 
 // A fault of the line of this number.

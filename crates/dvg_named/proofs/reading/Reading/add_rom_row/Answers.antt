@@ -1,4 +1,5 @@
 use Rattle.std.proofs.Common.{refl, subst}
+use Rattle.dvg_named.proofs.SourcedMore.{both_ok, part_more}
 use Rattle.dvg_named.proofs.ReadRows.{on_ok, rom_added, rom_given, rom_refused, rom_stops, section_pushed}
 use Rattle.dvg_named.specs.SketchReading.{head_in}
 use Rattle.dvg_named.specs.RomAreas.{StopsArea, Takes}
@@ -28,3 +29,11 @@ returns-clause-added g c =
     (section_pushed c.args.self.now.last c.push.new.self c.args.row.now c.push.ensures.head pushed)
     c.in_default.ensures.given c.in_default.ensures.fresh
     (subst (λ n. Takes n c.args.self.now.area c.take.new.self) c.words_of_row.ensures c.in_default-take.ensures.taken))
+
+pub returns-clause-sources : goal.returns-clause-sources
+returns-clause-sources g c =
+    both_ok c.push.result c.push.ensures.rows c.push.ensures.sources (λ rows sources small sourced at. record {
+      closed = sourced.closed;
+      last = part_more small c.args.self.now.last c.push.new.self c.args.row.now c.args.source c.push.ensures.head
+          c.push.ensures.begin rows sources sourced.last at;
+    })
