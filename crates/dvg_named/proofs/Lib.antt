@@ -21,3 +21,4 @@ mod ReadBegins
 mod FewWords
 mod SketchRead
 mod SourcedMore
+mod RomFew

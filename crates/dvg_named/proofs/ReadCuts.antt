@@ -7,8 +7,9 @@ use Rattle.std.specs.List.{filter_map}
 use Rattle.dvg_text.specs.RomTexts.{RomText}
 use Rattle.dvg_text.specs.RomReading.{TellsRom}
 use Rattle.dvg_named.specs.ReadParts.{StartsAtTop, front_roms, sketch_of}
+use Rattle.dvg_named.specs.RomParts.{rom_in, rom_list}
 use Rattle.dvg_named.specs.Rows.{Head, IsHeadLine, IsRowLine, Row, frame, rom, top}
-use Rattle.dvg_named.specs.Sections.{FrameRows, MayStand, RomRows, Section, Spelled, frame_of, frames, rom_of, rom_sections, top_frame}
+use Rattle.dvg_named.specs.Sections.{FrameRows, MayStand, Section, Spelled, frame_of, frames, rom_sections, top_frame}
 use Rattle.dvg_named.specs.SketchSteps.{Goes, adds, begins, begun, so_far, tells, tops, with_row}
 
 -- ---- a line more
@@ -122,21 +123,12 @@ frames_cut told (first ∷ others) last at =
 
 -- ---- sections of the ROM
 
--- rows as a section of the ROM, in a list
-abbrev pub rom_list : Head → List Row → List RomRows
-rom_list top rows = []
-rom_list (frame name) rows = []
-rom_list (rom address) rows = record { address = address; rows = rows } ∷ []
-
-abbrev rom_in : Section → Option RomRows
-rom_in section = rom_of section.head section.rows
-
 top_no_rom : (head : Head) (rows : List Row) → head ≡ top → [] ≡ rom_list head rows
 top_no_rom top rows e = refl
 top_no_rom (frame name) rows e = refl
 top_no_rom (rom address) rows e = absurd cc
 
-last_rom : (head : Head) (rows : List Row) → filter_map rom_in (record { head = head; rows = rows } ∷ []) ≡ rom_list head rows
+pub last_rom : (head : Head) (rows : List Row) → filter_map rom_in (record { head = head; rows = rows } ∷ []) ≡ rom_list head rows
 last_rom top rows = refl
 last_rom (frame name) rows = refl
 last_rom (rom address) rows = refl

@@ -10,13 +10,14 @@ use Rattle.dvg_named.specs.NamedFaults.{DraftsFit, GivesOnce, LieApart, RomFits,
 use Rattle.dvg_named.specs.Places.{Laid, doings, size}
 use Rattle.dvg_named.specs.ReadParts.{KeepsArea, KeepsFrame, KeepsNext, StartsAtTop, free_from, free_told, front_roms, sketch_of}
 use Rattle.dvg_named.specs.RomAreas.{BeginsAt, IsFree, Takes}
+use Rattle.dvg_named.specs.RomParts.{rom_list}
 use Rattle.dvg_named.specs.RowMoves.{IsCounted, IsFrameHead, IsFull}
 use Rattle.dvg_named.specs.Rows.{Head, IsHeadLine, IsRowLine, Row, frame, rom, top}
 use Rattle.dvg_named.specs.Sections.{FrameRows, MayStand, RomRows, Section, Spelled, frames, rom_sections}
 use Rattle.dvg_named.specs.SketchReading.{Breaks, Keeps}
 use Rattle.dvg_named.specs.SketchSteps.{Goes, begun}
 use Rattle.dvg_named.proofs.LaidMore.{Apart, Covers, apart_free, apart_longer, apart_begun, covers_begun, covers_front, free_push, on_longer, only_longer}
-use Rattle.dvg_named.proofs.ReadCuts.{frame_list, frames_close, frames_cut, front_frames, goes_begin, goes_row, rom_list, roms_close, roms_cut, starts_later, starts_with}
+use Rattle.dvg_named.proofs.ReadCuts.{frame_list, frames_close, frames_cut, front_frames, goes_begin, goes_row, roms_close, roms_cut, starts_later, starts_with}
 use Rattle.dvg_named.proofs.ReadLimits.{IsInRom, IsSmall, Once, Within, drafts_out, drafts_in, framed, laid_all, laid_last, of_rom, once_in, once_out, rom_in, rom_out, apart_in, start_at, within_in, within_out}
 use Rattle.dvg_named.proofs.ReadLimits.{begun_again, begun_names, begun_once, begun_small, closed_names, closed_once, closed_small, counted_more, fits_front, fits_last, frame_row_again, frame_row_full, frame_row_once, frame_row_small, last_fits, rom_begun_once, rom_names_begun, rom_names_more, rom_row_again, rom_row_once, row_names}
 use Rattle.dvg_named.proofs.NamesMore.{names_more}

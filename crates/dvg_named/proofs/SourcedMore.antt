@@ -1,17 +1,11 @@
 -- The lines of rows, with a row more.
-use Rattle.std.proofs.Common.{◌≡◌, ℕ, List, [], ◌∷◌, ◌++◌, sym, ap, subst, ◌∙◌, Result, Ok, Err, OnOk}
+use Rattle.std.proofs.Common.{◌≡◌, ℕ, List, [], ◌∷◌, ◌++◌, sym, subst, Result, Ok, Err, OnOk}
 use Rattle.std.specs.List.{AllZip}
 use Rattle.dvg_text.proofs.Zips.{zip_push}
-use Rattle.dvg_text.specs.Texts.{parts}
 use Rattle.dvg_named.specs.declared.meaning.Source.{Source}
 use Rattle.dvg_named.specs.declared.part.Part.{Part}
-use Rattle.dvg_named.specs.declared.row.Head as held_head
 use Rattle.dvg_named.specs.declared.row.Row as held_row
-use Rattle.dvg_named.specs.PlainLines.{plain}
-use Rattle.dvg_named.specs.RowValues.{head_of, row_of}
-use Rattle.dvg_named.specs.Rows.{HeadParts, RowParts}
-use Rattle.dvg_named.specs.SketchSteps.{AreParts, line_of}
-use Rattle.dvg_named.specs.SourcedRows.{BeginsIn, IsHeadAt, IsLineAt, IsPartAt, IsRowAt}
+use Rattle.dvg_named.specs.SourcedRows.{BeginsIn, IsPartAt, IsRowAt}
 
 pub both_ok : {A E : Type 0} (r : Result A E) {P Q S : Type 0} → OnOk r P → OnOk r Q → (P → Q → S) → OnOk r S
 both_ok (Ok x) h k f = f h k

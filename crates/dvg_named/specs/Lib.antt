@@ -15,6 +15,7 @@ pub mod ToldRoms
 pub mod GivenNames
 pub mod RomAreas
 pub mod ReadParts
+pub mod RomParts
 pub mod RowMoves
 pub mod SketchReading
 pub mod SourcedRows

@@ -18,6 +18,7 @@ mod number;
 mod part;
 mod reading;
 mod rom_area;
+mod rom_sections;
 mod rom_words;
 mod row;
 mod sizes;

@@ -7,13 +7,16 @@ ghost use Rattle.dvg_named.specs.Rows.{plainly, rom};
 ghost use Rattle.dvg_named.specs.Sections.{MayStand};
 
 use crate::given_names::GivenNames;
+use crate::laid::{LaidRows, lay};
 use crate::line_fault::LineFault;
 use crate::meaning::Source;
 use crate::part::Part;
 use crate::rom_area::RomArea;
+use crate::rom_sections::rom_rows;
 use crate::row::{Doing, Head, Row, read_head, read_row};
 use crate::sizes::words_of_row;
 use crate::told_rom::ToldRom;
+use dvg_code::OutOfMemory;
 use dvg_frame::OpKind;
 use std::alloc::Allocator;
 use std::mem;
@@ -39,7 +42,7 @@ pub(crate) struct Reading<'a, A: Allocator + Copy> {
 }
 
 impl<'a, A: Allocator + Copy> Reading<'a, A> {
-    ghost use Rattle.std.specs.Prelude.{◌≡◌, ◌++◌, ◌∷◌, [], ◌↔◌, ℕ, List, IfErr, IsTrue, IsFalse, OnOk};
+    ghost use Rattle.std.specs.Prelude.{◌≡◌, ◌++◌, ◌∷◌, [], ◌↔◌, ℕ, List, IfErr, IfOk, IsTrue, IsFalse, OnOk};
     ghost use Rattle.dvg_text.specs.LineParts.{bytes_of};
     ghost use Rattle.dvg_text.specs.RomReading.{untold};
     ghost use Rattle.dvg_text.specs.RomTexts.{RomText};
@@ -48,7 +51,10 @@ impl<'a, A: Allocator + Copy> Reading<'a, A> {
     ghost use Rattle.dvg_named.specs.Rows.{IsHeadLine, IsRowLine, frame, rom};
     ghost use Rattle.dvg_named.specs.RowMoves.{IsFrameHead, IsRomHead};
     ghost use Rattle.dvg_named.specs.SketchReading.{IsBare, Opens, Reads, ReadsMore, StopsSketch, head_in, spelled_in};
+    ghost use Rattle.dvg_named.specs.LaidValues.{laid_sections};
+    ghost use Rattle.dvg_named.specs.NamedFaults.{laid_of};
     ghost use Rattle.dvg_named.specs.PlainLines.{plain};
+    ghost use Rattle.dvg_named.specs.TextReading.{ReadsText};
     ghost use Rattle.dvg_named.specs.SketchSteps.{AreParts, line_of};
     ghost use Rattle.dvg_named.specs.SourcedRows.{AreSourced, BeginsIn, IsHeadAt, IsLineAt, IsRowAt};
 
@@ -239,6 +245,20 @@ impl<'a, A: Allocator + Copy> Reading<'a, A> {
             return Err(fault);
         }
         self.last.push(row, source)
+    }
+
+    /// The sections of the ROM as they are laid, after all lines of a text. A growth may be refused.
+    pub fn lay(&self) -> Result<Vec<LaidRows<'_>, A>, OutOfMemory>
+        requires { (small : List ℕ) × ReadsText small self.now }
+        ensures { IfOk result (λ laid_rows. (told : RomText) → Reads told self.now
+            → laid_sections laid_rows.items ≡ laid_of (spelled_in told self.now)) }
+    {
+        let sections = rom_rows(self.alloc, self.closed.as_slice(), &self.last)?;
+        lay(
+            self.alloc,
+            usize::from(self.rom.free()),
+            sections.as_slice(),
+        )
     }
 }
 
