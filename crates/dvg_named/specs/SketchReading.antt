@@ -27,7 +27,8 @@ abbrev pub section_in : {A : Type 0} → Part A → Section
 section_in part = record { head = head_in part.head; rows = rows_of part.rows.items }
 
 -- a sketch within the limits, cut so, and what is kept of it
-pub record Keeps (told : RomText) (closed : List Section) (last : Section) (of_frames of_rom names : List (List ℕ)) (count : ℕ) (held : RomArea) : Type 0 where
+pub record Keeps (told : RomText) (closed : List Section) (last : Section) (of_frames of_rom names : List (List ℕ))
+    (count : ℕ) (held : RomArea) : Type 0 where
   pub starts : StartsAtTop closed last
   pub limits : KeepsLimits (sketch_of told closed last)
   pub frames : of_frames ≡ frame_names (sketch_of told closed last)

@@ -39,7 +39,8 @@ impl<'a, A: Allocator> GivenNames<'a, A> {
         ensures given { OnOk result (bytes_of self.new.given.items
             ≡ bytes_of self.old.given.items ++ option_to_list (name_of name.entry)) }
         ensures fresh { OnOk result (IsFresh (bytes_of self.old.given.items) (name_of name.entry)) }
-        ensures fault { IfErr result (StopsNames (bytes_of self.old.given.items) (name_of name.entry)) }
+        ensures fault { IfErr result
+            (StopsNames (bytes_of self.old.given.items) (name_of name.entry)) }
     {
         let Some(name) = name else {
             return Ok(());

@@ -1,6 +1,6 @@
 //! Sketches as texts: drafts with names, of one or more frames, and the shapes of their ROM (the
-//! format is this project's own choice). They are defined here. All lines of a text are read, within
-//! the limits or up to the first line at fault; and rows become numbers and addresses of names,
+//! format is this project's own choice). They are defined here. All lines of a text are read, each
+//! within the limits, or up to the first line at fault. Rows become numbers and addresses of names,
 //! drafts and words of the ROM. What joins both to a whole sketch, and tells a name that no line
 //! gives, is missing.
 #![tactic(auto)]

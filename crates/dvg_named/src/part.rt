@@ -42,7 +42,8 @@ impl<'a, A: Allocator + Copy> Part<'a, A> {
         ensures head { self.new.head ≡ self.old.head }
         ensures begin { self.new.begin ≡ self.old.begin }
         ensures rows { OnOk result (self.new.rows.items ≡ self.old.rows.items ++ row.now ∷ []) }
-        ensures sources { OnOk result (self.new.sources.items ≡ self.old.sources.items ++ source.entry ∷ []) }
+        ensures sources { OnOk result (self.new.sources.items
+            ≡ self.old.sources.items ++ source.entry ∷ []) }
         ensures fault { IfErr result (λ fault. fault ≡ LineFault.Memory) }
     {
         if self.rows.extend_from_slice(slice::from_ref(row)).is_err() {

@@ -62,7 +62,8 @@ impl<'a, A: Allocator + Copy> Reading<'a, A> {
     pub fn new(alloc: A, first: Source<'a>) -> Reading<'a, A>
         ensures reads { Reads untold result }
         ensures bare { IsBare result }
-        ensures sources { (small : List ℕ) → BeginsIn small None first.entry → AreSourced small result }
+        ensures sources { (small : List ℕ) → BeginsIn small None first.entry
+            → AreSourced small result }
     {
         Reading {
             alloc,
@@ -130,8 +131,10 @@ impl<'a, A: Allocator + Copy> Reading<'a, A> {
     fn begin_section(&mut self, head: Head<'a>, source: Source<'a>) -> Result<(), LineFault>
         ensures added { OnOk result ((told : RomText) (line : List ℕ) → Reads told self.old
             → IsHeadLine (head_of head.entry) line → ReadsMore told self.old line self.new) }
-        ensures fault { IfErr result (λ fault. (told : RomText) (line : List ℕ) → Reads told self.old
-            → IsHeadLine (head_of head.entry) line → StopsSketch fault (spelled_in told self.old) line) }
+        ensures fault { IfErr result (λ fault. (told : RomText) (line : List ℕ)
+            → Reads told self.old
+            → IsHeadLine (head_of head.entry) line
+            → StopsSketch fault (spelled_in told self.old) line) }
         ensures sources { OnOk result ((small : List ℕ) → AreSourced small self.old
             → IsHeadAt small head.entry source.entry → AreSourced small self.new) }
     {
@@ -144,8 +147,10 @@ impl<'a, A: Allocator + Copy> Reading<'a, A> {
     // Begins a frame.
     fn begin_frame(&mut self, name: Option<&'a [u8]>, source: Source<'a>) -> Result<(), LineFault>
         ensures added { OnOk result ((told : RomText) (line : List ℕ) → Reads told self.old
-            → IsHeadLine (frame (name_of name.entry)) line → ReadsMore told self.old line self.new) }
-        ensures fault { IfErr result (λ fault. (told : RomText) (line : List ℕ) → Reads told self.old
+            → IsHeadLine (frame (name_of name.entry)) line
+            → ReadsMore told self.old line self.new) }
+        ensures fault { IfErr result (λ fault. (told : RomText) (line : List ℕ)
+            → Reads told self.old
             → IsHeadLine (frame (name_of name.entry)) line
             → StopsSketch fault (spelled_in told self.old) line) }
         ensures sources { OnOk result ((small : List ℕ) → AreSourced small self.old
@@ -161,8 +166,10 @@ impl<'a, A: Allocator + Copy> Reading<'a, A> {
     fn begin_rom(&mut self, address: Option<u16>, source: Source<'a>) -> Result<(), LineFault>
         ensures added { OnOk result ((told : RomText) (line : List ℕ) → Reads told self.old
             → IsHeadLine (rom address) line → ReadsMore told self.old line self.new) }
-        ensures fault { IfErr result (λ fault. (told : RomText) (line : List ℕ) → Reads told self.old
-            → IsHeadLine (rom address) line → StopsSketch fault (spelled_in told self.old) line) }
+        ensures fault { IfErr result (λ fault. (told : RomText) (line : List ℕ)
+            → Reads told self.old
+            → IsHeadLine (rom address) line
+            → StopsSketch fault (spelled_in told self.old) line) }
         ensures sources { OnOk result ((small : List ℕ) → AreSourced small self.old
             → IsHeadAt small (Head.Rom address) source.entry → AreSourced small self.new) }
     {
@@ -194,8 +201,10 @@ impl<'a, A: Allocator + Copy> Reading<'a, A> {
     fn add_row(&mut self, row: &Row<'a>, source: Source<'a>) -> Result<(), LineFault>
         ensures added { OnOk result ((told : RomText) (line : List ℕ) → Reads told self.old
             → IsRowLine (row_of row.now) line → ReadsMore told self.old line self.new) }
-        ensures fault { IfErr result (λ fault. (told : RomText) (line : List ℕ) → Reads told self.old
-            → IsRowLine (row_of row.now) line → StopsSketch fault (spelled_in told self.old) line) }
+        ensures fault { IfErr result (λ fault. (told : RomText) (line : List ℕ)
+            → Reads told self.old
+            → IsRowLine (row_of row.now) line
+            → StopsSketch fault (spelled_in told self.old) line) }
         ensures sources { OnOk result ((small : List ℕ) → AreSourced small self.old
             → IsRowAt small row.now source.entry → AreSourced small self.new) }
     {
@@ -210,8 +219,10 @@ impl<'a, A: Allocator + Copy> Reading<'a, A> {
         requires { IsFrameHead (head_in self.old.last.head) }
         ensures added { OnOk result ((told : RomText) (line : List ℕ) → Reads told self.old
             → IsRowLine (row_of row.now) line → ReadsMore told self.old line self.new) }
-        ensures fault { IfErr result (λ fault. (told : RomText) (line : List ℕ) → Reads told self.old
-            → IsRowLine (row_of row.now) line → StopsSketch fault (spelled_in told self.old) line) }
+        ensures fault { IfErr result (λ fault. (told : RomText) (line : List ℕ)
+            → Reads told self.old
+            → IsRowLine (row_of row.now) line
+            → StopsSketch fault (spelled_in told self.old) line) }
         ensures sources { OnOk result ((small : List ℕ) → AreSourced small self.old
             → IsRowAt small row.now source.entry → AreSourced small self.new) }
     {
@@ -230,8 +241,10 @@ impl<'a, A: Allocator + Copy> Reading<'a, A> {
         requires { IsRomHead (head_in self.old.last.head) }
         ensures added { OnOk result ((told : RomText) (line : List ℕ) → Reads told self.old
             → IsRowLine (row_of row.now) line → ReadsMore told self.old line self.new) }
-        ensures fault { IfErr result (λ fault. (told : RomText) (line : List ℕ) → Reads told self.old
-            → IsRowLine (row_of row.now) line → StopsSketch fault (spelled_in told self.old) line) }
+        ensures fault { IfErr result (λ fault. (told : RomText) (line : List ℕ)
+            → Reads told self.old
+            → IsRowLine (row_of row.now) line
+            → StopsSketch fault (spelled_in told self.old) line) }
         ensures sources { OnOk result ((small : List ℕ) → AreSourced small self.old
             → IsRowAt small row.now source.entry → AreSourced small self.new) }
     {
@@ -247,7 +260,8 @@ impl<'a, A: Allocator + Copy> Reading<'a, A> {
         self.last.push(row, source)
     }
 
-    /// The sections of the ROM as they are laid, after all lines of a text. A growth may be refused.
+    /// The sections of the ROM as they are laid, after all lines of a text. A growth may be
+    /// refused.
     pub fn lay(&self) -> Result<Vec<LaidRows<'_>, A>, OutOfMemory>
         requires { (small : List ℕ) × ReadsText small self.now }
         ensures { IfOk result (λ laid_rows. (told : RomText) → Reads told self.now

@@ -99,7 +99,8 @@ fn mark(taken: &mut [bool], first: usize, end: usize)
     requires ordered { first ≤ end }
     requires inside { end ≤ length taken.old }
     ensures marked { (a : ℕ) → first ≤ a → a < end → get_or taken.new a false ≡ true }
-    ensures others { (a : ℕ) → (a < first) ⊎ (end ≤ a) → get_or taken.new a false ≡ get_or taken.old a false }
+    ensures others { (a : ℕ) → (a < first) ⊎ (end ≤ a)
+        → get_or taken.new a false ≡ get_or taken.old a false }
 {
     for place in first..end {
         taken[place] = true;

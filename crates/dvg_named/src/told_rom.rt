@@ -85,7 +85,8 @@ impl ToldRom {
 fn map_of(words: &[&[u8]]) -> Option<u16>
     requires { AreParts (bytes_of words.now) }
     ensures found { IfSome result (λ first. IsMapLine first (line_of (bytes_of words.now))) }
-    ensures only { (first : ℕ) → IsMapLine first (line_of (bytes_of words.now)) → result ≡ Some first }
+    ensures only { (first : ℕ) → IsMapLine first (line_of (bytes_of words.now))
+        → result ≡ Some first }
 {
     match words {
         [name, size] => map_named(name, size),
