@@ -22,3 +22,5 @@ mod FewWords
 mod SketchRead
 mod SourcedMore
 mod RomFew
+mod FrameLists
+mod NamesLaid

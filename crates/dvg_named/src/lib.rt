@@ -5,9 +5,11 @@
 //! gives, is missing.
 #![tactic(auto)]
 
+mod addresses;
 mod drafting;
 pub mod examples;
 mod fault;
+mod frame_rows;
 mod given_names;
 mod laid;
 pub mod laws;
@@ -25,8 +27,10 @@ mod sizes;
 mod text_reading;
 mod told_rom;
 
+pub use addresses::rom_names;
 pub use drafting::draft_of;
 pub use fault::{NamedFault, SketchFault};
+pub use frame_rows::FrameRows;
 pub use laid::{LaidRows, RomRows, address_of, free_with, lay};
 pub use line_words::{MAX_WORDS, words_of};
 pub use meaning::{NamedFrame, RomName, Source};

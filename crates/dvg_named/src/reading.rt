@@ -6,6 +6,7 @@ ghost use Rattle.dvg_named.specs.RowValues.{doing_of, row_of};
 ghost use Rattle.dvg_named.specs.Rows.{plainly, rom};
 ghost use Rattle.dvg_named.specs.Sections.{MayStand};
 
+use crate::frame_rows::{FrameRows, frame_rows};
 use crate::given_names::GivenNames;
 use crate::laid::{LaidRows, lay};
 use crate::line_fault::LineFault;
@@ -42,7 +43,9 @@ pub(crate) struct Reading<'a, A: Allocator + Copy> {
 }
 
 impl<'a, A: Allocator + Copy> Reading<'a, A> {
-    ghost use Rattle.std.specs.Prelude.{◌≡◌, ◌++◌, ◌∷◌, [], ◌↔◌, ℕ, List, IfErr, IfOk, IsTrue, IsFalse, OnOk};
+    ghost use Rattle.std.specs.Prelude.{◌≡◌, ◌++◌, ◌∷◌, [], ◌↔◌, ℕ, All, List, IfErr, IfOk, IsTrue, IsFalse, OnOk};
+    ghost use Rattle.dvg_named.specs.FrameValues.{IsFrameAt, frames_of};
+    ghost use Rattle.dvg_named.specs.Sections.{frames};
     ghost use Rattle.dvg_text.specs.LineParts.{bytes_of};
     ghost use Rattle.dvg_text.specs.RomReading.{untold};
     ghost use Rattle.dvg_text.specs.RomTexts.{RomText};
@@ -273,6 +276,16 @@ impl<'a, A: Allocator + Copy> Reading<'a, A> {
             usize::from(self.rom.free()),
             sections.as_slice(),
         )
+    }
+
+    /// The frames, in order, after the lines that were read. A growth may be refused.
+    pub fn frames(&self) -> Result<Vec<FrameRows<'_>, A>, OutOfMemory>
+        ensures frames { IfOk result (λ found. (told : RomText)
+            → frames_of found.items ≡ frames (spelled_in told self.now)) }
+        ensures sources { IfOk result (λ found. (small : List ℕ) → AreSourced small self.now
+            → All (IsFrameAt small) found.items) }
+    {
+        frame_rows(self.alloc, self.closed.as_slice(), &self.last)
     }
 }
 
