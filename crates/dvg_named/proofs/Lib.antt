@@ -24,3 +24,4 @@ mod SourcedMore
 mod RomFew
 mod FrameLists
 mod NamesLaid
+mod RomGiven

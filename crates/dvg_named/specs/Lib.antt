@@ -22,5 +22,6 @@ pub mod SourcedRows
 pub mod TextReading
 pub mod FrameValues
 pub mod RomNames
+pub mod GivenRoms
 pub mod Examples
 pub mod TextExamples

@@ -14,11 +14,14 @@ use crate::meaning::Source;
 use crate::part::Part;
 use crate::rom_area::RomArea;
 use crate::rom_sections::rom_rows;
+use crate::rom_words::{RomRow, put_sections};
 use crate::row::{Doing, Head, Row, read_head, read_row};
 use crate::sizes::words_of_row;
 use crate::told_rom::ToldRom;
+use arrayvec::ArrayVec;
 use dvg_code::OutOfMemory;
 use dvg_frame::OpKind;
+use dvg_mem::LARGE_ROM_BYTES;
 use std::alloc::Allocator;
 use std::mem;
 
@@ -54,6 +57,8 @@ impl<'a, A: Allocator + Copy> Reading<'a, A> {
     ghost use Rattle.dvg_named.specs.Rows.{IsHeadLine, IsRowLine, frame, rom};
     ghost use Rattle.dvg_named.specs.RowMoves.{IsFrameHead, IsRomHead};
     ghost use Rattle.dvg_named.specs.SketchReading.{IsBare, Opens, Reads, ReadsMore, StopsSketch, head_in, spelled_in};
+    ghost use Rattle.dvg_named.specs.GivenRoms.{GivesRom, IsLaidText};
+    ghost use Rattle.dvg_named.specs.RomBytes.{IsFirstInRom};
     ghost use Rattle.dvg_named.specs.LaidValues.{laid_sections};
     ghost use Rattle.dvg_named.specs.NamedFaults.{laid_of};
     ghost use Rattle.dvg_named.specs.PlainLines.{plain};
@@ -276,6 +281,23 @@ impl<'a, A: Allocator + Copy> Reading<'a, A> {
             usize::from(self.rom.free()),
             sections.as_slice(),
         )
+    }
+
+    /// The bytes of the ROM, with the words of its sections as they are laid, after all lines of a
+    /// text. Or else the first row of the ROM that wants a name which isn't given. No memory is
+    /// taken.
+    pub fn rom(&self, laid: &[LaidRows]) -> Result<ArrayVec<u8, LARGE_ROM_BYTES>, RomRow>
+        requires { IsLaidText self.now laid.now }
+        ensures rom { IfOk result (λ bytes. (told : RomText) → Reads told self.now
+            → laid_sections laid.now ≡ laid_of (spelled_in told self.now)
+            → GivesRom (spelled_in told self.now) bytes.items) }
+        ensures ungiven { IfErr result (IsFirstInRom (laid_sections laid.now)) }
+    {
+        let mut bytes = self.rom.bytes();
+        match put_sections(bytes.as_mut_slice(), laid) {
+            Ok(()) => Ok(bytes),
+            Err(row) => Err(row),
+        }
     }
 
     /// The frames, in order, after the lines that were read. A growth may be refused.
