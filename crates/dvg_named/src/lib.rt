@@ -1,8 +1,9 @@
 //! Sketches as texts: drafts with names, of one or more frames, and the shapes of their ROM (the
 //! format is this project's own choice). They are defined here. All lines of a text are read, each
-//! within the limits, or up to the first line at fault. Rows become numbers and addresses of names,
-//! drafts and words of the ROM. What joins both to a whole sketch, and tells a name that no line
-//! gives, is missing.
+//! within the limits, or up to the first line at fault. Of all lines that were read there are the
+//! frames, the bytes of the ROM and its names. Rows become numbers and addresses of names, drafts
+//! and words of the ROM. What joins them to a whole sketch, and tells the line of a name that no
+//! line gives, is missing.
 #![tactic(auto)]
 
 mod addresses;
