@@ -23,5 +23,6 @@ pub mod TextReading
 pub mod FrameValues
 pub mod RomNames
 pub mod GivenRoms
+pub mod FlatDrafts
 pub mod Examples
 pub mod TextExamples

@@ -57,7 +57,8 @@ fn later_frames<'a, A: Allocator + Copy>(
     others: &'a [Part<'a, A>],
 ) -> Result<Vec<FrameRows<'a>, A>, OutOfMemory>
     ensures frames { IfOk result (λ found. frames_of found.items
-        ≡ rows_at_top (rows_of top.now.rows.items) ++ filter_map frame_in (map section_in others.now)) }
+        ≡ rows_at_top (rows_of top.now.rows.items)
+        ++ filter_map frame_in (map section_in others.now)) }
     ensures sources { IfOk result (λ found. (small : List ℕ) → IsPartAt small top.now
         → All (IsPartAt small) others.now → All (IsFrameAt small) found.items) }
 {
