@@ -22,3 +22,6 @@ mod FewWords
 mod SketchRead
 mod SourcedMore
 mod RomFew
+mod FrameLists
+mod NamesLaid
+mod RomGiven

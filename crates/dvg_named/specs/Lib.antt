@@ -20,5 +20,9 @@ pub mod RowMoves
 pub mod SketchReading
 pub mod SourcedRows
 pub mod TextReading
+pub mod FrameValues
+pub mod RomNames
+pub mod GivenRoms
+pub mod FlatDrafts
 pub mod Examples
 pub mod TextExamples

@@ -1,13 +1,17 @@
 //! Sketches as texts: drafts with names, of one or more frames, and the shapes of their ROM (the
 //! format is this project's own choice). They are defined here. All lines of a text are read, each
-//! within the limits, or up to the first line at fault. Rows become numbers and addresses of names,
-//! drafts and words of the ROM. What joins both to a whole sketch, and tells a name that no line
-//! gives, is missing.
+//! within the limits, or up to the first line at fault. Of all lines that were read there are the
+//! frames, the bytes of the ROM and its names. Rows become numbers and addresses of names, drafts
+//! and words of the ROM. What joins them to a whole sketch, and tells the line of a name that no
+//! line gives, is missing.
 #![tactic(auto)]
 
+mod addresses;
 mod drafting;
 pub mod examples;
 mod fault;
+mod flat_draft;
+mod frame_rows;
 mod given_names;
 mod laid;
 pub mod laws;
@@ -25,8 +29,11 @@ mod sizes;
 mod text_reading;
 mod told_rom;
 
+pub use addresses::rom_names;
 pub use drafting::draft_of;
 pub use fault::{NamedFault, SketchFault};
+pub use flat_draft::{DraftFault, push_draft};
+pub use frame_rows::FrameRows;
 pub use laid::{LaidRows, RomRows, address_of, free_with, lay};
 pub use line_words::{MAX_WORDS, words_of};
 pub use meaning::{NamedFrame, RomName, Source};

@@ -6,6 +6,7 @@ ghost use Rattle.dvg_named.specs.RowValues.{doing_of, row_of};
 ghost use Rattle.dvg_named.specs.Rows.{plainly, rom};
 ghost use Rattle.dvg_named.specs.Sections.{MayStand};
 
+use crate::frame_rows::{FrameRows, frame_rows};
 use crate::given_names::GivenNames;
 use crate::laid::{LaidRows, lay};
 use crate::line_fault::LineFault;
@@ -13,11 +14,14 @@ use crate::meaning::Source;
 use crate::part::Part;
 use crate::rom_area::RomArea;
 use crate::rom_sections::rom_rows;
+use crate::rom_words::{RomRow, put_sections};
 use crate::row::{Doing, Head, Row, read_head, read_row};
 use crate::sizes::words_of_row;
 use crate::told_rom::ToldRom;
+use arrayvec::ArrayVec;
 use dvg_code::OutOfMemory;
 use dvg_frame::OpKind;
+use dvg_mem::LARGE_ROM_BYTES;
 use std::alloc::Allocator;
 use std::mem;
 
@@ -42,7 +46,9 @@ pub(crate) struct Reading<'a, A: Allocator + Copy> {
 }
 
 impl<'a, A: Allocator + Copy> Reading<'a, A> {
-    ghost use Rattle.std.specs.Prelude.{◌≡◌, ◌++◌, ◌∷◌, [], ◌↔◌, ℕ, List, IfErr, IfOk, IsTrue, IsFalse, OnOk};
+    ghost use Rattle.std.specs.Prelude.{◌≡◌, ◌++◌, ◌∷◌, [], ◌↔◌, ℕ, All, List, IfErr, IfOk, IsTrue, IsFalse, OnOk};
+    ghost use Rattle.dvg_named.specs.FrameValues.{IsFrameAt, frames_of};
+    ghost use Rattle.dvg_named.specs.Sections.{frames};
     ghost use Rattle.dvg_text.specs.LineParts.{bytes_of};
     ghost use Rattle.dvg_text.specs.RomReading.{untold};
     ghost use Rattle.dvg_text.specs.RomTexts.{RomText};
@@ -51,6 +57,8 @@ impl<'a, A: Allocator + Copy> Reading<'a, A> {
     ghost use Rattle.dvg_named.specs.Rows.{IsHeadLine, IsRowLine, frame, rom};
     ghost use Rattle.dvg_named.specs.RowMoves.{IsFrameHead, IsRomHead};
     ghost use Rattle.dvg_named.specs.SketchReading.{IsBare, Opens, Reads, ReadsMore, StopsSketch, head_in, spelled_in};
+    ghost use Rattle.dvg_named.specs.GivenRoms.{GivesRom, IsLaidText};
+    ghost use Rattle.dvg_named.specs.RomBytes.{IsFirstInRom};
     ghost use Rattle.dvg_named.specs.LaidValues.{laid_sections};
     ghost use Rattle.dvg_named.specs.NamedFaults.{laid_of};
     ghost use Rattle.dvg_named.specs.PlainLines.{plain};
@@ -273,6 +281,33 @@ impl<'a, A: Allocator + Copy> Reading<'a, A> {
             usize::from(self.rom.free()),
             sections.as_slice(),
         )
+    }
+
+    /// The bytes of the ROM, with the words of its sections as they are laid, after all lines of a
+    /// text. Or else the first row of the ROM that wants a name which isn't given. No memory is
+    /// taken.
+    pub fn rom(&self, laid: &[LaidRows]) -> Result<ArrayVec<u8, LARGE_ROM_BYTES>, RomRow>
+        requires { IsLaidText self.now laid.now }
+        ensures rom { IfOk result (λ bytes. (told : RomText) → Reads told self.now
+            → laid_sections laid.now ≡ laid_of (spelled_in told self.now)
+            → GivesRom (spelled_in told self.now) bytes.items) }
+        ensures ungiven { IfErr result (IsFirstInRom (laid_sections laid.now)) }
+    {
+        let mut bytes = self.rom.bytes();
+        match put_sections(bytes.as_mut_slice(), laid) {
+            Ok(()) => Ok(bytes),
+            Err(row) => Err(row),
+        }
+    }
+
+    /// The frames, in order, after the lines that were read. A growth may be refused.
+    pub fn frames(&self) -> Result<Vec<FrameRows<'_>, A>, OutOfMemory>
+        ensures frames { IfOk result (λ found. (told : RomText)
+            → frames_of found.items ≡ frames (spelled_in told self.now)) }
+        ensures sources { IfOk result (λ found. (small : List ℕ) → AreSourced small self.now
+            → All (IsFrameAt small) found.items) }
+    {
+        frame_rows(self.alloc, self.closed.as_slice(), &self.last)
     }
 }
 

@@ -65,6 +65,15 @@ impl ToldRom {
         true
     }
 
+    /// The bytes of the ROM.
+    pub fn bytes(&self) -> ArrayVec<u8, LARGE_ROM_BYTES>
+        ensures { result.items ≡ self.now.bytes.items }
+    {
+        let mut bytes = ArrayVec::new();
+        bytes.try_extend_from_slice(self.bytes.as_slice()).unwrap();
+        bytes
+    }
+
     /// The first word address after those that lines gave.
     pub fn free(&self) -> u16
         ensures { result ≡ self.now.free }

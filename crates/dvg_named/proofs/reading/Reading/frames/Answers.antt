@@ -1,0 +1,17 @@
+use Rattle.std.proofs.Common.{◌∙◌, All, ap, map, subst, sym}
+use Rattle.dvg_named.specs.ReadParts.{sketch_of}
+use Rattle.dvg_named.specs.Sections.{frames}
+use Rattle.dvg_named.specs.SketchReading.{section_in}
+use Rattle.dvg_named.specs.SourcedRows.{IsPartAt}
+use Rattle.dvg_named.proofs.RomFew.{if_ok}
+use Rattle.dvg_named.proofs.reading.Reading.frames.Goals as goal
+
+pub returns-clause-frames : goal.returns-clause-frames
+returns-clause-frames g c =
+    if_ok c.frame_rows.result c.frame_rows.ensures.frames (λ found are told.
+    are told ∙ ap (λ l. frames (sketch_of told (map section_in l) (section_in c.args.self.now.last))) c.as_slice.ensures.value)
+
+pub returns-clause-sources : goal.returns-clause-sources
+returns-clause-sources g c =
+    if_ok c.frame_rows.result c.frame_rows.ensures.sources (λ found at small sourced.
+    at small (subst (All (IsPartAt small)) (sym c.as_slice.ensures.value) sourced.closed) sourced.last)

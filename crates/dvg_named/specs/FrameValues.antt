@@ -1,0 +1,36 @@
+-- Frames of a sketch, as the reader holds them.
+use Rattle.std.specs.Prelude.{ℕ, List, [], ◌∷◌, Option, None, map}
+use Rattle.std.specs.List.{AllZip}
+use Rattle.dvg_named.specs.declared.frame_rows.FrameRows as held
+use Rattle.dvg_named.specs.HeldRows.{rows_of}
+use Rattle.dvg_named.specs.RowValues.{name_of}
+use Rattle.dvg_named.specs.Rows.{Head, Row, frame, rom, top}
+use Rattle.dvg_named.specs.Sections.{FrameRows, Section, frame_of}
+use Rattle.dvg_named.specs.SourcedRows.{IsRowAt}
+
+-- a frame
+abbrev pub frame_held : held.FrameRows → FrameRows
+frame_held held_frame = record { name = name_of held_frame.name; rows = rows_of held_frame.rows.now }
+
+-- frames, in order
+abbrev pub frames_of : List held.FrameRows → List FrameRows
+frames_of = map frame_held
+
+-- a section as a frame, if it is one
+abbrev pub frame_in : Section → Option FrameRows
+frame_in section = frame_of section.head section.rows
+
+-- rows as a frame, in a list, if they are one
+abbrev pub frame_list : Head → List Row → List FrameRows
+frame_list top rows = []
+frame_list (frame name) rows = record { name = name; rows = rows } ∷ []
+frame_list (rom address) rows = []
+
+-- rows at the top as a frame, where sections follow: none, if there is no row
+abbrev pub rows_at_top : List Row → List FrameRows
+rows_at_top [] = []
+rows_at_top (row ∷ rows) = record { name = None; rows = row ∷ rows } ∷ []
+
+-- each row of the frame stands in its line
+abbrev pub IsFrameAt : (small : List ℕ) → held.FrameRows → Type 0
+IsFrameAt small held_frame = AllZip (IsRowAt small) held_frame.rows.now held_frame.sources.now

@@ -1,0 +1,43 @@
+//! The operations of frames in one list.
+ghost use Rattle.std.specs.Prelude.{◌≡◌, ◌≤◌, length, IfErr, OnErr, OnOk};
+ghost use Rattle.dvg_named.specs.FlatDrafts.{PushesDraft, StopsDraft};
+ghost use Rattle.dvg_named.specs.HeldRows.{rows_of};
+ghost use Rattle.dvg_named.specs.LaidValues.{AreLow, laid_sections};
+ghost use Rattle.dvg_named.specs.Places.{doings};
+
+use crate::drafting::draft_of;
+use crate::laid::LaidRows;
+use crate::row::Row;
+use dvg_frame::Op;
+use std::alloc::Allocator;
+
+/// Why the operations of a frame are not added.
+#[derive(Clone, Copy)]
+pub enum DraftFault {
+    /// The row at this place, counted from 0, is the first that wants a name which isn't given.
+    Ungiven(usize),
+    /// A growth was refused.
+    Memory,
+}
+
+/// Adds the operations of a frame of these rows to a list, in order. Or else the list stays.
+pub fn push_draft<A: Allocator>(
+    ops: &mut Vec<Op, A>,
+    rows: &[Row],
+    rom: &[LaidRows],
+) -> Result<(), DraftFault>
+    requires few { length (doings (rows_of rows.now)) ≤ 511 }
+    requires low { AreLow (laid_sections rom.now) }
+    ensures pushed { OnOk result (PushesDraft rom.now rows.now ops.old.items ops.new.items) }
+    ensures kept { OnErr result (ops.new.items ≡ ops.old.items) }
+    ensures fault { IfErr result (StopsDraft rom.now rows.now) }
+{
+    let draft = match draft_of(rows, rom) {
+        Ok(draft) => draft,
+        Err(place) => return Err(DraftFault::Ungiven(place)),
+    };
+    if ops.extend_from_slice(draft.ops()).is_err() {
+        return Err(DraftFault::Memory);
+    }
+    Ok(())
+}

@@ -1,0 +1,113 @@
+//! The frames among the sections of a sketch.
+ghost use Rattle.std.specs.Prelude.{◌≡◌, ◌++◌, ◌∷◌, [], All, IfOk, List, None, OnOk, map, ℕ};
+ghost use Rattle.std.specs.List.{filter_map};
+ghost use Rattle.dvg_text.specs.RomTexts.{RomText};
+ghost use Rattle.dvg_named.specs.FrameValues.{IsFrameAt, frame_in, frame_list, frames_of, rows_at_top};
+ghost use Rattle.dvg_named.specs.HeldRows.{rows_of};
+ghost use Rattle.dvg_named.specs.ReadParts.{sketch_of};
+ghost use Rattle.dvg_named.specs.Sections.{frames};
+ghost use Rattle.dvg_named.specs.SketchReading.{head_in, section_in};
+ghost use Rattle.dvg_named.specs.SourcedRows.{IsPartAt};
+
+use crate::meaning::Source;
+use crate::part::Part;
+use crate::row::{Head, Row};
+use dvg_code::OutOfMemory;
+use std::alloc::Allocator;
+
+/// The rows of a frame, and the lines that they stand in.
+#[derive(Clone, Copy)]
+pub struct FrameRows<'a> {
+    /// Its name, if it has one.
+    pub name: Option<&'a [u8]>,
+    /// The line that begins it. That of a frame at the top is the text's first line.
+    pub begin: Source<'a>,
+    /// Its rows, in order.
+    pub rows: &'a [Row<'a>],
+    /// The line of each row.
+    pub sources: &'a [Source<'a>],
+}
+
+/// The frames, in order: of the sections before the last one, and of that one. The first section of
+/// all is that at the top.
+pub(crate) fn frame_rows<'a, A: Allocator + Copy>(
+    alloc: A,
+    closed: &'a [Part<'a, A>],
+    last: &'a Part<'a, A>,
+) -> Result<Vec<FrameRows<'a>, A>, OutOfMemory>
+    ensures frames { IfOk result (λ found. (told : RomText) → frames_of found.items
+        ≡ frames (sketch_of told (map section_in closed.now) (section_in last.now))) }
+    ensures sources { IfOk result (λ found. (small : List ℕ) → All (IsPartAt small) closed.now
+        → IsPartAt small last.now → All (IsFrameAt small) found.items) }
+{
+    let [top, others @ ..] = closed else {
+        let mut found = Vec::new(alloc);
+        push_top(&mut found, last)?;
+        return Ok(found);
+    };
+    let mut found = later_frames(alloc, top, others)?;
+    push_frame(&mut found, last)?;
+    Ok(found)
+}
+
+// The frames among the section at the top, which others follow, and these sections.
+fn later_frames<'a, A: Allocator + Copy>(
+    alloc: A,
+    top: &'a Part<'a, A>,
+    others: &'a [Part<'a, A>],
+) -> Result<Vec<FrameRows<'a>, A>, OutOfMemory>
+    ensures frames { IfOk result (λ found. frames_of found.items
+        ≡ rows_at_top (rows_of top.now.rows.items)
+        ++ filter_map frame_in (map section_in others.now)) }
+    ensures sources { IfOk result (λ found. (small : List ℕ) → IsPartAt small top.now
+        → All (IsPartAt small) others.now → All (IsFrameAt small) found.items) }
+{
+    let mut found = Vec::new(alloc);
+    if !top.rows.is_empty() {
+        push_top(&mut found, top)?;
+    }
+    for part in others {
+        push_frame(&mut found, part)?;
+    }
+    Ok(found)
+}
+
+// Adds the section at the top.
+fn push_top<'a, A: Allocator + Copy>(
+    found: &mut Vec<FrameRows<'a>, A>,
+    top: &'a Part<'a, A>,
+) -> Result<(), OutOfMemory>
+    ensures frames { OnOk result (frames_of found.new.items ≡ frames_of found.old.items
+        ++ record { name = None; rows = rows_of top.now.rows.items } ∷ []) }
+    ensures sources { OnOk result ((small : List ℕ) → IsPartAt small top.now
+        → All (IsFrameAt small) found.old.items → All (IsFrameAt small) found.new.items) }
+{
+    found.push(FrameRows {
+        name: None,
+        begin: top.begin,
+        rows: top.rows.as_slice(),
+        sources: top.sources.as_slice(),
+    })?;
+    Ok(())
+}
+
+// Adds a section, where it is a frame.
+fn push_frame<'a, A: Allocator + Copy>(
+    found: &mut Vec<FrameRows<'a>, A>,
+    part: &'a Part<'a, A>,
+) -> Result<(), OutOfMemory>
+    ensures frames { OnOk result (frames_of found.new.items ≡ frames_of found.old.items
+        ++ frame_list (head_in part.now.head) (rows_of part.now.rows.items)) }
+    ensures sources { OnOk result ((small : List ℕ) → IsPartAt small part.now
+        → All (IsFrameAt small) found.old.items → All (IsFrameAt small) found.new.items) }
+{
+    if let Some(Head::Frame(name)) = part.head {
+        found.push(FrameRows {
+            name,
+            begin: part.begin,
+            rows: part.rows.as_slice(),
+            sources: part.sources.as_slice(),
+        })?;
+    }
+    Ok(())
+}
