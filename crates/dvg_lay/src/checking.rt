@@ -1,6 +1,9 @@
 //! The check of frames, and what is told of a refused one.
-ghost use Rattle.std.specs.Prelude.{◌≡◌, ◌<◌, ◌↔◌, All, IfErr, IfOk, IsTrue, MatchOption, OnOk, option_map};
-ghost use Rattle.dvg_lay.specs.Refusals.{Blames, IsFault, IsFirst, IsFirstLow, IsGood, IsLent, IsNameBefore, IsNearer, IsTellable, IsUnlaid, NamesBefore, NamesRom, TellsFault, TellsLow, line_of, place_of};
+ghost use Rattle.std.specs.Prelude.{◌≡◌, ◌<◌, ◌↔◌, All, IfErr, IfOk, IsTrue, MatchOption, OnOk};
+ghost use Rattle.std.specs.Prelude.{option_map};
+ghost use Rattle.dvg_lay.specs.Refusals.{Blames, IsFault, IsFirst, IsFirstLow, IsGood, IsLent};
+ghost use Rattle.dvg_lay.specs.Refusals.{IsNameBefore, IsNearer, IsTellable, IsUnlaid, NamesBefore};
+ghost use Rattle.dvg_lay.specs.Refusals.{NamesRom, TellsFault, TellsLow, line_of, place_of};
 
 use crate::refusal::{Blamed, Reason, Refusal, Unlaid};
 use crate::said::said;

@@ -17,9 +17,9 @@ const ROM_END: u16 = 0xC00;
 
 /// The bytes of frames in order, each as it lies in a half, the low byte of each word first.
 ///
-/// - `Refused`: the check refuses a frame over the ROM. The first such frame is told: its fault, and
-///   the line of the operation at fault, or the word of the ROM with the name that stands there or
-///   before it. Of a fault of the whole draft it is the line of operation 0, or else that which
+/// - `Refused`: the check refuses a frame over the ROM. The first such frame is told: its fault,
+///   and the line of the operation at fault, or the word of the ROM with the name that stands there
+///   or before it. Of a fault of the whole draft it is the line of operation 0, or else that which
 ///   begins the frame.
 /// - `Memory`: a growth was refused.
 pub fn lay_bytes<A: Allocator + Copy>(
@@ -92,7 +92,8 @@ pub fn lay_tables<A: Allocator + Copy>(
     ensures good { OnOk result (All (IsGood rom.now) frames.now) }
     ensures told { OnOk result (All IsTellable frames.now) }
     ensures laid { IfOk result (λ text. text.items ≡ tables 0 frames.now) }
-    ensures refused { IfErr result (IsUnlaid (λ refusal. IsFault rom.now names.now frames.now refusal
+    ensures refused { IfErr result
+        (IsUnlaid (λ refusal. IsFault rom.now names.now frames.now refusal
         ⊎ IsLow rom.now names.now frames.now refusal)) }
 {
     let text = match put_tables(alloc, rom, names, frames) {

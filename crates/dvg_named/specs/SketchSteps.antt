@@ -24,10 +24,12 @@ pub data Goes : Spelled → List ℕ → Spelled → Type 0 where
   tells : {rom now : RomText} {line : List ℕ} → TellsRom rom line now → Goes (so_far rom [] []) line (so_far now [] [])
   tops : {rom : RomText} {first : List Row} {line : List ℕ} (row : Row) → IsRowLine row line
       → Goes (so_far rom first []) line (so_far rom (first ++ row ∷ []) [])
-  adds : {rom : RomText} {first : List Row} {others : List Section} {line : List ℕ} (before : List Section) (section : Section)
+  adds : {rom : RomText} {first : List Row} {others : List Section} {line : List ℕ} (before : List Section)
+      (section : Section)
       (row : Row) → others ≡ before ++ section ∷ [] → MayStand section.head row → IsRowLine row line
       → Goes (so_far rom first others) line (so_far rom first (before ++ with_row section row ∷ []))
-  begins : {rom : RomText} {first : List Row} {others : List Section} {line : List ℕ} (head : Head) → IsHeadLine head line
+  begins : {rom : RomText} {first : List Row} {others : List Section} {line : List ℕ} (head : Head)
+      → IsHeadLine head line
       → Goes (so_far rom first others) line (so_far rom first (others ++ begun head ∷ []))
 
 -- the line of these words, as a plain draft has it

@@ -1,8 +1,12 @@
 //! Worked examples of the definitions. Each is the contract of a function that does nothing.
-ghost use Rattle.dvg_named.specs.Examples.{AddressIsAfterTwoWords, HeadsAreSpelled, LargerRomIsFree, LinesArePlain, LinesAreTold, NoNames};
-ghost use Rattle.dvg_named.specs.Examples.{NothingIsAFrame, NumberIsThatOfTheNext, OneCrIsPassed, OneSpaceIsPlain, RomAloneIsNoFrame};
-ghost use Rattle.dvg_named.specs.TextExamples.{CallsTheRom, JumpsBack, OutOfRomAtOne, OverlapAtFour, TwiceAtTwo, UnknownAtOne};
-ghost use Rattle.dvg_named.specs.Examples.{RowsAreSpelled, SectionsAreLaid, TopIsAFrame, WordsAreParted};
+ghost use Rattle.dvg_named.specs.Examples.{AddressIsAfterTwoWords, HeadsAreSpelled};
+ghost use Rattle.dvg_named.specs.Examples.{LargerRomIsFree, LinesArePlain, LinesAreTold, NoNames};
+ghost use Rattle.dvg_named.specs.Examples.{NothingIsAFrame, NumberIsThatOfTheNext, OneCrIsPassed};
+ghost use Rattle.dvg_named.specs.Examples.{OneSpaceIsPlain, RomAloneIsNoFrame};
+ghost use Rattle.dvg_named.specs.TextExamples.{CallsTheRom, JumpsBack, OutOfRomAtOne};
+ghost use Rattle.dvg_named.specs.TextExamples.{OverlapAtFour, TwiceAtTwo, UnknownAtOne};
+ghost use Rattle.dvg_named.specs.Examples.{RowsAreSpelled, SectionsAreLaid, TopIsAFrame};
+ghost use Rattle.dvg_named.specs.Examples.{WordsAreParted};
 
 /// How a line becomes words.
 pub fn lines()

@@ -2,7 +2,8 @@
 ghost use Rattle.std.specs.Prelude.{◌≡◌, ◌++◌, ◌∷◌, [], All, IfOk, List, None, OnOk, map, ℕ};
 ghost use Rattle.std.specs.List.{filter_map};
 ghost use Rattle.dvg_text.specs.RomTexts.{RomText};
-ghost use Rattle.dvg_named.specs.FrameValues.{IsFrameAt, frame_in, frame_list, frames_of, rows_at_top};
+ghost use Rattle.dvg_named.specs.FrameValues.{IsFrameAt, frame_in, frame_list, frames_of};
+ghost use Rattle.dvg_named.specs.FrameValues.{rows_at_top};
 ghost use Rattle.dvg_named.specs.HeldRows.{rows_of};
 ghost use Rattle.dvg_named.specs.ReadParts.{sketch_of};
 ghost use Rattle.dvg_named.specs.Sections.{frames};

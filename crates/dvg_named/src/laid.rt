@@ -1,7 +1,9 @@
 //! Where sections of the ROM are laid.
-ghost use Rattle.std.specs.Prelude.{◌≡◌, ◌≤◌, ◌<◌, ◌+◌, ◌^◌, ℕ, List, [], ◌∷◌, ◌++◌, length, max, unwrap_or, IfNone, IfOk, IfSome, Some};
+ghost use Rattle.std.specs.Prelude.{◌≡◌, ◌≤◌, ◌<◌, ◌+◌, ◌^◌, ℕ, List, [], ◌∷◌, ◌++◌, length, max};
+ghost use Rattle.std.specs.Prelude.{unwrap_or, IfNone, IfOk, IfSome, Some};
 ghost use Rattle.dvg_text.specs.RomTexts.{RomLine};
-ghost use Rattle.dvg_named.specs.LaidValues.{AreLaid, AreLow, NoneNames, laid_sections, rows_in, rows_laid, sections_of};
+ghost use Rattle.dvg_named.specs.LaidValues.{AreLaid, AreLow, NoneNames, laid_sections, rows_in};
+ghost use Rattle.dvg_named.specs.LaidValues.{rows_laid, sections_of};
 ghost use Rattle.dvg_named.specs.NamedFaults.{AreDistinct, names_of};
 ghost use Rattle.dvg_named.specs.Places.{IsAddress, free_after, size as words_of_rows};
 

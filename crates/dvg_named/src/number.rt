@@ -1,5 +1,6 @@
 //! Which operation of a frame a name names.
-ghost use Rattle.std.specs.Prelude.{◌≡◌, ◌≤◌, ◌<◌, ◌↔◌, ℕ, List, length, IfNone, IfSome, IsSome, IsTrue, Some};
+ghost use Rattle.std.specs.Prelude.{◌≡◌, ◌≤◌, ◌<◌, ◌↔◌, ℕ, List, length, IfNone, IfSome, IsSome};
+ghost use Rattle.std.specs.Prelude.{IsTrue, Some};
 ghost use Rattle.std.specs.Option.{is_some};
 ghost use Rattle.dvg_named.specs.HeldRows.{Gives, GivesAt, IsLeast, NoneGives, rows_of};
 ghost use Rattle.dvg_named.specs.NamedFaults.{AreDistinct, names_of};

@@ -46,7 +46,8 @@ pub(crate) struct Reading<'a, A: Allocator + Copy> {
 }
 
 impl<'a, A: Allocator + Copy> Reading<'a, A> {
-    ghost use Rattle.std.specs.Prelude.{◌≡◌, ◌++◌, ◌∷◌, [], ◌↔◌, ℕ, All, List, IfErr, IfOk, IsTrue, IsFalse, OnOk};
+    ghost use Rattle.std.specs.Prelude.{◌≡◌, ◌++◌, ◌∷◌, [], ◌↔◌, ℕ, All, List, IfErr, IfOk, IsTrue};
+    ghost use Rattle.std.specs.Prelude.{IsFalse, OnOk};
     ghost use Rattle.dvg_named.specs.FrameValues.{IsFrameAt, frames_of};
     ghost use Rattle.dvg_named.specs.Sections.{frames};
     ghost use Rattle.dvg_text.specs.LineParts.{bytes_of};
@@ -56,7 +57,8 @@ impl<'a, A: Allocator + Copy> Reading<'a, A> {
     ghost use Rattle.dvg_named.specs.RowValues.{head_of, name_of, row_of};
     ghost use Rattle.dvg_named.specs.Rows.{IsHeadLine, IsRowLine, frame, rom};
     ghost use Rattle.dvg_named.specs.RowMoves.{IsFrameHead, IsRomHead};
-    ghost use Rattle.dvg_named.specs.SketchReading.{IsBare, Opens, Reads, ReadsMore, StopsSketch, head_in, spelled_in};
+    ghost use Rattle.dvg_named.specs.SketchReading.{IsBare, Opens, Reads, ReadsMore, StopsSketch};
+    ghost use Rattle.dvg_named.specs.SketchReading.{head_in, spelled_in};
     ghost use Rattle.dvg_named.specs.GivenRoms.{GivesRom, IsLaidText};
     ghost use Rattle.dvg_named.specs.RomBytes.{IsFirstInRom};
     ghost use Rattle.dvg_named.specs.LaidValues.{laid_sections};
@@ -64,7 +66,8 @@ impl<'a, A: Allocator + Copy> Reading<'a, A> {
     ghost use Rattle.dvg_named.specs.PlainLines.{plain};
     ghost use Rattle.dvg_named.specs.TextReading.{ReadsText};
     ghost use Rattle.dvg_named.specs.SketchSteps.{AreParts, line_of};
-    ghost use Rattle.dvg_named.specs.SourcedRows.{AreSourced, BeginsIn, IsHeadAt, IsLineAt, IsRowAt};
+    ghost use Rattle.dvg_named.specs.SourcedRows.{AreSourced, BeginsIn, IsHeadAt, IsLineAt};
+    ghost use Rattle.dvg_named.specs.SourcedRows.{IsRowAt};
 
     /// Before the first line, which is this one.
     pub fn new(alloc: A, first: Source<'a>) -> Reading<'a, A>

@@ -1,5 +1,6 @@
 //! Which words of the ROM the sections take that were laid.
-ghost use Rattle.std.specs.Prelude.{◌≡◌, ◌+◌, ◌≤◌, ◌<◌, ◌⊎◌, ◌↔◌, ℕ, length, max, unwrap_or, get_or, true, false, IfErr, IsTrue, OnOk};
+ghost use Rattle.std.specs.Prelude.{◌≡◌, ◌+◌, ◌≤◌, ◌<◌, ◌⊎◌, ◌↔◌, ℕ, length, max, unwrap_or};
+ghost use Rattle.std.specs.Prelude.{get_or, true, false, IfErr, IsTrue, OnOk};
 ghost use Rattle.dvg_named.specs.RomAreas.{BeginsAt, IsFree, StopsArea, StopsBegin, Takes};
 
 use crate::line_fault::LineFault;
@@ -18,7 +19,8 @@ pub(crate) struct RomArea {
 }
 
 impl RomArea {
-    ghost use Rattle.std.specs.Prelude.{◌≡◌, ◌+◌, ◌≤◌, ◌<◌, ◌⊎◌, ◌↔◌, ℕ, length, max, unwrap_or, get_or, true, false, IfErr, IsTrue, OnOk};
+    ghost use Rattle.std.specs.Prelude.{◌≡◌, ◌+◌, ◌≤◌, ◌<◌, ◌⊎◌, ◌↔◌, ℕ, length, max, unwrap_or};
+    ghost use Rattle.std.specs.Prelude.{get_or, true, false, IfErr, IsTrue, OnOk};
     ghost use Rattle.dvg_named.specs.RomAreas.{BeginsAt, IsFree, StopsArea, StopsBegin, Takes};
 
     /// No word is taken.

@@ -1,5 +1,6 @@
 //! The words of the ROM's sections, in the bytes of a ROM.
-ghost use Rattle.std.specs.Prelude.{◌≡◌, ◌≢◌, ◌⊎◌, ◌+◌, ◌-◌, ◌*◌, ◌/◌, ◌<◌, ◌≤◌, ℕ, List, [], All, get_or, length, IfErr, IfNone, IfSome, OnOk};
+ghost use Rattle.std.specs.Prelude.{◌≡◌, ◌≢◌, ◌⊎◌, ◌+◌, ◌-◌, ◌*◌, ◌/◌, ◌<◌, ◌≤◌, ℕ, List, [], All};
+ghost use Rattle.std.specs.Prelude.{get_or, length, IfErr, IfNone, IfSome, OnOk};
 ghost use Rattle.dvg_code.specs.declared.instr.Instr.TheVariants.{Jmpl, Jsrl};
 ghost use Rattle.dvg_code.specs.Spelling.{canon};
 ghost use Rattle.dvg_code.specs.Words.{word_in};
@@ -7,11 +8,13 @@ ghost use Rattle.dvg_frame.specs.declared.op.OpKind.TheVariants.{Call, Jump};
 ghost use Rattle.dvg_frame.specs.Ops.{IsOp};
 ghost use Rattle.dvg_text.specs.RomTexts.{IsRomOf, RomText};
 ghost use Rattle.dvg_named.specs.HeldRows.{rows_of};
-ghost use Rattle.dvg_named.specs.LaidValues.{AreLow, IsAddressIn, NoneNames, laid_section, laid_sections};
+ghost use Rattle.dvg_named.specs.LaidValues.{AreLow, IsAddressIn, NoneNames, laid_section};
+ghost use Rattle.dvg_named.specs.LaidValues.{laid_sections};
 ghost use Rattle.dvg_named.specs.Meanings.{IsEncoded};
 ghost use Rattle.dvg_named.specs.NamedFaults.{IsUngiven};
 ghost use Rattle.dvg_named.specs.Places.{IsAddress, Laid, laid_end};
-ghost use Rattle.dvg_named.specs.RomBytes.{ArePut, IsFirstInRom, LieInRom, MayBeEncoded, MayStandInRom, PutsSection, TellsSections};
+ghost use Rattle.dvg_named.specs.RomBytes.{ArePut, IsFirstInRom, LieInRom, MayBeEncoded};
+ghost use Rattle.dvg_named.specs.RomBytes.{MayStandInRom, PutsSection, TellsSections};
 ghost use Rattle.dvg_named.specs.RowValues.{doing_of};
 ghost use Rattle.dvg_named.specs.Rows.{plainly};
 ghost use Rattle.dvg_named.specs.Ungiven.{IsFirstInSection, WantsAt, WantsInRom, in_rom};
@@ -35,9 +38,9 @@ pub struct RomRow {
 
 /// Puts the canonical words of laid sections into the bytes of a ROM, 2,048 or 4,096, each section
 /// at its address, the low byte of a word first. So bytes of which lines `rom` gave the words
-/// become those that the same words would have made of them, given by further lines. Or else the first row
-/// that wants a name which isn't given; what was put before it stays. No memory is taken. The time
-/// grows with the number of rows times that of the rows that want a name.
+/// become those that the same words would have made of them, given by further lines. Or else the
+/// first row that wants a name which isn't given; what was put before it stays. No memory is taken.
+/// The time grows with the number of rows times that of the rows that want a name.
 pub fn put_sections(rom: &mut [u8], sections: &[LaidRows]) -> Result<(), RomRow>
     requires size { (length rom.old ≡ 2048) ⊎ (length rom.old ≡ 4096) }
     requires lie { LieInRom (0xC00 - length rom.old / 2) (laid_sections sections.now) }

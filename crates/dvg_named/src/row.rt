@@ -1,7 +1,8 @@
 //! What a line of a sketch spells. Names are slices of the text.
 ghost use Rattle.std.specs.Prelude.{◌≡◌, ◌↔◌, ◌∷◌, ◌++◌, [], ℕ, List, IfSome, IsSomeAnd, IsTrue};
 ghost use Rattle.dvg_text.specs.LineParts.{bytes_of};
-ghost use Rattle.dvg_named.specs.Rows.{Doing as SpelledDoing, Head as SpelledHead, Row as SpelledRow};
+ghost use Rattle.dvg_named.specs.Rows.{Doing as SpelledDoing, Head as SpelledHead};
+ghost use Rattle.dvg_named.specs.Rows.{Row as SpelledRow};
 ghost use Rattle.dvg_named.specs.Rows.{DoingParts, HeadParts, IsName, RowParts};
 ghost use Rattle.dvg_named.specs.Rows.{BeginsWithLetter, frame, is_name_byte};
 ghost use Rattle.std.specs.List.{list_all};
@@ -107,7 +108,8 @@ fn bare_head<'a>(begin: &[u8]) -> Option<Head<'a>>
 
 // A frame with this name, or a section of the ROM at this address.
 fn head_with<'a>(begin: &[u8], operand: &'a [u8]) -> Option<Head<'a>>
-    ensures found { IfSome result (λ head. HeadParts (head_of head) (begin.now ∷ operand.now ∷ [])) }
+    ensures found { IfSome result (λ head. HeadParts (head_of head)
+        (begin.now ∷ operand.now ∷ [])) }
     ensures only { (head : SpelledHead) → HeadParts head (begin.now ∷ operand.now ∷ [])
         → IsSomeAnd result (λ found. head_of found ≡ head) }
 {
@@ -120,8 +122,10 @@ fn head_with<'a>(begin: &[u8], operand: &'a [u8]) -> Option<Head<'a>>
 
 // The beginning of a frame with this name.
 fn frame_named<'a>(name: &'a [u8]) -> Option<Head<'a>>
-    ensures found { IfSome result (λ head. (head_of head ≡ frame (Some name.now)) × IsName name.now) }
-    ensures only { IsName name.now → IsSomeAnd result (λ found. head_of found ≡ frame (Some name.now)) }
+    ensures found { IfSome result (λ head. (head_of head ≡ frame (Some name.now))
+        × IsName name.now) }
+    ensures only { IsName name.now
+        → IsSomeAnd result (λ found. head_of found ≡ frame (Some name.now)) }
 {
     if is_name(name) {
         Some(Head::Frame(Some(name)))
@@ -148,7 +152,8 @@ fn read_doing<'a>(words: &[&'a [u8]]) -> Option<Doing<'a>>
 // The operation of this name whose target has that name.
 fn wanting<'a>(command: &[u8], name: &'a [u8]) -> Option<Doing<'a>>
     requires { IsName name.now }
-    ensures found { IfSome result (λ doing. DoingParts (doing_of doing) (command.now ∷ name.now ∷ [])) }
+    ensures found { IfSome result (λ doing. DoingParts (doing_of doing)
+        (command.now ∷ name.now ∷ [])) }
     ensures only { (doing : SpelledDoing) → DoingParts doing (command.now ∷ name.now ∷ [])
         → IsSomeAnd result (λ found. doing_of found ≡ doing) }
 {

@@ -1,5 +1,6 @@
 //! What the first lines of a sketch tell of its ROM.
-ghost use Rattle.std.specs.Prelude.{◌≡◌, ◌⊎◌, ◌+◌, ◌-◌, ◌/◌, ◌∷◌, [], ℕ, List, length, IfSome, IsFalse, IsTrue, Some};
+ghost use Rattle.std.specs.Prelude.{◌≡◌, ◌⊎◌, ◌+◌, ◌-◌, ◌/◌, ◌∷◌, [], ℕ, List, length, IfSome};
+ghost use Rattle.std.specs.Prelude.{IsFalse, IsTrue, Some};
 ghost use Rattle.dvg_mem.specs.Grown.{AreReturns};
 ghost use Rattle.dvg_text.specs.LineParts.{bytes_of};
 ghost use Rattle.dvg_text.specs.RomReading.{TellsRom, untold};
