@@ -20,6 +20,11 @@ export DVG
 SECONDS ?= 5
 SHOTS ?= 1.5 2.5 3.5 4.5
 $(shell mkdir -p build)
+.DEFAULT_GOAL := build/roms/asteroid
+
+# What was asked for the last time; where it differs, all is made anew.
+OPTIONS := $(PROGRAM) $(DEFINES) / $(DRIVER)
+$(shell echo '$(OPTIONS)' | cmp -s - build/options || echo '$(OPTIONS)' >build/options)
 
 build/roms/asteroid: build/$(PROGRAM).program build/prom
 	@$(BOARD)emulator/roms build/$(PROGRAM).program build/$(PROGRAM).vectors build/prom build/roms
@@ -31,10 +36,10 @@ build/$(PROGRAM).program: build/$(PROGRAM).o build/driver.o $(BOARD)board.cfg
 	    build/$(PROGRAM).o build/driver.o
 
 build/$(PROGRAM).o: $(PROGRAM).s $(BOARD)dvg.inc $(if $(FRAMES),build/tables.inc) \
-    $(if $(SHAPES),build/shapes.inc)
+    $(if $(SHAPES),build/shapes.inc) build/options
 	ca65 -g -I $(BOARD) -I build $(DEFINES) -o $@ $(PROGRAM).s
 
-build/driver.o: $(BOARD)driver.s $(BOARD)dvg.inc
+build/driver.o: $(BOARD)driver.s $(BOARD)dvg.inc build/options
 	ca65 -g $(DRIVER) -o $@ $(BOARD)driver.s
 
 build/tables.inc: $(FRAMES) $(if $(SHAPES),build/shapes.inc)
@@ -61,6 +66,8 @@ torn: build/roms/asteroid
 	@$(DVG) torn <build/torn/torn.log
 
 play: build/roms/asteroid
+	@[ "$$(uname)" != Linux ] || [ -n "$$DISPLAY$$WAYLAND_DISPLAY" ] || { \
+	    echo 'play: no screen is here; make emulator takes pictures' >&2 && exit 1; }
 	cd build && $$(command -v mame || echo /usr/games/mame) asteroid -rompath roms
 
 clean:

@@ -1,7 +1,7 @@
 -- Where nothing is found of an input, it is served all the same.
 use Rattle.std.proofs.Common.{◌≡◌, ℕ, ◌+◌, ◌≤◌, ◌↔◌, List, length, take, take_all, Option, None, Some, IfSome, Result, Ok, Err, IsErrOf, refl, sym, subst, arith}
 use Rattle.dvg_text.specs.declared.fault.TextFault.{TextFault}
-use Rattle.dvg_io.specs.Faults.{StopsBeforeWriting}
+use Rattle.dvg_io.specs.Faults.{ComesBeforeText}
 use Rattle.dvg_io.specs.Serving.{Answers, IsFinding, OfInput, Serves}
 use Rattle.dvg_io.specs.Watching.{TakesAtMost, device_of, failures_of}
 use Rattle.dvg_io.specs.declared.fault.ToolFault.{ToolFault}
@@ -38,7 +38,7 @@ module _ {F : Type 0} (most : ℕ) (Finds : List ℕ → F → Type 0) (HasFault
         → Read most (remaining (device_of old_reader)) read → length read ≤ most + 1
         → TakesAtMost (most + 1) (remaining (device_of old_reader)) (remaining (device_of new_reader))
         → failures_of new_reader ≡ 0 → failures_of writer ≡ 0 → IsUnfound read fault
-        → Serves {V = F} remaining contents (most + 1) StopsBeforeWriting (Answers Finds HasFault text) (Err fault) old_reader new_reader writer writer
+        → Serves {V = F} remaining contents (most + 1) ComesBeforeText (Answers Finds HasFault text) (Err fault) old_reader new_reader writer writer
     serves fault read old_reader new_reader writer e short took reader writes h = record {
       means = answers fault (remaining (device_of old_reader)) (contents (device_of writer)) read e h;
       took = took;
@@ -52,7 +52,7 @@ module _ {F : Type 0} (most : ℕ) (Finds : List ℕ → F → Type 0) (HasFault
         → answer ≡ Err fault → Read most (remaining (device_of old_reader)) read → length read ≤ most + 1
         → TakesAtMost (most + 1) (remaining (device_of old_reader)) (remaining (device_of new_reader))
         → failures_of new_reader ≡ 0 → failures_of writer ≡ 0 → IsUnfound read fault
-        → Serves remaining contents (most + 1) StopsBeforeWriting (Answers Finds HasFault text) answer old_reader new_reader writer writer
+        → Serves remaining contents (most + 1) ComesBeforeText (Answers Finds HasFault text) answer old_reader new_reader writer writer
     unfound answer fault read old_reader new_reader writer is e short took reader writes h =
-        subst (λ answer. Serves remaining contents (most + 1) StopsBeforeWriting (Answers Finds HasFault text) answer old_reader new_reader writer writer) (sym is)
+        subst (λ answer. Serves remaining contents (most + 1) ComesBeforeText (Answers Finds HasFault text) answer old_reader new_reader writer writer) (sym is)
         (serves fault read old_reader new_reader writer e short took reader writes h)

@@ -1,4 +1,5 @@
 -- Why an engine stops.
+use Rattle.std.specs.Prelude.{◌≢◌}
 use Rattle.dvg_text.specs.declared.fault.TextFault.TheVariants.{Cut}
 use Rattle.dvg_text.specs.declared.fault.TraceFault.{TraceFault}
 use Rattle.dvg_text.specs.declared.fault.TraceFault.TheVariants as of_trace
@@ -15,3 +16,7 @@ abbrev pub StopsBeforeWriting : ToolFault → Type 0
 StopsBeforeWriting (Text (Cut place)) = ⊥
 StopsBeforeWriting Writer = ⊥
 StopsBeforeWriting _ = Unit {0}
+
+-- all faults but that of the writer: where a text is found whole before it is written
+abbrev pub ComesBeforeText : ToolFault → Type 0
+ComesBeforeText fault = fault ≢ Writer

@@ -1,7 +1,7 @@
 //! What the engines of the program `dvg` have in common.
 ghost use Rattle.std.specs.Prelude.{ℕ, List, ◌+◌};
 ghost use Rattle.dvg_text.specs.declared.fault.TextFault.{TextFault};
-ghost use Rattle.dvg_io.specs.Faults.{StopsBeforeWriting};
+ghost use Rattle.dvg_io.specs.Faults.{ComesBeforeText};
 ghost use Rattle.dvg_io.specs.Serving.{Answers, AreFresh, IsFinding, OfInput, Serves};
 ghost use Rattle.dvg_io.specs.Watching.{Writes};
 
@@ -60,7 +60,7 @@ pub fn serve<E: Engine<A>, A: Allocator + Copy, R: Read, W: Write>(
     writer: &mut Watched<W>,
 ) -> Result<E::Found, ToolFault>
     requires fresh { AreFresh reader.old writer.old }
-    ensures { Serves R.remaining W.contents (E.MOST + 1) StopsBeforeWriting
+    ensures { Serves R.remaining W.contents (E.MOST + 1) ComesBeforeText
         (Answers (E.Finds engine.now) (E.HasFault engine.now) (E.text engine.now))
         result reader.old reader.new writer.old writer.new }
 {

@@ -1,7 +1,7 @@
 //! The engine `picture`.
 ghost use Rattle.std.specs.Prelude.{IfErr, IfOk};
 ghost use Rattle.dvg_dump.specs.Endings.{end_of};
-ghost use Rattle.dvg_io.specs.Faults.{StopsBeforeWriting};
+ghost use Rattle.dvg_io.specs.Faults.{ComesBeforeText};
 ghost use Rattle.dvg_io.specs.Serving.{AreFresh, Serves};
 ghost use Rattle.dvg_picture.specs.Pictures.{HasDumpFault, IsDumpFault, IsRunOf, Pictures};
 ghost use Rattle.dvg_picture.specs.Texts.{run_text};
@@ -89,7 +89,7 @@ pub fn picture<A: Allocator + Copy, R: Read, W: Write>(
     all: bool,
 ) -> Result<Outcome, ToolFault>
     requires fresh { AreFresh reader.old writer.old }
-    ensures { Serves R.remaining W.contents 6145 StopsBeforeWriting (Pictures all)
+    ensures { Serves R.remaining W.contents 6145 ComesBeforeText (Pictures all)
         result reader.old reader.new writer.old writer.new }
 {
     let run = serve(&PictureEngine { all }, alloc, reader, writer)?;

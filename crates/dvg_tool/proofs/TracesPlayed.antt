@@ -17,7 +17,7 @@ use Rattle.dvg_text.specs.TraceTexts.{HasTraceFault, TraceMeetsSyntax, TraceMeet
 use Rattle.dvg_io.specs.declared.fault.ToolFault.{ToolFault}
 use Rattle.dvg_io.specs.declared.fault.ToolFault.TheVariants.{Text, Reader, Writer, Memory}
 use Rattle.dvg_io.specs.declared.watched.Watched.{Watched}
-use Rattle.dvg_io.specs.Faults.{StopsBeforeWriting, called}
+use Rattle.dvg_io.specs.Faults.{ComesBeforeText, called}
 use Rattle.dvg_io.specs.Serving.{Answers, IsFinding, OfInput}
 use Rattle.dvg_io.specs.Watching.{BeginsToWrite, device_of}
 use Rattle.dvg_io.proofs.Inputs.{whole}
@@ -100,18 +100,18 @@ broke_off T all (Err stopped) old new input run begun =
 
 -- where it stops
 pub stops : {W : Type 0} (A T : Type 0) (all : Bool) (fault : ToolFault) (contents : W → Option (List ℕ)) (old new : Watched W) (input : List ℕ)
-    → (StopsBeforeWriting fault → new ≡ old)
+    → (ComesBeforeText fault → new ≡ old)
     → Answers (λ input. IsRun {A = A} all input) HasTraceFault (run_shown {A = A} all) (Err fault) input (contents (device_of old)) (contents (device_of new))
     → Plays {T = T} all (Err fault) input (contents (device_of old)) (contents (device_of new))
 stops A T all (Text fault) contents old new input same h = h
 stops A T all Reader contents old new input same h = tt
 stops A T all Memory contents old new input same h =
-    inl (subst (λ writer. Appends (contents (device_of old)) (contents (device_of writer)) []) (sym (same tt)) (Appends-nil (contents (device_of old))))
+    inl (subst (λ writer. Appends (contents (device_of old)) (contents (device_of writer)) []) (sym (same (λ is. cc))) (Appends-nil (contents (device_of old))))
 stops A T all Writer contents old new input same (run, found, begun) = broke_off T all run _ _ input found begun
 
 -- what comes before the first line is shown comes before the first write
-pub earlier : (fault : ToolFault) → StopsBeforeShowing fault → StopsBeforeWriting fault
-earlier (Text fault) early = early
-earlier Reader early = early
-earlier Writer early = early
+pub earlier : (fault : ToolFault) → StopsBeforeShowing fault → ComesBeforeText fault
+earlier (Text fault) early = λ is. cc
+earlier Reader early = λ is. cc
+earlier Writer early = absurd early
 earlier Memory early = absurd early

@@ -1,6 +1,6 @@
 -- What is done for a job.
 use Rattle.std.specs.Prelude.{ℕ, List, Option, Result, Ok, Err, IfSome, false, true}
-use Rattle.dvg_io.specs.Faults.{StopsBeforeWriting}
+use Rattle.dvg_io.specs.Faults.{ComesBeforeText, StopsBeforeWriting}
 use Rattle.dvg_io.specs.Watching.{TakesAtMost}
 use Rattle.dvg_io.specs.declared.fault.ToolFault.{ToolFault}
 use Rattle.dvg_logs.specs.Tears.{Takes, Tears}
@@ -35,8 +35,10 @@ Performs _ (Ok _) input old new = ⊥
 
 -- the faults before which a job writes nothing
 abbrev pub StaysUnwritten : Job → ToolFault → Type 0
+StaysUnwritten list_job fault = StopsBeforeWriting fault
 StaysUnwritten (Play all banked) fault = StopsBeforeShowing fault
-StaysUnwritten _ fault = StopsBeforeWriting fault
+StaysUnwritten Torn fault = StopsBeforeWriting fault
+StaysUnwritten _ fault = ComesBeforeText fault
 
 -- what is taken of the input: so many bytes at most, and of a log no more than a piece after the
 -- line that decides

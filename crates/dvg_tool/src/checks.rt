@@ -1,6 +1,6 @@
 //! The engines `check_text` and `check_bound`.
 ghost use Rattle.std.specs.Prelude.{IfErr, IfOk};
-ghost use Rattle.dvg_io.specs.Faults.{StopsBeforeWriting};
+ghost use Rattle.dvg_io.specs.Faults.{ComesBeforeText};
 ghost use Rattle.dvg_io.specs.Serving.{AreFresh, Serves};
 ghost use Rattle.dvg_lines.specs.Verdicts.{bounded_line, verdict_line};
 ghost use Rattle.dvg_text.specs.DraftTexts.{HasDraftFault};
@@ -121,7 +121,7 @@ pub fn check_text<A: Allocator, R: Read, W: Write>(
     writer: &mut Watched<W>,
 ) -> Result<Verdict, ToolFault>
     requires fresh { AreFresh reader.old writer.old }
-    ensures { Serves R.remaining W.contents 1048577 StopsBeforeWriting Checks
+    ensures { Serves R.remaining W.contents 1048577 ComesBeforeText Checks
         result reader.old reader.new writer.old writer.new }
 {
     serve(&CheckEngine, &alloc, reader, writer)
@@ -137,7 +137,7 @@ pub fn check_bound<A: Allocator, R: Read, W: Write>(
     writer: &mut Watched<W>,
 ) -> Result<BoundedVerdict, ToolFault>
     requires fresh { AreFresh reader.old writer.old }
-    ensures { Serves R.remaining W.contents 1048577 StopsBeforeWriting ChecksBound
+    ensures { Serves R.remaining W.contents 1048577 ComesBeforeText ChecksBound
         result reader.old reader.new writer.old writer.new }
 {
     serve(&BoundEngine, &alloc, reader, writer)

@@ -2,7 +2,7 @@
 ghost use Rattle.std.specs.Prelude.{◌≡◌, ◌++◌, IfErr, IfOk};
 ghost use Rattle.dvg_code.specs.Words.{words_of};
 ghost use Rattle.dvg_lines.specs.Lines.{rom_lines};
-ghost use Rattle.dvg_io.specs.Faults.{StopsBeforeWriting};
+ghost use Rattle.dvg_io.specs.Faults.{ComesBeforeText};
 ghost use Rattle.dvg_io.specs.Serving.{AreFresh, Serves};
 ghost use Rattle.dvg_io.specs.Watching.{Writes};
 ghost use Rattle.dvg_tool.specs.Roms.{HasRomFault, HasRomSize, IsRomFault, IsRomOf, WritesRom};
@@ -119,7 +119,7 @@ pub fn rom_text<A: Allocator, R: Read, W: Write>(
     writer: &mut Watched<W>,
 ) -> Result<(), ToolFault>
     requires fresh { AreFresh reader.old writer.old }
-    ensures { Serves R.remaining W.contents 4097 StopsBeforeWriting WritesRom
+    ensures { Serves R.remaining W.contents 4097 ComesBeforeText WritesRom
         result reader.old reader.new writer.old writer.new }
 {
     serve(&RomEngine, &alloc, reader, writer)?;
