@@ -10,3 +10,15 @@ mod NamedSections
 mod RomWritten
 mod RowSizes
 mod WholeTexts
+mod ReadCuts
+mod NamesMore
+mod LaidMore
+mod ReadLimits
+mod ReadMoves
+mod ReadRows
+mod ToldLines
+mod ReadBegins
+mod FewWords
+mod SketchRead
+mod SourcedMore
+mod RomFew

@@ -1,5 +1,5 @@
 -- Which rows give a name.
-use Rattle.std.proofs.Common.{◌≡◌, ◌<◌, ◌≤◌, ◌+◌, ℕ, zero, suc, List, [], ◌∷◌, ◌++◌, length, get_or, take, drop, refl, sym, ap, subst}
+use Rattle.std.proofs.Common.{◌≡◌, ◌<◌, ◌≤◌, ◌+◌, ℕ, suc, List, [], ◌∷◌, ◌++◌, length, get_or, take, drop, refl, sym, ap, subst}
 use Rattle.std.proofs.Common.{◌∙◌, arith, Bool, Option, Some, None, cond, inl, inr, ◌⊎◌}
 use Rattle.std.proofs.lemmas.Bool.{cases_lt}
 use Rattle.std.proofs.lemmas.List.{drop_more, get_or-map, length-append, length-map, length-take-le, map-append, take-append-drop}
@@ -13,7 +13,7 @@ use Rattle.dvg_named.specs.declared.row.Row as held
 use Rattle.dvg_named.specs.HeldRows.{Gives, rows_of}
 use Rattle.dvg_named.specs.NamedFaults.{AreDistinct, names_of}
 use Rattle.dvg_named.specs.Places.{IsNamedAfter, IsNumber, doings}
-use Rattle.dvg_named.specs.RowValues.{doing_of_some, name_of, row_of}
+use Rattle.dvg_named.specs.RowValues.{doing_of_some, row_of}
 use Rattle.dvg_named.specs.Rows.{Doing, Row}
 
 -- a row that gives no name and does nothing

@@ -1,11 +1,9 @@
 -- Which sections of the ROM give a name, and where.
-use Rattle.std.proofs.Common.{◌≡◌, ◌<◌, ◌≤◌, ◌+◌, ℕ, zero, suc, List, [], ◌∷◌, ◌++◌, length, get_or, take, drop, map}
+use Rattle.std.proofs.Common.{◌≡◌, ◌<◌, ◌≤◌, ◌+◌, ℕ, List, [], ◌∷◌, ◌++◌, length, get_or, take, drop, map}
 use Rattle.std.proofs.Common.{refl, sym, ap, subst, ◌∙◌, arith, Option, Some}
-use Rattle.std.proofs.lemmas.Grind.{flat_map-append}
 use Rattle.std.proofs.lemmas.List.{append_assoc, drop_more, get_or_append_left, get_or-map, length-append, map-append}
 use Rattle.std.proofs.lemmas.List.{length-map, take-append-drop}
 use Rattle.std.proofs.lemmas.List.Elements.{filter_map-append}
-use Rattle.std.specs.List.{flat_map}
 use Rattle.dvg_named.specs.declared.laid.LaidRows as held
 use Rattle.dvg_named.specs.HeldRows.{rows_of}
 use Rattle.dvg_named.specs.LaidValues.{AreLow, laid_section, laid_sections, rows_laid}

@@ -13,8 +13,8 @@ use Rattle.dvg_code.specs.declared.instr.Instr.TheVariants.{Vctr, Labs, Halt, Js
 use Rattle.dvg_code.specs.Spelling.{canon, word_count}
 use Rattle.dvg_code.specs.Words.{word_in}
 use Rattle.dvg_frame.specs.declared.op.OpKind.TheVariants as kinds
-use Rattle.dvg_text.specs.RomTexts.{IsRomOf, RomLine, RomText, first_told}
-use Rattle.dvg_text.proofs.GivenWords.{PutTo, all_put}
+use Rattle.dvg_text.specs.RomTexts.{IsRomOf, RomText, first_told}
+use Rattle.dvg_text.proofs.GivenWords.{all_put}
 use Rattle.dvg_text.proofs.HeldRom.{all_fit, words_held}
 use Rattle.dvg_text.proofs.Zips.{zip_push}
 use Rattle.dvg_named.specs.declared.laid.LaidRows as held_laid
@@ -24,7 +24,7 @@ use Rattle.dvg_named.specs.HeldRows.{rows_of}
 use Rattle.dvg_named.specs.LaidValues.{laid_section, laid_sections}
 use Rattle.dvg_named.specs.Meanings.{IsEncoded, IsGiven}
 use Rattle.dvg_named.specs.NamedFaults.{IsUngiven}
-use Rattle.dvg_named.specs.Places.{Laid, doings, laid_end, size, words_taken}
+use Rattle.dvg_named.specs.Places.{Laid, doings, size, words_taken}
 use Rattle.dvg_named.specs.RomBytes.{ArePut, IsPut, MayStandInRom, TellsSections}
 use Rattle.dvg_named.specs.RowValues.{doing_of, doing_of_some, row_of}
 use Rattle.dvg_named.specs.Rows.{Doing, Row, plainly, calls, jumps, calls_rom, jumps_rom, rom}

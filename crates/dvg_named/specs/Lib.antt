@@ -11,5 +11,14 @@ pub mod SketchLaws
 pub mod HeldRows
 pub mod LaidValues
 pub mod RomBytes
+pub mod ToldRoms
+pub mod GivenNames
+pub mod RomAreas
+pub mod ReadParts
+pub mod RomParts
+pub mod RowMoves
+pub mod SketchReading
+pub mod SourcedRows
+pub mod TextReading
 pub mod Examples
 pub mod TextExamples

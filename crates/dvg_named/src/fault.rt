@@ -26,3 +26,14 @@ pub enum NamedFault {
     #[error("unknown name at line {0}")]
     Unknown(usize),
 }
+
+/// Why a sketch is not read.
+#[derive(Clone, Copy, Debug, PartialEq, Eq, Error)]
+pub enum SketchFault {
+    /// The text has a fault.
+    #[error(transparent)]
+    Text(NamedFault),
+    /// A growth was refused.
+    #[error("out of memory")]
+    Memory,
+}

@@ -22,7 +22,7 @@ use dvg_code::{Code, Instr, encode};
 use dvg_frame::OpKind;
 
 /// The word address after the ROM's last word.
-const ROM_END: usize = 0xC00;
+pub(crate) const ROM_END: usize = 0xC00;
 
 /// A row of a section of the ROM, by the numbers of both, counted from 0.
 #[derive(Clone, Copy, Debug, PartialEq, Eq)]

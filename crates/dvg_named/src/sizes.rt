@@ -23,8 +23,8 @@ pub fn size(rows: &[Row]) -> usize
     words
 }
 
-// How many words one row takes.
-fn words_of_row(row: &Row) -> usize
+/// How many words one row takes.
+pub(crate) fn words_of_row(row: &Row) -> usize
     ensures { result ≡ words_of_rows (row_of row.now ∷ []) }
 {
     match &row.doing {

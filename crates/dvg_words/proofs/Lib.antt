@@ -1,4 +1,3 @@
 mod Jobs
 mod Parts
-mod Refused
 mod Written

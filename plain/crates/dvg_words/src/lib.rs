@@ -1,9 +1,9 @@
-//! The words of the program `dvg`: its subcommands and options, their help texts, and what the words
-//! ask for.
+//! The words of the program `dvg`: its subcommands and options, their help texts, and what the
+//! words ask for.
 //!
-//! The words are read by `clap`, with a command that `specs/Words.antt` shows whole. A job is answered
-//! only where clap's own matching gives it, and an error only of a kind that the words can come to; help
-//! that was asked for is such an error, too.
+//! The words are read by `clap`, with a command that `specs/Words.antt` shows whole. A job is
+//! answered only where clap's own matching gives it, and an error only of a kind that the words can
+//! come to; help that was asked for is such an error, too.
 #![no_std]
 
 extern crate plain_std as std;

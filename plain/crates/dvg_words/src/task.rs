@@ -6,11 +6,13 @@ pub enum Job {
     List,
     /// Write a ROM as text.
     Rom,
-    /// Show what a dump of the memory draws, with every instruction that is run or the picture alone.
+    /// Show what a dump of the memory draws, with every instruction that is run or the picture
+    /// alone.
     Picture { all: bool },
     /// Check the draft of a text, and tell the bound of a good one or leave it out.
     Check { bound: bool },
-    /// Play a trace, with every entry or its pictures alone, over a RAM that is kept in banks or in one array.
+    /// Play a trace, with every entry or its pictures alone, over a RAM that is kept in banks or in
+    /// one array.
     Play { all: bool, banked: bool },
     /// Say whether a log tears a picture.
     Torn,

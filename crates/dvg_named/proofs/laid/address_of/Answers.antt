@@ -1,4 +1,4 @@
-use Rattle.std.proofs.Common.{◌≡◌, ◌≤◌, ◌+◌, ◌∙◌, ap, arith, below_more, drop, length, subst, take, Some}
+use Rattle.std.proofs.Common.{◌≤◌, ◌+◌, ◌∙◌, ap, arith, below_more, drop, length, subst, take, Some}
 use Rattle.std.proofs.lemmas.List.{get_or_default}
 use Rattle.dvg_named.specs.declared.laid.LaidRows as held
 use Rattle.dvg_named.specs.HeldRows.{rows_of}

@@ -1,4 +1,4 @@
-use Rattle.std.proofs.Common.{◌≡◌, ◌∙◌, max, rules, sym, ap, arith}
+use Rattle.std.proofs.Common.{◌≡◌, max, rules, arith}
 use Rattle.dvg_named.proofs.LaidOrder.{free_more}
 use Rattle.dvg_named.proofs.laid.free_with.Goals as goal
 

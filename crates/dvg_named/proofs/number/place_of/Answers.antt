@@ -1,7 +1,7 @@
-use Rattle.std.proofs.Common.{◌≡◌, ◌≤◌, ◌+◌, arith, drop, length, subst}
+use Rattle.std.proofs.Common.{◌≤◌, ◌+◌, arith, drop, length}
 use Rattle.dvg_named.specs.HeldRows.{rows_of}
 use Rattle.dvg_named.specs.RowValues.{row_of}
-use Rattle.dvg_named.proofs.NamedRows.{NoneGives, cut_at, none_at_all, none_before}
+use Rattle.dvg_named.proofs.NamedRows.{cut_at, none_at_all, none_before}
 use Rattle.dvg_named.proofs.number.place_of.Goals as goal
 
 pub returns-then-gives-clause-found : goal.returns-then-gives-clause-found

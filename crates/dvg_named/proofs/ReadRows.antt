@@ -1,0 +1,203 @@
+-- A row or a section more, in what the reader of a sketch holds.
+use Rattle.std.proofs.Common.{◌≡◌, ℕ, List, [], ◌∷◌, ◌++◌, sym, ap, subst, ◌∙◌, Option, None, Result, Ok, Err, OnOk}
+use Rattle.std.proofs.lemmas.List.{map-append}
+use Rattle.std.specs.Option.{option_to_list}
+use Rattle.dvg_text.specs.LineParts.{bytes_of}
+use Rattle.dvg_text.specs.RomTexts.{RomText}
+use Rattle.dvg_text.specs.Texts.{parts}
+use Rattle.dvg_named.specs.declared.given_names.GivenNames.{GivenNames}
+use Rattle.dvg_named.specs.declared.line_fault.LineFault.{LineFault}
+use Rattle.dvg_named.specs.declared.line_fault.LineFault.TheVariants.{Full, Memory, OutOfRom, Overlap, Syntax, Twice}
+use Rattle.dvg_named.specs.declared.part.Part.{Part}
+use Rattle.dvg_named.specs.declared.reading.Reading.{Reading}
+use Rattle.dvg_named.specs.declared.rom_area.RomArea.{RomArea}
+use Rattle.dvg_named.specs.declared.row.Row as held_row
+use Rattle.dvg_named.specs.GivenNames.{IsAgain, IsFresh, StopsNames}
+use Rattle.dvg_named.specs.HeldRows.{rows_of}
+use Rattle.dvg_named.specs.NamedFaults.{DraftsFit, GivesOnce, LieApart, RomFits}
+use Rattle.dvg_named.specs.Places.{size}
+use Rattle.dvg_named.specs.ReadParts.{sketch_of}
+use Rattle.dvg_named.specs.RomAreas.{StopsArea, Takes}
+use Rattle.dvg_named.specs.RowMoves.{IsCounted, IsFrameHead, IsFull, IsRomHead}
+use Rattle.dvg_named.specs.Rows.{Head, IsRowLine, Row, frame, rom, top}
+use Rattle.dvg_named.specs.RowValues.{row_of}
+use Rattle.dvg_named.specs.Sections.{MayStand, Spelled}
+use Rattle.dvg_named.specs.SketchReading.{Breaks, Keeps, Reads, ReadsMore, StopsSketch, closed_in, head_in, section_in, spelled_in}
+use Rattle.dvg_named.specs.SketchSteps.{Goes, with_row}
+use Rattle.dvg_named.proofs.OneSketch.{head_is_no_row, one_row, tells_no_row}
+use Rattle.dvg_named.proofs.ReadCuts.{goes_row, nothing_goes}
+use Rattle.dvg_named.proofs.ReadMoves.{frame_full, frame_row, frame_twice, rom_out_of, rom_overlaps, rom_row, rom_twice}
+
+pub on_ok : {A E : Type 0} (r : Result A E) {P Q : Type 0} → OnOk r P → (P → Q) → OnOk r Q
+on_ok (Ok x) h f = f h
+on_ok (Err e) h f = h
+
+-- ---- a row
+
+-- a section with a row more
+pub section_pushed : {A : Type 0} (old new : Part A) (row : held_row.Row) → new.head ≡ old.head
+    → new.rows.items ≡ old.rows.items ++ row ∷ [] → section_in new ≡ with_row (section_in old) (row_of row)
+section_pushed old new row same pushed =
+    let rows : rows_of new.rows.items ≡ rows_of old.rows.items ++ row_of row ∷ [] =
+    ap rows_of pushed ∙ map-append row_of old.rows.items (row ∷ []) in
+    let head : head_in new.head ≡ head_in old.head = ap head_in same in
+    cc
+
+-- why a name stops a line
+pub names_stop : (fault : LineFault) (names : List (List ℕ)) (name : Option (List ℕ)) (sketch : Spelled) (line : List ℕ)
+    → StopsNames names name fault → (IsAgain names name → Breaks (λ now. ¬ GivesOnce now) sketch line)
+    → StopsSketch fault sketch line
+names_stop Twice names name sketch line h again = again h
+names_stop Memory names name sketch line h again = tt
+names_stop Syntax names name sketch line h again = absurd h
+names_stop Full names name sketch line h again = absurd h
+names_stop OutOfRom names name sketch line h again = absurd h
+names_stop Overlap names name sketch line h again = absurd h
+
+frame_may : (head : Head) (row : Row) → IsFrameHead head → MayStand head row
+frame_may top row h = tt
+frame_may (frame name) row h = tt
+frame_may (rom address) row h = absurd h
+
+module _ {A : Type 0} (old : Reading A) (row : held_row.Row) (told : RomText) (line : List ℕ) (reads : Reads told old)
+    (spelled : IsRowLine (row_of row) line) where
+  pub frame_added : (last : Part A) (names : GivenNames A) (count : ℕ) → IsFrameHead (head_in old.last.head)
+      → section_in last ≡ with_row (section_in old.last) (row_of row)
+      → bytes_of names.given.items ≡ bytes_of old.names.given.items ++ option_to_list (row_of row).name
+      → IsFresh (bytes_of old.names.given.items) (row_of row).name → IsCounted old.count (row_of row).doing count
+      → ReadsMore told old line (record old { last = last; names = names; count = count })
+  frame_added last names count head pushed given fresh counted =
+      let closed = closed_in old in
+      let kept = frame_row told closed (rows_of old.last.rows.items) (row_of row) (bytes_of old.frame_names.given.items)
+      (bytes_of old.rom_names.given.items) (bytes_of old.names.given.items) old.count old.area (head_in old.last.head) head
+      reads.keeps fresh count counted in
+      record {
+        now = told;
+        goes = subst (λ s. Goes (spelled_in told old) line (sketch_of told closed s)) (sym pushed)
+            (goes_row told closed (section_in old.last) (row_of row) line (frame_may (head_in old.last.head) (row_of row) head) spelled);
+        reads = record {
+          rom = reads.rom;
+          keeps =
+              subst (λ s. Keeps told closed s (bytes_of old.frame_names.given.items) (bytes_of old.rom_names.given.items) (bytes_of names.given.items) count old.area)
+              (sym pushed)
+              (subst (λ l. Keeps told closed (with_row (section_in old.last) (row_of row)) (bytes_of old.frame_names.given.items) (bytes_of old.rom_names.given.items) l count old.area)
+              (sym given) kept);
+        };
+      }
+
+  pub frame_given : (fault : LineFault) → IsFrameHead (head_in old.last.head)
+      → StopsNames (bytes_of old.names.given.items) (row_of row).name fault → StopsSketch fault (spelled_in told old) line
+  frame_given fault head stops =
+      names_stop fault (bytes_of old.names.given.items) (row_of row).name (spelled_in told old) line stops
+      (λ again. frame_twice told (closed_in old) (rows_of old.last.rows.items) (row_of row)
+      (bytes_of old.frame_names.given.items) (bytes_of old.rom_names.given.items) (bytes_of old.names.given.items) old.count
+      old.area (head_in old.last.head) head reads.keeps again line spelled)
+
+  pub frame_filled : IsFrameHead (head_in old.last.head) → IsFresh (bytes_of old.names.given.items) (row_of row).name
+      → IsFull old.count (row_of row).doing
+      → Breaks (λ now. GivesOnce now × (¬ DraftsFit now)) (spelled_in told old) line
+  frame_filled head fresh full =
+      frame_full told (closed_in old) (rows_of old.last.rows.items) (row_of row) (bytes_of old.frame_names.given.items)
+      (bytes_of old.rom_names.given.items) (bytes_of old.names.given.items) old.count old.area (head_in old.last.head) head
+      reads.keeps fresh line spelled full
+
+  -- ---- a row of the ROM
+
+  pub rom_added : (head : Head) → head ≡ head_in old.last.head → IsRomHead head → MayStand (rom None) (row_of row)
+      → (last : Part A) (names : GivenNames A) (area : RomArea)
+      → section_in last ≡ with_row (section_in old.last) (row_of row)
+      → bytes_of names.given.items ≡ bytes_of old.rom_names.given.items ++ option_to_list (row_of row).name
+      → IsFresh (bytes_of old.rom_names.given.items) (row_of row).name → Takes (size (row_of row ∷ [])) old.area area
+      → ReadsMore told old line (record old { last = last; rom_names = names; area = area })
+  rom_added top e head may last names area pushed given fresh takes = absurd head
+  rom_added (frame name) e head may last names area pushed given fresh takes = absurd head
+  rom_added (rom address) e head may last names area pushed given fresh takes =
+      let closed = closed_in old in
+      let rows = rows_of old.last.rows.items in
+      let kept = rom_row told closed address rows (row_of row) (bytes_of old.frame_names.given.items)
+      (bytes_of old.rom_names.given.items) (bytes_of old.names.given.items) old.count old.area
+      (subst (λ head. Keeps told closed (record { head = head; rows = rows }) (bytes_of old.frame_names.given.items) (bytes_of old.rom_names.given.items) (bytes_of old.names.given.items) old.count old.area) (sym e) reads.keeps)
+      may fresh area takes in
+      let is : section_in last ≡ record { head = rom address; rows = rows ++ row_of row ∷ [] } =
+      pushed ∙ ap (λ head. with_row (record { head = head; rows = rows }) (row_of row)) (sym e) in
+      record {
+        now = told;
+        goes = subst (λ s. Goes (spelled_in told old) line (sketch_of told closed s)) (sym pushed)
+            (goes_row told closed (section_in old.last) (row_of row) line (subst (λ head. MayStand head (row_of row)) e may) spelled);
+        reads = record {
+          rom = reads.rom;
+          keeps =
+              subst (λ s. Keeps told closed s (bytes_of old.frame_names.given.items) (bytes_of names.given.items) (bytes_of old.names.given.items) old.count area)
+              (sym is)
+              (subst (λ l. Keeps told closed (record { head = rom address; rows = rows ++ row_of row ∷ [] }) (bytes_of old.frame_names.given.items) l (bytes_of old.names.given.items) old.count area)
+              (sym given) kept);
+        };
+      }
+
+  module _ (address : Option ℕ) (e : rom address ≡ head_in old.last.head) (may : MayStand (rom None) (row_of row)) where
+    abbrev rows : List Row
+    rows = rows_of old.last.rows.items
+
+    keeps : Keeps told (closed_in old) (record { head = rom address; rows = rows }) (bytes_of old.frame_names.given.items)
+        (bytes_of old.rom_names.given.items) (bytes_of old.names.given.items) old.count old.area
+    keeps =
+        subst (λ head. Keeps told (closed_in old) (record { head = head; rows = rows }) (bytes_of old.frame_names.given.items) (bytes_of old.rom_names.given.items) (bytes_of old.names.given.items) old.count old.area)
+        (sym e) reads.keeps
+
+    abbrev as_rom : Spelled
+    as_rom = sketch_of told (closed_in old) (record { head = rom address; rows = rows })
+
+    is_as : as_rom ≡ spelled_in told old
+    is_as = ap (λ head. sketch_of told (closed_in old) (record { head = head; rows = rows })) e
+
+    given_by : (fault : LineFault) → StopsNames (bytes_of old.rom_names.given.items) (row_of row).name fault
+        → StopsSketch fault (spelled_in told old) line
+    given_by fault stops =
+        names_stop fault (bytes_of old.rom_names.given.items) (row_of row).name (spelled_in told old) line stops
+        (λ again. subst (λ s. Breaks (λ now. ¬ GivesOnce now) s line) is_as
+        (rom_twice told (closed_in old) address rows (row_of row) (bytes_of old.frame_names.given.items)
+        (bytes_of old.rom_names.given.items) (bytes_of old.names.given.items) old.count old.area keeps may line spelled again))
+
+    area_by : (fault : LineFault) → IsFresh (bytes_of old.rom_names.given.items) (row_of row).name
+        → StopsArea (size (row_of row ∷ [])) old.area fault → StopsSketch fault (spelled_in told old) line
+    area_by OutOfRom fresh over =
+        subst (λ s. Breaks (λ now. GivesOnce now × DraftsFit now × (¬ RomFits now)) s line) is_as
+        (rom_out_of told (closed_in old) address rows (row_of row) (bytes_of old.frame_names.given.items)
+        (bytes_of old.rom_names.given.items) (bytes_of old.names.given.items) old.count old.area keeps may fresh line spelled over)
+    area_by Overlap fresh h =
+        subst (λ s. Breaks (λ now. GivesOnce now × DraftsFit now × RomFits now × (¬ LieApart now)) s line) is_as
+        (rom_overlaps told (closed_in old) address rows (row_of row) (bytes_of old.frame_names.given.items)
+        (bytes_of old.rom_names.given.items) (bytes_of old.names.given.items) old.count old.area keeps may fresh h.0 line spelled h.1)
+    area_by Twice fresh h = absurd h
+    area_by Memory fresh h = absurd h
+    area_by Syntax fresh h = absurd h
+    area_by Full fresh h = absurd h
+
+  pub rom_given : (head : Head) → head ≡ head_in old.last.head → IsRomHead head → MayStand (rom None) (row_of row)
+      → (fault : LineFault) → StopsNames (bytes_of old.rom_names.given.items) (row_of row).name fault
+      → StopsSketch fault (spelled_in told old) line
+  rom_given top e head may fault stops = absurd head
+  rom_given (frame name) e head may fault stops = absurd head
+  rom_given (rom address) e head may fault stops = given_by address e may fault stops
+
+  pub rom_stops : (head : Head) → head ≡ head_in old.last.head → IsRomHead head → MayStand (rom None) (row_of row)
+      → (fault : LineFault) → IsFresh (bytes_of old.rom_names.given.items) (row_of row).name
+      → StopsArea (size (row_of row ∷ [])) old.area fault → StopsSketch fault (spelled_in told old) line
+  rom_stops top e head may fault fresh stops = absurd head
+  rom_stops (frame name) e head may fault fresh stops = absurd head
+  rom_stops (rom address) e head may fault fresh stops = area_by address e may fault fresh stops
+
+  may_not : (head : Head) → IsRomHead head → ¬ MayStand (rom None) (row_of row) → ¬ MayStand head (row_of row)
+  may_not top head none = absurd head
+  may_not (frame name) head none = absurd head
+  may_not (rom address) head none = none
+
+  -- a row that may not stand in the ROM
+  pub rom_refused : IsRomHead (head_in old.last.head) → ¬ MayStand (rom None) (row_of row) → (now : Spelled)
+      → ¬ Goes (spelled_in told old) line now
+  rom_refused head none now =
+      nothing_goes told (closed_in old) (section_in old.last) line now reads.keeps.starts
+      (λ bare empty rom tells. tells_no_row tells spelled)
+      (λ head is. head_is_no_row is spelled)
+      (λ other is. subst (λ row. ¬ MayStand (head_in old.last.head) row) (sym (one_row (parts line) spelled is))
+      (may_not (head_in old.last.head) head none))

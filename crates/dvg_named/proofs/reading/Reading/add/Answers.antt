@@ -1,0 +1,28 @@
+use Rattle.std.proofs.Common.{◌≡◌, Bool, true, false, subst}
+use Rattle.dvg_text.specs.LineParts.{bytes_of}
+use Rattle.dvg_text.specs.RomReading.{TellsRom}
+use Rattle.dvg_text.specs.RomTexts.{RomText}
+use Rattle.dvg_named.specs.Rows.{HeadParts, RowParts}
+use Rattle.dvg_named.specs.SketchReading.{IsBare, closed_in, section_in}
+use Rattle.dvg_named.specs.SketchSteps.{line_of}
+use Rattle.dvg_named.proofs.ReadCuts.{nothing_goes}
+use Rattle.dvg_named.proofs.reading.Reading.add.Goals as goal
+use Rattle.dvg_named.proofs.reading.Reading.add.Goals.{else-is_bare-via-then-is_bare+else-tell, else-is_bare-via-else-is_bare}
+
+not_both : (b : Bool) → b ≡ true → b ≡ false → ⊥
+not_both true e f = cc
+not_both false e f = cc
+
+pub returns-in_default-read_row-clause-fault : goal.returns-in_default-read_row-clause-fault
+returns-in_default-read_row-clause-fault g c told reads now =
+    let line = line_of (bytes_of c.args.words.now) in
+    let no_rom : IsBare c.args.self.now → (rom : RomText) → TellsRom told line rom → ⊥ =
+    elim c.else-is_bare.branch [
+      | else-is_bare-via-then-is_bare+else-tell w ↦ λ bare rom. w.tell.ensures.refused w.if-tell.false told rom reads
+      | else-is_bare-via-else-is_bare w ↦ λ bare rom says.
+          not_both c.is_bare.result (c.is_bare.ensures.1 bare) w.if-is_bare.false
+    ] in
+    nothing_goes told (closed_in c.args.self.now) (section_in c.args.self.now.last) line now reads.keeps.starts
+    (λ none empty rom says. no_rom (none, empty) rom says)
+    (λ head is. c.in_default.ensures.only head (subst (HeadParts head) c.requires is))
+    (λ row is. absurd (c.in_default-read_row.ensures.only row (subst (RowParts row) c.requires is)))

@@ -1,0 +1,81 @@
+use Rattle.std.proofs.Common.{◌≡◌, ◌∙◌, ap, sym, subst, arith, rules, refl}
+use Rattle.dvg_text.specs.LineParts.{bytes_of}
+use Rattle.dvg_text.specs.Texts.{lines}
+use Rattle.dvg_text.specs.TextLines.{lines_left}
+use Rattle.dvg_named.specs.TextReading.{StopsText}
+use Rattle.dvg_named.proofs.SketchRead.{are_parts, begins, bounded, goes_by, line_at, many, no_words, passes, plain_is, reads_all, some_words, stops_words}
+use Rattle.dvg_named.proofs.text_reading.read_lines.Goals as goal
+
+pub loop-line-init : goal.loop-line-init
+loop-line-init g c =
+    let start = c.into_iter-line-iterator.result in
+    let all : lines_left start ≡ lines c.args.small.now = search rules in
+    record {
+      next = tt;
+      ends = tt;
+      short = search rules;
+      sourced = c.new-reading.ensures.sources c.args.small.now (c.first_line.ensures.number, c.first_line.ensures.line);
+      read = begins c.args.small.now (lines_left start) c.new-reading.result all c.new-reading.ensures.bare c.new-reading.ensures.reads;
+    }
+
+pub overflow_add-number : goal.overflow_add-number
+overflow_add-number g c =
+    let few = bounded c.args.small.now _ c.loop-line.number c.loop-line.reading c.loop-line.invariant.read c.loop-line.invariant.short in
+    omega (arith, few)
+
+pub returns-in_default-clause-fault : goal.returns-in_default-clause-fault
+returns-in_default-clause-fault g c text is =
+    subst (λ fault. StopsText fault text) (sym c.at_line.ensures)
+    (many c.args.small.now _ _ c.loop-line.number c.loop-line.reading c.in-Some.line.now c.in-Some.ensures.steps c.loop-line.invariant.read
+    c.in_default.ensures.many c.loop-line.invariant.short text is)
+
+pub loop-line-preserved-then-is_empty : goal.loop-line-preserved-then-is_empty
+loop-line-preserved-then-is_empty g c = record {
+  next = tt;
+  ends = tt;
+  short = c.loop-line.invariant.short;
+  sourced = c.loop-line.invariant.sourced;
+  read = passes c.args.small.now _ _ c.loop-line.number c.loop-line.reading c.in-Some.line.now c.in-Some.ensures.steps c.loop-line.invariant.read
+      (no_words c.in-Some-words_of.words.items c.in-Some.line.now c.is_empty.result c.is_empty.ensures c.if-is_empty.true
+      c.in-Some-words_of.ensures.found);
+}
+
+pub add-requires : goal.add-requires
+add-requires g c =
+    are_parts c.args.small.now _ _ c.loop-line.number c.loop-line.reading c.in-Some.line.now c.in-Some.ensures.steps c.loop-line.invariant.read
+    (bytes_of c.as_slice.result.now) (ap bytes_of c.as_slice.ensures.value ∙ c.in-Some-words_of.ensures.found)
+    (some_words c.in-Some-words_of.words.items c.in-Some.line.now c.is_empty.result c.is_empty.ensures c.if-is_empty.false
+    c.in-Some-words_of.ensures.found)
+
+pub returns-in-Err-clause-fault : goal.returns-in-Err-clause-fault
+returns-in-Err-clause-fault g c text is =
+    subst (λ fault. StopsText fault text) (sym c.at_line-in-Err.ensures)
+    (stops_words c.args.small.now _ _ c.loop-line.number c.loop-line.reading c.in-Some.line.now c.in-Some.ensures.steps c.loop-line.invariant.read
+    (bytes_of c.as_slice.result.now) (ap bytes_of c.as_slice.ensures.value ∙ c.in-Some-words_of.ensures.found)
+    (some_words c.in-Some-words_of.words.items c.in-Some.line.now c.is_empty.result c.is_empty.ensures c.if-is_empty.false
+    c.in-Some-words_of.ensures.found)
+    c.in-Err.fault c.in-Err.ensures.fault c.loop-line.invariant.short text is)
+
+pub loop-line-preserved : goal.loop-line-preserved
+loop-line-preserved g c = record {
+  next = tt;
+  ends = tt;
+  short = c.loop-line.invariant.short;
+  sourced = c.in_default-add.ensures.sources c.args.small.now c.loop-line.invariant.sourced
+      (line_at c.args.small.now _ _ c.loop-line.number c.loop-line.reading c.in-Some.line.now c.in-Some.ensures.steps c.loop-line.invariant.read
+      _ refl refl)
+      (plain_is c.args.small.now _ _ c.loop-line.number c.loop-line.reading c.in-Some.line.now c.in-Some.ensures.steps c.loop-line.invariant.read
+      (bytes_of c.as_slice.result.now) (ap bytes_of c.as_slice.ensures.value ∙ c.in-Some-words_of.ensures.found)
+      (some_words c.in-Some-words_of.words.items c.in-Some.line.now c.is_empty.result c.is_empty.ensures c.if-is_empty.false
+      c.in-Some-words_of.ensures.found));
+  read = goes_by c.args.small.now _ _ c.loop-line.number c.loop-line.reading c.in-Some.line.now c.in-Some.ensures.steps c.loop-line.invariant.read
+      (bytes_of c.as_slice.result.now) (ap bytes_of c.as_slice.ensures.value ∙ c.in-Some-words_of.ensures.found)
+      (some_words c.in-Some-words_of.words.items c.in-Some.line.now c.is_empty.result c.is_empty.ensures c.if-is_empty.false
+      c.in-Some-words_of.ensures.found)
+      c.add.new.self c.in_default-add.ensures.added;
+}
+
+pub returns-clause-read : goal.returns-clause-read
+returns-clause-read g c =
+    reads_all c.args.small.now _ c.loop-line.number c.loop-line.reading c.in-None.ensures.steps.0 c.loop-line.invariant.read
+    c.loop-line.invariant.short c.loop-line.invariant.sourced

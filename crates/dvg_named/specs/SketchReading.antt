@@ -1,0 +1,89 @@
+-- What the reader of a sketch holds after some lines, and what one line more makes of it (for private contracts).
+use Rattle.std.specs.Prelude.{◌≡◌, ℕ, List, [], ◌∷◌, ◌++◌, Option, None, Some, map}
+use Rattle.dvg_text.specs.LineParts.{bytes_of}
+use Rattle.dvg_text.specs.RomTexts.{RomText}
+use Rattle.dvg_named.specs.declared.line_fault.LineFault.{LineFault}
+use Rattle.dvg_named.specs.declared.line_fault.LineFault.TheVariants.{Full, Memory, OutOfRom, Overlap, Syntax, Twice}
+use Rattle.dvg_named.specs.declared.rom_area.RomArea.{RomArea}
+use Rattle.dvg_named.specs.declared.part.Part.{Part}
+use Rattle.dvg_named.specs.declared.reading.Reading.{Reading}
+use Rattle.dvg_named.specs.declared.row.Head as held_head
+use Rattle.dvg_named.specs.HeldRows.{rows_of}
+use Rattle.dvg_named.specs.NamedFaults.{DraftsFit, GivesOnce, KeepsLimits, LieApart, RomFits}
+use Rattle.dvg_named.specs.ReadParts.{KeepsArea, KeepsFrame, KeepsNext, StartsAtTop, frame_names, rom_names, sketch_of}
+use Rattle.dvg_named.specs.RowValues.{head_of}
+use Rattle.dvg_named.specs.Rows.{Head, top}
+use Rattle.dvg_named.specs.Sections.{Section, Spelled, rom_sections}
+use Rattle.dvg_named.specs.SketchSteps.{Goes, begun}
+use Rattle.dvg_named.specs.ToldRoms.{HoldsTold}
+
+-- how a section begins: that at the top has no line that begins it
+abbrev pub head_in : Option held_head.Head → Head
+head_in None = top
+head_in (Some head) = head_of head
+
+-- a section
+abbrev pub section_in : {A : Type 0} → Part A → Section
+section_in part = record { head = head_in part.head; rows = rows_of part.rows.items }
+
+-- a sketch within the limits, cut so, and what is kept of it
+pub record Keeps (told : RomText) (closed : List Section) (last : Section) (of_frames of_rom names : List (List ℕ))
+    (count : ℕ) (held : RomArea) : Type 0 where
+  pub starts : StartsAtTop closed last
+  pub limits : KeepsLimits (sketch_of told closed last)
+  pub frames : of_frames ≡ frame_names (sketch_of told closed last)
+  pub roms : of_rom ≡ rom_names (sketch_of told closed last)
+  pub frame : KeepsFrame last.head last.rows names count
+  pub next : KeepsNext told closed last.head last.rows held.next
+  pub area : KeepsArea told (rom_sections (sketch_of told closed last)) held
+
+-- the sections before the last one
+abbrev pub closed_in : {A : Type 0} → Reading A → List Section
+closed_in reading = map section_in reading.closed.items
+
+-- what the lines spell that were read, after lines that tell this of the ROM
+abbrev pub spelled_in : {A : Type 0} → RomText → Reading A → Spelled
+spelled_in told reading = sketch_of told (closed_in reading) (section_in reading.last)
+
+-- the reader holds what lines spell, within the limits
+pub record Reads {A : Type 0} (told : RomText) (reading : Reading A) : Type 0 where
+  pub rom : HoldsTold told reading.rom
+  pub keeps : Keeps told (closed_in reading) (section_in reading.last) (bytes_of reading.frame_names.given.items)
+      (bytes_of reading.rom_names.given.items) (bytes_of reading.names.given.items) reading.count reading.area
+
+-- a line more was read: what is spelled goes on, within the limits
+pub record ReadsMore {A : Type 0} (told : RomText) (old : Reading A) (line : List ℕ) (new : Reading A) : Type 0 where
+  pub now : RomText
+  pub goes : Goes (spelled_in told old) line (spelled_in now new)
+  pub reads : Reads now new
+
+-- with the line more a sketch is spelled that breaks a limit in this way
+pub record Breaks (limit : Spelled → Type 0) (sketch : Spelled) (line : List ℕ) : Type 0 where
+  pub now : Spelled
+  pub goes : Goes sketch line now
+  pub breaks : limit now
+
+-- why a line more isn't taken
+abbrev pub StopsSketch : LineFault → Spelled → List ℕ → Type 0
+StopsSketch Syntax sketch line = (now : Spelled) → ¬ Goes sketch line now
+StopsSketch Twice sketch line = Breaks (λ now. ¬ GivesOnce now) sketch line
+StopsSketch Full sketch line = Breaks (λ now. GivesOnce now × (¬ DraftsFit now)) sketch line
+StopsSketch OutOfRom sketch line = Breaks (λ now. GivesOnce now × DraftsFit now × (¬ RomFits now)) sketch line
+StopsSketch Overlap sketch line =
+    Breaks (λ now. GivesOnce now × DraftsFit now × RomFits now × (¬ LieApart now)) sketch line
+StopsSketch Memory sketch line = Unit {0}
+
+-- no row was read, and no section begun
+abbrev pub IsBare : {A : Type 0} → Reading A → Type 0
+IsBare reading = (closed_in reading ≡ []) × ((section_in reading.last).rows ≡ [])
+
+-- the last section is closed, and another one begins
+pub record Opens {A : Type 0} (old : Reading A) (head : Head) (new : Reading A) : Type 0 where
+  pub rom : new.rom ≡ old.rom
+  pub closed : closed_in new ≡ closed_in old ++ section_in old.last ∷ []
+  pub opened : section_in new.last ≡ begun head
+  pub frame_names : new.frame_names ≡ old.frame_names
+  pub rom_names : new.rom_names ≡ old.rom_names
+  pub names : bytes_of new.names.given.items ≡ []
+  pub count : new.count ≡ 0
+  pub area : new.area ≡ old.area

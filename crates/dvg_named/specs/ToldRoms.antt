@@ -1,0 +1,22 @@
+-- What the reader of a sketch holds of its ROM (for private contracts).
+use Rattle.std.specs.Prelude.{◌≡◌, ℕ, List}
+use Rattle.dvg_text.specs.declared.rom_text.RomReading as held_text
+use Rattle.dvg_text.specs.RomReading.{HoldsRom, TellsRom}
+use Rattle.dvg_text.specs.RomTexts.{RomText, first_told}
+use Rattle.dvg_named.specs.declared.told_rom.ToldRom.{ToldRom}
+use Rattle.dvg_named.specs.Places.{free_after}
+
+-- the same, as the reader of drafts holds it
+abbrev pub as_drafted : ToldRom → held_text.RomReading
+as_drafted held = record { is_told = held.is_told; bytes = held.bytes }
+
+-- the reader holds the ROM that was told, and the first free word
+pub record HoldsTold (rom : RomText) (held : ToldRom) : Type 0 where
+  pub holds : HoldsRom rom (as_drafted held)
+  pub free : held.free ≡ free_after (first_told rom.map) rom.given
+
+-- a line more was read that tells something
+pub record TellsTold (rom : RomText) (line : List ℕ) (held : ToldRom) : Type 0 where
+  pub now : RomText
+  pub tells : TellsRom rom line now
+  pub holds : HoldsTold now held

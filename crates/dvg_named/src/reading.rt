@@ -1,0 +1,318 @@
+//! What the lines of a sketch spell that were read.
+ghost use Rattle.std.specs.Prelude.{◌↔◌, IfNone, IfSome, IsTrue};
+ghost use Rattle.dvg_named.specs.RowMoves.{IsCounted, IsFull};
+ghost use Rattle.dvg_named.specs.RomBytes.{MayBeEncoded};
+ghost use Rattle.dvg_named.specs.RowValues.{doing_of, row_of};
+ghost use Rattle.dvg_named.specs.Rows.{plainly, rom};
+ghost use Rattle.dvg_named.specs.Sections.{MayStand};
+
+use crate::given_names::GivenNames;
+use crate::laid::{LaidRows, lay};
+use crate::line_fault::LineFault;
+use crate::meaning::Source;
+use crate::part::Part;
+use crate::rom_area::RomArea;
+use crate::rom_sections::rom_rows;
+use crate::row::{Doing, Head, Row, read_head, read_row};
+use crate::sizes::words_of_row;
+use crate::told_rom::ToldRom;
+use dvg_code::OutOfMemory;
+use dvg_frame::OpKind;
+use std::alloc::Allocator;
+use std::mem;
+
+/// The most operations of a frame, as of a draft.
+const MAX_OPS: usize = 511;
+
+/// What the lines spell that were read. After a fault it is read no further.
+#[derive(Drop)]
+pub(crate) struct Reading<'a, A: Allocator + Copy> {
+    alloc: A,
+    rom: ToldRom,
+    // The sections before the last one.
+    closed: Vec<Part<'a, A>, A>,
+    // The last section.
+    last: Part<'a, A>,
+    frame_names: GivenNames<'a, A>,
+    rom_names: GivenNames<'a, A>,
+    // The names and the number of operations of the last section, where it is a frame.
+    names: GivenNames<'a, A>,
+    count: usize,
+    area: RomArea,
+}
+
+impl<'a, A: Allocator + Copy> Reading<'a, A> {
+    ghost use Rattle.std.specs.Prelude.{◌≡◌, ◌++◌, ◌∷◌, [], ◌↔◌, ℕ, List, IfErr, IfOk, IsTrue, IsFalse, OnOk};
+    ghost use Rattle.dvg_text.specs.LineParts.{bytes_of};
+    ghost use Rattle.dvg_text.specs.RomReading.{untold};
+    ghost use Rattle.dvg_text.specs.RomTexts.{RomText};
+    ghost use Rattle.dvg_text.specs.RomReading.{TellsRom};
+    ghost use Rattle.dvg_named.specs.RowValues.{head_of, name_of, row_of};
+    ghost use Rattle.dvg_named.specs.Rows.{IsHeadLine, IsRowLine, frame, rom};
+    ghost use Rattle.dvg_named.specs.RowMoves.{IsFrameHead, IsRomHead};
+    ghost use Rattle.dvg_named.specs.SketchReading.{IsBare, Opens, Reads, ReadsMore, StopsSketch, head_in, spelled_in};
+    ghost use Rattle.dvg_named.specs.LaidValues.{laid_sections};
+    ghost use Rattle.dvg_named.specs.NamedFaults.{laid_of};
+    ghost use Rattle.dvg_named.specs.PlainLines.{plain};
+    ghost use Rattle.dvg_named.specs.TextReading.{ReadsText};
+    ghost use Rattle.dvg_named.specs.SketchSteps.{AreParts, line_of};
+    ghost use Rattle.dvg_named.specs.SourcedRows.{AreSourced, BeginsIn, IsHeadAt, IsLineAt, IsRowAt};
+
+    /// Before the first line, which is this one.
+    pub fn new(alloc: A, first: Source<'a>) -> Reading<'a, A>
+        ensures reads { Reads untold result }
+        ensures bare { IsBare result }
+        ensures sources { (small : List ℕ) → BeginsIn small None first.entry
+            → AreSourced small result }
+    {
+        Reading {
+            alloc,
+            rom: ToldRom::new(),
+            closed: Vec::new(alloc),
+            last: Part::new(alloc, None, first),
+            frame_names: GivenNames::new(alloc),
+            rom_names: GivenNames::new(alloc),
+            names: GivenNames::new(alloc),
+            count: 0,
+            area: RomArea::new(),
+        }
+    }
+
+    /// Reads a line of these words.
+    pub fn add(&mut self, source: Source<'a>, words: &[&'a [u8]]) -> Result<(), LineFault>
+        requires { AreParts (bytes_of words.now) }
+        ensures added { OnOk result ((told : RomText) → Reads told self.old
+            → ReadsMore told self.old (line_of (bytes_of words.now)) self.new) }
+        ensures fault { IfErr result (λ fault. (told : RomText) → Reads told self.old
+            → StopsSketch fault (spelled_in told self.old) (line_of (bytes_of words.now))) }
+        ensures sources { OnOk result ((small : List ℕ) → AreSourced small self.old
+            → IsLineAt small source.entry
+            → plain source.entry.line.now ≡ line_of (bytes_of words.now)
+            → AreSourced small self.new) }
+    {
+        if self.is_bare() && self.tell(words) {
+            return Ok(());
+        }
+        if let Some(head) = read_head(words) {
+            return self.begin_section(head, source);
+        }
+        let Some(row) = read_row(words) else {
+            return Err(LineFault::Syntax);
+        };
+        self.add_row(&row, source)
+    }
+
+    // Whether no line has told a row and no section has begun.
+    fn is_bare(&self) -> bool
+        ensures { IsTrue result ↔ IsBare self.now }
+    {
+        self.closed.is_empty() && self.last.rows.is_empty()
+    }
+
+    // Reads a line of these words that tells of the ROM. Whether it does.
+    fn tell(&mut self, words: &[&[u8]]) -> bool
+        requires { AreParts (bytes_of words.now) }
+        ensures told { IsTrue result → IsBare self.old → (told : RomText) → Reads told self.old
+            → ReadsMore told self.old (line_of (bytes_of words.now)) self.new }
+        ensures refused { IsFalse result → (told now : RomText) → Reads told self.old
+            → ¬ TellsRom told (line_of (bytes_of words.now)) now }
+        ensures kept { IsFalse result → self.new ≡ self.old }
+        ensures sources { IsTrue result → (small : List ℕ) → AreSourced small self.old
+            → AreSourced small self.new }
+    {
+        if !self.rom.take(words) {
+            return false;
+        }
+        self.area.set_free(self.rom.free());
+        true
+    }
+
+    // Begins a section.
+    fn begin_section(&mut self, head: Head<'a>, source: Source<'a>) -> Result<(), LineFault>
+        ensures added { OnOk result ((told : RomText) (line : List ℕ) → Reads told self.old
+            → IsHeadLine (head_of head.entry) line → ReadsMore told self.old line self.new) }
+        ensures fault { IfErr result (λ fault. (told : RomText) (line : List ℕ)
+            → Reads told self.old
+            → IsHeadLine (head_of head.entry) line
+            → StopsSketch fault (spelled_in told self.old) line) }
+        ensures sources { OnOk result ((small : List ℕ) → AreSourced small self.old
+            → IsHeadAt small head.entry source.entry → AreSourced small self.new) }
+    {
+        match head {
+            Head::Frame(name) => self.begin_frame(name, source),
+            Head::Rom(address) => self.begin_rom(address, source),
+        }
+    }
+
+    // Begins a frame.
+    fn begin_frame(&mut self, name: Option<&'a [u8]>, source: Source<'a>) -> Result<(), LineFault>
+        ensures added { OnOk result ((told : RomText) (line : List ℕ) → Reads told self.old
+            → IsHeadLine (frame (name_of name.entry)) line
+            → ReadsMore told self.old line self.new) }
+        ensures fault { IfErr result (λ fault. (told : RomText) (line : List ℕ)
+            → Reads told self.old
+            → IsHeadLine (frame (name_of name.entry)) line
+            → StopsSketch fault (spelled_in told self.old) line) }
+        ensures sources { OnOk result ((small : List ℕ) → AreSourced small self.old
+            → IsHeadAt small (Head.Frame name.entry) source.entry → AreSourced small self.new) }
+    {
+        if let Err(fault) = self.frame_names.give(name) {
+            return Err(fault);
+        }
+        self.open_part(Head::Frame(name), source)
+    }
+
+    // Begins a section of the ROM.
+    fn begin_rom(&mut self, address: Option<u16>, source: Source<'a>) -> Result<(), LineFault>
+        ensures added { OnOk result ((told : RomText) (line : List ℕ) → Reads told self.old
+            → IsHeadLine (rom address) line → ReadsMore told self.old line self.new) }
+        ensures fault { IfErr result (λ fault. (told : RomText) (line : List ℕ)
+            → Reads told self.old
+            → IsHeadLine (rom address) line
+            → StopsSketch fault (spelled_in told self.old) line) }
+        ensures sources { OnOk result ((small : List ℕ) → AreSourced small self.old
+            → IsHeadAt small (Head.Rom address) source.entry → AreSourced small self.new) }
+    {
+        let first = self.rom.first();
+        if let Err(fault) = self.area.begin(first, address) {
+            return Err(fault);
+        }
+        self.open_part(Head::Rom(address), source)
+    }
+
+    // Closes the last section, and opens another one.
+    fn open_part(&mut self, head: Head<'a>, source: Source<'a>) -> Result<(), LineFault>
+        ensures opened { OnOk result (Opens self.old (head_of head.entry) self.new) }
+        ensures sources { OnOk result ((small : List ℕ) → AreSourced small self.old
+            → IsHeadAt small head.entry source.entry → AreSourced small self.new) }
+        ensures fault { IfErr result (λ fault. fault ≡ LineFault.Memory) }
+    {
+        let part = Part::new(self.alloc, Some(head), source);
+        let closed = mem::replace(&mut self.last, part);
+        if self.closed.push(closed).is_err() {
+            return Err(LineFault::Memory);
+        }
+        self.names.clear();
+        self.count = 0;
+        Ok(())
+    }
+
+    // Adds a row to the last section.
+    fn add_row(&mut self, row: &Row<'a>, source: Source<'a>) -> Result<(), LineFault>
+        ensures added { OnOk result ((told : RomText) (line : List ℕ) → Reads told self.old
+            → IsRowLine (row_of row.now) line → ReadsMore told self.old line self.new) }
+        ensures fault { IfErr result (λ fault. (told : RomText) (line : List ℕ)
+            → Reads told self.old
+            → IsRowLine (row_of row.now) line
+            → StopsSketch fault (spelled_in told self.old) line) }
+        ensures sources { OnOk result ((small : List ℕ) → AreSourced small self.old
+            → IsRowAt small row.now source.entry → AreSourced small self.new) }
+    {
+        match self.last.head {
+            Some(Head::Rom(_)) => self.add_rom_row(row, source),
+            _ => self.add_frame_row(row, source),
+        }
+    }
+
+    // Adds a row to the last section, which is a frame.
+    fn add_frame_row(&mut self, row: &Row<'a>, source: Source<'a>) -> Result<(), LineFault>
+        requires { IsFrameHead (head_in self.old.last.head) }
+        ensures added { OnOk result ((told : RomText) (line : List ℕ) → Reads told self.old
+            → IsRowLine (row_of row.now) line → ReadsMore told self.old line self.new) }
+        ensures fault { IfErr result (λ fault. (told : RomText) (line : List ℕ)
+            → Reads told self.old
+            → IsRowLine (row_of row.now) line
+            → StopsSketch fault (spelled_in told self.old) line) }
+        ensures sources { OnOk result ((small : List ℕ) → AreSourced small self.old
+            → IsRowAt small row.now source.entry → AreSourced small self.new) }
+    {
+        if let Err(fault) = self.names.give(row.name) {
+            return Err(fault);
+        }
+        let Some(count) = counted(self.count, row) else {
+            return Err(LineFault::Full);
+        };
+        self.count = count;
+        self.last.push(row, source)
+    }
+
+    // Adds a row to the last section, which is of the ROM.
+    fn add_rom_row(&mut self, row: &Row<'a>, source: Source<'a>) -> Result<(), LineFault>
+        requires { IsRomHead (head_in self.old.last.head) }
+        ensures added { OnOk result ((told : RomText) (line : List ℕ) → Reads told self.old
+            → IsRowLine (row_of row.now) line → ReadsMore told self.old line self.new) }
+        ensures fault { IfErr result (λ fault. (told : RomText) (line : List ℕ)
+            → Reads told self.old
+            → IsRowLine (row_of row.now) line
+            → StopsSketch fault (spelled_in told self.old) line) }
+        ensures sources { OnOk result ((small : List ℕ) → AreSourced small self.old
+            → IsRowAt small row.now source.entry → AreSourced small self.new) }
+    {
+        if !may_stand_in_rom(row) {
+            return Err(LineFault::Syntax);
+        }
+        if let Err(fault) = self.rom_names.give(row.name) {
+            return Err(fault);
+        }
+        if let Err(fault) = self.area.take(words_of_row(row)) {
+            return Err(fault);
+        }
+        self.last.push(row, source)
+    }
+
+    /// The sections of the ROM as they are laid, after all lines of a text. A growth may be
+    /// refused.
+    pub fn lay(&self) -> Result<Vec<LaidRows<'_>, A>, OutOfMemory>
+        requires { (small : List ℕ) × ReadsText small self.now }
+        ensures { IfOk result (λ laid_rows. (told : RomText) → Reads told self.now
+            → laid_sections laid_rows.items ≡ laid_of (spelled_in told self.now)) }
+    {
+        let sections = rom_rows(self.alloc, self.closed.as_slice(), &self.last)?;
+        lay(
+            self.alloc,
+            usize::from(self.rom.free()),
+            sections.as_slice(),
+        )
+    }
+}
+
+// How many operations a frame of so many has with this row. None where a draft can't hold it.
+fn counted(count: usize, row: &Row) -> Option<usize>
+    ensures counted { IfSome result (IsCounted count (row_of row.now).doing) }
+    ensures full { IfNone result (IsFull count (row_of row.now).doing) }
+{
+    if row.doing.is_none() {
+        return Some(count);
+    }
+    if count >= MAX_OPS {
+        return None;
+    }
+    Some(count + 1)
+}
+
+// Whether a row may stand in the ROM: it neither calls nor jumps by the number of an operation.
+fn may_stand_in_rom(row: &Row) -> bool
+    ensures { IsTrue result ↔ MayStand (rom None) (row_of row.now) }
+{
+    match &row.doing {
+        Some(doing) => may_be_encoded(doing),
+        None => true,
+    }
+}
+
+// Whether what a row does may be done in the ROM.
+fn may_be_encoded(doing: &Doing) -> bool
+    ensures { IsTrue result ↔ MayBeEncoded (doing_of doing.now) }
+{
+    match doing {
+        Doing::Plainly(op) => is_without_number(op.kind()),
+        Doing::Calls(_) | Doing::Jumps(_) | Doing::CallsRom(_) | Doing::JumpsRom(_) => true,
+    }
+}
+
+// Whether an operation neither calls nor jumps by a number.
+fn is_without_number(kind: OpKind) -> bool
+    ensures { IsTrue result ↔ MayBeEncoded (plainly kind) }
+{
+    !matches!(kind, OpKind::Call(_) | OpKind::Jump(_))
+}

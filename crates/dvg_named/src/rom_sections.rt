@@ -1,0 +1,63 @@
+//! The sections of the ROM among those of a sketch.
+ghost use Rattle.std.specs.Prelude.{◌≡◌, ◌++◌, ◌<◌, ◌^◌, IfOk, List, OnOk, map};
+ghost use Rattle.std.specs.List.{filter_map};
+ghost use Rattle.dvg_named.specs.HeldRows.{rows_of};
+ghost use Rattle.dvg_named.specs.LaidValues.{sections_of};
+ghost use Rattle.dvg_named.specs.ReadParts.{front_roms};
+ghost use Rattle.dvg_named.specs.RomParts.{rom_in, rom_list};
+ghost use Rattle.dvg_named.specs.SketchReading.{head_in, section_in};
+
+use crate::laid::RomRows;
+use crate::part::Part;
+use crate::row::Head;
+use dvg_code::OutOfMemory;
+use std::alloc::Allocator;
+
+/// The sections of the ROM, in order: those before the last section, and that one.
+pub(crate) fn rom_rows<'a, A: Allocator + Copy>(
+    alloc: A,
+    closed: &'a [Part<'a, A>],
+    last: &'a Part<'a, A>,
+) -> Result<Vec<RomRows<'a>, A>, OutOfMemory>
+    ensures { IfOk result (λ found. sections_of found.items ≡ front_roms (map section_in closed.now)
+        ++ rom_list (head_in last.now.head) (rows_of last.now.rows.items)) }
+{
+    let mut found = match closed {
+        [] => Vec::new(alloc),
+        [_, others @ ..] => later_rows(alloc, others)?,
+    };
+    push_rom(&mut found, last)?;
+    Ok(found)
+}
+
+// Those of the ROM among these sections.
+fn later_rows<'a, A: Allocator + Copy>(
+    alloc: A,
+    others: &'a [Part<'a, A>],
+) -> Result<Vec<RomRows<'a>, A>, OutOfMemory>
+    ensures { IfOk result (λ found. sections_of found.items
+        ≡ filter_map rom_in (map section_in others.now)) }
+{
+    let mut found = Vec::new(alloc);
+    for part in others {
+        push_rom(&mut found, part)?;
+    }
+    Ok(found)
+}
+
+// Adds a section, where it is of the ROM.
+fn push_rom<'a, A: Allocator + Copy>(
+    found: &mut Vec<RomRows<'a>, A>,
+    part: &'a Part<'a, A>,
+) -> Result<(), OutOfMemory>
+    ensures { OnOk result (sections_of found.new.items ≡ sections_of found.old.items
+        ++ rom_list (head_in part.now.head) (rows_of part.now.rows.items)) }
+{
+    if let Some(Head::Rom(address)) = part.head {
+        found.push(RomRows {
+            address,
+            rows: part.rows.as_slice(),
+        })?;
+    }
+    Ok(())
+}
