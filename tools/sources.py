@@ -7,7 +7,7 @@ from pathlib import Path
 CRATES = """
     dvg_code dvg_mem dvg_gen dvg_frame dvg_sketch dvg_driver dvg_log dvg_theorem dvg_world
     dvg_progress dvg_6502
-    dvg_device dvg_c dvg_text dvg_named dvg_lay dvg_lines dvg_io dvg_dump dvg_picture dvg_logs dvg_words dvg_tool
+    dvg_device dvg_c dvg_text dvg_named dvg_lay dvg_lines dvg_io dvg_svg dvg_dump dvg_picture dvg_logs dvg_words dvg_tool
 """.split()
 ROOT = Path(__file__).resolve().parent.parent
 CLAUSE = re.compile(r"\b(?:requires|ensures)(?:\*|(?: \w+)?)$|^ghost (?!use)|\n\s*ghost \w+:$")

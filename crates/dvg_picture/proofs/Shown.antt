@@ -24,7 +24,7 @@ pub next_ran : (trace : List Ran) (i : ℕ) (ran : Ran) → i < length trace →
 next_ran trace i ran low is = ap (flat_map ran_text) (drop_more trace i ran low) ∙ ap (λ r. ran_text r ++ flat_map ran_text (drop (i + 1) trace)) (sym is)
 
 -- what was read is the input, if it has the size of a dump
-short : (size : List ℕ) → HasDumpSize size → length size ≤ 6144
+pub short : (size : List ℕ) → HasDumpSize size → length size ≤ 6144
 short dump (inl small) = omega arith
 short dump (inr large) = omega arith
 

@@ -1,2 +1,4 @@
 pub mod Texts
 pub mod Pictures
+pub mod Undrawn
+pub mod Svgs

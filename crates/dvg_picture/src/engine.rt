@@ -13,8 +13,8 @@ use dvg_text::TextFault;
 use std::alloc::Allocator;
 use std::io::{Read, Write};
 
-// The run over a dump, with its instructions where it `traces`.
-fn run_dump<A: Allocator + Copy>(
+/// The run over a dump, with its instructions where it `traces`.
+pub(crate) fn run_dump<A: Allocator + Copy>(
     alloc: A,
     bytes: &[u8],
     traces: bool,

@@ -5,3 +5,4 @@ pub mod Shown
 pub mod Played
 pub mod TracesPlayed
 pub mod OneVerdict
+pub mod PicturesPlayed

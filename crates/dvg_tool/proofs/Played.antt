@@ -38,6 +38,11 @@ events_told (event ∷ events) [] h = refl
 events_told [] (entry ∷ entries) h = absurd (not-suc-le-zero h)
 events_told (event ∷ events) (entry ∷ entries) h = ap (λ l. event ∷ l) (events_told events entries (le_of_suc-le-suc h))
 
+-- the entries of the log are those
+pub log_entries : {A : Type 0} (events : List Happening) (entries : List (OwnEntry A)) → length entries ≤ length events
+    → map entry_of (reverse (log_of events entries)) ≡ map shown_of entries
+log_entries events entries h = ap (map entry_of) (oldest_first events entries) ∙ entries_told events entries h
+
 -- what is shown of the log is what is shown of the entries
 pub log_shown : {A : Type 0} (all : Bool) (events : List Happening) (entries : List (OwnEntry A)) → length entries ≤ length events
     → shown all 0 (map shown_of entries) ≡ log_text all (log_of events entries)

@@ -13,8 +13,8 @@ use Rattle.dvg_code.specs.Cutting.{Cuts, Cutting, Placed}
 use Rattle.dvg_code.specs.Listing.{NextListed, place_of, words_left}
 use Rattle.dvg_code.proofs.Unique.{cut_is_rest, spelling_length}
 use Rattle.dvg_code.proofs.Listings.{goes_on, only_rest}
-use Rattle.dvg_lines.specs.Lines.{line_of, line_text, list_text}
-use Rattle.dvg_tool.specs.Lists.{line_at}
+use Rattle.dvg_lines.specs.Lines.{line_text}
+use Rattle.dvg_tool.specs.Lists.{line_at, line_by, text_by}
 use Rattle.dvg_io.specs.Watching.{BeginsToWrite}
 use Rattle.dvg_io.proofs.Known.{Appends-nil, Appends-trans}
 
@@ -25,25 +25,15 @@ pub record Stands (words left : List ℕ) (place : ℕ) : Type 0 where
   pub place_is : place ≡ length before
 
 -- these items of the cutting are done, and their lines went out; the others are cut off the words that are left
-pub record Progress (items : List Placed) (end : ℕ) (rest left : List ℕ) (place : ℕ) (old now : Option (List ℕ)) : Type 0 where
+pub record Progress (address : ℕ → ℕ) (items : List Placed) (end : ℕ) (rest left : List ℕ) (place : ℕ) (old now : Option (List ℕ)) : Type 0 where
   pub done : List Placed
   pub more : List Placed
   pub parts : items ≡ done ++ more
   pub cuts : Cuts place left more end rest
-  pub wrote : Appends old now (list_text done)
+  pub wrote : Appends old now (text_by address done)
 
 pub stands_first : (words : List ℕ) (s : Listing) → words_left s ≡ words → place_of s ≡ 0 → Stands words (words_left s) (place_of s)
 stands_first words s left place = record { before = []; parts = sym left; place_is = place }
-
-pub begin : (words : List ℕ) (s : Listing) (known : Option (List ℕ)) (cutting : Cutting words) → words_left s ≡ words → place_of s ≡ 0
-    → Progress cutting.items cutting.end cutting.rest (words_left s) (place_of s) known known
-begin words s known cutting left place = record {
-  done = [];
-  more = cutting.items;
-  parts = refl;
-  cuts = subst (λ k. Cuts k (words_left s) cutting.items cutting.end cutting.rest) (sym place) (subst (λ l. Cuts 0 l cutting.items cutting.end cutting.rest) (sym left) cutting.cuts);
-  wrote = Appends-nil known;
-}
 
 pub within : (words left : List ℕ) (place : ℕ) → Stands words left place → place ≤ length words
 within words left place s = omega (arith, s.place_is, ap length s.parts, length-append s.before left)
@@ -68,71 +58,82 @@ canon_length Rtsl = refl
 canon_length (Jmpl address) = refl
 canon_length (Svec scale dx dy z) = refl
 
--- the line at a place is that of the instruction that stands there
-line_is : (words left after front : List ℕ) (place : ℕ) (instr : Instr) → Stands words left place → Spells instr front → left ≡ front ++ after
-    → line_at words place instr ≡ line_of (item_at place instr front)
-line_is words left after front place instr s spelled parts =
-    let from : drop place words ≡ left =
-    ap (λ k. drop k words) s.place_is ∙ ap (drop (length s.before)) s.parts ∙ drop-append_seam s.before left in
-    let seen : take (length (canon instr)) (drop place words) ≡ front =
-    ap (take (length (canon instr))) (from ∙ parts) ∙ ap (λ k. take k (front ++ after)) (canon_length instr ∙ sym (spelling_length instr front spelled)) ∙ take-append_seam front after in
-    ap (λ l. line_text place instr (pointwise nat_eq (canon instr) l)) seen
+module _ (address : ℕ → ℕ) where
+  pub begin : (words : List ℕ) (s : Listing) (known : Option (List ℕ)) (cutting : Cutting words) → words_left s ≡ words → place_of s ≡ 0
+      → Progress address cutting.items cutting.end cutting.rest (words_left s) (place_of s) known known
+  begin words s known cutting left place = record {
+    done = [];
+    more = cutting.items;
+    parts = refl;
+    cuts = subst (λ k. Cuts k (words_left s) cutting.items cutting.end cutting.rest) (sym place) (subst (λ l. Cuts 0 l cutting.items cutting.end cutting.rest) (sym left) cutting.cuts);
+    wrote = Appends-nil known;
+  }
 
-list_text-snoc : (items : List Placed) (item : Placed) → list_text items ++ line_of item ≡ list_text (items ++ item ∷ [])
-list_text-snoc items item =
-    ap (λ l. list_text items ++ l) (sym (append-nil (line_of item))) ∙ sym (flat_map-append line_of items (item ∷ []))
+  -- the line at a place is that of the instruction that stands there
+  line_is : (words left after front : List ℕ) (place : ℕ) (instr : Instr) → Stands words left place → Spells instr front → left ≡ front ++ after
+      → line_at words place (address place) instr ≡ line_by address (item_at place instr front)
+  line_is words left after front place instr s spelled parts =
+      let from : drop place words ≡ left =
+      ap (λ k. drop k words) s.place_is ∙ ap (drop (length s.before)) s.parts ∙ drop-append_seam s.before left in
+      let seen : take (length (canon instr)) (drop place words) ≡ front =
+      ap (take (length (canon instr))) (from ∙ parts) ∙ ap (λ k. take k (front ++ after)) (canon_length instr ∙ sym (spelling_length instr front spelled)) ∙ take-append_seam front after in
+      ap (λ l. line_text (address place) instr (pointwise nat_eq (canon instr) l)) seen
 
--- a line more went out
-pub advance : (words : List ℕ) (s t : Listing) (place : ℕ) (instr : Instr) (old now new : Option (List ℕ)) (cutting : Cutting words)
-    → Stands words (words_left s) (place_of s) → Progress cutting.items cutting.end cutting.rest (words_left s) (place_of s) old now → NextListed s (Some (At place instr)) t
-    → Appends now new (line_at words place instr) → Progress cutting.items cutting.end cutting.rest (words_left t) (place_of t) old new
-advance words s t place instr old now new cutting stands p step line =
-    let front = step.1.0 in
-    let item = item_at (place_of s) instr front in
-    let on = goes_on (place_of s) cutting.end (words_left s) front (words_left t) cutting.rest instr p.more step.1.1 step.1.2 p.cuts in
-    let is : line_at words place instr ≡ line_of item =
-    ap (λ k. line_at words k instr) step.0 ∙ line_is words (words_left s) (words_left t) front (place_of s) instr stands step.1.1 step.1.2 in
-    record {
-      done = p.done ++ item ∷ [];
-      more = on.more;
-      parts = p.parts ∙ ap (λ l. p.done ++ l) on.is ∙ sym (append_assoc p.done (item ∷ []) on.more);
-      cuts = subst (λ k. Cuts k (words_left t) on.more cutting.end cutting.rest) (sym step.1.3) on.cuts;
-      wrote = subst (Appends old new) (list_text-snoc p.done item) (Appends-trans old now new _ _ p.wrote (subst (Appends now new) is line));
-    }
+  text-snoc : (items : List Placed) (item : Placed) → text_by address items ++ line_by address item ≡ text_by address (items ++ item ∷ [])
+  text-snoc items item =
+      ap (λ l. text_by address items ++ l) (sym (append-nil (line_by address item))) ∙ sym (flat_map-append (line_by address) items (item ∷ []))
 
--- a beginning of a line more went out
-pub broke_off : (words : List ℕ) (s t : Listing) (place : ℕ) (instr : Instr) (old now new : Option (List ℕ)) (cutting : Cutting words)
-    → Stands words (words_left s) (place_of s) → Progress cutting.items cutting.end cutting.rest (words_left s) (place_of s) old now → NextListed s (Some (At place instr)) t
-    → BeginsToWrite (line_at words place instr) now new → BeginsToWrite (list_text cutting.items) old new
-broke_off words s t place instr old now new cutting stands p step begun =
-    let front = step.1.0 in
-    let item = item_at (place_of s) instr front in
-    let on = goes_on (place_of s) cutting.end (words_left s) front (words_left t) cutting.rest instr p.more step.1.1 step.1.2 p.cuts in
-    let is : line_at words place instr ≡ line_of item =
-    ap (λ k. line_at words k instr) step.0 ∙ line_is words (words_left s) (words_left t) front (place_of s) instr stands step.1.1 step.1.2 in
-    let text : list_text cutting.items ≡ list_text p.done ++ (line_of item ++ list_text on.more) =
-    ap list_text (p.parts ∙ ap (λ l. p.done ++ l) on.is) ∙ flat_map-append line_of p.done (item ∷ on.more) in
-    let line : line_of item ≡ begun.front ++ begun.rest = sym is ∙ begun.parts in
-    record {
-      front = list_text p.done ++ begun.front;
-      rest = begun.rest ++ list_text on.more;
-      parts = text ∙ ap (λ l. list_text p.done ++ (l ++ list_text on.more)) line ∙ ap (λ l. list_text p.done ++ l) (append_assoc begun.front begun.rest (list_text on.more))
-          ∙ sym (append_assoc (list_text p.done) begun.front (begun.rest ++ list_text on.more));
-      wrote = Appends-trans old now new _ _ p.wrote begun.wrote;
-    }
+  -- a line more went out
+  pub advance : (words : List ℕ) (s t : Listing) (place : ℕ) (instr : Instr) (old now new : Option (List ℕ)) (cutting : Cutting words)
+      → Stands words (words_left s) (place_of s) → Progress address cutting.items cutting.end cutting.rest (words_left s) (place_of s) old now → NextListed s (Some (At place instr)) t
+      → Appends now new (line_at words place (address place) instr) → Progress address cutting.items cutting.end cutting.rest (words_left t) (place_of t) old new
+  advance words s t place instr old now new cutting stands p step line =
+      let front = step.1.0 in
+      let item = item_at (place_of s) instr front in
+      let on = goes_on (place_of s) cutting.end (words_left s) front (words_left t) cutting.rest instr p.more step.1.1 step.1.2 p.cuts in
+      let is : line_at words place (address place) instr ≡ line_by address item =
+      ap (λ k. line_at words k (address k) instr) step.0 ∙ line_is words (words_left s) (words_left t) front (place_of s) instr stands step.1.1 step.1.2 in
+      record {
+        done = p.done ++ item ∷ [];
+        more = on.more;
+        parts = p.parts ∙ ap (λ l. p.done ++ l) on.is ∙ sym (append_assoc p.done (item ∷ []) on.more);
+        cuts = subst (λ k. Cuts k (words_left t) on.more cutting.end cutting.rest) (sym step.1.3) on.cuts;
+        wrote = subst (Appends old new) (text-snoc p.done item) (Appends-trans old now new _ _ p.wrote (subst (Appends now new) is line));
+      }
 
--- where no words are left, the text is whole
-pub finish : (words : List ℕ) (s t : Listing) (old now : Option (List ℕ)) (cutting : Cutting words) → Progress cutting.items cutting.end cutting.rest (words_left s) (place_of s) old now
-    → NextListed s None t → (cutting.rest ≡ []) × Appends old now (list_text cutting.items)
-finish words s t old now cutting p step =
-    let same = only_rest (place_of s) cutting.end [] cutting.rest p.more tt (subst (λ l. Cuts (place_of s) l p.more cutting.end cutting.rest) step.0 p.cuts) in
-    let all : cutting.items ≡ p.done = p.parts ∙ ap (λ l. p.done ++ l) same.0 ∙ append-nil p.done in
-    (same.2, subst (λ l. Appends old now (list_text l)) (sym all) p.wrote)
+  -- a beginning of a line more went out
+  pub broke_off : (words : List ℕ) (s t : Listing) (place : ℕ) (instr : Instr) (old now new : Option (List ℕ)) (cutting : Cutting words)
+      → Stands words (words_left s) (place_of s) → Progress address cutting.items cutting.end cutting.rest (words_left s) (place_of s) old now → NextListed s (Some (At place instr)) t
+      → BeginsToWrite (line_at words place (address place) instr) now new → BeginsToWrite (text_by address cutting.items) old new
+  broke_off words s t place instr old now new cutting stands p step begun =
+      let front = step.1.0 in
+      let item = item_at (place_of s) instr front in
+      let on = goes_on (place_of s) cutting.end (words_left s) front (words_left t) cutting.rest instr p.more step.1.1 step.1.2 p.cuts in
+      let is : line_at words place (address place) instr ≡ line_by address item =
+      ap (λ k. line_at words k (address k) instr) step.0 ∙ line_is words (words_left s) (words_left t) front (place_of s) instr stands step.1.1 step.1.2 in
+      let text : text_by address cutting.items ≡ text_by address p.done ++ (line_by address item ++ text_by address on.more) =
+      ap (text_by address) (p.parts ∙ ap (λ l. p.done ++ l) on.is) ∙ flat_map-append (line_by address) p.done (item ∷ on.more) in
+      let line : line_by address item ≡ begun.front ++ begun.rest = sym is ∙ begun.parts in
+      record {
+        front = text_by address p.done ++ begun.front;
+        rest = begun.rest ++ text_by address on.more;
+        parts = text ∙ ap (λ l. text_by address p.done ++ (l ++ text_by address on.more)) line ∙ ap (λ l. text_by address p.done ++ l) (append_assoc begun.front begun.rest (text_by address on.more))
+            ∙ sym (append_assoc (text_by address p.done) begun.front (begun.rest ++ text_by address on.more));
+        wrote = Appends-trans old now new _ _ p.wrote begun.wrote;
+      }
 
--- where the words that are left begin with no instruction, the text goes up to them
-pub stop : (words : List ℕ) (s t : Listing) (place : ℕ) (old now : Option (List ℕ)) (cutting : Cutting words) → Progress cutting.items cutting.end cutting.rest (words_left s) (place_of s) old now
-    → NextListed s (Some (Cut place)) t → (cutting.rest ≢ []) × (place ≡ cutting.end) × Appends old now (list_text cutting.items)
-stop words s t place old now cutting p step =
-    let same = only_rest (place_of s) cutting.end (words_left s) cutting.rest p.more (cut_is_rest (words_left s) step.1) p.cuts in
-    let all : cutting.items ≡ p.done = p.parts ∙ ap (λ l. p.done ++ l) same.0 ∙ append-nil p.done in
-    (λ none. let left = step.1.2 in let same_rest = same.2 in cc, step.0 ∙ sym same.1, subst (λ l. Appends old now (list_text l)) (sym all) p.wrote)
+  -- where no words are left, the text is whole
+  pub finish : (words : List ℕ) (s t : Listing) (old now : Option (List ℕ)) (cutting : Cutting words) → Progress address cutting.items cutting.end cutting.rest (words_left s) (place_of s) old now
+      → NextListed s None t → (cutting.rest ≡ []) × Appends old now (text_by address cutting.items)
+  finish words s t old now cutting p step =
+      let same = only_rest (place_of s) cutting.end [] cutting.rest p.more tt (subst (λ l. Cuts (place_of s) l p.more cutting.end cutting.rest) step.0 p.cuts) in
+      let all : cutting.items ≡ p.done = p.parts ∙ ap (λ l. p.done ++ l) same.0 ∙ append-nil p.done in
+      (same.2, subst (λ l. Appends old now (text_by address l)) (sym all) p.wrote)
+
+  -- where the words that are left begin with no instruction, the text goes up to them
+  pub stop : (words : List ℕ) (s t : Listing) (place : ℕ) (old now : Option (List ℕ)) (cutting : Cutting words) → Progress address cutting.items cutting.end cutting.rest (words_left s) (place_of s) old now
+      → NextListed s (Some (Cut place)) t → (cutting.rest ≢ []) × (place ≡ cutting.end) × Appends old now (text_by address cutting.items)
+  stop words s t place old now cutting p step =
+      let same = only_rest (place_of s) cutting.end (words_left s) cutting.rest p.more (cut_is_rest (words_left s) step.1) p.cuts in
+      let all : cutting.items ≡ p.done = p.parts ∙ ap (λ l. p.done ++ l) same.0 ∙ append-nil p.done in
+      (λ none. let left = step.1.2 in let same_rest = same.2 in cc, step.0 ∙ sym same.1, subst (λ l. Appends old now (text_by address l)) (sym all) p.wrote)

@@ -5,3 +5,4 @@ pub mod Outcomes
 pub mod Checks
 pub mod Plays
 pub mod CheckLaws
+pub mod PlaysSvg

@@ -17,20 +17,21 @@ use std::io::{Read, Write};
 /// (this project's own choice).
 pub const MOST_LIST_BYTES: usize = 8192;
 
-// Writes the line of the instruction that stands at a place of the words. The line is made in
-// `line`.
-fn write_item<W: Write>(
+/// Writes the line of the instruction that stands at a place of the words, listed at this address.
+/// The line is made in `line`.
+pub(crate) fn write_item<W: Write>(
     line: &mut Line,
     words: &[u16],
     place: usize,
+    address: usize,
     code: &Code,
     writer: &mut Watched<W>,
 ) -> Result<(), DeviceFailed>
     requires { place ≤ length words.now }
-    ensures { Writes W.contents (line_at words.now place code.now) result writer.old writer.new }
+    ensures { Writes W.contents (line_at words.now place address code.now) result writer.old writer.new }
 {
     let canonical = words[place..].starts_with(encode(code).as_slice());
-    line.become_listed(place, code, canonical);
+    line.become_listed(address, code, canonical);
     write_whole(writer, line.as_bytes())
 }
 
@@ -46,7 +47,7 @@ fn list_words<W: Write>(words: &[u16], writer: &mut Watched<W>) -> Result<(), To
     for item in Listing::new(words) {
         match item {
             Listed::At(place, code) => {
-                if write_item(&mut line, words, place, &code, writer).is_err() {
+                if write_item(&mut line, words, place, place, &code, writer).is_err() {
                     return Err(ToolFault::Writer);
                 }
             }

@@ -1,10 +1,15 @@
-//! The engine `picture` of the program `dvg`: the run over a dump of vector memory as text.
+//! The engines `picture` and `picture_svg` of the program `dvg`: the run over a dump of vector memory
+//! as text, and what it draws as SVG.
 #![no_std]
 
 extern crate plain_std as std;
 
 mod engine;
+mod svg;
+mod undrawn;
 mod writes;
 
 pub use dvg_dump::Outcome;
 pub use engine::picture;
+pub use svg::picture_svg;
+pub use undrawn::Undrawn;

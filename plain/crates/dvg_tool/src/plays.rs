@@ -19,8 +19,8 @@ fn unstarted<A: Allocator>(alloc: A) -> Stopped<A> {
     }
 }
 
-// Lets the events of a trace happen over its ROM, from a RAM of zeros.
-fn run_text<S: Store>(
+/// Lets the events of a trace happen over its ROM, from a RAM of zeros.
+pub(crate) fn run_text<S: Store>(
     alloc: S::Alloc,
     told: &TraceText<S::Alloc>,
 ) -> Result<Vec<OwnEntry<S::Alloc>, S::Alloc>, Stopped<S::Alloc>> {

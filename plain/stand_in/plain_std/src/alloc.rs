@@ -212,6 +212,15 @@ impl<T, A> DerefMut for Vec<T, A> {
     }
 }
 
+impl<T, A> IntoIterator for Vec<T, A> {
+    type Item = T;
+    type IntoIter = vec::IntoIter<T>;
+
+    fn into_iter(self) -> vec::IntoIter<T> {
+        self.items.into_iter()
+    }
+}
+
 impl<'a, T, A> IntoIterator for &'a Vec<T, A> {
     type Item = &'a T;
     type IntoIter = core::slice::Iter<'a, T>;

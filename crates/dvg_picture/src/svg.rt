@@ -1,0 +1,135 @@
+//! The engine `picture_svg`.
+ghost use Rattle.std.specs.Prelude.{◌≡◌, IfErr, IfOk, option_map};
+ghost use Rattle.dvg_io.specs.Faults.{ComesBeforeText};
+ghost use Rattle.dvg_io.specs.Serving.{AreFresh, Serves};
+ghost use Rattle.dvg_io.specs.Watching.{Writes};
+ghost use Rattle.dvg_picture.specs.Pictures.{HasDumpFault, IsDumpFault};
+ghost use Rattle.dvg_picture.specs.Svgs.{DrawsSvg, IsDrawn, run_svg, strokes_of};
+
+use crate::engine::run_dump;
+use crate::undrawn::{Undrawn, reason_line, undrawn_by};
+use dvg_code::OutOfMemory;
+use dvg_dump::{LARGE_DUMP_BYTES, Ran};
+use dvg_gen::Stroke;
+use dvg_io::{DeviceFailed, Engine, ToolFault, Watched, serve};
+use dvg_svg::write_svg;
+use std::alloc::Allocator;
+use std::io::{Read, Write};
+
+// What a run drew, and why that is no picture, if it isn't.
+#[derive(Drop)]
+struct Drawn<A: Allocator> {
+    strokes: Vec<Stroke, A>,
+    undrawn: Option<Undrawn>,
+}
+
+// The strokes of instructions.
+fn collect_strokes<A: Allocator>(alloc: A, trace: &[Ran]) -> Result<Vec<Stroke, A>, OutOfMemory>
+    ensures { IfOk result (λ strokes. strokes.items ≡ strokes_of trace.now) }
+{
+    let mut strokes = Vec::new(alloc);
+    for ran in trace {
+        if let Some(stroke) = ran.stroke {
+            strokes.push(stroke)?;
+        }
+    }
+    Ok(strokes)
+}
+
+// What the run over a dump draws.
+fn draw_dump<A: Allocator + Copy>(alloc: A, bytes: &[u8]) -> Result<Drawn<A>, ToolFault>
+    ensures drawn { IfOk result (λ drawn. IsDrawn bytes.now drawn.strokes.items drawn.undrawn) }
+    ensures fault { IfErr result (IsDumpFault bytes.now) }
+{
+    let run = run_dump(alloc, bytes, true)?;
+    let Ok(strokes) = collect_strokes(alloc, run.ran.as_slice()) else {
+        return Err(ToolFault::Memory);
+    };
+    Ok(Drawn {
+        strokes,
+        undrawn: undrawn_by(&run.ending),
+    })
+}
+
+// Writes what a run drew.
+fn write_drawn<W: Write>(
+    percent: u16,
+    strokes: &[Stroke],
+    undrawn: Option<Undrawn>,
+    writer: &mut Watched<W>,
+) -> Result<(), DeviceFailed>
+    ensures { Writes W.contents (run_svg percent undrawn strokes.now)
+        result writer.old writer.new }
+{
+    match undrawn {
+        Some(undrawn) => {
+            let line = reason_line(undrawn);
+            let text = line.as_bytes();
+            write_svg(percent, Some(&text[..text.len() - 1]), strokes, writer)
+        }
+        None => write_svg(percent, None, strokes, writer),
+    }
+}
+
+// The engine: of a dump it finds what its run draws.
+#[derive(Drop)]
+struct SvgEngine {
+    percent: u16,
+}
+
+impl<A: Allocator + Copy> Engine<A> for SvgEngine {
+    type Found = Drawn<A>;
+
+    const MOST: u32 = LARGE_DUMP_BYTES as u32;
+
+    ghost MOST = { 6144 };
+
+    ghost Finds = { λ engine input drawn. IsDrawn input drawn.strokes.items drawn.undrawn };
+
+    ghost HasFault = { λ engine. HasDumpFault };
+
+    ghost text = { λ engine drawn. run_svg engine.percent drawn.undrawn drawn.strokes.items };
+
+    fn find(&self, alloc: A, read: &[u8]) -> Result<Drawn<A>, ToolFault> {
+        draw_dump(alloc, read)
+    }
+
+    fn write<W: Write>(
+        &self,
+        drawn: &Drawn<A>,
+        writer: &mut Watched<W>,
+    ) -> Result<(), DeviceFailed> {
+        write_drawn(
+            self.percent,
+            drawn.strokes.as_slice(),
+            drawn.undrawn,
+            writer,
+        )
+    }
+}
+
+/// Reads a dump of vector memory as `picture` does, and writes what its run draws as SVG, of this
+/// size in percent: all strokes of a picture, and of a run that breaks or isn't known to end within
+/// 65,536 words those up to there. Why it drew no picture, if it didn't, is the title, and is
+/// answered (the text is this project's own choice).
+///
+/// - `DumpSize`: the input has neither 4,096 bytes nor 6,144, of which no more than 6,145 are
+///   taken.
+/// - `Reader`, `Writer`: that device failed. After `Writer` a beginning of the text went out.
+/// - `Memory`: a growth was refused.
+///
+/// Where it stops before it writes, which is at any fault but `Writer`, the writer is as it was.
+#[inline(never)]
+pub fn picture_svg<A: Allocator + Copy, R: Read, W: Write>(
+    alloc: A,
+    reader: &mut Watched<R>,
+    writer: &mut Watched<W>,
+    percent: u16,
+) -> Result<Option<Undrawn>, ToolFault>
+    requires fresh { AreFresh reader.old writer.old }
+    ensures { Serves R.remaining W.contents 6145 ComesBeforeText (DrawsSvg percent)
+        result reader.old reader.new writer.old writer.new }
+{
+    let drawn = serve(&SvgEngine { percent }, alloc, reader, writer)?;
+    Ok(drawn.undrawn)
+}

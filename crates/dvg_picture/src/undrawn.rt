@@ -1,0 +1,63 @@
+//! Why a run drew no picture.
+ghost use Rattle.std.specs.Prelude.{◌≡◌, ◌++◌, ◌∷◌, []};
+ghost use Rattle.dvg_dump.specs.Endings.{end_of};
+ghost use Rattle.dvg_picture.specs.Undrawn.{reason_text, undrawn_by};
+
+use dvg_dump::Ending;
+use dvg_gen::GenFault;
+use dvg_lines::Line;
+use std::alloc::Allocator;
+use std::fmt;
+
+/// Why a run over a dump drew no picture. Its text is what `dvg` prints of it (this project's own
+/// choice).
+#[derive(Clone, Copy, Debug, PartialEq, Eq)]
+pub enum Undrawn {
+    /// It broke.
+    Broke {
+        /// The word address of the fetch at which it did.
+        address: u16,
+        /// Why.
+        fault: GenFault,
+    },
+    /// It isn't known to end.
+    Endless,
+}
+
+impl fmt::Display for Undrawn {
+    fn fmt<W: fmt::Write>(&self, f: &mut fmt::Formatter<W>) -> fmt::Result {
+        match self {
+            Undrawn::Broke { address, fault } => {
+                let number = fault.number();
+                write!(f, "broke {address:03X} {number}")
+            }
+            Undrawn::Endless => write!(f, "endless"),
+        }
+    }
+}
+
+/// Why a run with this end drew no picture, if it didn't.
+pub(crate) fn undrawn_by<A: Allocator>(ending: &Ending<A>) -> Option<Undrawn>
+    ensures { result ≡ undrawn_by (end_of ending.now) }
+{
+    match ending {
+        Ending::Finished { .. } => None,
+        Ending::Broke { address, fault } => Some(Undrawn::Broke {
+            address: *address,
+            fault: *fault,
+        }),
+        Ending::Endless => Some(Undrawn::Endless),
+    }
+}
+
+/// The line that tells it.
+pub(crate) fn reason_line(undrawn: Undrawn) -> Line
+    ensures { result ≡ reason_text undrawn ++ 10 ∷ [] }
+{
+    let mut line = Line::new();
+    match undrawn {
+        Undrawn::Broke { address, fault } => line.become_broke(address, fault),
+        Undrawn::Endless => line.become_endless(),
+    }
+    line
+}

@@ -1,0 +1,138 @@
+//! The engine `play_svg`.
+ghost use Rattle.std.specs.Prelude.{◌≡◌, ℕ, List, flat_map, map, IfErr, IfOk};
+ghost use Rattle.dvg_mem.specs.Memory.{IsRom};
+ghost use Rattle.dvg_log.specs.Entries.{shown_of};
+ghost use Rattle.dvg_io.specs.Faults.{ComesBeforeText};
+ghost use Rattle.dvg_io.specs.Serving.{AreFresh, Serves};
+ghost use Rattle.dvg_svg.specs.Svg.{strokes_of, svgs_text};
+ghost use Rattle.dvg_text.specs.TraceGives.{GivesTrace};
+ghost use Rattle.dvg_text.specs.TraceTexts.{HasTraceFault};
+ghost use Rattle.dvg_tool.specs.PlaysSvg.{PlaysSvg, ShowsPictures, picture_of};
+
+use crate::plays::run_text;
+use dvg_gen::Stroke;
+use dvg_io::{DeviceFailed, Engine, ToolFault, Watched, serve};
+use dvg_log::{Entry, OwnEntry};
+use dvg_mem::{Flat, Store};
+use dvg_svg::{Show, write_svgs};
+use dvg_text::{MOST_TEXT_BYTES, TraceText, read_trace};
+use std::alloc::Allocator;
+use std::io::{Read, Write};
+use std::marker::PhantomData;
+
+// The pictures of finished runs.
+fn collect_pictures<A: Allocator + Copy>(
+    alloc: A,
+    entries: Vec<OwnEntry<A>, A>,
+) -> Result<Vec<Vec<Stroke, A>, A>, ToolFault>
+    ensures pictures { IfOk result (λ pictures.
+        strokes_of pictures.items ≡ flat_map picture_of (map shown_of entries.items)) }
+    ensures fault { IfErr result (λ fault. fault ≡ ToolFault.Memory) }
+{
+    let mut pictures = Vec::new(alloc);
+    for entry in entries {
+        if let Entry::Done(_, _, strokes) = entry {
+            if pictures.push(strokes).is_err() {
+                return Err(ToolFault::Memory);
+            }
+        }
+    }
+    Ok(pictures)
+}
+
+// Lets the events of a trace happen, and answers the pictures of the runs that finished.
+fn draw_trace<S: Store>(
+    alloc: S::Alloc,
+    told: &TraceText<S::Alloc>,
+) -> Result<Vec<Vec<Stroke, S::Alloc>, S::Alloc>, ToolFault>
+    requires { IsRom told.now.rom.items }
+    ensures pictures { IfOk result (λ pictures. (text : List ℕ)
+        → GivesTrace text told.now.events told.now.rom.items
+        → ShowsPictures text (strokes_of pictures.items)) }
+    ensures fault { IfErr result (λ fault. fault ≡ ToolFault.Memory) }
+{
+    match run_text::<S>(alloc, told) {
+        Ok(entries) => collect_pictures(alloc, entries),
+        Err(_) => Err(ToolFault::Memory),
+    }
+}
+
+// The engine: of a trace it finds the pictures, over a RAM that is kept in a store.
+#[derive(Drop)]
+struct SvgEngine<S> {
+    show: Show,
+    store: PhantomData<S>,
+}
+
+impl<S: Store> Engine<S::Alloc> for SvgEngine<S> {
+    type Found = Vec<Vec<Stroke, S::Alloc>, S::Alloc>;
+
+    const MOST: u32 = MOST_TEXT_BYTES as u32;
+
+    ghost MOST = { 1048576 };
+
+    ghost Finds = { λ engine input pictures. ShowsPictures input (strokes_of pictures.items) };
+
+    ghost HasFault = { λ engine. HasTraceFault };
+
+    ghost text = { λ engine pictures. svgs_text engine.show (strokes_of pictures.items) };
+
+    fn find(&self, alloc: S::Alloc, read: &[u8]) -> Result<Self::Found, ToolFault> {
+        let told = read_trace(alloc, read)?;
+        draw_trace::<S>(alloc, &told)
+    }
+
+    fn write<W: Write>(
+        &self,
+        pictures: &Self::Found,
+        writer: &mut Watched<W>,
+    ) -> Result<(), DeviceFailed> {
+        write_svgs(self.show, pictures.as_slice(), writer)
+    }
+}
+
+/// Reads a trace as text and lets its events happen as `play` does, and writes the pictures of all
+/// runs that finished as one SVG, in which they are shown in turn (the text is this project's own
+/// choice).
+///
+/// - `TooLong`, `Syntax`, `Full`, `Many`, `Unended`: as `play_in` tells it.
+/// - `Reader`, `Writer`: that device failed. After `Writer` a beginning of the text went out.
+/// - `Memory`: a growth was refused.
+///
+/// Where it stops before it writes, which is at any fault but `Writer`, the writer is as it was.
+///
+/// The RAM is kept in any store. All of this holds whichever it is, so what is written doesn't
+/// depend on it.
+#[inline(never)]
+pub fn play_svg_in<S: Store, R: Read, W: Write>(
+    alloc: S::Alloc,
+    reader: &mut Watched<R>,
+    writer: &mut Watched<W>,
+    show: Show,
+) -> Result<(), ToolFault>
+    requires fresh { AreFresh reader.old writer.old }
+    ensures { Serves R.remaining W.contents 1048577 ComesBeforeText (PlaysSvg show)
+        result reader.old reader.new writer.old writer.new }
+{
+    let engine = SvgEngine::<S> {
+        show,
+        store: PhantomData,
+    };
+    serve(&engine, alloc, reader, writer)?;
+    Ok(())
+}
+
+/// Plays a trace over a RAM that is kept in one array: `play_svg_in` with the store `Flat`, and with
+/// its clauses.
+pub fn play_svg<A: Allocator + Copy, R: Read, W: Write>(
+    alloc: A,
+    reader: &mut Watched<R>,
+    writer: &mut Watched<W>,
+    show: Show,
+) -> Result<(), ToolFault>
+    requires fresh { AreFresh reader.old writer.old }
+    ensures { Serves R.remaining W.contents 1048577 ComesBeforeText (PlaysSvg show)
+        result reader.old reader.new writer.old writer.new }
+{
+    play_svg_in::<Flat<A>, R, W>(alloc, reader, writer, show)
+}

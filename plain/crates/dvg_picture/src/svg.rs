@@ -1,0 +1,108 @@
+//! The engine `picture_svg`.
+use std::prelude::*;
+
+use crate::engine::run_dump;
+use crate::undrawn::{Undrawn, reason_line, undrawn_by};
+use dvg_code::OutOfMemory;
+use dvg_dump::{LARGE_DUMP_BYTES, Ran};
+use dvg_gen::Stroke;
+use dvg_io::{DeviceFailed, Engine, ToolFault, Watched, serve};
+use dvg_svg::write_svg;
+use std::alloc::Allocator;
+use std::io::{Read, Write};
+
+// What a run drew, and why that is no picture, if it isn't.
+struct Drawn<A: Allocator> {
+    strokes: Vec<Stroke, A>,
+    undrawn: Option<Undrawn>,
+}
+
+// The strokes of instructions.
+fn collect_strokes<A: Allocator>(alloc: A, trace: &[Ran]) -> Result<Vec<Stroke, A>, OutOfMemory> {
+    let mut strokes = Vec::new(alloc);
+    for ran in trace {
+        if let Some(stroke) = ran.stroke {
+            strokes.push(stroke)?;
+        }
+    }
+    Ok(strokes)
+}
+
+// What the run over a dump draws.
+fn draw_dump<A: Allocator + Copy>(alloc: A, bytes: &[u8]) -> Result<Drawn<A>, ToolFault> {
+    let run = run_dump(alloc, bytes, true)?;
+    let Ok(strokes) = collect_strokes(alloc, run.ran.as_slice()) else {
+        return Err(ToolFault::Memory);
+    };
+    Ok(Drawn {
+        strokes,
+        undrawn: undrawn_by(&run.ending),
+    })
+}
+
+// Writes what a run drew.
+fn write_drawn<W: Write>(
+    percent: u16,
+    strokes: &[Stroke],
+    undrawn: Option<Undrawn>,
+    writer: &mut Watched<W>,
+) -> Result<(), DeviceFailed> {
+    match undrawn {
+        Some(undrawn) => {
+            let line = reason_line(undrawn);
+            let text = line.as_bytes();
+            write_svg(percent, Some(&text[..text.len() - 1]), strokes, writer)
+        }
+        None => write_svg(percent, None, strokes, writer),
+    }
+}
+
+// The engine: of a dump it finds what its run draws.
+struct SvgEngine {
+    percent: u16,
+}
+
+impl<A: Allocator + Copy> Engine<A> for SvgEngine {
+    type Found = Drawn<A>;
+
+    const MOST: u32 = LARGE_DUMP_BYTES as u32;
+
+    fn find(&self, alloc: A, read: &[u8]) -> Result<Drawn<A>, ToolFault> {
+        draw_dump(alloc, read)
+    }
+
+    fn write<W: Write>(
+        &self,
+        drawn: &Drawn<A>,
+        writer: &mut Watched<W>,
+    ) -> Result<(), DeviceFailed> {
+        write_drawn(
+            self.percent,
+            drawn.strokes.as_slice(),
+            drawn.undrawn,
+            writer,
+        )
+    }
+}
+
+/// Reads a dump of vector memory as `picture` does, and writes what its run draws as SVG, of this
+/// size in percent: all strokes of a picture, and of a run that breaks or isn't known to end within
+/// 65,536 words those up to there. Why it drew no picture, if it didn't, is the title, and is
+/// answered (the text is this project's own choice).
+///
+/// - `DumpSize`: the input has neither 4,096 bytes nor 6,144, of which no more than 6,145 are
+///   taken.
+/// - `Reader`, `Writer`: that device failed. After `Writer` a beginning of the text went out.
+/// - `Memory`: a growth was refused.
+///
+/// Where it stops before it writes, which is at any fault but `Writer`, the writer is as it was.
+#[inline(never)]
+pub fn picture_svg<A: Allocator + Copy, R: Read, W: Write>(
+    alloc: A,
+    reader: &mut Watched<R>,
+    writer: &mut Watched<W>,
+    percent: u16,
+) -> Result<Option<Undrawn>, ToolFault> {
+    let drawn = serve(&SvgEngine { percent }, alloc, reader, writer)?;
+    Ok(drawn.undrawn)
+}

@@ -1,0 +1,14 @@
+//! Texts that are written in parts.
+use dvg_io::{DeviceFailed, Watched, write_whole};
+use std::io::Write;
+
+/// Writes parts, one after the other.
+pub(crate) fn write_parts<W: Write>(
+    parts: &[&[u8]],
+    writer: &mut Watched<W>,
+) -> Result<(), DeviceFailed> {
+    for part in parts {
+        write_whole(writer, part)?;
+    }
+    Ok(())
+}
