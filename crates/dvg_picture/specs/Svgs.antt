@@ -29,7 +29,8 @@ pub record IsDrawn (input : List ℕ) (drew : List Stroke) (undrawn : Option Und
 
 -- what `picture_svg` answers of an input, and what went out: the text, or at `Writer` a beginning of
 -- it (that nothing went out at the other faults is a part of `Serves`)
-abbrev pub DrawsSvg : (percent : ℕ) → Result (Option Undrawn) ToolFault → (input : List ℕ) → Option (List ℕ) → Option (List ℕ)
+abbrev pub DrawsSvg : (percent : ℕ) → Result (Option Undrawn) ToolFault → (input : List ℕ) → Option (List ℕ)
+    → Option (List ℕ)
     → Type 0
 DrawsSvg percent (Ok undrawn) input old new =
     (drew : List Stroke) × IsDrawn input drew undrawn × Appends old new (run_svg percent undrawn drew)

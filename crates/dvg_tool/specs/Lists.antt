@@ -1,5 +1,6 @@
 -- What `list` answers and writes.
-use Rattle.std.specs.Prelude.{◌≡◌, ◌≢◌, ◌+◌, ◌%◌, flat_map, ◌<◌, ◌≤◌, ℕ, List, [], drop, length, nat_eq, Option, Result, Ok, Err}
+use Rattle.std.specs.Prelude.{◌≡◌, ◌≢◌, ◌+◌, ◌%◌, flat_map, ◌<◌, ◌≤◌, ℕ, List, [], drop, length, nat_eq, Option, Result}
+use Rattle.std.specs.Prelude.{Ok, Err}
 use Rattle.std.specs.Prelude.{MatchResult}
 use Rattle.std.specs.Io.KnownBytes.{Appends}
 use Rattle.std.specs.List.{starts_with}
@@ -72,12 +73,14 @@ Lists _ input old new = Unit {0}
 -- before it are for a private contract)
 abbrev pub StopsListingAt : (at : ℕ) → ToolFault → (words : List ℕ) → Option (List ℕ) → Option (List ℕ) → Type 0
 StopsListingAt at (Text (Cut place)) words old new = (cutting : Cutting words)
-    → (cutting.rest ≢ []) × (place ≡ address_from at cutting.end) × Appends old new (text_by (address_from at) cutting.items)
+    → (cutting.rest ≢ []) × (place ≡ address_from at cutting.end)
+    × Appends old new (text_by (address_from at) cutting.items)
 StopsListingAt at Writer words old new = (cutting : Cutting words)
     → BeginsToWrite (text_by (address_from at) cutting.items) old new
 StopsListingAt at _ words old new = ⊥
 
-abbrev pub ListsWordsAt : {T : Type 0} → (at : ℕ) → Result T ToolFault → (words : List ℕ) → Option (List ℕ) → Option (List ℕ)
+abbrev pub ListsWordsAt : {T : Type 0} → (at : ℕ) → Result T ToolFault → (words : List ℕ) → Option (List ℕ)
+    → Option (List ℕ)
     → Type 0
 ListsWordsAt at answer words old new = MatchResult answer
     (λ _. (cutting : Cutting words) → (cutting.rest ≡ []) × Appends old new (text_by (address_from at) cutting.items))
@@ -92,7 +95,8 @@ ListsAt at (Err (Text TooLong)) input old new = 8192 < length input
 ListsAt at (Err (Text Odd)) input old new = (length input ≤ 8192) × (length input % 2 ≡ 1)
 ListsAt at (Err (Text (Cut place))) input old new =
     IsListable input × ((cutting : Cutting (words_of input))
-    → (cutting.rest ≢ []) × (place ≡ address_from at cutting.end) × Appends old new (text_by (address_from at) cutting.items))
+    → (cutting.rest ≢ []) × (place ≡ address_from at cutting.end)
+    × Appends old new (text_by (address_from at) cutting.items))
 ListsAt at (Err (Text _)) input old new = ⊥
 ListsAt at (Err Writer) input old new = IsListable input
     × ((cutting : Cutting (words_of input)) → BeginsToWrite (text_by (address_from at) cutting.items) old new)

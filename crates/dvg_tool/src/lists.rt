@@ -28,7 +28,8 @@ pub(crate) fn write_item<W: Write>(
     writer: &mut Watched<W>,
 ) -> Result<(), DeviceFailed>
     requires { place ≤ length words.now }
-    ensures { Writes W.contents (line_at words.now place address code.now) result writer.old writer.new }
+    ensures { Writes W.contents (line_at words.now place address code.now)
+        result writer.old writer.new }
 {
     let canonical = words[place..].starts_with(encode(code).as_slice());
     line.become_listed(address, code, canonical);

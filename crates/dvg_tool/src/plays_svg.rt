@@ -122,8 +122,8 @@ pub fn play_svg_in<S: Store, R: Read, W: Write>(
     Ok(())
 }
 
-/// Plays a trace over a RAM that is kept in one array: `play_svg_in` with the store `Flat`, and with
-/// its clauses.
+/// Plays a trace over a RAM that is kept in one array: `play_svg_in` with the store `Flat`, and
+/// with its clauses.
 pub fn play_svg<A: Allocator + Copy, R: Read, W: Write>(
     alloc: A,
     reader: &mut Watched<R>,

@@ -1,5 +1,5 @@
-//! The engines `picture` and `picture_svg` of the program `dvg`: the run over a dump of vector memory
-//! as text, and what it draws as SVG.
+//! The engines `picture` and `picture_svg` of the program `dvg`: the run over a dump of vector
+//! memory as text, and what it draws as SVG.
 #![no_std]
 
 extern crate plain_std as std;
