@@ -1,5 +1,6 @@
 -- The text of pictures as SVG. What is written of one stroke is `path_line`, and 10 is LF.
-use Rattle.std.specs.Prelude.{ℕ, zero, suc, ◌-◌, ◌*◌, ◌/◌, List, [], ◌∷◌, ◌++◌, length, flat_map, codes, decimal, map, Vec, Option, Some, None}
+use Rattle.std.specs.Prelude.{ℕ, zero, suc, ◌-◌, ◌*◌, ◌/◌, List, [], ◌∷◌, ◌++◌, length, flat_map, map, Vec}
+use Rattle.std.specs.Prelude.{codes, decimal, Option, Some, None}
 use Rattle.dvg_gen.specs.declared.stroke.Stroke.{Stroke}
 use Rattle.dvg_lines.specs.Svg.{path_line}
 use Rattle.dvg_svg.specs.declared.show.Show.{Show}
@@ -19,22 +20,32 @@ concat = flat_map (λ text. text)
 -- the line that begins the text
 abbrev pub size_line : ℕ → List ℕ
 size_line percent = concat (codes "<svg xmlns=\"http://www.w3.org/2000/svg\" width=\"" ∷ decimal (side percent)
-    ∷ codes "\" height=\"" ∷ decimal (side percent) ∷ (codes "\" viewBox=\"-256 -256 524288 524288\">" ++ 10 ∷ []) ∷ [])
+    ∷ codes "\" height=\"" ∷ decimal (side percent)
+    ∷ (codes "\" viewBox=\"-256 -256 524288 524288\">" ++ 10 ∷ []) ∷ [])
 
 -- the line of a title, if there is one
 abbrev pub title_line : Option (List ℕ) → List ℕ
 title_line None = []
 title_line (Some title) = concat (codes "<title>" ∷ title ∷ (codes "</title>" ++ 10 ∷ []) ∷ [])
 
--- the background, and what the strokes have in common: y goes up, and a line is two screen units wide
-abbrev pub screen_lines : List ℕ
-screen_lines = codes "<rect x=\"-256\" y=\"-256\" width=\"524288\" height=\"524288\"/>" ++ 10 ∷ codes "<g transform=\"matrix(1 0 0 -1 0 523776)\" fill=\"none\" stroke=\"#fff\" stroke-width=\"1024\" stroke-linecap=\"round\">"
-    ++ 10 ∷ []
+-- the line of the background, over all that is seen
+abbrev pub background_line : List ℕ
+background_line = codes "<rect x=\"-256\" y=\"-256\" width=\"524288\" height=\"524288\"/>" ++ 10 ∷ []
 
--- the lines that end a group and the text
+-- the line that begins the strokes: y goes up, and a stroke is two screen units wide, white, and round at its ends
+abbrev pub strokes_begin : List ℕ
+strokes_begin = codes "<g transform=\"matrix(1 0 0 -1 0 523776)\" fill=\"none\" stroke=\"#fff\" "
+    ++ codes "stroke-width=\"1024\" stroke-linecap=\"round\">" ++ 10 ∷ []
+
+-- what comes before the strokes, but for the first line and the title
+abbrev pub screen_lines : List ℕ
+screen_lines = background_line ++ strokes_begin
+
+-- the line that ends a group
 abbrev pub group_end : List ℕ
 group_end = codes "</g>" ++ 10 ∷ []
 
+-- the lines that end the text
 abbrev pub end_lines : List ℕ
 end_lines = group_end ++ codes "</svg>" ++ 10 ∷ []
 

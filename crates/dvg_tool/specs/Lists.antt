@@ -69,8 +69,7 @@ Lists (Err Writer) input old new = IsListable input
     × ((cutting : Cutting (words_of input)) → BeginsToWrite (list_text cutting.items) old new)
 Lists _ input old new = Unit {0}
 
--- what `list_at` answers, and what went out: the same, where addresses count from this one (the two
--- before it are for a private contract)
+-- the same, where addresses count from this one (for a private contract)
 abbrev pub StopsListingAt : (at : ℕ) → ToolFault → (words : List ℕ) → Option (List ℕ) → Option (List ℕ) → Type 0
 StopsListingAt at (Text (Cut place)) words old new = (cutting : Cutting words)
     → (cutting.rest ≢ []) × (place ≡ address_from at cutting.end)
@@ -79,6 +78,7 @@ StopsListingAt at Writer words old new = (cutting : Cutting words)
     → BeginsToWrite (text_by (address_from at) cutting.items) old new
 StopsListingAt at _ words old new = ⊥
 
+-- the same for all words (for a private contract)
 abbrev pub ListsWordsAt : {T : Type 0} → (at : ℕ) → Result T ToolFault → (words : List ℕ) → Option (List ℕ)
     → Option (List ℕ)
     → Type 0
@@ -86,6 +86,8 @@ ListsWordsAt at answer words old new = MatchResult answer
     (λ _. (cutting : Cutting words) → (cutting.rest ≡ []) × Appends old new (text_by (address_from at) cutting.items))
     (λ fault. StopsListingAt at fault words old new)
 
+-- what `list_at` answers of an input, and what went out: as `list` does, where addresses count from
+-- this one
 abbrev pub ListsAt : {T : Type 0} → (at : ℕ) → Result T ToolFault → (input : List ℕ) → Option (List ℕ) → Option (List ℕ)
     → Type 0
 ListsAt at (Ok done) input old new =
