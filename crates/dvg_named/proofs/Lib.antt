@@ -19,9 +19,11 @@ mod ReadRows
 mod ToldLines
 mod ReadBegins
 mod FewWords
-mod SketchRead
 mod SourcedMore
 mod RomFew
 mod FrameLists
 mod NamesLaid
 mod RomGiven
+mod EntriesMore
+mod NumberSteps
+mod SketchRead

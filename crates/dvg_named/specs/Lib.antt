@@ -19,6 +19,7 @@ pub mod RomParts
 pub mod RowMoves
 pub mod SketchReading
 pub mod SourcedRows
+pub mod LineNumbers
 pub mod TextReading
 pub mod FrameValues
 pub mod RomNames

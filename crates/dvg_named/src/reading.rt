@@ -55,7 +55,7 @@ impl<'a, A: Allocator + Copy> Reading<'a, A> {
     ghost use Rattle.dvg_text.specs.RomTexts.{RomText};
     ghost use Rattle.dvg_text.specs.RomReading.{TellsRom};
     ghost use Rattle.dvg_named.specs.RowValues.{head_of, name_of, row_of};
-    ghost use Rattle.dvg_named.specs.Rows.{IsHeadLine, IsRowLine, frame, rom};
+    ghost use Rattle.dvg_named.specs.Rows.{IsHeadLine, IsRowLine, Row as SpelledRow, frame, rom};
     ghost use Rattle.dvg_named.specs.RowMoves.{IsFrameHead, IsRomHead};
     ghost use Rattle.dvg_named.specs.SketchReading.{IsBare, Opens, Reads, ReadsMore, StopsSketch};
     ghost use Rattle.dvg_named.specs.SketchReading.{head_in, spelled_in};
@@ -68,6 +68,9 @@ impl<'a, A: Allocator + Copy> Reading<'a, A> {
     ghost use Rattle.dvg_named.specs.SketchSteps.{AreParts, line_of};
     ghost use Rattle.dvg_named.specs.SourcedRows.{AreSourced, BeginsIn, IsHeadAt, IsLineAt};
     ghost use Rattle.dvg_named.specs.SourcedRows.{IsRowAt};
+    ghost use Rattle.dvg_named.specs.LineNumbers.{AddsEntry, KeepsEntries, Numbers, entries_in};
+    ghost use Rattle.dvg_named.specs.LineNumbers.{head_at_top};
+    ghost use Rattle.std.specs.Prelude.{None};
 
     /// Before the first line, which is this one.
     pub fn new(alloc: A, first: Source<'a>) -> Reading<'a, A>
@@ -75,6 +78,8 @@ impl<'a, A: Allocator + Copy> Reading<'a, A> {
         ensures bare { IsBare result }
         ensures sources { (small : List ℕ) → BeginsIn small None first.entry
             → AreSourced small result }
+        ensures top { head_at_top result ≡ None }
+        ensures entries { entries_in result ≡ [] }
     {
         Reading {
             alloc,
@@ -100,6 +105,9 @@ impl<'a, A: Allocator + Copy> Reading<'a, A> {
             → IsLineAt small source.entry
             → plain source.entry.line.now ≡ line_of (bytes_of words.now)
             → AreSourced small self.new) }
+        ensures numbers { OnOk result ((told : RomText) (small : List ℕ) → Reads told self.old
+            → AreSourced small self.old
+            → Numbers self.old (line_of (bytes_of words.now)) source.entry.number self.new) }
     {
         if self.is_bare() && self.tell(words) {
             return Ok(());
@@ -130,6 +138,9 @@ impl<'a, A: Allocator + Copy> Reading<'a, A> {
         ensures kept { IsFalse result → self.new ≡ self.old }
         ensures sources { IsTrue result → (small : List ℕ) → AreSourced small self.old
             → AreSourced small self.new }
+        ensures entries { IsTrue result → KeepsEntries self.old self.new }
+        ensures no_row { IsTrue result → (told : RomText) → Reads told self.old
+            → (row : SpelledRow) → ¬ IsRowLine row (line_of (bytes_of words.now)) }
     {
         if !self.rom.take(words) {
             return false;
@@ -148,6 +159,7 @@ impl<'a, A: Allocator + Copy> Reading<'a, A> {
             → StopsSketch fault (spelled_in told self.old) line) }
         ensures sources { OnOk result ((small : List ℕ) → AreSourced small self.old
             → IsHeadAt small head.entry source.entry → AreSourced small self.new) }
+        ensures entries { OnOk result (KeepsEntries self.old self.new) }
     {
         match head {
             Head::Frame(name) => self.begin_frame(name, source),
@@ -166,6 +178,7 @@ impl<'a, A: Allocator + Copy> Reading<'a, A> {
             → StopsSketch fault (spelled_in told self.old) line) }
         ensures sources { OnOk result ((small : List ℕ) → AreSourced small self.old
             → IsHeadAt small (Head.Frame name.entry) source.entry → AreSourced small self.new) }
+        ensures entries { OnOk result (KeepsEntries self.old self.new) }
     {
         if let Err(fault) = self.frame_names.give(name) {
             return Err(fault);
@@ -183,6 +196,7 @@ impl<'a, A: Allocator + Copy> Reading<'a, A> {
             → StopsSketch fault (spelled_in told self.old) line) }
         ensures sources { OnOk result ((small : List ℕ) → AreSourced small self.old
             → IsHeadAt small (Head.Rom address) source.entry → AreSourced small self.new) }
+        ensures entries { OnOk result (KeepsEntries self.old self.new) }
     {
         let first = self.rom.first();
         if let Err(fault) = self.area.begin(first, address) {
@@ -197,6 +211,7 @@ impl<'a, A: Allocator + Copy> Reading<'a, A> {
         ensures sources { OnOk result ((small : List ℕ) → AreSourced small self.old
             → IsHeadAt small head.entry source.entry → AreSourced small self.new) }
         ensures fault { IfErr result (λ fault. fault ≡ LineFault.Memory) }
+        ensures entries { OnOk result (KeepsEntries self.old self.new) }
     {
         let part = Part::new(self.alloc, Some(head), source);
         let closed = mem::replace(&mut self.last, part);
@@ -218,6 +233,8 @@ impl<'a, A: Allocator + Copy> Reading<'a, A> {
             → StopsSketch fault (spelled_in told self.old) line) }
         ensures sources { OnOk result ((small : List ℕ) → AreSourced small self.old
             → IsRowAt small row.now source.entry → AreSourced small self.new) }
+        ensures entries { OnOk result ((small : List ℕ) → AreSourced small self.old
+            → AddsEntry self.old (row_of row.now) source.entry.number self.new) }
     {
         match self.last.head {
             Some(Head::Rom(_)) => self.add_rom_row(row, source),
@@ -236,6 +253,8 @@ impl<'a, A: Allocator + Copy> Reading<'a, A> {
             → StopsSketch fault (spelled_in told self.old) line) }
         ensures sources { OnOk result ((small : List ℕ) → AreSourced small self.old
             → IsRowAt small row.now source.entry → AreSourced small self.new) }
+        ensures entries { OnOk result ((small : List ℕ) → AreSourced small self.old
+            → AddsEntry self.old (row_of row.now) source.entry.number self.new) }
     {
         if let Err(fault) = self.names.give(row.name) {
             return Err(fault);
@@ -258,6 +277,8 @@ impl<'a, A: Allocator + Copy> Reading<'a, A> {
             → StopsSketch fault (spelled_in told self.old) line) }
         ensures sources { OnOk result ((small : List ℕ) → AreSourced small self.old
             → IsRowAt small row.now source.entry → AreSourced small self.new) }
+        ensures entries { OnOk result ((small : List ℕ) → AreSourced small self.old
+            → AddsEntry self.old (row_of row.now) source.entry.number self.new) }
     {
         if !may_stand_in_rom(row) {
             return Err(LineFault::Syntax);
