@@ -26,4 +26,7 @@ mod NamesLaid
 mod RomGiven
 mod EntriesMore
 mod NumberSteps
+mod UnknownRows
+mod UnknownSections
+mod UnknownText
 mod SketchRead

@@ -5,7 +5,7 @@ use Rattle.std.proofs.lemmas.List.Quantifiers.{all_pairs_push}
 use Rattle.std.specs.List.{AllPairs}
 use Rattle.dvg_text.specs.Texts.{parts, told}
 use Rattle.dvg_named.specs.declared.reading.Reading.{Reading}
-use Rattle.dvg_named.specs.LineNumbers.{AddsEntry, AreNumbered, Entry, IsEntryOf, KeepsEntries, entries_in, head_at_top}
+use Rattle.dvg_named.specs.LineNumbers.{AreNumbered, Entry, IsEntryOf, KeepsEntries, entries_in, head_at_top}
 use Rattle.dvg_frame.specs.declared.op.OpKind.{OpKind}
 use Rattle.dvg_text.specs.OpLines.{OpParts}
 use Rattle.dvg_named.specs.ReadParts.{later}

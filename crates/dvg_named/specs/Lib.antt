@@ -20,6 +20,7 @@ pub mod RowMoves
 pub mod SketchReading
 pub mod SourcedRows
 pub mod LineNumbers
+pub mod FirstUnknown
 pub mod TextReading
 pub mod FrameValues
 pub mod RomNames

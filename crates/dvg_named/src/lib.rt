@@ -1,9 +1,9 @@
 //! Sketches as texts: drafts with names, of one or more frames, and the shapes of their ROM (the
 //! format is this project's own choice). They are defined here. All lines of a text are read, each
 //! within the limits, or up to the first line at fault. Of all lines that were read there are the
-//! frames, the bytes of the ROM and its names. Rows become numbers and addresses of names, drafts
-//! and words of the ROM. What joins them to a whole sketch, and tells the line of a name that no
-//! line gives, is missing.
+//! frames, the bytes of the ROM and its names, and the first line that wants a name which no line
+//! gives. Rows become numbers and addresses of names, drafts and words of the ROM. What joins them
+//! to a whole sketch is missing.
 #![tactic(auto)]
 
 mod addresses;
@@ -28,6 +28,7 @@ mod row;
 mod sizes;
 mod text_reading;
 mod told_rom;
+mod unknown;
 
 pub use addresses::rom_names;
 pub use drafting::draft_of;

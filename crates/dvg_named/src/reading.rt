@@ -18,6 +18,7 @@ use crate::rom_words::{RomRow, put_sections};
 use crate::row::{Doing, Head, Row, read_head, read_row};
 use crate::sizes::words_of_row;
 use crate::told_rom::ToldRom;
+use crate::unknown::first_unknown;
 use arrayvec::ArrayVec;
 use dvg_code::OutOfMemory;
 use dvg_frame::OpKind;
@@ -70,7 +71,11 @@ impl<'a, A: Allocator + Copy> Reading<'a, A> {
     ghost use Rattle.dvg_named.specs.SourcedRows.{IsRowAt};
     ghost use Rattle.dvg_named.specs.LineNumbers.{AddsEntry, KeepsEntries, Numbers, entries_in};
     ghost use Rattle.dvg_named.specs.LineNumbers.{head_at_top};
-    ghost use Rattle.std.specs.Prelude.{None};
+    ghost use Rattle.std.specs.Prelude.{None, IfNone, IfSome, map};
+    ghost use Rattle.std.specs.Char.{to_ascii_lowercase};
+    ghost use Rattle.dvg_named.specs.declared.fault.NamedFault.TheVariants.{Unknown};
+    ghost use Rattle.dvg_named.specs.FirstUnknown.{WantsNone, sections_in};
+    ghost use Rattle.dvg_named.specs.NamedFaults.{HasNamedFault};
 
     /// Before the first line, which is this one.
     pub fn new(alloc: A, first: Source<'a>) -> Reading<'a, A>
@@ -322,6 +327,21 @@ impl<'a, A: Allocator + Copy> Reading<'a, A> {
             Ok(()) => Ok(bytes),
             Err(row) => Err(row),
         }
+    }
+
+    /// The number of the first line that wants a name which isn't given, after all lines of a text.
+    /// No memory is taken. The time grows with the number of rows times that of the rows that want
+    /// a name.
+    pub fn first_unknown(&self, laid: &[LaidRows]) -> Option<usize>
+        requires { IsLaidText self.now laid.now }
+        ensures unknown { IfSome result (λ number. (small text : List ℕ)
+            → (read : ReadsText small self.now)
+            → laid_sections laid.now ≡ laid_of (spelled_in read.rom self.now)
+            → map to_ascii_lowercase text ≡ small → HasNamedFault text (Unknown number)) }
+        ensures known { IfNone result
+            (All (WantsNone (laid_sections laid.now)) (sections_in self.now)) }
+    {
+        first_unknown(self.closed.as_slice(), &self.last, laid)
     }
 
     /// The frames, in order, after the lines that were read. A growth may be refused.

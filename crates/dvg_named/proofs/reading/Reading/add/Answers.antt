@@ -1,6 +1,6 @@
 use Rattle.dvg_named.specs.LineNumbers.{AddsEntry, KeepsEntries, adds, keeps}
 use Rattle.dvg_named.specs.SourcedRows.{AreSourced}
-use Rattle.dvg_named.specs.RowValues.{head_of, row_of}
+use Rattle.dvg_named.specs.RowValues.{row_of}
 use Rattle.dvg_named.proofs.OneSketch.{head_is_no_row}
 use Rattle.dvg_named.proofs.ReadRows.{on_ok}
 use Rattle.std.proofs.Common.{◌≡◌, Bool, true, false, subst, sym, ◌∙◌}
