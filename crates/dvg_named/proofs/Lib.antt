@@ -29,4 +29,5 @@ mod NumberSteps
 mod UnknownRows
 mod UnknownSections
 mod UnknownText
+mod FlatSpans
 mod SketchRead

@@ -26,5 +26,6 @@ pub mod FrameValues
 pub mod RomNames
 pub mod GivenRoms
 pub mod FlatDrafts
+pub mod FlatFrames
 pub mod Examples
 pub mod TextExamples

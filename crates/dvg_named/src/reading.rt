@@ -345,7 +345,7 @@ impl<'a, A: Allocator + Copy> Reading<'a, A> {
     }
 
     /// The frames, in order, after the lines that were read. A growth may be refused.
-    pub fn frames(&self) -> Result<Vec<FrameRows<'_>, A>, OutOfMemory>
+    pub fn frames(&self) -> Result<Vec<FrameRows<'_, 'a>, A>, OutOfMemory>
         ensures frames { IfOk result (λ found. (told : RomText)
             → frames_of found.items ≡ frames (spelled_in told self.now)) }
         ensures sources { IfOk result (λ found. (small : List ℕ) → AreSourced small self.now

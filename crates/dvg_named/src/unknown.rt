@@ -49,7 +49,8 @@ fn unknown_in<A: Allocator + Copy>(part: &Part<'_, A>, laid: &[LaidRows]) -> Opt
     requires lines { HasLines part.now }
     ensures first { (sections : List Section) (number : ℕ)
         → slice_get sections number ≡ Some (section_in part.now)
-        → FirstOf (WantsIn (laid_sections laid.now) sections) (entries_last number part.now) result }
+        → FirstOf (WantsIn (laid_sections laid.now) sections) (entries_last number part.now)
+        result }
     ensures known { IfNone result (WantsNone (laid_sections laid.now) (section_in part.now)) }
 {
     match first_in(part.head, part.rows.as_slice(), laid) {
