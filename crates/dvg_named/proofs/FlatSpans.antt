@@ -1,15 +1,13 @@
 -- Where the operations of frames stand in one list, with a frame more.
-use Rattle.std.proofs.Common.{◌≡◌, ◌<◌, ◌≤◌, ◌-◌, ◌+◌, ℕ, List, [], ◌∷◌, ◌++◌, length, take, drop, refl, sym, ap, subst, ◌∙◌, arith, suc, zero, length-append, min}
+use Rattle.std.proofs.Common.{◌≡◌, ◌≤◌, ◌-◌, ◌+◌, ℕ, List, [], ◌∷◌, ◌++◌, length, take, drop, refl, sym, ap, subst, ◌∙◌, arith, suc, zero, length-append}
 use Rattle.std.specs.List.{AllZip}
 use Rattle.std.proofs.lemmas.List.{take_all}
 use Rattle.dvg_frame.specs.declared.op.OpKind.{OpKind}
-use Rattle.dvg_named.specs.declared.flat_draft.DraftFault.{DraftFault}
 use Rattle.dvg_named.specs.declared.joining.FrameSpan.{FrameSpan}
 use Rattle.dvg_named.specs.declared.frame_rows.FrameRows as held
-use Rattle.dvg_named.specs.FlatFrames.{IsSpanOf, frame_at}
-use Rattle.dvg_named.specs.FrameValues.{frame_held}
+use Rattle.dvg_named.specs.FlatFrames.{IsSpanOf}
 use Rattle.dvg_named.specs.HeldRows.{rows_of}
-use Rattle.dvg_named.specs.Meanings.{Frame, IsDrafted, IsFrameOf}
+use Rattle.dvg_named.specs.Meanings.{IsDrafted}
 use Rattle.dvg_named.specs.Places.{Laid, doings}
 use Rattle.dvg_named.specs.RowValues.{name_of}
 

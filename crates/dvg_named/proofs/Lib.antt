@@ -30,4 +30,5 @@ mod UnknownRows
 mod UnknownSections
 mod UnknownText
 mod FlatSpans
+mod KnownFrames
 mod SketchRead

@@ -21,7 +21,7 @@ use Rattle.dvg_named.specs.TextReading.{ReadsText}
 use Rattle.dvg_named.proofs.OneSketch.{one_sketch}
 
 -- all sections that are held, where no line begins the first
-sections_are : {A : Type 0} (rom : RomText) (closed : List (Part A)) (last : Part A) → first_head closed last ≡ None
+pub sections_are : {A : Type 0} (rom : RomText) (closed : List (Part A)) (last : Part A) → first_head closed last ≡ None
     → sections (sketch_of rom (map section_in closed) (section_in last)) ≡ all_sections closed last
 sections_are rom [] last top =
     ap (λ head. record { head = head_in head; rows = (section_in last).rows } ∷ []) (sym top)

@@ -8,6 +8,7 @@ ghost use Rattle.dvg_named.specs.Sections.{MayStand};
 
 use crate::frame_rows::{FrameRows, frame_rows};
 use crate::given_names::GivenNames;
+use crate::joining::{JoinedFrames, join_frames};
 use crate::laid::{LaidRows, lay};
 use crate::line_fault::LineFault;
 use crate::meaning::Source;
@@ -75,6 +76,9 @@ impl<'a, A: Allocator + Copy> Reading<'a, A> {
     ghost use Rattle.std.specs.Char.{to_ascii_lowercase};
     ghost use Rattle.dvg_named.specs.declared.fault.NamedFault.TheVariants.{Unknown};
     ghost use Rattle.dvg_named.specs.FirstUnknown.{WantsNone, sections_in};
+    ghost use Rattle.dvg_named.specs.FlatFrames.{frame_at};
+    ghost use Rattle.dvg_named.specs.Meanings.{IsFrameOf};
+    ghost use Rattle.std.specs.List.{AllZip};
     ghost use Rattle.dvg_named.specs.NamedFaults.{HasNamedFault};
 
     /// Before the first line, which is this one.
@@ -352,6 +356,19 @@ impl<'a, A: Allocator + Copy> Reading<'a, A> {
             → All (IsFrameAt small) found.items) }
     {
         frame_rows(self.alloc, self.closed.as_slice(), &self.last)
+    }
+
+    /// The drafts of the frames, in order, after all lines of a text, where each name is given. A
+    /// growth may be refused.
+    pub fn drafts(&self, laid: &[LaidRows]) -> Result<JoinedFrames<'a, A>, OutOfMemory>
+        requires text { IsLaidText self.now laid.now }
+        requires known { All (WantsNone (laid_sections laid.now)) (sections_in self.now) }
+        ensures { IfOk result (λ joined. (told : RomText)
+            → AllZip (IsFrameOf (laid_sections laid.now)) (frames (spelled_in told self.now))
+            (map (frame_at joined.ops.items) joined.spans.items)) }
+    {
+        let found = self.frames()?;
+        join_frames(self.alloc, found.as_slice(), laid)
     }
 }
 
