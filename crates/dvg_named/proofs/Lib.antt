@@ -31,4 +31,5 @@ mod UnknownSections
 mod UnknownText
 mod FlatSpans
 mod KnownFrames
+mod KnownRom
 mod SketchRead

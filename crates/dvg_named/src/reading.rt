@@ -325,6 +325,8 @@ impl<'a, A: Allocator + Copy> Reading<'a, A> {
             → laid_sections laid.now ≡ laid_of (spelled_in told self.now)
             → GivesRom (spelled_in told self.now) bytes.items) }
         ensures ungiven { IfErr result (IsFirstInRom (laid_sections laid.now)) }
+        ensures known { IfErr result (λ row.
+            ¬ All (WantsNone (laid_sections laid.now)) (sections_in self.now)) }
     {
         let mut bytes = self.rom.bytes();
         match put_sections(bytes.as_mut_slice(), laid) {
