@@ -2,8 +2,8 @@
 //! format is this project's own choice). They are defined here. All lines of a text are read, each
 //! within the limits, or up to the first line at fault. Of all lines that were read there are the
 //! frames, the bytes of the ROM and its names, and the first line that wants a name which no line
-//! gives. The drafts of all frames stand in one list. Rows become numbers and addresses of names, drafts and words of the ROM. What joins them
-//! to a whole sketch is missing.
+//! gives. The drafts of all frames stand in one list. Rows become numbers and addresses of names,
+//! drafts and words of the ROM. What joins them to a whole sketch is missing.
 #![tactic(auto)]
 
 mod addresses;
