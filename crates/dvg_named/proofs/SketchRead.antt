@@ -1,5 +1,5 @@
 -- A text of a sketch, read up to some line.
-use Rattle.std.proofs.Common.{◌≡◌, ◌<◌, ◌≤◌, ◌+◌, ℕ, List, [], ◌∷◌, ◌++◌, length, map, refl, sym, ap, subst, ◌∙◌, arith, Bool, true, false, zero, suc, append_assoc, append-nil, length-append, eqb-true}
+use Rattle.std.proofs.Common.{◌≡◌, ◌<◌, ◌≤◌, ◌+◌, ℕ, List, [], ◌∷◌, ◌++◌, length, map, refl, sym, ap, subst, ◌∙◌, arith, Bool, true, false, zero, suc, append_assoc, append-nil, length-append, eqb-true, None}
 use Rattle.std.proofs.lemmas.List.{length-map, map-append}
 use Rattle.std.specs.Char.{to_ascii_lowercase}
 use Rattle.std.specs.Borrow.{Bor}
@@ -17,11 +17,14 @@ use Rattle.dvg_named.specs.NamedFaults.{Meets, MeetsNothing, ReachesLine}
 use Rattle.dvg_named.specs.PlainLines.{plain, words}
 use Rattle.dvg_named.specs.ReadParts.{sketch_of}
 use Rattle.dvg_named.specs.Sections.{Section, Spelled, SpellsSketch}
-use Rattle.dvg_named.specs.SketchReading.{Breaks, IsBare, Reads, ReadsMore, StopsSketch, section_in, spelled_in}
+use Rattle.dvg_named.specs.SketchReading.{Breaks, IsBare, Reads, ReadsMore, StopsSketch, closed_in, section_in, spelled_in}
 use Rattle.dvg_named.specs.SketchSteps.{AreParts, Goes, line_of}
 use Rattle.dvg_named.specs.declared.meaning.Source.{Source}
 use Rattle.dvg_named.specs.SourcedRows.{AreSourced, IsLineAt}
+use Rattle.dvg_named.specs.LineNumbers.{AreNumbered, Numbers, adds, entries_in, head_at_top, keeps}
+use Rattle.std.specs.List.{join_with_byte}
 use Rattle.dvg_named.specs.TextReading.{StopsText, ReadsText, fault_at}
+use Rattle.dvg_named.proofs.NumberSteps.{later_length, no_empty_row, numbered_added, numbered_kept, numbered_none}
 use Rattle.dvg_named.proofs.FewWords.{few_words}
 use Rattle.dvg_named.proofs.OneSketch.{goes_on, says_more, says_nothing}
 use Rattle.dvg_named.proofs.PlainWords.{parts_of_plain, passed_without_words, told_with_words}
@@ -34,11 +37,12 @@ pub record ReadTo {A : Type 0} (text : List ℕ) (left : List (List ℕ)) (n : �
   pub rom : RomText
   pub spelled : SpellsSketch (spelled_in rom reading) (told (map plain before))
   pub reads : Reads rom reading
+  pub numbered : AreNumbered (map plain before) reading
 
 -- before the first line
 pub begins : {A : Type 0} (text : List ℕ) (left : List (List ℕ)) (reading : Reading A) → left ≡ lines text → IsBare reading
-    → Reads untold reading → ReadTo text left 0 reading
-begins text left reading all bare reads =
+    → Reads untold reading → head_at_top reading ≡ None → entries_in reading ≡ [] → ReadTo text left 0 reading
+begins text left reading all bare reads top none =
     let is : (let s : Section = section_in reading.last in s) ≡ record { head = (section_in reading.last).head; rows = [] } =
     ap (λ rows. record { head = (section_in reading.last).head; rows = rows }) bare.1 in
     record {
@@ -49,6 +53,7 @@ begins text left reading all bare reads =
       spelled = subst (λ closed. SpellsSketch (sketch_of untold closed (section_in reading.last)) []) (sym bare.0)
           (subst (λ last. SpellsSketch (sketch_of untold [] last) []) (sym is) says_nothing);
       reads = reads;
+      numbered = numbered_none reading top none;
     }
 
 module _ {A : Type 0} (text : List ℕ) (left rest : List (List ℕ)) (n : ℕ) (reading : Reading A) (line : List ℕ)
@@ -78,13 +83,29 @@ module _ {A : Type 0} (text : List ℕ) (left rest : List (List ℕ)) (n : ℕ) 
     spelled = subst (SpellsSketch (spelled_in r.rom reading))
         (sym (ap told plain_on ∙ told_more (map plain r.before) (plain line) (passed_without_words line none))) r.spelled;
     reads = r.reads;
+    numbered = subst (λ ls. AreNumbered ls reading) (sym plain_on)
+        (numbered_kept reading reading (map plain r.before) (plain line)
+        (no_empty_row (plain line) (ap (join_with_byte 32) none))
+        (record { top = refl; entries = refl }) r.numbered);
   }
 
   module _ (some : 0 < length (words line)) where
+    numbers_on : (new : Reading A) → ReadsMore r.rom reading (plain line) new → Numbers reading (plain line) (n + 1) new
+        → AreNumbered (map plain r.before ++ plain line ∷ []) new
+    numbers_on new m (keeps same none) = numbered_kept reading new (map plain r.before) (plain line) none same r.numbered
+    numbers_on new m (adds row is h) =
+        let count = r.number in
+        numbered_added (map plain r.before) (plain line) row is (spelled_in m.now new)
+        (says_more (spelled_in r.rom reading) (spelled_in m.now new) (plain line) (told (map plain r.before)) r.spelled m.goes)
+        (record { section = length new.closed.items; row = row; number = n + 1 }) refl
+        (omega (arith, count, length-map r.before plain))
+        (sym (length-map new.closed.items section_in) ∙ later_length (closed_in new) (section_in new.last))
+        reading new h.top h.entries r.numbered
+
     -- a line that goes on
     pub goes : (new : Reading A) → ((rom : RomText) → Reads rom reading → ReadsMore rom reading (plain line) new)
-        → ReadTo text rest (n + 1) new
-    goes new more =
+        → ((rom : RomText) → Reads rom reading → Numbers reading (plain line) (n + 1) new) → ReadTo text rest (n + 1) new
+    goes new more numbers =
         let m = more r.rom r.reads in
         record {
           before = r.before ++ line ∷ [];
@@ -95,6 +116,7 @@ module _ {A : Type 0} (text : List ℕ) (left rest : List (List ℕ)) (n : ℕ) 
               (sym (ap told plain_on ∙ told_one (map plain r.before) (plain line) (told_with_words line some)))
               (says_more (spelled_in r.rom reading) (spelled_in m.now new) (plain line) (told (map plain r.before)) r.spelled m.goes);
           reads = m.reads;
+          numbered = subst (λ ls. AreNumbered ls new) (sym plain_on) (numbers_on new m (numbers r.rom r.reads));
         }
 
     module _ (whole : List ℕ) (is : map to_ascii_lowercase whole ≡ text) (short : IsShort whole) where
@@ -165,10 +187,11 @@ module _ {A : Type 0} (text : List ℕ) (left rest : List (List ℕ)) (n : ℕ) 
     plain_is = ap line_of (sym e)
 
     pub goes_by : (new : Reading A) → ((rom : RomText) → Reads rom reading → ReadsMore rom reading (line_of cut) new)
-        → ReadTo text rest (n + 1) new
-    goes_by new more =
+        → ((rom : RomText) → Reads rom reading → Numbers reading (line_of cut) (n + 1) new) → ReadTo text rest (n + 1) new
+    goes_by new more numbers =
         goes some new
         (λ rom reads. subst (λ ws. ReadsMore rom reading (line_of ws) new) e (more rom reads))
+        (λ rom reads. subst (λ ws. Numbers reading (line_of ws) (n + 1) new) e (numbers rom reads))
 
     pub stops_words : (fault : LineFault)
         → ((rom : RomText) → Reads rom reading → StopsSketch fault (spelled_in rom reading) (line_of cut))
@@ -212,6 +235,8 @@ reads_all text left n reading none r short sourced = record {
       (sym (r.cut ∙ ap (λ l. r.before ++ l) none ∙ append-nil r.before)) r.spelled;
   reads = r.reads;
   sourced = sourced;
+  numbered = subst (λ ls. AreNumbered (map plain ls) reading)
+      (sym (r.cut ∙ ap (λ l. r.before ++ l) none ∙ append-nil r.before)) r.numbered;
 }
 
 -- no more lines were read than there are bytes

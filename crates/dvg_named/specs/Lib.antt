@@ -19,10 +19,13 @@ pub mod RomParts
 pub mod RowMoves
 pub mod SketchReading
 pub mod SourcedRows
+pub mod LineNumbers
+pub mod FirstUnknown
 pub mod TextReading
 pub mod FrameValues
 pub mod RomNames
 pub mod GivenRoms
 pub mod FlatDrafts
+pub mod FlatFrames
 pub mod Examples
 pub mod TextExamples

@@ -8,6 +8,7 @@ use Rattle.dvg_named.specs.declared.fault.SketchFault.TheVariants.{Memory, Text}
 use Rattle.dvg_named.specs.declared.line_fault.LineFault.{LineFault}
 use Rattle.dvg_named.specs.declared.line_fault.LineFault.TheVariants as line_fault
 use Rattle.dvg_named.specs.declared.reading.Reading.{Reading}
+use Rattle.dvg_named.specs.LineNumbers.{AreNumbered}
 use Rattle.dvg_named.specs.NamedFaults.{HasNamedFault}
 use Rattle.dvg_named.specs.PlainLines.{plain}
 use Rattle.dvg_named.specs.Sections.{SpellsSketch}
@@ -21,6 +22,7 @@ pub record ReadsText {A : Type 0} (small : List ℕ) (reading : Reading A) : Typ
   pub spelled : SpellsSketch (spelled_in rom reading) (told (map plain (lines small)))
   pub reads : Reads rom reading
   pub sourced : AreSourced small reading
+  pub numbered : AreNumbered (map plain (lines small)) reading
 
 -- why a text isn't read: its fault, or want of memory
 abbrev pub StopsText : SketchFault → (text : List ℕ) → Type 0

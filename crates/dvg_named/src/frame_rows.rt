@@ -18,24 +18,24 @@ use std::alloc::Allocator;
 
 /// The rows of a frame, and the lines that they stand in.
 #[derive(Clone, Copy)]
-pub struct FrameRows<'a> {
+pub struct FrameRows<'r, 'a> {
     /// Its name, if it has one.
     pub name: Option<&'a [u8]>,
     /// The line that begins it. That of a frame at the top is the text's first line.
     pub begin: Source<'a>,
     /// Its rows, in order.
-    pub rows: &'a [Row<'a>],
+    pub rows: &'r [Row<'a>],
     /// The line of each row.
-    pub sources: &'a [Source<'a>],
+    pub sources: &'r [Source<'a>],
 }
 
 /// The frames, in order: of the sections before the last one, and of that one. The first section of
 /// all is that at the top.
-pub(crate) fn frame_rows<'a, A: Allocator + Copy>(
+pub(crate) fn frame_rows<'r, 'a, A: Allocator + Copy>(
     alloc: A,
-    closed: &'a [Part<'a, A>],
-    last: &'a Part<'a, A>,
-) -> Result<Vec<FrameRows<'a>, A>, OutOfMemory>
+    closed: &'r [Part<'a, A>],
+    last: &'r Part<'a, A>,
+) -> Result<Vec<FrameRows<'r, 'a>, A>, OutOfMemory>
     ensures frames { IfOk result (λ found. (told : RomText) → frames_of found.items
         ≡ frames (sketch_of told (map section_in closed.now) (section_in last.now))) }
     ensures sources { IfOk result (λ found. (small : List ℕ) → All (IsPartAt small) closed.now
@@ -52,11 +52,11 @@ pub(crate) fn frame_rows<'a, A: Allocator + Copy>(
 }
 
 // The frames among the section at the top, which others follow, and these sections.
-fn later_frames<'a, A: Allocator + Copy>(
+fn later_frames<'r, 'a, A: Allocator + Copy>(
     alloc: A,
-    top: &'a Part<'a, A>,
-    others: &'a [Part<'a, A>],
-) -> Result<Vec<FrameRows<'a>, A>, OutOfMemory>
+    top: &'r Part<'a, A>,
+    others: &'r [Part<'a, A>],
+) -> Result<Vec<FrameRows<'r, 'a>, A>, OutOfMemory>
     ensures frames { IfOk result (λ found. frames_of found.items
         ≡ rows_at_top (rows_of top.now.rows.items)
         ++ filter_map frame_in (map section_in others.now)) }
@@ -74,9 +74,9 @@ fn later_frames<'a, A: Allocator + Copy>(
 }
 
 // Adds the section at the top.
-fn push_top<'a, A: Allocator + Copy>(
-    found: &mut Vec<FrameRows<'a>, A>,
-    top: &'a Part<'a, A>,
+fn push_top<'r, 'a, A: Allocator + Copy>(
+    found: &mut Vec<FrameRows<'r, 'a>, A>,
+    top: &'r Part<'a, A>,
 ) -> Result<(), OutOfMemory>
     ensures frames { OnOk result (frames_of found.new.items ≡ frames_of found.old.items
         ++ record { name = None; rows = rows_of top.now.rows.items } ∷ []) }
@@ -93,9 +93,9 @@ fn push_top<'a, A: Allocator + Copy>(
 }
 
 // Adds a section, where it is a frame.
-fn push_frame<'a, A: Allocator + Copy>(
-    found: &mut Vec<FrameRows<'a>, A>,
-    part: &'a Part<'a, A>,
+fn push_frame<'r, 'a, A: Allocator + Copy>(
+    found: &mut Vec<FrameRows<'r, 'a>, A>,
+    part: &'r Part<'a, A>,
 ) -> Result<(), OutOfMemory>
     ensures frames { OnOk result (frames_of found.new.items ≡ frames_of found.old.items
         ++ frame_list (head_in part.now.head) (rows_of part.now.rows.items)) }

@@ -1,9 +1,9 @@
 //! Sketches as texts: drafts with names, of one or more frames, and the shapes of their ROM (the
 //! format is this project's own choice). They are defined here. All lines of a text are read, each
 //! within the limits, or up to the first line at fault. Of all lines that were read there are the
-//! frames, the bytes of the ROM and its names. Rows become numbers and addresses of names, drafts
-//! and words of the ROM. What joins them to a whole sketch, and tells the line of a name that no
-//! line gives, is missing.
+//! frames, the bytes of the ROM and its names, and the first line that wants a name which no line
+//! gives. The drafts of all frames stand in one list. Rows become numbers and addresses of names,
+//! drafts and words of the ROM. What joins them to a whole sketch is missing.
 #![tactic(auto)]
 
 mod addresses;
@@ -13,6 +13,7 @@ mod fault;
 mod flat_draft;
 mod frame_rows;
 mod given_names;
+mod joining;
 mod laid;
 pub mod laws;
 mod line_fault;
@@ -28,12 +29,14 @@ mod row;
 mod sizes;
 mod text_reading;
 mod told_rom;
+mod unknown;
 
 pub use addresses::rom_names;
 pub use drafting::draft_of;
 pub use fault::{NamedFault, SketchFault};
 pub use flat_draft::{DraftFault, push_draft};
 pub use frame_rows::FrameRows;
+pub use joining::{FrameSpan, JoinedFrames, join_frames};
 pub use laid::{LaidRows, RomRows, address_of, free_with, lay};
 pub use line_words::{MAX_WORDS, words_of};
 pub use meaning::{NamedFrame, RomName, Source};

@@ -8,6 +8,7 @@ ghost use Rattle.dvg_named.specs.Sections.{MayStand};
 
 use crate::frame_rows::{FrameRows, frame_rows};
 use crate::given_names::GivenNames;
+use crate::joining::{JoinedFrames, join_frames};
 use crate::laid::{LaidRows, lay};
 use crate::line_fault::LineFault;
 use crate::meaning::Source;
@@ -18,6 +19,7 @@ use crate::rom_words::{RomRow, put_sections};
 use crate::row::{Doing, Head, Row, read_head, read_row};
 use crate::sizes::words_of_row;
 use crate::told_rom::ToldRom;
+use crate::unknown::first_unknown;
 use arrayvec::ArrayVec;
 use dvg_code::OutOfMemory;
 use dvg_frame::OpKind;
@@ -55,7 +57,7 @@ impl<'a, A: Allocator + Copy> Reading<'a, A> {
     ghost use Rattle.dvg_text.specs.RomTexts.{RomText};
     ghost use Rattle.dvg_text.specs.RomReading.{TellsRom};
     ghost use Rattle.dvg_named.specs.RowValues.{head_of, name_of, row_of};
-    ghost use Rattle.dvg_named.specs.Rows.{IsHeadLine, IsRowLine, frame, rom};
+    ghost use Rattle.dvg_named.specs.Rows.{IsHeadLine, IsRowLine, Row as SpelledRow, frame, rom};
     ghost use Rattle.dvg_named.specs.RowMoves.{IsFrameHead, IsRomHead};
     ghost use Rattle.dvg_named.specs.SketchReading.{IsBare, Opens, Reads, ReadsMore, StopsSketch};
     ghost use Rattle.dvg_named.specs.SketchReading.{head_in, spelled_in};
@@ -68,6 +70,16 @@ impl<'a, A: Allocator + Copy> Reading<'a, A> {
     ghost use Rattle.dvg_named.specs.SketchSteps.{AreParts, line_of};
     ghost use Rattle.dvg_named.specs.SourcedRows.{AreSourced, BeginsIn, IsHeadAt, IsLineAt};
     ghost use Rattle.dvg_named.specs.SourcedRows.{IsRowAt};
+    ghost use Rattle.dvg_named.specs.LineNumbers.{AddsEntry, KeepsEntries, Numbers, entries_in};
+    ghost use Rattle.dvg_named.specs.LineNumbers.{head_at_top};
+    ghost use Rattle.std.specs.Prelude.{None, IfNone, IfSome, map};
+    ghost use Rattle.std.specs.Char.{to_ascii_lowercase};
+    ghost use Rattle.dvg_named.specs.declared.fault.NamedFault.TheVariants.{Unknown};
+    ghost use Rattle.dvg_named.specs.FirstUnknown.{WantsNone, sections_in};
+    ghost use Rattle.dvg_named.specs.FlatFrames.{frame_at};
+    ghost use Rattle.dvg_named.specs.Meanings.{IsFrameOf};
+    ghost use Rattle.std.specs.List.{AllZip};
+    ghost use Rattle.dvg_named.specs.NamedFaults.{HasNamedFault};
 
     /// Before the first line, which is this one.
     pub fn new(alloc: A, first: Source<'a>) -> Reading<'a, A>
@@ -75,6 +87,8 @@ impl<'a, A: Allocator + Copy> Reading<'a, A> {
         ensures bare { IsBare result }
         ensures sources { (small : List ℕ) → BeginsIn small None first.entry
             → AreSourced small result }
+        ensures top { head_at_top result ≡ None }
+        ensures entries { entries_in result ≡ [] }
     {
         Reading {
             alloc,
@@ -100,6 +114,9 @@ impl<'a, A: Allocator + Copy> Reading<'a, A> {
             → IsLineAt small source.entry
             → plain source.entry.line.now ≡ line_of (bytes_of words.now)
             → AreSourced small self.new) }
+        ensures numbers { OnOk result ((told : RomText) (small : List ℕ) → Reads told self.old
+            → AreSourced small self.old
+            → Numbers self.old (line_of (bytes_of words.now)) source.entry.number self.new) }
     {
         if self.is_bare() && self.tell(words) {
             return Ok(());
@@ -130,6 +147,9 @@ impl<'a, A: Allocator + Copy> Reading<'a, A> {
         ensures kept { IsFalse result → self.new ≡ self.old }
         ensures sources { IsTrue result → (small : List ℕ) → AreSourced small self.old
             → AreSourced small self.new }
+        ensures entries { IsTrue result → KeepsEntries self.old self.new }
+        ensures no_row { IsTrue result → (told : RomText) → Reads told self.old
+            → (row : SpelledRow) → ¬ IsRowLine row (line_of (bytes_of words.now)) }
     {
         if !self.rom.take(words) {
             return false;
@@ -148,6 +168,7 @@ impl<'a, A: Allocator + Copy> Reading<'a, A> {
             → StopsSketch fault (spelled_in told self.old) line) }
         ensures sources { OnOk result ((small : List ℕ) → AreSourced small self.old
             → IsHeadAt small head.entry source.entry → AreSourced small self.new) }
+        ensures entries { OnOk result (KeepsEntries self.old self.new) }
     {
         match head {
             Head::Frame(name) => self.begin_frame(name, source),
@@ -166,6 +187,7 @@ impl<'a, A: Allocator + Copy> Reading<'a, A> {
             → StopsSketch fault (spelled_in told self.old) line) }
         ensures sources { OnOk result ((small : List ℕ) → AreSourced small self.old
             → IsHeadAt small (Head.Frame name.entry) source.entry → AreSourced small self.new) }
+        ensures entries { OnOk result (KeepsEntries self.old self.new) }
     {
         if let Err(fault) = self.frame_names.give(name) {
             return Err(fault);
@@ -183,6 +205,7 @@ impl<'a, A: Allocator + Copy> Reading<'a, A> {
             → StopsSketch fault (spelled_in told self.old) line) }
         ensures sources { OnOk result ((small : List ℕ) → AreSourced small self.old
             → IsHeadAt small (Head.Rom address) source.entry → AreSourced small self.new) }
+        ensures entries { OnOk result (KeepsEntries self.old self.new) }
     {
         let first = self.rom.first();
         if let Err(fault) = self.area.begin(first, address) {
@@ -197,6 +220,7 @@ impl<'a, A: Allocator + Copy> Reading<'a, A> {
         ensures sources { OnOk result ((small : List ℕ) → AreSourced small self.old
             → IsHeadAt small head.entry source.entry → AreSourced small self.new) }
         ensures fault { IfErr result (λ fault. fault ≡ LineFault.Memory) }
+        ensures entries { OnOk result (KeepsEntries self.old self.new) }
     {
         let part = Part::new(self.alloc, Some(head), source);
         let closed = mem::replace(&mut self.last, part);
@@ -218,6 +242,8 @@ impl<'a, A: Allocator + Copy> Reading<'a, A> {
             → StopsSketch fault (spelled_in told self.old) line) }
         ensures sources { OnOk result ((small : List ℕ) → AreSourced small self.old
             → IsRowAt small row.now source.entry → AreSourced small self.new) }
+        ensures entries { OnOk result ((small : List ℕ) → AreSourced small self.old
+            → AddsEntry self.old (row_of row.now) source.entry.number self.new) }
     {
         match self.last.head {
             Some(Head::Rom(_)) => self.add_rom_row(row, source),
@@ -236,6 +262,8 @@ impl<'a, A: Allocator + Copy> Reading<'a, A> {
             → StopsSketch fault (spelled_in told self.old) line) }
         ensures sources { OnOk result ((small : List ℕ) → AreSourced small self.old
             → IsRowAt small row.now source.entry → AreSourced small self.new) }
+        ensures entries { OnOk result ((small : List ℕ) → AreSourced small self.old
+            → AddsEntry self.old (row_of row.now) source.entry.number self.new) }
     {
         if let Err(fault) = self.names.give(row.name) {
             return Err(fault);
@@ -258,6 +286,8 @@ impl<'a, A: Allocator + Copy> Reading<'a, A> {
             → StopsSketch fault (spelled_in told self.old) line) }
         ensures sources { OnOk result ((small : List ℕ) → AreSourced small self.old
             → IsRowAt small row.now source.entry → AreSourced small self.new) }
+        ensures entries { OnOk result ((small : List ℕ) → AreSourced small self.old
+            → AddsEntry self.old (row_of row.now) source.entry.number self.new) }
     {
         if !may_stand_in_rom(row) {
             return Err(LineFault::Syntax);
@@ -295,6 +325,8 @@ impl<'a, A: Allocator + Copy> Reading<'a, A> {
             → laid_sections laid.now ≡ laid_of (spelled_in told self.now)
             → GivesRom (spelled_in told self.now) bytes.items) }
         ensures ungiven { IfErr result (IsFirstInRom (laid_sections laid.now)) }
+        ensures known { IfErr result (λ row.
+            ¬ All (WantsNone (laid_sections laid.now)) (sections_in self.now)) }
     {
         let mut bytes = self.rom.bytes();
         match put_sections(bytes.as_mut_slice(), laid) {
@@ -303,14 +335,42 @@ impl<'a, A: Allocator + Copy> Reading<'a, A> {
         }
     }
 
+    /// The number of the first line that wants a name which isn't given, after all lines of a text.
+    /// No memory is taken. The time grows with the number of rows times that of the rows that want
+    /// a name.
+    pub fn first_unknown(&self, laid: &[LaidRows]) -> Option<usize>
+        requires { IsLaidText self.now laid.now }
+        ensures unknown { IfSome result (λ number. (small text : List ℕ)
+            → (read : ReadsText small self.now)
+            → laid_sections laid.now ≡ laid_of (spelled_in read.rom self.now)
+            → map to_ascii_lowercase text ≡ small → HasNamedFault text (Unknown number)) }
+        ensures known { IfNone result
+            (All (WantsNone (laid_sections laid.now)) (sections_in self.now)) }
+    {
+        first_unknown(self.closed.as_slice(), &self.last, laid)
+    }
+
     /// The frames, in order, after the lines that were read. A growth may be refused.
-    pub fn frames(&self) -> Result<Vec<FrameRows<'_>, A>, OutOfMemory>
+    pub fn frames(&self) -> Result<Vec<FrameRows<'_, 'a>, A>, OutOfMemory>
         ensures frames { IfOk result (λ found. (told : RomText)
             → frames_of found.items ≡ frames (spelled_in told self.now)) }
         ensures sources { IfOk result (λ found. (small : List ℕ) → AreSourced small self.now
             → All (IsFrameAt small) found.items) }
     {
         frame_rows(self.alloc, self.closed.as_slice(), &self.last)
+    }
+
+    /// The drafts of the frames, in order, after all lines of a text, where each name is given. A
+    /// growth may be refused.
+    pub fn drafts(&self, laid: &[LaidRows]) -> Result<JoinedFrames<'a, A>, OutOfMemory>
+        requires text { IsLaidText self.now laid.now }
+        requires known { All (WantsNone (laid_sections laid.now)) (sections_in self.now) }
+        ensures { IfOk result (λ joined. (told : RomText)
+            → AllZip (IsFrameOf (laid_sections laid.now)) (frames (spelled_in told self.now))
+            (map (frame_at joined.ops.items) joined.spans.items)) }
+    {
+        let found = self.frames()?;
+        join_frames(self.alloc, found.as_slice(), laid)
     }
 }
 

@@ -15,7 +15,8 @@ loop-line-init g c =
       ends = tt;
       short = search rules;
       sourced = c.new-reading.ensures.sources c.args.small.now (c.first_line.ensures.number, c.first_line.ensures.line);
-      read = begins c.args.small.now (lines_left start) c.new-reading.result all c.new-reading.ensures.bare c.new-reading.ensures.reads;
+      read = begins c.args.small.now (lines_left start) c.new-reading.result all c.new-reading.ensures.bare c.new-reading.ensures.reads
+          c.new-reading.ensures.top c.new-reading.ensures.entries;
     }
 
 pub overflow_add-number : goal.overflow_add-number
@@ -72,7 +73,8 @@ loop-line-preserved g c = record {
       (bytes_of c.as_slice.result.now) (ap bytes_of c.as_slice.ensures.value ∙ c.in-Some-words_of.ensures.found)
       (some_words c.in-Some-words_of.words.items c.in-Some.line.now c.is_empty.result c.is_empty.ensures c.if-is_empty.false
       c.in-Some-words_of.ensures.found)
-      c.add.new.self c.in_default-add.ensures.added;
+      c.add.new.self c.in_default-add.ensures.added
+      (λ rom reads. c.in_default-add.ensures.numbers rom c.args.small.now reads c.loop-line.invariant.sourced);
 }
 
 pub returns-clause-read : goal.returns-clause-read

@@ -1,4 +1,9 @@
-use Rattle.std.proofs.Common.{◌≡◌, Bool, true, false, subst}
+use Rattle.dvg_named.specs.LineNumbers.{AddsEntry, KeepsEntries, adds, keeps}
+use Rattle.dvg_named.specs.SourcedRows.{AreSourced}
+use Rattle.dvg_named.specs.RowValues.{row_of}
+use Rattle.dvg_named.proofs.OneSketch.{head_is_no_row}
+use Rattle.dvg_named.proofs.ReadRows.{on_ok}
+use Rattle.std.proofs.Common.{◌≡◌, Bool, true, false, subst, sym, ◌∙◌}
 use Rattle.dvg_text.specs.LineParts.{bytes_of}
 use Rattle.dvg_text.specs.RomReading.{TellsRom}
 use Rattle.dvg_text.specs.RomTexts.{RomText}
@@ -26,3 +31,27 @@ returns-in_default-read_row-clause-fault g c told reads now =
     (λ none empty rom says. no_rom (none, empty) rom says)
     (λ head is. c.in_default.ensures.only head (subst (HeadParts head) c.requires is))
     (λ row is. absurd (c.in_default-read_row.ensures.only row (subst (RowParts row) c.requires is)))
+
+pub returns-in-Some-clause-numbers : goal.returns-in-Some-clause-numbers
+returns-in-Some-clause-numbers g c =
+    let old : c.else-is_bare.self ≡ c.args.self.now =
+    elim c.else-is_bare.branch [
+      | else-is_bare-via-then-is_bare+else-tell w ↦ w.self-is ∙ w.tell.ensures.kept w.if-tell.false
+      | else-is_bare-via-else-is_bare w ↦ w.self-is
+    ] in
+    on_ok c.begin_section.result c.begin_section.ensures.entries (λ same told small reads sourced.
+    keeps (subst (λ old. KeepsEntries old c.begin_section.new.self) old same)
+    (λ row is. head_is_no_row c.in-Some.ensures.found (subst (RowParts row) c.requires is)))
+
+pub returns-clause-numbers : goal.returns-clause-numbers
+returns-clause-numbers g c =
+    let row = row_of c.in-Some-read_row.row in
+    let old : c.else-is_bare.self ≡ c.args.self.now =
+    elim c.else-is_bare.branch [
+      | else-is_bare-via-then-is_bare+else-tell w ↦ w.self-is ∙ w.tell.ensures.kept w.if-tell.false
+      | else-is_bare-via-else-is_bare w ↦ w.self-is
+    ] in
+    on_ok c.add_row.result c.add_row.ensures.entries (λ more told small reads sourced.
+    adds row (subst (RowParts row) (sym c.requires) c.in-Some-read_row.ensures.found)
+    (subst (λ old. AddsEntry old row c.args.source.number c.add_row.new.self) old
+    (more small (subst (AreSourced small) (sym old) sourced))))

@@ -1,3 +1,5 @@
+use Rattle.dvg_named.specs.SourcedRows.{IsRowAt}
+use Rattle.dvg_named.proofs.EntriesMore.{row_adds}
 use Rattle.std.proofs.Common.{refl, subst}
 use Rattle.dvg_named.proofs.SourcedMore.{both_ok, part_more}
 use Rattle.dvg_named.proofs.ReadRows.{on_ok, rom_added, rom_given, rom_refused, rom_stops, section_pushed}
@@ -37,3 +39,9 @@ returns-clause-sources g c =
       last = part_more small c.args.self.now.last c.push.new.self c.args.row.now c.args.source c.push.ensures.head
           c.push.ensures.begin rows sources sourced.last at;
     })
+
+pub returns-clause-entries : goal.returns-clause-entries
+returns-clause-entries g c =
+    both_ok c.push.result c.push.ensures.rows c.push.ensures.sources (λ rows sources small sourced.
+    row_adds (IsRowAt small) c.args.self.now _ c.args.row.now c.args.source refl c.push.ensures.head rows sources
+    sourced.last.rows)

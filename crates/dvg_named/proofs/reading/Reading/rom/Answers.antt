@@ -1,3 +1,4 @@
+use Rattle.dvg_named.proofs.KnownRom.{none_first}
 use Rattle.std.proofs.Common.{◌∙◌}
 use Rattle.dvg_named.proofs.RomGiven.{lie_in_rom, may_stand, rom_size}
 use Rattle.dvg_named.proofs.reading.Reading.rom.Goals as goal
@@ -14,3 +15,7 @@ put_sections-requires-clause-lie g c =
 
 pub put_sections-requires-clause-may : goal.put_sections-requires-clause-may
 put_sections-requires-clause-may g c = may_stand c.args.self.now c.args.laid.now c.requires
+
+pub returns-in-Err-clause-known : goal.returns-in-Err-clause-known
+returns-in-Err-clause-known g c =
+    none_first c.args.self.now c.args.laid.now c.in-Err.row c.requires c.in-Err.ensures.ungiven

@@ -1,0 +1,44 @@
+use Rattle.std.proofs.Common.{◌≤◌, All, subst, sym, length, map}
+use Rattle.std.specs.List.{AllZip}
+use Rattle.dvg_named.specs.FirstUnknown.{WantsNone}
+use Rattle.dvg_named.specs.FlatFrames.{HasFewOps, IsSpanOf, KnowsNames, frame_at}
+use Rattle.dvg_named.specs.LaidValues.{laid_sections}
+use Rattle.dvg_named.specs.Meanings.{IsFrameOf}
+use Rattle.dvg_named.specs.Places.{doings}
+use Rattle.dvg_named.specs.Sections.{FrameRows}
+use Rattle.dvg_named.specs.SketchReading.{spelled_in}
+use Rattle.dvg_named.specs.Ungiven.{framed}
+use Rattle.dvg_named.proofs.KnownFrames.{frames_are, frames_known, held_frames}
+use Rattle.dvg_named.proofs.RomFew.{if_ok}
+use Rattle.dvg_named.proofs.UnknownText.{sections_are}
+use Rattle.dvg_named.proofs.reading.Reading.drafts.Goals as goal
+
+pub join_frames-requires-clause-few : goal.join_frames-requires-clause-few
+join_frames-requires-clause-few g c =
+    let read = c.requires.text.reads in
+    subst (All HasFewOps) (sym c.as_slice.ensures.value)
+    (held_frames (λ (f : FrameRows). length (doings f.rows) ≤ 511) c.in_ok-found.found.items
+    (subst (All (λ (f : FrameRows). length (doings f.rows) ≤ 511)) (sym (c.in_ok-found.ensures.frames read.rom))
+    read.reads.keeps.limits.drafts))
+
+pub join_frames-requires-clause-known : goal.join_frames-requires-clause-known
+join_frames-requires-clause-known g c =
+    let read = c.requires.text.reads in
+    let laid = laid_sections c.args.laid.now in
+    let sketch = spelled_in read.rom c.args.self.now in
+    subst (All (KnowsNames laid)) (sym c.as_slice.ensures.value)
+    (held_frames (λ (f : FrameRows). WantsNone laid (framed f.rows)) c.in_ok-found.found.items
+    (subst (All (λ (f : FrameRows). WantsNone laid (framed f.rows))) (sym (c.in_ok-found.ensures.frames read.rom))
+    (frames_known laid sketch
+    (subst (All (WantsNone laid))
+    (sym (sections_are read.rom c.args.self.now.closed.items c.args.self.now.last read.numbered.top)) c.requires.known))))
+
+pub returns : goal.returns
+returns g c =
+    let laid = laid_sections c.args.laid.now in
+    if_ok c.join_frames.result c.join_frames.ensures (λ joined spans told.
+    subst (λ fs. AllZip (IsFrameOf laid) fs (map (frame_at joined.ops.items) joined.spans.items))
+    (c.in_ok-found.ensures.frames told)
+    (frames_are laid joined.ops.items c.in_ok-found.found.items joined.spans.items
+    (subst (λ found. AllZip (IsSpanOf laid joined.ops.items) found joined.spans.items)
+    c.as_slice.ensures.value spans)))

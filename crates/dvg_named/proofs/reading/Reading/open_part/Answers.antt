@@ -1,0 +1,12 @@
+use Rattle.std.proofs.Common.{◌∙◌, ap, sym, ◌++◌, ◌∷◌, []}
+use Rattle.dvg_named.proofs.EntriesMore.{items_ok, opened_keeps}
+use Rattle.dvg_named.proofs.reading.Reading.open_part.Goals as goal
+
+pub returns-clause-entries : goal.returns-clause-entries
+returns-clause-entries g c =
+    let closed = c.args.self.now.closed.items in
+    opened_keeps c.args.self.now _
+    (items_ok c.push.result c.push.new.self.items (closed ++ c.replace-closed.result ∷ []) closed
+    (sym c.is_err.ensures.value ∙ c.if-is_err.false) c.push.ensures.items
+    ∙ ap (λ p. closed ++ p ∷ []) c.replace-closed.ensures.value)
+    (ap (λ p. p.rows.items) c.replace-closed.ensures.after ∙ c.new-part.ensures.rows)

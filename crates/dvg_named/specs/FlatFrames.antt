@@ -1,0 +1,30 @@
+-- Frames whose operations stand in one list.
+use Rattle.std.specs.Prelude.{◌≡◌, ◌≤◌, ◌-◌, ℕ, List, length, take, drop}
+use Rattle.dvg_frame.specs.declared.op.OpKind.{OpKind}
+use Rattle.dvg_named.specs.declared.joining.FrameSpan.{FrameSpan}
+use Rattle.dvg_named.specs.declared.frame_rows.FrameRows as held
+use Rattle.dvg_named.specs.FrameValues.{frame_held}
+use Rattle.dvg_named.specs.HeldRows.{rows_of}
+use Rattle.dvg_named.specs.Meanings.{Frame, IsFrameOf}
+use Rattle.dvg_named.specs.Places.{Laid, doings}
+use Rattle.dvg_named.specs.RowValues.{name_of}
+use Rattle.dvg_named.specs.Ungiven.{WantsAt, framed}
+
+-- a draft can hold what the frame does
+abbrev pub HasFewOps : held.FrameRows → Type 0
+HasFewOps frame = length (doings (rows_of frame.rows.now)) ≤ 511
+
+-- each name that the frame wants is given
+abbrev pub KnowsNames : List Laid → held.FrameRows → Type 0
+KnowsNames laid frame = (place : ℕ) → ¬ WantsAt laid (framed (rows_of frame.rows.now)) place
+
+-- the frame that stands there in a list of operations
+abbrev pub frame_at : List OpKind → FrameSpan → Frame
+frame_at ops span = record { name = name_of span.name; draft = take (span.end - span.start) (drop span.start ops) }
+
+-- what the rows of a frame spell stands there
+pub record IsSpanOf (laid : List Laid) (ops : List OpKind) (frame : held.FrameRows) (span : FrameSpan) : Type 0 where
+  pub from : span.start ≤ span.end
+  pub to : span.end ≤ length ops
+  pub begin : span.begin ≡ frame.begin
+  pub is : IsFrameOf laid (frame_held frame) (frame_at ops span)

@@ -1,0 +1,143 @@
+//! The first row of a sketch that wants a name which isn't given.
+ghost use Rattle.std.specs.Prelude.{◌≡◌, ◌↔◌, ◌<◌, ℕ, All, IfNone, IfSome, IsTrue, Some};
+ghost use Rattle.std.specs.Prelude.{length, slice_get, List};
+ghost use Rattle.dvg_named.specs.FirstUnknown.{FirstOf, HasLines, WantsIn, WantsNone, WantsRow};
+ghost use Rattle.dvg_named.specs.FirstUnknown.{all_sections, entries_held, section_held};
+ghost use Rattle.dvg_named.specs.HeldRows.{rows_of};
+ghost use Rattle.dvg_named.specs.LaidValues.{AreLow, NoneNames, laid_sections};
+ghost use Rattle.dvg_named.specs.LineNumbers.{entries_last};
+ghost use Rattle.dvg_named.specs.NamedFaults.{IsLost, IsUngiven};
+ghost use Rattle.dvg_named.specs.Places.{IsNumber};
+ghost use Rattle.dvg_named.specs.RowValues.{doing_of, head_of, row_of};
+ghost use Rattle.dvg_named.specs.Sections.{Section};
+ghost use Rattle.dvg_named.specs.SketchReading.{head_in, section_in};
+ghost use Rattle.dvg_named.specs.Ungiven.{IsFirstUngiven, WantsAt};
+
+use crate::laid::{LaidRows, address_of};
+use crate::number::number_of;
+use crate::part::Part;
+use crate::row::{Doing, Head, Row};
+use std::alloc::Allocator;
+
+/// The number of the line of the first row that wants a name which isn't given, in the order of the
+/// text: of the sections before the last one, and of that one. The time grows with the number of
+/// rows times that of the rows that want a name.
+pub(crate) fn first_unknown<A: Allocator + Copy>(
+    closed: &[Part<'_, A>],
+    last: &Part<'_, A>,
+    laid: &[LaidRows],
+) -> Option<usize>
+    requires low { AreLow (laid_sections laid.now) }
+    requires closed { All HasLines closed.now }
+    requires last { HasLines last.now }
+    ensures first { FirstOf (WantsIn (laid_sections laid.now) (all_sections closed.now last.now))
+        (entries_held closed.now last.now) result }
+    ensures known { IfNone result
+        (All (WantsNone (laid_sections laid.now)) (all_sections closed.now last.now)) }
+{
+    for part in closed {
+        if let Some(number) = unknown_in(part, laid) {
+            return Some(number);
+        }
+    }
+    unknown_in(last, laid)
+}
+
+// The number of the line of the first such row of a section.
+fn unknown_in<A: Allocator + Copy>(part: &Part<'_, A>, laid: &[LaidRows]) -> Option<usize>
+    requires low { AreLow (laid_sections laid.now) }
+    requires lines { HasLines part.now }
+    ensures first { (sections : List Section) (number : ℕ)
+        → slice_get sections number ≡ Some (section_in part.now)
+        → FirstOf (WantsIn (laid_sections laid.now) sections) (entries_last number part.now)
+        result }
+    ensures known { IfNone result (WantsNone (laid_sections laid.now) (section_in part.now)) }
+{
+    match first_in(part.head, part.rows.as_slice(), laid) {
+        Some(place) => Some(part.sources[place].number),
+        None => None,
+    }
+}
+
+// The place of the first such row of a section, counted from 0.
+fn first_in(head: Option<Head>, rows: &[Row], laid: &[LaidRows]) -> Option<usize>
+    requires low { AreLow (laid_sections laid.now) }
+    ensures low { IfSome result (λ place. place < length rows.now) }
+    ensures found { IfSome result
+        (IsFirstUngiven (laid_sections laid.now) (section_held head.entry rows.now)) }
+    ensures known { IfNone result
+        (WantsNone (laid_sections laid.now) (section_held head.entry rows.now)) }
+{
+    for (place, row) in rows.iter().enumerate() {
+        if wants(head, rows, laid, row) {
+            return Some(place);
+        }
+    }
+    None
+}
+
+// Whether a row of a section wants a name that isn't given.
+fn wants(head: Option<Head>, rows: &[Row], laid: &[LaidRows], row: &Row) -> bool
+    requires low { AreLow (laid_sections laid.now) }
+    ensures { IsTrue result ↔ WantsRow (laid_sections laid.now) (section_held head.entry rows.now)
+        (row_of row.now) }
+{
+    match &row.doing {
+        Some(doing) => is_ungiven(head, rows, laid, doing),
+        None => false,
+    }
+}
+
+// Whether what a row of a section does wants a name that isn't given.
+fn is_ungiven(head: Option<Head>, rows: &[Row], laid: &[LaidRows], doing: &Doing) -> bool
+    requires low { AreLow (laid_sections laid.now) }
+    ensures { IsTrue result ↔ IsUngiven (laid_sections laid.now)
+        (section_held head.entry rows.now) (doing_of doing.now) }
+{
+    match doing {
+        Doing::Plainly(_) => false,
+        Doing::Calls(name) => is_lost(head, rows, laid, name),
+        Doing::Jumps(name) => is_lost(head, rows, laid, name),
+        Doing::CallsRom(name) => has_no_address(laid, name),
+        Doing::JumpsRom(name) => has_no_address(laid, name),
+    }
+}
+
+// Whether a name isn't given where a section looks for it.
+fn is_lost(head: Option<Head>, rows: &[Row], laid: &[LaidRows], name: &[u8]) -> bool
+    requires low { AreLow (laid_sections laid.now) }
+    ensures { IsTrue result
+        ↔ IsLost (laid_sections laid.now) (head_in head.entry) (rows_of rows.now) name.now }
+{
+    match head {
+        Some(begun) => is_lost_after(begun, rows, laid, name),
+        None => has_no_number(rows, name),
+    }
+}
+
+// Whether a name isn't given where a section that a line begins looks for it.
+fn is_lost_after(head: Head, rows: &[Row], laid: &[LaidRows], name: &[u8]) -> bool
+    requires low { AreLow (laid_sections laid.now) }
+    ensures { IsTrue result
+        ↔ IsLost (laid_sections laid.now) (head_of head.entry) (rows_of rows.now) name.now }
+{
+    match head {
+        Head::Rom(_) => has_no_address(laid, name),
+        Head::Frame(_) => has_no_number(rows, name),
+    }
+}
+
+// Whether no section of the ROM gives a name.
+fn has_no_address(laid: &[LaidRows], name: &[u8]) -> bool
+    requires low { AreLow (laid_sections laid.now) }
+    ensures { IsTrue result ↔ NoneNames laid.now name.now }
+{
+    address_of(laid, name).is_none()
+}
+
+// Whether no row of a frame gives a name.
+fn has_no_number(rows: &[Row], name: &[u8]) -> bool
+    ensures { IsTrue result ↔ ((number : ℕ) → ¬ IsNumber (rows_of rows.now) name.now number) }
+{
+    number_of(rows, name).is_none()
+}
