@@ -1,3 +1,4 @@
 mod Jobs
 mod Parts
+mod Refused
 mod Written

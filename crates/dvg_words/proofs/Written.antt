@@ -7,17 +7,24 @@ use Rattle.dvg_words.specs.Laws.{HelpWords, JobWords, OtherWords}
 pub job_words : JobWords
 unfolding dvg_app clap_on_literals
 job_words = (
-  λ name. (refl, refl, refl),
-  λ name. (refl, refl, refl),
-  λ name. (refl, refl, refl),
-  λ name. (refl, refl, refl),
-  λ name. (refl, refl, refl),
-  λ name. (refl, refl, refl),
-  λ name. (refl, refl, refl),
-  λ name. (refl, refl, refl),
-  λ name. (refl, refl, refl),
-  λ name. (refl, refl, refl),
-  λ name. (refl, refl, refl),
+  λ name. ((refl, refl), refl, refl),
+  λ name. ((refl, refl), refl, refl),
+  λ name. ((refl, refl), refl, refl),
+  λ name. ((refl, refl), refl, refl),
+  λ name. ((refl, refl), refl, refl),
+  λ name. ((refl, refl), refl, refl),
+  λ name. ((refl, refl), refl, refl),
+  λ name. ((refl, refl), refl, refl),
+  λ name. ((refl, refl), refl, refl),
+  λ name. ((refl, refl), refl, refl),
+  λ name. ((refl, refl), refl, refl),
+  λ name. ((refl, refl), refl, refl),
+  λ name. ((refl, refl), refl, refl),
+  λ name. ((refl, refl), refl, refl),
+  λ name. ((refl, refl), refl, refl),
+  λ name. ((refl, refl), refl, refl),
+  λ name. ((refl, refl), refl, refl),
+  λ name. ((refl, refl), refl, refl),
 )
 
 pub help_words : HelpWords
@@ -26,4 +33,16 @@ help_words = (λ name. refl, λ name. refl, λ name. refl, λ name. refl, λ nam
 
 pub other_words : OtherWords
 unfolding dvg_app clap_on_literals
-other_words = (λ name. refl, λ name. refl, λ name. refl, λ name. refl, λ name. refl, λ name. refl)
+other_words = (
+  λ name. refl,
+  λ name. refl,
+  λ name. refl,
+  λ name. refl,
+  λ name. refl,
+  λ name. refl,
+  λ name. refl,
+  λ name. refl,
+  λ name. refl,
+  λ name. refl,
+  λ name. refl,
+)

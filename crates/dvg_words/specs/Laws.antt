@@ -1,30 +1,34 @@
 -- What some words come to.
 use Rattle.std.specs.Prelude.{◌≡◌, true, false, List, [], ◌∷◌, codes}
-use Rattle.clap.specs.Words.{Kinds, Text, fault_of, subcommand_of, takes}
-use Rattle.clap.specs.declared.error.kind.ErrorKind.TheVariants.{ArgumentConflict, DisplayHelp, DisplayVersion}
-use Rattle.clap.specs.declared.error.kind.ErrorKind.TheVariants.{InvalidSubcommand, MissingSubcommand, UnknownArgument}
-use Rattle.dvg_words.specs.Words.{IsJob, dvg_app}
+use Rattle.clap.specs.Words.{Kinds, Text, subcommand_of}
+use Rattle.clap.specs.declared.error.kind.ErrorKind.TheVariants.{ArgumentConflict, DisplayHelp, DisplayVersion, InvalidSubcommand, InvalidValue, MissingSubcommand, UnknownArgument}
+use Rattle.dvg_words.specs.Words.{IsJob, TakesWords, dvg_app, words_fault}
 use Rattle.dvg_words.specs.declared.task.Job.{Job}
-use Rattle.dvg_words.specs.declared.task.Job.TheVariants.{List as list_job, Rom, Picture, Check, Play, Torn}
+use Rattle.dvg_words.specs.declared.task.Job.TheVariants.{List as list_job, Rom, Picture, Check, Play, Torn, Lay}
+use Rattle.dvg_words.specs.declared.task.LayForm.TheVariants.{Half0, Half1, Table, Rom as RomBytes, Equates}
 
 -- behind any name of the program, the words are taken and ask for the job
 abbrev pub AskFor : List Text → Job → Type 0
-AskFor words job = (name : Text) → (takes dvg_app (name ∷ words) ≡ true) × (fault_of dvg_app (name ∷ words) ≡ [])
+AskFor words job = (name : Text) → TakesWords (name ∷ words) × (words_fault (name ∷ words) ≡ [])
     × IsJob job (subcommand_of dvg_app (name ∷ words))
 
 -- behind any name of the program, the words fail by one of the kinds
 abbrev pub FailAs : List Text → Kinds → Type 0
-FailAs words kinds = (name : Text) → fault_of dvg_app (name ∷ words) ≡ kinds
+FailAs words kinds = (name : Text) → words_fault (name ∷ words) ≡ kinds
 
 -- the words of each job
 abbrev pub JobWords : Type 0
 JobWords = AskFor (codes "list" ∷ []) list_job × AskFor (codes "rom" ∷ []) Rom
-    × AskFor (codes "picture" ∷ []) (Picture false) × AskFor (codes "picture" ∷ codes "--all" ∷ []) (Picture true)
-    × AskFor (codes "check" ∷ []) (Check false)
-    × AskFor (codes "check" ∷ codes "--bound" ∷ []) (Check true) × AskFor (codes "play" ∷ []) (Play false false)
-    × AskFor (codes "play" ∷ codes "--all" ∷ []) (Play true false)
-    × AskFor (codes "play" ∷ codes "--banked" ∷ []) (Play false true)
-    × AskFor (codes "play" ∷ codes "--banked" ∷ codes "--all" ∷ []) (Play true true) × AskFor (codes "torn" ∷ []) Torn
+    × AskFor (codes "picture" ∷ []) (Picture false) × AskFor (codes "picture" ∷ codes "--all" ∷ []) (Picture true) × AskFor (codes "check" ∷ []) (Check false)
+    × AskFor (codes "check" ∷ codes "--bound" ∷ []) (Check true) × AskFor (codes "play" ∷ []) (Play false false) × AskFor (codes "play" ∷ codes "--all" ∷ []) (Play true false)
+    × AskFor (codes "play" ∷ codes "--banked" ∷ []) (Play false true) × AskFor (codes "play" ∷ codes "--banked" ∷ codes "--all" ∷ []) (Play true true) × AskFor (codes "torn" ∷ []) Torn
+    × AskFor (codes "lay" ∷ []) (Lay Half0)
+    × AskFor (codes "lay" ∷ codes "--half" ∷ codes "0" ∷ []) (Lay Half0)
+    × AskFor (codes "lay" ∷ codes "--half" ∷ codes "1" ∷ []) (Lay Half1)
+    × AskFor (codes "lay" ∷ codes "--half=1" ∷ []) (Lay Half1)
+    × AskFor (codes "lay" ∷ codes "--table" ∷ []) (Lay Table)
+    × AskFor (codes "lay" ∷ codes "--rom" ∷ []) (Lay RomBytes)
+    × AskFor (codes "lay" ∷ codes "--equates" ∷ []) (Lay Equates)
 
 -- words that ask for help, or for the version; the words behind `help` may name no subcommand
 abbrev pub HelpWords : Type 0
@@ -34,10 +38,17 @@ HelpWords = FailAs (codes "--help" ∷ []) (DisplayHelp ∷ []) × FailAs (codes
     × FailAs (codes "help" ∷ codes "play" ∷ []) (DisplayHelp ∷ InvalidSubcommand ∷ [])
     × FailAs (codes "--version" ∷ []) (DisplayVersion ∷ []) × FailAs (codes "-V" ∷ []) (DisplayVersion ∷ [])
 
--- words that are refused: none, another subcommand, an option of another subcommand, an option twice, a word too many
+-- words that are refused: none, another subcommand, an option of another subcommand, an option
+-- twice, a word too many, a half that is none, no half, and two options that exclude each other
 abbrev pub OtherWords : Type 0
 OtherWords = FailAs [] (MissingSubcommand ∷ []) × FailAs (codes "draw" ∷ []) (UnknownArgument ∷ InvalidSubcommand ∷ [])
     × FailAs (codes "list" ∷ codes "--all" ∷ []) (UnknownArgument ∷ [])
     × FailAs (codes "check" ∷ codes "--all" ∷ []) (UnknownArgument ∷ [])
     × FailAs (codes "play" ∷ codes "--all" ∷ codes "--all" ∷ []) (ArgumentConflict ∷ [])
     × FailAs (codes "list" ∷ codes "list" ∷ []) (UnknownArgument ∷ [])
+    × FailAs (codes "lay" ∷ codes "--half" ∷ codes "2" ∷ []) (InvalidValue ∷ [])
+    × FailAs (codes "lay" ∷ codes "--half" ∷ []) (InvalidValue ∷ [])
+    × FailAs (codes "lay" ∷ codes "--half" ∷ codes "0" ∷ codes "--rom" ∷ []) (ArgumentConflict ∷ [])
+    × FailAs (codes "lay" ∷ codes "--rom" ∷ codes "--table" ∷ []) (ArgumentConflict ∷ [])
+    × FailAs (codes "lay" ∷ codes "--half" ∷ codes "0" ∷ codes "--half" ∷ codes "1" ∷ [])
+    (ArgumentConflict ∷ [])

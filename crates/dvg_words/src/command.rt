@@ -2,7 +2,7 @@
 ghost use Rattle.std.specs.Prelude.{◌≡◌, IfOk, codes, false, take};
 ghost use Rattle.clap.specs.Words.{app_of, new_app, rule_of, with_rule, with_subcommand};
 ghost use Rattle.clap.specs.declared.builder.command.Command.TheViews.{out-Command as fields_of};
-ghost use Rattle.dvg_words.specs.Words.{dvg_app, flag, with_flag};
+ghost use Rattle.dvg_words.specs.Words.{dvg_app, flag, lay_app, valued, with_flag};
 
 use crate::help;
 use clap::{Arg, ArgAction, Command};
@@ -36,6 +36,18 @@ fn flag<'a>(alloc: Global, option: &'a str, details: &'a str) -> Arg<'a>
         .action(ArgAction::SetTrue)
 }
 
+// An option that takes a value.
+fn valued<'a>(alloc: Global, option: &'a str, value: &'a str, details: &'a str) -> Arg<'a>
+    ensures rule { rule_of result ≡ valued option.entry.now }
+    ensures local { result.global ≡ false }
+{
+    Arg::new(alloc, option)
+        .long(option)
+        .value_name(value)
+        .help(details)
+        .action(ArgAction::Set)
+}
+
 // The program with one subcommand more, which has an option.
 fn with_option<'a>(
     program: Command<'a>,
@@ -45,9 +57,7 @@ fn with_option<'a>(
     requires program { (fields_of program).has_globals ≡ false }
     requires part { (fields_of part).has_globals ≡ false }
     requires option { option.global ≡ false }
-    ensures app { IfOk result (λ c. app_of c
-        ≡ with_subcommand (app_of program.entry)
-        (with_rule (app_of part.entry) (rule_of option.entry)).top) }
+    ensures app { IfOk result (λ c. app_of c ≡ with_subcommand (app_of program.entry) (with_rule (app_of part.entry) (rule_of option.entry)).top) }
     ensures local { IfOk result (λ c. (fields_of c).has_globals ≡ false) }
 {
     let whole = part.arg(option)?;
@@ -121,9 +131,43 @@ fn play_with_all<'a>(alloc: Global) -> Result<Command<'a>, AllocError>
     play.arg(flag(alloc, "all", all))
 }
 
-/// The program's command.
-pub(crate) fn command<'a>(alloc: Global) -> Result<Command<'a>, AllocError>
-    ensures app { IfOk result (λ c. app_of c ≡ dvg_app) }
+// The subcommand `lay`, with two of its four options.
+fn lay_with_table<'a>(alloc: Global) -> Result<Command<'a>, AllocError>
+    ensures app { let lay = new_app (codes "lay") in
+        IfOk result (λ c.
+        app_of c ≡ with_flag (with_rule lay (valued (codes "half"))) (codes "table")) }
+    ensures local { IfOk result (λ c. (fields_of c).has_globals ≡ false) }
+{
+    let lay = helped(
+        alloc,
+        "lay",
+        "Lay out the frames of a sketch",
+        help::LAY_USAGE,
+        help::LAY,
+    );
+    let half = "Write the frames as they lie in this half [default: 0]";
+    let with_half = lay.arg(valued(alloc, "half", "0|1", half))?;
+    let table = "Write the frames as text for the assembler ca65";
+    with_half.arg(flag(alloc, "table", table))
+}
+
+// The subcommand `lay`.
+fn lay_command<'a>(alloc: Global) -> Result<Command<'a>, AllocError>
+    ensures app { IfOk result (λ c. app_of c ≡ lay_app) }
+    ensures local { IfOk result (λ c. (fields_of c).has_globals ≡ false) }
+{
+    let lay = lay_with_table(alloc)?;
+    let with_rom = lay.arg(flag(alloc, "rom", "Write the bytes of the ROM"))?;
+    with_rom.arg(flag(
+        alloc,
+        "equates",
+        "Write the names of the ROM with their addresses",
+    ))
+}
+
+// The program with the subcommands before `lay`.
+fn with_torn<'a>(alloc: Global) -> Result<Command<'a>, AllocError>
+    ensures app { IfOk result (λ c. app_of c ≡ record dvg_app { subs = take 6 dvg_app.subs }) }
     ensures local { IfOk result (λ c. (fields_of c).has_globals ≡ false) }
 {
     let program = with_checking(alloc)?;
@@ -133,4 +177,14 @@ pub(crate) fn command<'a>(alloc: Global) -> Result<Command<'a>, AllocError>
     let about_torn = "Say whether a log tears a picture, and where";
     let torn = helped(alloc, "torn", about_torn, "dvg torn < LOG", help::TORN);
     with_play.subcommand(torn)
+}
+
+/// The program's command.
+pub(crate) fn command<'a>(alloc: Global) -> Result<Command<'a>, AllocError>
+    ensures app { IfOk result (λ c. app_of c ≡ dvg_app) }
+    ensures local { IfOk result (λ c. (fields_of c).has_globals ≡ false) }
+{
+    let program = with_torn(alloc)?;
+    let lay = lay_command(alloc)?;
+    program.subcommand(lay)
 }

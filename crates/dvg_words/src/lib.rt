@@ -3,16 +3,18 @@
 //!
 //! The words are read by `clap`, with a command that `specs/Words.antt` shows whole. A job is
 //! answered only where clap's own matching gives it, and an error only of a kind that the words can
-//! come to; help that was asked for is such an error, too.
+//! come to; help that was asked for is such an error, too. That the options of `lay` exclude each
+//! other is this crate's own rule, after the matching.
 #![tactic(auto)]
 
 mod command;
 mod help;
 pub mod laws;
+mod laying;
 mod refusal;
 mod task;
 mod words;
 
 pub use refusal::words_status;
-pub use task::Job;
+pub use task::{Job, LayForm};
 pub use words::job;

@@ -1,5 +1,20 @@
 //! What the program can be asked to do.
 
+/// What is laid out of a sketch.
+#[derive(Clone, Copy, Debug, PartialEq, Eq)]
+pub enum LayForm {
+    /// The bytes of each frame as it lies in half 0.
+    Half0,
+    /// The bytes of each frame as it lies in half 1.
+    Half1,
+    /// The words of each frame as it lies in half 0, as text for an assembler.
+    Table,
+    /// The bytes of the ROM.
+    Rom,
+    /// The names of the ROM with their word addresses.
+    Equates,
+}
+
 /// What the program is to do.
 #[derive(Clone, Copy, Debug, PartialEq, Eq)]
 pub enum Job {
@@ -7,14 +22,14 @@ pub enum Job {
     List,
     /// Write a ROM as text.
     Rom,
-    /// Show what a dump of the memory draws, with every instruction that is run or the picture
-    /// alone.
+    /// Show what a dump of the memory draws, with every instruction that is run or the picture alone.
     Picture { all: bool },
     /// Check the draft of a text, and tell the bound of a good one or leave it out.
     Check { bound: bool },
-    /// Play a trace, with every entry or its pictures alone, over a RAM that is kept in banks or in
-    /// one array.
+    /// Play a trace, with every entry or its pictures alone, over a RAM that is kept in banks or in one array.
     Play { all: bool, banked: bool },
     /// Say whether a log tears a picture.
     Torn,
+    /// Lay out the frames, the ROM or the names of a sketch.
+    Lay { form: LayForm },
 }

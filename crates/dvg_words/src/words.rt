@@ -1,19 +1,19 @@
 //! What the words of the program ask for.
-ghost use Rattle.std.specs.Prelude.{◌≡◌, IfErr, IfOk, IfSome, IsNone, Some, map, true};
-ghost use Rattle.dvg_words.specs.Words.{IsJob, IsJobName, dvg_app, sets};
-ghost use Rattle.clap.specs.Words.{FailsBy, fault_of, found_of, has_subcommand, kind_of, rows_of};
-ghost use Rattle.clap.specs.Words.{subcommand_name_of, subcommand_of, subcommand_rows_of, takes};
+ghost use Rattle.std.specs.Prelude.{◌≡◌, IfErr, IfOk, IfSome, IsNone, Some, codes, map, true};
+ghost use Rattle.dvg_words.specs.Words.{IsJob, IsJobName, TakesWords, Refuses, dvg_app, options_fault, words_fault};
+ghost use Rattle.clap.specs.Words.{FailsBy, fault_of, found_of, has_subcommand, kind_of, rows_of, subcommand_name_of, subcommand_of, subcommand_rows_of, takes};
 
 use crate::command::command;
+use crate::laying::{is_set, lay_form, misuse};
 use crate::task::Job;
 use clap::error::ErrorKind;
 use clap::{ArgMatches, Error};
 use std::alloc::Global;
 
-// The job that a subcommand names, with its options.
+// The job that a subcommand other than `lay` names, with its options.
 fn named(name: &str, found: &ArgMatches) -> Option<Job>
     ensures some { IfSome result (λ j. IsJob j (Some (name.now, rows_of (found_of found.now)))) }
-    ensures none { IsNone result → IsJobName name.now → ⊥ }
+    ensures none { IsNone result → IsJobName name.now → name.now ≡ codes "lay" }
 {
     if name == "list" {
         Some(Job::List)
@@ -39,38 +39,43 @@ fn named(name: &str, found: &ArgMatches) -> Option<Job>
     }
 }
 
-// Whether the matching sets a flag.
-fn is_set(found: &ArgMatches, id: &str) -> bool
-    ensures { result ≡ sets id.now (rows_of (found_of found.now)) }
+// The job that a subcommand asks for, or how its options are refused.
+fn asked(name: &str, found: &ArgMatches) -> Result<Job, ErrorKind>
+    requires { IsJobName name.now }
+    ensures ok { IfOk result (λ j. IsJob j (Some (name.now, rows_of (found_of found.now)))) }
+    ensures kinds { Refuses result (options_fault (Some (name.now, rows_of (found_of found.now)))) }
 {
-    match found.get_str(id) {
-        Some(text) => text == "true",
-        None => false,
+    if name == "lay" {
+        return match lay_form(found) {
+            Ok(form) => Ok(Job::Lay { form }),
+            Err(kind) => Err(kind),
+        };
+    }
+    match named(name, found) {
+        Some(job) => Ok(job),
+        None => unreachable!(),
     }
 }
 
-// The job of a matching that entered a subcommand, where that is one.
-fn entered(matches: &ArgMatches) -> Job
+// The job of a matching that entered a subcommand, where that is one, or how its options are
+// refused.
+fn entered(matches: &ArgMatches) -> Result<Job, ErrorKind>
     requires some { has_subcommand matches.now ≡ true }
     requires name { IfSome (subcommand_name_of matches.now) IsJobName }
-    ensures { IsJob result (subcommand_rows_of matches.now) }
+    ensures ok { IfOk result (λ j. IsJob j (subcommand_rows_of matches.now)) }
+    ensures kinds { Refuses result (options_fault (subcommand_rows_of matches.now)) }
 {
     let Some(entered) = matches.subcommand() else {
         unreachable!()
     };
-    match named(entered.0, entered.1) {
-        Some(job) => job,
-        None => unreachable!(),
-    }
+    asked(entered.0, entered.1)
 }
 
 // The matching of words, which enters a subcommand where they are taken.
 fn matched<'a>(alloc: Global, words: &'a [&'a str]) -> Result<ArgMatches<'a>, Error>
     ensures some { IfOk result (λ m. has_subcommand m ≡ true) }
-    ensures rows { IfOk result (λ m. subcommand_rows_of m
-        ≡ subcommand_of dvg_app (map (λ w. w.now) words.entry.now)) }
-    ensures err { IfErr result (λ e. takes dvg_app (map (λ w. w.now) words.entry.now) ≡ true
-        → kind_of e ≡ ErrorKind.OutOfMemory) }
+    ensures rows { IfOk result (λ m. subcommand_rows_of m ≡ subcommand_of dvg_app (map (λ w. w.now) words.entry.now)) }
+    ensures err { IfErr result (λ e. takes dvg_app (map (λ w. w.now) words.entry.now) ≡ true → kind_of e ≡ ErrorKind.OutOfMemory) }
     ensures kinds { FailsBy (fault_of dvg_app (map (λ w. w.now) words.entry.now)) result }
 {
     command(alloc)?.try_get_matches_from(words)
@@ -79,23 +84,24 @@ fn matched<'a>(alloc: Global, words: &'a [&'a str]) -> Result<ArgMatches<'a>, Er
 /// What the words ask for: the subcommand and the options that they match. The first word is the
 /// program's name, and may be anything.
 ///
-/// An error is help or the version that the words ask for (`DisplayHelp`, `DisplayVersion`), a
-/// refusal of words that ask for nothing the program can do, or want of memory (`OutOfMemory`). Its
-/// text is its `Display`.
+/// An error is help or the version that the words ask for (`DisplayHelp`, `DisplayVersion`), a refusal of words that ask for nothing the
+/// program can do, or want of memory (`OutOfMemory`). Its text is its `Display`.
 pub fn job<'a>(alloc: Global, words: &'a [&'a str]) -> Result<Job, Error>
-    ensures ok { IfOk result (λ j. IsJob j
-        (subcommand_of dvg_app (map (λ w. w.now) words.entry.now))) }
+    ensures ok { IfOk result (λ j. IsJob j (subcommand_of dvg_app (map (λ w. w.now) words.entry.now))) }
 
     // Words that are taken fail for want of memory alone.
-    ensures err { IfErr result (λ e. takes dvg_app (map (λ w. w.now) words.entry.now) ≡ true
-        → kind_of e ≡ ErrorKind.OutOfMemory) }
+    ensures err { IfErr result (λ e. TakesWords (map (λ w. w.now) words.entry.now) → kind_of e ≡ ErrorKind.OutOfMemory) }
 
-    // A job is answered only where the words come to no kind of error; an error has one of the
-    // kinds that they come to, or memory ran out.
-    ensures kinds { FailsBy (fault_of dvg_app (map (λ w. w.now) words.entry.now)) result }
+    // A job is answered only where the words come to no kind of error; an error has one of the kinds that they come
+    // to, or memory ran out.
+    ensures kinds { FailsBy (words_fault (map (λ w. w.now) words.entry.now)) result }
 {
-    match matched(alloc, words) {
-        Ok(matches) => Ok(entered(&matches)),
-        Err(error) => Err(error),
+    let matches = match matched(alloc, words) {
+        Ok(matches) => matches,
+        Err(error) => return Err(error),
+    };
+    match entered(&matches) {
+        Ok(job) => Ok(job),
+        Err(kind) => Err(misuse(alloc, kind)),
     }
 }

@@ -1,5 +1,5 @@
-//! What the sources use of Rattle's port of `clap`: commands with subcommands, and flags with a
-//! long name. Help, refusals and tips are spelled as `clap` spells them.
+//! What the sources use of Rattle's port of `clap`: commands with subcommands, and flags and options
+//! with a long name. Help, refusals and tips are spelled as `clap` spells them.
 #![no_std]
 
 extern crate alloc;
@@ -24,6 +24,10 @@ pub mod error {
         DisplayVersion,
         /// Memory was refused.
         OutOfMemory,
+        /// Options that may not stand together.
+        ArgumentConflict,
+        /// A value that an option doesn't take.
+        InvalidValue,
         /// The words match nothing.
         Refused,
     }
@@ -35,12 +39,17 @@ use error::ErrorKind;
 pub enum ArgAction {
     /// It is set where it is given.
     SetTrue,
+    /// It takes one value.
+    Set,
 }
 
-/// A flag.
+/// A flag, or an option with a value.
 pub struct Arg<'a> {
     id: &'a str,
     long: &'a str,
+    /// What the help text calls its value.
+    value_name: &'a str,
+    takes_value: bool,
     help: &'a str,
 }
 
@@ -50,7 +59,23 @@ impl<'a> Arg<'a> {
         Arg {
             id,
             long: id,
+            value_name: id,
+            takes_value: false,
             help: "",
+        }
+    }
+
+    /// What the help text calls its value.
+    pub fn value_name(self, value_name: &'a str) -> Arg<'a> {
+        Arg { value_name, ..self }
+    }
+
+    /// It as texts show it.
+    fn shown(&self) -> String {
+        if self.takes_value {
+            format!("--{} <{}>", self.long, self.value_name)
+        } else {
+            format!("--{}", self.long)
         }
     }
 
@@ -65,8 +90,12 @@ impl<'a> Arg<'a> {
     }
 
     /// What is done with it.
-    pub fn action(self, _action: ArgAction) -> Arg<'a> {
-        self
+    pub fn action(self, action: ArgAction) -> Arg<'a> {
+        let takes_value = matches!(action, ArgAction::Set);
+        Arg {
+            takes_value,
+            ..self
+        }
     }
 }
 
@@ -120,7 +149,7 @@ impl<'a> Command<'a> {
         Command { needs_part, ..self }
     }
 
-    /// One flag more.
+    /// One flag or option more.
     pub fn arg(mut self, arg: Arg<'a>) -> Result<Command<'a>, AllocError> {
         self.args.push(arg);
         Ok(self)
@@ -139,16 +168,19 @@ impl<'a> Command<'a> {
 
     /// What words match, without the name of the command.
     fn matched(&self, words: &[&'a str]) -> Result<ArgMatches<'a>, Error> {
+        let valued = self.args.iter().filter(|arg| arg.takes_value);
         let mut found = ArgMatches {
             set: Vec::new(),
+            valued: valued.map(|arg| arg.id).collect(),
             part: None,
         };
         let mut escaped = false;
-        for (k, word) in words.iter().enumerate() {
-            let rest = &words[k + 1..];
+        let mut words = words;
+        while let [word, rest @ ..] = words {
+            words = rest;
             match word.strip_prefix("--").filter(|_| !escaped) {
                 Some("") => escaped = true,
-                Some(long) => self.flag(long, rest, &mut found)?,
+                Some(long) => words = self.flag(long, rest, &mut found)?,
                 None if is_short(word) && !escaped => return Err(self.short(word)),
                 None if *word == "help" && !self.parts.is_empty() => return Err(self.helped(rest)),
                 None => {
@@ -204,8 +236,14 @@ impl<'a> Command<'a> {
         self.refused(&why, "")
     }
 
-    /// Takes a flag with a long name, without its dashes. The words after it may give a tip.
-    fn flag(&self, long: &str, rest: &[&str], found: &mut ArgMatches<'a>) -> Result<(), Error> {
+    /// Takes a flag or an option with a long name, without its dashes. The words after it may have
+    /// its value, or give a tip. Answers those that are left.
+    fn flag<'w>(
+        &self,
+        long: &'a str,
+        rest: &'w [&'a str],
+        found: &mut ArgMatches<'a>,
+    ) -> Result<&'w [&'a str], Error> {
         let (name, value) = long
             .split_once('=')
             .map_or((long, None), |(name, value)| (name, Some(value)));
@@ -218,20 +256,49 @@ impl<'a> Command<'a> {
             let tip = self.tip(name, rest);
             return Err(self.refused(&format!("unexpected argument '--{name}' found"), &tip));
         };
-        if let Some(value) = value {
-            return Err(self.refused(
-                &format!("unexpected value '{value}' for '--{name}' found; no more were expected"),
-                "",
-            ));
+        let (value, rest) = self.value(arg, value, rest)?;
+        if found.set.iter().any(|(id, _)| *id == arg.id) {
+            let arg = arg.shown();
+            let why = format!("the argument '{arg}' cannot be used multiple times");
+            return Err(Error {
+                kind: ErrorKind::ArgumentConflict,
+                ..self.refused(&why, "")
+            });
         }
-        if found.set.contains(&arg.id) {
-            return Err(self.refused(
-                &format!("the argument '--{name}' cannot be used multiple times"),
-                "",
-            ));
+        found.set.push((arg.id, value));
+        Ok(rest)
+    }
+
+    /// The value of a flag or an option, of which one may stand after `=`, and the words that are
+    /// left.
+    fn value<'w>(
+        &self,
+        arg: &Arg,
+        attached: Option<&'a str>,
+        rest: &'w [&'a str],
+    ) -> Result<(&'a str, &'w [&'a str]), Error> {
+        match (arg.takes_value, attached, rest) {
+            (false, None, _) => Ok(("true", rest)),
+            (false, Some(value), _) => {
+                let arg = arg.shown();
+                let why =
+                    format!("unexpected value '{value}' for '{arg}' found; no more were expected");
+                Err(self.refused(&why, ""))
+            }
+            (true, Some(value), _) => Ok((value, rest)),
+            (true, None, [value, rest @ ..]) if !is_short(value) => Ok((*value, rest)),
+            (true, None, _) => {
+                let arg = arg.shown();
+                let text = format!(
+                    "error: a value is required for '{arg}' but none was supplied\n\n\
+                     For more information, try '--help'.\n"
+                );
+                Err(Error {
+                    kind: ErrorKind::InvalidValue,
+                    text,
+                })
+            }
         }
-        found.set.push(arg.id);
-        Ok(())
     }
 
     /// What is said of a flag that isn't known: one that is like it, or a subcommand after it that
@@ -270,6 +337,14 @@ impl<'a> Command<'a> {
         self.refused(&format!("unrecognized subcommand '{word}'"), &tip)
     }
 
+    /// An error of this command, in the form of those of words.
+    pub fn error(&mut self, kind: ErrorKind, why: &str) -> Result<Error, AllocError> {
+        Ok(Error {
+            kind,
+            ..self.refused(why, "")
+        })
+    }
+
     fn refused(&self, why: &str, tip: &str) -> Error {
         let text = format!(
             "error: {why}\n\n{tip}Usage: {}\n\nFor more information, try '--help'.\n",
@@ -282,7 +357,7 @@ impl<'a> Command<'a> {
     }
 }
 
-/// Whether a word is one of flags of one letter.
+/// Whether a word is one of flags: it begins with a dash, and goes on.
 fn is_short(word: &str) -> bool {
     word.len() > 1 && word.starts_with('-')
 }
@@ -333,7 +408,10 @@ fn jaro(a: &str, b: &str) -> f64 {
 
 /// What words matched.
 pub struct ArgMatches<'a> {
-    set: Vec<&'a str>,
+    /// The flags and options that were given, with their values.
+    set: Vec<(&'a str, &'a str)>,
+    /// The options that take a value.
+    valued: Vec<&'a str>,
     part: Option<(&'a str, Box<ArgMatches<'a>>)>,
 }
 
@@ -343,13 +421,13 @@ impl<'a> ArgMatches<'a> {
         self.part.as_ref().map(|(name, part)| (*name, &**part))
     }
 
-    /// Whether a flag was given: `true` or `false`.
-    pub fn get_str(&self, id: &str) -> Option<&'static str> {
-        Some(if self.set.contains(&id) {
-            "true"
-        } else {
-            "false"
-        })
+    /// Whether a flag was given, `true` or `false`; or the value of an option, if it was given.
+    pub fn get_str(&self, id: &str) -> Option<&'a str> {
+        match self.set.iter().find(|(set, _)| *set == id) {
+            Some((_, value)) => Some(value),
+            None if self.valued.contains(&id) => None,
+            None => Some("false"),
+        }
     }
 }
 
@@ -397,7 +475,7 @@ impl Error {
         let flags = command
             .args
             .iter()
-            .map(|arg| (format!("    --{}", arg.long), arg.help));
+            .map(|arg| (format!("    {}", arg.shown()), arg.help));
         let flags = flags.chain([("-h, --help".to_owned(), "Print help")]);
         text += &table(
             flags

@@ -1,7 +1,7 @@
-use Rattle.std.proofs.Common.{◌∙◌, refl, subst, sym}
-use Rattle.std.specs.Prelude.{IfSome}
+use Rattle.std.proofs.Common.{◌∙◌, subst, sym}
+use Rattle.std.specs.Prelude.{IfOk, IfSome}
 use Rattle.clap.specs.Words.{found_of, rows_of}
-use Rattle.dvg_words.specs.Words.{IsJob, IsJobName}
+use Rattle.dvg_words.specs.Words.{IsJob, IsJobName, Refuses, options_fault}
 use Rattle.dvg_words.proofs.Jobs.{entered_as}
 use Rattle.dvg_words.proofs.words.entered.Goals as goal
 
@@ -10,10 +10,17 @@ unreachable-requires c =
     let none = c.in_default.ensures.variant ∙ c.requires.some in
     cc
 
-pub unreachable-requires-in-None : goal.unreachable-requires-in-None
-unreachable-requires-in-None c = c.in-None.ensures.none refl (subst (λ name. IfSome name IsJobName) (sym c.in-Some.ensures.name) c.requires.name)
+pub asked-requires : goal.asked-requires
+asked-requires c = subst (λ name. IfSome name IsJobName) (sym c.in-Some.ensures.name) c.requires.name
 
-pub returns : goal.returns
-returns c =
+pub returns-clause-ok : goal.returns-clause-ok
+returns-clause-ok c =
     let rows = rows_of (found_of c.in-Some.entered.1.now) in
-    subst (IsJob c.in-Some-named.job) (sym (entered_as _ c.in-Some.entered.0.now rows c.in-Some.ensures.name c.in-Some.ensures.rows)) c.in-Some-named.ensures.some
+    let same = entered_as _ c.in-Some.entered.0.now rows c.in-Some.ensures.name c.in-Some.ensures.rows in
+    subst (λ met. IfOk c.asked.result (λ job. IsJob job met)) (sym same) c.asked.ensures.ok
+
+pub returns-clause-kinds : goal.returns-clause-kinds
+returns-clause-kinds c =
+    let rows = rows_of (found_of c.in-Some.entered.1.now) in
+    let same = entered_as _ c.in-Some.entered.0.now rows c.in-Some.ensures.name c.in-Some.ensures.rows in
+    subst (λ met. Refuses c.asked.result (options_fault met)) (sym same) c.asked.ensures.kinds
