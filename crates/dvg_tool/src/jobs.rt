@@ -1,6 +1,6 @@
 //! Which engine does which job.
 ghost use Rattle.std.specs.Prelude.{◌≡◌, ◌↔◌, ◌≤◌, IfErr, IfSome, IsErrOf};
-ghost use Rattle.dvg_tool.specs.Jobs.{Performs, StaysUnwritten, TakesBy};
+ghost use Rattle.dvg_tool.specs.Jobs.{Performs, StaysUnwritten, TakesBy, form_of, told};
 ghost use Rattle.dvg_io.specs.Watching.{device_of, failures_of};
 
 use crate::checks::{check_bound, check_text};
@@ -9,22 +9,23 @@ use crate::outcome::Done;
 use crate::plays::{play, play_in};
 use crate::roms::rom_text;
 use dvg_io::{ToolFault, Watched};
+use dvg_lay::{Form, Laid, lay_sketch};
 use dvg_logs::torn;
-use dvg_mem::Banked;
+use dvg_mem::{Banked, Half};
 use dvg_picture::picture;
-use dvg_words::Job;
+use dvg_words::{Job, LayForm};
 use std::alloc::Allocator;
 use std::io::{Read, Write};
 
 /// Does a job by its engine: `list`, `rom_text`, `picture`, `check_text` or `check_bound`, `play`,
-/// or `play_in` over the store `Banked`, or `torn`; and tells what `picture`, a check and `torn`
-/// have to tell.
+/// or `play_in` over the store `Banked`, `torn`, or `lay_sketch`; and tells what `picture`, a check,
+/// `torn` and a sketch that isn't laid out have to tell.
 pub fn perform<A: Allocator + Copy, R: Read, W: Write>(
     alloc: A,
     job: Job,
     reader: &mut Watched<R>,
     writer: &mut Watched<W>,
-) -> Result<Done, ToolFault>
+) -> Result<Done<A>, ToolFault>
     requires fresh_reader { failures_of reader.old ≡ 0 }
     requires fresh_writer { failures_of writer.old ≡ 0 }
 
@@ -54,5 +55,29 @@ pub fn perform<A: Allocator + Copy, R: Read, W: Write>(
             play_in::<Banked<A>, R, W>(alloc, reader, writer, all).map(|()| Done::Written)
         }
         Job::Torn => torn(reader, writer).map(Done::Searched),
+        Job::Lay { form } => lay_sketch(alloc, reader, writer, form_of(form)).map(told),
+    }
+}
+
+// The form that is asked for, as dvg_lay calls it.
+fn form_of(form: LayForm) -> Form
+    ensures { result ≡ form_of form }
+{
+    match form {
+        LayForm::Half0 => Form::Bytes(Half::H0),
+        LayForm::Half1 => Form::Bytes(Half::H1),
+        LayForm::Table => Form::Tables,
+        LayForm::Rom => Form::RomBytes,
+        LayForm::Equates => Form::RomNames,
+    }
+}
+
+// What came of laying a sketch out.
+fn told<A: Allocator>(laid: Laid<A>) -> Done<A>
+    ensures { result ≡ told laid }
+{
+    match laid {
+        Laid::Text(_) => Done::Written,
+        Laid::Refused(refusal) => Done::Refused(refusal),
     }
 }
