@@ -1,5 +1,5 @@
 -- Lemmas of the clients.
-use Rattle.std.proofs.Common.{◌≡◌, ℕ, Bool, true, false, List, [], ◌∷◌, ◌++◌, length, map, reverse, refl, sym, ap, ◌∙◌, subst, Option, Some, None, lit≤, arith}
+use Rattle.std.proofs.Common.{◌≡◌, ℕ, Bool, true, false, true≢false, List, [], ◌∷◌, ◌++◌, length, map, reverse, refl, sym, ap, ◌∙◌, subst, Option, Some, None, lit≤, arith}
 use Rattle.std.specs.Prelude.{codes, Result, Ok, Err, IfOk}
 use Rattle.std.specs.Io.KnownBytes.{Appends}
 use Rattle.std.specs.Prelude.{IfErr, IfSome}
@@ -26,7 +26,7 @@ use Rattle.dvg_text.proofs.OneTrace.{one_trace_meaning, no_fault_beside_trace}
 use Rattle.clap.specs.Words.{Row, Text as WordText}
 use Rattle.dvg_words.specs.Words.{IsJob}
 use Rattle.dvg_words.specs.declared.task.Job.{Job}
-use Rattle.dvg_words.specs.declared.task.Job.TheVariants.{List as list_job, Rom, Picture, Check, Play, Torn}
+use Rattle.dvg_words.specs.declared.task.Job.TheVariants.{List as list_job, ListAt, Rom, Picture, PictureSvg, Check, Play, PlaySvg, Torn, Draw, DrawCheck, Lay}
 use Rattle.dvg_driver.specs.declared.action.Action.{Action}
 use Rattle.dvg_driver.specs.declared.action.Action.TheVariants.{Peek, Wrote, Read}
 use Rattle.dvg_driver.specs.Script.{Item, Did, Offered, IsLife, IsWhole}
@@ -155,19 +155,39 @@ abbrev first_of : List ℕ → ℕ
 first_of [] = 0
 first_of (x ∷ xs) = x
 
+-- another name begins with another letter, or is longer
+begins_so : (name other : WordText) → name ≡ other → name ≡ codes "play" → (first_of other ≡ 112 → ⊥) → ⊥
+begins_so name other e f differs = differs (sym (ap first_of e) ∙ ap first_of f)
+
+has_length : (name other : WordText) → name ≡ other → name ≡ codes "play" → (length other ≡ 4 → ⊥) → ⊥
+has_length name other e f differs = differs (sym (ap length e) ∙ ap length f)
+
 pub play_only : (job : Job) (met : Option (WordText × List Row)) → IsJob job met → IsJob (Play true false) met → job ≡ Play true false
 play_only list_job None x y = absurd (cc)
-play_only list_job (Some p) x y = let c = sym (same_Some _ _ x) ∙ ap (λ q. q.0) (same_Some _ _ y) in let d : 108 ≡ 112 = ap first_of c in absurd (omega (arith, d))
+play_only list_job (Some p) x y = absurd (begins_so p.0 (codes "list") (ap (λ q. q.0) (same_Some _ _ x)) (ap (λ q. q.0) (same_Some _ _ y)) (λ (d : 108 ≡ 112). omega arith))
+play_only (ListAt address) None x y = absurd (cc)
+play_only (ListAt address) (Some p) x y = absurd (begins_so p.0 (codes "list") (ap (λ q. q.0) (same_Some _ _ x)) (ap (λ q. q.0) (same_Some _ _ y)) (λ (d : 108 ≡ 112). omega arith))
 play_only Rom None x y = absurd (cc)
-play_only Rom (Some p) x y = let c = sym (same_Some _ _ x) ∙ ap (λ q. q.0) (same_Some _ _ y) in let d : 114 ≡ 112 = ap first_of c in absurd (omega (arith, d))
+play_only Rom (Some p) x y = absurd (begins_so p.0 (codes "rom") (same_Some _ _ x) (ap (λ q. q.0) (same_Some _ _ y)) (λ (d : 114 ≡ 112). omega arith))
 play_only (Picture all) None x y = absurd (cc)
-play_only (Picture all) (Some p) x y = let c = sym (ap (λ q. q.0) (same_Some _ _ x)) ∙ ap (λ q. q.0) (same_Some _ _ y) in let d : 7 ≡ 4 = ap length c in absurd (omega (arith, d))
-play_only Torn None x y = absurd (cc)
-play_only Torn (Some p) x y = let c = sym (same_Some _ _ x) ∙ ap (λ q. q.0) (same_Some _ _ y) in let d : 116 ≡ 112 = ap first_of c in absurd (omega (arith, d))
+play_only (Picture all) (Some p) x y = absurd (has_length p.0 (codes "picture") (ap (λ q. q.0) (same_Some _ _ x)) (ap (λ q. q.0) (same_Some _ _ y)) (λ (d : 7 ≡ 4). omega arith))
+play_only (PictureSvg percent) None x y = absurd (cc)
+play_only (PictureSvg percent) (Some p) x y = absurd (has_length p.0 (codes "picture") (ap (λ q. q.0) (same_Some _ _ x)) (ap (λ q. q.0) (same_Some _ _ y)) (λ (d : 7 ≡ 4). omega arith))
 play_only (Check bound) None x y = absurd (cc)
-play_only (Check bound) (Some p) x y = let c = sym (ap (λ q. q.0) (same_Some _ _ x)) ∙ ap (λ q. q.0) (same_Some _ _ y) in let d : 99 ≡ 112 = ap first_of c in absurd (omega (arith, d))
+play_only (Check bound) (Some p) x y = absurd (begins_so p.0 (codes "check") (ap (λ q. q.0) (same_Some _ _ x)) (ap (λ q. q.0) (same_Some _ _ y)) (λ (d : 99 ≡ 112). omega arith))
 play_only (Play all banked) None x y = absurd (cc)
-play_only (Play all banked) (Some p) x y = ap (λ q. Play q.1 q.2) (sym (same_Some _ _ x) ∙ same_Some _ _ y)
+play_only (Play all banked) (Some p) x y = ap (λ q. Play q.2 q.3) (sym (same_Some _ _ x) ∙ same_Some _ _ y)
+play_only (PlaySvg banked percent rate) None x y = absurd (cc)
+play_only (PlaySvg banked percent rate) (Some p) x y =
+    absurd (true≢false (sym (ap (λ q. q.1) (same_Some _ _ x)) ∙ ap (λ q. q.1) (same_Some _ _ y)))
+play_only Torn None x y = absurd (cc)
+play_only Torn (Some p) x y = absurd (begins_so p.0 (codes "torn") (same_Some _ _ x) (ap (λ q. q.0) (same_Some _ _ y)) (λ (d : 116 ≡ 112). omega arith))
+play_only (Draw percent rate) None x y = absurd (cc)
+play_only (Draw percent rate) (Some p) x y = absurd (begins_so p.0 (codes "draw") (ap (λ q. q.0) (same_Some _ _ x)) (ap (λ q. q.0) (same_Some _ _ y)) (λ (d : 100 ≡ 112). omega arith))
+play_only DrawCheck None x y = absurd (cc)
+play_only DrawCheck (Some p) x y = absurd (begins_so p.0 (codes "draw") (ap (λ q. q.0) (same_Some _ _ x)) (ap (λ q. q.0) (same_Some _ _ y)) (λ (d : 100 ≡ 112). omega arith))
+play_only (Lay form) None x y = absurd (cc)
+play_only (Lay form) (Some p) x y = absurd (begins_so p.0 (codes "lay") (ap (λ q. q.0) (same_Some _ _ x)) (ap (λ q. q.0) (same_Some _ _ y)) (λ (d : 108 ≡ 112). omega arith))
 
 pub job_is : {E : Type 0} (result : Result Job E) (met : Option (WordText × List Row)) → IfOk result (λ job. IsJob job met) → IsJob (Play true false) met → IfOk result (λ job. job ≡ Play true false)
 job_is (Ok job) met x y = play_only job met x y

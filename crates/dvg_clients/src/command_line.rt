@@ -2,7 +2,7 @@
 ghost use Rattle.std.specs.Prelude.{◌≡◌, IfOk, true, false};
 
 use clap::Error;
-use dvg_words::laws::job_words;
+use dvg_words::laws::text_job_words;
 use dvg_words::{Job, job};
 use std::alloc::Global;
 
@@ -10,6 +10,6 @@ use std::alloc::Global;
 pub fn asks_for_each_entry(alloc: Global) -> Result<Job, Error>
     ensures { IfOk result (λ job. job ≡ Job.Play true false) }
 {
-    job_words();
+    text_job_words();
     job(alloc, &["dvg", "play", "--all"])
 }

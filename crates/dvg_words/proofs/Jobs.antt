@@ -155,7 +155,28 @@ has_names : (name : Text) → IsNoHelp name → HasNames (λ s. answers_to name 
 unfolding dvg_app clap_on_literals
 has_names name differs = (
   inl (inl refl),
-  (inl (inr (inl refl)), (inl (inr (inr (inl refl))), (inl (inr (inr (inr (inl refl)))), (inl (inr (inr (inr (inr (inl refl))))), (inl (inr (inr (inr (inr (inr (inl refl)))))), (inl (inr (inr (inr (inr (inr (inr refl)))))), (inr (not_met name _ refl differs), tt))))))),
+  (
+    inl (inr (inr (inr (inr (inr (inl refl)))))),
+    (
+      inl (inr (inl refl)),
+      (
+        inl (inr (inr (inr (inr (inr (inr (inl refl))))))),
+        (
+          inl (inr (inr (inl refl))),
+          (
+            inl (inr (inr (inr (inr (inr (inr (inr (refl)))))))),
+            (
+              inl (inr (inr (inr (inl refl)))),
+              (
+                inl (inr (inr (inr (inr (inl refl))))),
+                (inr (not_met name _ refl differs), tt),
+              ),
+            ),
+          ),
+        ),
+      ),
+    ),
+  ),
 )
 
 named_in : (stop : Option (Text × List Text)) → StopsAtNoHelp stop → (p : Text × List Row) → entered (built dvg_app) stop ≡ Some p → IsJobName p.0

@@ -1,4 +1,5 @@
 mod Jobs
+mod Numbers
 mod Parts
 mod Refused
 mod Written

@@ -1,12 +1,12 @@
 -- How words are refused.
-use Rattle.std.proofs.Common.{◌≡◌, ◌∙◌, ◌<◌, ◌≤◌, ℕ, Bool, inl, inr, [], ◌∷◌, Option, Some, None, cond, ap, option_map, refl}
-use Rattle.std.specs.Prelude.{is_some}
+use Rattle.std.proofs.Common.{◌≡◌, ◌∙◌, ◌<◌, ◌≤◌, ℕ, Bool, false, inl, inr, [], ◌∷◌, Option, Some, None, cond, ap, option_map, refl}
+use Rattle.std.specs.Prelude.{is_some, nat_lt}
 use Rattle.std.proofs.lemmas.Bool.{lt-ltb, le-ltb}
 use Rattle.clap.specs.Kinds.{HasKind, Kinds, or_else}
 use Rattle.clap.specs.declared.error.Error.{Error}
 use Rattle.clap.specs.declared.error.kind.ErrorKind.TheVariants.{ArgumentConflict, InvalidValue}
 use Rattle.clap.specs.Words.{Text}
-use Rattle.dvg_words.specs.Words.{form_by, given_count, refused_by}
+use Rattle.dvg_words.specs.Options.{form_by, given_count, refused_by}
 use Rattle.dvg_words.specs.declared.task.LayForm.{LayForm}
 
 -- an error by the first kinds is one by these, or else by others
@@ -15,22 +15,24 @@ first_kind [] more e (inl memory) = inl memory
 first_kind [] more e (inr none) = elim none [ ]
 first_kind (k ∷ ks) more e has = has
 
+-- how options are refused of which so many ask for this form
+abbrev pub form_fault : ℕ → Option LayForm → Kinds
+form_fault count form = refused_by (nat_lt 1 count) false (is_some form)
+
 -- two options are refused
-pub two_refused : (count : ℕ) (form : Option LayForm) → 1 < count → refused_by count form ≡ ArgumentConflict ∷ []
-two_refused count form more =
-    ap (λ b. cond b (ArgumentConflict ∷ []) (cond (is_some form) [] (InvalidValue ∷ []))) (lt-ltb 1 count more)
+pub two_refused : (count : ℕ) (form : Option LayForm) → 1 < count → form_fault count form ≡ ArgumentConflict ∷ []
+two_refused count form more = ap (λ b. refused_by b false (is_some form)) (lt-ltb 1 count more)
 
 -- of one option at most the form decides
-few_options : (count : ℕ) (form : Option LayForm) → count ≤ 1 → refused_by count form ≡ cond (is_some form) [] (InvalidValue ∷ [])
-few_options count form few =
-    ap (λ b. cond b (ArgumentConflict ∷ []) (cond (is_some form) [] (InvalidValue ∷ []))) (le-ltb 1 count few)
+few_options : (count : ℕ) (form : Option LayForm) → count ≤ 1 → form_fault count form ≡ cond (is_some form) [] (InvalidValue ∷ [])
+few_options count form few = ap (λ b. refused_by b false (is_some form)) (le-ltb 1 count few)
 
 -- one option at most is refused where it asks for no form
-pub none_refused : (count : ℕ) (form : Option LayForm) → count ≤ 1 → form ≡ None → refused_by count form ≡ InvalidValue ∷ []
+pub none_refused : (count : ℕ) (form : Option LayForm) → count ≤ 1 → form ≡ None → form_fault count form ≡ InvalidValue ∷ []
 none_refused count form few none = few_options count form few ∙ ap (λ f. cond (is_some f) [] (InvalidValue ∷ [])) none
 
 -- and only there
-pub taken : (count : ℕ) (form : Option LayForm) (f : LayForm) → count ≤ 1 → form ≡ Some f → refused_by count form ≡ []
+pub taken : (count : ℕ) (form : Option LayForm) (f : LayForm) → count ≤ 1 → form ≡ Some f → form_fault count form ≡ []
 taken count form f few some = few_options count form few ∙ ap (λ g. cond (is_some g) [] (InvalidValue ∷ [])) some
 
 -- counts and forms of the same options

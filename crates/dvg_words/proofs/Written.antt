@@ -2,12 +2,11 @@
 use Rattle.std.proofs.Common.{refl}
 use Rattle.clap.proofs.OnLiterals.{clap_on_literals}
 use Rattle.dvg_words.specs.Words.{dvg_app}
-use Rattle.dvg_words.specs.Laws.{HelpWords, JobWords, OtherWords}
+use Rattle.dvg_words.specs.Laws.{HelpWords, OtherWords, RefusedOptions, SketchJobWords, TextJobWords}
 
-pub job_words : JobWords
+pub text_job_words : TextJobWords
 unfolding dvg_app clap_on_literals
-job_words = (
-  λ name. ((refl, refl), refl, refl),
+text_job_words = (
   λ name. ((refl, refl), refl, refl),
   λ name. ((refl, refl), refl, refl),
   λ name. ((refl, refl), refl, refl),
@@ -27,13 +26,55 @@ job_words = (
   λ name. ((refl, refl), refl, refl),
 )
 
+pub sketch_job_words : SketchJobWords
+unfolding dvg_app clap_on_literals
+sketch_job_words = (
+  λ name. ((refl, refl), refl, refl),
+  λ name. ((refl, refl), refl, refl),
+  λ name. ((refl, refl), refl, refl),
+  λ name. ((refl, refl), refl, refl),
+  λ name. ((refl, refl), refl, refl),
+  λ name. ((refl, refl), refl, refl),
+  λ name. ((refl, refl), refl, refl),
+  λ name. ((refl, refl), refl, refl),
+  λ name. ((refl, refl), refl, refl),
+  λ name. ((refl, refl), refl, refl),
+  λ name. ((refl, refl), refl, refl),
+)
+
 pub help_words : HelpWords
 unfolding dvg_app clap_on_literals
-help_words = (λ name. refl, λ name. refl, λ name. refl, λ name. refl, λ name. refl, λ name. refl, λ name. refl)
+help_words = (
+  λ name. refl,
+  λ name. refl,
+  λ name. refl,
+  λ name. refl,
+  λ name. refl,
+  λ name. refl,
+  λ name. refl,
+)
 
 pub other_words : OtherWords
 unfolding dvg_app clap_on_literals
 other_words = (
+  λ name. refl,
+  λ name. refl,
+  λ name. refl,
+  λ name. refl,
+  λ name. refl,
+  λ name. refl,
+)
+
+pub refused_options : RefusedOptions
+unfolding dvg_app clap_on_literals
+refused_options = (
+  λ name. refl,
+  λ name. refl,
+  λ name. refl,
+  λ name. refl,
+  λ name. refl,
+  λ name. refl,
+  λ name. refl,
   λ name. refl,
   λ name. refl,
   λ name. refl,

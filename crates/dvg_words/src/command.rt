@@ -1,8 +1,9 @@
 //! The program's command, as `clap` reads it.
-ghost use Rattle.std.specs.Prelude.{◌≡◌, IfOk, codes, false, take};
+ghost use Rattle.std.specs.Prelude.{◌≡◌, IfOk, codes, false};
 ghost use Rattle.clap.specs.Words.{app_of, new_app, rule_of, with_rule, with_subcommand};
 ghost use Rattle.clap.specs.declared.builder.command.Command.TheViews.{out-Command as fields_of};
-ghost use Rattle.dvg_words.specs.Words.{dvg_app, flag, lay_app, valued, with_flag};
+ghost use Rattle.dvg_words.specs.Words as spec;
+ghost use Rattle.dvg_words.specs.Words.{check_app, draw_app, dvg_app, flag, lay_app, list_app, picture_app, play_app, program_app, valued};
 
 use crate::help;
 use clap::{Arg, ArgAction, Command};
@@ -48,107 +49,110 @@ fn valued<'a>(alloc: Global, option: &'a str, value: &'a str, details: &'a str) 
         .action(ArgAction::Set)
 }
 
-// The program with one subcommand more, which has an option.
-fn with_option<'a>(
-    program: Command<'a>,
+// The command with an option more that is given or not.
+fn with_flag<'a>(
+    alloc: Global,
     part: Command<'a>,
-    option: Arg<'a>,
+    option: &'a str,
+    details: &'a str,
 ) -> Result<Command<'a>, AllocError>
-    requires program { (fields_of program).has_globals ≡ false }
-    requires part { (fields_of part).has_globals ≡ false }
-    requires option { option.global ≡ false }
-    ensures app { IfOk result (λ c. app_of c ≡ with_subcommand (app_of program.entry) (with_rule (app_of part.entry) (rule_of option.entry)).top) }
+    requires { (fields_of part).has_globals ≡ false }
+    ensures app { IfOk result (λ c.
+        app_of c ≡ spec.with_flag (app_of part.entry) option.entry.now) }
     ensures local { IfOk result (λ c. (fields_of c).has_globals ≡ false) }
 {
-    let whole = part.arg(option)?;
-    program.subcommand(whole)
+    part.arg(flag(alloc, option, details))
 }
 
-// The program with the subcommands `list` and `rom`.
-fn with_listing<'a>(alloc: Global) -> Result<Command<'a>, AllocError>
-    ensures app { IfOk result (λ c. app_of c ≡ record dvg_app { subs = take 2 dvg_app.subs }) }
+// The command with an option more that takes a value.
+fn with_value<'a>(
+    alloc: Global,
+    part: Command<'a>,
+    option: &'a str,
+    value: &'a str,
+    details: &'a str,
+) -> Result<Command<'a>, AllocError>
+    requires { (fields_of part).has_globals ≡ false }
+    ensures app { IfOk result (λ c.
+        app_of c ≡ spec.with_value (app_of part.entry) option.entry.now) }
     ensures local { IfOk result (λ c. (fields_of c).has_globals ≡ false) }
 {
-    let about = "List, check, draw and play display lists of the Digital Vector Generator (DVG)";
-    let program = helped(
-        alloc,
-        "dvg",
-        about,
-        "dvg COMMAND [OPTIONS] < INPUT",
-        help::PROGRAM,
-    )
-    .version(help::VERSION)
-    .subcommand_required(true);
-    let about_list = "List the instructions of words";
-    let list = helped(alloc, "list", about_list, "dvg list < WORDS", help::LIST);
-    let with_list = program.subcommand(list)?;
-    let rom = helped(
-        alloc,
-        "rom",
-        "Write a ROM as text",
-        "dvg rom < ROM",
-        help::ROM,
-    );
-    with_list.subcommand(rom)
+    part.arg(valued(alloc, option, value, details))
 }
 
-// The program with the subcommands before `play`.
-fn with_checking<'a>(alloc: Global) -> Result<Command<'a>, AllocError>
-    ensures app { IfOk result (λ c. app_of c ≡ record dvg_app { subs = take 4 dvg_app.subs }) }
+// The command with the size and the rate of pictures as options more.
+fn showing<'a>(alloc: Global, part: Command<'a>) -> Result<Command<'a>, AllocError>
+    requires { (fields_of part).has_globals ≡ false }
+    ensures app { IfOk result (λ c. app_of c ≡ spec.showing (app_of part.entry)) }
     ensures local { IfOk result (λ c. (fields_of c).has_globals ≡ false) }
 {
-    let program = with_listing(alloc)?;
-    let about_picture = "Draw what a dump of the vector memory draws";
-    let picture = helped(
-        alloc,
-        "picture",
-        about_picture,
-        "dvg picture [--all] < DUMP",
-        help::PICTURE,
-    );
+    let with_scale = with_value(alloc, part, "scale", "N", help::SCALE)?;
+    let rate = "Show so many pictures a second, 1 to 60 [default: 30]";
+    with_value(alloc, with_scale, "rate", "N", rate)
+}
+
+// The subcommand `list`.
+fn list_command<'a>(alloc: Global) -> Result<Command<'a>, AllocError>
+    ensures app { IfOk result (λ c. app_of c ≡ list_app) }
+    ensures local { IfOk result (λ c. (fields_of c).has_globals ≡ false) }
+{
+    let about = "List the instructions of words";
+    let list = helped(alloc, "list", about, help::LIST_USAGE, help::LIST);
+    let at = "Count addresses from this one, three hexadecimal digits";
+    with_value(alloc, list, "at", "HHH", at)
+}
+
+// The subcommand `picture`.
+fn picture_command<'a>(alloc: Global) -> Result<Command<'a>, AllocError>
+    ensures app { IfOk result (λ c. app_of c ≡ picture_app) }
+    ensures local { IfOk result (λ c. (fields_of c).has_globals ≡ false) }
+{
+    let about = "Draw what a dump of the vector memory draws";
+    let usage = help::PICTURE_USAGE;
+    let picture = helped(alloc, "picture", about, usage, help::PICTURE);
     let each = "Print each instruction that is run, too";
-    let with_picture = with_option(program, picture, flag(alloc, "all", each))?;
-    let about_check = "Say whether a draft may be drawn";
-    let check = helped(
-        alloc,
-        "check",
-        about_check,
-        "dvg check [--bound] < DRAFT",
-        help::CHECK,
-    );
+    let with_all = with_flag(alloc, picture, "all", each)?;
+    let with_svg = with_flag(alloc, with_all, "svg", "Write the picture as SVG")?;
+    with_value(alloc, with_svg, "scale", "N", help::SCALE)
+}
+
+// The subcommand `check`.
+fn check_command<'a>(alloc: Global) -> Result<Command<'a>, AllocError>
+    ensures app { IfOk result (λ c. app_of c ≡ check_app) }
+    ensures local { IfOk result (λ c. (fields_of c).has_globals ≡ false) }
+{
+    let about = "Say whether a draft may be drawn";
+    let usage = "dvg check [--bound] < DRAFT";
+    let check = helped(alloc, "check", about, usage, help::CHECK);
     let bound = "Also tell how many words the whole run of a good draft fetches";
-    with_option(with_picture, check, flag(alloc, "bound", bound))
+    with_flag(alloc, check, "bound", bound)
 }
 
-// The subcommand `play`, with one of its two options.
-fn play_with_all<'a>(alloc: Global) -> Result<Command<'a>, AllocError>
-    ensures app { IfOk result (λ c. app_of c ≡ with_flag (new_app (codes "play")) (codes "all")) }
+// The subcommand `play`.
+fn play_command<'a>(alloc: Global) -> Result<Command<'a>, AllocError>
+    ensures app { IfOk result (λ c. app_of c ≡ play_app) }
     ensures local { IfOk result (λ c. (fields_of c).has_globals ≡ false) }
 {
-    let usage = "dvg play [--all] [--banked] < TRACE";
-    let play = helped(alloc, "play", "Play a trace", usage, help::PLAY);
+    let play = helped(alloc, "play", "Play a trace", help::PLAY_USAGE, help::PLAY);
     let all = "Print each entry, not the finished pictures alone";
-    play.arg(flag(alloc, "all", all))
+    let with_all = with_flag(alloc, play, "all", all)?;
+    let banked = "Keep the RAM in banks, not in one piece";
+    let with_banked = with_flag(alloc, with_all, "banked", banked)?;
+    let svg = "Write the finished pictures as one SVG";
+    let with_svg = with_flag(alloc, with_banked, "svg", svg)?;
+    showing(alloc, with_svg)
 }
 
-// The subcommand `lay`, with two of its four options.
-fn lay_with_table<'a>(alloc: Global) -> Result<Command<'a>, AllocError>
-    ensures app { let lay = new_app (codes "lay") in
-        IfOk result (λ c.
-        app_of c ≡ with_flag (with_rule lay (valued (codes "half"))) (codes "table")) }
+// The subcommand `draw`.
+fn draw_command<'a>(alloc: Global) -> Result<Command<'a>, AllocError>
+    ensures app { IfOk result (λ c. app_of c ≡ draw_app) }
     ensures local { IfOk result (λ c. (fields_of c).has_globals ≡ false) }
 {
-    let lay = helped(
-        alloc,
-        "lay",
-        "Lay out the frames of a sketch",
-        help::LAY_USAGE,
-        help::LAY,
-    );
-    let half = "Write the frames as they lie in this half [default: 0]";
-    let with_half = lay.arg(valued(alloc, "half", "0|1", half))?;
-    let table = "Write the frames as text for the assembler ca65";
-    with_half.arg(flag(alloc, "table", table))
+    let about = "Draw the frames of a sketch";
+    let draw = helped(alloc, "draw", about, help::DRAW_USAGE, help::DRAW);
+    let check = "Say of each frame whether it may be drawn, and draw none";
+    let with_check = with_flag(alloc, draw, "check", check)?;
+    showing(alloc, with_check)
 }
 
 // The subcommand `lay`.
@@ -156,27 +160,38 @@ fn lay_command<'a>(alloc: Global) -> Result<Command<'a>, AllocError>
     ensures app { IfOk result (λ c. app_of c ≡ lay_app) }
     ensures local { IfOk result (λ c. (fields_of c).has_globals ≡ false) }
 {
-    let lay = lay_with_table(alloc)?;
-    let with_rom = lay.arg(flag(alloc, "rom", "Write the bytes of the ROM"))?;
-    with_rom.arg(flag(
-        alloc,
-        "equates",
-        "Write the names of the ROM with their addresses",
-    ))
+    let about = "Lay out the frames of a sketch";
+    let lay = helped(alloc, "lay", about, help::LAY_USAGE, help::LAY);
+    let half = "Write the frames as they lie in this half [default: 0]";
+    let with_half = with_value(alloc, lay, "half", "0|1", half)?;
+    let table = "Write the frames as text for the assembler ca65";
+    let with_table = with_flag(alloc, with_half, "table", table)?;
+    let rom = "Write the bytes of the ROM";
+    let with_rom = with_flag(alloc, with_table, "rom", rom)?;
+    let equates = "Write the names of the ROM with their addresses";
+    with_flag(alloc, with_rom, "equates", equates)
 }
 
-// The program with the subcommands before `lay`.
-fn with_torn<'a>(alloc: Global) -> Result<Command<'a>, AllocError>
-    ensures app { IfOk result (λ c. app_of c ≡ record dvg_app { subs = take 6 dvg_app.subs }) }
+// The program without its subcommands.
+fn program<'a>(alloc: Global) -> Command<'a>
+    ensures app { app_of result ≡ program_app }
+    ensures local { (fields_of result).has_globals ≡ false }
+{
+    let about = "List, check, draw and play display lists of the Digital Vector Generator (DVG)";
+    helped(alloc, "dvg", about, help::USAGE, help::PROGRAM)
+        .version(help::VERSION)
+        .subcommand_required(true)
+}
+
+// The program with a subcommand more.
+fn with_part<'a>(program: Command<'a>, part: Command<'a>) -> Result<Command<'a>, AllocError>
+    requires program { (fields_of program).has_globals ≡ false }
+    requires part { (fields_of part).has_globals ≡ false }
+    ensures app { IfOk result (λ c.
+        app_of c ≡ with_subcommand (app_of program.entry) (app_of part.entry).top) }
     ensures local { IfOk result (λ c. (fields_of c).has_globals ≡ false) }
 {
-    let program = with_checking(alloc)?;
-    let play = play_with_all(alloc)?;
-    let banked = "Keep the RAM in banks, not in one piece";
-    let with_play = with_option(program, play, flag(alloc, "banked", banked))?;
-    let about_torn = "Say whether a log tears a picture, and where";
-    let torn = helped(alloc, "torn", about_torn, "dvg torn < LOG", help::TORN);
-    with_play.subcommand(torn)
+    program.subcommand(part)
 }
 
 /// The program's command.
@@ -184,7 +199,16 @@ pub(crate) fn command<'a>(alloc: Global) -> Result<Command<'a>, AllocError>
     ensures app { IfOk result (λ c. app_of c ≡ dvg_app) }
     ensures local { IfOk result (λ c. (fields_of c).has_globals ≡ false) }
 {
-    let program = with_torn(alloc)?;
-    let lay = lay_command(alloc)?;
-    program.subcommand(lay)
+    let rom_usage = "dvg rom < ROM";
+    let rom = helped(alloc, "rom", "Write a ROM as text", rom_usage, help::ROM);
+    let about_torn = "Say whether a log tears a picture, and where";
+    let torn = helped(alloc, "torn", about_torn, "dvg torn < LOG", help::TORN);
+    let with_list = with_part(program(alloc), list_command(alloc)?)?;
+    let with_rom = with_part(with_list, rom)?;
+    let with_picture = with_part(with_rom, picture_command(alloc)?)?;
+    let with_check = with_part(with_picture, check_command(alloc)?)?;
+    let with_play = with_part(with_check, play_command(alloc)?)?;
+    let with_torn = with_part(with_play, torn)?;
+    let with_draw = with_part(with_torn, draw_command(alloc)?)?;
+    with_part(with_draw, lay_command(alloc)?)
 }

@@ -1,9 +1,15 @@
 //! What some words ask for, written out. Each law is the contract of a function that does nothing.
-ghost use Rattle.dvg_words.specs.Laws.{HelpWords, JobWords, OtherWords};
+ghost use Rattle.dvg_words.specs.Laws.{HelpWords, OtherWords, RefusedOptions, SketchJobWords, TextJobWords};
 
-/// The words of each job, behind any name of the program, are taken and ask for that job.
-pub fn job_words()
-    ensures { JobWords }
+/// The words of each job that reads no sketch, after any name of the program, are taken and ask for
+/// that job.
+pub fn text_job_words()
+    ensures { TextJobWords }
+{}
+
+/// So are the words of each job that reads a sketch.
+pub fn sketch_job_words()
+    ensures { SketchJobWords }
 {}
 
 /// Words that ask for help, or for the version.
@@ -14,4 +20,9 @@ pub fn help_words()
 /// Words that ask for nothing the program can do.
 pub fn other_words()
     ensures { OtherWords }
+{}
+
+/// Options that ask for nothing the program can do.
+pub fn refused_options()
+    ensures { RefusedOptions }
 {}

@@ -1,23 +1,13 @@
 //! What the options of `lay` ask for. They exclude each other, which is this project's own choice.
-ghost use Rattle.std.specs.Prelude.{◌≡◌, ◌⊎◌, IfOk, Some, option_map};
-ghost use Rattle.clap.specs.Words.{found_of, kind_of, rows_of};
-ghost use Rattle.dvg_words.specs.Words.{Refuses, form_by, form_of, given_count, half_form, lay_fault, sets};
+ghost use Rattle.std.specs.Prelude.{◌≡◌, IfOk, Some, codes, option_map};
+ghost use Rattle.clap.specs.Words.{found_of, rows_of};
+ghost use Rattle.dvg_words.specs.Options.{Refuses, form_by, form_of, given_count, half_form, lay_fault};
+ghost use Rattle.dvg_words.specs.Words.{IsJob};
 
-use crate::help::LAY_USAGE;
-use crate::task::LayForm;
+use crate::options::is_set;
+use crate::task::{Job, LayForm};
+use clap::ArgMatches;
 use clap::error::ErrorKind;
-use clap::{ArgMatches, Command, Error};
-use std::alloc::Global;
-
-/// Whether the matching sets a flag.
-pub(crate) fn is_set(found: &ArgMatches, id: &str) -> bool
-    ensures { result ≡ sets id.now (rows_of (found_of found.now)) }
-{
-    match found.get_str(id) {
-        Some(text) => text == "true",
-        None => false,
-    }
-}
 
 // How many of the options are given.
 fn given_count(half: bool, table: bool, rom: bool, equates: bool) -> u8
@@ -58,9 +48,8 @@ fn form_by(table: bool, rom: bool, equates: bool, half: Option<&str>) -> Option<
     }
 }
 
-/// The form that the options ask for: bytes in half 0 where none is given. They are refused where
-/// two are given (`ArgumentConflict`), or a half that is neither 0 nor 1 (`InvalidValue`).
-pub(crate) fn lay_form(found: &ArgMatches) -> Result<LayForm, ErrorKind>
+// The form that the options ask for: bytes in half 0 where none is given.
+fn lay_form(found: &ArgMatches) -> Result<LayForm, ErrorKind>
     ensures ok { IfOk result (λ f. form_of (rows_of (found_of found.now)) ≡ Some f) }
     ensures kinds { Refuses result (lay_fault (rows_of (found_of found.now))) }
 {
@@ -77,14 +66,14 @@ pub(crate) fn lay_form(found: &ArgMatches) -> Result<LayForm, ErrorKind>
     }
 }
 
-/// The error that tells how the options are refused.
-pub(crate) fn misuse(alloc: Global, kind: ErrorKind) -> Error
-    ensures { (kind_of result ≡ kind) ⊎ (kind_of result ≡ ErrorKind.OutOfMemory) }
+/// What the options of `lay` ask for. They are refused where two are given (`ArgumentConflict`), or
+/// a half that is neither 0 nor 1 (`InvalidValue`).
+pub(crate) fn lay_job(found: &ArgMatches) -> Result<Job, ErrorKind>
+    ensures ok { IfOk result (λ j. IsJob j (Some (codes "lay", rows_of (found_of found.now)))) }
+    ensures kinds { Refuses result (lay_fault (rows_of (found_of found.now))) }
 {
-    let mut lay = Command::new(alloc, "lay").override_usage(LAY_USAGE);
-    let told = "'lay' takes one of its options at most, and '--half' is 0 or 1";
-    match lay.error(kind, told) {
-        Ok(error) => error,
-        Err(want) => Error::from(want),
+    match lay_form(found) {
+        Ok(form) => Ok(Job::Lay { form }),
+        Err(kind) => Err(kind),
     }
 }

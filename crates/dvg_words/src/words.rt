@@ -1,36 +1,29 @@
 //! What the words of the program ask for.
-ghost use Rattle.std.specs.Prelude.{◌≡◌, IfErr, IfOk, IfSome, IsNone, Some, codes, map, true};
-ghost use Rattle.dvg_words.specs.Words.{IsJob, IsJobName, TakesWords, Refuses, dvg_app, options_fault, words_fault};
+ghost use Rattle.std.specs.Prelude.{◌≡◌, IfErr, IfOk, IfSome, IsNone, Some, map, true};
+ghost use Rattle.dvg_words.specs.Options.{Refuses};
+ghost use Rattle.dvg_words.specs.Words.{IsJob, IsJobName, IsPlainName, TakesWords, dvg_app, options_fault, words_fault};
 ghost use Rattle.clap.specs.Words.{FailsBy, fault_of, found_of, has_subcommand, kind_of, rows_of, subcommand_name_of, subcommand_of, subcommand_rows_of, takes};
 
 use crate::command::command;
-use crate::laying::{is_set, lay_form, misuse};
+use crate::drawing::{draw_job, list_job, picture_job, play_job};
+use crate::laying::lay_job;
+use crate::misuse::misuse;
+use crate::options::is_set;
 use crate::task::Job;
 use clap::error::ErrorKind;
 use clap::{ArgMatches, Error};
 use std::alloc::Global;
 
-// The job that a subcommand other than `lay` names, with its options.
-fn named(name: &str, found: &ArgMatches) -> Option<Job>
+// The job of a subcommand whose options can't be refused.
+fn plain_job(name: &str, found: &ArgMatches) -> Option<Job>
     ensures some { IfSome result (λ j. IsJob j (Some (name.now, rows_of (found_of found.now)))) }
-    ensures none { IsNone result → IsJobName name.now → name.now ≡ codes "lay" }
+    ensures none { IsNone result → ¬ IsPlainName name.now }
 {
-    if name == "list" {
-        Some(Job::List)
-    } else if name == "rom" {
+    if name == "rom" {
         Some(Job::Rom)
-    } else if name == "picture" {
-        Some(Job::Picture {
-            all: is_set(found, "all"),
-        })
     } else if name == "check" {
         Some(Job::Check {
             bound: is_set(found, "bound"),
-        })
-    } else if name == "play" {
-        Some(Job::Play {
-            all: is_set(found, "all"),
-            banked: is_set(found, "banked"),
         })
     } else if name == "torn" {
         Some(Job::Torn)
@@ -45,13 +38,22 @@ fn asked(name: &str, found: &ArgMatches) -> Result<Job, ErrorKind>
     ensures ok { IfOk result (λ j. IsJob j (Some (name.now, rows_of (found_of found.now)))) }
     ensures kinds { Refuses result (options_fault (Some (name.now, rows_of (found_of found.now)))) }
 {
-    if name == "lay" {
-        return match lay_form(found) {
-            Ok(form) => Ok(Job::Lay { form }),
-            Err(kind) => Err(kind),
-        };
+    if name == "list" {
+        return list_job(found);
     }
-    match named(name, found) {
+    if name == "picture" {
+        return picture_job(found);
+    }
+    if name == "play" {
+        return play_job(found);
+    }
+    if name == "draw" {
+        return draw_job(found);
+    }
+    if name == "lay" {
+        return lay_job(found);
+    }
+    match plain_job(name, found) {
         Some(job) => Ok(job),
         None => unreachable!(),
     }
@@ -102,6 +104,6 @@ pub fn job<'a>(alloc: Global, words: &'a [&'a str]) -> Result<Job, Error>
     };
     match entered(&matches) {
         Ok(job) => Ok(job),
-        Err(kind) => Err(misuse(alloc, kind)),
+        Err(kind) => Err(misuse(alloc, &matches, kind)),
     }
 }

@@ -26,6 +26,8 @@ pub mod error {
         OutOfMemory,
         /// Options that may not stand together.
         ArgumentConflict,
+        /// An option without another that it wants.
+        MissingRequiredArgument,
         /// A value that an option doesn't take.
         InvalidValue,
         /// The words match nothing.
@@ -494,7 +496,7 @@ impl Error {
     }
 }
 
-/// Names, and what is said of each behind the longest one.
+/// Names, and what is said of each after the longest one.
 fn table(rows: Vec<(String, &str)>) -> String {
     let width = rows.iter().map(|(name, _)| name.len()).max().unwrap_or(0);
     rows.iter()

@@ -1,7 +1,8 @@
 use Rattle.std.proofs.Common.{◌∙◌, subst, sym}
 use Rattle.std.specs.Prelude.{IfOk, IfSome}
 use Rattle.clap.specs.Words.{found_of, rows_of}
-use Rattle.dvg_words.specs.Words.{IsJob, IsJobName, Refuses, options_fault}
+use Rattle.dvg_words.specs.Options.{Refuses}
+use Rattle.dvg_words.specs.Words.{IsJob, IsJobName, options_fault}
 use Rattle.dvg_words.proofs.Jobs.{entered_as}
 use Rattle.dvg_words.proofs.words.entered.Goals as goal
 

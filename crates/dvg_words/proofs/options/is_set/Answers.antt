@@ -3,7 +3,7 @@ use Rattle.std.specs.Option.{option_map_or}
 use Rattle.std.specs.Str.{bytes_eq}
 use Rattle.clap.specs.Words.{first_of, found_of, rows_of}
 use Rattle.clap.proofs.WalkLemmas.{first_value-rows}
-use Rattle.dvg_words.proofs.laying.is_set.Goals as goal
+use Rattle.dvg_words.proofs.options.is_set.Goals as goal
 
 pub returns-in-Some : goal.returns-in-Some
 returns-in-Some c =
