@@ -8,13 +8,25 @@
 enum { RAM_BYTES = 2048, SMALL_DUMP = RAM_BYTES + SMALL_ROM_BYTES,
        LARGE_DUMP = RAM_BYTES + LARGE_ROM_BYTES, MOST_FETCHED = 65536 };
 
+/* Says how many bytes were read where a dump has more or fewer. */
+RARE __attribute__((noreturn)) void fail_size(u32 bytes)
+{
+    out = output;
+    add_text("dvg: dump size ");
+    add_number(bytes);
+    add_text(bytes > LARGE_DUMP ? " or more" : "");
+    add_text(": wanted are 4096 or 6144 bytes\n");
+    write_all(2, output, (size_t)(out - output));
+    _exit(1);
+}
+
 /* Reads a dump into the memory. */
 static void read_dump(void)
 {
     static u8 dump[LARGE_DUMP + 1];
     u32 bytes = read_up_to(dump, LARGE_DUMP + 1);
     if (bytes != SMALL_DUMP && bytes != LARGE_DUMP) {
-        fail("dump size", 1);
+        fail_size(bytes);
     }
     memory.rom = bytes == SMALL_DUMP ? SMALL_ROM : LARGE_ROM;
     memcpy(memory.words, dump, RAM_BYTES);

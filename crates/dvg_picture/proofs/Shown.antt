@@ -1,9 +1,9 @@
 -- From the run that is told to what is shown of the input.
 use Rattle.std.proofs.Common.{◌≡◌, ℕ, ◌+◌, ◌<◌, ◌≤◌, List, ◌++◌, inl, inr, Bool, Option, Result, Ok, Err, IfOk, IfErr, length, take, take_all, drop, get_or, flat_map, ap, sym, ◌∙◌, subst, arith}
-use Rattle.std.proofs.lemmas.List.{drop_more}
+use Rattle.std.proofs.lemmas.List.{drop_more, length-take}
 use Rattle.std.specs.Io.KnownBytes.{Appends}
 use Rattle.dvg_text.specs.declared.fault.TextFault.{TextFault}
-use Rattle.dvg_text.specs.declared.fault.TextFault.TheVariants.{DumpSize}
+use Rattle.dvg_text.specs.declared.fault.TextFault.TheVariants.{DumpSize, LongDump}
 use Rattle.dvg_io.specs.declared.fault.ToolFault.{ToolFault}
 use Rattle.dvg_io.specs.declared.fault.ToolFault.TheVariants.{Text, Reader, Writer, Memory}
 use Rattle.dvg_io.specs.Watching.{BeginsToWrite}
@@ -28,13 +28,11 @@ pub short : (size : List ℕ) → HasDumpSize size → length size ≤ 6144
 short dump (inl small) = omega arith
 short dump (inr large) = omega arith
 
--- of another size than a dump has, so is the input
-pub wrong_size : (input read : List ℕ) → read ≡ take 6145 input → ¬ HasDumpSize read → ¬ HasDumpSize input
-wrong_size input read e h = λ size. let few = short input size in h (subst HasDumpSize (sym (e ∙ take_all 6145 input (omega arith))) size)
-
 -- the fault of what was read is that of the input
 pub faulted : (fault : TextFault) (input read : List ℕ) → read ≡ take 6145 input → HasDumpFault read fault → HasDumpFault input fault
-faulted DumpSize input read e h = wrong_size input read e h
+faulted (DumpSize bytes) input read e h =
+    subst (λ dump. HasDumpFault dump (DumpSize bytes)) (whole 6144 read input e (omega (arith, h.0, h.1))) h
+faulted LongDump input read e h = omega (arith, h, ap length e, length-take 6145 input)
 faulted _ input read e h = absurd h
 
 -- the run over what was read is that over the input

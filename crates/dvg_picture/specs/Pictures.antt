@@ -1,9 +1,9 @@
 -- What `picture` answers and writes.
-use Rattle.std.specs.Prelude.{◌≡◌, ℕ, List, Bool, Option, Result, Ok, Err}
+use Rattle.std.specs.Prelude.{◌≡◌, ◌<◌, ◌≤◌, ℕ, List, Bool, Option, Result, Ok, Err, length}
 use Rattle.std.specs.Io.KnownBytes.{Appends}
 use Rattle.dvg_gen.specs.Run.{Visit}
 use Rattle.dvg_text.specs.declared.fault.TextFault.{TextFault}
-use Rattle.dvg_text.specs.declared.fault.TextFault.TheVariants.{DumpSize}
+use Rattle.dvg_text.specs.declared.fault.TextFault.TheVariants.{DumpSize, LongDump}
 use Rattle.dvg_io.specs.declared.fault.ToolFault.{ToolFault}
 use Rattle.dvg_io.specs.declared.fault.ToolFault.TheVariants.{Text, Writer, Memory}
 use Rattle.dvg_io.specs.Watching.{BeginsToWrite}
@@ -24,9 +24,10 @@ pub record ShowsRun (all : Bool) (input : List ℕ) (Holds : End → List ℕ �
   pub ends : Ends (memory_of (parts_of input)) visits end
   pub holds : Holds end (picture_text all (memory_of (parts_of input)) visits end)
 
--- the fault of an input that isn't a dump: its size
+-- the fault of an input that isn't a dump: how many bytes it has, or that these are more than a dump's
 abbrev pub HasDumpFault : List ℕ → TextFault → Type 0
-HasDumpFault input DumpSize = ¬ HasDumpSize input
+HasDumpFault input (DumpSize bytes) = (length input ≡ bytes) × (bytes ≤ 6144) × ¬ HasDumpSize input
+HasDumpFault input LongDump = 6144 < length input
 HasDumpFault input _ = ⊥
 
 -- what `picture` answers of an input, and what went out: the text, or at `Writer` a beginning of it

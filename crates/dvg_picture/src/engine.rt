@@ -1,6 +1,7 @@
 //! The engine `picture`.
 ghost use Rattle.std.specs.Prelude.{IfErr, IfOk};
 ghost use Rattle.dvg_dump.specs.Endings.{end_of};
+ghost use Rattle.dvg_dump.specs.Memory.{HasDumpSize};
 ghost use Rattle.dvg_io.specs.Faults.{ComesBeforeText};
 ghost use Rattle.dvg_io.specs.Serving.{AreFresh, Serves};
 ghost use Rattle.dvg_picture.specs.Pictures.{HasDumpFault, IsDumpFault, IsRunOf, Pictures};
@@ -13,6 +14,18 @@ use dvg_text::TextFault;
 use std::alloc::Allocator;
 use std::io::{Read, Write};
 
+// The fault of bytes that aren't a dump.
+fn size_fault(bytes: &[u8]) -> TextFault
+    requires { ¬ HasDumpSize bytes.now }
+    ensures { HasDumpFault bytes.now result }
+{
+    if bytes.len() > LARGE_DUMP_BYTES {
+        TextFault::LongDump
+    } else {
+        TextFault::DumpSize(bytes.len())
+    }
+}
+
 /// The run over a dump, with its instructions where it `traces`.
 pub(crate) fn run_dump<A: Allocator + Copy>(
     alloc: A,
@@ -24,7 +37,7 @@ pub(crate) fn run_dump<A: Allocator + Copy>(
 {
     let dump = match Dump::new(alloc, bytes) {
         Ok(dump) => dump,
-        Err(DumpFault::Size) => return Err(ToolFault::Text(TextFault::DumpSize)),
+        Err(DumpFault::Size) => return Err(ToolFault::Text(size_fault(bytes))),
         Err(DumpFault::OutOfMemory) => return Err(ToolFault::Memory),
     };
     let Ok(run) = dump.run_telling(traces) else {
@@ -75,8 +88,8 @@ impl<A: Allocator + Copy> Engine<A> for PictureEngine {
 /// it, and after it that of its stroke (the texts are this project's own choice). It answers which
 /// of the three it was.
 ///
-/// - `DumpSize`: the input has neither 4,096 bytes nor 6,144, of which no more than 6,145 are
-///   taken.
+/// - `DumpSize`: the input has so many bytes, up to 6,144, and neither 4,096 nor 6,144.
+/// - `LongDump`: it has more than 6,144, of which no more than 6,145 are taken.
 /// - `Reader`, `Writer`: that device failed. After `Writer` a beginning of the text went out.
 /// - `Memory`: a growth was refused.
 ///

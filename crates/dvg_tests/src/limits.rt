@@ -8,7 +8,7 @@ use std::alloc::Global;
 const LIMITS: [(Job, usize, TextFault); 8] = [
     (Job::List, 8192, TextFault::TooLong),
     (Job::Rom, 4096, TextFault::RomSize),
-    (Job::Picture { all: true }, 6144, TextFault::DumpSize),
+    (Job::Picture { all: true }, 6144, TextFault::LongDump),
     (Job::Check { bound: false }, 1_048_576, TextFault::TooLong),
     (Job::Check { bound: true }, 1_048_576, TextFault::TooLong),
     (PICTURES, 1_048_576, TextFault::TooLong),

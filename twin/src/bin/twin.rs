@@ -55,7 +55,8 @@ enum Fault {
     OddLength,
     Cut(usize),
     RomSize,
-    DumpSize,
+    DumpSize(usize),
+    LongDump,
     Syntax(usize),
     Full(usize),
     Many(usize),
@@ -120,7 +121,12 @@ impl fmt::Display for Fault {
             Fault::OddLength => write!(f, "odd length"),
             Fault::Cut(place) => write!(f, "cut at {place:03X}"),
             Fault::RomSize => write!(f, "rom size"),
-            Fault::DumpSize => write!(f, "dump size"),
+            Fault::DumpSize(bytes) => {
+                write!(f, "dump size {bytes}: wanted are 4096 or 6144 bytes")
+            }
+            Fault::LongDump => {
+                write!(f, "dump size 6145 or more: wanted are 4096 or 6144 bytes")
+            }
             Fault::Syntax(line) => write!(f, "syntax at line {line}"),
             Fault::Full(line) => write!(f, "full at line {line}"),
             Fault::Many(line) => write!(f, "too many events at line {line}"),
@@ -224,8 +230,11 @@ fn rom() -> Result<(), Fault> {
 fn read_image() -> Result<Vec<u8>, Fault> {
     let mut buffer = vec![0; MOST_IMAGE_BYTES + 1];
     let length = read_input(&mut buffer)?;
+    if length > MOST_IMAGE_BYTES {
+        return Err(Fault::LongDump);
+    }
     if !is_image(length) {
-        return Err(Fault::DumpSize);
+        return Err(Fault::DumpSize(length));
     }
     buffer.truncate(length);
     Ok(buffer)
