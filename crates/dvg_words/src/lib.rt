@@ -11,7 +11,6 @@ mod command;
 mod drawing;
 mod help;
 pub mod laws;
-mod laying;
 mod misuse;
 mod options;
 mod refusal;
@@ -19,5 +18,5 @@ mod task;
 mod words;
 
 pub use refusal::words_status;
-pub use task::{Job, LayForm};
+pub use task::Job;
 pub use words::job;
