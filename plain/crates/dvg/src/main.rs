@@ -76,6 +76,9 @@ fn do_words(rt: &HostRuntime, words: &[String]) -> u8 {
         Err(error) => return answer_words(rt, &error),
     };
     let answer = run(rt, job);
+    if let Ok(Done::DrewSvg(Some(undrawn))) = &answer {
+        let _ = eprintln!(rt; "dvg: {undrawn}");
+    }
     if let Err(fault) = &answer {
         complain(rt, *fault);
     }

@@ -6,6 +6,15 @@ use dvg_text::TextFault;
 use std::alloc::Allocator;
 use std::io::{Read, Write};
 
+// The fault of bytes that aren't a dump.
+fn size_fault(bytes: &[u8]) -> TextFault {
+    if bytes.len() > LARGE_DUMP_BYTES {
+        TextFault::LongDump
+    } else {
+        TextFault::DumpSize(bytes.len())
+    }
+}
+
 /// The run over a dump, with its instructions where it `traces`.
 pub(crate) fn run_dump<A: Allocator + Copy>(
     alloc: A,
@@ -14,7 +23,7 @@ pub(crate) fn run_dump<A: Allocator + Copy>(
 ) -> Result<Traced<A>, ToolFault> {
     let dump = match Dump::new(alloc, bytes) {
         Ok(dump) => dump,
-        Err(DumpFault::Size) => return Err(ToolFault::Text(TextFault::DumpSize)),
+        Err(DumpFault::Size) => return Err(ToolFault::Text(size_fault(bytes))),
         Err(DumpFault::OutOfMemory) => return Err(ToolFault::Memory),
     };
     let Ok(run) = dump.run_telling(traces) else {
@@ -55,8 +64,8 @@ impl<A: Allocator + Copy> Engine<A> for PictureEngine {
 /// it, and after it that of its stroke (the texts are this project's own choice). It answers which
 /// of the three it was.
 ///
-/// - `DumpSize`: the input has neither 4,096 bytes nor 6,144, of which no more than 6,145 are
-///   taken.
+/// - `DumpSize`: the input has so many bytes, up to 6,144, and neither 4,096 nor 6,144.
+/// - `LongDump`: it has more than 6,144, of which no more than 6,145 are taken.
 /// - `Reader`, `Writer`: that device failed. After `Writer` a beginning of the text went out.
 /// - `Memory`: a growth was refused.
 ///

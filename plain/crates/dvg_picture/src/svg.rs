@@ -90,8 +90,8 @@ impl<A: Allocator + Copy> Engine<A> for SvgEngine {
 /// 65,536 words those up to there. Why it drew no picture, if it didn't, is the title, and is
 /// answered (the text is this project's own choice).
 ///
-/// - `DumpSize`: the input has neither 4,096 bytes nor 6,144, of which no more than 6,145 are
-///   taken.
+/// - `DumpSize`: the input has so many bytes, up to 6,144, and neither 4,096 nor 6,144.
+/// - `LongDump`: it has more than 6,144, of which no more than 6,145 are taken.
 /// - `Reader`, `Writer`: that device failed. After `Writer` a beginning of the text went out.
 /// - `Memory`: a growth was refused.
 ///

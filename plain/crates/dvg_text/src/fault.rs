@@ -16,9 +16,12 @@ pub enum TextFault {
     /// A ROM has neither 2,048 nor 4,096 bytes.
     #[error("rom size")]
     RomSize,
-    /// A dump of vector memory has neither 4,096 nor 6,144 bytes.
-    #[error("dump size")]
-    DumpSize,
+    /// A dump of vector memory has this many bytes, fewer than 6,144 and not 4,096.
+    #[error("dump size {0}: wanted are 4096 or 6144 bytes")]
+    DumpSize(usize),
+    /// A dump of vector memory has more than 6,144 bytes.
+    #[error("dump size 6145 or more: wanted are 4096 or 6144 bytes")]
+    LongDump,
     /// The line of this number, counted from 1, spells nothing that may stand at its place.
     #[error("syntax at line {0}")]
     Syntax(usize),

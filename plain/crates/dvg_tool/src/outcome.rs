@@ -2,7 +2,7 @@
 use dvg_io::{ToolFault, Watched};
 use dvg_lines::{BoundedVerdict, Verdict};
 use dvg_logs::{LogFinding, LogVerdict};
-use dvg_picture::Outcome;
+use dvg_picture::{Outcome, Undrawn};
 use std::io::Write;
 
 /// What an engine that is done has to tell.
@@ -16,6 +16,9 @@ pub enum Done {
     Bounded(BoundedVerdict),
     /// The run over a dump came to this, and its text was written.
     Drew(Outcome),
+    /// What the run over a dump drew was written as SVG. It is no picture for this reason, if there
+    /// is one.
+    DrewSvg(Option<Undrawn>),
     /// This was said of a log, and the text of it was written.
     Searched(LogVerdict),
 }
@@ -43,6 +46,7 @@ pub fn status(answer: &Result<Done, ToolFault>) -> u8 {
             | Done::Judged(Verdict::Good(_))
             | Done::Bounded(BoundedVerdict::Good { .. })
             | Done::Drew(Outcome::Picture)
+            | Done::DrewSvg(None)
             | Done::Searched(
                 LogVerdict {
                     finding: LogFinding::NotTorn,
@@ -54,6 +58,7 @@ pub fn status(answer: &Result<Done, ToolFault>) -> u8 {
             Done::Judged(Verdict::Refused(_))
             | Done::Bounded(BoundedVerdict::Refused(_))
             | Done::Drew(Outcome::Broke | Outcome::Endless)
+            | Done::DrewSvg(Some(_))
             | Done::Searched(
                 LogVerdict {
                     finding: LogFinding::NoRunDrew | LogFinding::Torn { .. },

@@ -25,81 +25,106 @@ fn flag<'a>(alloc: Global, option: &'a str, details: &'a str) -> Arg<'a> {
         .action(ArgAction::SetTrue)
 }
 
-// The program with one subcommand more, which has an option.
-fn with_option<'a>(
-    program: Command<'a>,
+// An option that takes a value.
+fn valued<'a>(alloc: Global, option: &'a str, value: &'a str, details: &'a str) -> Arg<'a> {
+    Arg::new(alloc, option)
+        .long(option)
+        .value_name(value)
+        .help(details)
+        .action(ArgAction::Set)
+}
+
+// The command with an option more that is given or not.
+fn with_flag<'a>(
+    alloc: Global,
     part: Command<'a>,
-    option: Arg<'a>,
+    option: &'a str,
+    details: &'a str,
 ) -> Result<Command<'a>, AllocError> {
-    let whole = part.arg(option)?;
-    program.subcommand(whole)
+    part.arg(flag(alloc, option, details))
 }
 
-// The program with the subcommands `list` and `rom`.
-fn with_listing<'a>(alloc: Global) -> Result<Command<'a>, AllocError> {
-    let about = "List, check, draw and play display lists of the Digital Vector Generator (DVG)";
-    let program = helped(
-        alloc,
-        "dvg",
-        about,
-        "dvg COMMAND [OPTIONS] < INPUT",
-        help::PROGRAM,
-    )
-    .version(help::VERSION)
-    .subcommand_required(true);
-    let about_list = "List the instructions of words";
-    let list = helped(alloc, "list", about_list, "dvg list < WORDS", help::LIST);
-    let with_list = program.subcommand(list)?;
-    let rom = helped(
-        alloc,
-        "rom",
-        "Write a ROM as text",
-        "dvg rom < ROM",
-        help::ROM,
-    );
-    with_list.subcommand(rom)
+// The command with an option more that takes a value.
+fn with_value<'a>(
+    alloc: Global,
+    part: Command<'a>,
+    option: &'a str,
+    value: &'a str,
+    details: &'a str,
+) -> Result<Command<'a>, AllocError> {
+    part.arg(valued(alloc, option, value, details))
 }
 
-// The program with the subcommands before `play`.
-fn with_checking<'a>(alloc: Global) -> Result<Command<'a>, AllocError> {
-    let program = with_listing(alloc)?;
-    let about_picture = "Draw what a dump of the vector memory draws";
-    let picture = helped(
-        alloc,
-        "picture",
-        about_picture,
-        "dvg picture [--all] < DUMP",
-        help::PICTURE,
-    );
+// The command with the size and the rate of pictures as options more.
+fn showing<'a>(alloc: Global, part: Command<'a>) -> Result<Command<'a>, AllocError> {
+    let with_scale = with_value(alloc, part, "scale", "N", help::SCALE)?;
+    let rate = "Show so many pictures a second, 1 to 60 [default: 30]";
+    with_value(alloc, with_scale, "rate", "N", rate)
+}
+
+// The subcommand `list`.
+fn list_command<'a>(alloc: Global) -> Result<Command<'a>, AllocError> {
+    let about = "List the instructions of words";
+    let list = helped(alloc, "list", about, help::LIST_USAGE, help::LIST);
+    let at = "Count addresses from this one, three hexadecimal digits";
+    with_value(alloc, list, "at", "HHH", at)
+}
+
+// The subcommand `picture`.
+fn picture_command<'a>(alloc: Global) -> Result<Command<'a>, AllocError> {
+    let about = "Draw what a dump of the vector memory draws";
+    let usage = help::PICTURE_USAGE;
+    let picture = helped(alloc, "picture", about, usage, help::PICTURE);
     let each = "Print each instruction that is run, too";
-    let with_picture = with_option(program, picture, flag(alloc, "all", each))?;
-    let about_check = "Say whether a draft may be drawn";
-    let check = helped(
-        alloc,
-        "check",
-        about_check,
-        "dvg check [--bound] < DRAFT",
-        help::CHECK,
-    );
-    let bound = "Also tell how many words the whole run of a good draft fetches";
-    with_option(with_picture, check, flag(alloc, "bound", bound))
+    let with_all = with_flag(alloc, picture, "all", each)?;
+    let with_svg = with_flag(alloc, with_all, "svg", "Write the picture as SVG")?;
+    with_value(alloc, with_svg, "scale", "N", help::SCALE)
 }
 
-// The subcommand `play`, with one of its two options.
-fn play_with_all<'a>(alloc: Global) -> Result<Command<'a>, AllocError> {
-    let usage = "dvg play [--all] [--banked] < TRACE";
-    let play = helped(alloc, "play", "Play a trace", usage, help::PLAY);
+// The subcommand `check`.
+fn check_command<'a>(alloc: Global) -> Result<Command<'a>, AllocError> {
+    let about = "Say whether a draft may be drawn";
+    let usage = "dvg check [--bound] < DRAFT";
+    let check = helped(alloc, "check", about, usage, help::CHECK);
+    let bound = "Also tell how many words the whole run of a good draft fetches";
+    with_flag(alloc, check, "bound", bound)
+}
+
+// The subcommand `play`.
+fn play_command<'a>(alloc: Global) -> Result<Command<'a>, AllocError> {
+    let play = helped(alloc, "play", "Play a trace", help::PLAY_USAGE, help::PLAY);
     let all = "Print each entry, not the finished pictures alone";
-    play.arg(flag(alloc, "all", all))
+    let with_all = with_flag(alloc, play, "all", all)?;
+    let banked = "Keep the RAM in banks, not in one piece";
+    let with_banked = with_flag(alloc, with_all, "banked", banked)?;
+    let svg = "Write the finished pictures as one SVG";
+    let with_svg = with_flag(alloc, with_banked, "svg", svg)?;
+    showing(alloc, with_svg)
+}
+
+// The program without its subcommands.
+fn program<'a>(alloc: Global) -> Command<'a> {
+    let about = "List, check, draw and play display lists of the Digital Vector Generator (DVG)";
+    helped(alloc, "dvg", about, help::USAGE, help::PROGRAM)
+        .version(help::VERSION)
+        .subcommand_required(true)
+}
+
+// The program with a subcommand more.
+fn with_part<'a>(program: Command<'a>, part: Command<'a>) -> Result<Command<'a>, AllocError> {
+    program.subcommand(part)
 }
 
 /// The program's command.
 pub(crate) fn command<'a>(alloc: Global) -> Result<Command<'a>, AllocError> {
-    let program = with_checking(alloc)?;
-    let play = play_with_all(alloc)?;
-    let banked = "Keep the RAM in banks, not in one piece";
-    let with_play = with_option(program, play, flag(alloc, "banked", banked))?;
+    let rom_usage = "dvg rom < ROM";
+    let rom = helped(alloc, "rom", "Write a ROM as text", rom_usage, help::ROM);
     let about_torn = "Say whether a log tears a picture, and where";
     let torn = helped(alloc, "torn", about_torn, "dvg torn < LOG", help::TORN);
-    with_play.subcommand(torn)
+    let with_list = with_part(program(alloc), list_command(alloc)?)?;
+    let with_rom = with_part(with_list, rom)?;
+    let with_picture = with_part(with_rom, picture_command(alloc)?)?;
+    let with_check = with_part(with_picture, check_command(alloc)?)?;
+    let with_play = with_part(with_check, play_command(alloc)?)?;
+    with_part(with_play, torn)
 }

@@ -2,11 +2,17 @@
 /// The program's version.
 pub(crate) const VERSION: &str = "0.9.0";
 
-/// What the program's help says behind its commands.
+/// How the program is called.
+pub(crate) const USAGE: &str = "dvg COMMAND [OPTIONS] < INPUT";
+
+/// What the option of a size says.
+pub(crate) const SCALE: &str = "Show pictures in this size in percent, 10 to 400 [default: 100]";
+
+/// What the program's help says after its commands.
 pub(crate) const PROGRAM: &str =
     "Each command reads standard input and writes standard output. `dvg help COMMAND`
 tells what a command reads and writes, with its limits and an example.
-A fault of the input is printed on standard error, behind `dvg: `.
+A fault of the input is printed on standard error, after `dvg: `.
 
 Exit status:
    0  done, or a help text or the version that was asked for
@@ -20,6 +26,9 @@ Example:
   $ printf 'labs 512 400 0\\nvctr 9 -100 100 7\\nhalt\\n' | dvg check
   ok 5 words";
 
+/// How `list` is called.
+pub(crate) const LIST_USAGE: &str = "dvg list [--at HHH] < WORDS";
+
 /// The input and output of `list`.
 pub(crate) const LIST: &str =
     "Standard input: words, the low byte of each first, at most 8,192 bytes.
@@ -27,14 +36,17 @@ pub(crate) const LIST: &str =
 Standard output: one line per instruction: the place of its first word, counted
 in words from 000, its name and its numbers. Places and addresses are
 hexadecimal, other numbers decimal. A `*` ends the line of words that aren't the
-canonical spelling.
+canonical spelling. With `--at HHH` the first word stands at this address, and
+places count on from it: 000 comes after FFF.
 
 Faults: `too long` for more than 8,192 bytes, `odd length` for an odd number of
 them, and `cut at HHH` where the last word begins an instruction of two words.
 
 Example:
   $ printf '\\144\\220\\144\\164' | dvg list
-  000 VCTR 9 -100 100 7";
+  000 VCTR 9 -100 100 7
+  $ printf '\\144\\220\\144\\164' | dvg list --at 201
+  201 VCTR 9 -100 100 7";
 
 /// The input and output of `rom`.
 pub(crate) const ROM: &str =
@@ -51,6 +63,9 @@ Fault: `rom size` for any other number of bytes.
 Example:
   $ head -c 2048 /dev/zero | dvg rom | tail -n 1
   rom BF8 0000 0000 0000 0000 0000 0000 0000 0000";
+
+/// How `picture` is called.
+pub(crate) const PICTURE_USAGE: &str = "dvg picture [--all | --svg [--scale N]] < DUMP";
 
 /// The input and output of `picture`.
 pub(crate) const PICTURE: &str =
@@ -70,10 +85,16 @@ beam at 0 0 and scale 0. Standard output is one of these:
   endless           neither happened within 65,536 words
 
 With `--all` there is first one line per instruction that is run, in order: its
-address, its name and its numbers as `dvg list` writes them, and behind `at` the
+address, its name and its numbers as `dvg list` writes them, and after `at` the
 beam after it: x, y and scale. Where it draws a stroke, its line follows.
 
-Fault: `dump size` for any other number of bytes.
+With `--svg` standard output is the picture as SVG, in which at 100 percent a
+screen unit is a pixel. Of a run that broke or is endless it has the strokes up
+to there, and `broke HHH F` or `endless` as its title, which standard error tells,
+too. The status is 1 wherever there is no picture.
+
+Fault: `dump size N: wanted are 4096 or 6144 bytes` for N bytes, any other number;
+N is `6145 or more` for more than 6,144.
 
 Example:
   $ printf '\\001\\340\\220\\241\\000\\002\\144\\220\\144\\164\\000\\260' >dump
@@ -138,6 +159,10 @@ Example:
   $ printf 'labs 512 400 0\\nvctr 9 -100 100 7\\nhalt\\n' | dvg check --bound
   ok 5 words 6 fetches";
 
+/// How `play` is called.
+pub(crate) const PLAY_USAGE: &str =
+    "dvg play [--all | --svg [--scale N] [--rate N]] [--banked] < TRACE";
+
 /// The input and output of `play`.
 pub(crate) const PLAY: &str =
     "Standard input: a trace as text, at most 1,048,576 bytes. Lines `map` and `rom`
@@ -165,7 +190,11 @@ Standard output: for each finished picture a line `picture EVENT STROKES`, with
 the event that finished it and the number of its strokes, and then a line
 `x0 y0 x1 y1 z` a stroke: from where to where, in 1/512 of a screen unit, and
 the intensity. With `--all` a line for each event instead, with what came of it,
-and a picture's strokes behind the event that finished it.
+and a picture's strokes after the event that finished it.
+
+With `--svg` standard output is one SVG, in which the finished pictures are shown
+in turn, and then from the first one again. At 100 percent a screen unit is a
+pixel.
 
 With `--banked` the RAM is kept in banks, of which none has bytes of both
 halves. The same is written, so one sees that no picture depends on how the RAM

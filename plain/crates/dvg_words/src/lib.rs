@@ -3,13 +3,17 @@
 //!
 //! The words are read by `clap`, with a command that `specs/Words.antt` shows whole. A job is
 //! answered only where clap's own matching gives it, and an error only of a kind that the words can
-//! come to; help that was asked for is such an error, too.
+//! come to; help that was asked for is such an error, too. That options exclude each other, which
+//! wants which, and which values they take, are this crate's own rules, after the matching.
 #![no_std]
 
 extern crate plain_std as std;
 
 mod command;
+mod drawing;
 mod help;
+mod misuse;
+mod options;
 mod refusal;
 mod task;
 mod words;

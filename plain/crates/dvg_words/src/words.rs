@@ -1,28 +1,20 @@
 //! What the words of the program ask for.
 use crate::command::command;
+use crate::drawing::{list_job, picture_job, play_job};
+use crate::misuse::misuse;
+use crate::options::is_set;
 use crate::task::Job;
 use clap::error::ErrorKind;
 use clap::{ArgMatches, Error};
 use std::alloc::Global;
 
-// The job that a subcommand names, with its options.
-fn named(name: &str, found: &ArgMatches) -> Option<Job> {
-    if name == "list" {
-        Some(Job::List)
-    } else if name == "rom" {
+// The job of a subcommand whose options can't be refused.
+fn plain_job(name: &str, found: &ArgMatches) -> Option<Job> {
+    if name == "rom" {
         Some(Job::Rom)
-    } else if name == "picture" {
-        Some(Job::Picture {
-            all: is_set(found, "all"),
-        })
     } else if name == "check" {
         Some(Job::Check {
             bound: is_set(found, "bound"),
-        })
-    } else if name == "play" {
-        Some(Job::Play {
-            all: is_set(found, "all"),
-            banked: is_set(found, "banked"),
         })
     } else if name == "torn" {
         Some(Job::Torn)
@@ -31,23 +23,30 @@ fn named(name: &str, found: &ArgMatches) -> Option<Job> {
     }
 }
 
-// Whether the matching sets a flag.
-fn is_set(found: &ArgMatches, id: &str) -> bool {
-    match found.get_str(id) {
-        Some(text) => text == "true",
-        None => false,
+// The job that a subcommand asks for, or how its options are refused.
+fn asked(name: &str, found: &ArgMatches) -> Result<Job, ErrorKind> {
+    if name == "list" {
+        return list_job(found);
+    }
+    if name == "picture" {
+        return picture_job(found);
+    }
+    if name == "play" {
+        return play_job(found);
+    }
+    match plain_job(name, found) {
+        Some(job) => Ok(job),
+        None => unreachable!(),
     }
 }
 
-// The job of a matching that entered a subcommand, where that is one.
-fn entered(matches: &ArgMatches) -> Job {
+// The job of a matching that entered a subcommand, where that is one, or how its options are
+// refused.
+fn entered(matches: &ArgMatches) -> Result<Job, ErrorKind> {
     let Some(entered) = matches.subcommand() else {
         unreachable!()
     };
-    match named(entered.0, entered.1) {
-        Some(job) => job,
-        None => unreachable!(),
-    }
+    asked(entered.0, entered.1)
 }
 
 // The matching of words, which enters a subcommand where they are taken.
@@ -58,12 +57,15 @@ fn matched<'a>(alloc: Global, words: &'a [&'a str]) -> Result<ArgMatches<'a>, Er
 /// What the words ask for: the subcommand and the options that they match. The first word is the
 /// program's name, and may be anything.
 ///
-/// An error is help or the version that the words ask for (`DisplayHelp`, `DisplayVersion`), a
-/// refusal of words that ask for nothing the program can do, or want of memory (`OutOfMemory`). Its
-/// text is its `Display`.
+/// An error is help or the version that the words ask for (`DisplayHelp`, `DisplayVersion`), a refusal of words that ask for nothing the
+/// program can do, or want of memory (`OutOfMemory`). Its text is its `Display`.
 pub fn job<'a>(alloc: Global, words: &'a [&'a str]) -> Result<Job, Error> {
-    match matched(alloc, words) {
-        Ok(matches) => Ok(entered(&matches)),
-        Err(error) => Err(error),
+    let matches = match matched(alloc, words) {
+        Ok(matches) => matches,
+        Err(error) => return Err(error),
+    };
+    match entered(&matches) {
+        Ok(job) => Ok(job),
+        Err(kind) => Err(misuse(alloc, &matches, kind)),
     }
 }

@@ -170,10 +170,10 @@ impl<'a> Command<'a> {
 
     /// What words match, without the name of the command.
     fn matched(&self, words: &[&'a str]) -> Result<ArgMatches<'a>, Error> {
-        let valued = self.args.iter().filter(|arg| arg.takes_value);
+        let flags = self.args.iter().filter(|arg| !arg.takes_value);
         let mut found = ArgMatches {
             set: Vec::new(),
-            valued: valued.map(|arg| arg.id).collect(),
+            flags: flags.map(|arg| arg.id).collect(),
             part: None,
         };
         let mut escaped = false;
@@ -412,8 +412,8 @@ fn jaro(a: &str, b: &str) -> f64 {
 pub struct ArgMatches<'a> {
     /// The flags and options that were given, with their values.
     set: Vec<(&'a str, &'a str)>,
-    /// The options that take a value.
-    valued: Vec<&'a str>,
+    /// All flags of the command.
+    flags: Vec<&'a str>,
     part: Option<(&'a str, Box<ArgMatches<'a>>)>,
 }
 
@@ -427,8 +427,8 @@ impl<'a> ArgMatches<'a> {
     pub fn get_str(&self, id: &str) -> Option<&'a str> {
         match self.set.iter().find(|(set, _)| *set == id) {
             Some((_, value)) => Some(value),
-            None if self.valued.contains(&id) => None,
-            None => Some("false"),
+            None if self.flags.contains(&id) => Some("false"),
+            None => None,
         }
     }
 }
