@@ -6,3 +6,4 @@ mod RomBytes
 mod SaidWords
 mod TableLines
 mod Told
+mod SketchesLaid

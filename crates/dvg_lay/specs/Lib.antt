@@ -2,3 +2,4 @@ pub mod Said
 pub mod Texts
 pub mod Refusals
 pub mod Forms
+pub mod Sketches

@@ -3,10 +3,12 @@
 //! this project's own choice). Each frame is checked first. A refused one is told by its line of
 //! the sketch, or by a word of the ROM.
 //!
-//! Everything is made in memory, so that it can be written whole.
+//! Everything is made in memory, so that it can be written whole. The engine reads the text of a
+//! sketch, and writes what is laid out of it.
 #![tactic(auto)]
 
 mod checking;
+mod engine;
 mod form;
 mod laying;
 mod lent;
@@ -16,6 +18,7 @@ mod said;
 mod table;
 mod text;
 
+pub use engine::lay_sketch;
 pub use form::{Form, Laid, lay};
 pub use laying::{lay_bytes, lay_names, lay_rom, lay_tables};
 pub use lent::are_lent;

@@ -5,7 +5,7 @@ use std::alloc::{AllocFailed, Allocator, Global};
 use std::fmt;
 
 /// What is blamed for a refusal.
-#[derive(Debug, Drop)]
+#[derive(Debug, PartialEq, Eq, Drop)]
 pub enum Blamed<A: Allocator = Global> {
     /// A line of the sketch.
     Line {
@@ -33,7 +33,7 @@ pub enum Reason {
 }
 
 /// A frame that is refused. Its text is what `dvg` prints of it (this project's own choice).
-#[derive(Debug, Drop)]
+#[derive(Debug, PartialEq, Eq, Drop)]
 pub struct Refusal<A: Allocator = Global> {
     /// What is blamed.
     pub blamed: Blamed<A>,

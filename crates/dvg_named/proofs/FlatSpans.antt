@@ -11,7 +11,7 @@ use Rattle.dvg_named.specs.Meanings.{IsDrafted}
 use Rattle.dvg_named.specs.Places.{Laid, doings}
 use Rattle.dvg_named.specs.RowValues.{name_of}
 
-drop_front : {X : Type 0} (xs ys : List X) → drop (length xs) (xs ++ ys) ≡ ys
+pub drop_front : {X : Type 0} (xs ys : List X) → drop (length xs) (xs ++ ys) ≡ ys
 drop_front [] ys = refl
 drop_front (x ∷ xs) ys = drop_front xs ys
 
@@ -21,7 +21,7 @@ take_front (suc n) [] ys low = absurd (omega (arith, low))
 take_front (suc n) (x ∷ xs) ys low = ap (λ l. x ∷ l) (take_front n xs ys (omega (arith, low)))
 
 -- what stands before the end of the first of two lists
-cut_front : {X : Type 0} (s n : ℕ) (xs ys : List X) → s + n ≤ length xs → take n (drop s (xs ++ ys)) ≡ take n (drop s xs)
+pub cut_front : {X : Type 0} (s n : ℕ) (xs ys : List X) → s + n ≤ length xs → take n (drop s (xs ++ ys)) ≡ take n (drop s xs)
 cut_front zero n xs ys low = take_front n xs ys (omega (arith, low))
 cut_front (suc s) n [] ys low = absurd (omega (arith, low))
 cut_front (suc s) n (x ∷ xs) ys low = cut_front s n xs ys (omega (arith, low))

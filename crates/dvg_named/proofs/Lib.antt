@@ -33,3 +33,5 @@ mod FlatSpans
 mod KnownFrames
 mod KnownRom
 mod SketchRead
+mod OpLines
+mod SketchWhole

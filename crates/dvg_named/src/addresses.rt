@@ -18,7 +18,7 @@ use std::alloc::Allocator;
 /// growth may be refused. The time grows with the number of rows.
 pub fn rom_names<'a, A: Allocator>(
     alloc: A,
-    sections: &[LaidRows<'a>],
+    sections: &[LaidRows<'_, 'a>],
 ) -> Result<Vec<RomName<'a>, A>, OutOfMemory>
     requires { AreLow (laid_sections sections.now) }
     ensures names { IfOk result (λ found. names_listed found.items
@@ -36,7 +36,7 @@ pub fn rom_names<'a, A: Allocator>(
 // Adds the names of a section.
 fn push_names<'a, A: Allocator>(
     found: &mut Vec<RomName<'a>, A>,
-    section: &LaidRows<'a>,
+    section: &LaidRows<'_, 'a>,
 ) -> Result<(), OutOfMemory>
     requires { laid_end (laid_section section.now) ≤ 0xC00 }
     ensures names { OnOk result (names_listed found.new.items

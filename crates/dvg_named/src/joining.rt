@@ -4,11 +4,14 @@ ghost use Rattle.std.specs.List.{AllZip};
 ghost use Rattle.dvg_frame.specs.declared.op.OpKind.{OpKind as Kind};
 ghost use Rattle.dvg_named.specs.FlatFrames.{HasFewOps, IsSpanOf, KnowsNames};
 ghost use Rattle.dvg_named.specs.LaidValues.{AreLow, laid_sections};
+ghost use Rattle.dvg_named.specs.OpSources.{AreLinesOf, HasRowLines, line_kept};
+ghost use Rattle.dvg_named.specs.OpSources.{op_sources};
 
 use crate::flat_draft::{DraftFault, push_draft};
 use crate::frame_rows::FrameRows;
 use crate::laid::LaidRows;
 use crate::meaning::Source;
+use crate::row::Row;
 use dvg_code::OutOfMemory;
 use dvg_frame::Op;
 use std::alloc::Allocator;
@@ -26,11 +29,13 @@ pub struct FrameSpan<'a> {
     pub end: usize,
 }
 
-/// The operations of all frames, in order, and where those of each frame stand.
+/// The operations of all frames, in order, each with its line, and where those of each frame stand.
 #[derive(Drop)]
 pub struct JoinedFrames<'a, A: Allocator> {
     /// All operations.
     pub ops: Vec<Op, A>,
+    /// The line of each operation.
+    pub sources: Vec<Source<'a>, A>,
     /// Where those of each frame stand.
     pub spans: Vec<FrameSpan<'a>, A>,
 }
@@ -42,18 +47,57 @@ pub fn join_frames<'a, A: Allocator + Copy>(
     rom: &[LaidRows],
 ) -> Result<JoinedFrames<'a, A>, OutOfMemory>
     requires few { All HasFewOps frames.now }
+    requires lines { All HasRowLines frames.now }
     requires low { AreLow (laid_sections rom.now) }
     requires known { All (KnowsNames (laid_sections rom.now)) frames.now }
-    ensures { IfOk result (λ flat. AllZip (IsSpanOf (laid_sections rom.now) flat.ops.items)
-        frames.now flat.spans.items) }
+    ensures spans { IfOk result (λ joined.
+        AllZip (IsSpanOf (laid_sections rom.now) joined.ops.items) frames.now joined.spans.items) }
+    ensures lines { IfOk result (λ joined.
+        AllZip (AreLinesOf joined.sources.items) frames.now joined.spans.items) }
 {
     let mut ops = Vec::new(alloc);
+    let mut sources = Vec::new(alloc);
     let mut spans = Vec::new(alloc);
     for frame in frames {
+        push_sources(&mut sources, frame)?;
         let span = push_frame(&mut ops, frame, rom)?;
         spans.push(span)?;
     }
-    Ok(JoinedFrames { ops, spans })
+    Ok(JoinedFrames {
+        ops,
+        sources,
+        spans,
+    })
+}
+
+// Adds the lines of the operations of a frame.
+fn push_sources<'a, A: Allocator + Copy>(
+    sources: &mut Vec<Source<'a>, A>,
+    frame: &FrameRows<'_, 'a>,
+) -> Result<(), OutOfMemory>
+    requires lines { HasRowLines frame.now }
+    ensures { OnOk result (sources.new.items
+        ≡ sources.old.items ++ op_sources frame.now.rows.now frame.now.sources.now) }
+{
+    for (place, row) in frame.rows.iter().enumerate() {
+        push_line(sources, row, &frame.sources[place])?;
+    }
+    Ok(())
+}
+
+// Adds the line of a row, if the row does something.
+fn push_line<'a, A: Allocator + Copy>(
+    sources: &mut Vec<Source<'a>, A>,
+    row: &Row,
+    source: &Source<'a>,
+) -> Result<(), OutOfMemory>
+    ensures { OnOk result (sources.new.items
+        ≡ sources.old.items ++ line_kept row.now.doing source.now) }
+{
+    if row.doing.is_some() {
+        sources.push(*source)?;
+    }
+    Ok(())
 }
 
 // Adds the operations of a frame, and answers where they stand.
@@ -66,6 +110,8 @@ fn push_frame<'a, A: Allocator + Copy>(
     requires low { AreLow (laid_sections rom.now) }
     requires known { KnowsNames (laid_sections rom.now) frame.now }
     ensures span { IfOk result (IsSpanOf (laid_sections rom.now) ops.new.items frame.now) }
+    ensures place { IfOk result (λ span.
+        (span.start ≡ length ops.old.items) × (span.end ≡ length ops.new.items)) }
     ensures grown { OnOk result ((more : List Kind) × (ops.new.items ≡ ops.old.items ++ more)) }
 {
     let start = ops.len();

@@ -16,30 +16,30 @@ use std::alloc::Allocator;
 /// The rows of a section of the ROM, and the word address that its line `.rom` gives, if it gives
 /// one.
 #[derive(Clone, Copy)]
-pub struct RomRows<'a> {
+pub struct RomRows<'r, 'a> {
     /// The word address that is given.
     pub address: Option<u16>,
     /// The rows, in order.
-    pub rows: &'a [Row<'a>],
+    pub rows: &'r [Row<'a>],
 }
 
 /// The rows of a section of the ROM, and the word address from which on they are laid.
 #[derive(Clone, Copy)]
-pub struct LaidRows<'a> {
+pub struct LaidRows<'r, 'a> {
     /// The word address of the first word.
     pub start: usize,
     /// The rows, in order.
-    pub rows: &'a [Row<'a>],
+    pub rows: &'r [Row<'a>],
 }
 
 /// The sections as they are laid, in order: each from its address on, or else from the first word
 /// after all that were laid before, which for the first is `free` (this project's own choice). A
 /// growth of the list may be refused (`OutOfMemory`). The time grows with the number of rows.
-pub fn lay<'a, A: Allocator>(
+pub fn lay<'r, 'a, A: Allocator>(
     alloc: A,
     free: usize,
-    sections: &[RomRows<'a>],
-) -> Result<Vec<LaidRows<'a>, A>, OutOfMemory>
+    sections: &[RomRows<'r, 'a>],
+) -> Result<Vec<LaidRows<'r, 'a>, A>, OutOfMemory>
     requires low { free < 2 ^ 32 }
     requires few { words_of_rows (rows_in (sections_of sections.now)) < 2 ^ 32 }
     ensures { IfOk result (λ laid. AreLaid free sections.now laid.items) }

@@ -80,6 +80,7 @@ impl<'a, A: Allocator + Copy> Reading<'a, A> {
     ghost use Rattle.dvg_named.specs.Meanings.{IsFrameOf};
     ghost use Rattle.std.specs.List.{AllZip};
     ghost use Rattle.dvg_named.specs.NamedFaults.{HasNamedFault};
+    ghost use Rattle.dvg_named.specs.ReadSketches.{IsInside, StandsIn, joined_at};
 
     /// Before the first line, which is this one.
     pub fn new(alloc: A, first: Source<'a>) -> Reading<'a, A>
@@ -303,7 +304,7 @@ impl<'a, A: Allocator + Copy> Reading<'a, A> {
 
     /// The sections of the ROM as they are laid, after all lines of a text. A growth may be
     /// refused.
-    pub fn lay(&self) -> Result<Vec<LaidRows<'_>, A>, OutOfMemory>
+    pub fn lay(&self) -> Result<Vec<LaidRows<'_, 'a>, A>, OutOfMemory>
         requires { (small : List ℕ) × ReadsText small self.now }
         ensures { IfOk result (λ laid_rows. (told : RomText) → Reads told self.now
             → laid_sections laid_rows.items ≡ laid_of (spelled_in told self.now)) }
@@ -365,9 +366,15 @@ impl<'a, A: Allocator + Copy> Reading<'a, A> {
     pub fn drafts(&self, laid: &[LaidRows]) -> Result<JoinedFrames<'a, A>, OutOfMemory>
         requires text { IsLaidText self.now laid.now }
         requires known { All (WantsNone (laid_sections laid.now)) (sections_in self.now) }
-        ensures { IfOk result (λ joined. (told : RomText)
+        ensures drafts { IfOk result (λ joined. (told : RomText)
             → AllZip (IsFrameOf (laid_sections laid.now)) (frames (spelled_in told self.now))
             (map (frame_at joined.ops.items) joined.spans.items)) }
+        ensures lines { IfOk result (λ joined. (told : RomText) (small : List ℕ)
+            → AreSourced small self.now
+            → AllZip (StandsIn small) (frames (spelled_in told self.now))
+            (map (joined_at joined.ops.items joined.sources.items) joined.spans.items)) }
+        ensures inside { IfOk result (λ joined.
+            All (IsInside joined.ops.items joined.sources.items) joined.spans.items) }
     {
         let found = self.frames()?;
         join_frames(self.alloc, found.as_slice(), laid)

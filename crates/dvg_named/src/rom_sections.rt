@@ -14,11 +14,11 @@ use dvg_code::OutOfMemory;
 use std::alloc::Allocator;
 
 /// The sections of the ROM, in order: those before the last section, and that one.
-pub(crate) fn rom_rows<'a, A: Allocator + Copy>(
+pub(crate) fn rom_rows<'r, 'a, A: Allocator + Copy>(
     alloc: A,
-    closed: &'a [Part<'a, A>],
-    last: &'a Part<'a, A>,
-) -> Result<Vec<RomRows<'a>, A>, OutOfMemory>
+    closed: &'r [Part<'a, A>],
+    last: &'r Part<'a, A>,
+) -> Result<Vec<RomRows<'r, 'a>, A>, OutOfMemory>
     ensures { IfOk result (λ found. sections_of found.items ≡ front_roms (map section_in closed.now)
         ++ rom_list (head_in last.now.head) (rows_of last.now.rows.items)) }
 {
@@ -31,10 +31,10 @@ pub(crate) fn rom_rows<'a, A: Allocator + Copy>(
 }
 
 // Those of the ROM among these sections.
-fn later_rows<'a, A: Allocator + Copy>(
+fn later_rows<'r, 'a, A: Allocator + Copy>(
     alloc: A,
-    others: &'a [Part<'a, A>],
-) -> Result<Vec<RomRows<'a>, A>, OutOfMemory>
+    others: &'r [Part<'a, A>],
+) -> Result<Vec<RomRows<'r, 'a>, A>, OutOfMemory>
     ensures { IfOk result (λ found. sections_of found.items
         ≡ filter_map rom_in (map section_in others.now)) }
 {
@@ -46,9 +46,9 @@ fn later_rows<'a, A: Allocator + Copy>(
 }
 
 // Adds a section, where it is of the ROM.
-fn push_rom<'a, A: Allocator + Copy>(
-    found: &mut Vec<RomRows<'a>, A>,
-    part: &'a Part<'a, A>,
+fn push_rom<'r, 'a, A: Allocator + Copy>(
+    found: &mut Vec<RomRows<'r, 'a>, A>,
+    part: &'r Part<'a, A>,
 ) -> Result<(), OutOfMemory>
     ensures { OnOk result (sections_of found.new.items ≡ sections_of found.old.items
         ++ rom_list (head_in part.now.head) (rows_of part.now.rows.items)) }

@@ -4,11 +4,14 @@ use Rattle.dvg_named.specs.FirstUnknown.{WantsNone}
 use Rattle.dvg_named.specs.FlatFrames.{HasFewOps, IsSpanOf, KnowsNames, frame_at}
 use Rattle.dvg_named.specs.LaidValues.{laid_sections}
 use Rattle.dvg_named.specs.Meanings.{IsFrameOf}
+use Rattle.dvg_named.specs.OpSources.{AreLinesOf, HasRowLines}
 use Rattle.dvg_named.specs.Places.{doings}
+use Rattle.dvg_named.specs.ReadSketches.{StandsIn, joined_at}
 use Rattle.dvg_named.specs.Sections.{FrameRows}
 use Rattle.dvg_named.specs.SketchReading.{spelled_in}
 use Rattle.dvg_named.specs.Ungiven.{framed}
 use Rattle.dvg_named.proofs.KnownFrames.{frames_are, frames_known, held_frames}
+use Rattle.dvg_named.proofs.OpLines.{both_ok, insides, row_lines, stand_in}
 use Rattle.dvg_named.proofs.RomFew.{if_ok}
 use Rattle.dvg_named.proofs.UnknownText.{sections_are}
 use Rattle.dvg_named.proofs.reading.Reading.drafts.Goals as goal
@@ -33,12 +36,33 @@ join_frames-requires-clause-known g c =
     (subst (All (WantsNone laid))
     (sym (sections_are read.rom c.args.self.now.closed.items c.args.self.now.last read.numbered.top)) c.requires.known))))
 
-pub returns : goal.returns
-returns g c =
+pub join_frames-requires-clause-lines : goal.join_frames-requires-clause-lines
+join_frames-requires-clause-lines g c =
+    subst (All HasRowLines) (sym c.as_slice.ensures.value)
+    (row_lines c.requires.text.small c.in_ok-found.found.items
+    (c.in_ok-found.ensures.sources c.requires.text.small c.requires.text.reads.sourced))
+
+pub returns-clause-drafts : goal.returns-clause-drafts
+returns-clause-drafts g c =
     let laid = laid_sections c.args.laid.now in
-    if_ok c.join_frames.result c.join_frames.ensures (λ joined spans told.
+    if_ok c.join_frames.result c.join_frames.ensures.spans (λ joined spans told.
     subst (λ fs. AllZip (IsFrameOf laid) fs (map (frame_at joined.ops.items) joined.spans.items))
     (c.in_ok-found.ensures.frames told)
     (frames_are laid joined.ops.items c.in_ok-found.found.items joined.spans.items
     (subst (λ found. AllZip (IsSpanOf laid joined.ops.items) found joined.spans.items)
     c.as_slice.ensures.value spans)))
+
+pub returns-clause-lines : goal.returns-clause-lines
+returns-clause-lines g c =
+    if_ok c.join_frames.result c.join_frames.ensures.lines (λ joined lines told small sourced.
+    subst (λ fs. AllZip (StandsIn small) fs (map (joined_at joined.ops.items joined.sources.items) joined.spans.items))
+    (c.in_ok-found.ensures.frames told)
+    (stand_in small joined.ops.items joined.sources.items c.in_ok-found.found.items joined.spans.items
+    (c.in_ok-found.ensures.sources small sourced)
+    (subst (λ found. AllZip (AreLinesOf joined.sources.items) found joined.spans.items) c.as_slice.ensures.value lines)))
+
+pub returns-clause-inside : goal.returns-clause-inside
+returns-clause-inside g c =
+    let laid = laid_sections c.args.laid.now in
+    both_ok c.join_frames.result c.join_frames.ensures.spans c.join_frames.ensures.lines
+    (λ joined spans lines. insides laid joined.ops.items joined.sources.items c.as_slice.result.now joined.spans.items spans lines)

@@ -1,0 +1,103 @@
+-- From the sketch that was read to what is laid out of the input.
+use Rattle.std.proofs.Common.{◌≡◌, ◌<◌, ◌≤◌, ◌+◌, ◌⊎◌, ◌∙◌, ⊎_elim, inl, inr, ℕ, List, [], ◌∷◌, All, ap, arith, length, map, refl, subst, sym, take}
+use Rattle.std.proofs.Common.{Result, Ok, Err, IfOk, IfErr}
+use Rattle.std.specs.List.{AllZip}
+use Rattle.std.proofs.lemmas.List.Elements.{All-cons, All-head, All-nil, All-tail}
+use Rattle.std.proofs.lemmas.Slice.Zip.{AllZip-long}
+use Rattle.dvg_text.specs.declared.fault.TextFault.{TextFault}
+use Rattle.dvg_named.specs.declared.fault.NamedFault.{NamedFault}
+use Rattle.dvg_named.specs.declared.fault.NamedFault.TheVariants.{TooLong, Syntax, Twice, Full, OutOfRom, Overlap, Unknown}
+use Rattle.dvg_named.specs.declared.fault.SketchFault.{SketchFault}
+use Rattle.dvg_named.specs.declared.fault.SketchFault.TheVariants as sketches
+use Rattle.dvg_named.specs.declared.meaning.NamedFrame.{NamedFrame}
+use Rattle.dvg_named.specs.declared.meaning.RomName.{RomName}
+use Rattle.dvg_named.specs.Meanings.{IsDrafted, IsFrameOf}
+use Rattle.dvg_named.specs.NamedFaults.{HasNamedFault}
+use Rattle.dvg_named.specs.OpSources.{IsDoneAt}
+use Rattle.dvg_named.specs.Places.{Laid, doings}
+use Rattle.dvg_named.specs.ReadSketches.{IsSketchOf, StandsIn, as_frame, lent_of}
+use Rattle.dvg_named.specs.Sections.{FrameRows}
+use Rattle.dvg_named.specs.TextReading.{StopsText}
+use Rattle.dvg_io.proofs.Inputs.{whole_or_long}
+use Rattle.dvg_io.specs.declared.fault.ToolFault.{ToolFault}
+use Rattle.dvg_io.specs.declared.fault.ToolFault.TheVariants.{Text, Reader, Writer, Memory}
+use Rattle.dvg_io.specs.Serving.{IsFinding, OfInput}
+use Rattle.dvg_lay.specs.declared.form.Form.{Form}
+use Rattle.dvg_lay.specs.declared.form.Laid as held
+use Rattle.dvg_lay.specs.Refusals.{IsLent}
+use Rattle.dvg_lay.specs.Sketches.{HasSketchFault, LaysOut, text_fault, tool_fault}
+
+-- a frame of a sketch is as it is to be lent
+lent_frames : (small : List ℕ) (laid : List Laid) (rows : List FrameRows) (frames : List NamedFrame)
+    → All (λ frame. length (doings frame.rows) ≤ 511) rows
+    → AllZip (IsFrameOf laid) rows (map as_frame (map lent_of frames)) → AllZip (StandsIn small) rows (map lent_of frames)
+    → All IsLent frames
+lent_frames small laid [] [] few drafted lines = All-nil IsLent
+lent_frames small laid [] (frame ∷ frames) few drafted lines = absurd lines
+lent_frames small laid (one ∷ rows) [] few drafted lines = absurd lines
+lent_frames small laid (one ∷ rows) (frame ∷ frames) few drafted lines =
+    let most : length (doings one.rows) ≤ 511 = All-head (λ (frame : FrameRows). length (doings frame.rows) ≤ 511) one rows few in
+    let ops = AllZip-long _ (doings one.rows) frame.ops.now drafted.0.draft in
+    let sources = AllZip-long (IsDoneAt small) (doings one.rows) frame.sources.now lines.0 in
+    All-cons IsLent frame frames (record { few = omega (arith, most, ops); lines = sources ∙ sym ops })
+    (lent_frames small laid rows frames (All-tail (λ (frame : FrameRows). length (doings frame.rows) ≤ 511) one rows few)
+    drafted.1 lines.1)
+
+pub all_lent : (text R : List ℕ) (names : List RomName) (frames : List NamedFrame) → IsSketchOf text R names (map lent_of frames)
+    → All IsLent frames
+all_lent text R names frames is =
+    lent_frames _ _ _ frames is.denotes.limits.drafts is.denotes.meant.frames is.lines
+
+-- ---- the fault of what was read is that of the input
+
+long_fault : (fault : NamedFault) (read input : List ℕ) → 1048576 < length read → 1048576 < length input → HasNamedFault read fault
+    → HasNamedFault input fault
+long_fault TooLong read input long over has = over
+long_fault (Syntax n) read input long over has = let short = has.reaches.short in absurd (omega (arith, short, long))
+long_fault (Twice n) read input long over has = let short = has.reaches.short in absurd (omega (arith, short, long))
+long_fault (Full n) read input long over has = let short = has.reaches.short in absurd (omega (arith, short, long))
+long_fault (OutOfRom n) read input long over has = let short = has.reaches.short in absurd (omega (arith, short, long))
+long_fault (Overlap n) read input long over has = let short = has.reaches.short in absurd (omega (arith, short, long))
+long_fault (Unknown n) read input long over has = let short = has.0.short in absurd (omega (arith, short, long))
+
+faulted : (fault : NamedFault) (read input : List ℕ) → read ≡ take (1048576 + 1) input → HasNamedFault read fault
+    → HasSketchFault input (text_fault fault)
+faulted fault read input e has = record {
+  named = fault;
+  told = refl;
+  has = ⊎_elim
+      (λ whole. subst (λ text. HasNamedFault text fault) whole has)
+      (λ long. long_fault fault read input long.0 long.1 has)
+      (whole_or_long 1048576 read input e);
+}
+
+-- so is why no sketch was read
+unread_by : {F : Type 0} (Finds : F → Type 0) (fault : SketchFault) (read input : List ℕ) → read ≡ take (1048576 + 1) input
+    → StopsText fault read → IsFinding Finds (HasSketchFault input) (Err (tool_fault fault))
+unread_by Finds (sketches.Text fault) read input e stops = faulted fault read input e stops
+unread_by Finds sketches.Memory read input e stops = tt
+
+pub unread : {A : Type 0} (form : Form) (answer : Result (held.Laid A) ToolFault) (told : ToolFault) (fault : SketchFault) (read input : List ℕ)
+    → read ≡ take (1048576 + 1) input → told ≡ tool_fault fault → StopsText fault read → answer ≡ Err told
+    → IsFinding (LaysOut {A = A} form input) (HasSketchFault input) answer
+unread {A} form answer told fault read input e is stops err =
+    subst (IsFinding (LaysOut {A = A} form input) (HasSketchFault input)) (sym (err ∙ ap Err is))
+    (unread_by (LaysOut {A = A} form input) fault read input e stops)
+
+-- what was laid out of what was read was laid out of the input
+pub laid_of_input : {A : Type 0} (form : Form) (laid : held.Laid A) (read input : List ℕ) → read ≡ take (1048576 + 1) input
+    → LaysOut form read laid → LaysOut form input laid
+laid_of_input form laid read input e out = ⊎_elim
+    (λ whole. subst (λ text. LaysOut form text laid) whole out)
+    (λ long. let short = out.is.denotes.short in let over = long.0 in absurd (omega (arith, short, over)))
+    (whole_or_long 1048576 read input e)
+
+-- so an answer of what was read is one of the input
+pub found : {A : Type 0} (Sketch : List ℕ → Type 0) (form : Form) (answer : Result (held.Laid A) ToolFault) (read input : List ℕ)
+    → read ≡ take (1048576 + 1) input → IfOk answer (λ laid. (text : List ℕ) → Sketch text → LaysOut form text laid)
+    → IfErr answer (λ fault. fault ≡ Memory) → Sketch read → IsFinding (LaysOut {A = A} form input) (HasSketchFault input) answer
+found Sketch form (Ok laid) read input e ok err is = laid_of_input form laid read input e (ok read is)
+found Sketch form (Err Memory) read input e ok err is = tt
+found Sketch form (Err (Text fault)) read input e ok err is = absurd cc
+found Sketch form (Err Reader) read input e ok err is = absurd cc
+found Sketch form (Err Writer) read input e ok err is = absurd cc

@@ -1,0 +1,13 @@
+use Rattle.std.proofs.Common.{◌∙◌, All, ap, map, subst, sym}
+use Rattle.std.proofs.lemmas.Result.{IfOk-weaker}
+use Rattle.dvg_named.specs.ReadSketches.{IsSketchOf, lent_of}
+use Rattle.dvg_lay.specs.Refusals.{IsLent}
+use Rattle.dvg_lay.proofs.SketchesLaid.{all_lent}
+use Rattle.dvg_lay.proofs.engine.lay_read.Goals as goal
+
+pub lay-requires : goal.lay-requires
+lay-requires g c =
+    let sketch = c.args.sketch.now in
+    subst (All IsLent) (sym c.as_slice-3.ensures.value)
+    (all_lent c.requires.read.0 sketch.rom.items sketch.names.items c.in-Ok-frames.frames.items
+    (subst (IsSketchOf c.requires.read.0 sketch.rom.items sketch.names.items) (sym c.in-Ok-frames.ensures) c.requires.read.1))
