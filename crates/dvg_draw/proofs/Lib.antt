@@ -1,0 +1,3 @@
+mod EndsDrawn
+mod FramesDrawn
+mod Laying
