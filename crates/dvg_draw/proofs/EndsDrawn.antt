@@ -15,7 +15,7 @@ use Rattle.dvg_theorem.specs.Law.{Finishes, IsDrawn, Undisturbed}
 use Rattle.dvg_dump.specs.declared.ending.Ending.{Ending}
 use Rattle.dvg_dump.specs.declared.ending.Ending.TheVariants as endings
 use Rattle.dvg_dump.specs.Endings.{end_of}
-use Rattle.dvg_dump.specs.Ends.{Complete, End, Ends, drawn_by, halts}
+use Rattle.dvg_dump.specs.Ends.{Complete, Ends, drawn_by, halts}
 use Rattle.dvg_dump.specs.Memory.{DumpBytes, memory_of}
 use Rattle.dvg_dump.specs.Laws.{OneEnd}
 

@@ -1,5 +1,5 @@
 -- Frames that are drawn, one after the other.
-use Rattle.std.proofs.Common.{Vec, ◌≡◌, ◌<◌, ◌+◌, ◌++◌, ◌∷◌, [], ◌∙◌, ℕ, List, All, ap, get_or, length, map, subst, sym, take}
+use Rattle.std.proofs.Common.{Vec, ◌≡◌, ◌<◌, ◌+◌, ◌++◌, ◌∷◌, [], ◌∙◌, ℕ, List, All, ap, get_or, length, subst, sym, take}
 use Rattle.std.specs.List.{AllZip}
 use Rattle.std.proofs.lemmas.List.{map-append, take_more}
 use Rattle.std.proofs.lemmas.List.Elements.{All-cons, All-nil}
@@ -7,7 +7,6 @@ use Rattle.dvg_text.proofs.Zips.{zip_push}
 use Rattle.dvg_gen.specs.declared.stroke.Stroke.{Stroke}
 use Rattle.dvg_named.specs.declared.meaning.NamedFrame.{NamedFrame}
 use Rattle.dvg_named.specs.declared.meaning.RomName.{RomName}
-use Rattle.dvg_lay.specs.declared.refusal.Refusal.{Refusal}
 use Rattle.dvg_lay.specs.declared.refusal.Unlaid.{Unlaid}
 use Rattle.dvg_lay.specs.Refusals.{IsUnlaid}
 use Rattle.dvg_lay.proofs.Lists.{first_at}

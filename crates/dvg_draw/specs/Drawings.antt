@@ -1,7 +1,6 @@
 -- Which pictures frames have, and why one isn't drawn.
 use Rattle.std.specs.Prelude.{◌≡◌, ◌⊎◌, ◌<◌, ◌≤◌, ℕ, List}
 use Rattle.dvg_gen.specs.declared.stroke.Stroke.{Stroke}
-use Rattle.dvg_frame.specs.Faults.{Accepts}
 use Rattle.dvg_frame.specs.Picture.{IsBound, IsPicture}
 use Rattle.dvg_frame.specs.declared.place.Place.TheVariants.{InFrame}
 use Rattle.dvg_named.specs.declared.meaning.NamedFrame.{NamedFrame}

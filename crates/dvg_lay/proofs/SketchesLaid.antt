@@ -1,17 +1,16 @@
 -- From the sketch that was read to what is laid out of the input.
-use Rattle.std.proofs.Common.{◌≡◌, ◌<◌, ◌≤◌, ◌+◌, ◌⊎◌, ◌∙◌, ⊎_elim, inl, inr, ℕ, List, [], ◌∷◌, All, ap, arith, length, map, refl, subst, sym, take}
+use Rattle.std.proofs.Common.{◌≡◌, ◌<◌, ◌≤◌, ◌+◌, ◌∙◌, ⊎_elim, ℕ, List, [], ◌∷◌, All, ap, arith, length, map, refl, subst, sym, take}
 use Rattle.std.proofs.Common.{Result, Ok, Err, IfOk, IfErr}
 use Rattle.std.specs.List.{AllZip}
 use Rattle.std.proofs.lemmas.List.Elements.{All-cons, All-head, All-nil, All-tail}
 use Rattle.std.proofs.lemmas.Slice.Zip.{AllZip-long}
-use Rattle.dvg_text.specs.declared.fault.TextFault.{TextFault}
 use Rattle.dvg_named.specs.declared.fault.NamedFault.{NamedFault}
 use Rattle.dvg_named.specs.declared.fault.NamedFault.TheVariants.{TooLong, Syntax, Twice, Full, OutOfRom, Overlap, Unknown}
 use Rattle.dvg_named.specs.declared.fault.SketchFault.{SketchFault}
 use Rattle.dvg_named.specs.declared.fault.SketchFault.TheVariants as sketches
 use Rattle.dvg_named.specs.declared.meaning.NamedFrame.{NamedFrame}
 use Rattle.dvg_named.specs.declared.meaning.RomName.{RomName}
-use Rattle.dvg_named.specs.Meanings.{IsDrafted, IsFrameOf}
+use Rattle.dvg_named.specs.Meanings.{IsFrameOf}
 use Rattle.dvg_named.specs.NamedFaults.{HasNamedFault}
 use Rattle.dvg_named.specs.OpSources.{IsDoneAt}
 use Rattle.dvg_named.specs.Places.{Laid, doings}
@@ -21,7 +20,7 @@ use Rattle.dvg_named.specs.TextReading.{StopsText}
 use Rattle.dvg_io.proofs.Inputs.{whole_or_long}
 use Rattle.dvg_io.specs.declared.fault.ToolFault.{ToolFault}
 use Rattle.dvg_io.specs.declared.fault.ToolFault.TheVariants.{Text, Reader, Writer, Memory}
-use Rattle.dvg_io.specs.Serving.{IsFinding, OfInput}
+use Rattle.dvg_io.specs.Serving.{IsFinding}
 use Rattle.dvg_lay.specs.Refusals.{IsLent}
 use Rattle.dvg_lay.specs.Sketches.{HasSketchFault, text_fault, tool_fault}
 

@@ -1,7 +1,6 @@
-use Rattle.std.proofs.Common.{◌≡◌, ◌≤◌, ◌∙◌, All, ap, arith, length, subst, sym, take}
+use Rattle.std.proofs.Common.{◌≤◌, ◌∙◌, ap, arith, length, subst}
 use Rattle.std.specs.List.{AllZip}
 use Rattle.std.proofs.lemmas.List.{take_all}
-use Rattle.dvg_lay.specs.Refusals.{IsLent}
 use Rattle.dvg_draw.specs.Checks.{IsVerdictOn, said_lines}
 use Rattle.dvg_draw.proofs.ChecksSaid.{lines_more, verdicts_more}
 use Rattle.dvg_draw.proofs.checks.check_frames.Goals as goal

@@ -1,6 +1,5 @@
 use Rattle.std.proofs.Common.{◌∙◌, Err, refl, sym}
 use Rattle.dvg_named.specs.ReadSketches.{IsReadOf}
-use Rattle.dvg_io.specs.Serving.{IsFinding}
 use Rattle.dvg_lay.specs.Sketches.{LaysOut}
 use Rattle.dvg_lay.proofs.SketchesLaid.{found, unread}
 use Rattle.dvg_lay.proofs.engine.LayEngineEngine.find.Goals as goal
