@@ -1,8 +1,13 @@
 -- What is done for a job.
-use Rattle.std.specs.Prelude.{◌≡◌, ℕ, List, Option, Result, Ok, Err, IfSome, false, true}
+use Rattle.std.specs.Prelude.{◌≡◌, ◌↔◌, All, IsTrue, ℕ, List, Option, Result, Ok, Err, IfSome, false, true}
 use Rattle.dvg_io.specs.Faults.{ComesBeforeText, StopsBeforeWriting}
 use Rattle.dvg_io.specs.Watching.{TakesAtMost}
 use Rattle.dvg_io.specs.declared.fault.ToolFault.{ToolFault}
+use Rattle.dvg_draw.specs.Checks.{ChecksSketch, IsGoodVerdict}
+use Rattle.dvg_draw.specs.Sketches.{Draws}
+use Rattle.dvg_draw.specs.declared.drawn.Drawn.{Drawn}
+use Rattle.dvg_draw.specs.declared.drawn.Drawn.TheVariants as drawns
+use Rattle.dvg_draw.specs.declared.said.Said.{Said}
 use Rattle.dvg_lay.specs.Sketches.{Lays}
 use Rattle.dvg_lay.specs.declared.form.Form.{Form}
 use Rattle.dvg_lay.specs.declared.form.Form.TheVariants.{Bytes, Tables, RomBytes, RomNames}
@@ -19,9 +24,9 @@ use Rattle.dvg_tool.specs.Plays.{Plays, StopsBeforeShowing}
 use Rattle.dvg_tool.specs.PlaysSvg.{PlaysSvg}
 use Rattle.dvg_svg.specs.declared.show.Show.{Show}
 use Rattle.dvg_tool.specs.declared.outcome.Done.{Done}
-use Rattle.dvg_tool.specs.declared.outcome.Done.TheVariants.{Written, Judged, Bounded, Drew, DrewSvg, Searched, Refused}
+use Rattle.dvg_tool.specs.declared.outcome.Done.TheVariants.{Written, Judged, Bounded, Drew, DrewSvg, Searched, Refused, CheckedFrames}
 use Rattle.dvg_words.specs.declared.task.Job.{Job}
-use Rattle.dvg_words.specs.declared.task.Job.TheVariants.{List as list_job, ListAt, Rom, Picture, PictureSvg, Check, Play, PlaySvg, Torn, Lay}
+use Rattle.dvg_words.specs.declared.task.Job.TheVariants.{List as list_job, ListAt, Rom, Picture, PictureSvg, Check, Play, PlaySvg, Torn, Draw, DrawCheck, Lay}
 use Rattle.dvg_words.specs.declared.task.LayForm.{LayForm}
 use Rattle.dvg_words.specs.declared.task.LayForm.TheVariants as asked
 
@@ -42,9 +47,15 @@ abbrev pub told : {A : Type 0} → Laid A → Done A
 told (laids.Text text) = Written
 told (laids.Refused refusal) = Refused refusal
 
+-- and of drawing one
+abbrev pub told_drawn : {A : Type 0} → Drawn A → Done A
+told_drawn (drawns.Pictures pictures) = Written
+told_drawn (drawns.Refused refusal) = Refused refusal
+
 -- what is answered of an input, and what went out: a check tells its verdict, `picture` what the
--- run came to, or as SVG why it drew no picture, `torn` what is said of the log, `lay` why a frame
--- is refused, and no other job tells anything
+-- run came to, or as SVG why it drew no picture, `torn` what is said of the log, `lay` and `draw`
+-- why a frame is refused, `draw --check` whether all frames are good, and no other job tells
+-- anything
 abbrev pub Performs : {A : Type 0} → Job → Result (Done A) ToolFault → (input : List ℕ) → Option (List ℕ) → Option (List ℕ)
     → Type 0
 Performs {A} list_job (Ok Written) input old new = Lists {T = Done A} (Ok Written) input old new
@@ -72,6 +83,12 @@ Performs Torn (Err fault) input old new = Tears (Err fault) input old new
 Performs {A} (Lay form) (Ok done) input old new =
     (laid : Laid A) × (done ≡ told laid) × Lays (form_of form) (Ok laid) input old new
 Performs {A} (Lay form) (Err fault) input old new = Lays {A = A} (form_of form) (Err fault) input old new
+Performs {A} (Draw percent rate) (Ok done) input old new =
+    (drawn : Drawn A) × (done ≡ told_drawn drawn) × Draws (show_of percent rate) (Ok drawn) input old new
+Performs {A} (Draw percent rate) (Err fault) input old new = Draws {A = A} (show_of percent rate) (Err fault) input old new
+Performs {A} DrawCheck (Ok (CheckedFrames good)) input old new = (said : Said A)
+    × (IsTrue good ↔ All IsGoodVerdict said.verdicts.items) × ChecksSketch (Ok said) input old new
+Performs {A} DrawCheck (Err fault) input old new = ChecksSketch {A = A} (Err fault) input old new
 Performs _ (Ok _) input old new = ⊥
 
 -- the faults before which a job writes nothing
@@ -93,6 +110,8 @@ TakesBy (PictureSvg percent) answer old new = TakesAtMost 6145 old new
 TakesBy (Check bound) answer old new = TakesAtMost 1048577 old new
 TakesBy (Play all banked) answer old new = TakesAtMost 1048577 old new
 TakesBy (PlaySvg banked percent rate) answer old new = TakesAtMost 1048577 old new
+TakesBy (Draw percent rate) answer old new = TakesAtMost 1048577 old new
+TakesBy DrawCheck answer old new = TakesAtMost 1048577 old new
 TakesBy (Lay form) answer old new = TakesAtMost 1048577 old new
 TakesBy Torn (Ok (Searched verdict)) old new = IfSome old (λ input. Takes (Ok verdict) input old new)
 TakesBy Torn (Ok _) old new = ⊥

@@ -1,9 +1,9 @@
 -- How an engine stops, and how the program ends.
-use Rattle.std.specs.Prelude.{◌≡◌, ℕ, ◌⊎◌, Some, None, Result, Ok, Err}
+use Rattle.std.specs.Prelude.{◌≡◌, ℕ, ◌⊎◌, Some, None, true, false, Result, Ok, Err}
 use Rattle.dvg_io.specs.declared.fault.ToolFault.{ToolFault}
 use Rattle.dvg_io.specs.declared.fault.ToolFault.TheVariants.{Text, Writer}
 use Rattle.dvg_tool.specs.declared.outcome.Done.{Done}
-use Rattle.dvg_tool.specs.declared.outcome.Done.TheVariants.{Written, Judged, Bounded, Drew, DrewSvg, Searched, Refused as unlaid}
+use Rattle.dvg_tool.specs.declared.outcome.Done.TheVariants.{Written, Judged, Bounded, Drew, DrewSvg, Searched, Refused as unlaid, CheckedFrames}
 use Rattle.dvg_dump.specs.declared.ending.Outcome.TheVariants as outcomes
 use Rattle.dvg_lines.specs.declared.log_verdict.LogFinding.{LogFinding}
 use Rattle.dvg_lines.specs.declared.log_verdict.LogFinding.TheVariants.{NotTorn}
@@ -33,5 +33,7 @@ status_of (Ok (DrewSvg None)) = 0
 status_of (Ok (DrewSvg (Some undrawn))) = 1
 status_of (Ok (Searched verdict)) = log_status verdict.finding
 status_of (Ok (unlaid refusal)) = 1
+status_of (Ok (CheckedFrames true)) = 0
+status_of (Ok (CheckedFrames false)) = 1
 status_of (Err (Text fault)) = 1
 status_of (Err _) = 2

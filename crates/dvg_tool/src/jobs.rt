@@ -2,7 +2,7 @@
 ghost use Rattle.std.specs.Prelude.{◌≡◌, ◌↔◌, ◌≤◌, IfErr, IfSome, IsErrOf};
 ghost use Rattle.dvg_io.specs.Faults.{ComesBeforeText};
 ghost use Rattle.dvg_io.specs.Serving.{AreFresh, Serves};
-ghost use Rattle.dvg_tool.specs.Jobs.{Performs, StaysUnwritten, TakesBy, form_of, told};
+ghost use Rattle.dvg_tool.specs.Jobs.{Performs, StaysUnwritten, TakesBy, form_of, told, told_drawn};
 ghost use Rattle.dvg_tool.specs.PlaysSvg.{PlaysSvg};
 ghost use Rattle.dvg_io.specs.Watching.{device_of, failures_of};
 
@@ -13,6 +13,7 @@ use crate::outcome::Done;
 use crate::plays::{play, play_in};
 use crate::plays_svg::{play_svg, play_svg_in};
 use crate::roms::rom_text;
+use dvg_draw::{Drawn, check_sketch, draw_sketch};
 use dvg_io::{ToolFault, Watched};
 use dvg_lay::{Form, Laid, lay_sketch};
 use dvg_logs::torn;
@@ -99,10 +100,56 @@ fn lay_told<A: Allocator + Copy, R: Read, W: Write>(
     }
 }
 
+// What is told of what came of drawing a sketch.
+fn told_drawn<A: Allocator>(drawn: Drawn<A>) -> Done<A>
+    ensures { result ≡ told_drawn drawn }
+{
+    match drawn {
+        Drawn::Pictures(_) => Done::Written,
+        Drawn::Refused(refusal) => Done::Refused(refusal),
+    }
+}
+
+// Does the job `draw`.
+fn draw_told<A: Allocator + Copy, R: Read, W: Write>(
+    alloc: A,
+    reader: &mut Watched<R>,
+    writer: &mut Watched<W>,
+    show: Show,
+) -> Result<Done<A>, ToolFault>
+    requires fresh { AreFresh reader.old writer.old }
+    ensures { Serves R.remaining W.contents 1048577 ComesBeforeText
+        (Performs (Job.Draw show.percent show.rate))
+        result reader.old reader.new writer.old writer.new }
+{
+    match draw_sketch(alloc, reader, writer, show) {
+        Ok(drawn) => Ok(told_drawn(drawn)),
+        Err(fault) => Err(fault),
+    }
+}
+
+// Does the job `draw --check`.
+fn check_told<A: Allocator + Copy, R: Read, W: Write>(
+    alloc: A,
+    reader: &mut Watched<R>,
+    writer: &mut Watched<W>,
+) -> Result<Done<A>, ToolFault>
+    requires fresh { AreFresh reader.old writer.old }
+    ensures { Serves R.remaining W.contents 1048577 ComesBeforeText (Performs Job.DrawCheck)
+        result reader.old reader.new writer.old writer.new }
+{
+    match check_sketch(alloc, reader, writer) {
+        Ok(said) => Ok(Done::CheckedFrames {
+            good: said.is_good(),
+        }),
+        Err(fault) => Err(fault),
+    }
+}
+
 /// Does a job by its engine: `list` or `list_at`, `rom_text`, `picture` or `picture_svg`,
 /// `check_text` or `check_bound`, `play` or `play_svg`, or `play_in` or `play_svg_in` over the store
-/// `Banked`, `torn` or `lay_sketch`; and tells what `picture`, `picture_svg`, a check, `torn` and a
-/// sketch that isn't laid out have to tell.
+/// `Banked`, `torn`, `draw_sketch`, `check_sketch` or `lay_sketch`; and tells what `picture`,
+/// `picture_svg`, a check, `torn` and a sketch that is refused have to tell.
 pub fn perform<A: Allocator + Copy, R: Read, W: Write>(
     alloc: A,
     job: Job,
@@ -156,6 +203,8 @@ pub fn perform<A: Allocator + Copy, R: Read, W: Write>(
             play_shown(alloc, reader, writer, banked, show).map(|()| Done::Written)
         }
         Job::Torn => torn(reader, writer).map(|verdict| Done::Searched(verdict)),
+        Job::Draw { percent, rate } => { draw_told(alloc, reader, writer, Show { percent, rate }) }
+        Job::DrawCheck => check_told(alloc, reader, writer),
         Job::Lay { form } => lay_told(alloc, reader, writer, form),
     }
 }

@@ -30,6 +30,11 @@ pub enum Done<A: Allocator = Global> {
     Searched(LogVerdict),
     /// A frame of a sketch is refused, and nothing was written.
     Refused(Refusal<A>),
+    /// What the check says of the frames of a sketch was written, and whether it accepts all.
+    CheckedFrames {
+        /// Whether it does.
+        good: bool,
+    },
 }
 
 /// Flushes the writer of an engine that is done. A flush that fails is `Writer`, whatever the
@@ -61,6 +66,7 @@ pub fn status<A: Allocator>(answer: &Result<Done<A>, ToolFault>) -> u8
             | Done::Bounded(BoundedVerdict::Good { .. })
             | Done::Drew(Outcome::Picture)
             | Done::DrewSvg(None)
+            | Done::CheckedFrames { good: true }
             | Done::Searched(
                 LogVerdict {
                     finding: LogFinding::NotTorn,
@@ -79,7 +85,8 @@ pub fn status<A: Allocator>(answer: &Result<Done<A>, ToolFault>) -> u8
                     ..
                 },
             )
-            | Done::Refused(_),
+            | Done::Refused(_)
+            | Done::CheckedFrames { good: false },
         )
         | Err(ToolFault::Text(_)) => 1,
         Err(ToolFault::Reader | ToolFault::Writer | ToolFault::Memory) => 2,

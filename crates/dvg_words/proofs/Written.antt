@@ -36,6 +36,10 @@ sketch_job_words = (
   λ name. ((refl, refl), refl, refl),
   λ name. ((refl, refl), refl, refl),
   λ name. ((refl, refl), refl, refl),
+  λ name. ((refl, refl), refl, refl),
+  λ name. ((refl, refl), refl, refl),
+  λ name. ((refl, refl), refl, refl),
+  λ name. ((refl, refl), refl, refl),
 )
 
 pub help_words : HelpWords
@@ -64,6 +68,9 @@ other_words = (
 pub refused_options : RefusedOptions
 unfolding dvg_app clap_on_literals
 refused_options = (
+  λ name. refl,
+  λ name. refl,
+  λ name. refl,
   λ name. refl,
   λ name. refl,
   λ name. refl,

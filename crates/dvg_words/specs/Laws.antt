@@ -4,7 +4,7 @@ use Rattle.clap.specs.Words.{Kinds, Text, subcommand_of}
 use Rattle.clap.specs.declared.error.kind.ErrorKind.TheVariants.{ArgumentConflict, DisplayHelp, DisplayVersion, InvalidSubcommand, InvalidValue, MissingRequiredArgument, MissingSubcommand, UnknownArgument}
 use Rattle.dvg_words.specs.Words.{IsJob, TakesWords, dvg_app, words_fault}
 use Rattle.dvg_words.specs.declared.task.Job.{Job}
-use Rattle.dvg_words.specs.declared.task.Job.TheVariants.{List as list_job, ListAt, Rom, Picture, PictureSvg, Check, Play, PlaySvg, Torn, Lay}
+use Rattle.dvg_words.specs.declared.task.Job.TheVariants.{List as list_job, ListAt, Rom, Picture, PictureSvg, Check, Play, PlaySvg, Torn, Draw, DrawCheck, Lay}
 use Rattle.dvg_words.specs.declared.task.LayForm.TheVariants.{Half0, Half1, Table, Rom as RomBytes, Equates}
 
 -- after any name of the program, the words are taken and ask for the job
@@ -38,7 +38,11 @@ TextJobWords = AskFor (codes "list" ∷ []) list_job
 
 -- the words of each job that reads a sketch
 abbrev pub SketchJobWords : Type 0
-SketchJobWords = AskFor (codes "lay" ∷ []) (Lay Half0)
+SketchJobWords = AskFor (codes "draw" ∷ []) (Draw 100 30)
+    × AskFor (codes "draw" ∷ codes "--scale" ∷ codes "33" ∷ codes "--rate" ∷ codes "1" ∷ []) (Draw 33 1)
+    × AskFor (codes "draw" ∷ codes "--check" ∷ []) DrawCheck
+    × AskFor (codes "draw" ∷ codes "--check" ∷ codes "--scale" ∷ codes "50" ∷ codes "--rate" ∷ codes "3" ∷ []) DrawCheck
+    × AskFor (codes "lay" ∷ []) (Lay Half0)
     × AskFor (codes "lay" ∷ codes "--half" ∷ codes "0" ∷ []) (Lay Half0)
     × AskFor (codes "lay" ∷ codes "--half" ∷ codes "1" ∷ []) (Lay Half1)
     × AskFor (codes "lay" ∷ codes "--half=1" ∷ []) (Lay Half1)
@@ -79,6 +83,9 @@ RefusedOptions = FailAs (codes "list" ∷ codes "--at" ∷ codes "12" ∷ []) (I
     × FailAs (codes "play" ∷ codes "--all" ∷ codes "--svg" ∷ []) (ArgumentConflict ∷ [])
     × FailAs (codes "play" ∷ codes "--rate" ∷ codes "3" ∷ []) (MissingRequiredArgument ∷ [])
     × FailAs (codes "play" ∷ codes "--svg" ∷ codes "--rate" ∷ codes "61" ∷ []) (InvalidValue ∷ [])
+    × FailAs (codes "draw" ∷ codes "--scale" ∷ codes "401" ∷ []) (InvalidValue ∷ [])
+    × FailAs (codes "draw" ∷ codes "--check" ∷ codes "--rate" ∷ codes "0" ∷ []) (InvalidValue ∷ [])
+    × FailAs (codes "draw" ∷ codes "--rate" ∷ []) (InvalidValue ∷ [])
     × FailAs (codes "lay" ∷ codes "--half" ∷ codes "2" ∷ []) (InvalidValue ∷ [])
     × FailAs (codes "lay" ∷ codes "--half" ∷ []) (InvalidValue ∷ [])
     × FailAs (codes "lay" ∷ codes "--half" ∷ codes "0" ∷ codes "--rom" ∷ []) (ArgumentConflict ∷ [])

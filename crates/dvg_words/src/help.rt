@@ -249,6 +249,33 @@ Example:
   $ printf 'started\\nfetched 000 E201\\nhalted\\nwrote 402 90\\n' | dvg torn
   not torn: 1 runs, 1 halted, 1 writes";
 
+/// How `draw` is called.
+pub(crate) const DRAW_USAGE: &str = "dvg draw [--check] [--scale N] [--rate N] < SKETCH";
+
+/// The input and output of `draw`.
+pub(crate) const DRAW: &str =
+    "Standard input: a sketch as text, at most 1,048,576 bytes, with the operations of
+its ROM and of its frames; `dvg help lay` tells it. A draft is a sketch, too.
+
+Standard output: one SVG, in which the frames are shown in turn, and then from the
+first one again. At 100 percent a screen unit is a pixel.
+
+With `--check` it is a line for each frame instead, as `dvg check --bound` writes
+it of a draft, after the frame's name and a colon, if it has one. A size and a rate
+then say nothing. The status is 1 where a frame may not be drawn.
+
+Without `--check` nothing is written of a sketch with such a frame: standard error
+tells the line at fault, or the word of the ROM and the name before it, with the
+fault, and the status is 1.
+
+Faults of the text: those that `dvg help lay` tells.
+
+Example:
+  $ printf 'labs 512 400 0\\nvctr 9 -100 100 7\\nhalt\\n' | dvg draw --check
+  ok 5 words 6 fetches
+  $ printf 'labs 512 400 0\\nvctr 9 -100 100 7\\nhalt\\n' | dvg draw | grep path
+  <path d=\"M262144 204800l-51200 51200\" opacity=\".60\"/>";
+
 /// How `lay` is called.
 pub(crate) const LAY_USAGE: &str = "dvg lay [--half 0|1 | --table | --rom | --equates] < SKETCH";
 

@@ -5,7 +5,7 @@ ghost use Rattle.dvg_words.specs.Words.{IsJob, IsJobName, IsPlainName, TakesWord
 ghost use Rattle.clap.specs.Words.{FailsBy, fault_of, found_of, has_subcommand, kind_of, rows_of, subcommand_name_of, subcommand_of, subcommand_rows_of, takes};
 
 use crate::command::command;
-use crate::drawing::{list_job, picture_job, play_job};
+use crate::drawing::{draw_job, list_job, picture_job, play_job};
 use crate::laying::lay_job;
 use crate::misuse::misuse;
 use crate::options::is_set;
@@ -46,6 +46,9 @@ fn asked(name: &str, found: &ArgMatches) -> Result<Job, ErrorKind>
     }
     if name == "play" {
         return play_job(found);
+    }
+    if name == "draw" {
+        return draw_job(found);
     }
     if name == "lay" {
         return lay_job(found);
