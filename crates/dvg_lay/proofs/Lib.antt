@@ -1,9 +1,9 @@
 mod Grew
 mod LaidBytes
-mod Lists
+pub mod Lists
 mod NearNames
 mod RomBytes
 mod SaidWords
 mod TableLines
-mod Told
-mod SketchesLaid
+pub mod Told
+pub mod SketchesLaid

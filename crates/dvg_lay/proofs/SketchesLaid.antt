@@ -1,17 +1,16 @@
 -- From the sketch that was read to what is laid out of the input.
-use Rattle.std.proofs.Common.{◌≡◌, ◌<◌, ◌≤◌, ◌+◌, ◌⊎◌, ◌∙◌, ⊎_elim, inl, inr, ℕ, List, [], ◌∷◌, All, ap, arith, length, map, refl, subst, sym, take}
+use Rattle.std.proofs.Common.{◌≡◌, ◌<◌, ◌≤◌, ◌+◌, ◌∙◌, ⊎_elim, ℕ, List, [], ◌∷◌, All, ap, arith, length, map, refl, subst, sym, take}
 use Rattle.std.proofs.Common.{Result, Ok, Err, IfOk, IfErr}
 use Rattle.std.specs.List.{AllZip}
 use Rattle.std.proofs.lemmas.List.Elements.{All-cons, All-head, All-nil, All-tail}
 use Rattle.std.proofs.lemmas.Slice.Zip.{AllZip-long}
-use Rattle.dvg_text.specs.declared.fault.TextFault.{TextFault}
 use Rattle.dvg_named.specs.declared.fault.NamedFault.{NamedFault}
 use Rattle.dvg_named.specs.declared.fault.NamedFault.TheVariants.{TooLong, Syntax, Twice, Full, OutOfRom, Overlap, Unknown}
 use Rattle.dvg_named.specs.declared.fault.SketchFault.{SketchFault}
 use Rattle.dvg_named.specs.declared.fault.SketchFault.TheVariants as sketches
 use Rattle.dvg_named.specs.declared.meaning.NamedFrame.{NamedFrame}
 use Rattle.dvg_named.specs.declared.meaning.RomName.{RomName}
-use Rattle.dvg_named.specs.Meanings.{IsDrafted, IsFrameOf}
+use Rattle.dvg_named.specs.Meanings.{IsFrameOf}
 use Rattle.dvg_named.specs.NamedFaults.{HasNamedFault}
 use Rattle.dvg_named.specs.OpSources.{IsDoneAt}
 use Rattle.dvg_named.specs.Places.{Laid, doings}
@@ -21,11 +20,9 @@ use Rattle.dvg_named.specs.TextReading.{StopsText}
 use Rattle.dvg_io.proofs.Inputs.{whole_or_long}
 use Rattle.dvg_io.specs.declared.fault.ToolFault.{ToolFault}
 use Rattle.dvg_io.specs.declared.fault.ToolFault.TheVariants.{Text, Reader, Writer, Memory}
-use Rattle.dvg_io.specs.Serving.{IsFinding, OfInput}
-use Rattle.dvg_lay.specs.declared.form.Form.{Form}
-use Rattle.dvg_lay.specs.declared.form.Laid as held
+use Rattle.dvg_io.specs.Serving.{IsFinding}
 use Rattle.dvg_lay.specs.Refusals.{IsLent}
-use Rattle.dvg_lay.specs.Sketches.{HasSketchFault, LaysOut, text_fault, tool_fault}
+use Rattle.dvg_lay.specs.Sketches.{HasSketchFault, text_fault, tool_fault}
 
 -- a frame of a sketch is as it is to be lent
 lent_frames : (small : List ℕ) (laid : List Laid) (rows : List FrameRows) (frames : List NamedFrame)
@@ -77,27 +74,22 @@ unread_by : {F : Type 0} (Finds : F → Type 0) (fault : SketchFault) (read inpu
 unread_by Finds (sketches.Text fault) read input e stops = faulted fault read input e stops
 unread_by Finds sketches.Memory read input e stops = tt
 
-pub unread : {A : Type 0} (form : Form) (answer : Result (held.Laid A) ToolFault) (told : ToolFault) (fault : SketchFault) (read input : List ℕ)
+pub unread : {F : Type 0} (Out : List ℕ → F → Type 0) (answer : Result F ToolFault) (told : ToolFault) (fault : SketchFault) (read input : List ℕ)
     → read ≡ take (1048576 + 1) input → told ≡ tool_fault fault → StopsText fault read → answer ≡ Err told
-    → IsFinding (LaysOut {A = A} form input) (HasSketchFault input) answer
-unread {A} form answer told fault read input e is stops err =
-    subst (IsFinding (LaysOut {A = A} form input) (HasSketchFault input)) (sym (err ∙ ap Err is))
-    (unread_by (LaysOut {A = A} form input) fault read input e stops)
+    → IsFinding (Out input) (HasSketchFault input) answer
+unread Out answer told fault read input e is stops err =
+    subst (IsFinding (Out input) (HasSketchFault input)) (sym (err ∙ ap Err is)) (unread_by (Out input) fault read input e stops)
 
--- what was laid out of what was read was laid out of the input
-pub laid_of_input : {A : Type 0} (form : Form) (laid : held.Laid A) (read input : List ℕ) → read ≡ take (1048576 + 1) input
-    → LaysOut form read laid → LaysOut form input laid
-laid_of_input form laid read input e out = ⊎_elim
-    (λ whole. subst (λ text. LaysOut form text laid) whole out)
-    (λ long. let short = out.is.denotes.short in let over = long.0 in absurd (omega (arith, short, over)))
+-- so an answer of what was read is one of the input, where it comes of short texts alone
+pub found : {F : Type 0} (Sketch : List ℕ → Type 0) (Out : List ℕ → F → Type 0)
+    → ((text : List ℕ) (out : F) → Out text out → length text ≤ 1048576) → (answer : Result F ToolFault) (read input : List ℕ)
+    → read ≡ take (1048576 + 1) input → IfOk answer (λ out. (text : List ℕ) → Sketch text → Out text out)
+    → IfErr answer (λ fault. fault ≡ Memory) → Sketch read → IsFinding (Out input) (HasSketchFault input) answer
+found Sketch Out short (Ok out) read input e ok err is = ⊎_elim
+    (λ whole. subst (λ text. Out text out) whole (ok read is))
+    (λ long. let low = short read out (ok read is) in let over = long.0 in absurd (omega (arith, low, over)))
     (whole_or_long 1048576 read input e)
-
--- so an answer of what was read is one of the input
-pub found : {A : Type 0} (Sketch : List ℕ → Type 0) (form : Form) (answer : Result (held.Laid A) ToolFault) (read input : List ℕ)
-    → read ≡ take (1048576 + 1) input → IfOk answer (λ laid. (text : List ℕ) → Sketch text → LaysOut form text laid)
-    → IfErr answer (λ fault. fault ≡ Memory) → Sketch read → IsFinding (LaysOut {A = A} form input) (HasSketchFault input) answer
-found Sketch form (Ok laid) read input e ok err is = laid_of_input form laid read input e (ok read is)
-found Sketch form (Err Memory) read input e ok err is = tt
-found Sketch form (Err (Text fault)) read input e ok err is = absurd cc
-found Sketch form (Err Reader) read input e ok err is = absurd cc
-found Sketch form (Err Writer) read input e ok err is = absurd cc
+found Sketch Out short (Err Memory) read input e ok err is = tt
+found Sketch Out short (Err (Text fault)) read input e ok err is = absurd cc
+found Sketch Out short (Err Reader) read input e ok err is = absurd cc
+found Sketch Out short (Err Writer) read input e ok err is = absurd cc

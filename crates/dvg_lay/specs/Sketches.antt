@@ -27,7 +27,7 @@ text_fault (named.OutOfRom n) = texts.OutOfRom n
 text_fault (named.Overlap n) = texts.Overlap n
 text_fault (named.Unknown n) = texts.UnknownName n
 
--- why a sketch isn't read, as a fault of the program (for a private contract)
+-- why a sketch isn't read, as a fault of the program
 abbrev pub tool_fault : SketchFault → ToolFault
 tool_fault (sketches.Text fault) = Text (text_fault fault)
 tool_fault sketches.Memory = Memory

@@ -1,6 +1,7 @@
 //! The check of frames, and what is told of a refused one.
 ghost use Rattle.std.specs.Prelude.{◌≡◌, ◌<◌, ◌↔◌, All, IfErr, IfOk, IsTrue, MatchOption, OnOk};
 ghost use Rattle.std.specs.Prelude.{option_map};
+ghost use Rattle.dvg_frame.specs.Picture.{IsBound};
 ghost use Rattle.dvg_lay.specs.Refusals.{Blames, IsFault, IsFirst, IsFirstLow, IsGood, IsLent};
 ghost use Rattle.dvg_lay.specs.Refusals.{IsNameBefore, IsNearer, IsTellable, IsUnlaid, NamesBefore};
 ghost use Rattle.dvg_lay.specs.Refusals.{NamesRom, TellsFault, TellsLow, line_of, place_of};
@@ -120,8 +121,23 @@ fn tell<A: Allocator + Copy>(
     }
 }
 
-/// The frame, where the check accepts it, and else its fault and the line or the word at fault.
-pub(crate) fn good_frame<A: Allocator + Copy>(
+/// The refusal of a frame whose picture has so many words, told by the line of operation 0. Or else
+/// a growth was refused.
+pub fn tell_long<A: Allocator + Copy>(
+    alloc: A,
+    names: &[RomName],
+    frame: &NamedFrame,
+    words: u64,
+) -> Unlaid<A>
+    ensures { IsUnlaid (λ refusal. (refusal.reason ≡ Reason.ManyWords words)
+        × Blames names.now frame.now (Place.InFrame 0) refusal.blamed) result }
+{
+    tell(alloc, names, frame, Place::InFrame(0), Reason::ManyWords(words))
+}
+
+/// The frame, where the check accepts it over the ROM, and else its fault and the line or the word
+/// at fault, as `lay_bytes` tells them.
+pub fn good_frame<A: Allocator + Copy>(
     alloc: A,
     checker: &mut Checker,
     rom: &Rom<A>,
@@ -131,6 +147,7 @@ pub(crate) fn good_frame<A: Allocator + Copy>(
     requires { IsLent frame.now }
     ensures good { IfOk result (λ checked.
         IsGood rom.now frame.now × (checked.operations ≡ frame.now.ops.now)) }
+    ensures bound { IfOk result (λ checked. IsBound frame.now.ops.now rom.now checked.bound) }
     ensures refused { IfErr result (IsUnlaid (λ refusal.
         TellsFault rom.now names.now refusal frame.now)) }
 {

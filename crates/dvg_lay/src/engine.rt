@@ -30,8 +30,8 @@ fn text_fault(fault: NamedFault) -> TextFault
     }
 }
 
-// Why a sketch isn't read, as a fault of the program.
-fn tool_fault(fault: SketchFault) -> ToolFault
+/// Why a sketch isn't read, as a fault of the program.
+pub fn tool_fault(fault: SketchFault) -> ToolFault
     ensures { result ≡ spec.tool_fault fault }
 {
     match fault {

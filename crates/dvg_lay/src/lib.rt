@@ -18,7 +18,8 @@ mod said;
 mod table;
 mod text;
 
-pub use engine::lay_sketch;
+pub use checking::{good_frame, tell_long};
+pub use engine::{lay_sketch, tool_fault};
 pub use form::{Form, Laid, lay};
 pub use laying::{lay_bytes, lay_names, lay_rom, lay_tables};
 pub use lent::are_lent;

@@ -30,6 +30,8 @@ pub enum Reason {
     Fault(FrameFault),
     /// A call or a jump to the ROM names a word below 400, which in a table is one of the frame.
     NamesNoWord,
+    /// The picture has so many words, more than are drawn.
+    ManyWords(u64),
 }
 
 /// A frame that is refused. Its text is what `dvg` prints of it (this project's own choice).
@@ -97,6 +99,9 @@ impl fmt::Display for Reason {
                 write_text(f, line.as_bytes().trim_ascii_end())
             }
             Reason::NamesNoWord => write!(f, "names no word from 400 on"),
+            Reason::ManyWords(words) => {
+                write!(f, "fetches {words} words, and at most 65536 are drawn")
+            }
         }
     }
 }

@@ -1,5 +1,5 @@
 -- The lines of operations, one row and one frame after the other.
-use Rattle.std.proofs.Common.{◌≡◌, ◌<◌, ◌≤◌, ◌+◌, ◌-◌, ℕ, List, [], ◌∷◌, ◌++◌, length, get_or, take, drop, refl, sym, ap, subst, ◌∙◌}
+use Rattle.std.proofs.Common.{◌≡◌, ◌<◌, ◌+◌, ◌-◌, ℕ, List, [], ◌∷◌, ◌++◌, length, get_or, take, drop, refl, sym, ap, subst, ◌∙◌}
 use Rattle.std.proofs.Common.{All, arith, append_assoc, length-take, map, None, Option, Some, suc, Result, Ok, Err, IfOk}
 use Rattle.std.specs.List.{AllZip, cons_option}
 use Rattle.std.proofs.lemmas.List.{append-nil, length-append, length-drop, take_all, take_more}
@@ -14,7 +14,7 @@ use Rattle.dvg_named.specs.declared.row.Row as held
 use Rattle.dvg_named.specs.FlatFrames.{IsSpanOf}
 use Rattle.dvg_named.specs.FrameValues.{IsFrameAt, frames_of}
 use Rattle.dvg_named.specs.HeldRows.{rows_of}
-use Rattle.dvg_named.specs.OpSources.{AreLinesOf, HasRowLines, IsDoneAt, line_kept, lines_at, op_sources}
+use Rattle.dvg_named.specs.OpSources.{AreLinesOf, HasRowLines, IsDoneAt, line_kept, op_sources}
 use Rattle.dvg_named.specs.Places.{Laid, doings}
 use Rattle.dvg_named.specs.ReadSketches.{IsInside, StandsIn, joined_at}
 use Rattle.dvg_named.specs.RowValues.{doing_of_some, row_of}

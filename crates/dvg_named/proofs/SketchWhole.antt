@@ -1,5 +1,5 @@
 -- A sketch of which all lines were read.
-use Rattle.std.proofs.Common.{◌≡◌, ◌≤◌, ◌∙◌, ◌++◌, ℕ, List, [], ◌∷◌, All, ap, arith, length, map, refl, subst, sym, unwrap_or, max, Result, Ok, Err, IfErr}
+use Rattle.std.proofs.Common.{◌≡◌, ◌∙◌, ◌++◌, ℕ, List, [], ◌∷◌, All, ap, arith, map, refl, subst, unwrap_or, max, Result, Ok, Err, IfErr}
 use Rattle.std.specs.Char.{to_ascii_lowercase}
 use Rattle.std.specs.List.{AllZip, flat_map}
 use Rattle.std.proofs.lemmas.List.{length-map}
@@ -13,12 +13,11 @@ use Rattle.dvg_named.specs.declared.reading.Reading.{Reading}
 use Rattle.dvg_named.specs.FlatFrames.{frame_at}
 use Rattle.dvg_named.specs.GivenRoms.{GivesRom}
 use Rattle.dvg_named.specs.LaidValues.{laid_sections, rows_laid}
-use Rattle.dvg_named.specs.Meanings.{Frame, IsFrameOf}
+use Rattle.dvg_named.specs.Meanings.{IsFrameOf}
 use Rattle.dvg_named.specs.NamedFaults.{laid_of, names_of}
-use Rattle.dvg_named.specs.Places.{Laid, free_after, laid_end, laid_from}
+use Rattle.dvg_named.specs.Places.{free_after, laid_end, laid_from}
 use Rattle.dvg_named.specs.ReadSketches.{IsSketchOf, StandsIn, as_frame, joined_at}
 use Rattle.dvg_named.specs.RomNames.{IsNamedIn, names_listed}
-use Rattle.dvg_named.specs.Rows.{Row}
 use Rattle.dvg_named.specs.Sections.{RomRows, frames, rom_sections}
 use Rattle.dvg_named.specs.SketchReading.{spelled_in}
 use Rattle.dvg_named.specs.TextReading.{ReadsText}

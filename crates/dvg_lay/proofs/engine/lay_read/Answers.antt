@@ -1,6 +1,5 @@
-use Rattle.std.proofs.Common.{◌∙◌, All, ap, map, subst, sym}
-use Rattle.std.proofs.lemmas.Result.{IfOk-weaker}
-use Rattle.dvg_named.specs.ReadSketches.{IsSketchOf, lent_of}
+use Rattle.std.proofs.Common.{All, subst, sym}
+use Rattle.dvg_named.specs.ReadSketches.{IsSketchOf}
 use Rattle.dvg_lay.specs.Refusals.{IsLent}
 use Rattle.dvg_lay.proofs.SketchesLaid.{all_lent}
 use Rattle.dvg_lay.proofs.engine.lay_read.Goals as goal

@@ -1,6 +1,3 @@
-use Rattle.std.proofs.Common.{◌∙◌, ◌++◌, ap, arith, sym, take}
-use Rattle.std.proofs.lemmas.List.{append-nil, take_all}
-use Rattle.dvg_named.specs.OpSources.{op_sources}
 use Rattle.dvg_named.proofs.OpLines.{line_pushed}
 use Rattle.dvg_named.proofs.joining.push_sources.Goals as goal
 

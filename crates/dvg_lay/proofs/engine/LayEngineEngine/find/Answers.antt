@@ -1,6 +1,5 @@
 use Rattle.std.proofs.Common.{◌∙◌, Err, refl, sym}
 use Rattle.dvg_named.specs.ReadSketches.{IsReadOf}
-use Rattle.dvg_io.specs.Serving.{IsFinding}
 use Rattle.dvg_lay.specs.Sketches.{LaysOut}
 use Rattle.dvg_lay.proofs.SketchesLaid.{found, unread}
 use Rattle.dvg_lay.proofs.engine.LayEngineEngine.find.Goals as goal
@@ -11,10 +10,11 @@ lay_read-requires-clause-read g c =
 
 pub returns-in-Ok-read_sketch : goal.returns-in-Ok-read_sketch
 returns-in-Ok-read_sketch g c input e =
-    found (λ text. IsReadOf text c.in-Ok-read_sketch.sketch) c.args.self.now.form c.lay_read.result c.args.read.now input e c.lay_read.ensures.laid c.lay_read.ensures.fault
+    found (λ text. IsReadOf text c.in-Ok-read_sketch.sketch) (LaysOut {A = g.row.A.Denot} c.args.self.now.form)
+    (λ text laid out. out.is.denotes.short) c.lay_read.result c.args.read.now input e c.lay_read.ensures.laid c.lay_read.ensures.fault
     (c.in-Ok-read_sketch.ensures.read c.args.read.now (sym (c.as_slice.ensures.value ∙ c.in-Ok.ensures.ok)))
 
 pub returns : goal.returns
 returns g c input e =
-    unread {A = g.row.A.Denot} c.args.self.now.form (Err c.tool_fault.result) c.tool_fault.result c.in-Err.fault c.args.read.now input e c.tool_fault.ensures
+    unread (LaysOut {A = g.row.A.Denot} c.args.self.now.form) (Err c.tool_fault.result) c.tool_fault.result c.in-Err.fault c.args.read.now input e c.tool_fault.ensures
     (c.in-Err.ensures.fault c.args.read.now (sym (c.as_slice.ensures.value ∙ c.in-Ok.ensures.ok))) refl

@@ -1,0 +1,4 @@
+mod ChecksSaid
+mod EndsDrawn
+mod FramesDrawn
+mod Laying

@@ -1,0 +1,39 @@
+//! The picture of a frame.
+ghost use Rattle.std.specs.Prelude.{◌≤◌, IfOk};
+ghost use Rattle.dvg_frame.specs.Faults.{Accepts};
+ghost use Rattle.dvg_frame.specs.Picture.{IsBound, IsPicture};
+
+use crate::memory::laid_ram;
+use dvg_code::OutOfMemory;
+use dvg_dump::laws::one_end;
+use dvg_dump::{Dump, Ending};
+use dvg_frame::Frame;
+use dvg_gen::Stroke;
+use dvg_mem::{Half, Rom};
+use dvg_theorem::laws::undisturbed;
+use std::alloc::Allocator;
+
+/// The strokes of a frame's picture, by a run of the generator over a memory that has the frame. A
+/// growth may be refused.
+pub(crate) fn picture_of<A: Allocator + Copy>(
+    alloc: A,
+    rom: Rom<A>,
+    frame: &Frame,
+) -> Result<Vec<Stroke, A>, OutOfMemory>
+    requires accepts { Accepts frame.now.operations rom }
+    requires bound { IsBound frame.now.operations rom frame.now.bound }
+    requires few { frame.now.bound ≤ 65536 }
+    ensures { IfOk result (λ strokes.
+        IsPicture frame.now.operations rom strokes.items frame.now.bound) }
+{
+    undisturbed();
+    one_end();
+    // A frame has a draft, and a ROM 2,048 or 4,096 bytes, as their types say.
+    let _ = frame.len_words();
+    let _ = rom.len_words();
+    let ram = laid_ram(alloc, frame, Half::H0)?;
+    match Dump::of(alloc, ram, rom).run()? {
+        Ending::Finished { strokes, .. } => Ok(strokes),
+        Ending::Broke { .. } | Ending::Endless => unreachable!(),
+    }
+}
