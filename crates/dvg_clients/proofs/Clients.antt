@@ -26,7 +26,7 @@ use Rattle.dvg_text.proofs.OneTrace.{one_trace_meaning, no_fault_beside_trace}
 use Rattle.clap.specs.Words.{Row, Text as WordText}
 use Rattle.dvg_words.specs.Words.{IsJob}
 use Rattle.dvg_words.specs.declared.task.Job.{Job}
-use Rattle.dvg_words.specs.declared.task.Job.TheVariants.{List as list_job, ListAt, Rom, Picture, PictureSvg, Check, Play, PlaySvg, Torn}
+use Rattle.dvg_words.specs.declared.task.Job.TheVariants.{List as list_job, ListAt, Rom, Picture, PictureSvg, Check, Play, PlaySvg, Torn, Lay}
 use Rattle.dvg_driver.specs.declared.action.Action.{Action}
 use Rattle.dvg_driver.specs.declared.action.Action.TheVariants.{Peek, Wrote, Read}
 use Rattle.dvg_driver.specs.Script.{Item, Did, Offered, IsLife, IsWhole}
@@ -182,6 +182,8 @@ play_only (PlaySvg banked percent rate) (Some p) x y =
     absurd (true≢false (sym (ap (λ q. q.1) (same_Some _ _ x)) ∙ ap (λ q. q.1) (same_Some _ _ y)))
 play_only Torn None x y = absurd (cc)
 play_only Torn (Some p) x y = absurd (begins_so p.0 (codes "torn") (same_Some _ _ x) (ap (λ q. q.0) (same_Some _ _ y)) (λ (d : 116 ≡ 112). omega arith))
+play_only (Lay form) None x y = absurd (cc)
+play_only (Lay form) (Some p) x y = absurd (begins_so p.0 (codes "lay") (ap (λ q. q.0) (same_Some _ _ x)) (ap (λ q. q.0) (same_Some _ _ y)) (λ (d : 108 ≡ 112). omega arith))
 
 pub job_is : {E : Type 0} (result : Result Job E) (met : Option (WordText × List Row)) → IfOk result (λ job. IsJob job met) → IsJob (Play true false) met → IfOk result (λ job. job ≡ Play true false)
 job_is (Ok job) met x y = play_only job met x y

@@ -13,7 +13,7 @@ use std::test::Fail;
 fn want_of_memory_has_its_text(rt: HostRuntime) -> Result<(), Fail> {
     let fault = ToolFault::Memory;
     assert_eq!(rt; fault.to_string(rt.alloc())?.as_str(), "out of memory");
-    assert_eq!(rt; status(&Err(fault)), 2);
+    assert_eq!(rt; status::<Global>(&Err(fault)), 2);
     Ok(())
 }
 

@@ -4,5 +4,6 @@ pub mod RomLines
 pub mod Shown
 pub mod Played
 pub mod TracesPlayed
-pub mod OneVerdict
+pub mod JobsDone
+mod OneVerdict
 pub mod PicturesPlayed

@@ -1,8 +1,14 @@
 -- What is done for a job.
-use Rattle.std.specs.Prelude.{ℕ, List, Option, Result, Ok, Err, IfSome, false, true}
+use Rattle.std.specs.Prelude.{◌≡◌, ℕ, List, Option, Result, Ok, Err, IfSome, false, true}
 use Rattle.dvg_io.specs.Faults.{ComesBeforeText, StopsBeforeWriting}
 use Rattle.dvg_io.specs.Watching.{TakesAtMost}
 use Rattle.dvg_io.specs.declared.fault.ToolFault.{ToolFault}
+use Rattle.dvg_lay.specs.Sketches.{Lays}
+use Rattle.dvg_lay.specs.declared.form.Form.{Form}
+use Rattle.dvg_lay.specs.declared.form.Form.TheVariants.{Bytes, Tables, RomBytes, RomNames}
+use Rattle.dvg_lay.specs.declared.form.Laid.{Laid}
+use Rattle.dvg_lay.specs.declared.form.Laid.TheVariants as laids
+use Rattle.dvg_mem.specs.declared.half.Half.TheVariants.{H0, H1}
 use Rattle.dvg_logs.specs.Tears.{Takes, Tears}
 use Rattle.dvg_picture.specs.Pictures.{Pictures}
 use Rattle.dvg_picture.specs.Svgs.{DrawsSvg}
@@ -13,24 +19,40 @@ use Rattle.dvg_tool.specs.Plays.{Plays, StopsBeforeShowing}
 use Rattle.dvg_tool.specs.PlaysSvg.{PlaysSvg}
 use Rattle.dvg_svg.specs.declared.show.Show.{Show}
 use Rattle.dvg_tool.specs.declared.outcome.Done.{Done}
-use Rattle.dvg_tool.specs.declared.outcome.Done.TheVariants.{Written, Judged, Bounded, Drew, DrewSvg, Searched}
+use Rattle.dvg_tool.specs.declared.outcome.Done.TheVariants.{Written, Judged, Bounded, Drew, DrewSvg, Searched, Refused}
 use Rattle.dvg_words.specs.declared.task.Job.{Job}
-use Rattle.dvg_words.specs.declared.task.Job.TheVariants.{List as list_job, ListAt, Rom, Picture, PictureSvg, Check, Play, PlaySvg, Torn}
+use Rattle.dvg_words.specs.declared.task.Job.TheVariants.{List as list_job, ListAt, Rom, Picture, PictureSvg, Check, Play, PlaySvg, Torn, Lay}
+use Rattle.dvg_words.specs.declared.task.LayForm.{LayForm}
+use Rattle.dvg_words.specs.declared.task.LayForm.TheVariants as asked
 
 -- how pictures of this size and rate are shown
 abbrev pub show_of : (percent rate : ℕ) → Show
 show_of percent rate = record { percent = percent; rate = rate }
 
+-- the form that is asked for, as `dvg_lay` has it
+abbrev pub form_of : LayForm → Form
+form_of asked.Half0 = Bytes H0
+form_of asked.Half1 = Bytes H1
+form_of asked.Table = Tables
+form_of asked.Rom = RomBytes
+form_of asked.Equates = RomNames
+
+-- what is told of what came of laying a sketch out: why a frame is refused
+abbrev pub told : {A : Type 0} → Laid A → Done A
+told (laids.Text text) = Written
+told (laids.Refused refusal) = Refused refusal
+
 -- what is answered of an input, and what went out: a check tells its verdict, `picture` what the
--- run came to, or as SVG why it drew no picture, `torn` what is said of the log, and no other job
--- tells anything
-abbrev pub Performs : Job → Result Done ToolFault → (input : List ℕ) → Option (List ℕ) → Option (List ℕ) → Type 0
-Performs list_job (Ok Written) input old new = Lists (Ok Written) input old new
-Performs list_job (Err fault) input old new = Lists {T = Done} (Err fault) input old new
-Performs (ListAt address) (Ok Written) input old new = ListsAt address (Ok Written) input old new
-Performs (ListAt address) (Err fault) input old new = ListsAt {T = Done} address (Err fault) input old new
-Performs Rom (Ok Written) input old new = WritesRom (Ok Written) input old new
-Performs Rom (Err fault) input old new = WritesRom {T = Done} (Err fault) input old new
+-- run came to, or as SVG why it drew no picture, `torn` what is said of the log, `lay` why a frame
+-- is refused, and no other job tells anything
+abbrev pub Performs : {A : Type 0} → Job → Result (Done A) ToolFault → (input : List ℕ) → Option (List ℕ) → Option (List ℕ)
+    → Type 0
+Performs {A} list_job (Ok Written) input old new = Lists {T = Done A} (Ok Written) input old new
+Performs {A} list_job (Err fault) input old new = Lists {T = Done A} (Err fault) input old new
+Performs {A} (ListAt address) (Ok Written) input old new = ListsAt {T = Done A} address (Ok Written) input old new
+Performs {A} (ListAt address) (Err fault) input old new = ListsAt {T = Done A} address (Err fault) input old new
+Performs {A} Rom (Ok Written) input old new = WritesRom {T = Done A} (Ok Written) input old new
+Performs {A} Rom (Err fault) input old new = WritesRom {T = Done A} (Err fault) input old new
 Performs (Picture all) (Ok (Drew outcome)) input old new = Pictures all (Ok outcome) input old new
 Performs (Picture all) (Err fault) input old new = Pictures all (Err fault) input old new
 Performs (PictureSvg percent) (Ok (DrewSvg undrawn)) input old new = DrawsSvg percent (Ok undrawn) input old new
@@ -39,14 +61,17 @@ Performs (Check false) (Ok (Judged verdict)) input old new = Checks (Ok verdict)
 Performs (Check false) (Err fault) input old new = Checks (Err fault) input old new
 Performs (Check true) (Ok (Bounded verdict)) input old new = ChecksBound (Ok verdict) input old new
 Performs (Check true) (Err fault) input old new = ChecksBound (Err fault) input old new
-Performs (Play all banked) (Ok Written) input old new = Plays all (Ok Written) input old new
-Performs (Play all banked) (Err fault) input old new = Plays {T = Done} all (Err fault) input old new
-Performs (PlaySvg banked percent rate) (Ok Written) input old new =
-    PlaysSvg (show_of percent rate) (Ok Written) input old new
-Performs (PlaySvg banked percent rate) (Err fault) input old new =
-    PlaysSvg {T = Done} (show_of percent rate) (Err fault) input old new
+Performs {A} (Play all banked) (Ok Written) input old new = Plays {T = Done A} all (Ok Written) input old new
+Performs {A} (Play all banked) (Err fault) input old new = Plays {T = Done A} all (Err fault) input old new
+Performs {A} (PlaySvg banked percent rate) (Ok Written) input old new =
+    PlaysSvg {T = Done A} (show_of percent rate) (Ok Written) input old new
+Performs {A} (PlaySvg banked percent rate) (Err fault) input old new =
+    PlaysSvg {T = Done A} (show_of percent rate) (Err fault) input old new
 Performs Torn (Ok (Searched verdict)) input old new = Tears (Ok verdict) input old new
 Performs Torn (Err fault) input old new = Tears (Err fault) input old new
+Performs {A} (Lay form) (Ok done) input old new =
+    (laid : Laid A) × (done ≡ told laid) × Lays (form_of form) (Ok laid) input old new
+Performs {A} (Lay form) (Err fault) input old new = Lays {A = A} (form_of form) (Err fault) input old new
 Performs _ (Ok _) input old new = ⊥
 
 -- the faults before which a job writes nothing
@@ -59,7 +84,7 @@ StaysUnwritten _ fault = ComesBeforeText fault
 
 -- what is taken of the input: so many bytes at most, and of a log no more than a piece after the
 -- line that decides
-abbrev pub TakesBy : Job → Result Done ToolFault → Option (List ℕ) → Option (List ℕ) → Type 0
+abbrev pub TakesBy : {A : Type 0} → Job → Result (Done A) ToolFault → Option (List ℕ) → Option (List ℕ) → Type 0
 TakesBy list_job answer old new = TakesAtMost 8193 old new
 TakesBy (ListAt address) answer old new = TakesAtMost 8193 old new
 TakesBy Rom answer old new = TakesAtMost 4097 old new
@@ -68,6 +93,7 @@ TakesBy (PictureSvg percent) answer old new = TakesAtMost 6145 old new
 TakesBy (Check bound) answer old new = TakesAtMost 1048577 old new
 TakesBy (Play all banked) answer old new = TakesAtMost 1048577 old new
 TakesBy (PlaySvg banked percent rate) answer old new = TakesAtMost 1048577 old new
+TakesBy (Lay form) answer old new = TakesAtMost 1048577 old new
 TakesBy Torn (Ok (Searched verdict)) old new = IfSome old (λ input. Takes (Ok verdict) input old new)
 TakesBy Torn (Ok _) old new = ⊥
 TakesBy Torn (Err fault) old new = IfSome old (λ input. Takes (Err fault) input old new)

@@ -3,7 +3,7 @@ use Rattle.std.specs.Prelude.{◌≡◌, ℕ, ◌⊎◌, Some, None, Result, Ok,
 use Rattle.dvg_io.specs.declared.fault.ToolFault.{ToolFault}
 use Rattle.dvg_io.specs.declared.fault.ToolFault.TheVariants.{Text, Writer}
 use Rattle.dvg_tool.specs.declared.outcome.Done.{Done}
-use Rattle.dvg_tool.specs.declared.outcome.Done.TheVariants.{Written, Judged, Bounded, Drew, DrewSvg, Searched}
+use Rattle.dvg_tool.specs.declared.outcome.Done.TheVariants.{Written, Judged, Bounded, Drew, DrewSvg, Searched, Refused as unlaid}
 use Rattle.dvg_dump.specs.declared.ending.Outcome.TheVariants as outcomes
 use Rattle.dvg_lines.specs.declared.log_verdict.LogFinding.{LogFinding}
 use Rattle.dvg_lines.specs.declared.log_verdict.LogFinding.TheVariants.{NotTorn}
@@ -21,7 +21,7 @@ log_status NotTorn = 0
 log_status _ = 1
 
 -- the exit status
-abbrev pub status_of : Result Done ToolFault → ℕ
+abbrev pub status_of : {A : Type 0} → Result (Done A) ToolFault → ℕ
 status_of (Ok Written) = 0
 status_of (Ok (Judged (Good words))) = 0
 status_of (Ok (Judged (Refused fault))) = 1
@@ -32,5 +32,6 @@ status_of (Ok (Drew _)) = 1
 status_of (Ok (DrewSvg None)) = 0
 status_of (Ok (DrewSvg (Some undrawn))) = 1
 status_of (Ok (Searched verdict)) = log_status verdict.finding
+status_of (Ok (unlaid refusal)) = 1
 status_of (Err (Text fault)) = 1
 status_of (Err _) = 2

@@ -2,7 +2,7 @@
 ghost use Rattle.std.specs.Prelude.{◌≡◌, ◌↔◌, ◌≤◌, IfErr, IfSome, IsErrOf};
 ghost use Rattle.dvg_io.specs.Faults.{ComesBeforeText};
 ghost use Rattle.dvg_io.specs.Serving.{AreFresh, Serves};
-ghost use Rattle.dvg_tool.specs.Jobs.{Performs, StaysUnwritten, TakesBy};
+ghost use Rattle.dvg_tool.specs.Jobs.{Performs, StaysUnwritten, TakesBy, form_of, told};
 ghost use Rattle.dvg_tool.specs.PlaysSvg.{PlaysSvg};
 ghost use Rattle.dvg_io.specs.Watching.{device_of, failures_of};
 
@@ -14,11 +14,12 @@ use crate::plays::{play, play_in};
 use crate::plays_svg::{play_svg, play_svg_in};
 use crate::roms::rom_text;
 use dvg_io::{ToolFault, Watched};
+use dvg_lay::{Form, Laid, lay_sketch};
 use dvg_logs::torn;
-use dvg_mem::Banked;
+use dvg_mem::{Banked, Half};
 use dvg_picture::{picture, picture_svg};
 use dvg_svg::Show;
-use dvg_words::Job;
+use dvg_words::{Job, LayForm};
 use std::alloc::Allocator;
 use std::io::{Read, Write};
 
@@ -28,7 +29,7 @@ fn picture_shown<A: Allocator + Copy, R: Read, W: Write>(
     reader: &mut Watched<R>,
     writer: &mut Watched<W>,
     percent: u16,
-) -> Result<Done, ToolFault>
+) -> Result<Done<A>, ToolFault>
     requires fresh { AreFresh reader.old writer.old }
     ensures { Serves R.remaining W.contents 6145 ComesBeforeText (Performs (Job.PictureSvg percent))
         result reader.old reader.new writer.old writer.new }
@@ -58,15 +59,56 @@ fn play_shown<A: Allocator + Copy, R: Read, W: Write>(
     }
 }
 
+// The form that is asked for, as `dvg_lay` has it.
+fn form_of(form: LayForm) -> Form
+    ensures { result ≡ form_of form }
+{
+    match form {
+        LayForm::Half0 => Form::Bytes(Half::H0),
+        LayForm::Half1 => Form::Bytes(Half::H1),
+        LayForm::Table => Form::Tables,
+        LayForm::Rom => Form::RomBytes,
+        LayForm::Equates => Form::RomNames,
+    }
+}
+
+// What is told of what came of laying a sketch out.
+fn told<A: Allocator>(laid: Laid<A>) -> Done<A>
+    ensures { result ≡ told laid }
+{
+    match laid {
+        Laid::Text(_) => Done::Written,
+        Laid::Refused(refusal) => Done::Refused(refusal),
+    }
+}
+
+// Does the job `lay`.
+fn lay_told<A: Allocator + Copy, R: Read, W: Write>(
+    alloc: A,
+    reader: &mut Watched<R>,
+    writer: &mut Watched<W>,
+    form: LayForm,
+) -> Result<Done<A>, ToolFault>
+    requires fresh { AreFresh reader.old writer.old }
+    ensures { Serves R.remaining W.contents 1048577 ComesBeforeText (Performs (Job.Lay form))
+        result reader.old reader.new writer.old writer.new }
+{
+    match lay_sketch(alloc, reader, writer, form_of(form)) {
+        Ok(laid) => Ok(told(laid)),
+        Err(fault) => Err(fault),
+    }
+}
+
 /// Does a job by its engine: `list` or `list_at`, `rom_text`, `picture` or `picture_svg`,
 /// `check_text` or `check_bound`, `play` or `play_svg`, or `play_in` or `play_svg_in` over the store
-/// `Banked`, or `torn`; and tells what `picture`, `picture_svg`, a check and `torn` have to tell.
+/// `Banked`, `torn` or `lay_sketch`; and tells what `picture`, `picture_svg`, a check, `torn` and a
+/// sketch that isn't laid out have to tell.
 pub fn perform<A: Allocator + Copy, R: Read, W: Write>(
     alloc: A,
     job: Job,
     reader: &mut Watched<R>,
     writer: &mut Watched<W>,
-) -> Result<Done, ToolFault>
+) -> Result<Done<A>, ToolFault>
     requires fresh_reader { failures_of reader.old ≡ 0 }
     requires fresh_writer { failures_of writer.old ≡ 0 }
 
@@ -89,10 +131,16 @@ pub fn perform<A: Allocator + Copy, R: Read, W: Write>(
             list_at(alloc, reader, writer, address).map(|()| Done::Written)
         }
         Job::Rom => rom_text(alloc, reader, writer).map(|()| Done::Written),
-        Job::Picture { all } => picture(alloc, reader, writer, all).map(Done::Drew),
+        Job::Picture { all } => picture(alloc, reader, writer, all).map(|outcome| Done::Drew(
+            outcome,
+        )),
         Job::PictureSvg { percent } => picture_shown(alloc, reader, writer, percent),
-        Job::Check { bound: false } => check_text(alloc, reader, writer).map(Done::Judged),
-        Job::Check { bound: true } => check_bound(alloc, reader, writer).map(Done::Bounded),
+        Job::Check { bound: false } => check_text(alloc, reader, writer).map(|verdict| Done::Judged(
+            verdict,
+        )),
+        Job::Check { bound: true } => check_bound(alloc, reader, writer).map(
+            |verdict| Done::Bounded(verdict),
+        ),
         Job::Play { all, banked: false } => play(alloc, reader, writer, all).map(
             |()| Done::Written,
         ),
@@ -107,6 +155,7 @@ pub fn perform<A: Allocator + Copy, R: Read, W: Write>(
             let show = Show { percent, rate };
             play_shown(alloc, reader, writer, banked, show).map(|()| Done::Written)
         }
-        Job::Torn => torn(reader, writer).map(Done::Searched),
+        Job::Torn => torn(reader, writer).map(|verdict| Done::Searched(verdict)),
+        Job::Lay { form } => lay_told(alloc, reader, writer, form),
     }
 }

@@ -2,7 +2,7 @@
 use Rattle.std.proofs.Common.{refl}
 use Rattle.clap.proofs.OnLiterals.{clap_on_literals}
 use Rattle.dvg_words.specs.Words.{dvg_app}
-use Rattle.dvg_words.specs.Laws.{HelpWords, OtherWords, RefusedOptions, TextJobWords}
+use Rattle.dvg_words.specs.Laws.{HelpWords, OtherWords, RefusedOptions, SketchJobWords, TextJobWords}
 
 pub text_job_words : TextJobWords
 unfolding dvg_app clap_on_literals
@@ -17,6 +17,18 @@ text_job_words = (
   λ name. ((refl, refl), refl, refl),
   λ name. ((refl, refl), refl, refl),
   λ name. ((refl, refl), refl, refl),
+  λ name. ((refl, refl), refl, refl),
+  λ name. ((refl, refl), refl, refl),
+  λ name. ((refl, refl), refl, refl),
+  λ name. ((refl, refl), refl, refl),
+  λ name. ((refl, refl), refl, refl),
+  λ name. ((refl, refl), refl, refl),
+  λ name. ((refl, refl), refl, refl),
+)
+
+pub sketch_job_words : SketchJobWords
+unfolding dvg_app clap_on_literals
+sketch_job_words = (
   λ name. ((refl, refl), refl, refl),
   λ name. ((refl, refl), refl, refl),
   λ name. ((refl, refl), refl, refl),
@@ -52,6 +64,11 @@ other_words = (
 pub refused_options : RefusedOptions
 unfolding dvg_app clap_on_literals
 refused_options = (
+  λ name. refl,
+  λ name. refl,
+  λ name. refl,
+  λ name. refl,
+  λ name. refl,
   λ name. refl,
   λ name. refl,
   λ name. refl,

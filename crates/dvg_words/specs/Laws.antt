@@ -4,7 +4,8 @@ use Rattle.clap.specs.Words.{Kinds, Text, subcommand_of}
 use Rattle.clap.specs.declared.error.kind.ErrorKind.TheVariants.{ArgumentConflict, DisplayHelp, DisplayVersion, InvalidSubcommand, InvalidValue, MissingRequiredArgument, MissingSubcommand, UnknownArgument}
 use Rattle.dvg_words.specs.Words.{IsJob, TakesWords, dvg_app, words_fault}
 use Rattle.dvg_words.specs.declared.task.Job.{Job}
-use Rattle.dvg_words.specs.declared.task.Job.TheVariants.{List as list_job, ListAt, Rom, Picture, PictureSvg, Check, Play, PlaySvg, Torn}
+use Rattle.dvg_words.specs.declared.task.Job.TheVariants.{List as list_job, ListAt, Rom, Picture, PictureSvg, Check, Play, PlaySvg, Torn, Lay}
+use Rattle.dvg_words.specs.declared.task.LayForm.TheVariants.{Half0, Half1, Table, Rom as RomBytes, Equates}
 
 -- after any name of the program, the words are taken and ask for the job
 abbrev pub AskFor : List Text → Job → Type 0
@@ -15,7 +16,7 @@ AskFor words job = (name : Text) → TakesWords (name ∷ words) × (words_fault
 abbrev pub FailAs : List Text → Kinds → Type 0
 FailAs words kinds = (name : Text) → words_fault (name ∷ words) ≡ kinds
 
--- the words of each job
+-- the words of each job that reads no sketch
 abbrev pub TextJobWords : Type 0
 TextJobWords = AskFor (codes "list" ∷ []) list_job
     × AskFor (codes "list" ∷ codes "--at" ∷ codes "000" ∷ []) (ListAt 0)
@@ -34,6 +35,16 @@ TextJobWords = AskFor (codes "list" ∷ []) list_job
     × AskFor (codes "play" ∷ codes "--svg" ∷ []) (PlaySvg false 100 30)
     × AskFor (codes "play" ∷ codes "--rate" ∷ codes "60" ∷ codes "--svg" ∷ codes "--banked" ∷ codes "--scale=400" ∷ []) (PlaySvg true 400 60)
     × AskFor (codes "torn" ∷ []) Torn
+
+-- the words of each job that reads a sketch
+abbrev pub SketchJobWords : Type 0
+SketchJobWords = AskFor (codes "lay" ∷ []) (Lay Half0)
+    × AskFor (codes "lay" ∷ codes "--half" ∷ codes "0" ∷ []) (Lay Half0)
+    × AskFor (codes "lay" ∷ codes "--half" ∷ codes "1" ∷ []) (Lay Half1)
+    × AskFor (codes "lay" ∷ codes "--half=1" ∷ []) (Lay Half1)
+    × AskFor (codes "lay" ∷ codes "--table" ∷ []) (Lay Table)
+    × AskFor (codes "lay" ∷ codes "--rom" ∷ []) (Lay RomBytes)
+    × AskFor (codes "lay" ∷ codes "--equates" ∷ []) (Lay Equates)
 
 -- words that ask for help, or for the version; the words after `help` may name no subcommand
 abbrev pub HelpWords : Type 0
@@ -68,3 +79,8 @@ RefusedOptions = FailAs (codes "list" ∷ codes "--at" ∷ codes "12" ∷ []) (I
     × FailAs (codes "play" ∷ codes "--all" ∷ codes "--svg" ∷ []) (ArgumentConflict ∷ [])
     × FailAs (codes "play" ∷ codes "--rate" ∷ codes "3" ∷ []) (MissingRequiredArgument ∷ [])
     × FailAs (codes "play" ∷ codes "--svg" ∷ codes "--rate" ∷ codes "61" ∷ []) (InvalidValue ∷ [])
+    × FailAs (codes "lay" ∷ codes "--half" ∷ codes "2" ∷ []) (InvalidValue ∷ [])
+    × FailAs (codes "lay" ∷ codes "--half" ∷ []) (InvalidValue ∷ [])
+    × FailAs (codes "lay" ∷ codes "--half" ∷ codes "0" ∷ codes "--rom" ∷ []) (ArgumentConflict ∷ [])
+    × FailAs (codes "lay" ∷ codes "--rom" ∷ codes "--table" ∷ []) (ArgumentConflict ∷ [])
+    × FailAs (codes "lay" ∷ codes "--half" ∷ codes "0" ∷ codes "--half" ∷ codes "1" ∷ []) (ArgumentConflict ∷ [])

@@ -1,5 +1,5 @@
 -- What the options of a subcommand tell, and how they are refused.
-use Rattle.std.specs.Prelude.{◌≡◌, ◌==◌, ◌&&◌, ◌||◌, ℕ, Bool, false, not, List, [], ◌∷◌, Option, Some, None, Result, MatchResult, codes, if◌then◌else◌, is_some, length, nat_lt, option_and_then}
+use Rattle.std.specs.Prelude.{◌≡◌, ◌==◌, ◌&&◌, ◌||◌, ℕ, Bool, true, false, not, List, [], ◌∷◌, Option, Some, None, Result, MatchResult, codes, count_by, if◌then◌else◌, is_some, length, nat_lt, option_and_then}
 use Rattle.std.specs.Char.{digit_value}
 use Rattle.std.specs.Int.{is_in_range}
 use Rattle.std.specs.List.{list_all}
@@ -10,6 +10,8 @@ use Rattle.clap.specs.Words.{Kinds, Row, Text, first_of}
 use Rattle.clap.specs.declared.error.kind.ErrorKind.{ErrorKind}
 use Rattle.clap.specs.declared.error.kind.ErrorKind.TheVariants.{ArgumentConflict, InvalidValue, MissingRequiredArgument}
 use Rattle.dvg_words.specs.declared.options.Shown.{Shown}
+use Rattle.dvg_words.specs.declared.task.LayForm.{LayForm}
+use Rattle.dvg_words.specs.declared.task.LayForm.TheVariants.{Half0, Half1, Table, Rom as RomBytes, Equates}
 
 -- the matching sets the flag
 abbrev pub sets : Text → List Row → Bool
@@ -55,6 +57,35 @@ address_in text = if length text == 3 && is_numeral 16 text then Some (digits_va
 abbrev pub address_of : List Row → Option ℕ
 address_of rows = option_and_then address_in (first_of (codes "at") rows)
 
+-- ---- the forms of `lay`
+
+-- how many of the four options of `lay` are given
+abbrev pub given_count : (half table rom equates : Bool) → ℕ
+given_count half table rom equates =
+    count_by (λ is_given. is_given) (half ∷ table ∷ rom ∷ equates ∷ [])
+
+-- the form in a half of this number
+abbrev pub half_form : Text → Option LayForm
+half_form number = if bytes_eq number (codes "0") then Some Half0
+    else (if bytes_eq number (codes "1") then Some Half1 else None)
+
+-- the form that an option asks for; without one it is half 0
+abbrev pub form_by : (table rom equates : Bool) → (half : Option Text) → Option LayForm
+form_by true rom equates half = Some Table
+form_by false true equates half = Some RomBytes
+form_by false false true half = Some Equates
+form_by false false false half = option_map_or half_form half (Some Half0)
+
+-- how many of the options of `lay` the matching gives
+abbrev pub forms_given : List Row → ℕ
+forms_given rows = given_count (gives (codes "half") rows) (sets (codes "table") rows)
+    (sets (codes "rom") rows) (sets (codes "equates") rows)
+
+-- the form that the options of `lay` ask for
+abbrev pub form_of : List Row → Option LayForm
+form_of rows = form_by (sets (codes "table") rows) (sets (codes "rom") rows)
+    (sets (codes "equates") rows) (first_of (codes "half") rows)
+
 -- ---- how options are refused
 
 -- options that exclude each other, one that wants another which isn't given, or a value that is none
@@ -76,11 +107,16 @@ svg_fault rows = refused_by (sets (codes "svg") rows && sets (codes "all") rows)
     (not (sets (codes "svg") rows) && (gives (codes "scale") rows || gives (codes "rate") rows))
     (shows_well rows)
 
+-- how the options of `lay` are refused
+abbrev pub lay_fault : List Row → Kinds
+lay_fault rows = refused_by (nat_lt 1 (forms_given rows)) false (is_some (form_of rows))
+
 -- how the options of a subcommand are refused; one that isn't named here has none that can be
 abbrev pub fault_in : Text → List Row → Kinds
 fault_in name rows = if bytes_eq name (codes "list") then list_fault rows
     else (if bytes_eq name (codes "picture") then svg_fault rows
-    else (if bytes_eq name (codes "play") then svg_fault rows else []))
+    else (if bytes_eq name (codes "play") then svg_fault rows
+    else (if bytes_eq name (codes "lay") then lay_fault rows else [])))
 
 -- an answer comes only where nothing is refused, and a kind where it is the one (for a private contract)
 abbrev pub Refuses : {T : Type 0} → Result T ErrorKind → Kinds → Type 0

@@ -6,9 +6,10 @@ use Rattle.clap.specs.Words.{App, Kinds, Row, Rule, Shape, Text, fault_of, new_a
 use Rattle.clap.specs.declared.builder.ArgAction.TheVariants.{Set, SetTrue}
 use Rattle.clap.specs.declared.error.kind.ErrorKind.{ErrorKind}
 use Rattle.clap.specs.declared.error.kind.ErrorKind.TheVariants.{DisplayHelp, DisplayVersion, OutOfMemory}
-use Rattle.dvg_words.specs.Options.{address_of, fault_in, gives, percent_of, rate_of, sets}
+use Rattle.dvg_words.specs.Options.{address_of, fault_in, form_of, gives, percent_of, rate_of, sets}
 use Rattle.dvg_words.specs.declared.task.Job.{Job}
-use Rattle.dvg_words.specs.declared.task.Job.TheVariants.{List as list_job, ListAt, Rom, Picture, PictureSvg, Check, Play, PlaySvg, Torn}
+use Rattle.dvg_words.specs.declared.task.Job.TheVariants.{List as list_job, ListAt, Rom, Picture, PictureSvg, Check, Play, PlaySvg, Torn, Lay}
+use Rattle.dvg_words.specs.declared.task.LayForm.{LayForm}
 
 -- a subcommand with no option of its own
 abbrev pub plain : Text → Shape
@@ -51,19 +52,25 @@ abbrev pub play_app : App
 play_app =
     showing (with_flag (with_flag (with_flag (new_app (codes "play")) (codes "all")) (codes "banked")) (codes "svg"))
 
+-- the subcommand `lay`: a half by its number, or one of three other forms
+abbrev pub lay_app : App
+lay_app =
+    let with_half = with_value (new_app (codes "lay")) (codes "half") in
+    with_flag (with_flag (with_flag with_half (codes "table")) (codes "rom")) (codes "equates")
+
 -- the program without its subcommands, of which it requires one; it has a version (for a private contract)
 abbrev pub program_app : App
 program_app = record (new_app (codes "dvg")) {
   top = record (plain (codes "dvg")) { subcommand_required = true; has_version = true };
 }
 
--- the program's command, which requires one of six subcommands and has a version; clap adds `help` and the options
+-- the program's command, which requires one of seven subcommands and has a version; clap adds `help` and the options
 -- `--help` and `--version`
 unfoldable pub dvg_app : App
 dvg_app = record {
   top = record (plain (codes "dvg")) { is_leaf = false; subcommand_required = true; has_version = true };
   subs = list_app.top ∷ plain (codes "rom") ∷ picture_app.top ∷ check_app.top ∷ play_app.top ∷ plain (codes "torn")
-      ∷ [];
+      ∷ lay_app.top ∷ [];
 }
 
 -- how the options of the subcommand that was matched are refused
@@ -97,6 +104,8 @@ IsJob (PlaySvg banked percent rate) met = option_map {U = Text × Bool × Bool �
     (λ p. (p.0, sets (codes "svg") p.1, sets (codes "banked") p.1, percent_of p.1, rate_of p.1)) met
     ≡ Some (codes "play", true, banked, Some percent, Some rate)
 IsJob Torn met = option_map (λ p. p.0) met ≡ Some (codes "torn")
+IsJob (Lay form) met =
+    option_map {U = Text × Option LayForm} (λ p. (p.0, form_of p.1)) met ≡ Some (codes "lay", Some form)
 
 -- the name of a subcommand whose options can't be refused (for a private contract)
 abbrev pub IsPlainName : Text → Type 0
@@ -105,7 +114,7 @@ IsPlainName name = (name ≡ codes "rom") ⊎ ((name ≡ codes "check") ⊎ (nam
 -- the name of a subcommand that is a job (for a private contract)
 abbrev pub IsJobName : Text → Type 0
 IsJobName name = (name ≡ codes "list") ⊎ ((name ≡ codes "picture") ⊎ ((name ≡ codes "play")
-    ⊎ IsPlainName name))
+    ⊎ ((name ≡ codes "lay") ⊎ IsPlainName name)))
 
 -- the exit status of words that give no job, by the kind of the error
 abbrev pub error_status : ErrorKind → ℕ

@@ -3,7 +3,7 @@ ghost use Rattle.std.specs.Prelude.{◌≡◌, IfOk, codes, false};
 ghost use Rattle.clap.specs.Words.{app_of, new_app, rule_of, with_rule, with_subcommand};
 ghost use Rattle.clap.specs.declared.builder.command.Command.TheViews.{out-Command as fields_of};
 ghost use Rattle.dvg_words.specs.Words as spec;
-ghost use Rattle.dvg_words.specs.Words.{check_app, dvg_app, flag, list_app, picture_app, play_app, program_app, valued};
+ghost use Rattle.dvg_words.specs.Words.{check_app, dvg_app, flag, lay_app, list_app, picture_app, play_app, program_app, valued};
 
 use crate::help;
 use clap::{Arg, ArgAction, Command};
@@ -143,6 +143,23 @@ fn play_command<'a>(alloc: Global) -> Result<Command<'a>, AllocError>
     showing(alloc, with_svg)
 }
 
+// The subcommand `lay`.
+fn lay_command<'a>(alloc: Global) -> Result<Command<'a>, AllocError>
+    ensures app { IfOk result (λ c. app_of c ≡ lay_app) }
+    ensures local { IfOk result (λ c. (fields_of c).has_globals ≡ false) }
+{
+    let about = "Lay out the frames of a sketch";
+    let lay = helped(alloc, "lay", about, help::LAY_USAGE, help::LAY);
+    let half = "Write the frames as they lie in this half [default: 0]";
+    let with_half = with_value(alloc, lay, "half", "0|1", half)?;
+    let table = "Write the frames as text for the assembler ca65";
+    let with_table = with_flag(alloc, with_half, "table", table)?;
+    let rom = "Write the bytes of the ROM";
+    let with_rom = with_flag(alloc, with_table, "rom", rom)?;
+    let equates = "Write the names of the ROM with their addresses";
+    with_flag(alloc, with_rom, "equates", equates)
+}
+
 // The program without its subcommands.
 fn program<'a>(alloc: Global) -> Command<'a>
     ensures app { app_of result ≡ program_app }
@@ -179,5 +196,6 @@ pub(crate) fn command<'a>(alloc: Global) -> Result<Command<'a>, AllocError>
     let with_picture = with_part(with_rom, picture_command(alloc)?)?;
     let with_check = with_part(with_picture, check_command(alloc)?)?;
     let with_play = with_part(with_check, play_command(alloc)?)?;
-    with_part(with_play, torn)
+    let with_torn = with_part(with_play, torn)?;
+    with_part(with_torn, lay_command(alloc)?)
 }

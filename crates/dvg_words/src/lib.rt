@@ -11,6 +11,7 @@ mod command;
 mod drawing;
 mod help;
 pub mod laws;
+mod laying;
 mod misuse;
 mod options;
 mod refusal;
@@ -18,5 +19,5 @@ mod task;
 mod words;
 
 pub use refusal::words_status;
-pub use task::Job;
+pub use task::{Job, LayForm};
 pub use words::job;

@@ -15,6 +15,8 @@ fn usage_of(name: &str) -> &'static str {
         help::PICTURE_USAGE
     } else if name == "play" {
         help::PLAY_USAGE
+    } else if name == "lay" {
+        help::LAY_USAGE
     } else {
         help::USAGE
     }

@@ -6,6 +6,7 @@ ghost use Rattle.clap.specs.Words.{FailsBy, fault_of, found_of, has_subcommand, 
 
 use crate::command::command;
 use crate::drawing::{list_job, picture_job, play_job};
+use crate::laying::lay_job;
 use crate::misuse::misuse;
 use crate::options::is_set;
 use crate::task::Job;
@@ -45,6 +46,9 @@ fn asked(name: &str, found: &ArgMatches) -> Result<Job, ErrorKind>
     }
     if name == "play" {
         return play_job(found);
+    }
+    if name == "lay" {
+        return lay_job(found);
     }
     match plain_job(name, found) {
         Some(job) => Ok(job),

@@ -13,5 +13,6 @@ returns-clause-app c =
     let picture = same c.in_ok-with_picture.ensures.app rom c.in_ok-picture_command.ensures.app in
     let check = same c.in_ok-with_check.ensures.app picture c.in_ok-check_command.ensures.app in
     let play = same c.in_ok-with_play.ensures.app check c.in_ok-play_command.ensures.app in
-    IfOk-weaker c.with_part-6.result (λ r. app_of r ≡ added (app_of c.in_ok-with_play.with_play) (app_of c.helped-torn.result)) _
-    (λ r e. same e play c.helped-torn.ensures.app) c.with_part-6.ensures.app
+    let torn = same c.in_ok-with_torn.ensures.app play c.helped-torn.ensures.app in
+    IfOk-weaker c.with_part-7.result (λ r. app_of r ≡ added (app_of c.in_ok-with_torn.with_torn) (app_of c.in_ok-lay_command.field-0)) _
+    (λ r e. same e torn c.in_ok-lay_command.ensures.app) c.with_part-7.ensures.app
