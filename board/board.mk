@@ -1,10 +1,11 @@
-# Rules for a program on the board. A makefile sets these and includes this file; docs/BOARD.md
-# shows one:
+# Rules for a program on the board. A makefile sets these and includes this file; that of
+# examples/first is one:
 #
 #     PROGRAM    its source without .s
-#     FRAMES     drafts with names; each is a table of the name of its file, in build/tables.inc
-#     SHAPES     drafts of shapes with names, for the vector ROM; their addresses are in
-#                build/shapes.equates, their words in build/shapes.inc
+#     SKETCH     sketches of its frames and shapes, if it has some; they become one, build/sketch.
+#                docs/FORMATS.md has their form, and outline.awk adds outlines to it. Each frame is
+#                a table of its name, in build/tables.inc. The names of the ROM are in
+#                build/shapes.equates.
 #     DEFINES    options of ca65 for the program, DRIVER those for the driver
 #     SECONDS    how long the emulator runs, in seconds of its own time; SHOTS when pictures are
 #                taken
@@ -23,43 +24,52 @@ $(shell mkdir -p build)
 .DEFAULT_GOAL := build/roms/asteroid
 
 # What was asked for the last time; where it differs, all is made anew.
-OPTIONS := $(PROGRAM) $(DEFINES) / $(DRIVER)
+OPTIONS := $(PROGRAM) $(SKETCH) $(DEFINES) / $(DRIVER)
 $(shell echo '$(OPTIONS)' | cmp -s - build/options || echo '$(OPTIONS)' >build/options)
 
-build/roms/asteroid: build/$(PROGRAM).program build/prom
-	@$(BOARD)emulator/roms build/$(PROGRAM).program build/$(PROGRAM).vectors build/prom build/roms
+build/roms/asteroid: build/$(PROGRAM).program build/rom build/prom
+	@$(BOARD)emulator/roms build/$(PROGRAM).program build/rom build/prom build/roms
 	@touch $@
 	@echo made $@
 
 build/$(PROGRAM).program: build/$(PROGRAM).o build/driver.o $(BOARD)board.cfg
-	ld65 -C $(BOARD)board.cfg -Ln build/$(PROGRAM).labels -o build/$(PROGRAM) \
-	    build/$(PROGRAM).o build/driver.o
+	ld65 -C $(BOARD)board.cfg -Ln build/$(PROGRAM).labels -o $@ build/$(PROGRAM).o build/driver.o
 
-build/$(PROGRAM).o: $(PROGRAM).s $(BOARD)dvg.inc $(if $(FRAMES),build/tables.inc) \
-    $(if $(SHAPES),build/shapes.inc) build/options
+build/$(PROGRAM).o: $(PROGRAM).s $(BOARD)dvg.inc build/tables.inc build/shapes.equates \
+    build/options
 	ca65 -g -I $(BOARD) -I build $(DEFINES) -o $@ $(PROGRAM).s
 
 build/driver.o: $(BOARD)driver.s $(BOARD)dvg.inc build/options
 	ca65 -g $(DRIVER) -o $@ $(BOARD)driver.s
 
-build/tables.inc: $(FRAMES) $(if $(SHAPES),build/shapes.inc)
-	@echo making the tables
-	@$(BOARD)table $(if $(SHAPES),build/shapes,-) $(FRAMES) >$@.new
-	@mv $@.new $@
+build/sketch: $(SKETCH) $(BOARD)outline.awk build/options
+	$(if $(SKETCH),awk -f $(BOARD)outline.awk $(SKETCH),echo .rom) >$@
 
-build/shapes.inc: $(SHAPES)
-	@echo making the shapes
-	@$(BOARD)shapes build/shapes $(SHAPES)
+build/tables.inc: build/sketch $(BOARD)tables.awk
+	$(DVG) lay --table <build/sketch >build/tables
+	@awk -f $(BOARD)tables.awk build/tables >$@
+
+# A program may call each name of the ROM, so each is checked in a frame that calls it.
+build/shapes.equates: build/sketch
+	$(DVG) lay --equates <build/sketch >$@
+	@awk '{ print ".frame\nlabs 0 0 0\ncallrom " $$1 "\nhalt" }' $@ | cat build/sketch - >build/calls
+	$(DVG) lay <build/calls >build/called
+
+build/rom: build/sketch
+	$(DVG) lay --rom <build/sketch >$@
+
+# As `dvg check` and `dvg play` read it.
+build/rom.lines: build/rom
+	$(DVG) rom <build/rom >$@
 
 build/prom: $(BOARD)emulator/prom.py
 	python3 $(BOARD)emulator/prom.py $@
 
-emulator: build/roms/asteroid
+emulator: build/roms/asteroid build/rom.lines
 	@DVG_SHOTS="$(SHOTS)" $(BOARD)emulator/run build/roms build/emulator $(SECONDS) \
 	    $(BOARD)emulator/trace.lua
-	@$(BOARD)emulator/compare build/emulator/bus.log $(if $(SHAPES),build/shapes.rom,/dev/null) \
-	    build/emulator/bus
-	@$(BOARD)emulator/shots build/emulator $(if $(SHAPES),build/shapes.rom,/dev/null)
+	@$(BOARD)emulator/compare build/emulator/bus.log build/rom.lines build/emulator/bus
+	@$(BOARD)emulator/shots build/emulator build/rom.lines
 
 torn: build/roms/asteroid
 	@$(BOARD)emulator/run build/roms build/torn $(SECONDS) $(BOARD)emulator/torn.lua

@@ -18,7 +18,7 @@
 ; A table is the number of words, 1 to 511, low byte first, and then the words as they stand in
 ; half 0. Only calls and jumps within the frame differ in half 1: by bit 1 of the high byte. The
 ; driver knows them by their words, C0xx, C1xx, E0xx and E1xx, so each call of the ROM names a
-; word from 400 on. board/table makes tables, and refuses a draft that has another call.
+; word from 400 on. `dvg lay --table` makes tables, and refuses a frame that has another call.
 ;
 ; A program that makes each frame anew builds it in the free half:
 ;

@@ -1,21 +1,22 @@
-# Makes drafts of shapes from the points of their outlines. This is unproved.
+# Makes shapes of the points of their outlines: reads sketches with outlines, and writes one sketch
+# without, as `dvg lay` reads it. This is unproved.
 #
-#     awk -f outline.awk <OUTLINES >SHAPES.draft
+#     awk -f outline.awk SKETCH.. >SKETCH
 #
-# A shape is a name with a colon, and points X,Y in units of the screen, from where the beam is when
-# the shape is called. The beam draws to each point, and moves to one after an @ without drawing.
-# Points may go on in the next lines, and # begins a comment. A house, with a door:
+# An outline is points X,Y in units of the screen, from where the beam is when the shape is called.
+# The beam draws to each point, and moves to one after an @ without drawing. A name may stand before
+# them, and more points in the next lines; `return` is added after the last. A house, with a door:
 #
 #     house: 60,0 60,40 30,60 0,40 0,0 @20,0 20,20 35,20 35,0 @0,0
 #
-# Each vector gets the least scale that has room for its move: the generator takes as long for a
-# vector as its scale says, however short it is. The global scale 0 shows a shape in its own size,
-# 1 twice as large, and 15 half as large. A vector goes at most 1,023 units.
-# -v intensity=N sets how bright it is, 1 to 15; it is 9 where none is given. What can't be read is
-# reported on standard error, with its line, and the status is 1.
+# All other lines stay as they are. Each vector gets the least scale that has room for its move: the
+# generator takes as long for a vector as its scale says, however short it is. The global scale 0
+# shows a shape in its own size, 1 twice as large, and 15 half as large. A vector goes at most 1,023
+# units. -v intensity=N sets how bright it is, 1 to 15; it is 9 where none is given. What can't be
+# read is reported on standard error, with its line, and the status is 1.
 
 function refuse(text) {
-    print "outline.awk: " text " at line " NR | "cat 1>&2"
+    print "outline.awk: " FILENAME " line " FNR ": " text | "cat 1>&2"
     refused = 1
 }
 
@@ -43,22 +44,45 @@ function vector(x, y, z, scale, step, dx, dy) {
     printf "  vctr %d %d %d %d\n", scale, dx, dy, z
 }
 
+# No operation of a sketch has a comma or an @.
+function is_point(word) { return word ~ /,|^@/ }
+
+function end_outline() {
+    if (is_open) print "  return"
+    is_open = at_x = at_y = 0
+}
+
 BEGIN { if (intensity == "") intensity = 9 }
 
-{ sub(/#.*/, "") }
+FNR == 1 { end_outline() }
 
-$1 ~ /^[A-Za-z_][A-Za-z0-9_]*:$/ {
-    if (shapes++) print "  return"
+{
+    whole = $0
+    sub(/\r$/, "")
+    sub(/#.*/, "")
+}
+
+NF == 0 {
+    print whole
+    next
+}
+
+$1 ~ /:$/ && is_point($2) {
+    end_outline()
     print $1
-    at_x = at_y = 0
     $1 = ""
     $0 = $0
 }
 
-NF && !shapes { refuse("no name") }
+!is_point($1) {
+    end_outline()
+    print whole
+    next
+}
 
 {
-    for (i = 1; i <= NF && shapes; i++) {
+    is_open = 1
+    for (i = 1; i <= NF; i++) {
         z = $i ~ /^@/ ? 0 : intensity
         if ($i ~ /^@?-?[0-9]+(\.[0-9]+)?,-?[0-9]+(\.[0-9]+)?$/) {
             split(z ? $i : substr($i, 2), point, ",")
@@ -68,6 +92,6 @@ NF && !shapes { refuse("no name") }
 }
 
 END {
-    if (shapes) print "  return"
+    end_outline()
     exit refused
 }

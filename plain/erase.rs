@@ -9,10 +9,13 @@
 //!
 //! 1. It takes away: `ghost` items, fields and uses; the clauses `requires` and `ensures`; `impl
 //!    Model` and the use of `Model`; `tactic` attributes; `Drop` among derives; `derive_where` with
-//!    a parameter; the module `laws`, also that of another crate, and modules of tests. A comment
-//!    right before one of these items goes with it.
+//!    a parameter; the module `laws`, also that of another crate; the `use` of one law of another
+//!    crate, and its calls, each a statement; and modules of tests. A comment right before one of
+//!    these items goes with it.
 //! 2. It writes otherwise: `derive_where(X)` as `derive(X)`; `rattlefmt::skip` as `rustfmt::skip`;
-//!    the signature of `Display::fmt`; `main`, which gets its runtime by a line of its own.
+//!    the signature of `Display::fmt`, and of functions that a `Formatter<W>` is handed to; `main`,
+//!    which gets its runtime by a line of its own; and `to_ascii_lowercase` with an allocator, which
+//!    Rust's slices have without one, as `to_ascii_lowercase_in`.
 //! 3. It puts in: the lines of `HEAD` at the head of a crate; `PRELUDE` in a file that names one of
 //!    its words; a `use` of the `MACROS` that a file calls.
 //!
@@ -32,7 +35,18 @@ const PROGRAM_HEAD: &str = "extern crate plain_std as std;\n\n";
 const PRELUDE: &str = "use std::prelude::*;\n\n";
 
 /// The words that a Rattle source has without a `use`, and that mean something else in Rust.
-const PRELUDE_WORDS: [&str; 6] = ["Box", "Clone", "Drop", "HostRuntime", "String", "Vec"];
+const PRELUDE_WORDS: [&str; 7] = [
+    "Box",
+    "Clone",
+    "Drop",
+    "HostRuntime",
+    "String",
+    "Vec",
+    LOWERCASE_IN,
+];
+
+/// What makes a text in small letters in memory of an allocator.
+const LOWERCASE_IN: &str = "to_ascii_lowercase_in";
 
 /// The macros whose first word is the runtime, as in Rattle.
 const MACROS: [&str; 3] = ["eprint", "eprintln", "println"];
@@ -162,12 +176,14 @@ fn after_bracket(text: &[u8], from: usize) -> Result<usize, Refused> {
 
 // --- The eraser ---
 
-/// A source, how far it was read, what is left of it, and the words of code that are left.
+/// A source, how far it was read, what is left of it, the words of code that are left, and the laws
+/// of other crates that are called.
 struct Eraser<'a> {
     text: &'a [u8],
     at: usize,
     out: Vec<u8>,
     words: BTreeSet<&'a str>,
+    laws: BTreeSet<&'a str>,
 }
 
 impl<'a> Eraser<'a> {
@@ -177,6 +193,7 @@ impl<'a> Eraser<'a> {
             at: 0,
             out: Vec::new(),
             words: BTreeSet::new(),
+            laws: BTreeSet::new(),
         }
     }
 
@@ -219,6 +236,12 @@ impl<'a> Eraser<'a> {
             .iter()
             .rposition(|byte| *byte == b'\n')
             .map_or(0, |k| k + 1)
+    }
+
+    /// Whether nothing but blanks stands on the last line of what is left.
+    fn is_line_begun(&self) -> bool {
+        let mut line = self.out.rsplit(|byte| *byte == b'\n');
+        line.next().is_none_or(|line| line.trim_ascii().is_empty())
     }
 
     /// Takes the blanks back that stand before an item, and the comments on the lines above it.
@@ -354,14 +377,40 @@ impl<'a> Eraser<'a> {
         }
     }
 
-    /// A `use`. That of `Model` goes.
+    /// A `use`. That of `Model` goes, and that of a law of another crate.
     fn usage(&mut self, end: usize) {
         let model = "use std::marker::Model;";
         if self.begins(model) {
             self.drop_line(self.at + model.len());
+        } else if let Some((law, end)) = self.law_of_another_crate() {
+            self.laws.insert(law);
+            self.drop_line(end);
         } else {
             self.copy_word(end);
         }
+    }
+
+    /// The law of `use dvg_dump::laws::one_end;`, where both names are any, and where that ends.
+    fn law_of_another_crate(&self) -> Option<(&'a str, usize)> {
+        let end = self.find(b';', self.at, "a use without an end").ok()?;
+        if !self.is_line_begun() {
+            return None;
+        }
+        let (of, law) = self
+            .slice(self.at, end)
+            .strip_prefix("use ")?
+            .split_once("::laws::")?;
+        let are_words = [of, law].iter().all(|name| name.bytes().all(is_of_word));
+        are_words.then_some((law, end + 1))
+    }
+
+    /// The call of a law of another crate, which is a statement.
+    fn law(&mut self, end: usize) -> Result<(), Refused> {
+        if !self.is_line_begun() || !self.text[end..].starts_with(b"();") {
+            return self.refuse("a law that no statement calls");
+        }
+        self.drop_line(end + "();".len());
+        Ok(())
     }
 
     // --- Attributes ---
@@ -408,10 +457,13 @@ impl<'a> Eraser<'a> {
 
     // --- Functions ---
 
-    /// A function's head. Those of `Display::fmt` and `main` are written otherwise.
+    /// A function's head. Those of `Display::fmt`, of what it hands its `Formatter` to, and of `main`
+    /// are written otherwise.
     fn function(&mut self, end: usize) -> Result<(), Refused> {
         if self.begins("fn fmt<") {
             self.display()
+        } else if self.takes_formatter() {
+            self.formatting()
         } else if self.begins("fn main(") {
             self.main()
         } else {
@@ -435,6 +487,40 @@ impl<'a> Eraser<'a> {
             None => return self.refuse("another signature of 'fmt' than that of Display"),
         }
         Ok(())
+    }
+
+    /// Whether a function begins as `fn write_text<W: fmt::Write>(`, where `write_text` is any name.
+    fn takes_formatter(&self) -> bool {
+        let name = after_blanks(self.text, self.at + "fn".len());
+        token(self.text, name).is_ok_and(|(_, end)| {
+            self.text
+                .get(end..)
+                .is_some_and(|rest| rest.starts_with(b"<W: fmt::Write>("))
+        })
+    }
+
+    /// `fn write_text<W: fmt::Write>(f: &mut fmt::Formatter<W>, ..)`, where both are any names.
+    fn formatting(&mut self) -> Result<(), Refused> {
+        let end = self.find(b')', self.at, "a signature without an end")?;
+        let parts = self.slice(self.at, end).split_once("<W: fmt::Write>(");
+        match parts.and_then(|(name, rest)| Some((name, rest.split_once("fmt::Formatter<W>")?))) {
+            Some((name, (before, after))) if !after.contains('W') => {
+                self.put(&format!("{name}({before}fmt::Formatter<'_>{after}"), end);
+            }
+            _ => return self.refuse("a writer of texts without a Formatter of it"),
+        }
+        Ok(())
+    }
+
+    /// `to_ascii_lowercase`, which is written otherwise where it has a parameter.
+    fn lowercase(&mut self, end: usize) {
+        let rest = self.text.get(end..).unwrap_or_default();
+        if rest.starts_with(b"(") && !rest.starts_with(b"()") {
+            self.words.insert(LOWERCASE_IN);
+            self.put(LOWERCASE_IN, end);
+        } else {
+            self.copy_word(end);
+        }
     }
 
     /// `fn main(rt: HostRuntime) -> ExitCode {`, where `rt` is any name.
@@ -468,6 +554,8 @@ impl<'a> Eraser<'a> {
             "pub" | "mod" => self.module(end),
             "use" => self.usage(end),
             "fn" => self.function(end)?,
+            "to_ascii_lowercase" => self.lowercase(end),
+            word if self.laws.contains(word) => self.law(end)?,
             word if RATTLE_WORDS.contains(&word) => {
                 return self.refuse(format!("the word '{word}' where no rule takes it away"));
             }
@@ -837,10 +925,33 @@ mod tests {
     }
 
     #[test]
+    fn laws_of_other_crates_go() {
+        leaves(
+            "use a::laws::law;\nuse b::C;\nfn f() {\n    law();\n    // one\n    let a = 1;\n}\n",
+            "use b::C;\nfn f() {\n    // one\n    let a = 1;\n}\n",
+        );
+        refuses("use a::laws::law;\nfn f() {\n    law(b)\n}\n", "law(b)");
+        refuses(
+            "use a::laws::law;\nfn f() {\n    let b = law();\n}\n",
+            "law();",
+        );
+        stays("use a::laws::{one, other};\nfn law() {}\n");
+    }
+
+    #[test]
     fn signatures() {
         leaves(
             "    fn fmt<W: fmt::Write>(&self, out: &mut fmt::Formatter<W>) -> fmt::Result {\n",
             "    fn fmt(&self, out: &mut fmt::Formatter<'_>) -> fmt::Result {\n",
+        );
+        leaves(
+            "fn write<W: fmt::Write>(f: &mut fmt::Formatter<W>, text: &[u8]) -> fmt::Result {}\n",
+            "fn write(f: &mut fmt::Formatter<'_>, text: &[u8]) -> fmt::Result {}\n",
+        );
+        refuses("fn write<W: fmt::Write>(f: &mut W) {}\n", "fn write");
+        refuses(
+            "fn write<W: fmt::Write>(f: &mut fmt::Formatter<W>, to: &mut W) {}\n",
+            "fn write",
         );
         let program = erased(
             "//! P.\nfn main(rt: HostRuntime) -> ExitCode {\n    f(&rt)\n}\n",
@@ -863,6 +974,11 @@ mod tests {
             "fn f() -> Vec<u8> {}\n",
             "use std::prelude::*;\n\nfn f() -> Vec<u8> {}\n",
         );
+        leaves(
+            "fn f() { read.to_ascii_lowercase(alloc) }\n",
+            "use std::prelude::*;\n\nfn f() { read.to_ascii_lowercase_in(alloc) }\n",
+        );
+        stays("fn f() { b'A'.to_ascii_lowercase() }\n");
         leaves(
             "fn f() { println!(rt; \"\"); }\n",
             "use std::println;\n\nfn f() { println!(rt; \"\"); }\n",

@@ -740,10 +740,7 @@ def test_logs(count):
 
 
 def test_svg(count):
-    awk = TOP / "examples" / "tools" / "svg.awk"
-    if not awk.exists():
-        print("skipped: svg.awk isn't here")
-        return
+    awk = TOP / "tests" / "svg.awk"
     for number in range(count):
         chance = random.Random(SEED + number)
         place = lambda: chance.choice((chance.randrange(2097152), 0, 2097151, 1048576))

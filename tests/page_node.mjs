@@ -221,7 +221,7 @@ function testDrafts() {
       .filter((name) => name.endsWith('.draft')).map((name) => `${top}examples/frames/${name}`));
   for (const file of cases) {
     const text = splitRom(readFileSync(file, 'utf8')).draft;
-    const awk = spawnSync('awk', ['-f', `${top}examples/tools/labels.awk`], { input: text });
+    const awk = spawnSync('awk', ['-f', `${top}tests/labels.awk`], { input: text });
     const plain = plainDraft(text);
     expect(`${file}: a fault is told`, awk.status !== 0, plain.fault !== null);
     if (awk.status !== 0) {

@@ -34,8 +34,10 @@ def words(text):
     return cut(text)[0]
 
 
-# The signature of Display::fmt, as far as it is written otherwise.
-GENERIC_FMT = words("fn fmt<W: fmt::Write>")
+# What is written otherwise of the signature of Display::fmt, and of what its Formatter is handed to.
+GENERIC = words("<W: fmt::Write>")
+FORMATTER, PLAIN_FORMATTER = words("fmt::Formatter<W>"), words("fmt::Formatter<'_>")
+LOWERCASE = words(".to_ascii_lowercase(")
 
 
 class Source:
@@ -45,6 +47,7 @@ class Source:
         self.tokens = tokens
         self.at = 0
         self.left = []
+        self.laws = set()
 
     def next_is(self, *wanted):
         return self.tokens[self.at : self.at + len(wanted)] == list(wanted)
@@ -97,7 +100,20 @@ class Source:
         if self.next_is("pub", "use"):
             crate = self.tokens[self.at + 2]
             lines.append(f"pub use {crate}::laws;")
+        if self.next_is("use") and self.tokens[self.at + 4 : self.at + 7] == words("laws::"):
+            crate, law = self.tokens[self.at + 1], self.tokens[self.at + 7]
+            self.laws.add(law)
+            lines.append(f"use {crate}::laws::{law};")
+        lines += [f"{law}();" for law in self.laws]
         return next((line for line in map(words, lines) if self.next_is(*line)), None)
+
+    def formatting(self):
+        """A signature up to its bracket's end."""
+        end = self.until(")")
+        fields = " ".join(self.tokens[self.at + 2 + len(GENERIC) : end])
+        plain = fields.replace(" ".join(FORMATTER), " ".join(PLAIN_FORMATTER))
+        self.left += [*self.tokens[self.at : self.at + 2], *plain.split()]
+        self.at = end
 
     def step(self):
         line = self.skipped_line()
@@ -109,11 +125,11 @@ class Source:
             self.left += self.attribute()
         elif line:
             self.at += len(line)
-        elif self.next_is(*GENERIC_FMT):
-            end = self.until(")")
-            fields = self.tokens[self.at + len(GENERIC_FMT) : end - len(words("<W>"))]
-            self.left += [*words("fn fmt"), *fields, *words("<'_>")]
-            self.at = end
+        elif self.next_is("fn") and self.tokens[self.at + 2 :][: len(GENERIC)] == GENERIC:
+            self.formatting()
+        elif self.next_is(*LOWERCASE) and self.tokens[self.at + len(LOWERCASE)] != ")":
+            self.left += words(".to_ascii_lowercase_in(")
+            self.at += len(LOWERCASE)
         elif self.next_is(*words("fn main(")):
             self.left += words("fn main()")
             self.at = self.until(")") + 1

@@ -381,8 +381,5 @@ first_objects:
 
 .include "tables.inc"
 
-.segment "SHAPES"
-.include "shapes.inc"
-
 .segment "VECTORS"
         .word nmi, reset, irq

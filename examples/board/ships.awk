@@ -1,5 +1,6 @@
-# Writes the ship's outline in 16 directions, as board/outline.awk reads it.
+# Writes the ship's outline in 16 directions, for the vector ROM.
 BEGIN {
+    print ".rom"
     points = split("28,0 -20,16 -12,0 -20,-16 28,0", point, " ")
     for (turn = 0; turn < 16; turn++) {
         angle = turn * atan2(0, -1) / 8

@@ -1,6 +1,7 @@
-# Writes the draft of one of 16 title pictures: awk -v turn=0..15 -f titles.awk
-# The letters are a part of the frame, which is called twice, once half as large.
-BEGIN {
+# Writes 16 title pictures. Their letters are a part of each frame, which calls them twice, once half
+# as large.
+function write(turn) {
+    print ".frame title_" turn
     print "labs 340 500 0"
     print "call letters"
     print "labs 420 300 15"
@@ -17,4 +18,9 @@ BEGIN {
     print "vctr 9 -624 0 5"
     print "vctr 9 0 -600 5"
     print "halt"
+    print "letters: 0,120 60,120 90,90 90,30 60,0 0,0"
+    print "    @130,120 170,0 210,120"
+    print "    @340,120 260,120 260,0 340,0 340,60 300,60"
 }
+
+BEGIN { for (turn = 0; turn < 16; turn++) write(turn) }

@@ -13,9 +13,9 @@ function takeApart(line) {
   return { names, parts: rest.split(' ').filter((part) => part !== '') };
 }
 
-/* A draft with names as `dvg check` reads it: what examples/tools/labels.awk does, but comments go,
- * too. It tells the first fault with its line, counted from 1, and at which line each operation
- * stands. Lines of a ROM stand in an editor of their own. */
+/* A draft with names as `dvg check` reads it: what tests/labels.awk does, but comments go, too. It
+ * tells the first fault with its line, counted from 1, and at which line each operation stands.
+ * Lines of a ROM stand in an editor of their own. */
 export function plainDraft(text) {
   const numberOf = new Map(), lineOf = [];
   let fault = null;

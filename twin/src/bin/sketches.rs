@@ -129,7 +129,10 @@ fn show(seed: u64, mistaken: bool) -> io::Result<()> {
     io::stdout().write_all(&text)
 }
 
-/// What the program is asked: those questions whose command it has.
+/// What a program may lack. Each other question is asked.
+const MAY_LACK: &str = "draw";
+
+/// What the program is asked.
 fn asked(program: Option<&Path>) -> io::Result<Option<Asked<'_>>> {
     let Some(program) = program else {
         println!("skipped: no program is asked beside the twin");
@@ -138,7 +141,7 @@ fn asked(program: Option<&Path>) -> io::Result<Option<Asked<'_>>> {
     let mut questions = Vec::new();
     for question in &QUESTIONS {
         let words = question.0;
-        if ask(program, words, b".rom\n")?.status == Some(0) {
+        if words[0] != MAY_LACK || ask(program, words, b".rom\n")?.status == Some(0) {
             questions.push(question);
         } else {
             let words = words.join(" ");

@@ -114,6 +114,20 @@ impl<T: ?Sized, A> DerefMut for Box<T, A> {
     }
 }
 
+/// Texts in small letters. Rust's slices have `to_ascii_lowercase`, which is handed no allocator.
+pub trait Lowercase {
+    /// The same text with small letters in place of capitals.
+    fn to_ascii_lowercase_in<A>(&self, alloc: A) -> Result<Vec<u8, A>, AllocError>;
+}
+
+impl Lowercase for [u8] {
+    fn to_ascii_lowercase_in<A>(&self, alloc: A) -> Result<Vec<u8, A>, AllocError> {
+        let mut made = Vec::from_slice(alloc, self)?;
+        made.make_ascii_lowercase();
+        Ok(made)
+    }
+}
+
 /// A vector.
 #[derive(Debug, PartialEq, Eq)]
 pub struct Vec<T, A = Global> {
@@ -183,6 +197,13 @@ impl<T, A> Vec<T, A> {
 }
 
 impl<T: Copy, A> Vec<T, A> {
+    /// A vector of these elements.
+    pub fn from_slice(alloc: A, items: &[T]) -> Result<Vec<T, A>, AllocError> {
+        let mut made = Vec::with_capacity(alloc, items.len())?;
+        made.items.extend_from_slice(items);
+        Ok(made)
+    }
+
     /// These elements more.
     pub fn extend_from_slice(&mut self, items: &[T]) -> Result<(), AllocError> {
         self.reserve(items.len())?;

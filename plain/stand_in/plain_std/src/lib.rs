@@ -18,7 +18,7 @@ pub mod io;
 #[cfg(feature = "program")]
 pub mod runtime;
 
-pub use core::{convert, fmt, iter, marker, mem};
+pub use core::{convert, fmt, iter, marker, mem, slice};
 #[cfg(feature = "program")]
 pub use host::process;
 #[cfg(feature = "program")]
@@ -26,7 +26,7 @@ pub use runtime::env;
 
 /// The names that each Rattle source has without a `use`.
 pub mod prelude {
-    pub use crate::alloc::{Box, Clone, Drop, Vec};
+    pub use crate::alloc::{Box, Clone, Drop, Lowercase, Vec};
     #[cfg(feature = "program")]
     pub use crate::runtime::HostRuntime;
     pub use heap::string::String;

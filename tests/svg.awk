@@ -1,5 +1,5 @@
 # Reads what `dvg play`, `dvg play --all` or `dvg picture` writes, and writes one of its pictures as
-# SVG. This is unproved.
+# SVG. Tests ask it beside `svg` of the module for Python. This is unproved.
 #
 #     ./dvg play <TRACE | awk -f svg.awk >PICTURE.svg
 #

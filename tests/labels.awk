@@ -1,4 +1,5 @@
-# Reads a draft with names, and writes it as `dvg check` reads it. This is unproved.
+# Reads a draft with names, as the page's editors do, and writes it as `dvg check` reads it. Tests
+# ask it beside the page and beside `dvg lay`. This is unproved.
 #
 #     awk -f labels.awk <DRAFT_WITH_NAMES >DRAFT
 #
