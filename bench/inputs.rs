@@ -375,35 +375,31 @@ pub fn sketch_of_names() -> Vec<u8> {
 /// The most bytes of a sketch.
 const MOST_SKETCH_BYTES: usize = 1_048_576;
 
-/// Lines of six bytes that give a name each, of so many bytes, and the last of the names. No name
-/// is given twice: each is the one before it, counted on by one.
-fn lines_of_names(bytes: usize) -> (String, String) {
+/// Lines of six bytes that give a name each, of so many bytes. No name is given twice: each is the
+/// one before it, counted on by one.
+fn lines_of_names(bytes: usize) -> String {
     let digits: Vec<char> = ('a'..='z').chain('0'..='9').chain(['_']).collect();
     let name = |number: usize| -> String {
         let places = [37 * 37 * 37, 37 * 37, 37, 1].iter();
         places.map(|place| digits[number / place % 37]).collect()
     };
-    let count = bytes / 6;
-    let text = (0..count).map(|number| name(number) + ":\n").collect();
-    (text, name(count - 1))
+    (0..bytes / 6).map(|number| name(number) + ":\n").collect()
 }
 
 /// The text of a sketch of 1 MiB that gives as many names in one frame as have room.
 pub fn names_alone() -> Vec<u8> {
     let (before, after) = ("labs 0 0 0\n", "halt\n");
     let room = MOST_SKETCH_BYTES - before.len() - after.len();
-    [before, &lines_of_names(room).0, after]
-        .concat()
-        .into_bytes()
+    [before, &lines_of_names(room), after].concat().into_bytes()
 }
 
-/// The text of a sketch of 1 MiB that gives names in its ROM with so many bytes of it, and calls
-/// the last of them with all others.
-pub fn names_called(bytes: usize) -> Vec<u8> {
-    let (names, last) = lines_of_names(bytes);
-    let call = format!("callrom {last}\n");
-    let mut text = format!(".rom\n{names}return\n");
-    let frame = format!(".frame\nlabs 0 0 0\n{}halt\n", call.repeat(508));
+/// The text of a sketch of 1 MiB that gives so many names in its ROM, and calls the last of them
+/// as often as there is room for.
+pub fn names_called(count: usize) -> Vec<u8> {
+    let names = lines_of_names(6 * (count - 1));
+    let mut text = format!(".rom\n{names}z:\nreturn\n");
+    let calls = "callrom z\n".repeat(508);
+    let frame = format!(".frame\nlabs 0 0 0\n{calls}halt\n");
     while text.len() + frame.len() <= MOST_SKETCH_BYTES {
         text += &frame;
     }

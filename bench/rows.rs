@@ -209,8 +209,8 @@ pub const SKETCH_ROWS: &[Row] = &[
 /// is read once.
 pub const NAME_ROWS: &[Row] = &[
     row("lay, 174,760 names in a frame", &["lay"], names_alone).against(Against::Plain),
-    row("lay, 113,333 names in the ROM, and calls", &["lay"], || {
-        names_called(680_000)
+    row("lay, 105,000 names in the ROM, and calls", &["lay"], || {
+        names_called(105_000)
     })
     .against(Against::Plain),
 ];
