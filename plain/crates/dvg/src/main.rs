@@ -8,6 +8,7 @@ use std::{eprint, eprintln};
 use clap::Error;
 use clap::error::ErrorKind;
 use dvg_tool::{Done, Job, ToolFault, Watched, finish, job, perform, status, words_status};
+use std::alloc::Global;
 use std::io::{BufWriter, Write};
 use std::process::ExitCode;
 use std::{env, io};
@@ -47,7 +48,7 @@ fn answer_words(rt: &HostRuntime, error: &Error) -> u8 {
         ErrorKind::DisplayHelp | ErrorKind::DisplayVersion => {
             if help(rt, error).is_err() {
                 complain(rt, ToolFault::Writer);
-                return status(&Err(ToolFault::Writer));
+                return status::<Global>(&Err(ToolFault::Writer));
             }
         }
         ErrorKind::OutOfMemory => complain(rt, ToolFault::Memory),
@@ -59,7 +60,7 @@ fn answer_words(rt: &HostRuntime, error: &Error) -> u8 {
 }
 
 /// Does a job from standard input to standard output.
-fn run(rt: &HostRuntime, job: Job) -> Result<Done, ToolFault> {
+fn run(rt: &HostRuntime, job: Job) -> Result<Done<Global>, ToolFault> {
     let Ok(output) = BufWriter::new(rt.alloc(), io::writer(rt)) else {
         return Err(ToolFault::Memory);
     };
@@ -76,11 +77,15 @@ fn do_words(rt: &HostRuntime, words: &[String]) -> u8 {
         Err(error) => return answer_words(rt, &error),
     };
     let answer = run(rt, job);
-    if let Ok(Done::DrewSvg(Some(undrawn))) = &answer {
-        let _ = eprintln!(rt; "dvg: {undrawn}");
-    }
-    if let Err(fault) = &answer {
-        complain(rt, *fault);
+    match &answer {
+        Ok(Done::Refused(refusal)) => {
+            let _ = eprintln!(rt; "dvg: {refusal}");
+        }
+        Ok(Done::DrewSvg(Some(undrawn))) => {
+            let _ = eprintln!(rt; "dvg: {undrawn}");
+        }
+        Ok(_) => {}
+        Err(fault) => complain(rt, *fault),
     }
     status(&answer)
 }
@@ -89,7 +94,7 @@ fn do_words(rt: &HostRuntime, words: &[String]) -> u8 {
 fn refuse_words(rt: &HostRuntime, error: &io::Error) -> u8 {
     if error.kind() == io::ErrorKind::OutOfMemory {
         complain(rt, ToolFault::Memory);
-        return status(&Err(ToolFault::Memory));
+        return status::<Global>(&Err(ToolFault::Memory));
     }
     let _ = eprintln!(rt; "dvg: the words are no text");
     MISUSE

@@ -20,7 +20,7 @@ pub enum DumpFault {
     OutOfMemory,
 }
 
-/// A dump of vector memory: the 2,048 bytes of the RAM, and behind them the 2,048 or 4,096 bytes of
+/// A dump of vector memory: the 2,048 bytes of the RAM, and after them the 2,048 or 4,096 bytes of
 /// the ROM.
 pub struct Dump<A: Allocator = Global> {
     pub(crate) alloc: A,
@@ -29,6 +29,11 @@ pub struct Dump<A: Allocator = Global> {
 }
 
 impl<A: Allocator + Copy> Dump<A> {
+    /// The dump of a RAM and a ROM. What a run takes later is of this allocator.
+    pub fn of(alloc: A, ram: Flat<A>, rom: Rom<A>) -> Dump<A> {
+        Dump { alloc, ram, rom }
+    }
+
     /// The dump of these bytes: the RAM's from address 000 on, and then the ROM's. It is refused as
     /// `Size` exactly where they are neither 4,096 nor 6,144. What a run takes later is of this
     /// allocator, too.

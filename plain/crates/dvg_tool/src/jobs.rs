@@ -6,12 +6,14 @@ use crate::outcome::Done;
 use crate::plays::{play, play_in};
 use crate::plays_svg::{play_svg, play_svg_in};
 use crate::roms::rom_text;
+use dvg_draw::{Drawn, check_sketch, draw_sketch};
 use dvg_io::{ToolFault, Watched};
+use dvg_lay::{Form, Laid, lay_sketch};
 use dvg_logs::torn;
-use dvg_mem::Banked;
+use dvg_mem::{Banked, Half};
 use dvg_picture::{picture, picture_svg};
 use dvg_svg::Show;
-use dvg_words::Job;
+use dvg_words::{Job, LayForm};
 use std::alloc::Allocator;
 use std::io::{Read, Write};
 
@@ -21,7 +23,7 @@ fn picture_shown<A: Allocator + Copy, R: Read, W: Write>(
     reader: &mut Watched<R>,
     writer: &mut Watched<W>,
     percent: u16,
-) -> Result<Done, ToolFault> {
+) -> Result<Done<A>, ToolFault> {
     match picture_svg(alloc, reader, writer, percent) {
         Ok(undrawn) => Ok(Done::DrewSvg(undrawn)),
         Err(fault) => Err(fault),
@@ -43,25 +45,99 @@ fn play_shown<A: Allocator + Copy, R: Read, W: Write>(
     }
 }
 
+// The form that is asked for, as `dvg_lay` has it.
+fn form_of(form: LayForm) -> Form {
+    match form {
+        LayForm::Half0 => Form::Bytes(Half::H0),
+        LayForm::Half1 => Form::Bytes(Half::H1),
+        LayForm::Table => Form::Tables,
+        LayForm::Rom => Form::RomBytes,
+        LayForm::Equates => Form::RomNames,
+    }
+}
+
+// What is told of what came of laying a sketch out.
+fn told<A: Allocator>(laid: Laid<A>) -> Done<A> {
+    match laid {
+        Laid::Text(_) => Done::Written,
+        Laid::Refused(refusal) => Done::Refused(refusal),
+    }
+}
+
+// Does the job `lay`.
+fn lay_told<A: Allocator + Copy, R: Read, W: Write>(
+    alloc: A,
+    reader: &mut Watched<R>,
+    writer: &mut Watched<W>,
+    form: LayForm,
+) -> Result<Done<A>, ToolFault> {
+    match lay_sketch(alloc, reader, writer, form_of(form)) {
+        Ok(laid) => Ok(told(laid)),
+        Err(fault) => Err(fault),
+    }
+}
+
+// What is told of what came of drawing a sketch.
+fn told_drawn<A: Allocator>(drawn: Drawn<A>) -> Done<A> {
+    match drawn {
+        Drawn::Pictures(_) => Done::Written,
+        Drawn::Refused(refusal) => Done::Refused(refusal),
+    }
+}
+
+// Does the job `draw`.
+fn draw_told<A: Allocator + Copy, R: Read, W: Write>(
+    alloc: A,
+    reader: &mut Watched<R>,
+    writer: &mut Watched<W>,
+    show: Show,
+) -> Result<Done<A>, ToolFault> {
+    match draw_sketch(alloc, reader, writer, show) {
+        Ok(drawn) => Ok(told_drawn(drawn)),
+        Err(fault) => Err(fault),
+    }
+}
+
+// Does the job `draw --check`.
+fn check_told<A: Allocator + Copy, R: Read, W: Write>(
+    alloc: A,
+    reader: &mut Watched<R>,
+    writer: &mut Watched<W>,
+) -> Result<Done<A>, ToolFault> {
+    match check_sketch(alloc, reader, writer) {
+        Ok(said) => Ok(Done::CheckedFrames {
+            good: said.is_good(),
+        }),
+        Err(fault) => Err(fault),
+    }
+}
+
 /// Does a job by its engine: `list` or `list_at`, `rom_text`, `picture` or `picture_svg`,
 /// `check_text` or `check_bound`, `play` or `play_svg`, or `play_in` or `play_svg_in` over the store
-/// `Banked`, or `torn`; and tells what `picture`, `picture_svg`, a check and `torn` have to tell.
+/// `Banked`, `torn`, `draw_sketch`, `check_sketch` or `lay_sketch`; and tells what `picture`,
+/// `picture_svg`, a check, `torn` and a sketch that is refused have to tell.
 pub fn perform<A: Allocator + Copy, R: Read, W: Write>(
     alloc: A,
     job: Job,
     reader: &mut Watched<R>,
     writer: &mut Watched<W>,
-) -> Result<Done, ToolFault> {
+) -> Result<Done<A>, ToolFault> {
     match job {
         Job::List => list(alloc, reader, writer).map(|()| Done::Written),
         Job::ListAt { address } => {
             list_at(alloc, reader, writer, address).map(|()| Done::Written)
         }
         Job::Rom => rom_text(alloc, reader, writer).map(|()| Done::Written),
-        Job::Picture { all } => picture(alloc, reader, writer, all).map(Done::Drew),
+        Job::Picture { all } => picture(alloc, reader, writer, all).map(|outcome| Done::Drew(
+            outcome,
+        )),
         Job::PictureSvg { percent } => picture_shown(alloc, reader, writer, percent),
-        Job::Check { bound: false } => check_text(alloc, reader, writer).map(Done::Judged),
-        Job::Check { bound: true } => check_bound(alloc, reader, writer).map(Done::Bounded),
+        Job::Check { bound: false } => check_text(alloc, reader, writer).map(|verdict| Done::Judged(
+            verdict,
+        )),
+        Job::Check { bound: true } => check_bound(alloc, reader, writer).map(
+            |verdict| Done::Bounded(verdict),
+        ),
         Job::Play { all, banked: false } => play(alloc, reader, writer, all).map(
             |()| Done::Written,
         ),
@@ -76,6 +152,9 @@ pub fn perform<A: Allocator + Copy, R: Read, W: Write>(
             let show = Show { percent, rate };
             play_shown(alloc, reader, writer, banked, show).map(|()| Done::Written)
         }
-        Job::Torn => torn(reader, writer).map(Done::Searched),
+        Job::Torn => torn(reader, writer).map(|verdict| Done::Searched(verdict)),
+        Job::Draw { percent, rate } => { draw_told(alloc, reader, writer, Show { percent, rate }) }
+        Job::DrawCheck => check_told(alloc, reader, writer),
+        Job::Lay { form } => lay_told(alloc, reader, writer, form),
     }
 }

@@ -1,13 +1,15 @@
 //! How the program ends.
 use dvg_io::{ToolFault, Watched};
+use dvg_lay::Refusal;
 use dvg_lines::{BoundedVerdict, Verdict};
 use dvg_logs::{LogFinding, LogVerdict};
 use dvg_picture::{Outcome, Undrawn};
+use std::alloc::{Allocator, Global};
 use std::io::Write;
 
 /// What an engine that is done has to tell.
-#[derive(Clone, Copy, Debug, PartialEq, Eq)]
-pub enum Done {
+#[derive(Debug, PartialEq, Eq)]
+pub enum Done<A: Allocator = Global> {
     /// The text was written.
     Written,
     /// This was said of a draft, and the line of it was written.
@@ -21,14 +23,21 @@ pub enum Done {
     DrewSvg(Option<Undrawn>),
     /// This was said of a log, and the text of it was written.
     Searched(LogVerdict),
+    /// A frame of a sketch is refused, and nothing was written.
+    Refused(Refusal<A>),
+    /// What the check says of the frames of a sketch was written, and whether it accepts all.
+    CheckedFrames {
+        /// Whether it does.
+        good: bool,
+    },
 }
 
 /// Flushes the writer of an engine that is done. A flush that fails is `Writer`, whatever the
 /// engine answered; else the engine's answer stays.
-pub fn finish<W: Write>(
-    answer: Result<Done, ToolFault>,
+pub fn finish<A: Allocator, W: Write>(
+    answer: Result<Done<A>, ToolFault>,
     writer: &mut Watched<W>,
-) -> Result<Done, ToolFault> {
+) -> Result<Done<A>, ToolFault> {
     match writer.flush() {
         Ok(()) => answer,
         Err(_) => Err(ToolFault::Writer),
@@ -36,10 +45,10 @@ pub fn finish<W: Write>(
 }
 
 /// The program's exit status: 0 where the job is done, 1 for a fault of the text, and where what
-/// was asked about isn't good: a draft that `check` refuses, a dump that draws no picture, a log
-/// with a torn picture or of which no run drew; 2 for a device that failed or want of memory; words
+/// was asked about isn't good: a draft that `check` refuses, also in a sketch, a dump that draws no
+/// picture, a log with a torn picture or of which no run drew; 2 for a device that failed or want of memory; words
 /// that ask for no job are 64, which is not an answer of an engine (this project's own choice).
-pub fn status(answer: &Result<Done, ToolFault>) -> u8 {
+pub fn status<A: Allocator>(answer: &Result<Done<A>, ToolFault>) -> u8 {
     match answer {
         Ok(
             Done::Written
@@ -47,6 +56,7 @@ pub fn status(answer: &Result<Done, ToolFault>) -> u8 {
             | Done::Bounded(BoundedVerdict::Good { .. })
             | Done::Drew(Outcome::Picture)
             | Done::DrewSvg(None)
+            | Done::CheckedFrames { good: true }
             | Done::Searched(
                 LogVerdict {
                     finding: LogFinding::NotTorn,
@@ -64,7 +74,9 @@ pub fn status(answer: &Result<Done, ToolFault>) -> u8 {
                     finding: LogFinding::NoRunDrew | LogFinding::Torn { .. },
                     ..
                 },
-            ),
+            )
+            | Done::Refused(_)
+            | Done::CheckedFrames { good: false },
         )
         | Err(ToolFault::Text(_)) => 1,
         Err(ToolFault::Reader | ToolFault::Writer | ToolFault::Memory) => 2,

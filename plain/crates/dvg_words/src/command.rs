@@ -102,6 +102,29 @@ fn play_command<'a>(alloc: Global) -> Result<Command<'a>, AllocError> {
     showing(alloc, with_svg)
 }
 
+// The subcommand `draw`.
+fn draw_command<'a>(alloc: Global) -> Result<Command<'a>, AllocError> {
+    let about = "Draw the frames of a sketch";
+    let draw = helped(alloc, "draw", about, help::DRAW_USAGE, help::DRAW);
+    let check = "Say of each frame whether it may be drawn, and draw none";
+    let with_check = with_flag(alloc, draw, "check", check)?;
+    showing(alloc, with_check)
+}
+
+// The subcommand `lay`.
+fn lay_command<'a>(alloc: Global) -> Result<Command<'a>, AllocError> {
+    let about = "Lay out the frames of a sketch";
+    let lay = helped(alloc, "lay", about, help::LAY_USAGE, help::LAY);
+    let half = "Write the frames as they lie in this half [default: 0]";
+    let with_half = with_value(alloc, lay, "half", "0|1", half)?;
+    let table = "Write the frames as text for the assembler ca65";
+    let with_table = with_flag(alloc, with_half, "table", table)?;
+    let rom = "Write the bytes of the ROM";
+    let with_rom = with_flag(alloc, with_table, "rom", rom)?;
+    let equates = "Write the names of the ROM with their addresses";
+    with_flag(alloc, with_rom, "equates", equates)
+}
+
 // The program without its subcommands.
 fn program<'a>(alloc: Global) -> Command<'a> {
     let about = "List, check, draw and play display lists of the Digital Vector Generator (DVG)";
@@ -126,5 +149,7 @@ pub(crate) fn command<'a>(alloc: Global) -> Result<Command<'a>, AllocError> {
     let with_picture = with_part(with_rom, picture_command(alloc)?)?;
     let with_check = with_part(with_picture, check_command(alloc)?)?;
     let with_play = with_part(with_check, play_command(alloc)?)?;
-    with_part(with_play, torn)
+    let with_torn = with_part(with_play, torn)?;
+    let with_draw = with_part(with_torn, draw_command(alloc)?)?;
+    with_part(with_draw, lay_command(alloc)?)
 }

@@ -1,4 +1,4 @@
-//! What the options of `list`, `picture` and `play` ask for. That some exclude each other,
+//! What the options of `list`, `picture`, `play` and `draw` ask for. That some exclude each other,
 //! and which values they take, is this project's own choice.
 use crate::options::{Shown, address_in, is_given, is_set, read_shown};
 use crate::task::Job;
@@ -71,5 +71,20 @@ pub(crate) fn play_job(found: &ArgMatches) -> Result<Job, ErrorKind> {
     Ok(Job::Play {
         all: is_set(found, "all"),
         banked,
+    })
+}
+
+/// What the options of `draw` ask for. They are refused where a size or a rate is none
+/// (`InvalidValue`), also beside `--check`, of which they say nothing.
+pub(crate) fn draw_job(found: &ArgMatches) -> Result<Job, ErrorKind> {
+    let Some(shown) = read_shown(found) else {
+        return Err(ErrorKind::InvalidValue);
+    };
+    if is_set(found, "check") {
+        return Ok(Job::DrawCheck);
+    }
+    Ok(Job::Draw {
+        percent: shown.percent,
+        rate: shown.rate,
     })
 }

@@ -17,7 +17,8 @@ A fault of the input is printed on standard error, after `dvg: `.
 Exit status:
    0  done, or a help text or the version that was asked for
    1  a fault of the input, or what was asked about isn't good: a draft that may
-      not be drawn, a dump that draws no picture, a log with a torn picture
+      not be drawn, also in a sketch, a dump that draws no picture, a log with a
+      torn picture
    2  a failing read or write, or out of memory
   64  arguments that ask for nothing the program can do: a file is no argument,
       it is read by `<`
@@ -246,3 +247,100 @@ Example:
   so far: 1 runs, 0 halted, 1 writes
   $ printf 'started\\nfetched 000 E201\\nhalted\\nwrote 402 90\\n' | dvg torn
   not torn: 1 runs, 1 halted, 1 writes";
+
+/// How `draw` is called.
+pub(crate) const DRAW_USAGE: &str = "dvg draw [--check] [--scale N] [--rate N] < SKETCH";
+
+/// The input and output of `draw`.
+pub(crate) const DRAW: &str =
+    "Standard input: a sketch as text, at most 1,048,576 bytes, with the operations of
+its ROM and of its frames; `dvg help lay` tells it. A draft is a sketch, too.
+
+Standard output: one SVG, in which the frames are shown in turn, and then from the
+first one again. At 100 percent a screen unit is a pixel.
+
+With `--check` it is a line for each frame instead, as `dvg check --bound` writes
+it of a draft, after the frame's name and a colon, if it has one. A size and a rate
+then say nothing. The status is 1 where a frame may not be drawn.
+
+Without `--check` nothing is written of a sketch with such a frame: standard error
+tells the line at fault, or the word of the ROM and the name before it, with the
+fault, and the status is 1.
+
+Faults of the text: those that `dvg help lay` tells.
+
+Example:
+  $ printf 'labs 512 400 0\\nvctr 9 -100 100 7\\nhalt\\n' | dvg draw --check
+  ok 5 words 6 fetches
+  $ printf 'labs 512 400 0\\nvctr 9 -100 100 7\\nhalt\\n' | dvg draw | grep path
+  <path d=\"M262144 204800l-51200 51200\" opacity=\".60\"/>";
+
+/// How `lay` is called.
+pub(crate) const LAY_USAGE: &str = "dvg lay [--half 0|1 | --table | --rom | --equates] < SKETCH";
+
+/// The input and output of `lay`.
+pub(crate) const LAY: &str = "Standard input: a sketch as text, at most 1,048,576 bytes: a draft, as
+`dvg help check` tells it, with names, several frames and operations of the ROM.
+
+  map N             as in a draft; such lines stand before all others
+  rom HHH HHHH ..
+  .frame [NAME]     begins a frame, which may have a name. What stands before
+                    the first `.frame` and `.rom` is a frame, too
+  .rom [HHH]        begins operations of the ROM at this word, or at the first
+                    word after all that were given; the ROM's first is 400 with
+                    `map 4096`, and else 800
+  NAME:             names the next operation; one may stand on the same line
+  labs X Y S ..     an operation as in a draft, at most 511 in a frame
+  call NAME         call an operation of the same frame, or in the ROM one of it;
+  call N            a frame may also tell its number
+  jump NAME         go on there
+  jump N
+  callrom NAME      call an operation of the ROM, or the word at an address
+  callrom HHH
+  jumprom NAME      go on there
+  jumprom HHH
+
+A name is a letter and then letters, digits and `_`, at most 32 bytes, and not
+three hexadecimal digits. Each stands once in its frame, in the ROM, or among the
+frames. Spaces and tabs part words, a `#` begins a comment, and capitals are
+small letters.
+
+Standard output, by one option at most:
+
+  --half 0|1        the bytes of each frame as it lies in this half, the low byte
+                    of each word first, one frame after the other; half 0 begins
+                    at word 001, half 1 at 201. Without an option it is half 0
+  --table           text for the assembler ca65: of each frame its name as a
+                    label, or `frame_N` with its number from 0, the number of its
+                    words, and the words of each operation as it lies in half 0
+  --rom             the 2,048 or 4,096 bytes of the ROM, where D000 is each word
+                    that the sketch doesn't give
+  --equates         a line `NAME = $HHH` for each name of the ROM: its address
+
+Nothing is written of a sketch with a frame that may not be drawn: standard error
+tells the line at fault, or the word of the ROM and the name before it, with the
+fault that `dvg check` would tell, and the status is 1. So it is with `--table`
+where a frame calls a word below 400 by `callrom`, or jumps there.
+
+Faults of the text: `too long` for more than 1,048,576 bytes, and of the first
+line at fault the first of these:
+
+  syntax at line N             it is none of these, or stands where it may not
+  name given again at line N   its name is given before
+  full at line N               it has operation 512 of its frame
+  out of rom at line N         it begins at no word of the ROM, or goes past it
+  overlap at line N            it lies on a word of another `.rom`
+  unknown name at line N       it wants a name that is nowhere given; this one
+                               comes after the faults of all other lines
+
+Lines are numbered from 1.
+
+Example:
+  $ printf 'labs 512 400 0\\nvctr 9 -100 100 7\\nhalt\\n' | dvg lay --table
+  frame_0:
+          .word 5
+          .word $A190, $0200 ; labs 512 400 0
+          .word $9064, $7464 ; vctr 9 -100 100 7
+          .word $B000 ; halt
+  $ printf '.rom 8A0\\ndash: svec 2 1 1 7\\nreturn\\n' | dvg lay --equates
+  dash = $8A0";

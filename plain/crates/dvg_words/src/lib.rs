@@ -12,6 +12,7 @@ extern crate plain_std as std;
 mod command;
 mod drawing;
 mod help;
+mod laying;
 mod misuse;
 mod options;
 mod refusal;
@@ -19,5 +20,5 @@ mod task;
 mod words;
 
 pub use refusal::words_status;
-pub use task::Job;
+pub use task::{Job, LayForm};
 pub use words::job;

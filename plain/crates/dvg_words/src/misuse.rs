@@ -12,6 +12,10 @@ fn usage_of(name: &str) -> &'static str {
         help::PICTURE_USAGE
     } else if name == "play" {
         help::PLAY_USAGE
+    } else if name == "draw" {
+        help::DRAW_USAGE
+    } else if name == "lay" {
+        help::LAY_USAGE
     } else {
         help::USAGE
     }

@@ -1,4 +1,19 @@
 //! What the program can be asked to do.
+/// What is laid out of a sketch.
+#[derive(Clone, Copy, Debug, PartialEq, Eq)]
+pub enum LayForm {
+    /// The bytes of each frame as it lies in half 0.
+    Half0,
+    /// The bytes of each frame as it lies in half 1.
+    Half1,
+    /// The words of each frame as it lies in half 0, as text for an assembler.
+    Table,
+    /// The bytes of the ROM.
+    Rom,
+    /// The names of the ROM with their word addresses.
+    Equates,
+}
+
 /// What the program is to do. A size of pictures is in percent, 10 to 400, and a rate is how many
 /// are shown a second, 1 to 60.
 #[derive(Clone, Copy, Debug, PartialEq, Eq)]
@@ -38,4 +53,15 @@ pub enum Job {
     },
     /// Say whether a log tears a picture.
     Torn,
+    /// Draw the frames of a sketch as SVG, of a size and a rate.
+    Draw {
+        percent: u16,
+        rate: u16,
+    },
+    /// Check the frames of a sketch.
+    DrawCheck,
+    /// Lay out the frames, the ROM or the names of a sketch.
+    Lay {
+        form: LayForm,
+    },
 }

@@ -1,6 +1,7 @@
 //! What the words of the program ask for.
 use crate::command::command;
-use crate::drawing::{list_job, picture_job, play_job};
+use crate::drawing::{draw_job, list_job, picture_job, play_job};
+use crate::laying::lay_job;
 use crate::misuse::misuse;
 use crate::options::is_set;
 use crate::task::Job;
@@ -33,6 +34,12 @@ fn asked(name: &str, found: &ArgMatches) -> Result<Job, ErrorKind> {
     }
     if name == "play" {
         return play_job(found);
+    }
+    if name == "draw" {
+        return draw_job(found);
+    }
+    if name == "lay" {
+        return lay_job(found);
     }
     match plain_job(name, found) {
         Some(job) => Ok(job),

@@ -1,0 +1,83 @@
+//! The engine `draw`.
+use std::prelude::*;
+
+use crate::drawn::Drawn;
+use crate::frames::draw_frames;
+use dvg_io::{DeviceFailed, Engine, ToolFault, Watched, serve};
+use dvg_lay::{Unlaid, tool_fault};
+use dvg_named::{Sketch, read_sketch};
+use dvg_svg::{Show, write_svgs};
+use dvg_text::MOST_TEXT_BYTES;
+use std::alloc::Allocator;
+use std::io::{Read, Write};
+
+// Draws a sketch that was read.
+fn draw_read<A: Allocator + Copy>(alloc: A, sketch: &Sketch<'_, A>) -> Result<Drawn<A>, ToolFault> {
+    let Ok(frames) = sketch.frames(alloc) else {
+        return Err(ToolFault::Memory);
+    };
+    match draw_frames(
+        alloc,
+        sketch.rom.as_slice(),
+        sketch.names.as_slice(),
+        frames.as_slice(),
+    ) {
+        Ok(pictures) => Ok(Drawn::Pictures(pictures)),
+        Err(Unlaid::Refused(refusal)) => Ok(Drawn::Refused(refusal)),
+        Err(Unlaid::Memory) => Err(ToolFault::Memory),
+    }
+}
+
+// The engine: it finds what comes of drawing the sketch of a text.
+struct DrawEngine {
+    show: Show,
+}
+
+impl<A: Allocator + Copy> Engine<A> for DrawEngine {
+    type Found = Drawn<A>;
+
+    const MOST: u32 = MOST_TEXT_BYTES as u32;
+
+    fn find(&self, alloc: A, read: &[u8]) -> Result<Drawn<A>, ToolFault> {
+        let Ok(small) = read.to_ascii_lowercase_in(alloc) else {
+            return Err(ToolFault::Memory);
+        };
+        match read_sketch(alloc, small.as_slice()) {
+            Ok(sketch) => draw_read(alloc, &sketch),
+            Err(fault) => Err(tool_fault(fault)),
+        }
+    }
+
+    fn write<W: Write>(
+        &self,
+        drawn: &Drawn<A>,
+        writer: &mut Watched<W>,
+    ) -> Result<(), DeviceFailed> {
+        match drawn {
+            Drawn::Pictures(pictures) => write_svgs(self.show, pictures.as_slice(), writer),
+            Drawn::Refused(_) => Ok(()),
+        }
+    }
+}
+
+/// Reads a sketch as text, which is a draft with names, of one or more frames and with operations
+/// of the ROM, and writes the pictures of its frames as one SVG, in which they are shown in turn.
+/// It answers the pictures, or why a frame is refused; of a refused one nothing is written (the
+/// formats are this project's own choice).
+///
+/// - A fault of the text: that of the first line at fault. `TooLong`, the text has more than
+///   1,048,576 bytes, of which no more than 1,048,577 are taken, comes before all others, and
+///   `UnknownName` after them.
+/// - `Reader`, `Writer`: that device failed. After `Writer` a beginning of the text went out.
+/// - `Memory`: a growth was refused.
+///
+/// Where it stops before it writes, which is at any fault but `Writer`, the writer is as it was.
+#[inline(never)]
+pub fn draw_sketch<A: Allocator + Copy, R: Read, W: Write>(
+    alloc: A,
+    reader: &mut Watched<R>,
+    writer: &mut Watched<W>,
+    show: Show,
+) -> Result<Drawn<A>, ToolFault> {
+    serve(&DrawEngine { show }, alloc, reader, writer)
+}

@@ -1,0 +1,21 @@
+//! Pictures of the frames of a sketch, as SVG, and what the check says of them (all formats are
+//! this project's own choice). Each frame is checked first, and is drawn by a run of the generator
+//! over a memory that has it. A refused one is told by its line of the sketch, or by a word of the
+//! ROM.
+#![no_std]
+
+extern crate plain_std as std;
+
+mod checks;
+mod drawn;
+mod engine;
+mod frames;
+mod memory;
+mod picture;
+mod said;
+
+pub use checks::check_sketch;
+pub use drawn::Drawn;
+pub use engine::draw_sketch;
+pub use frames::draw_frames;
+pub use said::Said;

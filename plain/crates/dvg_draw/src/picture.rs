@@ -1,0 +1,27 @@
+//! The picture of a frame.
+use std::prelude::*;
+
+use crate::memory::laid_ram;
+use dvg_code::OutOfMemory;
+use dvg_dump::{Dump, Ending};
+use dvg_frame::Frame;
+use dvg_gen::Stroke;
+use dvg_mem::{Half, Rom};
+use std::alloc::Allocator;
+
+/// The strokes of a frame's picture, by a run of the generator over a memory that has the frame. A
+/// growth may be refused.
+pub(crate) fn picture_of<A: Allocator + Copy>(
+    alloc: A,
+    rom: Rom<A>,
+    frame: &Frame,
+) -> Result<Vec<Stroke, A>, OutOfMemory> {
+    // A frame has a draft, and a ROM 2,048 or 4,096 bytes, as their types say.
+    let _ = frame.len_words();
+    let _ = rom.len_words();
+    let ram = laid_ram(alloc, frame, Half::H0)?;
+    match Dump::of(alloc, ram, rom).run()? {
+        Ending::Finished { strokes, .. } => Ok(strokes),
+        Ending::Broke { .. } | Ending::Endless => unreachable!(),
+    }
+}

@@ -1,0 +1,177 @@
+//! The check of frames, and what is told of a refused one.
+use std::prelude::*;
+
+use crate::refusal::{Blamed, Reason, Refusal, Unlaid};
+use crate::said::said;
+use dvg_frame::{Checker, Draft, Frame, FrameFault, Op, OpKind, Place};
+use dvg_mem::Rom;
+use dvg_named::{NamedFrame, RomName, Source};
+use std::alloc::{AllocError, Allocator};
+
+/// The first word address after the RAM.
+const RAM_END: u16 = 0x400;
+
+// The place that a fault names; of a fault of the whole draft it is operation 0.
+fn place_of(fault: FrameFault) -> Place {
+    match fault {
+        FrameFault::Target(i) | FrameFault::RunsOff(i) => Place::InFrame(i),
+        FrameFault::OutOfRom(place) | FrameFault::TooDeep(place) | FrameFault::NoCaller(place) =>
+            place,
+        FrameFault::Empty | FrameFault::NoLabs | FrameFault::TooLong | FrameFault::Loops =>
+            Place::InFrame(0),
+    }
+}
+
+// The line of an operation; where there is none, the line that begins the frame.
+fn line_of<'a>(frame: &NamedFrame<'a>, i: usize) -> Source<'a> {
+    match frame.sources.get(i) {
+        Some(source) => *source,
+        None => frame.begin,
+    }
+}
+
+// Whether a name stands at a word or before it, and is no farther from it than the one that was
+// found.
+fn is_nearer(found: Option<RomName>, name: &RomName, address: u16) -> bool {
+    match found {
+        Some(found) => found.address <= name.address && name.address <= address,
+        None => name.address <= address,
+    }
+}
+
+// The name that stands at a word or before it: that of the greatest address, and of such names the
+// last one.
+fn name_before<'a>(names: &[RomName<'a>], address: u16) -> Option<RomName<'a>> {
+    let mut found = None;
+    for name in names {
+        if is_nearer(found, name, address) {
+            found = Some(*name);
+        }
+    }
+    found
+}
+
+// The text of the name that stands at a word or before it.
+fn name_text<A: Allocator + Copy>(
+    alloc: A,
+    names: &[RomName],
+    address: u16,
+) -> Result<Option<Vec<u8, A>>, AllocError> {
+    match name_before(names, address) {
+        Some(found) => Ok(Some(Vec::from_slice(alloc, found.name)?)),
+        None => Ok(None),
+    }
+}
+
+// What is blamed for a fault at a place of a frame.
+fn blame<A: Allocator + Copy>(
+    alloc: A,
+    names: &[RomName],
+    frame: &NamedFrame,
+    place: Place,
+) -> Result<Blamed<A>, AllocError> {
+    match place {
+        Place::InFrame(i) => {
+            let source = line_of(frame, usize::from(i));
+            Ok(Blamed::Line {
+                number: source.number,
+                said: said(alloc, source.line)?,
+            })
+        }
+        Place::InRom(address) => Ok(Blamed::Word {
+            name: name_text(alloc, names, address)?,
+            address,
+        }),
+    }
+}
+
+// The refusal of a frame for this reason, at this place.
+fn tell<A: Allocator + Copy>(
+    alloc: A,
+    names: &[RomName],
+    frame: &NamedFrame,
+    place: Place,
+    reason: Reason,
+) -> Unlaid<A> {
+    match blame(alloc, names, frame, place) {
+        Ok(blamed) => Unlaid::Refused(Refusal { blamed, reason }),
+        Err(_) => Unlaid::Memory,
+    }
+}
+
+/// The refusal of a frame whose picture has so many words, told by the line of operation 0. Or else
+/// a growth was refused.
+pub fn tell_long<A: Allocator + Copy>(
+    alloc: A,
+    names: &[RomName],
+    frame: &NamedFrame,
+    words: u64,
+) -> Unlaid<A> {
+    tell(alloc, names, frame, Place::InFrame(0), Reason::ManyWords(words))
+}
+
+/// The frame, where the check accepts it over the ROM, and else its fault and the line or the word
+/// at fault, as `lay_bytes` tells them.
+pub fn good_frame<A: Allocator + Copy>(
+    alloc: A,
+    checker: &mut Checker,
+    rom: &Rom<A>,
+    names: &[RomName],
+    frame: &NamedFrame,
+) -> Result<Frame, Unlaid<A>> {
+    let mut draft = Draft::new();
+    draft.try_extend_from_slice(frame.ops).unwrap();
+    match checker.check(&draft, rom) {
+        Ok(checked) => Ok(checked.to_frame()),
+        Err(fault) => Err(tell(alloc, names, frame, place_of(fault), Reason::Fault(fault))),
+    }
+}
+
+/// Checks all frames: tells of the first that the check doesn't accept.
+pub(crate) fn check_all<A: Allocator + Copy>(
+    alloc: A,
+    rom: &Rom<A>,
+    names: &[RomName],
+    frames: &[NamedFrame],
+) -> Result<(), Unlaid<A>> {
+    let mut checker = Box::new(alloc, Checker::new())?;
+    for frame in frames {
+        if let Err(unlaid) = good_frame(alloc, &mut checker, rom, names, frame) {
+            return Err(unlaid);
+        }
+    }
+    Ok(())
+}
+
+// Whether what the operation names of the ROM stands from word 400 on.
+fn names_rom(op: &Op) -> bool {
+    match op.kind() {
+        OpKind::CallRom(address) | OpKind::JumpRom(address) => RAM_END <= address,
+        OpKind::Draw(_) | OpKind::Call(_) | OpKind::Jump(_) | OpKind::Return | OpKind::Halt => true,
+    }
+}
+
+// The number of the first operation that names a word of the ROM below 400.
+fn first_low(ops: &[Op]) -> Option<usize> {
+    for (i, op) in ops.iter().enumerate() {
+        if !names_rom(op) {
+            return Some(i);
+        }
+    }
+    None
+}
+
+/// Tells of the first frame with an operation that names a word of the ROM below 400.
+pub(crate) fn check_told<A: Allocator + Copy>(
+    alloc: A,
+    names: &[RomName],
+    frames: &[NamedFrame],
+) -> Result<(), Unlaid<A>> {
+    for frame in frames {
+        if let Some(i) = first_low(frame.ops) {
+            let place = Place::InFrame(i as u16);
+            return Err(tell(alloc, names, frame, place, Reason::NamesNoWord));
+        }
+    }
+    Ok(())
+}

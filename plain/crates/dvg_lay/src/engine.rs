@@ -1,0 +1,101 @@
+//! The engine `lay`.
+use std::prelude::*;
+
+use crate::form::{Form, Laid, lay};
+use dvg_io::{DeviceFailed, Engine, ToolFault, Watched, serve, write_whole};
+use dvg_mem::Rom;
+use dvg_named::{NamedFault, Sketch, SketchFault, read_sketch};
+use dvg_text::{MOST_TEXT_BYTES, TextFault};
+use std::alloc::Allocator;
+use std::io::{Read, Write};
+
+// The fault of a sketch, as one of a text.
+fn text_fault(fault: NamedFault) -> TextFault {
+    match fault {
+        NamedFault::TooLong => TextFault::TooLong,
+        NamedFault::Syntax(number) => TextFault::Syntax(number),
+        NamedFault::Twice(number) => TextFault::NameGivenAgain(number),
+        NamedFault::Full(number) => TextFault::Full(number),
+        NamedFault::OutOfRom(number) => TextFault::OutOfRom(number),
+        NamedFault::Overlap(number) => TextFault::Overlap(number),
+        NamedFault::Unknown(number) => TextFault::UnknownName(number),
+    }
+}
+
+/// Why a sketch isn't read, as a fault of the program.
+pub fn tool_fault(fault: SketchFault) -> ToolFault {
+    match fault {
+        SketchFault::Text(fault) => ToolFault::Text(text_fault(fault)),
+        SketchFault::Memory => ToolFault::Memory,
+    }
+}
+
+// Lays out a sketch that was read.
+fn lay_read<A: Allocator + Copy>(
+    alloc: A,
+    sketch: &Sketch<'_, A>,
+    form: Form,
+) -> Result<Laid<A>, ToolFault> {
+    let Ok(rom) = Rom::new(alloc, sketch.rom.as_slice()) else {
+        return Err(ToolFault::Memory);
+    };
+    let Ok(frames) = sketch.frames(alloc) else {
+        return Err(ToolFault::Memory);
+    };
+    match lay(
+        alloc,
+        &rom,
+        sketch.names.as_slice(),
+        frames.as_slice(),
+        form,
+    ) {
+        Ok(laid) => Ok(laid),
+        Err(_) => Err(ToolFault::Memory),
+    }
+}
+
+// The engine: it finds what comes of laying out the sketch of a text.
+struct LayEngine {
+    form: Form,
+}
+
+impl<A: Allocator + Copy> Engine<A> for LayEngine {
+    type Found = Laid<A>;
+
+    const MOST: u32 = MOST_TEXT_BYTES as u32;
+
+    fn find(&self, alloc: A, read: &[u8]) -> Result<Laid<A>, ToolFault> {
+        let Ok(small) = read.to_ascii_lowercase_in(alloc) else {
+            return Err(ToolFault::Memory);
+        };
+        match read_sketch(alloc, small.as_slice()) {
+            Ok(sketch) => lay_read(alloc, &sketch, self.form),
+            Err(fault) => Err(tool_fault(fault)),
+        }
+    }
+
+    fn write<W: Write>(&self, laid: &Laid<A>, writer: &mut Watched<W>) -> Result<(), DeviceFailed> {
+        write_whole(writer, laid.as_bytes())
+    }
+}
+
+/// Reads a sketch as text, which is a draft with names, of one or more frames and with operations
+/// of the ROM, and writes it as it is laid out in this form. It answers what was laid out, or why a
+/// frame is refused; of a refused one nothing is written (the format is this project's own choice).
+///
+/// - A fault of the text: that of the first line at fault. `TooLong`, the text has more than
+///   1,048,576 bytes, of which no more than 1,048,577 are taken, comes before all others, and
+///   `UnknownName` after them.
+/// - `Reader`, `Writer`: that device failed. After `Writer` a beginning of the text went out.
+/// - `Memory`: a growth was refused.
+///
+/// Where it stops before it writes, which is at any fault but `Writer`, the writer is as it was.
+#[inline(never)]
+pub fn lay_sketch<A: Allocator + Copy, R: Read, W: Write>(
+    alloc: A,
+    reader: &mut Watched<R>,
+    writer: &mut Watched<W>,
+    form: Form,
+) -> Result<Laid<A>, ToolFault> {
+    serve(&LayEngine { form }, alloc, reader, writer)
+}

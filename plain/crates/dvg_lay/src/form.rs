@@ -1,0 +1,72 @@
+//! The forms in which a sketch is laid out.
+use std::prelude::*;
+
+use crate::laying::{lay_bytes, lay_names, lay_rom, lay_tables};
+use crate::refusal::{Refusal, Unlaid};
+use dvg_code::OutOfMemory;
+use dvg_mem::{Half, Rom};
+use dvg_named::{NamedFrame, RomName};
+use std::alloc::{Allocator, Global};
+
+/// What is laid out of a sketch.
+#[derive(Clone, Copy, Debug, PartialEq, Eq)]
+pub enum Form {
+    /// The bytes of each frame as it lies in this half, as `lay_bytes` makes them.
+    Bytes(Half),
+    /// The tables of the frames, as `lay_tables` makes them.
+    Tables,
+    /// The bytes of the ROM.
+    RomBytes,
+    /// The names of the ROM, as `lay_names` makes their lines.
+    RomNames,
+}
+
+/// What came of laying a sketch out.
+#[derive(Debug)]
+pub enum Laid<A: Allocator = Global> {
+    /// What was laid out.
+    Text(Vec<u8, A>),
+    /// A frame is refused.
+    Refused(Refusal<A>),
+}
+
+impl<A: Allocator> Laid<A> {
+    /// The text that is written of it: nothing where a frame is refused.
+    pub fn as_bytes(&self) -> &[u8] {
+        match self {
+            Laid::Text(text) => text.as_slice(),
+            Laid::Refused(_) => &[],
+        }
+    }
+}
+
+// What is laid out in this form.
+fn lay_text<A: Allocator + Copy>(
+    alloc: A,
+    rom: &Rom<A>,
+    names: &[RomName],
+    frames: &[NamedFrame],
+    form: Form,
+) -> Result<Vec<u8, A>, Unlaid<A>> {
+    match form {
+        Form::Bytes(half) => lay_bytes(alloc, rom, names, frames, half),
+        Form::Tables => lay_tables(alloc, rom, names, frames),
+        Form::RomBytes => lay_rom(alloc, rom, names, frames),
+        Form::RomNames => lay_names(alloc, rom, names, frames),
+    }
+}
+
+/// Lays frames out in this form, or tells why a frame is refused. A growth may be refused, too.
+pub fn lay<A: Allocator + Copy>(
+    alloc: A,
+    rom: &Rom<A>,
+    names: &[RomName],
+    frames: &[NamedFrame],
+    form: Form,
+) -> Result<Laid<A>, OutOfMemory> {
+    match lay_text(alloc, rom, names, frames, form) {
+        Ok(text) => Ok(Laid::Text(text)),
+        Err(Unlaid::Refused(refusal)) => Ok(Laid::Refused(refusal)),
+        Err(Unlaid::Memory) => Err(OutOfMemory),
+    }
+}

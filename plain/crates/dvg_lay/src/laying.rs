@@ -1,0 +1,137 @@
+//! What is laid out of a sketch.
+use std::prelude::*;
+
+use crate::checking::{check_all, check_told, good_frame};
+use crate::names::put_names;
+use crate::refusal::Unlaid;
+use crate::table::{put_laid, put_table};
+use dvg_frame::Checker;
+use dvg_mem::{Half, Rom};
+use dvg_named::{NamedFrame, RomName};
+use std::alloc::{AllocError, Allocator};
+
+/// The word address after a ROM's last word.
+const ROM_END: u16 = 0xC00;
+
+/// The bytes of frames in order, each as it lies in a half, the low byte of each word first.
+///
+/// - `Refused`: the check refuses a frame over the ROM. The first such frame is told: its fault,
+///   and the line of the operation at fault, or the word of the ROM with the name that stands there
+///   or before it. Of a fault of the whole draft it is the line of operation 0, or else that which
+///   begins the frame.
+/// - `Memory`: a growth was refused.
+pub fn lay_bytes<A: Allocator + Copy>(
+    alloc: A,
+    rom: &Rom<A>,
+    names: &[RomName],
+    frames: &[NamedFrame],
+    half: Half,
+) -> Result<Vec<u8, A>, Unlaid<A>> {
+    let mut checker = Box::new(alloc, Checker::new())?;
+    let mut text = Vec::new(alloc);
+    for frame in frames {
+        let checked = match good_frame(alloc, &mut checker, rom, names, frame) {
+            Ok(checked) => checked,
+            Err(unlaid) => return Err(unlaid),
+        };
+        if put_laid(&mut text, checked, half).is_err() {
+            return Err(Unlaid::Memory);
+        }
+    }
+    Ok(text)
+}
+
+// The tables of frames in order, each checked over the ROM.
+fn put_tables<A: Allocator + Copy>(
+    alloc: A,
+    rom: &Rom<A>,
+    names: &[RomName],
+    frames: &[NamedFrame],
+) -> Result<Vec<u8, A>, Unlaid<A>> {
+    let mut checker = Box::new(alloc, Checker::new())?;
+    let mut text = Vec::new(alloc);
+    for (number, frame) in frames.iter().enumerate() {
+        let checked = match good_frame(alloc, &mut checker, rom, names, frame) {
+            Ok(checked) => checked,
+            Err(unlaid) => return Err(unlaid),
+        };
+        if put_table(alloc, &mut text, number, frame, checked).is_err() {
+            return Err(Unlaid::Memory);
+        }
+    }
+    Ok(text)
+}
+
+/// The tables of frames in order, as text for the assembler ca65: of each frame its name as a
+/// label, or else `frame_` and its number from 0; how many words it has; and a line for each
+/// operation, with its words as it lies in half 0, and what its line of the sketch says.
+///
+/// - `Refused`: the check refuses a frame over the ROM, as with `lay_bytes`. Or it accepts all, and
+///   an operation calls or jumps to a word of the ROM below 400, which in a table is one of the
+///   frame. The first such operation of the first such frame is told.
+/// - `Memory`: a growth was refused.
+pub fn lay_tables<A: Allocator + Copy>(
+    alloc: A,
+    rom: &Rom<A>,
+    names: &[RomName],
+    frames: &[NamedFrame],
+) -> Result<Vec<u8, A>, Unlaid<A>> {
+    let text = match put_tables(alloc, rom, names, frames) {
+        Ok(text) => text,
+        Err(unlaid) => return Err(unlaid),
+    };
+    match check_told(alloc, names, frames) {
+        Ok(()) => Ok(text),
+        Err(unlaid) => Err(unlaid),
+    }
+}
+
+/// The names of the ROM with their word addresses, a line `NAME = $HHH` for each.
+///
+/// - `Refused`: the check refuses a frame over the ROM, as with `lay_bytes`.
+/// - `Memory`: a growth was refused.
+pub fn lay_names<A: Allocator + Copy>(
+    alloc: A,
+    rom: &Rom<A>,
+    names: &[RomName],
+    frames: &[NamedFrame],
+) -> Result<Vec<u8, A>, Unlaid<A>> {
+    if let Err(unlaid) = check_all(alloc, rom, names, frames) {
+        return Err(unlaid);
+    }
+    let mut text = Vec::new(alloc);
+    match put_names(&mut text, names) {
+        Ok(()) => Ok(text),
+        Err(_) => Err(Unlaid::Memory),
+    }
+}
+
+// The bytes of the ROM.
+fn rom_bytes<A: Allocator + Copy>(alloc: A, rom: &Rom<A>) -> Result<Vec<u8, A>, AllocError> {
+    // A ROM has 2,048 or 4,096 bytes, as its type says.
+    let _ = rom.len_words();
+    let mut text = Vec::new(alloc);
+    for address in rom.first()..ROM_END {
+        text.extend_from_slice(&rom.word(address).to_le_bytes())?;
+    }
+    Ok(text)
+}
+
+/// The bytes of the ROM, 2,048 or 4,096, the low byte of each word first.
+///
+/// - `Refused`: the check refuses a frame over the ROM, as with `lay_bytes`.
+/// - `Memory`: a growth was refused.
+pub fn lay_rom<A: Allocator + Copy>(
+    alloc: A,
+    rom: &Rom<A>,
+    names: &[RomName],
+    frames: &[NamedFrame],
+) -> Result<Vec<u8, A>, Unlaid<A>> {
+    if let Err(unlaid) = check_all(alloc, rom, names, frames) {
+        return Err(unlaid);
+    }
+    match rom_bytes(alloc, rom) {
+        Ok(text) => Ok(text),
+        Err(_) => Err(Unlaid::Memory),
+    }
+}

@@ -1,0 +1,28 @@
+//! What is laid out of a sketch: the bytes of its frames as they lie in a half of the vector RAM,
+//! tables of them for an assembler, the bytes of its ROM, and the names of the ROM (all formats are
+//! this project's own choice). Each frame is checked first. A refused one is told by its line of
+//! the sketch, or by a word of the ROM.
+//!
+//! Everything is made in memory, so that it can be written whole. The engine reads the text of a
+//! sketch, and writes what is laid out of it.
+#![no_std]
+
+extern crate plain_std as std;
+
+mod checking;
+mod engine;
+mod form;
+mod laying;
+mod lent;
+mod names;
+mod refusal;
+mod said;
+mod table;
+mod text;
+
+pub use checking::{good_frame, tell_long};
+pub use engine::{lay_sketch, tool_fault};
+pub use form::{Form, Laid, lay};
+pub use laying::{lay_bytes, lay_names, lay_rom, lay_tables};
+pub use lent::are_lent;
+pub use refusal::{Blamed, Reason, Refusal, Unlaid};

@@ -1,0 +1,112 @@
+//! Frames as they lie in a half, and their tables.
+use std::prelude::*;
+
+use crate::said::put_said;
+use crate::text::{put, put_decimal, put_words};
+use dvg_code::{Code, Instr, OutOfMemory};
+use dvg_frame::{Cursor, Frame, Op, OpKind};
+use dvg_io::collect_words;
+use dvg_mem::Half;
+use dvg_named::{NamedFrame, Source};
+use std::alloc::{AllocError, Allocator};
+
+/// Appends the bytes of a frame as it lies in a half, the low byte of each word first.
+pub(crate) fn put_laid<A: Allocator>(
+    text: &mut Vec<u8, A>,
+    frame: Frame,
+    half: Half,
+) -> Result<(), AllocError> {
+    for item in Cursor::new(frame, half) {
+        text.push(item.1)?;
+    }
+    Ok(())
+}
+
+// The words of a frame as it lies in half 0.
+fn laid_words<A: Allocator + Copy>(alloc: A, frame: Frame) -> Result<Vec<u16, A>, OutOfMemory> {
+    let mut bytes = Vec::new(alloc);
+    put_laid(&mut bytes, frame, Half::H0)?;
+    collect_words(alloc, bytes.as_slice())
+}
+
+// How many words an instruction has.
+fn word_count(code: Code) -> usize {
+    match code.instr() {
+        Instr::Vctr { .. } | Instr::Labs { .. } => 2,
+        Instr::Halt | Instr::Jsrl(_) | Instr::Rtsl | Instr::Jmpl(_) | Instr::Svec { .. } => 1,
+    }
+}
+
+// How many words an operation has.
+fn op_words(op: &Op) -> usize {
+    match op.kind() {
+        OpKind::Draw(code) => word_count(code),
+        _ => 1,
+    }
+}
+
+// Appends the line of an operation of these words.
+fn put_op_line<A: Allocator>(
+    text: &mut Vec<u8, A>,
+    words: &[u16],
+    source: &Source,
+) -> Result<(), AllocError> {
+    put(text, b"        .word ")?;
+    put_words(text, words)?;
+    put(text, b" ; ")?;
+    put_said(text, source.line)?;
+    put(text, b"\n")
+}
+
+// Appends the lines of a frame's operations, of which these are the words in half 0.
+fn put_op_lines<A: Allocator>(
+    text: &mut Vec<u8, A>,
+    words: &[u16],
+    frame: &NamedFrame,
+) -> Result<(), AllocError> {
+    let mut rest = words;
+    for (i, op) in frame.ops.iter().enumerate() {
+        let (these, others) = rest.split_at(op_words(op));
+        put_op_line(text, these, &frame.sources[i])?;
+        rest = others;
+    }
+    Ok(())
+}
+
+// Appends what a frame is called.
+fn put_label<A: Allocator>(
+    text: &mut Vec<u8, A>,
+    number: usize,
+    name: Option<&[u8]>,
+) -> Result<(), AllocError> {
+    match name {
+        Some(name) => put(text, name),
+        None => {
+            put(text, b"frame_")?;
+            put_decimal(text, number)
+        }
+    }
+}
+
+// Appends a line that lays down how many words there are.
+fn put_count<A: Allocator>(text: &mut Vec<u8, A>, count: usize) -> Result<(), AllocError> {
+    put(text, b"        .word ")?;
+    put_decimal(text, count)?;
+    put(text, b"\n")
+}
+
+/// Appends the table of the frame of this number, which was checked.
+pub(crate) fn put_table<A: Allocator + Copy>(
+    alloc: A,
+    text: &mut Vec<u8, A>,
+    number: usize,
+    named: &NamedFrame,
+    frame: Frame,
+) -> Result<(), OutOfMemory> {
+    put_label(text, number, named.name)?;
+    put(text, b":\n")?;
+    put_count(text, usize::from(frame.len_words()))?;
+    let words = laid_words(alloc, frame)?;
+    put_op_lines(text, words.as_slice(), named)?;
+    Ok(())
+}

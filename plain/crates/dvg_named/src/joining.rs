@@ -1,0 +1,97 @@
+//! The drafts of all frames, with their operations in one list.
+use std::prelude::*;
+
+use crate::flat_draft::{DraftFault, push_draft};
+use crate::frame_rows::FrameRows;
+use crate::laid::LaidRows;
+use crate::meaning::Source;
+use crate::row::Row;
+use dvg_code::OutOfMemory;
+use dvg_frame::Op;
+use std::alloc::Allocator;
+
+/// Where the operations of a frame stand in a list of those of all frames.
+#[derive(Clone, Copy)]
+pub struct FrameSpan<'a> {
+    /// The name of the frame, if it has one.
+    pub name: Option<&'a [u8]>,
+    /// The line that begins it.
+    pub begin: Source<'a>,
+    /// The number of its first operation.
+    pub start: usize,
+    /// The number after that of its last one.
+    pub end: usize,
+}
+
+/// The operations of all frames, in order, each with its line, and where those of each frame stand.
+pub struct JoinedFrames<'a, A: Allocator> {
+    /// All operations.
+    pub ops: Vec<Op, A>,
+    /// The line of each operation.
+    pub sources: Vec<Source<'a>, A>,
+    /// Where those of each frame stand.
+    pub spans: Vec<FrameSpan<'a>, A>,
+}
+
+/// The drafts of frames, where each name that they want is given. A growth may be refused.
+pub fn join_frames<'a, A: Allocator + Copy>(
+    alloc: A,
+    frames: &[FrameRows<'_, 'a>],
+    rom: &[LaidRows],
+) -> Result<JoinedFrames<'a, A>, OutOfMemory> {
+    let mut ops = Vec::new(alloc);
+    let mut sources = Vec::new(alloc);
+    let mut spans = Vec::new(alloc);
+    for frame in frames {
+        push_sources(&mut sources, frame)?;
+        let span = push_frame(&mut ops, frame, rom)?;
+        spans.push(span)?;
+    }
+    Ok(JoinedFrames {
+        ops,
+        sources,
+        spans,
+    })
+}
+
+// Adds the lines of the operations of a frame.
+fn push_sources<'a, A: Allocator + Copy>(
+    sources: &mut Vec<Source<'a>, A>,
+    frame: &FrameRows<'_, 'a>,
+) -> Result<(), OutOfMemory> {
+    for (place, row) in frame.rows.iter().enumerate() {
+        push_line(sources, row, &frame.sources[place])?;
+    }
+    Ok(())
+}
+
+// Adds the line of a row, if the row does something.
+fn push_line<'a, A: Allocator + Copy>(
+    sources: &mut Vec<Source<'a>, A>,
+    row: &Row,
+    source: &Source<'a>,
+) -> Result<(), OutOfMemory> {
+    if row.doing.is_some() {
+        sources.push(*source)?;
+    }
+    Ok(())
+}
+
+// Adds the operations of a frame, and answers where they stand.
+fn push_frame<'a, A: Allocator + Copy>(
+    ops: &mut Vec<Op, A>,
+    frame: &FrameRows<'_, 'a>,
+    rom: &[LaidRows],
+) -> Result<FrameSpan<'a>, OutOfMemory> {
+    let start = ops.len();
+    match push_draft(ops, frame.rows, rom) {
+        Ok(()) => Ok(FrameSpan {
+            name: frame.name,
+            begin: frame.begin,
+            start,
+            end: ops.len(),
+        }),
+        Err(DraftFault::Memory) => Err(OutOfMemory),
+        Err(DraftFault::Ungiven(_)) => unreachable!(),
+    }
+}

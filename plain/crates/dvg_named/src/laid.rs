@@ -1,0 +1,79 @@
+//! Where sections of the ROM are laid.
+use std::prelude::*;
+
+use crate::number::place_of;
+use crate::row::Row;
+use crate::sizes::size;
+use dvg_code::OutOfMemory;
+use std::alloc::Allocator;
+
+/// The rows of a section of the ROM, and the word address that its line `.rom` gives, if it gives
+/// one.
+#[derive(Clone, Copy)]
+pub struct RomRows<'r, 'a> {
+    /// The word address that is given.
+    pub address: Option<u16>,
+    /// The rows, in order.
+    pub rows: &'r [Row<'a>],
+}
+
+/// The rows of a section of the ROM, and the word address from which on they are laid.
+#[derive(Clone, Copy)]
+pub struct LaidRows<'r, 'a> {
+    /// The word address of the first word.
+    pub start: usize,
+    /// The rows, in order.
+    pub rows: &'r [Row<'a>],
+}
+
+/// The sections as they are laid, in order: each from its address on, or else from the first word
+/// after all that were laid before, which for the first is `free` (this project's own choice). A
+/// growth of the list may be refused (`OutOfMemory`). The time grows with the number of rows.
+pub fn lay<'r, 'a, A: Allocator>(
+    alloc: A,
+    free: usize,
+    sections: &[RomRows<'r, 'a>],
+) -> Result<Vec<LaidRows<'r, 'a>, A>, OutOfMemory> {
+    let mut laid = Vec::new(alloc);
+    let mut next = free;
+    for section in sections {
+        let start = start_of(section.address, next);
+        laid.push(LaidRows {
+            start,
+            rows: section.rows,
+        })?;
+        next = next.max(start + size(section.rows));
+    }
+    Ok(laid)
+}
+
+/// The first word address that is free after one line `rom` more, where `free` was it before, and
+/// `end` is the address after the line's words. Before the first line it is that of the ROM's first
+/// word.
+pub fn free_with(free: u16, end: u16) -> u16 {
+    free.max(end)
+}
+
+// The address that is given, or else this one.
+fn start_of(address: Option<u16>, next: usize) -> usize {
+    match address {
+        Some(given) => usize::from(given),
+        None => next,
+    }
+}
+
+/// The word address that a name names in the ROM: that of the first section that gives it, and in
+/// it of the first row. None exactly where no row of these sections gives it. The time grows with
+/// the number of rows.
+///
+/// Where each name is given once, no other address is that of the name. A name after the last
+/// operation of its section is the address after the section (this project's own choice).
+pub fn address_of(sections: &[LaidRows], name: &[u8]) -> Option<u16> {
+    for section in sections {
+        if let Some(place) = place_of(section.rows, name) {
+            let address = section.start + size(&section.rows[..place]);
+            return Some(address as u16);
+        }
+    }
+    None
+}

@@ -1,0 +1,49 @@
+//! Sketches as texts: drafts with names, of one or more frames, and the shapes of their ROM (the
+//! format is this project's own choice). They are defined here. All lines of a text are read, each
+//! within the limits, or up to the first line at fault. Of all lines that were read there are the
+//! frames, the bytes of the ROM and its names, and the first line that wants a name which no line
+//! gives. The drafts of all frames stand in one list. Rows become numbers and addresses of names,
+//! drafts and words of the ROM. What joins them to a whole sketch is missing.
+#![no_std]
+
+extern crate plain_std as std;
+
+mod addresses;
+mod drafting;
+pub mod examples;
+mod fault;
+mod flat_draft;
+mod frame_rows;
+mod given_names;
+mod joining;
+mod laid;
+mod line_fault;
+mod line_words;
+mod meaning;
+mod number;
+mod part;
+mod reading;
+mod rom_area;
+mod rom_sections;
+mod rom_words;
+mod row;
+mod sizes;
+mod sketch;
+mod text_reading;
+mod told_rom;
+mod unknown;
+
+pub use addresses::rom_names;
+pub use drafting::draft_of;
+pub use fault::{NamedFault, SketchFault};
+pub use flat_draft::{DraftFault, push_draft};
+pub use frame_rows::FrameRows;
+pub use joining::{FrameSpan, JoinedFrames, join_frames};
+pub use laid::{LaidRows, RomRows, address_of, free_with, lay};
+pub use line_words::{MAX_WORDS, words_of};
+pub use meaning::{NamedFrame, RomName, Source};
+pub use number::{number_of, op_count, place_of};
+pub use rom_words::{RomRow, put_sections};
+pub use row::{Doing, Head, Row, read_head, read_row};
+pub use sizes::size;
+pub use sketch::{Sketch, read_sketch};

@@ -1,0 +1,53 @@
+//! The words of a line.
+use arrayvec::ArrayVec;
+use memchr::memchr;
+
+/// The most words that a line of a sketch has: those of a line `rom` that gives eight words.
+pub const MAX_WORDS: usize = 10;
+
+/// The words of a line, which spaces and tabs part, without its comment and without one CR at its
+/// end. None exactly where there are more than ten.
+pub fn words_of(line: &[u8]) -> Option<ArrayVec<&[u8], MAX_WORDS>> {
+    let told = without_comment(without_cr(line));
+    let mut found = ArrayVec::new();
+    let parted = told.split(
+        |byte| { is_blank(*byte) },
+    );
+    let kept = parted.filter(
+        |word| { has_bytes(word) },
+    );
+    match found.extend(kept) {
+        Ok(()) => Some(found),
+        Err(_) => None,
+    }
+}
+
+// Whether there is a byte.
+fn has_bytes(word: &[u8]) -> bool {
+    match word {
+        [] => false,
+        _ => true,
+    }
+}
+
+// Whether this byte is a space or a tab.
+fn is_blank(byte: u8) -> bool {
+    byte == b' ' || byte == b'\t'
+}
+
+// What stands before a CR at the end.
+fn without_cr(line: &[u8]) -> &[u8] {
+    if line.is_empty() || line[line.len() - 1] != b'\r' {
+        line
+    } else {
+        &line[..line.len() - 1]
+    }
+}
+
+// What stands before the first `#`.
+fn without_comment(line: &[u8]) -> &[u8] {
+    match memchr(b'#', line) {
+        Some(end) => &line[..end],
+        None => line,
+    }
+}

@@ -1,0 +1,33 @@
+//! What the text of a sketch denotes, with the lines that it comes from.
+use dvg_frame::Op;
+
+/// A line of a sketch.
+#[derive(Clone, Copy)]
+pub struct Source<'a> {
+    /// Its number, counted from 1.
+    pub number: usize,
+    /// Its bytes, in small letters, without its line end.
+    pub line: &'a [u8],
+}
+
+/// A frame of a sketch.
+#[derive(Clone, Copy)]
+pub struct NamedFrame<'a> {
+    /// Its name, if it has one.
+    pub name: Option<&'a [u8]>,
+    /// The line that begins it. That of a frame before the first section is the text's first line.
+    pub begin: Source<'a>,
+    /// Its operations, in order.
+    pub ops: &'a [Op],
+    /// The line of each operation.
+    pub sources: &'a [Source<'a>],
+}
+
+/// A name of the ROM.
+#[derive(Clone, Copy)]
+pub struct RomName<'a> {
+    /// The name.
+    pub name: &'a [u8],
+    /// The word address that it names.
+    pub address: u16,
+}

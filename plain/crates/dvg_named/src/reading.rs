@@ -1,0 +1,231 @@
+//! What the lines of a sketch spell that were read.
+use std::prelude::*;
+
+use crate::frame_rows::{FrameRows, frame_rows};
+use crate::given_names::GivenNames;
+use crate::joining::{JoinedFrames, join_frames};
+use crate::laid::{LaidRows, lay};
+use crate::line_fault::LineFault;
+use crate::meaning::Source;
+use crate::part::Part;
+use crate::rom_area::RomArea;
+use crate::rom_sections::rom_rows;
+use crate::rom_words::{RomRow, put_sections};
+use crate::row::{Doing, Head, Row, read_head, read_row};
+use crate::sizes::words_of_row;
+use crate::told_rom::ToldRom;
+use crate::unknown::first_unknown;
+use arrayvec::ArrayVec;
+use dvg_code::OutOfMemory;
+use dvg_frame::OpKind;
+use dvg_mem::LARGE_ROM_BYTES;
+use std::alloc::Allocator;
+use std::mem;
+
+/// The most operations of a frame, as of a draft.
+const MAX_OPS: usize = 511;
+
+/// What the lines spell that were read. After a fault it is read no further.
+pub(crate) struct Reading<'a, A: Allocator + Copy> {
+    alloc: A,
+    rom: ToldRom,
+    // The sections before the last one.
+    closed: Vec<Part<'a, A>, A>,
+    // The last section.
+    last: Part<'a, A>,
+    frame_names: GivenNames<'a, A>,
+    rom_names: GivenNames<'a, A>,
+    // The names and the number of operations of the last section, where it is a frame.
+    names: GivenNames<'a, A>,
+    count: usize,
+    area: RomArea,
+}
+
+impl<'a, A: Allocator + Copy> Reading<'a, A> {
+    /// Before the first line, which is this one.
+    pub fn new(alloc: A, first: Source<'a>) -> Reading<'a, A> {
+        Reading {
+            alloc,
+            rom: ToldRom::new(),
+            closed: Vec::new(alloc),
+            last: Part::new(alloc, None, first),
+            frame_names: GivenNames::new(alloc),
+            rom_names: GivenNames::new(alloc),
+            names: GivenNames::new(alloc),
+            count: 0,
+            area: RomArea::new(),
+        }
+    }
+
+    /// Reads a line of these words.
+    pub fn add(&mut self, source: Source<'a>, words: &[&'a [u8]]) -> Result<(), LineFault> {
+        if self.is_bare() && self.tell(words) {
+            return Ok(());
+        }
+        if let Some(head) = read_head(words) {
+            return self.begin_section(head, source);
+        }
+        let Some(row) = read_row(words) else {
+            return Err(LineFault::Syntax);
+        };
+        self.add_row(&row, source)
+    }
+
+    // Whether no line has told a row and no section has begun.
+    fn is_bare(&self) -> bool {
+        self.closed.is_empty() && self.last.rows.is_empty()
+    }
+
+    // Reads a line of these words that tells of the ROM. Whether it does.
+    fn tell(&mut self, words: &[&[u8]]) -> bool {
+        if !self.rom.take(words) {
+            return false;
+        }
+        self.area.set_free(self.rom.free());
+        true
+    }
+
+    // Begins a section.
+    fn begin_section(&mut self, head: Head<'a>, source: Source<'a>) -> Result<(), LineFault> {
+        match head {
+            Head::Frame(name) => self.begin_frame(name, source),
+            Head::Rom(address) => self.begin_rom(address, source),
+        }
+    }
+
+    // Begins a frame.
+    fn begin_frame(&mut self, name: Option<&'a [u8]>, source: Source<'a>) -> Result<(), LineFault> {
+        if let Err(fault) = self.frame_names.give(name) {
+            return Err(fault);
+        }
+        self.open_part(Head::Frame(name), source)
+    }
+
+    // Begins a section of the ROM.
+    fn begin_rom(&mut self, address: Option<u16>, source: Source<'a>) -> Result<(), LineFault> {
+        let first = self.rom.first();
+        if let Err(fault) = self.area.begin(first, address) {
+            return Err(fault);
+        }
+        self.open_part(Head::Rom(address), source)
+    }
+
+    // Closes the last section, and opens another one.
+    fn open_part(&mut self, head: Head<'a>, source: Source<'a>) -> Result<(), LineFault> {
+        let part = Part::new(self.alloc, Some(head), source);
+        let closed = mem::replace(&mut self.last, part);
+        if self.closed.push(closed).is_err() {
+            return Err(LineFault::Memory);
+        }
+        self.names.clear();
+        self.count = 0;
+        Ok(())
+    }
+
+    // Adds a row to the last section.
+    fn add_row(&mut self, row: &Row<'a>, source: Source<'a>) -> Result<(), LineFault> {
+        match self.last.head {
+            Some(Head::Rom(_)) => self.add_rom_row(row, source),
+            _ => self.add_frame_row(row, source),
+        }
+    }
+
+    // Adds a row to the last section, which is a frame.
+    fn add_frame_row(&mut self, row: &Row<'a>, source: Source<'a>) -> Result<(), LineFault> {
+        if let Err(fault) = self.names.give(row.name) {
+            return Err(fault);
+        }
+        let Some(count) = counted(self.count, row) else {
+            return Err(LineFault::Full);
+        };
+        self.count = count;
+        self.last.push(row, source)
+    }
+
+    // Adds a row to the last section, which is of the ROM.
+    fn add_rom_row(&mut self, row: &Row<'a>, source: Source<'a>) -> Result<(), LineFault> {
+        if !may_stand_in_rom(row) {
+            return Err(LineFault::Syntax);
+        }
+        if let Err(fault) = self.rom_names.give(row.name) {
+            return Err(fault);
+        }
+        if let Err(fault) = self.area.take(words_of_row(row)) {
+            return Err(fault);
+        }
+        self.last.push(row, source)
+    }
+
+    /// The sections of the ROM as they are laid, after all lines of a text. A growth may be
+    /// refused.
+    pub fn lay(&self) -> Result<Vec<LaidRows<'_, 'a>, A>, OutOfMemory> {
+        let sections = rom_rows(self.alloc, self.closed.as_slice(), &self.last)?;
+        lay(
+            self.alloc,
+            usize::from(self.rom.free()),
+            sections.as_slice(),
+        )
+    }
+
+    /// The bytes of the ROM, with the words of its sections as they are laid, after all lines of a
+    /// text. Or else the first row of the ROM that wants a name which isn't given. No memory is
+    /// taken.
+    pub fn rom(&self, laid: &[LaidRows]) -> Result<ArrayVec<u8, LARGE_ROM_BYTES>, RomRow> {
+        let mut bytes = self.rom.bytes();
+        match put_sections(bytes.as_mut_slice(), laid) {
+            Ok(()) => Ok(bytes),
+            Err(row) => Err(row),
+        }
+    }
+
+    /// The number of the first line that wants a name which isn't given, after all lines of a text.
+    /// No memory is taken. The time grows with the number of rows times that of the rows that want
+    /// a name.
+    pub fn first_unknown(&self, laid: &[LaidRows]) -> Option<usize> {
+        first_unknown(self.closed.as_slice(), &self.last, laid)
+    }
+
+    /// The frames, in order, after the lines that were read. A growth may be refused.
+    pub fn frames(&self) -> Result<Vec<FrameRows<'_, 'a>, A>, OutOfMemory> {
+        frame_rows(self.alloc, self.closed.as_slice(), &self.last)
+    }
+
+    /// The drafts of the frames, in order, after all lines of a text, where each name is given. A
+    /// growth may be refused.
+    pub fn drafts(&self, laid: &[LaidRows]) -> Result<JoinedFrames<'a, A>, OutOfMemory> {
+        let found = self.frames()?;
+        join_frames(self.alloc, found.as_slice(), laid)
+    }
+}
+
+// How many operations a frame of so many has with this row. None where a draft can't hold it.
+fn counted(count: usize, row: &Row) -> Option<usize> {
+    if row.doing.is_none() {
+        return Some(count);
+    }
+    if count >= MAX_OPS {
+        return None;
+    }
+    Some(count + 1)
+}
+
+// Whether a row may stand in the ROM: it neither calls nor jumps by the number of an operation.
+fn may_stand_in_rom(row: &Row) -> bool {
+    match &row.doing {
+        Some(doing) => may_be_encoded(doing),
+        None => true,
+    }
+}
+
+// Whether what a row does may be done in the ROM.
+fn may_be_encoded(doing: &Doing) -> bool {
+    match doing {
+        Doing::Plainly(op) => is_without_number(op.kind()),
+        Doing::Calls(_) | Doing::Jumps(_) | Doing::CallsRom(_) | Doing::JumpsRom(_) => true,
+    }
+}
+
+// Whether an operation neither calls nor jumps by a number.
+fn is_without_number(kind: OpKind) -> bool {
+    !matches!(kind, OpKind::Call(_) | OpKind::Jump(_))
+}

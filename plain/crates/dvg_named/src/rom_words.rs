@@ -1,0 +1,112 @@
+//! The words of the ROM's sections, in the bytes of a ROM.
+use crate::laid::{LaidRows, address_of};
+use crate::row::Doing;
+use dvg_code::{Code, Instr, encode};
+use dvg_frame::OpKind;
+
+/// The word address after the ROM's last word.
+pub(crate) const ROM_END: usize = 0xC00;
+
+/// A row of a section of the ROM, by the numbers of both, counted from 0.
+#[derive(Clone, Copy, Debug, PartialEq, Eq)]
+pub struct RomRow {
+    /// The number of the section.
+    pub section: usize,
+    /// The number of the row in it.
+    pub row: usize,
+}
+
+/// Puts the canonical words of laid sections into the bytes of a ROM, 2,048 or 4,096, each section
+/// at its address, the low byte of a word first. So bytes of which lines `rom` gave the words
+/// become those that the same words would have made of them, given by further lines. Or else the
+/// first row that wants a name which isn't given; what was put before it stays. No memory is taken.
+/// The time grows with the number of rows times that of the rows that want a name.
+pub fn put_sections(rom: &mut [u8], sections: &[LaidRows]) -> Result<(), RomRow> {
+    let first = ROM_END - rom.len() / 2;
+    for (number, section) in sections.iter().enumerate() {
+        if let Err(row) = put_section(rom, first, sections, section) {
+            return Err(RomRow {
+                section: number,
+                row,
+            });
+        }
+    }
+    Ok(())
+}
+
+// Puts the words of one section into the bytes of a ROM, of which the first word is at this word
+// address. Or else the place of the first row that wants a name which isn't given.
+fn put_section(
+    rom: &mut [u8],
+    first: usize,
+    sections: &[LaidRows],
+    section: &LaidRows,
+) -> Result<(), usize> {
+    let mut next = section.start - first;
+    for (place, row) in section.rows.iter().enumerate() {
+        if let Some(doing) = &row.doing {
+            let Some(code) = code_of(sections, doing) else {
+                return Err(place);
+            };
+            next = put_code(rom, next, code);
+        }
+    }
+    Ok(())
+}
+
+// Puts the words of an instruction from a place on, and answers the place after them.
+fn put_code(rom: &mut [u8], place: usize, code: Code) -> usize {
+    let spelled = encode(&code);
+    let words = spelled.as_slice();
+    let mut next = place;
+    for word in words {
+        put_word(rom, next, *word);
+        next += 1;
+    }
+    next
+}
+
+// Puts a word in its place, the low byte first.
+fn put_word(rom: &mut [u8], place: usize, word: u16) {
+    rom[2 * place] = (word % 256) as u8;
+    rom[2 * place + 1] = (word / 256) as u8;
+}
+
+// The instruction of a row of the ROM. None where it wants a name that isn't given.
+fn code_of(sections: &[LaidRows], doing: &Doing) -> Option<Code> {
+    match doing {
+        Doing::Plainly(op) => Some(plain_code(op.kind())),
+        Doing::Calls(name) => call_of(sections, name),
+        Doing::Jumps(name) => jump_of(sections, name),
+        Doing::CallsRom(name) => call_of(sections, name),
+        Doing::JumpsRom(name) => jump_of(sections, name),
+    }
+}
+
+// The instruction of an operation without a name.
+fn plain_code(kind: OpKind) -> Code {
+    match kind {
+        OpKind::Draw(code) => code,
+        OpKind::CallRom(address) => Code::within(Instr::Jsrl(address)),
+        OpKind::JumpRom(address) => Code::within(Instr::Jmpl(address)),
+        OpKind::Return => Code::within(Instr::Rtsl),
+        OpKind::Halt => Code::within(Instr::Halt),
+        OpKind::Call(_) | OpKind::Jump(_) => unreachable!(),
+    }
+}
+
+// The call of a name of the ROM. None where it isn't given.
+fn call_of(sections: &[LaidRows], name: &[u8]) -> Option<Code> {
+    match address_of(sections, name) {
+        Some(address) => Some(Code::within(Instr::Jsrl(address))),
+        None => None,
+    }
+}
+
+// The jump to a name of the ROM. None where it isn't given.
+fn jump_of(sections: &[LaidRows], name: &[u8]) -> Option<Code> {
+    match address_of(sections, name) {
+        Some(address) => Some(Code::within(Instr::Jmpl(address))),
+        None => None,
+    }
+}

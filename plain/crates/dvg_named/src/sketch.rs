@@ -1,0 +1,87 @@
+//! Sketches that were read.
+use std::prelude::*;
+
+use crate::addresses::rom_names;
+use crate::fault::{NamedFault, SketchFault};
+use crate::joining::{FrameSpan, JoinedFrames};
+use crate::meaning::{NamedFrame, RomName};
+use crate::reading::Reading;
+use crate::text_reading::read_lines;
+use arrayvec::ArrayVec;
+use dvg_code::OutOfMemory;
+use dvg_mem::LARGE_ROM_BYTES;
+use std::alloc::Allocator;
+
+/// A sketch that was read.
+pub struct Sketch<'a, A: Allocator> {
+    /// The bytes of the ROM, 2,048 or 4,096, the low byte of each word first.
+    pub rom: ArrayVec<u8, LARGE_ROM_BYTES>,
+    /// The names of the ROM, in the order of the text, each with its word address.
+    pub names: Vec<RomName<'a>, A>,
+    /// The frames, in order.
+    pub frames: JoinedFrames<'a, A>,
+}
+
+impl<'a, A: Allocator + Copy> Sketch<'a, A> {
+    /// The frames, in order, each with its operations and their lines. A growth may be refused.
+    pub fn frames(&self, alloc: A) -> Result<Vec<NamedFrame<'_>, A>, OutOfMemory> {
+        let mut frames = Vec::new(alloc);
+        for span in &self.frames.spans {
+            frames.push(self.frame_at(span))?;
+        }
+        Ok(frames)
+    }
+
+    // The frame that stands there.
+    fn frame_at(&self, span: &FrameSpan<'a>) -> NamedFrame<'_> {
+        NamedFrame {
+            name: span.name,
+            begin: span.begin,
+            ops: &self.frames.ops[span.start..span.end],
+            sources: &self.frames.sources[span.start..span.end],
+        }
+    }
+}
+
+/// Reads the text of a sketch, which is handed in in small letters: of the text itself, lines and
+/// names mean the same in either case.
+///
+/// - `Text`: the fault of the text, that of the first line at fault. `TooLong`, the text has more
+///   than 1,048,576 bytes, comes before all others, and `Unknown` after them.
+/// - `Memory`: a growth was refused.
+///
+/// The time grows with the number of rows times that of the rows that want a name.
+pub fn read_sketch<'a, A: Allocator + Copy>(
+    alloc: A,
+    small: &'a [u8],
+) -> Result<Sketch<'a, A>, SketchFault> {
+    let reading = match read_lines(alloc, small) {
+        Ok(reading) => reading,
+        Err(fault) => return Err(fault),
+    };
+    sketch_of(alloc, &reading)
+}
+
+// The sketch of a text of which all lines were read.
+fn sketch_of<'a, A: Allocator + Copy>(
+    alloc: A,
+    reading: &Reading<'a, A>,
+) -> Result<Sketch<'a, A>, SketchFault> {
+    let Ok(rows) = reading.lay() else {
+        return Err(SketchFault::Memory);
+    };
+    let laid = rows.as_slice();
+    if let Some(number) = reading.first_unknown(laid) {
+        return Err(SketchFault::Text(NamedFault::Unknown(number)));
+    }
+    let Ok(rom) = reading.rom(laid) else {
+        unreachable!();
+    };
+    let Ok(names) = rom_names(alloc, laid) else {
+        return Err(SketchFault::Memory);
+    };
+    let Ok(frames) = reading.drafts(laid) else {
+        return Err(SketchFault::Memory);
+    };
+    Ok(Sketch { rom, names, frames })
+}

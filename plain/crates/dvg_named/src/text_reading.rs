@@ -1,0 +1,58 @@
+//! What all lines of a sketch spell.
+use crate::fault::{NamedFault, SketchFault};
+use crate::line_fault::LineFault;
+use crate::line_words::words_of;
+use crate::meaning::Source;
+use crate::reading::Reading;
+use dvg_text::{MOST_TEXT_BYTES, TextLines};
+use std::alloc::Allocator;
+
+/// Reads all lines of a text in small letters, in one pass. Or else the text has a fault: it is too
+/// long, or this line is the first at fault. A growth may be refused, too (`Memory`).
+pub(crate) fn read_lines<'a, A: Allocator + Copy>(
+    alloc: A,
+    small: &'a [u8],
+) -> Result<Reading<'a, A>, SketchFault> {
+    if small.len() > MOST_TEXT_BYTES {
+        return Err(SketchFault::Text(NamedFault::TooLong));
+    }
+    let mut reading = Reading::new(alloc, first_line(small));
+    let mut number = 0;
+    for line in TextLines::new(small) {
+        number += 1;
+        let Some(words) = words_of(line) else {
+            return Err(at_line(LineFault::Syntax, number));
+        };
+        if words.is_empty() {
+            continue;
+        }
+        if let Err(fault) = reading.add(Source { number, line }, words.as_slice()) {
+            return Err(at_line(fault, number));
+        }
+    }
+    Ok(reading)
+}
+
+// The first line of a text, which is empty where there is none.
+fn first_line(text: &[u8]) -> Source<'_> {
+    let mut lines = TextLines::new(text);
+    match lines.next() {
+        Some(line) => Source { number: 1, line },
+        None => Source {
+            number: 1,
+            line: &[],
+        },
+    }
+}
+
+// A fault of the line of this number.
+fn at_line(fault: LineFault, number: usize) -> SketchFault {
+    match fault {
+        LineFault::Syntax => SketchFault::Text(NamedFault::Syntax(number)),
+        LineFault::Twice => SketchFault::Text(NamedFault::Twice(number)),
+        LineFault::Full => SketchFault::Text(NamedFault::Full(number)),
+        LineFault::OutOfRom => SketchFault::Text(NamedFault::OutOfRom(number)),
+        LineFault::Overlap => SketchFault::Text(NamedFault::Overlap(number)),
+        LineFault::Memory => SketchFault::Memory,
+    }
+}

@@ -1,0 +1,62 @@
+//! What the options of `lay` ask for. They exclude each other, which is this project's own choice.
+use crate::options::is_set;
+use crate::task::{Job, LayForm};
+use clap::ArgMatches;
+use clap::error::ErrorKind;
+
+// How many of the options are given.
+fn given_count(half: bool, table: bool, rom: bool, equates: bool) -> u8 {
+    u8::from(half) + u8::from(table) + u8::from(rom) + u8::from(equates)
+}
+
+// The form in a half of this number.
+fn half_form(number: &str) -> Option<LayForm> {
+    if number == "0" {
+        Some(LayForm::Half0)
+    } else if number == "1" {
+        Some(LayForm::Half1)
+    } else {
+        None
+    }
+}
+
+// The form that the options ask for.
+fn form_by(table: bool, rom: bool, equates: bool, half: Option<&str>) -> Option<LayForm> {
+    if table {
+        return Some(LayForm::Table);
+    }
+    if rom {
+        return Some(LayForm::Rom);
+    }
+    if equates {
+        return Some(LayForm::Equates);
+    }
+    match half {
+        Some(number) => half_form(number),
+        None => Some(LayForm::Half0),
+    }
+}
+
+// The form that the options ask for: bytes in half 0 where none is given.
+fn lay_form(found: &ArgMatches) -> Result<LayForm, ErrorKind> {
+    let half = found.get_str("half");
+    let table = is_set(found, "table");
+    let rom = is_set(found, "rom");
+    let equates = is_set(found, "equates");
+    if given_count(half.is_some(), table, rom, equates) > 1 {
+        return Err(ErrorKind::ArgumentConflict);
+    }
+    match form_by(table, rom, equates, half) {
+        Some(form) => Ok(form),
+        None => Err(ErrorKind::InvalidValue),
+    }
+}
+
+/// What the options of `lay` ask for. They are refused where two are given (`ArgumentConflict`), or
+/// a half that is neither 0 nor 1 (`InvalidValue`).
+pub(crate) fn lay_job(found: &ArgMatches) -> Result<Job, ErrorKind> {
+    match lay_form(found) {
+        Ok(form) => Ok(Job::Lay { form }),
+        Err(kind) => Err(kind),
+    }
+}
