@@ -460,9 +460,7 @@ impl<'a> Eraser<'a> {
     /// A function's head. Those of `Display::fmt`, of what it hands its `Formatter` to, and of `main`
     /// are written otherwise.
     fn function(&mut self, end: usize) -> Result<(), Refused> {
-        if self.begins("fn fmt<") {
-            self.display()
-        } else if self.takes_formatter() {
+        if self.takes_formatter() {
             self.formatting()
         } else if self.begins("fn main(") {
             self.main()
@@ -472,31 +470,13 @@ impl<'a> Eraser<'a> {
         }
     }
 
-    /// `fn fmt<W: fmt::Write>(&self, f: &mut fmt::Formatter<W>)`, where `f` is any name.
-    fn display(&mut self) -> Result<(), Refused> {
-        let end = self.find(b')', self.at, "a signature without an end")?;
-        let name = self
-            .slice(self.at, end)
-            .strip_prefix("fn fmt<W: fmt::Write>(&self, ")
-            .and_then(|rest| rest.strip_suffix(": &mut fmt::Formatter<W>"));
-        match name {
-            Some(name) => self.put(
-                &format!("fn fmt(&self, {name}: &mut fmt::Formatter<'_>"),
-                end,
-            ),
-            None => return self.refuse("another signature of 'fmt' than that of Display"),
-        }
-        Ok(())
-    }
-
-    /// Whether a function begins as `fn write_text<W: fmt::Write>(`, where `write_text` is any name.
+    /// Whether a function begins as `fn fmt<`, or as `fn write_text<W: fmt::Write>(`, where
+    /// `write_text` is any name.
     fn takes_formatter(&self) -> bool {
         let name = after_blanks(self.text, self.at + "fn".len());
-        token(self.text, name).is_ok_and(|(_, end)| {
-            self.text
-                .get(end..)
-                .is_some_and(|rest| rest.starts_with(b"<W: fmt::Write>("))
-        })
+        let is_generic = token(self.text, name)
+            .is_ok_and(|(_, end)| self.text[end..].starts_with(b"<W: fmt::Write>("));
+        is_generic || self.begins("fn fmt<")
     }
 
     /// `fn write_text<W: fmt::Write>(f: &mut fmt::Formatter<W>, ..)`, where both are any names.

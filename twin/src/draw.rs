@@ -14,6 +14,9 @@ const BASES: [u16; 2] = [0x001, 0x201];
 /// The first word address after the RAM. A call or jump below it leads to a word of the frame.
 const RAM_END: u16 = 0x400;
 
+/// The most words that the run of a frame fetches which is drawn.
+const MOST_DRAWN: u64 = 65_536;
+
 /// Where a refused frame is at fault.
 enum Blamed<'a> {
     /// A line by its number, and what it says.
@@ -80,6 +83,23 @@ impl<'a> Sketch<'a> {
             check(&frame.ops, &self.rom)
                 .map(|_| ())
                 .map_err(|fault| self.refusal(frame, fault))
+        })
+    }
+
+    /// Refuses the sketch where one of its frames is refused, or has a picture that is too long.
+    pub fn check_drawn(&self) -> Result<(), Refusal<'a>> {
+        self.frames.iter().try_for_each(|frame| {
+            let bound = check(&frame.ops, &self.rom)
+                .map(|checked| checked.bound)
+                .map_err(|fault| self.refusal(frame, fault))?;
+            let first = &frame.sources[0];
+            if bound <= MOST_DRAWN {
+                return Ok(());
+            }
+            Err(Refusal {
+                blamed: Blamed::Line(first.number, first.said()),
+                reason: format!("fetches {bound} words, and at most {MOST_DRAWN} are drawn"),
+            })
         })
     }
 

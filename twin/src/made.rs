@@ -21,6 +21,7 @@ impl Made {
     pub fn refuse<'a>(&self, sketch: &Sketch<'a>) -> Result<(), Refusal<'a>> {
         match self {
             Made::Checks => Ok(()),
+            Made::Svg(_) => sketch.check_drawn(),
             Made::Table => sketch.check().and_then(|()| sketch.check_table()),
             _ => sketch.check(),
         }

@@ -72,21 +72,14 @@ fn twin_answer(made: &Made, text: &[u8]) -> io::Result<Answer> {
     })
 }
 
-/// A program that is asked beside the twin.
-struct Asked<'a> {
-    program: &'a Path,
-    /// What it is asked of each text.
-    questions: Vec<&'static (&'static [&'static str], Made)>,
-}
-
 /// Asks the program about a text, and tells where the twin answers otherwise.
-fn compare(asked: &Asked, text: &[u8], faults: &mut Vec<String>) -> io::Result<()> {
+fn compare(program: &Path, text: &[u8], faults: &mut Vec<String>) -> io::Result<()> {
     let soon = is_soon_drawn(text);
-    for (words, made) in &asked.questions {
+    for (words, made) in &QUESTIONS {
         if matches!(made, Made::Svg(_)) && !soon {
             continue;
         }
-        if ask(asked.program, words, text)? != twin_answer(made, text)? {
+        if ask(program, words, text)? != twin_answer(made, text)? {
             let words = words.join(" ");
             faults.push(format!("the program and the twin differ in `{words}`"));
         }
@@ -95,15 +88,15 @@ fn compare(asked: &Asked, text: &[u8], faults: &mut Vec<String>) -> io::Result<(
 }
 
 /// Judges the sketches of a seed: a good one, and the same with a mistake.
-fn judge_seed(seed: u64, asked: Option<&Asked>, report: &Mutex<Report<Counts>>) -> io::Result<()> {
+fn judge_seed(seed: u64, program: Option<&Path>, report: &Mutex<Report<Counts>>) -> io::Result<()> {
     let made = random_sketch(seed);
     let mistaken = with_mistake(&made.text, seed);
     let mut wrong = judge_made(&made);
     for (name, text) in [("sketch", &made.text), ("mistaken sketch", &mistaken)] {
         let (counts, faults) = judge(text);
         wrong.extend(faults);
-        if let Some(asked) = asked {
-            compare(asked, text, &mut wrong)?;
+        if let Some(program) = program {
+            compare(program, text, &mut wrong)?;
         }
         let mut report = report.lock().unwrap_or_else(PoisonError::into_inner);
         report.add(&format!("the {name} of seed {seed}"), counts, &wrong);
@@ -112,9 +105,9 @@ fn judge_seed(seed: u64, asked: Option<&Asked>, report: &Mutex<Report<Counts>>) 
     Ok(())
 }
 
-fn run(count: u64, seed: u64, asked: Option<&Asked>) -> io::Result<Report<Counts>> {
+fn run(count: u64, seed: u64, program: Option<&Path>) -> io::Result<Report<Counts>> {
     let report = Mutex::new(Report::default());
-    for_each_seed(count, seed, |seed| judge_seed(seed, asked, &report))?;
+    for_each_seed(count, seed, |seed| judge_seed(seed, program, &report))?;
     Ok(report.into_inner().unwrap_or_else(PoisonError::into_inner))
 }
 
@@ -127,28 +120,6 @@ fn show(seed: u64, mistaken: bool) -> io::Result<()> {
         text
     };
     io::stdout().write_all(&text)
-}
-
-/// What a program may lack. Each other question is asked.
-const MAY_LACK: &str = "draw";
-
-/// What the program is asked.
-fn asked(program: Option<&Path>) -> io::Result<Option<Asked<'_>>> {
-    let Some(program) = program else {
-        println!("skipped: no program is asked beside the twin");
-        return Ok(None);
-    };
-    let mut questions = Vec::new();
-    for question in &QUESTIONS {
-        let words = question.0;
-        if words[0] != MAY_LACK || ask(program, words, b".rom\n")?.status == Some(0) {
-            questions.push(question);
-        } else {
-            let words = words.join(" ");
-            println!("skipped: {} has no `{words}`", program.display());
-        }
-    }
-    Ok(Some(Asked { program, questions }))
 }
 
 fn main() -> ExitCode {
@@ -168,8 +139,7 @@ fn main() -> ExitCode {
         eprintln!("usage: sketches COUNT SEED [PROGRAM], or sketches SEED [mistaken]");
         return ExitCode::from(64);
     };
-    let report = asked(program).and_then(|asked| run(count, seed, asked.as_ref()));
-    match report {
+    match run(count, seed, program) {
         Ok(report) => {
             println!("{}", report.counts);
             println!("{} passed, {} failed", report.passed, report.failed);
