@@ -132,7 +132,13 @@ pub fn tell_long<A: Allocator + Copy>(
     ensures { IsUnlaid (λ refusal. (refusal.reason ≡ Reason.ManyWords words)
         × Blames names.now frame.now (Place.InFrame 0) refusal.blamed) result }
 {
-    tell(alloc, names, frame, Place::InFrame(0), Reason::ManyWords(words))
+    tell(
+        alloc,
+        names,
+        frame,
+        Place::InFrame(0),
+        Reason::ManyWords(words),
+    )
 }
 
 /// The frame, where the check accepts it over the ROM, and else its fault and the line or the word

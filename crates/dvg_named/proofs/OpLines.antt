@@ -66,7 +66,7 @@ done_all small (row ∷ rows) (source ∷ sources) all = one row.doing refl (don
     one : (does : Option held_doing.Doing) → row.doing ≡ does
         → AllZip (IsDoneAt small) (doings (rows_of rows)) (op_sources rows sources)
         → AllZip (IsDoneAt small) (cons_option (doing_of_some does) (doings (rows_of rows)))
-            (line_kept does source ++ op_sources rows sources)
+        (line_kept does source ++ op_sources rows sources)
     one None e rest = rest
     one (Some doing) e rest = (record { at = all.0.at; row = row_of row; spelled = all.0.spelled; does = ap doing_of_some e }, rest)
 
@@ -140,10 +140,11 @@ pub stand_in : (small : List ℕ) (ops : List OpKind) (sources : List Source) (f
 stand_in small ops sources [] [] all lines = tt
 stand_in small ops sources [] (span ∷ spans) all lines = absurd lines
 stand_in small ops sources (frame ∷ found) [] all lines = absurd lines
-stand_in small ops sources (frame ∷ found) (span ∷ spans) all lines =
-    (subst (AllZip (IsDoneAt small) (doings (rows_of frame.rows.now))) (sym lines.0.are)
-    (done_all small frame.rows.now frame.sources.now (All-head (IsFrameAt small) frame found all)),
-    stand_in small ops sources found spans (All-tail (IsFrameAt small) frame found all) lines.1)
+stand_in small ops sources (frame ∷ found) (span ∷ spans) all lines = (
+  subst (AllZip (IsDoneAt small) (doings (rows_of frame.rows.now))) (sym lines.0.are)
+      (done_all small frame.rows.now frame.sources.now (All-head (IsFrameAt small) frame found all)),
+  stand_in small ops sources found spans (All-tail (IsFrameAt small) frame found all) lines.1,
+)
 
 -- each row of each frame has a line
 pub row_lines : (small : List ℕ) (found : List held_frame.FrameRows) → All (IsFrameAt small) found → All HasRowLines found
