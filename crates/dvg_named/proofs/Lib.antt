@@ -35,3 +35,4 @@ mod KnownRom
 mod SketchRead
 mod OpLines
 mod SketchWhole
+mod OneMeaning
