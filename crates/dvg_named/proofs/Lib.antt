@@ -36,3 +36,6 @@ mod SketchRead
 mod OpLines
 mod SketchWhole
 mod OneMeaning
+mod FrontLimits
+mod LineFaults
+mod OneFault

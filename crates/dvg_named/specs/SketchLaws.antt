@@ -2,8 +2,9 @@
 use Rattle.std.specs.Prelude.{◌≡◌, ℕ, ◌<◌, List, length}
 use Rattle.dvg_text.specs.RomTexts.{RomText}
 use Rattle.dvg_text.specs.Texts.{parts}
+use Rattle.dvg_named.specs.declared.fault.NamedFault.{NamedFault}
 use Rattle.dvg_named.specs.Meanings.{Frame}
-use Rattle.dvg_named.specs.NamedFaults.{DenotesFrames}
+use Rattle.dvg_named.specs.NamedFaults.{DenotesFrames, HasNamedFault}
 use Rattle.dvg_named.specs.PlainLines.{plain, words}
 use Rattle.dvg_named.specs.Sections.{Spelled, SpellsSketch}
 
@@ -20,3 +21,8 @@ OneSketch = (sketch other : Spelled) (ls : List (List ℕ)) → SpellsSketch ske
 abbrev pub OneMeaning : Type 0
 OneMeaning = (text : List ℕ) (rom other : RomText) (result others : List Frame) → DenotesFrames text rom result
     → DenotesFrames text other others → (other ≡ rom) × (others ≡ result)
+
+-- a text has one fault at most
+abbrev pub OneFault : Type 0
+OneFault = (text : List ℕ) (fault other : NamedFault) → HasNamedFault text fault → HasNamedFault text other
+    → other ≡ fault

@@ -1,5 +1,5 @@
 //! Laws of sketches. Each is the contract of a function that does nothing.
-ghost use Rattle.dvg_named.specs.SketchLaws.{OneMeaning, OneSketch, WordsAreParts};
+ghost use Rattle.dvg_named.specs.SketchLaws.{OneFault, OneMeaning, OneSketch, WordsAreParts};
 
 /// The words of a line are the parts of the line as a plain draft has it, where there is a word.
 pub fn words_are_parts()
@@ -14,4 +14,9 @@ pub fn one_sketch()
 /// A text denotes one list of frames at most, and one ROM.
 pub fn one_meaning()
     ensures { OneMeaning }
+{}
+
+/// A text has one fault at most.
+pub fn one_fault()
+    ensures { OneFault }
 {}
