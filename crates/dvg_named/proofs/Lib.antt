@@ -39,3 +39,6 @@ mod OneMeaning
 mod FrontLimits
 mod LineFaults
 mod OneFault
+mod RowsStay
+mod MeantNames
+mod NoFaultBeside

@@ -22,6 +22,11 @@ abbrev pub OneMeaning : Type 0
 OneMeaning = (text : List ℕ) (rom other : RomText) (result others : List Frame) → DenotesFrames text rom result
     → DenotesFrames text other others → (other ≡ rom) × (others ≡ result)
 
+-- a text that denotes something has no fault
+abbrev pub NoFaultBeside : Type 0
+NoFaultBeside = (text : List ℕ) (rom : RomText) (result : List Frame) → DenotesFrames text rom result
+    → (fault : NamedFault) → ¬ HasNamedFault text fault
+
 -- a text has one fault at most
 abbrev pub OneFault : Type 0
 OneFault = (text : List ℕ) (fault other : NamedFault) → HasNamedFault text fault → HasNamedFault text other
