@@ -4,6 +4,7 @@
 //! unproved, and a fact that is wrong is refused (the edits in `must-fail/`).
 #![tactic(auto)]
 
+pub mod boards;
 pub mod command_line;
 pub mod driver;
 pub mod dumps;

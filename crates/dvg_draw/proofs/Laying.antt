@@ -1,9 +1,9 @@
 -- A frame that is laid into a RAM, byte by byte.
 use Rattle.std.proofs.Common.{◌≡◌, ℕ, ◌+◌, ◌*◌, ◌<◌, ◌≤◌, List, length, below_more, Some}
 use Rattle.std.proofs.Common.{refl, sym, ap, ◌∙◌, arith}
-use Rattle.std.specs.Prelude.{slice_get, slice_index, slice_set}
+use Rattle.std.specs.Prelude.{get_or, slice_get, slice_index, slice_set}
 use Rattle.std.proofs.lemmas.List.{get_or-set_same, get_or-set_other}
-use Rattle.std.proofs.lemmas.Option.{get_or_from_slice_get}
+use Rattle.std.proofs.lemmas.Option.{get_or_from_slice_get, slice_get-get_or}
 use Rattle.dvg_mem.specs.declared.half.Half.{Half}
 use Rattle.dvg_mem.specs.declared.half.Half.TheVariants.{H0, H1}
 use Rattle.dvg_mem.specs.Areas.{base, high}
@@ -68,3 +68,7 @@ all_laid ram half F count words all whole size =
           ∙ jump_is half;
       laid = λ k within. lies_word half F ram bytes_at k (base half + k) within refl;
     }
+
+-- the byte at a place of the same bytes
+pub byte_at : (whole held : List ℕ) (k d : ℕ) → held ≡ whole → k < length whole → slice_get whole k ≡ Some (get_or held k d)
+byte_at whole held k d is low = slice_get-get_or whole k d low ∙ ap (λ l. Some (get_or l k d)) (sym is)

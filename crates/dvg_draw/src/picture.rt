@@ -18,13 +18,13 @@ use std::alloc::Allocator;
 pub(crate) fn picture_of<A: Allocator + Copy>(
     alloc: A,
     rom: Rom<A>,
-    frame: &Frame,
+    frame: Frame,
 ) -> Result<Vec<Stroke, A>, OutOfMemory>
-    requires accepts { Accepts frame.now.operations rom }
-    requires bound { IsBound frame.now.operations rom frame.now.bound }
-    requires few { frame.now.bound ≤ 65536 }
+    requires accepts { Accepts frame.operations rom }
+    requires bound { IsBound frame.operations rom frame.bound }
+    requires few { frame.bound ≤ 65536 }
     ensures { IfOk result (λ strokes.
-        IsPicture frame.now.operations rom strokes.items frame.now.bound) }
+        IsPicture frame.operations rom strokes.items frame.bound) }
 {
     undisturbed();
     one_end();

@@ -24,3 +24,4 @@ pub use form::{Form, Laid, lay};
 pub use laying::{lay_bytes, lay_names, lay_rom, lay_tables};
 pub use lent::are_lent;
 pub use refusal::{Blamed, Reason, Refusal, Unlaid};
+pub use table::put_laid;

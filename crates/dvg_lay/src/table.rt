@@ -17,7 +17,7 @@ use dvg_named::{NamedFrame, Source};
 use std::alloc::{AllocError, Allocator};
 
 /// Appends the bytes of a frame as it lies in a half, the low byte of each word first.
-pub(crate) fn put_laid<A: Allocator>(
+pub fn put_laid<A: Allocator>(
     text: &mut Vec<u8, A>,
     frame: Frame,
     half: Half,

@@ -35,3 +35,10 @@ mod KnownRom
 mod SketchRead
 mod OpLines
 mod SketchWhole
+mod OneMeaning
+mod FrontLimits
+mod LineFaults
+mod OneFault
+mod RowsStay
+mod MeantNames
+mod NoFaultBeside

@@ -87,11 +87,11 @@ abbrev pub front_frames : List Section → List FrameRows
 front_frames [] = []
 front_frames (first ∷ others) = top_list first.rows ++ filter_map frame_in others
 
-top_alone : (rows : List Row) → top_frame rows [] ++ [] ≡ record { name = None; rows = rows } ∷ []
+pub top_alone : (rows : List Row) → top_frame rows [] ++ [] ≡ record { name = None; rows = rows } ∷ []
 top_alone [] = refl
 top_alone (row ∷ rows) = refl
 
-top_before : (rows : List Row) (others : List Section) (last : Section) → top_frame rows (others ++ last ∷ []) ≡ top_list rows
+pub top_before : (rows : List Row) (others : List Section) (last : Section) → top_frame rows (others ++ last ∷ []) ≡ top_list rows
 top_before [] [] last = refl
 top_before [] (first ∷ others) last = refl
 top_before (row ∷ rows) others last = refl

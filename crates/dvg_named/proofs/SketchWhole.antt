@@ -23,7 +23,7 @@ use Rattle.dvg_named.specs.SketchReading.{spelled_in}
 use Rattle.dvg_named.specs.TextReading.{ReadsText}
 
 -- the rows of sections are those of the sections as they are laid
-rows_are : (free : ℕ) (sections : List RomRows) → rows_laid (laid_from free sections) ≡ flat_map (λ section. section.rows) sections
+pub rows_are : (free : ℕ) (sections : List RomRows) → rows_laid (laid_from free sections) ≡ flat_map (λ section. section.rows) sections
 rows_are free [] = refl
 rows_are free (section ∷ others) =
     ap (λ l. section.rows ++ l)

@@ -1,5 +1,4 @@
--- The sketch that lines spell, as the reader of lines cuts it: the sections before the last one, and that one
--- (for private contracts).
+-- The sketch that lines spell, as the reader of lines cuts it: the sections before the last one, and that one.
 use Rattle.std.specs.Prelude.{◌≡◌, ◌≢◌, ℕ, ◌+◌, max, List, [], ◌∷◌, ◌++◌, Any, get_or}
 use Rattle.std.specs.Prelude.{length, false, true, unwrap_or}
 use Rattle.std.specs.List.{filter_map, flat_map}

@@ -1,6 +1,10 @@
 -- Laws of sketches.
 use Rattle.std.specs.Prelude.{◌≡◌, ℕ, ◌<◌, List, length}
+use Rattle.dvg_text.specs.RomTexts.{RomText}
 use Rattle.dvg_text.specs.Texts.{parts}
+use Rattle.dvg_named.specs.declared.fault.NamedFault.{NamedFault}
+use Rattle.dvg_named.specs.Meanings.{Frame}
+use Rattle.dvg_named.specs.NamedFaults.{DenotesFrames, HasNamedFault}
 use Rattle.dvg_named.specs.PlainLines.{plain, words}
 use Rattle.dvg_named.specs.Sections.{Spelled, SpellsSketch}
 
@@ -12,3 +16,18 @@ WordsAreParts = (line : List ℕ) → 0 < length (words line) → parts (plain l
 abbrev pub OneSketch : Type 0
 OneSketch = (sketch other : Spelled) (ls : List (List ℕ)) → SpellsSketch sketch ls → SpellsSketch other ls
     → other ≡ sketch
+
+-- a text denotes one list of frames at most, and one ROM
+abbrev pub OneMeaning : Type 0
+OneMeaning = (text : List ℕ) (rom other : RomText) (result others : List Frame) → DenotesFrames text rom result
+    → DenotesFrames text other others → (other ≡ rom) × (others ≡ result)
+
+-- a text that denotes something has no fault
+abbrev pub NoFaultBeside : Type 0
+NoFaultBeside = (text : List ℕ) (rom : RomText) (result : List Frame) → DenotesFrames text rom result
+    → (fault : NamedFault) → ¬ HasNamedFault text fault
+
+-- a text has one fault at most
+abbrev pub OneFault : Type 0
+OneFault = (text : List ℕ) (fault other : NamedFault) → HasNamedFault text fault → HasNamedFault text other
+    → other ≡ fault

@@ -1,4 +1,4 @@
--- The lines in which the rows stand that the reader of a sketch holds (for private contracts).
+-- The lines in which the rows stand that the reader of a sketch holds.
 use Rattle.std.specs.Prelude.{◌≡◌, ℕ, ◌+◌, List, [], ◌∷◌, ◌++◌, All, Option, None, Some, length}
 use Rattle.std.specs.List.{AllZip}
 use Rattle.dvg_text.specs.Texts.{lines}

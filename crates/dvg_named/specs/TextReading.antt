@@ -1,4 +1,4 @@
--- What the reader of all lines of a sketch answers (for private contracts).
+-- What the reader of all lines of a sketch answers.
 use Rattle.std.specs.Prelude.{ℕ, ◌≤◌, List, length, map}
 use Rattle.dvg_text.specs.RomTexts.{RomText}
 use Rattle.dvg_text.specs.Texts.{lines, told}

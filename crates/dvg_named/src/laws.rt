@@ -1,5 +1,6 @@
 //! Laws of sketches. Each is the contract of a function that does nothing.
-ghost use Rattle.dvg_named.specs.SketchLaws.{OneSketch, WordsAreParts};
+ghost use Rattle.dvg_named.specs.SketchLaws.{NoFaultBeside, OneFault, OneMeaning, OneSketch};
+ghost use Rattle.dvg_named.specs.SketchLaws.{WordsAreParts};
 
 /// The words of a line are the parts of the line as a plain draft has it, where there is a word.
 pub fn words_are_parts()
@@ -9,4 +10,19 @@ pub fn words_are_parts()
 /// A list of lines spells one sketch at most.
 pub fn one_sketch()
     ensures { OneSketch }
+{}
+
+/// A text denotes one list of frames at most, and one ROM.
+pub fn one_meaning()
+    ensures { OneMeaning }
+{}
+
+/// A text that denotes frames and a ROM has no fault.
+pub fn no_fault_beside()
+    ensures { NoFaultBeside }
+{}
+
+/// A text has one fault at most.
+pub fn one_fault()
+    ensures { OneFault }
 {}

@@ -1,9 +1,8 @@
 //! Sketches as texts: drafts with names, of one or more frames, and the shapes of their ROM (the
-//! format is this project's own choice). They are defined here. All lines of a text are read, each
-//! within the limits, or up to the first line at fault. Of all lines that were read there are the
-//! frames, the bytes of the ROM and its names, and the first line that wants a name which no line
-//! gives. The drafts of all frames stand in one list. Rows become numbers and addresses of names,
-//! drafts and words of the ROM. What joins them to a whole sketch is missing.
+//! format is this project's own choice). All lines of a text are read, each within the limits, or
+//! up to the first line at fault. Of all lines come the frames, with the line of each operation,
+//! the bytes of the ROM and its names, or the first line that wants a name which no line gives.
+//! Each text has one meaning at most, and one fault, and never both.
 #![tactic(auto)]
 
 mod addresses;

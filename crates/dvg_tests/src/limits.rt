@@ -1,19 +1,44 @@
 //! How much the engines take of a reader that never ends.
 use crate::devices::Endless;
 use crate::tasks::{BANKED_ENTRIES, ENTRIES, PICTURES};
-use dvg_tool::{Done, Job, TextFault, ToolFault, Watched, perform};
+use dvg_tool::{Done, Job, LayForm, TextFault, ToolFault, Watched, perform};
 use std::alloc::Global;
 
 /// Each job, the most bytes of its input, and the fault of a longer one.
-const LIMITS: [(Job, usize, TextFault); 8] = [
+const LIMITS: [(Job, usize, TextFault); 14] = [
     (Job::List, 8192, TextFault::TooLong),
+    (Job::ListAt { address: 0 }, 8192, TextFault::TooLong),
     (Job::Rom, 4096, TextFault::RomSize),
     (Job::Picture { all: true }, 6144, TextFault::LongDump),
+    (Job::PictureSvg { percent: 100 }, 6144, TextFault::LongDump),
     (Job::Check { bound: false }, 1_048_576, TextFault::TooLong),
     (Job::Check { bound: true }, 1_048_576, TextFault::TooLong),
     (PICTURES, 1_048_576, TextFault::TooLong),
     (ENTRIES, 1_048_576, TextFault::TooLong),
     (BANKED_ENTRIES, 1_048_576, TextFault::TooLong),
+    (
+        Job::PlaySvg {
+            banked: false,
+            percent: 100,
+            rate: 30,
+        },
+        1_048_576,
+        TextFault::TooLong,
+    ),
+    (
+        Job::Draw {
+            percent: 100,
+            rate: 30,
+        },
+        1_048_576,
+        TextFault::TooLong,
+    ),
+    (Job::DrawCheck, 1_048_576, TextFault::TooLong),
+    (
+        Job::Lay { form: LayForm::Rom },
+        1_048_576,
+        TextFault::TooLong,
+    ),
 ];
 
 /// What a job answers of an input that never ends, and how many bytes were taken of it. None where

@@ -1,5 +1,5 @@
-//! The engines of the program `dvg` but `picture` and `torn`, over any watched reader and writer;
-//! the jobs that its words ask for, which are those of `dvg_words`. What it reads are the texts of
+//! The engines of the program `dvg` but `picture`, `torn`, `draw` and `lay`, over any watched reader
+//! and writer; the jobs that its words ask for, which are those of `dvg_words`. What it reads are the texts of
 //! `dvg_text`, and what it writes the lines of `dvg_lines`.
 //!
 //! An engine reads its whole input before it writes, and takes no memory after its first write: its
@@ -25,7 +25,7 @@ pub use dvg_logs::{LogCounts, LogFinding, LogVerdict, torn};
 pub use dvg_picture::{Outcome, Undrawn, picture, picture_svg};
 pub use dvg_svg::Show;
 pub use dvg_text::{MOST_TEXT_BYTES, TextFault};
-pub use dvg_words::{Job, job, words_status};
+pub use dvg_words::{Job, LayForm, job, words_status};
 pub use jobs::perform;
 pub use lists::{MOST_LIST_BYTES, list};
 pub use lists_at::list_at;

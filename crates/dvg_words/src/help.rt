@@ -266,7 +266,8 @@ then say nothing. The status is 1 where a frame may not be drawn.
 
 Without `--check` nothing is written of a sketch with such a frame: standard error
 tells the line at fault, or the word of the ROM and the name before it, with the
-fault, and the status is 1.
+fault, and the status is 1. So it is where the run of a frame fetches more than
+65,536 words.
 
 Faults of the text: those that `dvg help lay` tells.
 

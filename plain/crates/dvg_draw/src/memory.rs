@@ -1,15 +1,22 @@
 //! A memory that has a frame.
+use std::prelude::*;
+
 use dvg_code::OutOfMemory;
 use dvg_frame::Frame;
+use dvg_lay::put_laid;
 use dvg_mem::{Flat, Half, Image, MEMORY_BYTES, Store};
 use std::alloc::Allocator;
 
 /// A RAM of zeros with the frame in this half, and the jump to it in word zero.
 pub(crate) fn laid_ram<A: Allocator + Copy>(
     alloc: A,
-    frame: &Frame,
+    frame: Frame,
     half: Half,
 ) -> Result<Flat<A>, OutOfMemory> {
+    let count = 2 * frame.len_words();
+    let mut bytes = Vec::new(alloc);
+    put_laid(&mut bytes, frame, half)?;
+    let laid = bytes.as_slice();
     let Ok(image) = Image::new(alloc, &[0; MEMORY_BYTES]) else {
         return Err(OutOfMemory);
     };
@@ -17,8 +24,8 @@ pub(crate) fn laid_ram<A: Allocator + Copy>(
     store.write(0, 0x01);
     store.write(1, half.high());
     let first = 2 * half.base();
-    for k in 0..2 * frame.len_words() {
-        store.write(first + k, frame.byte(half, k));
+    for k in 0..count {
+        store.write(first + k, laid[usize::from(k)]);
     }
     Ok(store)
 }

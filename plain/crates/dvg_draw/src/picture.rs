@@ -14,7 +14,7 @@ use std::alloc::Allocator;
 pub(crate) fn picture_of<A: Allocator + Copy>(
     alloc: A,
     rom: Rom<A>,
-    frame: &Frame,
+    frame: Frame,
 ) -> Result<Vec<Stroke, A>, OutOfMemory> {
     // A frame has a draft, and a ROM 2,048 or 4,096 bytes, as their types say.
     let _ = frame.len_words();

@@ -107,7 +107,13 @@ pub fn tell_long<A: Allocator + Copy>(
     frame: &NamedFrame,
     words: u64,
 ) -> Unlaid<A> {
-    tell(alloc, names, frame, Place::InFrame(0), Reason::ManyWords(words))
+    tell(
+        alloc,
+        names,
+        frame,
+        Place::InFrame(0),
+        Reason::ManyWords(words),
+    )
 }
 
 /// The frame, where the check accepts it over the ROM, and else its fault and the line or the word
