@@ -262,3 +262,146 @@ pub fn random_bytes(count: usize) -> Vec<u8> {
     let mut random = Random(1979);
     (0..count).map(|_| random.below(256) as u8).collect()
 }
+
+// --- Sketches ---
+
+/// How many frames the sketch of frames has.
+pub const FRAMES: usize = 50;
+
+/// How many operations each of them has.
+pub const FRAME_OPERATIONS: usize = 2 * SHAPES_SHOWN + 2 * PARTS + 1 + PARTS * (PART_VECTORS + 1);
+
+/// How many strokes each of them has.
+pub const FRAME_STROKES: usize = SHAPES_SHOWN * SHAPE_VECTORS + PARTS * PART_VECTORS;
+
+/// The shapes of its ROM, the vectors of each, and how many of them a frame shows.
+const SHAPES: u16 = 32;
+const SHAPE_VECTORS: usize = 8;
+const SHAPES_SHOWN: usize = 24;
+
+/// The parts of a frame, each of which it calls once, and the vectors of each.
+const PARTS: usize = 8;
+const PART_VECTORS: usize = 4;
+
+/// How many names the sketch of names has in its ROM.
+pub const ROM_NAMES: usize = 1000;
+
+/// A short vector that is seen.
+fn short_vector(random: &mut Random) -> String {
+    let (scale, x, z) = (2 + random.below(4), random.below(4), 1 + random.below(15));
+    let (sign, y) = (["", "-"][usize::from(random.below(2))], 1 + random.below(3));
+    format!("svec {scale} {x} {sign}{y} {z}")
+}
+
+/// A place on the screen, and the global scale.
+fn place(random: &mut Random) -> String {
+    let (x, y, scale) = (random.below(1024), random.below(768), random.below(2));
+    format!("labs {x} {y} {scale}")
+}
+
+/// The text of a sketch of one frame of so many short vectors, without names.
+pub fn frame_of_vectors(count: usize) -> Vec<u8> {
+    let mut random = Random(1979);
+    let mut text = String::from("labs 512 400 0\n");
+    for _ in 0..count {
+        text += &short_vector(&mut random);
+        text.push('\n');
+    }
+    text += "halt\n";
+    text.into_bytes()
+}
+
+/// The lines of a frame that has a name: it calls shapes of the ROM and its own parts, each by its
+/// name.
+fn frame_with_names(number: usize, random: &mut Random) -> String {
+    let mut text = format!("\n# Frame {number} of {FRAMES}.\n.frame scene_{number}\n");
+    for _ in 0..SHAPES_SHOWN {
+        let (place, shape) = (place(random), random.below(SHAPES));
+        text += &format!("        {place}\n        callrom shape_{shape}\n");
+    }
+    for part in 0..PARTS {
+        text += &format!("        {}\n        call part_{part}\n", place(random));
+    }
+    text += "        halt\n";
+    for part in 0..PARTS {
+        text += &format!("part_{part}:\n");
+        for _ in 0..PART_VECTORS {
+            let (scale, x) = (random.below(8), random.below(1024));
+            let (y, z) = (1 + random.below(1023), 1 + random.below(15));
+            text += &format!("        vctr {scale} {x} -{y} {z}\n");
+        }
+        text += "        return\n";
+    }
+    text
+}
+
+/// The text of a sketch of frames with names, over shapes in the ROM that have names, too: some 115
+/// KB.
+pub fn sketch_of_frames() -> Vec<u8> {
+    let mut random = Random(1979);
+    let mut text = String::from(".rom\n");
+    for shape in 0..SHAPES {
+        text += &format!("shape_{shape}:\n");
+        for _ in 0..SHAPE_VECTORS {
+            text += &format!("        {}\n", short_vector(&mut random));
+        }
+        text += "        return\n";
+    }
+    for number in 0..FRAMES {
+        text += &frame_with_names(number, &mut random);
+    }
+    text.into_bytes()
+}
+
+/// The text of a sketch of many names in the larger ROM, of two words each. Two frames call all of
+/// them, each once.
+pub fn sketch_of_names() -> Vec<u8> {
+    let mut random = Random(1979);
+    let mut text = String::from("map 4096\n.rom\n");
+    for number in 0..ROM_NAMES {
+        let vector = short_vector(&mut random);
+        text += &format!("dash_{number}: {vector}\n        return\n");
+    }
+    for first in [0, ROM_NAMES / 2] {
+        text += &format!(".frame dashes_{first}\nlabs 512 400 0\n");
+        for number in first..first + ROM_NAMES / 2 {
+            text += &format!("callrom dash_{number}\n");
+        }
+        text += "halt\n";
+    }
+    text.into_bytes()
+}
+
+/// The most bytes of a sketch.
+const MOST_SKETCH_BYTES: usize = 1_048_576;
+
+/// Lines of six bytes that give a name each, of so many bytes. No name is given twice: each is the
+/// one before it, counted on by one.
+fn lines_of_names(bytes: usize) -> String {
+    let digits: Vec<char> = ('a'..='z').chain('0'..='9').chain(['_']).collect();
+    let name = |number: usize| -> String {
+        let places = [37 * 37 * 37, 37 * 37, 37, 1].iter();
+        places.map(|place| digits[number / place % 37]).collect()
+    };
+    (0..bytes / 6).map(|number| name(number) + ":\n").collect()
+}
+
+/// The text of a sketch of 1 MiB that gives as many names in one frame as have room.
+pub fn names_alone() -> Vec<u8> {
+    let (before, after) = ("labs 0 0 0\n", "halt\n");
+    let room = MOST_SKETCH_BYTES - before.len() - after.len();
+    [before, &lines_of_names(room), after].concat().into_bytes()
+}
+
+/// The text of a sketch of 1 MiB that gives so many names in its ROM, and calls the last of them
+/// as often as there is room for.
+pub fn names_called(count: usize) -> Vec<u8> {
+    let names = lines_of_names(6 * (count - 1));
+    let mut text = format!(".rom\n{names}z:\nreturn\n");
+    let calls = "callrom z\n".repeat(508);
+    let frame = format!(".frame\nlabs 0 0 0\n{calls}halt\n");
+    while text.len() + frame.len() <= MOST_SKETCH_BYTES {
+        text += &frame;
+    }
+    text.into_bytes()
+}

@@ -107,6 +107,13 @@ pub const DVG_ROWS: &[Row] = &[
         instructions(4096)
     })
     .each("word", 4096),
+    row(
+        "list --at, 8,192 bytes of VCTR",
+        &["list", "--at", "201"],
+        || vectors(2048),
+    )
+    .against(Against::Plain)
+    .each("line", 2048),
     row("rom, 2,048 random bytes", &["rom"], || random_bytes(2048)).each("word", 1024),
     row("check, 510 operations, 511 words", &["check"], || {
         operations(510)
@@ -147,6 +154,13 @@ pub const PICTURE_ROWS: &[Row] = &[
         image_of_a_picture,
     )
     .each("stroke", 254),
+    row(
+        "picture --svg, 254 strokes",
+        &["picture", "--svg"],
+        image_of_a_picture,
+    )
+    .against(Against::Plain)
+    .each("stroke", 254),
     row("picture, endless", &["picture"], image_without_end)
         .refused()
         .each("word", 65_536),
@@ -157,6 +171,48 @@ pub const PICTURE_ROWS: &[Row] = &[
     )
     .refused()
     .each("word", 65_536),
+];
+
+/// What is compared of the commands `draw` and `lay`.
+pub const SKETCH_ROWS: &[Row] = &[
+    row("lay, 50 frames", &["lay"], sketch_of_frames)
+        .against(Against::Plain)
+        .each("operation", FRAMES * FRAME_OPERATIONS),
+    row(
+        "lay --table, 50 frames",
+        &["lay", "--table"],
+        sketch_of_frames,
+    )
+    .against(Against::Plain)
+    .each("operation", FRAMES * FRAME_OPERATIONS),
+    row("lay --rom, 1,000 names", &["lay", "--rom"], sketch_of_names)
+        .against(Against::Plain)
+        .each("name", ROM_NAMES),
+    row("draw, a frame of 500 vectors", &["draw"], || {
+        frame_of_vectors(500)
+    })
+    .against(Against::Plain)
+    .each("stroke", 500),
+    row("draw, 50 frames", &["draw"], sketch_of_frames)
+        .against(Against::Plain)
+        .each("stroke", FRAMES * FRAME_STROKES),
+    row(
+        "draw --check, 50 frames",
+        &["draw", "--check"],
+        sketch_of_frames,
+    )
+    .against(Against::Plain)
+    .each("operation", FRAMES * FRAME_OPERATIONS),
+];
+
+/// Sketches of 1 MiB that are slow to read, as their names are looked for one after the other. Each
+/// is read once.
+pub const NAME_ROWS: &[Row] = &[
+    row("lay, 174,760 names in a frame", &["lay"], names_alone).against(Against::Plain),
+    row("lay, 105,000 names in the ROM, and calls", &["lay"], || {
+        names_called(105_000)
+    })
+    .against(Against::Plain),
 ];
 
 /// What is compared of the command `play`.
@@ -198,6 +254,13 @@ pub const PLAY_ROWS: &[Row] = &[
         pictures,
     )
     .wanted(2.0)
+    .each("event", 64_579),
+    row(
+        "play --svg, 62 pictures of 254 strokes",
+        &["play", "--svg"],
+        pictures,
+    )
+    .against(Against::Plain)
     .each("event", 64_579),
     row(
         "play, 1 MiB of offers, 510 operations each",

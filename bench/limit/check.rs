@@ -16,7 +16,7 @@ mod runs;
 mod texts;
 
 use inputs::Random;
-use rows::{DVG_ROWS, PICTURE_ROWS, PLAY_ROWS};
+use rows::{Against, DVG_ROWS, PICTURE_ROWS, PLAY_ROWS};
 use runs::Contender;
 use std::fs::{self, File};
 use std::io::{self, Read, Seek, SeekFrom, Write};
@@ -161,9 +161,11 @@ fn cases(check: &mut Check, folder: &Path) -> io::Result<()> {
     Ok(())
 }
 
-/// The inputs of the comparison of speed: in a file, through a pipe, and from a second line on.
+/// The inputs of the comparison of speed, where the limit has the row: in a file, through a pipe,
+/// and from a second line on.
 fn bench_inputs(check: &mut Check) -> io::Result<()> {
-    for row in DVG_ROWS.iter().chain(PLAY_ROWS).chain(PICTURE_ROWS) {
+    let rows = DVG_ROWS.iter().chain(PLAY_ROWS).chain(PICTURE_ROWS);
+    for row in rows.filter(|row| !matches!(row.against, Against::Plain)) {
         let input = (row.input)();
         check.compare(row.name, row.words, &input)?;
         if input.len() <= 2_000_000 {
