@@ -42,3 +42,6 @@ mod OneFault
 mod RowsStay
 mod MeantNames
 mod NoFaultBeside
+mod SmallWords
+mod TidyLines
+mod PlainDrafts

@@ -1,6 +1,6 @@
 //! Laws of sketches. Each is the contract of a function that does nothing.
 ghost use Rattle.dvg_named.specs.SketchLaws.{NoFaultBeside, OneFault, OneMeaning, OneSketch};
-ghost use Rattle.dvg_named.specs.SketchLaws.{WordsAreParts};
+ghost use Rattle.dvg_named.specs.SketchLaws.{PlainDrafts, WordsAreParts};
 
 /// The words of a line are the parts of the line as a plain draft has it, where there is a word.
 pub fn words_are_parts()
@@ -25,4 +25,9 @@ pub fn no_fault_beside()
 /// A text has one fault at most.
 pub fn one_fault()
     ensures { OneFault }
+{}
+
+/// Each plain draft is a sketch of one frame without a name: of the same draft, and the same ROM.
+pub fn plain_drafts()
+    ensures { PlainDrafts }
 {}
