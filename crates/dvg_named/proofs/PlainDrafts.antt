@@ -18,7 +18,7 @@ use Rattle.dvg_named.specs.Places.{Laid, doings}
 use Rattle.dvg_named.specs.PlainLines.{is_blank, is_some_byte, plain, plain_lines, uncommented, words}
 use Rattle.dvg_named.specs.Rows.{IsRowLine, Row, RowParts, does, plainly}
 use Rattle.dvg_named.specs.Rows as rows
-use Rattle.dvg_named.specs.Sections.{Spelled, SpellsSketch, frames}
+use Rattle.dvg_named.specs.Sections.{Spelled, SpellsSketch}
 use Rattle.dvg_named.specs.SketchSteps.{so_far}
 use Rattle.dvg_named.proofs.LineCuts.{cut_at_comment}
 use Rattle.dvg_named.proofs.PlainWords.{passed_without_words}
