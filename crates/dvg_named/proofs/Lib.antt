@@ -45,3 +45,6 @@ mod NoFaultBeside
 mod SmallWords
 mod TidyLines
 mod PlainDrafts
+mod RowsCome
+mod GivenMeaning
+mod MeaningOrFault

@@ -34,6 +34,11 @@ abbrev pub OneFault : Type 0
 OneFault = (text : List ℕ) (fault other : NamedFault) → HasNamedFault text fault → HasNamedFault text other
     → other ≡ fault
 
+-- no text lacks both a meaning and a fault
+abbrev pub NoneLacksBoth : Type 0
+NoneLacksBoth = (text : List ℕ) → ((rom : RomText) (result : List Frame) → ¬ DenotesFrames text rom result)
+    → ¬ ((fault : NamedFault) → ¬ HasNamedFault text fault)
+
 -- each plain draft is a sketch, of one frame without a name: the draft is the same, and the ROM
 abbrev pub PlainDrafts : Type 0
 PlainDrafts = (text : List ℕ) (rom : RomText) (draft : List OpKind) → Denotes text rom draft
