@@ -12,11 +12,12 @@ use Rattle.dvg_named.specs.declared.fault.NamedFault.{NamedFault}
 use Rattle.dvg_named.specs.declared.fault.NamedFault.TheVariants.{Full, OutOfRom, Overlap, Syntax, TooLong, Twice, Unknown}
 use Rattle.dvg_named.specs.FirstUnknown.{WantsNone}
 use Rattle.dvg_named.specs.Meanings.{Frame}
-use Rattle.dvg_named.specs.NamedFaults.{AreDistinct, DenotesFrames, HasNamedFault, KeepsLimits, Meets, ReachesLine, WantsUngiven, laid_of}
+use Rattle.dvg_named.specs.NamedFaults.{DenotesFrames, HasNamedFault, KeepsLimits, Meets, ReachesLine, WantsUngiven, laid_of}
 use Rattle.dvg_named.specs.PlainLines.{plain_lines}
 use Rattle.dvg_named.specs.Rows.{Row}
 use Rattle.dvg_named.specs.Sections.{Section, Spelled, SpellsSketch, sections}
 use Rattle.dvg_named.specs.SketchSteps.{so_far}
+use Rattle.dvg_named.proofs.FrontLimits.{no_names}
 use Rattle.dvg_named.proofs.GivenMeaning.{meaning_found}
 use Rattle.dvg_named.proofs.LineFaults.{Breaks, Kind, full, outside, overlap, twice}
 use Rattle.dvg_named.proofs.OneSketch.{goes_on, says_nothing}
@@ -35,9 +36,6 @@ record IsRead (ls : List (List ℕ)) : Type 0 where
 
 abbrev bare : Spelled
 bare = so_far untold [] []
-
-no_names : AreDistinct []
-no_names = λ i j d low inside. absurd (omega (arith, low, inside))
 
 bare_kept : KeepsLimits bare
 bare_kept = record {

@@ -20,6 +20,7 @@ use Rattle.dvg_named.specs.Rows.{IsRowLine, Row, RowParts, does, plainly}
 use Rattle.dvg_named.specs.Rows as rows
 use Rattle.dvg_named.specs.Sections.{Spelled, SpellsSketch}
 use Rattle.dvg_named.specs.SketchSteps.{so_far}
+use Rattle.dvg_named.proofs.FrontLimits.{no_names}
 use Rattle.dvg_named.proofs.LineCuts.{cut_at_comment}
 use Rattle.dvg_named.proofs.PlainWords.{passed_without_words}
 use Rattle.dvg_named.proofs.ReadCuts.{top_alone}
@@ -213,9 +214,6 @@ doings_are (op ∷ ops) = ap (λ l. plainly op ∷ l) (doings_are ops)
 drafted : (laid : List Laid) (all : List Row) (ops : List OpKind) → AllZip (IsDrafted laid all) (map plainly ops) ops
 drafted laid all [] = tt
 drafted laid all (op ∷ ops) = (refl, drafted laid all ops)
-
-no_names : AreDistinct []
-no_names = λ i j d low inside. absurd (omega (arith, low, inside))
 
 module _ (text : List ℕ) (rom : RomText) (ops : List OpKind) (h : Denotes text rom ops) where
   abbrev all_rows : List Row
