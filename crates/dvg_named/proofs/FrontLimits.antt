@@ -44,7 +44,7 @@ module _ (P : FrameRows → Type 0) (none : P (framed None []))
 distinct_front : (names more : List (List ℕ)) → AreDistinct (names ++ more) → AreDistinct names
 distinct_front = pairs_front (λ name other. name ≢ other)
 
-no_names : AreDistinct []
+pub no_names : AreDistinct []
 no_names = λ i j d low inside. absurd (omega (arith, low, inside))
 
 once_fewer : (name : Option (List ℕ)) (rows : List Row) (row : Row) → IsOnce (framed name (rows ++ row ∷ []))

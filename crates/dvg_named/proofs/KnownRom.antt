@@ -48,13 +48,13 @@ module _ (laid : List Laid) where
         ungiven = as_rom laid address rows w.doing w.ungiven;
       })) all
 
-  rom_known : (others : List Section) → All (WantsNone laid) others → All Knows (filter_map rom_in others)
+  pub rom_known : (others : List Section) → All (WantsNone laid) others → All Knows (filter_map rom_in others)
   rom_known [] all = All-nil Knows
   rom_known (section ∷ others) all =
       one_known section.head section.rows (filter_map rom_in others) (All-head (WantsNone laid) section others all)
       (rom_known others (All-tail (WantsNone laid) section others all))
 
-  laid_known : (roms : List RomRows) (free : ℕ) → All Knows roms → All LaidKnows (laid_from free roms)
+  pub laid_known : (roms : List RomRows) (free : ℕ) → All Knows roms → All LaidKnows (laid_from free roms)
   laid_known [] free all = All-nil LaidKnows
   laid_known (section ∷ roms) free all =
       let start = unwrap_or section.address free in

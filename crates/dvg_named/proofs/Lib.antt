@@ -42,3 +42,9 @@ mod OneFault
 mod RowsStay
 mod MeantNames
 mod NoFaultBeside
+mod SmallWords
+mod TidyLines
+mod PlainDrafts
+mod RowsCome
+mod GivenMeaning
+mod MeaningOrFault

@@ -30,14 +30,14 @@ may_by top rows others may all = all
 may_by (frame name) rows others may all = all
 may_by (rom address) rows others may all = All-cons May (record { address = address; rows = rows }) others may all
 
-sections_may : (sections : List Section) (rest : List (List (List ℕ))) → AllZip SpellsSection sections rest
+pub sections_may : (sections : List Section) (rest : List (List (List ℕ))) → AllZip SpellsSection sections rest
     → All May (filter_map rom_in sections)
 sections_may [] rest h = λ k d low. absurd (omega (arith, low))
 sections_may (section ∷ sections) [] h = absurd h
 sections_may (section ∷ sections) (ls ∷ rest) h =
     may_by section.head section.rows (filter_map rom_in sections) h.0.may (sections_may sections rest h.1)
 
-laid_may : (sections : List RomRows) (free : ℕ) → All May sections → All LaidMay (laid_from free sections)
+pub laid_may : (sections : List RomRows) (free : ℕ) → All May sections → All LaidMay (laid_from free sections)
 laid_may [] free all = λ k d low. absurd (omega (arith, low))
 laid_may (section ∷ sections) free all =
     let start = unwrap_or section.address free in

@@ -61,7 +61,7 @@ last_stays (first ∷ front) last next (suc place) row h =
     deeper first (front ++ with_row last next ∷ []) place row (last_stays front last next place row rest)
 
 -- the rows at the top, as a section
-abbrev at_top : List Row → Section
+abbrev pub at_top : List Row → Section
 at_top rows = record { head = top; rows = rows }
 
 stays_by : (s t : Spelled) (l : List ℕ) (place : ℕ) (row : Row) → Goes s l t → HasAt (sections s) place row

@@ -1,5 +1,7 @@
 -- Laws of sketches.
-use Rattle.std.specs.Prelude.{◌≡◌, ℕ, ◌<◌, List, length}
+use Rattle.std.specs.Prelude.{◌≡◌, ℕ, ◌<◌, List, [], ◌∷◌, None, length}
+use Rattle.dvg_frame.specs.declared.op.OpKind.{OpKind}
+use Rattle.dvg_text.specs.DraftTexts.{Denotes}
 use Rattle.dvg_text.specs.RomTexts.{RomText}
 use Rattle.dvg_text.specs.Texts.{parts}
 use Rattle.dvg_named.specs.declared.fault.NamedFault.{NamedFault}
@@ -31,3 +33,13 @@ NoFaultBeside = (text : List ℕ) (rom : RomText) (result : List Frame) → Deno
 abbrev pub OneFault : Type 0
 OneFault = (text : List ℕ) (fault other : NamedFault) → HasNamedFault text fault → HasNamedFault text other
     → other ≡ fault
+
+-- no text lacks both a meaning and a fault
+abbrev pub NoneLacksBoth : Type 0
+NoneLacksBoth = (text : List ℕ) → ((rom : RomText) (result : List Frame) → ¬ DenotesFrames text rom result)
+    → ¬ ((fault : NamedFault) → ¬ HasNamedFault text fault)
+
+-- each plain draft is a sketch, of one frame without a name: the draft is the same, and the ROM
+abbrev pub PlainDrafts : Type 0
+PlainDrafts = (text : List ℕ) (rom : RomText) (draft : List OpKind) → Denotes text rom draft
+    → DenotesFrames text rom (record { name = None; draft = draft } ∷ [])

@@ -1,6 +1,6 @@
 //! Laws of sketches. Each is the contract of a function that does nothing.
-ghost use Rattle.dvg_named.specs.SketchLaws.{NoFaultBeside, OneFault, OneMeaning, OneSketch};
-ghost use Rattle.dvg_named.specs.SketchLaws.{WordsAreParts};
+ghost use Rattle.dvg_named.specs.SketchLaws.{NoFaultBeside, NoneLacksBoth, OneFault, OneMeaning};
+ghost use Rattle.dvg_named.specs.SketchLaws.{OneSketch, PlainDrafts, WordsAreParts};
 
 /// The words of a line are the parts of the line as a plain draft has it, where there is a word.
 pub fn words_are_parts()
@@ -25,4 +25,14 @@ pub fn no_fault_beside()
 /// A text has one fault at most.
 pub fn one_fault()
     ensures { OneFault }
+{}
+
+/// No text lacks both a meaning and a fault.
+pub fn none_lacks_both()
+    ensures { NoneLacksBoth }
+{}
+
+/// Each plain draft is a sketch of one frame without a name: of the same draft, and the same ROM.
+pub fn plain_drafts()
+    ensures { PlainDrafts }
 {}

@@ -24,9 +24,11 @@ use Rattle.dvg_tool.specs.Plays.{Plays, StopsBeforeShowing}
 use Rattle.dvg_tool.specs.PlaysSvg.{PlaysSvg}
 use Rattle.dvg_svg.specs.declared.show.Show.{Show}
 use Rattle.dvg_tool.specs.declared.outcome.Done.{Done}
-use Rattle.dvg_tool.specs.declared.outcome.Done.TheVariants.{Written, Judged, Bounded, Drew, DrewSvg, Searched, Refused, CheckedFrames}
+use Rattle.dvg_tool.specs.declared.outcome.Done.TheVariants.{Written, Judged, Bounded, Drew, DrewSvg, Searched}
+use Rattle.dvg_tool.specs.declared.outcome.Done.TheVariants.{Refused, CheckedFrames}
 use Rattle.dvg_words.specs.declared.task.Job.{Job}
-use Rattle.dvg_words.specs.declared.task.Job.TheVariants.{List as list_job, ListAt, Rom, Picture, PictureSvg, Check, Play, PlaySvg, Torn, Draw, DrawCheck, Lay}
+use Rattle.dvg_words.specs.declared.task.Job.TheVariants.{List as list_job, ListAt, Rom, Picture, PictureSvg, Check}
+use Rattle.dvg_words.specs.declared.task.Job.TheVariants.{Play, PlaySvg, Torn, Draw, DrawCheck, Lay}
 use Rattle.dvg_words.specs.declared.task.LayForm.{LayForm}
 use Rattle.dvg_words.specs.declared.task.LayForm.TheVariants as asked
 
@@ -56,8 +58,8 @@ told_drawn (drawns.Refused refusal) = Refused refusal
 -- run came to, or as SVG why it drew no picture, `torn` what is said of the log, `lay` and `draw`
 -- why a frame is refused, `draw --check` whether all frames are good, and no other job tells
 -- anything
-abbrev pub Performs : {A : Type 0} → Job → Result (Done A) ToolFault → (input : List ℕ) → Option (List ℕ) → Option (List ℕ)
-    → Type 0
+abbrev pub Performs : {A : Type 0} → Job → Result (Done A) ToolFault → (input : List ℕ) → Option (List ℕ)
+    → Option (List ℕ) → Type 0
 Performs {A} list_job (Ok Written) input old new = Lists {T = Done A} (Ok Written) input old new
 Performs {A} list_job (Err fault) input old new = Lists {T = Done A} (Err fault) input old new
 Performs {A} (ListAt address) (Ok Written) input old new = ListsAt {T = Done A} address (Ok Written) input old new
@@ -85,7 +87,8 @@ Performs {A} (Lay form) (Ok done) input old new =
 Performs {A} (Lay form) (Err fault) input old new = Lays {A = A} (form_of form) (Err fault) input old new
 Performs {A} (Draw percent rate) (Ok done) input old new =
     (drawn : Drawn A) × (done ≡ told_drawn drawn) × Draws (show_of percent rate) (Ok drawn) input old new
-Performs {A} (Draw percent rate) (Err fault) input old new = Draws {A = A} (show_of percent rate) (Err fault) input old new
+Performs {A} (Draw percent rate) (Err fault) input old new =
+    Draws {A = A} (show_of percent rate) (Err fault) input old new
 Performs {A} DrawCheck (Ok (CheckedFrames good)) input old new = (said : Said A)
     × (IsTrue good ↔ All IsGoodVerdict said.verdicts.items) × ChecksSketch (Ok said) input old new
 Performs {A} DrawCheck (Err fault) input old new = ChecksSketch {A = A} (Err fault) input old new

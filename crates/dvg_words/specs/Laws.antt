@@ -1,10 +1,14 @@
 -- What some words come to.
 use Rattle.std.specs.Prelude.{◌≡◌, true, false, List, [], ◌∷◌, codes}
 use Rattle.clap.specs.Words.{Kinds, Text, subcommand_of}
-use Rattle.clap.specs.declared.error.kind.ErrorKind.TheVariants.{ArgumentConflict, DisplayHelp, DisplayVersion, InvalidSubcommand, InvalidValue, MissingRequiredArgument, MissingSubcommand, UnknownArgument}
+use Rattle.clap.specs.declared.error.kind.ErrorKind.TheVariants.{ArgumentConflict, DisplayHelp, DisplayVersion}
+use Rattle.clap.specs.declared.error.kind.ErrorKind.TheVariants.{InvalidSubcommand, InvalidValue}
+use Rattle.clap.specs.declared.error.kind.ErrorKind.TheVariants.{MissingRequiredArgument, MissingSubcommand}
+use Rattle.clap.specs.declared.error.kind.ErrorKind.TheVariants.{UnknownArgument}
 use Rattle.dvg_words.specs.Words.{IsJob, TakesWords, dvg_app, words_fault}
 use Rattle.dvg_words.specs.declared.task.Job.{Job}
-use Rattle.dvg_words.specs.declared.task.Job.TheVariants.{List as list_job, ListAt, Rom, Picture, PictureSvg, Check, Play, PlaySvg, Torn, Draw, DrawCheck, Lay}
+use Rattle.dvg_words.specs.declared.task.Job.TheVariants.{List as list_job, ListAt, Rom, Picture, PictureSvg, Check}
+use Rattle.dvg_words.specs.declared.task.Job.TheVariants.{Play, PlaySvg, Torn, Draw, DrawCheck, Lay}
 use Rattle.dvg_words.specs.declared.task.LayForm.TheVariants.{Half0, Half1, Table, Rom as RomBytes, Equates}
 
 -- after any name of the program, the words are taken and ask for the job
@@ -33,7 +37,8 @@ TextJobWords = AskFor (codes "list" ∷ []) list_job
     × AskFor (codes "play" ∷ codes "--banked" ∷ []) (Play false true)
     × AskFor (codes "play" ∷ codes "--banked" ∷ codes "--all" ∷ []) (Play true true)
     × AskFor (codes "play" ∷ codes "--svg" ∷ []) (PlaySvg false 100 30)
-    × AskFor (codes "play" ∷ codes "--rate" ∷ codes "60" ∷ codes "--svg" ∷ codes "--banked" ∷ codes "--scale=400" ∷ []) (PlaySvg true 400 60)
+    × AskFor (codes "play" ∷ codes "--rate" ∷ codes "60" ∷ codes "--svg" ∷ codes "--banked" ∷ codes "--scale=400" ∷ [])
+    (PlaySvg true 400 60)
     × AskFor (codes "torn" ∷ []) Torn
 
 -- the words of each job that reads a sketch

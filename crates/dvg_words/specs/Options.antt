@@ -1,5 +1,7 @@
 -- What the options of a subcommand tell, and how they are refused.
-use Rattle.std.specs.Prelude.{◌≡◌, ◌==◌, ◌&&◌, ◌||◌, ℕ, Bool, true, false, not, List, [], ◌∷◌, Option, Some, None, Result, MatchResult, codes, count_by, if◌then◌else◌, is_some, length, nat_lt, option_and_then}
+use Rattle.std.specs.Prelude.{◌≡◌, ◌==◌, ◌&&◌, ◌||◌, ℕ, Bool, true, false, not, List, [], ◌∷◌, Option, Some, None}
+use Rattle.std.specs.Prelude.{Result, MatchResult, codes, count_by, if◌then◌else◌, is_some, length, nat_lt}
+use Rattle.std.specs.Prelude.{option_and_then}
 use Rattle.std.specs.Char.{digit_value}
 use Rattle.std.specs.Int.{is_in_range}
 use Rattle.std.specs.List.{list_all}
@@ -8,7 +10,8 @@ use Rattle.std.specs.Str.{bytes_eq}
 use Rattle.std.specs.Str.Parse.{digits_value, without_leading_plus}
 use Rattle.clap.specs.Words.{Kinds, Row, Text, first_of}
 use Rattle.clap.specs.declared.error.kind.ErrorKind.{ErrorKind}
-use Rattle.clap.specs.declared.error.kind.ErrorKind.TheVariants.{ArgumentConflict, InvalidValue, MissingRequiredArgument}
+use Rattle.clap.specs.declared.error.kind.ErrorKind.TheVariants.{ArgumentConflict, InvalidValue}
+use Rattle.clap.specs.declared.error.kind.ErrorKind.TheVariants.{MissingRequiredArgument}
 use Rattle.dvg_words.specs.declared.options.Shown.{Shown}
 use Rattle.dvg_words.specs.declared.task.LayForm.{LayForm}
 use Rattle.dvg_words.specs.declared.task.LayForm.TheVariants.{Half0, Half1, Table, Rom as RomBytes, Equates}

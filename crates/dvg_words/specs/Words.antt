@@ -2,13 +2,15 @@
 use Rattle.std.specs.Prelude.{◌≡◌, ◌⊎◌, ℕ, Bool, true, false, List, [], ◌∷◌, Option, Some, codes, option_map}
 use Rattle.std.specs.Option.{option_map_or}
 use Rattle.clap.specs.Kinds.{or_else}
-use Rattle.clap.specs.Words.{App, Kinds, Row, Rule, Shape, Text, fault_of, new_app, new_rule, subcommand_of, takes, with_rule}
+use Rattle.clap.specs.Words.{App, Kinds, Row, Rule, Shape, Text, fault_of, new_app, new_rule, subcommand_of, takes}
+use Rattle.clap.specs.Words.{with_rule}
 use Rattle.clap.specs.declared.builder.ArgAction.TheVariants.{Set, SetTrue}
 use Rattle.clap.specs.declared.error.kind.ErrorKind.{ErrorKind}
 use Rattle.clap.specs.declared.error.kind.ErrorKind.TheVariants.{DisplayHelp, DisplayVersion, OutOfMemory}
 use Rattle.dvg_words.specs.Options.{address_of, fault_in, form_of, gives, percent_of, rate_of, sets}
 use Rattle.dvg_words.specs.declared.task.Job.{Job}
-use Rattle.dvg_words.specs.declared.task.Job.TheVariants.{List as list_job, ListAt, Rom, Picture, PictureSvg, Check, Play, PlaySvg, Torn, Draw, DrawCheck, Lay}
+use Rattle.dvg_words.specs.declared.task.Job.TheVariants.{List as list_job, ListAt, Rom, Picture, PictureSvg, Check}
+use Rattle.dvg_words.specs.declared.task.Job.TheVariants.{Play, PlaySvg, Torn, Draw, DrawCheck, Lay}
 use Rattle.dvg_words.specs.declared.task.LayForm.{LayForm}
 
 -- a subcommand with no option of its own
@@ -95,12 +97,14 @@ IsJob list_job met = option_map {U = Text × Bool} (λ p. (p.0, gives (codes "at
 IsJob (ListAt address) met =
     option_map {U = Text × Option ℕ} (λ p. (p.0, address_of p.1)) met ≡ Some (codes "list", Some address)
 IsJob Rom met = option_map (λ p. p.0) met ≡ Some (codes "rom")
-IsJob (Picture all) met = option_map {U = Text × Bool × Bool} (λ p. (p.0, sets (codes "svg") p.1, sets (codes "all") p.1)) met
+IsJob (Picture all) met =
+    option_map {U = Text × Bool × Bool} (λ p. (p.0, sets (codes "svg") p.1, sets (codes "all") p.1)) met
     ≡ Some (codes "picture", false, all)
 IsJob (PictureSvg percent) met =
     option_map {U = Text × Bool × Option ℕ} (λ p. (p.0, sets (codes "svg") p.1, percent_of p.1)) met
     ≡ Some (codes "picture", true, Some percent)
-IsJob (Check bound) met = option_map {U = Text × Bool} (λ p. (p.0, sets (codes "bound") p.1)) met ≡ Some (codes "check", bound)
+IsJob (Check bound) met =
+    option_map {U = Text × Bool} (λ p. (p.0, sets (codes "bound") p.1)) met ≡ Some (codes "check", bound)
 IsJob (Play all banked) met = option_map {U = Text × Bool × Bool × Bool}
     (λ p. (p.0, sets (codes "svg") p.1, sets (codes "all") p.1, sets (codes "banked") p.1)) met
     ≡ Some (codes "play", false, all, banked)

@@ -76,8 +76,10 @@ fn entered(matches: &ArgMatches) -> Result<Job, ErrorKind>
 // The matching of words, which enters a subcommand where they are taken.
 fn matched<'a>(alloc: Global, words: &'a [&'a str]) -> Result<ArgMatches<'a>, Error>
     ensures some { IfOk result (λ m. has_subcommand m ≡ true) }
-    ensures rows { IfOk result (λ m. subcommand_rows_of m ≡ subcommand_of dvg_app (map (λ w. w.now) words.entry.now)) }
-    ensures err { IfErr result (λ e. takes dvg_app (map (λ w. w.now) words.entry.now) ≡ true → kind_of e ≡ ErrorKind.OutOfMemory) }
+    ensures rows { IfOk result (λ m.
+        subcommand_rows_of m ≡ subcommand_of dvg_app (map (λ w. w.now) words.entry.now)) }
+    ensures err { IfErr result (λ e. takes dvg_app (map (λ w. w.now) words.entry.now) ≡ true
+        → kind_of e ≡ ErrorKind.OutOfMemory) }
     ensures kinds { FailsBy (fault_of dvg_app (map (λ w. w.now) words.entry.now)) result }
 {
     command(alloc)?.try_get_matches_from(words)
@@ -86,16 +88,19 @@ fn matched<'a>(alloc: Global, words: &'a [&'a str]) -> Result<ArgMatches<'a>, Er
 /// What the words ask for: the subcommand and the options that they match. The first word is the
 /// program's name, and may be anything.
 ///
-/// An error is help or the version that the words ask for (`DisplayHelp`, `DisplayVersion`), a refusal of words that ask for nothing the
-/// program can do, or want of memory (`OutOfMemory`). Its text is its `Display`.
+/// An error is help or the version that the words ask for (`DisplayHelp`, `DisplayVersion`), a
+/// refusal of words that ask for nothing the program can do, or want of memory (`OutOfMemory`). Its
+/// text is its `Display`.
 pub fn job<'a>(alloc: Global, words: &'a [&'a str]) -> Result<Job, Error>
-    ensures ok { IfOk result (λ j. IsJob j (subcommand_of dvg_app (map (λ w. w.now) words.entry.now))) }
+    ensures ok { IfOk result (λ j.
+        IsJob j (subcommand_of dvg_app (map (λ w. w.now) words.entry.now))) }
 
     // Words that are taken fail for want of memory alone.
-    ensures err { IfErr result (λ e. TakesWords (map (λ w. w.now) words.entry.now) → kind_of e ≡ ErrorKind.OutOfMemory) }
+    ensures err { IfErr result (λ e. TakesWords (map (λ w. w.now) words.entry.now)
+        → kind_of e ≡ ErrorKind.OutOfMemory) }
 
-    // A job is answered only where the words come to no kind of error; an error has one of the kinds that they come
-    // to, or memory ran out.
+    // A job is answered only where the words come to no kind of error; an error has one of the
+    // kinds that they come to, or memory ran out.
     ensures kinds { FailsBy (words_fault (map (λ w. w.now) words.entry.now)) result }
 {
     let matches = match matched(alloc, words) {
