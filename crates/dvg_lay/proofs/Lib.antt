@@ -1,5 +1,6 @@
 mod Grew
 mod LaidBytes
+mod LaidCuttings
 pub mod Lists
 mod NearNames
 mod RomBytes

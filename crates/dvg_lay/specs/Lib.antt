@@ -3,3 +3,4 @@ pub mod Texts
 pub mod Refusals
 pub mod Forms
 pub mod Sketches
+pub mod Laws

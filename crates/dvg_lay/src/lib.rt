@@ -10,6 +10,7 @@
 mod checking;
 mod engine;
 mod form;
+pub mod laws;
 mod laying;
 mod lent;
 mod names;

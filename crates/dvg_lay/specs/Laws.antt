@@ -1,0 +1,32 @@
+-- Laws of what is laid out.
+use Rattle.std.specs.Prelude.{◌≡◌, ℕ, List, [], Some, length, slice_get, take}
+use Rattle.dvg_code.specs.Cutting.{Cutting, Placed}
+use Rattle.dvg_code.specs.Spelling.{canon}
+use Rattle.dvg_code.specs.Words.{words_of}
+use Rattle.dvg_mem.specs.declared.half.Half.{Half}
+use Rattle.dvg_frame.specs.declared.op.OpKind.{OpKind}
+use Rattle.dvg_frame.specs.Bytes.{bytes}
+use Rattle.dvg_frame.specs.Layout.{laid, op_code, size}
+use Rattle.dvg_frame.specs.Ops.{IsDraft}
+
+-- an operation of a draft as an instruction at a place, with its canonical words for a half
+abbrev pub op_at : Half → List OpKind → ℕ → OpKind → Placed
+op_at half F place op =
+    record { place = place; instr = op_code half F op; words = canon (op_code half F op) }
+
+-- a cutting has a draft's operations in order, each at the place after the words before it, and no rest
+pub record IsOfDraft (half : Half) (F : List OpKind) (cutting : Cutting (laid half F)) : Type 0 where
+  pub count : length cutting.items ≡ length F
+  pub each : (i : ℕ) (op : OpKind) → slice_get F i ≡ Some op
+      → slice_get cutting.items i ≡ Some (op_at half F (size (take i F)) op)
+  pub ends : cutting.end ≡ size F
+  pub whole : cutting.rest ≡ []
+
+-- the words of each draft have a cutting, and each cutting of them has the draft's operations
+abbrev pub ListsAsDraft : Type 0
+ListsAsDraft = (half : Half) (F : List OpKind) → IsDraft F
+    → Cutting (laid half F) × ((cutting : Cutting (laid half F)) → IsOfDraft half F cutting)
+
+-- the bytes of a layout make its words again
+abbrev pub WordsAgain : Type 0
+WordsAgain = (half : Half) (F : List OpKind) → words_of (bytes (laid half F)) ≡ laid half F
