@@ -60,7 +60,7 @@ export class Chance {
   }
 }
 
-/* How many microseconds the driver on the board takes for an action: docs/BOARD.md has the cycles,
+/* How many microseconds the driver on the board takes for an action: board/README.md has the cycles,
  * of which there are 1.5 in a microsecond. */
 function actionTime(text) {
   if (text.startsWith('wrote')) return 19;

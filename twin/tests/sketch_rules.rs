@@ -262,16 +262,9 @@ fn the_first_line_at_fault_is_told() {
 }
 
 #[test]
-fn the_sketch_of_the_formats_is_read() {
-    let formats = include_str!("../../docs/FORMATS.md");
-    let sketch: String = formats
-        .lines()
-        .skip_while(|line| !line.starts_with("    map 2048 "))
-        .take_while(|line| line.starts_with("    "))
-        .map(|line| format!("{line}\n"))
-        .collect();
+fn the_sketch_of_the_examples_is_read() {
     assert_eq!(
-        meant(&sketch),
+        meant(include_str!("../../examples/title.sketch")),
         Ok(
             "title: labs 512 400 0, callrom 8A0, jump 3, halt; ship = 8A0; 8A0 F171; 8A1 F075"
                 .into()

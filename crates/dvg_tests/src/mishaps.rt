@@ -1,5 +1,6 @@
 //! Devices that fail at each call in turn, once or from then on: every failure is told at once, and
 //! nothing is tried again.
+use crate::answers::told;
 use crate::devices::{Failing, Mishap};
 use crate::tasks::{NOT_TORN, Task, tasks, written};
 use dvg_frame::FrameFault;
@@ -68,7 +69,7 @@ fn watched_passes_each_failure_on(rt: HostRuntime) {
 fn read_fails(alloc: Global, task: Task, calls_before: u32, way: Way) -> bool {
     let mut reader = Watched::new(device(alloc, task.input, task.step, calls_before, way));
     let mut writer = Watched::new(Vec::new(alloc));
-    let answer = perform(alloc, task.job, &mut reader, &mut writer);
+    let answer = told(&perform(alloc, task.job, &mut reader, &mut writer));
     answer == Err(ToolFault::Reader) && reader.failures() == 1 && writer.into_inner().is_empty()
 }
 
@@ -84,7 +85,7 @@ fn reads(task: Task) -> Result<u32, Fail> {
 fn does_well(alloc: Global, task: Task) -> Result<bool, Fail> {
     let mut reader = Watched::new(device(alloc, task.input, task.step, reads(task)?, WAYS[0]));
     let mut writer = Watched::new(device(alloc, &[], task.step, u32::MAX, WAYS[0]));
-    let answer = perform(alloc, task.job, &mut reader, &mut writer);
+    let answer = told(&perform(alloc, task.job, &mut reader, &mut writer));
     Ok(
         answer == task.answer
             && reader.failures() == 0
@@ -135,7 +136,7 @@ fn write_fails(
 ) -> Result<bool, Fail> {
     let mut reader = Watched::new(task.input);
     let mut writer = Watched::new(device(alloc, &[], task.step, u32::try_from(calls_before)?, way));
-    let answer = perform(alloc, task.job, &mut reader, &mut writer);
+    let answer = told(&perform(alloc, task.job, &mut reader, &mut writer));
     let failures = writer.failures();
     let taken = writer.into_inner().taken;
     Ok(
@@ -170,26 +171,59 @@ fn each_write_fails_in_turn(rt: HostRuntime) -> Result<(), Fail> {
 }
 
 /// Whether a flush that fails is the writer's fault, whatever was answered, and one that does well
-/// leaves the answer.
-fn flush_fails(alloc: Global, answer: Result<Done, ToolFault>) -> bool {
+/// leaves the answer. The answer comes twice.
+fn flush_fails(
+    alloc: Global,
+    first: Result<Done, ToolFault>,
+    again: Result<Done, ToolFault>,
+) -> bool {
     let mut failing = Watched::new(device(alloc, &[], 1, 0, WAYS[0]));
     let mut fine = Watched::new(device(alloc, &[], 1, 1, WAYS[0]));
-    let told = finish(answer, &mut failing) == Err(ToolFault::Writer) && failing.failures() == 1;
-    told && finish(answer, &mut fine) == answer && fine.failures() == 0
+    let wanted = told(&again);
+    let refused = told(&finish(first, &mut failing)) == Err(ToolFault::Writer);
+    refused
+        && failing.failures() == 1
+        && told(&finish(again, &mut fine)) == wanted
+        && fine.failures() == 0
 }
 
 #[test]
 fn a_failing_flush_is_the_writers_fault(rt: HostRuntime) {
-    for answer in [
-        Ok(Done::Written),
-        Ok(Done::Judged(Verdict::Good(3))),
-        Ok(Done::Bounded(BoundedVerdict::Good { words: 3, bound: 4 })),
-        Ok(Done::Judged(Verdict::Refused(FrameFault::Empty))),
-        Ok(Done::Drew(Outcome::Endless)),
-        Ok(Done::Searched(NOT_TORN)),
-        Err(ToolFault::Text(TextFault::Cut(4))),
-        Err(ToolFault::Reader),
-    ] {
-        assert!(rt; flush_fails(rt.alloc(), answer));
-    }
+    let alloc = rt.alloc();
+    let good = BoundedVerdict::Good { words: 3, bound: 4 };
+    let empty = Verdict::Refused(FrameFault::Empty);
+    let cut = ToolFault::Text(TextFault::Cut(4));
+    assert!(rt; flush_fails(alloc, Ok(Done::Written), Ok(Done::Written)));
+    assert!(rt; flush_fails(alloc, Ok(Done::Bounded(good)), Ok(Done::Bounded(good))));
+    assert!(rt; flush_fails(alloc, Ok(Done::Judged(empty)), Ok(Done::Judged(empty))));
+    assert!(rt;
+        flush_fails(
+            alloc,
+            Ok(Done::Judged(Verdict::Good(3))),
+            Ok(Done::Judged(Verdict::Good(3)))
+        )
+    );
+    assert!(rt;
+        flush_fails(
+            alloc,
+            Ok(Done::Drew(Outcome::Endless)),
+            Ok(Done::Drew(Outcome::Endless))
+        )
+    );
+    assert!(rt;
+        flush_fails(
+            alloc,
+            Ok(Done::Searched(NOT_TORN)),
+            Ok(Done::Searched(NOT_TORN))
+        )
+    );
+    assert!(rt;
+        flush_fails(
+            alloc,
+            Ok(Done::CheckedFrames { good: false }),
+            Ok(Done::CheckedFrames { good: false })
+        )
+    );
+    assert!(rt; flush_fails(alloc, Err(cut), Err(cut)));
+    assert!(rt; flush_fails(alloc, Err(ToolFault::Reader), Err(ToolFault::Reader)));
 }

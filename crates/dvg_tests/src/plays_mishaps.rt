@@ -1,6 +1,7 @@
 //! The engine `play`: what it writes before memory is refused.
+use crate::answers::{Answer, Report, told};
 use crate::traces::{FIRST_PICTURE, joined, played};
-use dvg_tool::{Done, Job, ToolFault, Watched, perform};
+use dvg_tool::{Job, ToolFault, Watched, perform};
 use linked_list_allocator::LocalHeap;
 use std::alloc::Global;
 use std::test::Fail;
@@ -18,11 +19,7 @@ struct Wanted<'a> {
 }
 
 /// What is written in a heap of so many bytes, and what is answered.
-fn played_in(
-    alloc: Global,
-    wanted: Wanted,
-    bytes: usize,
-) -> Result<(Vec<u8>, Result<Done, ToolFault>), Fail> {
+fn played_in(alloc: Global, wanted: Wanted, bytes: usize) -> Result<(Vec<u8>, Answer), Fail> {
     let heap = LocalHeap::new(alloc, bytes)?;
     let mut reader = Watched::new(wanted.trace.as_bytes());
     let mut writer = Watched::new(Vec::new(alloc));
@@ -30,7 +27,7 @@ fn played_in(
         all: wanted.all,
         banked: wanted.banked,
     };
-    let answer = perform(&heap, job, &mut reader, &mut writer);
+    let answer = told(&perform(&heap, job, &mut reader, &mut writer));
     Ok((writer.into_inner(), answer))
 }
 
@@ -63,7 +60,7 @@ fn is_log_before(wanted: Wanted, text: &str) -> bool {
 fn led_to(alloc: Global, wanted: Wanted, bytes: usize) -> Result<Led, Fail> {
     let (written, answer) = played_in(alloc, wanted, bytes)?;
     let text = String::from_utf8(written)?;
-    if answer == Ok(Done::Written) && text.as_str() == wanted.shown {
+    if answer == Ok(Report::Written) && text.as_str() == wanted.shown {
         return Ok(Led::Whole);
     }
     if answer != Err(ToolFault::Memory) {

@@ -1,4 +1,5 @@
 //! Memory that an engine is refused, and that none asks for once it has begun to write.
+use crate::answers::{Report, told};
 use crate::tasks::{Task, tasks, written};
 use bumpalo::Bump;
 use dvg_mem::MEMORY_BYTES;
@@ -21,7 +22,7 @@ fn refusals(alloc: Global, task: Task) -> Result<usize, Fail> {
         let heap = LocalHeap::new(alloc, slots * 16)?;
         let mut reader = Watched::new(task.input);
         let mut writer = Watched::new(Vec::new(alloc));
-        let answer = perform(&heap, task.job, &mut reader, &mut writer);
+        let answer = told(&perform(&heap, task.job, &mut reader, &mut writer));
         let text = writer.into_inner();
         if answer == Err(ToolFault::Memory) {
             refused = refused.saturating_add(1);
@@ -44,11 +45,16 @@ fn each_growth_is_refused_in_turn(rt: HostRuntime) -> Result<(), Fail> {
     let dump = vec![in rt.alloc(); 0xD0u8; 2 * MEMORY_BYTES]?;
     for task in tasks(rom.as_slice(), dump.as_slice()) {
         let (least, most) = match task.job {
-            Job::List => (0, 64),
+            Job::List | Job::ListAt { .. } => (0, 64),
             Job::Rom => (128, MOST_SLOTS),
             Job::Picture { .. } => (256, MOST_SLOTS),
             Job::Check { .. } => (128, 192),
-            Job::Play { .. } => continue,
+            Job::Play { .. } | Job::PlaySvg { .. } | Job::PictureSvg { .. } => continue,
+            // A checker alone is greater than these heaps.
+            Job::Draw { .. } | Job::DrawCheck | Job::Lay { .. } => {
+                assert_eq!(rt; refusals(rt.alloc(), task)?, MOST_SLOTS);
+                continue;
+            }
             Job::Torn => {
                 assert_eq!(rt; refusals(rt.alloc(), task)?, 0);
                 continue;
@@ -94,8 +100,11 @@ fn asks_before_it_writes(alloc: Global, task: Task) -> bool {
         filler: None,
         bytes: 0,
     });
-    let answer = perform(&arena, task.job, &mut reader, &mut writer);
+    let answer = told(&perform(&arena, task.job, &mut reader, &mut writer));
     let filling = writer.into_inner();
+    if answer == Ok(Report::Refused) {
+        return answer == task.answer && filling.filler.is_none();
+    }
     answer == task.answer && filling.filler.is_some() && arena.allocated_bytes() == filling.bytes
 }
 

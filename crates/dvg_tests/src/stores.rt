@@ -1,10 +1,11 @@
 //! A store that has no room, and the room of a banked one.
+use crate::answers::{Report, told};
 use crate::scripts::Step::{Fetch, Tick};
 use crate::scripts::{events, image, rom};
 use crate::traces::FIRST_PICTURE;
 use dvg_code::OutOfMemory;
 use dvg_mem::{Flat, Image, Store};
-use dvg_tool::{Done, Job, ToolFault, Watched, perform, play_in};
+use dvg_tool::{Job, ToolFault, Watched, perform, play_in};
 use dvg_world::run;
 use linked_list_allocator::LocalHeap;
 use std::alloc::Global;
@@ -96,7 +97,7 @@ fn smallest_heap(alloc: Global, banked: bool) -> Result<usize, Fail> {
         });
         let mut writer = Watched::new(Vec::new(alloc));
         let job = Job::Play { all: true, banked };
-        if perform(&heap, job, &mut reader, &mut writer) == Ok(Done::Written) {
+        if told(&perform(&heap, job, &mut reader, &mut writer)) == Ok(Report::Written) {
             return Ok(size);
         }
     }

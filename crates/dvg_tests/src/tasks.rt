@@ -1,15 +1,13 @@
 //! A task for each job, and what comes of it where nothing fails.
+use crate::answers::{Answer, Report, told};
 use crate::traces::FIRST_PICTURE;
 use dvg_frame::{FrameFault, Place};
 use dvg_tool::{
-    BoundedVerdict, Done, Job, LogCounts, LogFinding, LogVerdict, Outcome, TextFault, ToolFault,
+    BoundedVerdict, Job, LayForm, LogCounts, LogFinding, LogVerdict, Outcome, TextFault, ToolFault,
     Verdict, Watched, perform,
 };
 use std::alloc::Global;
 use std::test::Fail;
-
-/// What a job answers.
-pub type Answer = Result<Done, ToolFault>;
 
 /// To play a trace: its pictures, its entries, and both over a banked store.
 pub const PICTURES: Job = Job::Play {
@@ -71,8 +69,13 @@ pub const NOT_TORN: LogVerdict = LogVerdict {
     },
 };
 
+/// A sketch, and one with a frame that is refused.
+const SKETCH: &str = "labs 0 0 0\nhalt\n.frame b\nlabs 0 0 0\nhalt\n";
+
+const REFUSED_SKETCH: &str = "labs 0 0 0\na: call a\nhalt\n";
+
 /// The tasks, of which one reads this ROM, and two this dump, whose first word is a return.
-pub fn tasks<'a>(rom: &'a [u8], dump: &'a [u8]) -> [Task<'a>; 11] {
+pub fn tasks<'a>(rom: &'a [u8], dump: &'a [u8]) -> [Task<'a>; 16] {
     let task = |job, input, step, answer| Task {
         job,
         input,
@@ -87,36 +90,75 @@ pub fn tasks<'a>(rom: &'a [u8], dump: &'a [u8]) -> [Task<'a>; 11] {
             1,
             Err(ToolFault::Text(TextFault::Cut(4))),
         ),
-        task(Job::Rom, rom, 64, Ok(Done::Written)),
+        task(Job::Rom, rom, 64, Ok(Report::Written)),
         task(
             Job::Picture { all: false },
             dump,
             64,
-            Ok(Done::Drew(Outcome::Broke)),
+            Ok(Report::Drew(Outcome::Broke)),
         ),
         task(
             Job::Picture { all: true },
             dump,
             64,
-            Ok(Done::Drew(Outcome::Broke)),
+            Ok(Report::Drew(Outcome::Broke)),
         ),
         task(
             Job::Check { bound: false },
             REFUSED.as_bytes(),
             1,
-            Ok(Done::Judged(OUT_OF_ROM)),
+            Ok(Report::Judged(OUT_OF_ROM)),
         ),
         task(
             Job::Check { bound: true },
             GOOD.as_bytes(),
             1,
-            Ok(Done::Bounded(SHORT)),
+            Ok(Report::Bounded(SHORT)),
         ),
-        task(PICTURES, picture, 1, Ok(Done::Written)),
-        task(ENTRIES, picture, 64, Ok(Done::Written)),
-        task(BANKED_PICTURES, picture, 1, Ok(Done::Written)),
-        task(BANKED_ENTRIES, picture, 64, Ok(Done::Written)),
-        task(Job::Torn, LOG.as_bytes(), 1, Ok(Done::Searched(NOT_TORN))),
+        task(PICTURES, picture, 1, Ok(Report::Written)),
+        task(ENTRIES, picture, 64, Ok(Report::Written)),
+        task(BANKED_PICTURES, picture, 1, Ok(Report::Written)),
+        task(BANKED_ENTRIES, picture, 64, Ok(Report::Written)),
+        task(Job::Torn, LOG.as_bytes(), 1, Ok(Report::Searched(NOT_TORN))),
+        task(
+            Job::ListAt { address: 0xFFF },
+            WORDS.as_slice(),
+            1,
+            Err(ToolFault::Text(TextFault::Cut(3))),
+        ),
+        task(
+            Job::PlaySvg {
+                banked: false,
+                percent: 100,
+                rate: 30,
+            },
+            picture,
+            1,
+            Ok(Report::Written),
+        ),
+        task(
+            Job::Draw {
+                percent: 100,
+                rate: 30,
+            },
+            REFUSED_SKETCH.as_bytes(),
+            1,
+            Ok(Report::Refused),
+        ),
+        task(
+            Job::DrawCheck,
+            SKETCH.as_bytes(),
+            1,
+            Ok(Report::Checked(true)),
+        ),
+        task(
+            Job::Lay {
+                form: LayForm::Table,
+            },
+            SKETCH.as_bytes(),
+            1,
+            Ok(Report::Written),
+        ),
     ]
 }
 
@@ -124,7 +166,7 @@ pub fn tasks<'a>(rom: &'a [u8], dump: &'a [u8]) -> [Task<'a>; 11] {
 pub fn written(alloc: Global, task: Task) -> Result<Vec<u8>, Fail> {
     let mut reader = Watched::new(task.input);
     let mut writer = Watched::new(Vec::new(alloc));
-    if perform(alloc, task.job, &mut reader, &mut writer) != task.answer {
+    if told(&perform(alloc, task.job, &mut reader, &mut writer)) != task.answer {
         return Err("another answer".into());
     }
     Ok(writer.into_inner())

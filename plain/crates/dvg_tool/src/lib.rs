@@ -1,6 +1,6 @@
-//! The engines of the program `dvg` but `picture`, `torn`, `draw` and `lay`, over any watched reader
-//! and writer; the jobs that its words ask for, which are those of `dvg_words`. What it reads are the texts of
-//! `dvg_text`, and what it writes the lines of `dvg_lines`.
+//! The engines of the program `dvg` but `picture`, `torn`, `draw` and `lay`, over any watched
+//! reader and writer; and the jobs that its words ask for, which are those of `dvg_words`. What it
+//! reads are the texts of `dvg_text`, and what it writes the lines of `dvg_lines`.
 //!
 //! An engine reads its whole input before it writes, and takes no memory after its first write: its
 //! lines are made in an array of fixed size (that what writes is handed no allocator is seen by

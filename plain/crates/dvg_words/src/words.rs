@@ -64,8 +64,9 @@ fn matched<'a>(alloc: Global, words: &'a [&'a str]) -> Result<ArgMatches<'a>, Er
 /// What the words ask for: the subcommand and the options that they match. The first word is the
 /// program's name, and may be anything.
 ///
-/// An error is help or the version that the words ask for (`DisplayHelp`, `DisplayVersion`), a refusal of words that ask for nothing the
-/// program can do, or want of memory (`OutOfMemory`). Its text is its `Display`.
+/// An error is help or the version that the words ask for (`DisplayHelp`, `DisplayVersion`), a
+/// refusal of words that ask for nothing the program can do, or want of memory (`OutOfMemory`). Its
+/// text is its `Display`.
 pub fn job<'a>(alloc: Global, words: &'a [&'a str]) -> Result<Job, Error> {
     let matches = match matched(alloc, words) {
         Ok(matches) => matches,
