@@ -3,14 +3,18 @@ import re
 import sys
 from pathlib import Path
 
-# The crates that have contracts.
-CRATES = """
-    dvg_code dvg_mem dvg_gen dvg_frame dvg_sketch dvg_driver dvg_log dvg_theorem dvg_world
-    dvg_progress dvg_6502
-    dvg_device dvg_c dvg_text dvg_named dvg_lay dvg_lines dvg_io dvg_svg dvg_dump dvg_picture dvg_logs dvg_words dvg_tool
-""".split()
 ROOT = Path(__file__).resolve().parent.parent
 CLAUSE = re.compile(r"\b(?:requires|ensures)(?:\*|(?: \w+)?)$|^ghost (?!use)|\n\s*ghost \w+:$")
+
+
+def all_crates():
+    """The crates of this repository, each after those that it uses."""
+    lines = (ROOT / "crates.txt").read_text().splitlines()
+    return [line.split(":")[0].split()[0] for line in lines if line.strip()]
+
+
+# The crates that have contracts: those of the domain, of texts and of ports.
+CRATES = [name for name in all_crates() if name.startswith("dvg_")]
 
 
 def items(text):
@@ -54,12 +58,6 @@ def exports_of(crate):
     for name, public in modules_of(text):
         files += [(file, None if public else exports) for file in files_of_module(sources / name)]
     return files
-
-
-def all_crates():
-    """The crates of this repository, each after those that it uses."""
-    lines = (ROOT / "crates.txt").read_text().splitlines()
-    return [line.split(":")[0].split()[0] for line in lines if line.strip()]
 
 
 def crates_asked(program, help_text, crates):

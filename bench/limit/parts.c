@@ -1,4 +1,4 @@
-/* Single parts of the limit, each of which runs many times: the same as crates/dvg_bench runs of
+/* Single parts of the limit, each of which runs many times: the same as crates/bench_speed runs of
  * the proved ones, with the same words and lines. */
 #include "driver.h"
 #include "fault.h"

@@ -5,7 +5,7 @@ its answer must be the log again:
     log2trace.py BUS_LOG ROM_LINES --shots OUT_FOLDER
 
 The log has lines `peek`, `wrote HHH HH`, `read halted`, `read running` and `sent`; what stands
-behind a # is passed over. The draft of each frame is read back out of the words that were written.
+after a # is passed over. The draft of each frame is read back out of the words that were written.
 Before the flag is read as halted a run is fetched to its end; as a trace has 65,536 events at most,
 later runs end by a reset of the generator. A flag that is read where the driver is idle is a
 redraw. A peek later than the first one is a reset of both ends; a frame that it cut off gets some

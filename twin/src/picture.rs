@@ -137,7 +137,7 @@ fn write_ending(ending: &Ending, writer: &mut impl Write) -> io::Result<()> {
     }
 }
 
-/// Runs a generator over an image, and writes what that draws as SVG, with so many percent of its
+/// Runs a generator over an image, and writes what that draws as SVG, with this many percent of its
 /// size. Why it draws no picture, if it doesn't, is the title, and is answered.
 pub fn write_picture_svg(
     image: &[u8],

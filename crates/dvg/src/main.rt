@@ -9,10 +9,10 @@ use std::io::{BufWriter, Write};
 use std::process::ExitCode;
 use std::{env, io};
 
-/// The exit status of words that can't be had as text.
+/// The exit status of words that can't be read as text.
 const MISUSE: u8 = 64;
 
-/// The program's words. They may be no text, and memory may be refused.
+/// The program's words. They need not be text, and memory may be refused.
 fn words(rt: &HostRuntime) -> io::Result<Vec<String>> {
     Ok(env::args(rt)?.collect(rt.alloc())?)
 }
@@ -33,7 +33,7 @@ fn help(rt: &HostRuntime, text: &Error) -> io::Result<()> {
     output.flush()
 }
 
-/// Tells on standard error why the program could not do a job.
+/// Says on standard error why the program could not do a job.
 fn complain(rt: &HostRuntime, fault: ToolFault) {
     let _ = eprintln!(rt; "dvg: {fault}");
 }
@@ -86,7 +86,7 @@ fn do_words(rt: &HostRuntime, words: &[String]) -> u8 {
     status(&answer)
 }
 
-/// Tells why the words can't be had. Answers the exit status.
+/// Says why the words can't be read. Answers the exit status.
 fn refuse_words(rt: &HostRuntime, error: &io::Error) -> u8 {
     if error.kind() == io::ErrorKind::OutOfMemory {
         complain(rt, ToolFault::Memory);

@@ -174,7 +174,7 @@ sign_small : (z : ℤ) → sign_bit z ≤ 1
 sign_small (pos n) = omega arith
 sign_small (negsuc n) = omega arith
 
--- an operation's words, and those behind them
+-- an operation's words, and those after them
 op_fed : (half : Half) (F : List OpKind) (op : OpKind) (rest : List ℕ) → IsOp op → IsTold F op
     → feed half (bytes (canon (op_code H0 F op) ++ rest)) ≡ bytes (canon (op_code half F op)) ++ feed half (bytes rest)
 op_fed half F (Draw (Vctr scale dx dy z)) rest op told =

@@ -63,7 +63,7 @@ seen [] = []
 seen (Reads a byte ∷ log) = let rest = seen log in if is_device a then Reads a byte ∷ rest else rest
 seen (Writes a byte ∷ log) = let rest = seen log in if nat_le 0x200 a then Writes a byte ∷ rest else rest
 
--- the flag's byte tells that the generator is halted: its bit 7 is clear
+-- the flag's byte shows that the generator is halted: its bit 7 is clear
 abbrev pub tells_halted : ℕ → Bool
 tells_halted byte = not (nat_le 128 byte)
 

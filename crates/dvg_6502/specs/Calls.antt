@@ -28,7 +28,7 @@ entry Run = dvg_run
 entry (Offer F) = dvg_offer
 entry Redraw = dvg_redraw
 
--- a call, from the processor at its entry, after so many steps
+-- a call, from the processor at its entry, after this many steps
 pub record Call : Type 0 where
   pub routine : Routine
   pub from : Cpu
@@ -50,7 +50,7 @@ abbrev pub OffersTable : Routine → Cpu → Type 0
 OffersTable (Offer F) cpu = HasTable cpu.mem (cpu.a + 256 * cpu.x) F
 OffersTable routine cpu = Unit {0}
 
--- where the words of the table begin and end that was taken last
+-- where the words of the table that was taken last begin and end
 abbrev pub taken_bounds : Routine → Call → ℕ × ℕ → ℕ × ℕ
 taken_bounds (Offer F) call older =
     let t = call.from.a + 256 * call.from.x + 2 in if is_taken call then (t, t + length (table_of F)) else older
@@ -68,7 +68,7 @@ pub record IsUntouched (calls : List Call) (before now : ℕ → ℕ) : Type 0 w
   pub ram : (b : ℕ) → is_ram b ≡ true → now b ≡ before b
   pub table : phase_in before ≡ 0x80 → (b : ℕ) → (bounds calls).0 ≤ b → b < (bounds calls).1 → now b ≡ before b
 
--- the call before this one has returned, and what must be untouched is so since then
+-- the call before this one has returned, and since then what must be untouched is
 abbrev pub Follows : Call → List Call → Type 0
 Follows call [] = ⊥
 Follows call (older ∷ calls) = (has_returned older ≡ true) × IsUntouched (older ∷ calls) (after older).mem call.from.mem
@@ -117,11 +117,11 @@ IsLifeOf (call ∷ calls) life = (new : List Item) × (old : List Item) × (life
 abbrev pub CallsLive : Type 0
 CallsLive = (calls : List Call) → IsSession calls → (life : List Item) × IsLifeOf calls life × IsLife life
 
--- calls make one life at most
+-- calls make at most one life
 abbrev pub OneLife : Type 0
 OneLife = (calls : List Call) (one other : List Item) → IsLifeOf calls one → IsLifeOf calls other → one ≡ other
 
--- after calls that make this life, a call of the routine returns with C so
+-- after calls that make this life, a call of the routine returns with this C
 pub record IsAnswered (routine : Routine) (c : Bool) (life : List Item) : Type 0 where
   pub from : Cpu
   pub steps : ℕ

@@ -26,7 +26,7 @@ FitsBoard R image log Tick (Acted action) = IsMade (Did action ∷ life image lo
 -- an answer of dvg_offer, for a draft that is checked before: C clear, or C set
 FitsBoard R image log (Offer F) Offered = Accepts F R × IsAnswered (Calls.Offer F) false (life image log)
 FitsBoard R image log (Offer F) Busy = Accepts F R × IsAnswered (Calls.Offer F) true (life image log)
--- an answer of dvg_redraw: C clear, or C set, where the log tells why
+-- an answer of dvg_redraw: C clear, or C set, where the log says why
 FitsBoard R image log Redraw Asked = IsAnswered Calls.Redraw false (life image log)
 FitsBoard R image log Redraw Busy = IsAnswered Calls.Redraw true (life image log) × (has_flip (life image log) ≡ true)
 FitsBoard R image log Redraw NothingPublished = IsAnswered Calls.Redraw true (life image log)

@@ -48,7 +48,7 @@ pub data Instr : Type 0 where
   ShiftRightA : Instr
   -- CLC, SEC
   SetCarry : Bool → Instr
-  -- BPL and its like: taken where the flag is so
+  -- BPL and its like: taken where the flag has this value
   Branch : Flag → Bool → Instr
   -- JMP abs, JSR, RTS
   Jump : Instr
@@ -155,7 +155,7 @@ abbrev pub size : Mode → ℕ
 size Absolute = 3
 size mode = 2
 
--- after an instruction of so many bytes
+-- after an instruction of this many bytes
 abbrev pub next : ℕ → Cpu → Cpu
 next bytes cpu = record cpu { pc = cpu.pc + bytes }
 
@@ -172,7 +172,7 @@ reading mode cpu = next (size mode) (reads (address mode cpu) cpu)
 abbrev pub writing : ℕ → ℕ → Cpu → Cpu
 writing a byte cpu = record cpu { mem = put a byte cpu.mem; log = Writes a byte ∷ cpu.log }
 
--- Z and N tell of a byte
+-- Z and N are set by a byte
 abbrev pub telling : ℕ → Cpu → Cpu
 telling byte cpu = record cpu { z = nat_eq byte 0; n = nat_le 128 byte }
 
@@ -222,11 +222,11 @@ does (Transfer from to) cpu = setting to (of_register from cpu) (next 1 cpu)
 does (And mode) cpu = setting A (bit_and cpu.a (operand mode cpu)) (reading mode cpu)
 does (Or mode) cpu = setting A (bit_or cpu.a (operand mode cpu)) (reading mode cpu)
 does (Xor mode) cpu = setting A (bit_xor cpu.a (operand mode cpu)) (reading mode cpu)
--- Z and N tell of the difference, and C that there is no borrow
+-- Z and N are set by the difference, and C where there is no borrow
 does (Compare r mode) cpu =
     let byte = operand mode cpu in
     carrying (nat_le byte (of_register r cpu)) (telling ((of_register r cpu + 256 - byte) % 256) (reading mode cpu))
--- N and V are bits 7 and 6 of the byte, and Z tells of what it has in common with A
+-- N and V are bits 7 and 6 of the byte, and Z is set by what it has in common with A
 does (TestBits mode) cpu =
     let byte = operand mode cpu in
     record (reading mode cpu) { z = nat_eq (bit_and cpu.a byte) 0; n = nat_le 128 byte; v = nat_le 64 (byte % 128) }
@@ -255,7 +255,7 @@ does Unknown cpu = cpu
 abbrev pub step : Cpu → Cpu
 step cpu = does (decoded opcodes (cpu.mem cpu.pc)) cpu
 
--- at the return of a routine at whose call S was this: at an RTS with S as it was
+-- at the return of a routine that was called with this S: at an RTS with S as it was
 abbrev pub at_return : ℕ → Cpu → Bool
 at_return s cpu = nat_eq (cpu.mem cpu.pc) 0x60 && nat_eq cpu.s s
 
@@ -263,7 +263,7 @@ at_return s cpu = nat_eq (cpu.mem cpu.pc) 0x60 && nat_eq cpu.s s
 abbrev pub turn : ℕ → Cpu → Cpu
 turn s cpu = if at_return s cpu then cpu else step cpu
 
--- so many steps of a routine at whose call S was this; at its return it stops
+-- this many steps of a routine that was called with this S; at its return it stops
 abbrev pub run : ℕ → ℕ → Cpu → Cpu
 run s zero cpu = cpu
 run s (suc n) cpu = run s n (turn s cpu)

@@ -55,8 +55,8 @@ abbrev pub TickRefines : Type 0
 TickRefines = (cpu : Cpu) (begin stop : ℕ) (stage : Stage) (peeked : ℕ) (life : List Item) → Enters cpu dvg_tick
     → Holds cpu.mem begin stop stage → StandsAfter stage peeked life → Ticks cpu begin stop peeked life
 
--- the call returns with S as it was and C so, touches no device, and its memory holds this stage; but for its own
--- bytes, memory is as it was
+-- the call returns with S as it was and with this C, touches no device, and its memory holds this stage; but for its
+-- own bytes, memory is as it was
 pub record Answers (cpu : Cpu) (c : Bool) (begin stop : ℕ) (new : Stage) : Type 0 where
   pub steps : ℕ
   pub returns : at_return cpu.s (run cpu.s steps cpu) ≡ true

@@ -13,7 +13,7 @@ use Rattle.dvg_frame.specs.Faults.{Accepts}
 use Rattle.dvg_6502.specs.Board.{is_device}
 use Rattle.dvg_6502.specs.Feed.{fed}
 
--- a table can tell this operation: what it names of the ROM stands from 400 on, and what it names of the frame in
+-- a table can express this operation: what it names of the ROM stands from 400 on, and what it names of the frame in
 -- half 0
 abbrev pub IsTold : List OpKind → OpKind → Type 0
 IsTold F (CallRom a) = 0x400 ≤ a
@@ -22,7 +22,7 @@ IsTold F (Call j) = at H0 F j ≤ 0x1FF
 IsTold F (Jump j) = at H0 F j ≤ 0x1FF
 IsTold F op = Unit {0}
 
--- it can tell each of these operations of a draft
+-- it can express each of these operations of a draft
 abbrev pub AreTold : (F ops : List OpKind) → Type 0
 AreTold F [] = Unit {0}
 AreTold F (op ∷ ops) = IsOp op × IsTold F op × AreTold F ops
@@ -49,7 +49,7 @@ abbrev pub TableLaw : Type 0
 TableLaw = (half : Half) (F : List OpKind) → AreTold F F
     → fed (high half) false false (table_of F) ≡ bytes (laid half F)
 
--- where an operation that is never reached calls the ROM below 400, the table tells something else
+-- where an operation that is never reached calls the ROM below 400, the table says something else
 abbrev pub TableMisses : Type 0
 TableMisses =
     let F = Draw (Labs 0 0 0) ∷ Halt ∷ CallRom 5 ∷ [] in fed (high H1) false false (table_of F) ≢ bytes (laid H1 F)
@@ -60,6 +60,6 @@ NamesRom (CallRom a) = 0x400 ≤ a
 NamesRom (JumpRom a) = 0x400 ≤ a
 NamesRom op = Unit {0}
 
--- a table can tell each checked draft whose operations name the ROM from 400 on
+-- a table can express each checked draft whose operations name the ROM from 400 on
 abbrev pub CheckedTold : Type 0
 CheckedTold = (F : List OpKind) (R : List ℕ) → IsDraft F → Accepts F R → All NamesRom F → AreTold F F

@@ -13,12 +13,12 @@ pub fn tables()
     ensures { TableLaw }
 {}
 
-/// The table of each checked draft is told so, where its operations name the ROM from 400 on.
+/// A table can express each checked draft whose operations name the ROM from 400 on.
 pub fn checked_tables()
     ensures { CheckedTold }
 {}
 
-/// A table tells something else where an operation names a word of the ROM below 400.
+/// A table says something else where an operation names a word of the ROM below 400.
 pub fn table_misses()
     ensures { TableMisses }
 {}
@@ -57,7 +57,7 @@ pub fn some_calls()
     ensures { SomeCalls }
 {}
 
-/// Calls make one life at most.
+/// Calls make at most one life.
 pub fn one_life()
     ensures { OneLife }
 {}

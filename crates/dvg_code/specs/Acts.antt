@@ -11,7 +11,7 @@ pub data Act (P : Type 0) : Type 0 where
   Returns : Act P
   Halts : Act P
 
--- the act of an instruction whose address names a target so
+-- the act of an instruction, with the target that this function gives for its address
 abbrev pub act_by : {P : Type 0} → (ℕ → P) → Instr → Act P
 act_by target Halt = Halts
 act_by target (Jsrl address) = Calls (target address)

@@ -6,7 +6,7 @@ use Rattle.dvg_code.specs.Ranges.{InRange}
 use Rattle.dvg_code.specs.Spelling.{IsFirst, Spells, canon, word_count}
 use Rattle.dvg_code.specs.Cutting.{Cutting, Fronts, IsRest}
 
--- words spell one instruction at most
+-- words spell at most one instruction
 abbrev pub OneSpelling : Type 0
 OneSpelling = (a b : Instr) (words : List ℕ) → Spells a words → Spells b words → a ≡ b
 

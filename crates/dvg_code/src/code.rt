@@ -1,6 +1,7 @@
 //! Instructions in range.
 ghost use Rattle.std.specs.Prelude.{◌≡◌, ◌≤◌, ◌↔◌, IfSome, IsSome, IsTrue, unsigned_abs};
 ghost use Rattle.dvg_code.specs.Ranges.{InRange};
+ghost use Rattle.dvg_code.specs.Spelling.{word_count};
 ghost use Rattle.dvg_code.specs.declared.instr.Instr.{Instr};
 
 use crate::instr::Instr;
@@ -36,7 +37,7 @@ impl Code {
         }
     }
 
-    /// The instruction, of which the caller knows that it is in range.
+    /// An instruction that the caller knows to be in range.
     pub fn within(instr: Instr) -> Code
         requires { InRange instr }
         ensures { result ≡ instr }
@@ -50,6 +51,17 @@ impl Code {
         ensures in_range { InRange result }
     {
         self.instr
+    }
+
+    /// How many words it has: a VCTR and a LABS have two, all others one.
+    pub fn word_count(&self) -> u16
+        ensures value { result ≡ word_count self.now }
+        ensures bound { result ≤ 2 }
+    {
+        match self.instr {
+            Instr::Vctr { .. } | Instr::Labs { .. } => 2,
+            Instr::Halt | Instr::Jsrl(_) | Instr::Rtsl | Instr::Jmpl(_) | Instr::Svec { .. } => 1,
+        }
     }
 }
 
@@ -68,7 +80,7 @@ fn is_in_range(instr: Instr) -> bool
     }
 }
 
-// Whether a vector's moves are at most so large, and its intensity has four bits.
+// Whether no move of a vector is larger than `most`, and its intensity has four bits.
 fn is_move(most: u16, dx: i16, dy: i16, z: u8) -> bool
     ensures { IsTrue result ↔ ((unsigned_abs dx ≤ most) × (unsigned_abs dy ≤ most) × (z ≤ 15)) }
 {

@@ -22,7 +22,7 @@ pub enum CodeFault {
     Cut,
 }
 
-// So many bits of a word, from this one up.
+// This many bits of a word, from this one up.
 fn bits(word: u16, from: u32, count: u32) -> u16
     requires from { from < 16 }
     requires count { count < 16 }
@@ -31,7 +31,7 @@ fn bits(word: u16, from: u32, count: u32) -> u16
     (word >> from) & ((1 << count) - 1)
 }
 
-// A number by its sign bit and its magnitude.
+// The number with this sign bit and this magnitude.
 fn signed(sign: u16, magnitude: u16) -> i16
     requires { magnitude < 1024 }
     ensures { result ≡ spec.signed sign magnitude }
@@ -43,7 +43,7 @@ fn signed(sign: u16, magnitude: u16) -> i16
     }
 }
 
-// What two words spell, of which the first has an opcode of 0 to 9.
+// What two words spell, where the first has an opcode of 0 to 9.
 fn read_vctr(first: u16, second: u16) -> Code
     requires { first < 0xA000 }
     ensures { Spells result (first ∷ second ∷ []) }
@@ -58,7 +58,7 @@ fn read_vctr(first: u16, second: u16) -> Code
     })
 }
 
-// What two words spell, of which the first has the opcode A.
+// What two words spell, where the first has the opcode A.
 fn read_labs(first: u16, second: u16) -> Code
     requires low { 0xA000 ≤ first }
     requires high { IsFirst first }
@@ -71,7 +71,7 @@ fn read_labs(first: u16, second: u16) -> Code
     })
 }
 
-// What two words spell, of which the first has an opcode of 0 to A.
+// What two words spell, where the first has an opcode of 0 to A.
 fn read_two(first: u16, second: u16) -> Code
     requires { IsFirst first }
     ensures { Spells result (first ∷ second ∷ []) }
@@ -83,7 +83,7 @@ fn read_two(first: u16, second: u16) -> Code
     }
 }
 
-// What a word of the opcode F spells.
+// What a word with the opcode F spells.
 fn read_short(word: u16) -> Code
     requires { 0xF000 ≤ word }
     ensures { Spells result (word ∷ []) }
@@ -99,7 +99,7 @@ fn read_short(word: u16) -> Code
     })
 }
 
-// What a word of an opcode of B to F spells.
+// What a word with an opcode of B to F spells.
 fn read_one(word: u16) -> Code
     requires { 0xB000 ≤ word }
     ensures { Spells result (word ∷ []) }

@@ -11,7 +11,7 @@ use arrayvec::ArrayVec;
 /// The words of one instruction.
 pub type Words = ArrayVec<u16, 2>;
 
-// The sign bit that is written of a number.
+// The sign bit that is written for a number.
 fn sign_of(n: i16) -> u16
     ensures value { result ≡ sign_bit n }
     ensures is_bit { result < 2 }
@@ -81,7 +81,7 @@ pub fn encode(code: &Code) -> Words
     }
 }
 
-/// Whether the words are what `encode` writes of some instruction.
+/// Whether the words are what `encode` writes for some instruction.
 pub fn is_canonical(words: &[u16]) -> bool
     ensures { IsTrue result ↔ IsCanonical words.now }
 {

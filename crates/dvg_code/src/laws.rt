@@ -2,7 +2,7 @@
 ghost use Rattle.dvg_code.specs.Laws.{BytesMakeWords, CanonicalSpells, EachWordBegins, OneCutting};
 ghost use Rattle.dvg_code.specs.Laws.{OneFront, OneSpelling, RestBeginsNone, SpellingLength};
 
-/// Words spell one instruction at most.
+/// Words spell at most one instruction.
 pub fn one_spelling()
     ensures { OneSpelling }
 {}

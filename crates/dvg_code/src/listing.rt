@@ -13,7 +13,7 @@ pub enum Listed {
     Cut(usize),
 }
 
-/// An iterator over the instructions of borrowed words, from place 0 on. Where a word is left whose
+/// An iterator over the instructions of borrowed words, from place 0 on. If a word is left whose
 /// second word is missing, its `Listed::Cut` comes last.
 #[derive(Drop)]
 pub struct Listing<'a> {

@@ -46,7 +46,7 @@ PushAnswers numbers old new replies.NoOperation = ((op : OpKind) → ¬ Names nu
 PushAnswers numbers old new replies.Full = (op : OpKind) × Names numbers op × (511 ≤ length old.draft) × (new ≡ old)
 PushAnswers numbers old new _ = ⊥
 
--- a byte is staged so often: behind the bytes that are, of which there are 6,144 at most
+-- a byte is staged this many times, after the bytes that are; there are 6,144 at most in all
 abbrev pub StageAnswers : ℕ → ℕ → Held → Held → Reply → Type 0
 StageAnswers byte count old new (replies.Staged n) = (n ≡ length old.staged + count) × (n ≤ 6144)
     × (new ≡ record old { staged = old.staged ++ replicate count byte })
@@ -67,7 +67,7 @@ OpenAnswers Fits P old new replies.WrongSize = ¬ Fits × (new ≡ old)
 OpenAnswers Fits P old new replies.NoMemory = Fits × (new ≡ old)
 OpenAnswers Fits P old new _ = ⊥
 
--- a world over the ROM of the bytes behind the first 2,048, with those as the first image of its RAM, that stands after
+-- a world over the ROM of the bytes after the first 2,048, with those as the first image of its RAM, that stands after
 -- the empty log
 abbrev pub IsNewWorld : List ℕ → Open → Type 0
 IsNewWorld staged (World world) = WorldAfter (drop 2048 staged) (take 2048 staged) [] world

@@ -15,8 +15,8 @@ use Rattle.dvg_device.specs.declared.reply.Reply.TheVariants.{Came, Wants, Unkno
 use Rattle.dvg_device.specs.declared.request.Request.{Request}
 use Rattle.dvg_device.specs.declared.request.Request.TheVariants as requests
 
--- this holds of each history of words, with the low byte behind it, that the generator stands after, and of the run
--- that it leaves
+-- this holds of each history of words, with the low byte after it, that the generator stands after, and of the run that
+-- it leaves
 abbrev pub OfHistories : Machine → (List Told → Option ℕ → Newest → Type 0) → Type 0
 OfHistories machine P = (history : List Told) (low : Option ℕ) (after : HasTaken machine history low)
     → P history low after.run

@@ -46,7 +46,7 @@ pub record Lacks (event : Happening) (world later : State) (drawn left : List St
   pub same : later ≡ world
   pub kept : left ≡ drawn
 
--- what a request for no event is answered
+-- the answer to a request for no event
 abbrev pub declined : Request → Reply
 declined ResetAll = WrongSize
 declined request = Unknown

@@ -84,8 +84,7 @@ impl Device {
     pub fn turn(&mut self, request: u64) -> u64
         ensures turned { Turned self.old request self.new result }
     {
-        // Those that come most often go their way at once, so that what they bring stays in
-        // registers.
+        // The most frequent ones are handled at once, so that what they bring stays in registers.
         match request % 0x100 {
             2 => self.ask(Request::of(request)).number(),
             4 => self.ask(Request::of(request)).number(),
@@ -136,7 +135,7 @@ impl Device {
         Reply::Came(Entry::Cleared)
     }
 
-    // Stages a byte so often.
+    // Stages a byte this many times.
     fn stage(&mut self, byte: u8, count: u16) -> Reply
         ensures { StageAnswers byte count self.old self.new result }
     {

@@ -2,8 +2,8 @@
 use Rattle.std.proofs.Common.{◌≡◌, ◌<◌, ◌+◌, ◌++◌, ◌∷◌, [], ◌∙◌, ℕ, List, ap, append_assoc, get_or, length, subst, sym, take}
 use Rattle.std.specs.List.{AllZip}
 use Rattle.std.proofs.lemmas.List.{append-nil, take_more}
-use Rattle.dvg_text.proofs.Zips.{zip_push}
-use Rattle.dvg_lines.specs.declared.verdict.BoundedVerdict.{BoundedVerdict}
+use Rattle.dvg_read.proofs.Zips.{zip_push}
+use Rattle.dvg_print.specs.declared.verdict.BoundedVerdict.{BoundedVerdict}
 use Rattle.dvg_named.specs.declared.meaning.NamedFrame.{NamedFrame}
 use Rattle.dvg_draw.specs.Checks.{IsVerdictOn, said_line, said_lines}
 

@@ -3,7 +3,7 @@ use Rattle.std.proofs.Common.{Vec, ◌≡◌, ◌<◌, ◌+◌, ◌++◌, ◌∷
 use Rattle.std.specs.List.{AllZip}
 use Rattle.std.proofs.lemmas.List.{map-append, take_more}
 use Rattle.std.proofs.lemmas.List.Elements.{All-cons, All-nil}
-use Rattle.dvg_text.proofs.Zips.{zip_push}
+use Rattle.dvg_read.proofs.Zips.{zip_push}
 use Rattle.dvg_gen.specs.declared.stroke.Stroke.{Stroke}
 use Rattle.dvg_named.specs.declared.meaning.NamedFrame.{NamedFrame}
 use Rattle.dvg_named.specs.declared.meaning.RomName.{RomName}

@@ -3,9 +3,9 @@ use Rattle.std.specs.Prelude.{◌≡◌, ℕ, List, [], ◌∷◌, ◌++◌, Opt
 use Rattle.std.specs.Borrow.{Bor}
 use Rattle.std.specs.List.{AllZip}
 use Rattle.dvg_io.specs.Serving.{Answers, Meaning}
-use Rattle.dvg_lines.specs.declared.verdict.BoundedVerdict.{BoundedVerdict}
-use Rattle.dvg_lines.specs.declared.verdict.BoundedVerdict.TheVariants.{Good, Refused}
-use Rattle.dvg_lines.specs.Verdicts.{IsBoundedVerdict, bounded_line}
+use Rattle.dvg_print.specs.declared.verdict.BoundedVerdict.{BoundedVerdict}
+use Rattle.dvg_print.specs.declared.verdict.BoundedVerdict.TheVariants.{Good, Refused}
+use Rattle.dvg_print.specs.Verdicts.{IsBoundedVerdict, bounded_line}
 use Rattle.dvg_named.specs.declared.meaning.NamedFrame.{NamedFrame}
 use Rattle.dvg_named.specs.declared.meaning.RomName.{RomName}
 use Rattle.dvg_named.specs.ReadSketches.{IsSketchOf, lent_of}

@@ -1,7 +1,7 @@
 //! The engine `check_sketch`.
 ghost use Rattle.std.specs.Prelude.{◌≡◌, ◌++◌, ℕ, List, All, IfErr, IfOk, OnOk};
 ghost use Rattle.dvg_frame.specs.Faults.{IsChecked};
-ghost use Rattle.dvg_lines.specs.Verdicts.{IsBoundedVerdict};
+ghost use Rattle.dvg_print.specs.Verdicts.{IsBoundedVerdict};
 ghost use Rattle.dvg_io.specs.Faults.{ComesBeforeText};
 ghost use Rattle.dvg_io.specs.Serving.{AreFresh, Serves};
 ghost use Rattle.dvg_named.specs.ReadSketches.{AreInside, IsReadOf};
@@ -14,10 +14,10 @@ use dvg_code::OutOfMemory;
 use dvg_frame::{Checker, Draft};
 use dvg_io::{DeviceFailed, Engine, ToolFault, Watched, serve, write_whole};
 use dvg_lay::tool_fault;
-use dvg_lines::{BoundedVerdict, Line};
 use dvg_mem::Rom;
 use dvg_named::{NamedFrame, Sketch, read_sketch};
-use dvg_text::MOST_TEXT_BYTES;
+use dvg_print::{BoundedVerdict, Line};
+use dvg_read::MOST_TEXT_BYTES;
 use std::alloc::{AllocError, Allocator};
 use std::io::{Read, Write};
 

@@ -12,8 +12,8 @@ use crate::frames::draw_frames;
 use dvg_io::{DeviceFailed, Engine, ToolFault, Watched, serve};
 use dvg_lay::{Unlaid, tool_fault};
 use dvg_named::{Sketch, read_sketch};
+use dvg_read::MOST_TEXT_BYTES;
 use dvg_svg::{Show, write_svgs};
-use dvg_text::MOST_TEXT_BYTES;
 use std::alloc::Allocator;
 use std::io::{Read, Write};
 

@@ -2,7 +2,7 @@
 ghost use Rattle.std.specs.Prelude.{◌↔◌, All, IsTrue};
 ghost use Rattle.dvg_draw.specs.Checks.{IsGoodVerdict};
 
-use dvg_lines::BoundedVerdict;
+use dvg_print::BoundedVerdict;
 use std::alloc::{Allocator, Global};
 
 /// What the check says of the frames of a sketch.

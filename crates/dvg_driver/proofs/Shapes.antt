@@ -34,7 +34,7 @@ first_after-append first (Redraw reads ∷ parts) later = first_after-append fir
 abbrev IsWholeList : Bool → List Item → Type 0
 IsWholeList first items = (reads : ℕ) × (parts : List Part) × (items ≡ whole_life reads parts) × (first_after true parts ≡ first)
 
--- what completes the part, where the flag is still read so often while it shows the generator running
+-- what completes the part, where the flag is still read this many times while it shows the generator running
 abbrev ending : Place → ℕ → List Item
 ending Start reads = boot reads
 ending Booting reads = waited reads

@@ -79,7 +79,7 @@ flips_next inside phase_is none flipped =
     ap (λ v. place_in v inside.cursor inside.half inside.flipped) phase_is ∙ ap (λ list. Writing (list ++ word_zero (other inside.half) (not inside.flipped))) none
     ∙ ap (λ flag. Writing (word_zero (other inside.half) (not flag))) flipped
 
--- the first byte of a frame goes behind word zero, and so do the others
+-- the first byte of a frame goes after word zero, and so do the others
 pub behind_word_zero : (at : Phase) (cursor : Option (List (ℕ × ℕ))) (flipped : Bool) (more : List (ℕ × ℕ)) (item : ℕ × ℕ) → KeepsPhase at cursor flipped → at ≡ phase.Writing → items_of cursor ≡ item ∷ more
     → IsBehindWordZero item × All IsBehindWordZero more
 behind_word_zero at cursor flipped more item keeps at_is items_is =

@@ -1,5 +1,5 @@
--- Where in its script a life stands, by a program that follows the items. A driver's place is one of these; what is
--- promised of lives themselves is said by the script.
+-- Where in its script a life stands, by a program that follows the items. A driver's place is one of these; the script
+-- says what is promised of lives themselves.
 use Rattle.std.specs.Prelude.{ℕ, Bool, true, false, List, [], ◌∷◌, Option, Some, None, nat_eq, ◌&&◌, if◌then◌else◌}
 use Rattle.std.specs.Prelude.{option_and_then}
 use Rattle.dvg_driver.specs.declared.action.Action.TheVariants.{Peek, Wrote, Read, Sent, Idle}

@@ -25,7 +25,7 @@ pub data Part : Type 0 where
 abbrev pub wrote : List (ℕ × ℕ) → List Item
 wrote writes = map (λ write. Did (Wrote write.0 write.1)) writes
 
--- the flag is read so often while it shows the generator running, and once when it shows it halted
+-- the flag is read this many times while it shows the generator running, and once when it shows it halted
 abbrev pub waited : ℕ → List Item
 waited reads = replicate reads (Did (Read false)) ++ Did (Read true) ∷ []
 

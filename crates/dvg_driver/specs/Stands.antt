@@ -13,7 +13,7 @@ pub record Stage : Type 0 where
   pub half : Half
   pub flipped : Bool
 
--- byte 001, as the life tells it: what its last flip wrote, or else what was handed in at its peek
+-- byte 001, as the life gives it: what its last flip wrote, or else what was handed in at its peek
 abbrev pub byte1_of : ℕ → List Item → ℕ
 byte1_of peeked [] = peeked
 byte1_of peeked (Did Peek ∷ life) = peeked
@@ -36,7 +36,7 @@ abbrev pub peeked_after : Action → ℕ → ℕ → ℕ
 peeked_after Peek byte1 peeked = byte1
 peeked_after action byte1 peeked = peeked
 
--- a read tells the flag that was handed in
+-- a read shows the flag that was handed in
 abbrev pub Tells : Action → Bool → Type 0
 Tells (Read shown) halted = shown ≡ halted
 Tells action halted = Unit {0}

@@ -41,7 +41,7 @@ suc_times : (k cost : ℕ) → suc k * cost ≡ cost + k * cost
 suc_times k cost = let is = suc-mul k cost in omega arith
 
 module _ (F : List OpKind) (R : List ℕ) where
-  -- from a place, whatever the beam, something is drawn to this end in so many fetches
+  -- from a place, whatever the beam, something is drawn to this end in this many fetches
   abbrev pub Drawn : Place → End → ℕ → Type 0
   Drawn p end n = (beam : Beam) → (strokes : List Stroke) × (last : Beam) × Draws F R p beam strokes last end n
 
@@ -103,7 +103,7 @@ module _ (F : List OpKind) (R : List ℕ) (image : IsRom R) (closed : Closed F R
   pub something : (p : Place) (d : ℕ) → Reached F R p d → Something p
   something p d reached = stands_in p d (pair_in F R (few_ops F begins) begins (pair_of p d) reached) (closed.fine p d reached)
 
-  -- the same, to some end in at most so many
+  -- the same, to some end in at most this many
   pub record Within (p : Place) (most : ℕ) : Type 0 where
     pub end : End
     pub count : ℕ
@@ -157,7 +157,7 @@ module _ (F : List OpKind) (R : List ℕ) (image : IsRom R) (closed : Closed F R
     pub chain : (k : ℕ) (p : Place) → Reached F R p d → ((q : Place) → ¬ Walks F R d p k q) → Within p (k * cost)
     chain k p reached ends = let it = something p d reached in chain_at k p reached ends it.act it.after it.stands
 
-  -- the most fetches of one place of a chain, with so many depths below it
+  -- the most fetches of one place of a chain, with this many depths below it
   abbrev pub cost : ℕ → ℕ → ℕ
   cost k zero = 2
   cost k (suc h) = 2 + k * cost k h

@@ -14,7 +14,7 @@ pub counts-length : (n : ℕ) (F : List OpKind) → length (counts_from n F) ≡
 counts-length n [] = refl
 counts-length n (op ∷ ops) = ap suc (counts-length (n + op_words op) ops)
 
--- one operation more
+-- one more operation
 pub counts-more : (n : ℕ) (F : List OpKind) (op : OpKind) → counts_from n (F ++ op ∷ []) ≡ counts_from n F ++ (n + (size F + op_words op)) ∷ []
 counts-more n [] op = let same : n + op_words op ≡ n + (0 + op_words op) = omega arith in ap (λ m. n ∷ m ∷ []) same
 counts-more n (x ∷ xs) op =
@@ -47,7 +47,7 @@ found_count F view table now i d counted same viewed low =
     let front = ap (λ l. size (take i l)) viewed in
     omega arith
 
--- a draft with one operation more
+-- a draft with one more operation
 pub draft_pushed : (F G : List OpKind) (op kind : OpKind) → IsDraft F → IsOp kind → length F < 511 → kind ≡ op → G ≡ F ++ op ∷ [] → IsDraft G
 draft_pushed F G op kind draft valid low same is = rw is (record { count = omega (arith, length-append F (op ∷ [])); ops = All-push IsOp F op draft.ops (subst IsOp same valid) })
 
@@ -55,7 +55,7 @@ draft_pushed F G op kind draft valid low same is = rw is (record { count = omega
 pub draft_extended : (F ops G : List OpKind) → IsDraft F → All IsOp ops → length F + length ops ≤ 511 → G ≡ F ++ ops → IsDraft G
 draft_extended F ops G draft valid room is = rw is (record { count = omega (arith, length-append F ops); ops = All-append IsOp F ops draft.ops valid })
 
--- one operation more of a list
+-- one more operation of a list
 one_more : (F : List OpKind) (k : ℕ) (item : OpKind) → k < length F → item ≡ get_or F k item → take (k + 1) F ≡ take k F ++ item ∷ []
 one_more F k item within is =
     let next : k + 1 ≡ suc k = omega arith in
@@ -68,7 +68,7 @@ ops_item F k item kind so_far within is same valid =
 pub ops_all : (F : List OpKind) (k : ℕ) → k ≡ length F → All IsOp (take k F) → All IsOp F
 ops_all F k all valid = subst (All IsOp) (ap (λ n. take n F) all ∙ take-length F) valid
 
--- the table of one operation more
+-- the table with one more operation
 pub counts_item : (F : List OpKind) (k words : ℕ) (item : OpKind) (table now : List ℕ) → k < length F → item ≡ get_or F k item → table ≡ counts_from 0 (take k F) → words ≡ size (take (k + 1) F) → now ≡ table ++ words ∷ []
     → now ≡ counts_from 0 (take (k + 1) F)
 counts_item F k words item table now within is so_far words_is pushed =

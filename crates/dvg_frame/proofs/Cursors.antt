@@ -30,7 +30,7 @@ used_up half F words given op all =
     let long : length (bytes words) ≤ given = let double = bytes-length words in omega arith in
     ap (λ rest. rest ++ bytes (laid_ops half F (drop op F))) (drop_of_length-le (bytes words) long)
 
--- where bytes are to come and the words at hand are used up, there is one operation more
+-- where bytes are to come and the words at hand are used up, there is one more operation
 pub one_more : (half : Half) (F : List OpKind) (words : List ℕ) (given op left : ℕ) → left ≡ length (bytes_from half F words given op) → left ≢ 0 → given ≡ 2 * length words → op < length F
 one_more half F words given op left left_is some all =
     elim (slice_get_cases F op).1 [
@@ -98,7 +98,7 @@ next_kept old new address byte kept next = record {
   in_ram = let before = kept.in_ram in let more = next.rises in let less = next.left in omega arith;
 }
 
--- no word at hand yet, and no operation behind
+-- no word at hand yet, and no operation passed
 pub begins : (half : Half) (F : List OpKind) (words : List ℕ) → words ≡ [] → bytes_from half F words 0 0 ≡ bytes (laid half F)
 begins half F words none = ap (λ ws. bytes_from half F ws 0 0) none
 

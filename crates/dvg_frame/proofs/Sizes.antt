@@ -23,7 +23,7 @@ some_words (Draw (Vctr scale dx dy z)) = omega arith
 some_words (Draw (Labs x y scale)) = omega arith
 some_words _ = omega arith
 
--- one operation more
+-- one more operation
 size-take_suc : (F : List OpKind) (k : ℕ) (op : OpKind) → slice_get F k ≡ Some op → size (take (suc k) F) ≡ size (take k F) + op_words op
 size-take_suc [] k op is = let within = slice_get_within [] k op is in absurd (omega arith)
 size-take_suc (x ∷ xs) zero op is =
@@ -115,7 +115,7 @@ get_back xs ys j n x n_is is =
     let within_both : n < length (xs ++ ys) = let both = length-append xs ys in omega arith in
     slice_get-get_or (xs ++ ys) n 0 within_both ∙ ap Some here
 
--- word r of operation i stands behind the words of the operations before it
+-- word r of operation i stands after the words of the operations before it
 word_of_ops : (half : Half) (F ops : List OpKind) (i n r word : ℕ) (op : OpKind) → slice_get ops i ≡ Some op → n ≡ size (take i ops) + r → slice_get (canon (op_code half F op)) r ≡ Some word
     → slice_get (laid_ops half F ops) n ≡ Some word
 word_of_ops half F [] i n r word op is n_is word_is = let within = slice_get_within [] i op is in absurd (omega arith)

@@ -189,7 +189,7 @@ module _ (F : List OpKind) (R : List ℕ) (few : length F ≤ 511) (begins : Beg
         found = tt;
       }
 
-  -- a sweep that looks at one pair more
+  -- a sweep that looks at one more pair
   module _ (items : List Pair) (best : Option Found) (done : ℕ) (sweeps : Sweeps F R items best done) (pair : Pair) (is : slice_get items done ≡ Some pair) where
     pub is_reached : ReachedPair F R pair
     is_reached = sweeps.reached pair (read_contains items done pair is)

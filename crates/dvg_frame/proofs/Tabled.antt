@@ -329,7 +329,7 @@ keeps_same table p drawn inside is = is
 pub keeps_both : (a b c : List (Option Drawn)) → KeepsKnown a b → KeepsKnown b c → KeepsKnown a c
 keeps_both a b c one two p drawn inside is = two p drawn inside (one p drawn inside is)
 
--- one place more
+-- one more place
 module _ (table new : List (Option Drawn)) (p : Place) (drawn : Drawn) (inside : IsPlace p) (none_there : known_at table p ≡ None) (size : length table ≡ PLACES) (is : new ≡ set table (place_index p) (Some drawn)) where
   here_is : known_at new p ≡ Some drawn
   here_is = put_here table new p (Some drawn) inside size is
@@ -472,7 +472,7 @@ module _ (F : List OpKind) (R : List ℕ) (begins : Begins F) (d : ℕ) where
   chain_front table new start (first ∷ pairs) pair chain has =
       (chain.0, chain.1, ⊎_elim (λ on. inl (on.0, on.1, chain_front table new on.0 pairs pair on.2 has)) (λ nowhere. absurd (not_none pairs pair nowhere.1)) chain.2)
 
-  -- a chain behind what was there before
+  -- a chain after what was there before
   pub has_linked_more : (start end next : Place) (before old new pairs : List Pair) (pair : Pair) → pair.place ≡ end → old ≡ before ++ pairs → Linked F R d start pairs end → IsGood F R d end → new ≡ old ++ pair ∷ [] → StepsOn F R end next
       → (new ≡ before ++ (pairs ++ pair ∷ [])) × Linked F R d start (pairs ++ pair ∷ []) next
   has_linked_more start end next before old new pairs pair same old_is linked good new_is goes =

@@ -7,7 +7,7 @@ use Rattle.dvg_frame.specs.Bytes.{addressed, bytes}
 use Rattle.dvg_frame.specs.own.Counting.{IsCounted}
 use Rattle.dvg_frame.specs.Layout.{laid_ops}
 
--- the bytes after the first so many of these words, and those of the operations from this number on
+-- the bytes of these words but for this many at the front, and those of the operations from this number on
 abbrev pub bytes_from : Half → List OpKind → List ℕ → ℕ → ℕ → List ℕ
 bytes_from half F words given op = drop given (bytes words) ++ bytes (laid_ops half F (drop op F))
 

@@ -9,7 +9,7 @@ use Rattle.dvg_frame.specs.Picture.{IsPicture}
 use Rattle.dvg_frame.specs.Loops.{HasLoop, ComesBack}
 use Rattle.dvg_frame.specs.Faults.{Refuses, Accepts, FrameState, IsChecked}
 
--- one fault at most is picked
+-- at most one fault is picked
 abbrev pub OneFault : Type 0
 OneFault = (F : List OpKind) (R : List ℕ) (one other : FrameFault) → Refuses F R one → Refuses F R other → other ≡ one
 

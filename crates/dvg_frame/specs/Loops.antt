@@ -4,7 +4,7 @@ use Rattle.dvg_frame.specs.declared.op.OpKind.{OpKind}
 use Rattle.dvg_frame.specs.declared.place.Place.{Place}
 use Rattle.dvg_frame.specs.Steps.{Leads, Reached}
 
--- so many steps, all at this depth, lead from a place to a place
+-- this many steps, all at this depth, lead from a place to a place
 pub data Walks (F : List OpKind) (R : List ℕ) (d : ℕ) : Place → ℕ → Place → Type 0 where
   none : {p : Place} → Walks F R d p 0 p
   more : {p q end : Place} {n : ℕ} → Leads F R p d q d → Walks F R d q n end → Walks F R d p (suc n) end

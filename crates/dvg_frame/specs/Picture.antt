@@ -17,7 +17,7 @@ pub data End : Type 0 where
   AtHalt : End
   AtReturn : End
 
--- from this place and beam these strokes are drawn, up to a beam and an end, in so many words
+-- from this place and beam these strokes are drawn, up to a beam and an end, in this many words
 pub data Draws (F : List OpKind) (R : List ℕ) : Place → Beam → List Stroke → Beam → End → ℕ → Type 0 where
   halts : {p after : Place} {beam : Beam} → Stands F R p Halts after → Draws F R p beam [] beam AtHalt 1
   returns : {p after : Place} {beam : Beam} → Stands F R p Returns after → Draws F R p beam [] beam AtReturn 1
@@ -45,6 +45,6 @@ pub record IsPicture (F : List OpKind) (R : List ℕ) (strokes : List Stroke) (n
   pub draws : Draws F R (InFrame 0) (record { x = 0; y = 0; scale = 0 }) strokes last AtHalt rest
   pub count : n ≡ suc rest
 
--- the draft has a picture, and its whole run has so many words
+-- the draft has a picture, and its whole run has this many words
 abbrev pub IsBound : List OpKind → List ℕ → ℕ → Type 0
 IsBound F R n = (strokes : List Stroke) × IsPicture F R strokes n

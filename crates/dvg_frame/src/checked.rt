@@ -11,9 +11,9 @@ use std::marker::Model;
 /// A draft that was checked, borrowed: nothing of it is copied before `to_frame`.
 #[derive(Drop)]
 pub struct Checked<'a> {
-    draft: &'a Draft,
-    words: u16,
-    bound: u64,
+    pub(crate) draft: &'a Draft,
+    pub(crate) words: u16,
+    pub(crate) bound: u64,
 }
 
 /// Contracts see what they see of its frame.
@@ -46,7 +46,7 @@ impl<'a> Checked<'a> {
         self.words
     }
 
-    /// How many words the whole run of its frame fetches, as `Frame::bound` tells.
+    /// How many words the whole run of its frame fetches, as `Frame::bound` says.
     pub fn bound(&self) -> u64
         ensures value { result ≡ self.now.bound }
         ensures small { result < 2 ^ 63 }
@@ -58,13 +58,6 @@ impl<'a> Checked<'a> {
     pub fn to_frame(&self) -> Frame
         ensures { result ≡ self.now }
     {
-        Frame::of(self.draft, self.words, self.bound)
-    }
-
-    // Makes a frame that is there the one of this draft, in the memory that it has.
-    pub(crate) fn copy_to(&self, frame: &mut Frame)
-        ensures { frame.new ≡ self.now }
-    {
-        frame.copy_from(self.draft, self.words, self.bound);
+        Frame::of(self)
     }
 }

@@ -77,7 +77,7 @@ impl Cursor {
             (bytes (laid half checked.now.operations)) }
         ensures in_ram { All IsBehindWordZero self.new }
     {
-        checked.copy_to(&mut self.frame);
+        self.frame.copy_from(checked);
         self.words_before = self.frame.words_before_each();
         self.half = half;
         self.words = Words::new();

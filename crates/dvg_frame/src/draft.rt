@@ -1,14 +1,12 @@
 //! Drafts.
 ghost use Rattle.std.specs.Prelude.{All, ◌≡◌, ◌+◌, ◌<◌, ◌≤◌, ◌↔◌, List, [], ◌∷◌, ◌++◌, length};
 ghost use Rattle.std.specs.Prelude.{IfOk, IsOk, IsTrue, OnErr, OnOk, Some, slice_get};
-ghost use Rattle.dvg_code.specs.Spelling.{word_count as words_of_code};
 ghost use Rattle.dvg_frame.specs.Layout.{op_words};
 ghost use Rattle.dvg_frame.specs.Ops.{IsDraft, IsOp};
 ghost use Rattle.dvg_frame.specs.declared.op.OpKind.{OpKind};
 
 use crate::op::{Op, OpKind};
 use arrayvec::ArrayVec;
-use dvg_code::{Code, Instr};
 use std::marker::Model;
 use thiserror::Error;
 
@@ -116,15 +114,6 @@ impl Draft {
         self.ops.as_slice()
     }
 
-    // The same operations again.
-    pub(crate) fn copy(&self) -> Draft
-        ensures { result ≡ self.now }
-    {
-        let mut copy = Draft::new();
-        copy.copy_from(self);
-        copy
-    }
-
     // Takes the operations of another draft in place of its own, in the memory that it has.
     pub(crate) fn copy_from(&mut self, other: &Draft)
         ensures { self.new ≡ other.now }
@@ -143,24 +132,13 @@ fn are_ops(ops: &[Op])
     }
 }
 
-// How many words an instruction has.
-fn word_count(code: Code) -> u16
-    ensures value { result ≡ words_of_code code }
-    ensures bound { result ≤ 2 }
-{
-    match code.instr() {
-        Instr::Vctr { .. } | Instr::Labs { .. } => 2,
-        Instr::Halt | Instr::Jsrl(_) | Instr::Rtsl | Instr::Jmpl(_) | Instr::Svec { .. } => 1,
-    }
-}
-
 // How many words an operation has.
 pub(crate) fn words_of(kind: OpKind) -> u16
     ensures value { result ≡ op_words kind }
     ensures bound { result ≤ 2 }
 {
     match kind {
-        OpKind::Draw(code) => word_count(code),
+        OpKind::Draw(code) => code.word_count(),
         _ => 1,
     }
 }

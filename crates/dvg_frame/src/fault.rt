@@ -12,7 +12,7 @@ pub enum FrameFault {
     /// 1: there is no operation.
     #[error("there is no operation")]
     Empty,
-    /// 2: operation 0 is no LABS.
+    /// 2: operation 0 isn't a LABS.
     #[error("operation 0 is no LABS")]
     NoLabs,
     /// 3: there are more than 511 words.
@@ -41,7 +41,7 @@ pub enum FrameFault {
 }
 
 impl FrameFault {
-    /// The number by which texts and answers tell the fault: 1 to 9 (this project's own choice).
+    /// The number of the fault in texts and answers: 1 to 9 (this project's own choice).
     pub fn number(self) -> u8
         ensures { result ≡ number_of self }
     {

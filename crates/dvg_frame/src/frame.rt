@@ -12,6 +12,7 @@ ghost use Rattle.dvg_frame.specs.Ops.{IsDraft, IsOp};
 ghost use Rattle.dvg_frame.specs.declared.op.OpKind.{OpKind};
 ghost use Rattle.dvg_mem.specs.declared.half.Half.{Half};
 
+use crate::checked::Checked;
 use crate::counted::{COUNTS, Counted, words_before_each};
 use crate::draft::{Draft, words_of};
 use crate::op::OpKind;
@@ -42,28 +43,26 @@ impl Model for Frame {
 }
 
 impl Frame {
-    // The frame of a draft without the faults 1 to 4, with its number of words and its bound. The
-    // draft is copied.
-    pub(crate) fn of(draft: &Draft, words: u16, bound: u64) -> Frame
-        requires { IsMeasured draft.now words bound }
-        ensures { result ≡ record { operations = draft.now; bound = bound } }
+    // The frame of a checked draft, which is copied.
+    pub(crate) fn of(checked: &Checked) -> Frame
+        ensures { result ≡ checked.now }
     {
+        let mut draft = Draft::new();
+        draft.copy_from(checked.draft);
         Frame {
-            draft: draft.copy(),
-            words,
-            bound,
+            draft,
+            words: checked.words,
+            bound: checked.bound,
         }
     }
 
-    // Becomes the frame of a draft without the faults 1 to 4, with its number of words and its
-    // bound, in the memory that it has.
-    pub(crate) fn copy_from(&mut self, draft: &Draft, words: u16, bound: u64)
-        requires { IsMeasured draft.now words bound }
-        ensures { self.new ≡ record { operations = draft.now; bound = bound } }
+    // Becomes the frame of a checked draft, in the memory that it has.
+    pub(crate) fn copy_from(&mut self, checked: &Checked)
+        ensures { self.new ≡ checked.now }
     {
-        self.draft.copy_from(draft);
-        self.words = words;
-        self.bound = bound;
+        self.draft.copy_from(checked.draft);
+        self.words = checked.words;
+        self.bound = checked.bound;
     }
 
     /// How many words the frame has in a half, at most 511.
@@ -77,8 +76,9 @@ impl Frame {
         self.words
     }
 
-    /// How many words the whole run of the frame fetches, from word zero to its HALT: that of any
-    /// run of it which nobody interrupts, over the ROM that it was checked with. It is below 2^63.
+    /// How many words the whole run of the frame fetches, from word zero to its HALT. This holds
+    /// for any run of it that nobody interrupts, over the ROM that it was checked with. It is below
+    /// 2^63.
     pub fn bound(&self) -> u64
         ensures value { result ≡ self.now.bound }
         ensures small { result < 2 ^ 63 }

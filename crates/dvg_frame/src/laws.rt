@@ -7,7 +7,7 @@ use crate::draft::Draft;
 use dvg_mem::Rom;
 use std::alloc::Allocator;
 
-/// One fault at most is picked of a draft, over any ROM.
+/// At most one fault is picked of a draft, over any ROM.
 pub fn one_fault()
     ensures { OneFault }
 {}
@@ -17,8 +17,8 @@ pub fn accepted_stays()
     ensures { AcceptedStays }
 {}
 
-/// Exactly one answer of the check holds of each draft and ROM. That there is one shows by what the
-/// check itself answers.
+/// Exactly one answer of the check holds of each draft and ROM. That there is one is shown by the
+/// check's own answer.
 pub fn one_answer<A: Allocator>(draft: &Draft, rom: &Rom<A>)
     ensures { OneAnswer draft.now rom.now }
 {

@@ -1,7 +1,5 @@
 //! The operations of a draft.
 ghost use Rattle.std.specs.Prelude.{◌≡◌, ◌↔◌, IfSome, IsSome, IsTrue};
-ghost use Rattle.dvg_code.specs.Acts.{Moves, act_of};
-ghost use Rattle.dvg_code.specs.Ranges.{InRange};
 ghost use Rattle.dvg_frame.specs.Ops.{IsOp};
 ghost use Rattle.dvg_frame.specs.declared.op.OpKind.{OpKind};
 
@@ -57,8 +55,8 @@ impl Default for Op {
 }
 
 impl Op {
-    /// The operation. None exactly for a `Draw` of another instruction than VCTR, SVEC or LABS, and
-    /// for a `CallRom` or `JumpRom` whose address is over FFF.
+    /// The operation. None exactly for a `Draw` of an instruction other than VCTR, SVEC or LABS,
+    /// and for a `CallRom` or `JumpRom` whose address is over FFF.
     pub fn new(kind: OpKind) -> Option<Op>
         ensures made { IsSome result ↔ IsOp kind }
         ensures value { IfSome result (λ op. op ≡ kind) }
@@ -84,18 +82,11 @@ fn is_op(kind: &OpKind) -> bool
     ensures { IsTrue result ↔ IsOp kind.now }
 {
     match *kind {
-        OpKind::Draw(code) => is_drawing(code),
+        OpKind::Draw(code) => matches!(
+            code.instr(),
+            Instr::Vctr { .. } | Instr::Svec { .. } | Instr::Labs { .. }
+        ),
         OpKind::CallRom(address) | OpKind::JumpRom(address) => address <= 0xFFF,
         OpKind::Call(_) | OpKind::Jump(_) | OpKind::Return | OpKind::Halt => true,
-    }
-}
-
-// Whether it is a VCTR, an SVEC or a LABS.
-fn is_drawing(code: Code) -> bool
-    ensures { IsTrue result ↔ (InRange code × (act_of code ≡ Moves code)) }
-{
-    match code.instr() {
-        Instr::Vctr { .. } | Instr::Svec { .. } | Instr::Labs { .. } => true,
-        Instr::Halt | Instr::Jsrl(_) | Instr::Rtsl | Instr::Jmpl(_) => false,
     }
 }

@@ -59,7 +59,7 @@ past_the_call back older call is_return answer = ap (λ act. led act back older)
 pub answers_a_call : (older : List Visit) (call : Visit) → IsAnswered older call → (to : ℕ) × (act_of call.code ≡ Calls to)
 answers_a_call older call answer = (found 0 answer.between call answer.before (answered_of answer)).1
 
--- one place of a list is the other, or lies before it, or behind it
+-- one place of a list is the other, or lies before it, or after it
 places : (b1 b2 : List Visit) (c1 c2 : Visit) (d1 d2 : List Visit) → b1 ++ c1 ∷ d1 ≡ b2 ++ c2 ∷ d2
     → (c1 ≡ c2) ⊎ (((x : List Visit) × (b2 ≡ (b1 ++ c1 ∷ []) ++ x)) ⊎ ((x : List Visit) × (b1 ≡ (b2 ++ c2 ∷ []) ++ x)))
 places [] [] c1 c2 d1 d2 same = inl (cc)

@@ -57,11 +57,11 @@ four_calls = refl
 pub fifth_call : fate (visit 2048 (Jsrl 2048) ∷ four) ≡ Breaks StackOver
 fifth_call = refl
 
--- a return goes behind the call that is open: 000 calls 800, which calls C00 and returns from it
+-- a return leads to one past the open call: 000 calls 800, which calls C00 and returns from it
 pub inner_return : next (visit 3072 Rtsl ∷ visit 2048 (Jsrl 3072) ∷ visit 0 (Jsrl 2048) ∷ []) ≡ 2049
 inner_return = refl
 
--- and the return after that goes behind the older one
+-- and the return after that leads to the word after the older one
 pub outer_return : next (visit 2049 Rtsl ∷ visit 3072 Rtsl ∷ visit 2048 (Jsrl 3072) ∷ visit 0 (Jsrl 2048) ∷ []) ≡ 1
 outer_return = refl
 

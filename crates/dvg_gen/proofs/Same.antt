@@ -1,4 +1,4 @@
--- A history leaves exactly one run, and a memory has one run of so many words at most.
+-- A history leaves exactly one run, and a memory has at most one run of a given number of words.
 use Rattle.std.proofs.Common.{◌≡◌, ℕ, ◌<◌, ◌≤◌, List, ◌∷◌, Option, Some, None, refl, sym, ap, ◌∙◌, subst, ⊎_elim, arith}
 use Rattle.std.proofs.lemmas.Bool.{cases_lt}
 use Rattle.std.specs.Prelude.{IfSome}
@@ -63,7 +63,7 @@ leaves_more history run (Fed (Some word)) l can =
 some_is : {x y : ℕ} → ◌≡◌ {A = Option ℕ} (Some x) (Some y) → x ≡ y
 some_is e = cc
 
--- a memory has one run of so many words
+-- a memory has one run of this many words
 pub runs_same : {memory : ℕ → Option ℕ} {count : ℕ} {visits visits' : List Visit} {held held' : Option ℕ} → Runs memory count visits held → Runs memory count visits' held' → (visits ≡ visits') × (held ≡ held')
 runs_same begins begins = (refl, refl)
 runs_same {memory} (fetches {word = w} {visits = us} {visits' = vs} {held = k} {held' = h} r g m a) (fetches {word = w2} {visits = us2} {visits' = vs2} {held = k2} {held' = h2} r2 g2 m2 a2) =

@@ -11,7 +11,7 @@ abbrev pub stack : List Visit → List ℕ
 stack [] = []
 stack (visit ∷ older) = stack_by (act_of visit.code) visit.place (stack older)
 
--- one instruction more keeps brackets and stack together
+-- one more instruction keeps brackets and stack together
 back_is : (act : Act ℕ) (n place : ℕ) (older : ℕ → ℕ) (saved : List ℕ) → ((m : ℕ) → older m ≡ get_or saved m 0) → back_over act n place older ≡ get_or (stack_by act place saved) n 0
 back_is (Moves code) n place older saved same = same n
 back_is (Jumps to) n place older saved same = same n
@@ -42,7 +42,7 @@ next_is visit older = led_is (act_of visit.code) visit older
 abbrev pub Counted : List Visit → Type 0
 Counted visits = calls visits ≡ returns visits + length (stack visits)
 
--- one instruction more keeps the count
+-- one more instruction keeps the count
 counted_by : (act : Act ℕ) (place c r : ℕ) (saved : List ℕ) → c ≡ r + length saved → CanGo act saved → call_count act + c ≡ return_count act + r + length (stack_by act place saved)
 counted_by (Moves code) place c r saved counted can = omega arith
 counted_by (Jumps to) place c r saved counted can = omega arith
@@ -73,7 +73,7 @@ short_by Returns place [] short can = short
 short_by Returns place (back ∷ saved) short can = omega arith
 short_by Halts place saved short can = short
 
--- one instruction more that can go
+-- one more instruction that can go
 pub sound_more : (visit : Visit) (older : List Visit) → Sound older → CanGo (act_of visit.code) (stack older) → Sound (visit ∷ older)
 sound_more visit older sound can =
     record { counted = counted_more visit older sound.counted can; short = short_by (act_of visit.code) visit.place (stack older) sound.short can }

@@ -1,4 +1,4 @@
--- A generator still stands after its history once it is told one thing more.
+-- A generator still stands after its history once it is told one more thing.
 use Rattle.std.proofs.Common.{◌≡◌, ℕ, suc, ◌+◌, ◌<◌, true, false, List, [], ◌∷◌, ◌++◌, length, get_or, Option, Some, None, refl, sym, ap, ◌∙◌, subst, arith, append-nil, cond, eqb}
 use Rattle.std.proofs.lemmas.Bool.{eq-eqb}
 use Rattle.std.specs.Prelude.{Result, Ok, Err, IfOk, IsSome}
@@ -44,7 +44,7 @@ open_goes (resets leaves) opened = let false_is_true : false ≡ true = opened i
 open_goes (meets_hole leaves was) opened = let false_is_true : false ≡ true = opened in cc
 open_goes (takes {visits = visits} leaves was adds) opened = goes_true (fate visits) opened
 
--- one word more keeps a run sound
+-- one more word keeps a run sound
 sound_adds : {visits visits' : List Visit} {held held' : Option ℕ} {word : ℕ} → Adds visits held word visits' held' → Sound visits → fate visits' ≡ Goes → Sound visits'
 sound_adds (first is_first) sound goes = sound
 sound_adds (one {visits = visits} {code = code} spells) sound goes =

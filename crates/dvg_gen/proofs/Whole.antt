@@ -8,7 +8,7 @@ use Rattle.dvg_gen.specs.Whole.{Completed}
 use Rattle.dvg_gen.specs.Whole as whole
 use Rattle.dvg_gen.proofs.Same.{adds_same, leaves_same}
 
--- a run's instructions with one more word are those before, behind what the word completed
+-- a run's instructions with one more word are what the word completed, and then those before
 added_by : {visits visits' : List Visit} {held held' : Option ℕ} {word : ℕ} → Adds visits held word visits' held' → (added : List Visit) × (visits' ≡ added ++ visits)
 added_by (first p) = ([], refl)
 added_by (one {visits = visits} {code = code} s) = (record { place = next visits; code = code } ∷ [], refl)

@@ -5,7 +5,7 @@ use Rattle.dvg_code.specs.declared.instr.Instr.TheVariants.{Vctr, Svec}
 use Rattle.dvg_code.specs.Spelling.{Spells}
 use Rattle.dvg_gen.specs.Bytes.{Met, Whole}
 
--- a word completes an instruction: it spells it, behind the first word that is held
+-- a word completes an instruction: it spells it, after the first word that is held, if any
 abbrev pub Completes : Option ℕ → ℕ → Instr → Type 0
 Completes None word code = Spells code (word ∷ [])
 Completes (Some first) word code = Spells code (first ∷ word ∷ [])

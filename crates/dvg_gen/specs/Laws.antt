@@ -43,13 +43,13 @@ CanBeTold run Reset = Unit {0}
 CanBeTold run (Fed None) = run.is_open ≡ true
 CanBeTold run (Fed (Some word)) = (run.is_open ≡ true) × IsWord word
 
--- a history leaves one run at most, and one that leaves a run still leaves one with whatever can be told then
+-- a history leaves at most one run, and one that leaves a run still leaves one with whatever can be told then
 abbrev pub OneRun : Type 0
 OneRun = ((history : List Told) (one other : Newest) → Leaves history one → Leaves history other → one ≡ other)
     × ((history : List Told) (run : Newest) (told : Told) → Leaves history run → CanBeTold run told
     → (later : Newest) × Leaves (told ∷ history) later)
 
--- a memory that does not change has one run of so many words at most
+-- a memory that does not change has at most one run of a given number of words
 abbrev pub OneRunOfMemory : Type 0
 OneRunOfMemory = (memory : ℕ → Option ℕ) (count : ℕ) (visits visits' : List Visit) (held held' : Option ℕ)
     → Runs memory count visits held → Runs memory count visits' held' → (visits ≡ visits') × (held ≡ held')
@@ -61,7 +61,7 @@ BeamOfAll = ((history : List Told) (run : Newest) → Leaves history run → (al
     × ((history : List Told) (run : Newest) (all : List Visit) → Leaves history run → Completed history all
     → beam_after run.first run.visits ≡ beam_after nothing.first all)
 
--- where there are more calls than returns, a return answers a call, and it answers one at most
+-- where there are more calls than returns, a return answers a call, and it answers at most one
 abbrev pub OneCall : Type 0
 OneCall = ((older : List Visit) → returns older < calls older → (call : Visit) × IsAnswered older call)
     × ((older : List Visit) (call other : Visit) → IsAnswered older call → IsAnswered older other → call ≡ other)

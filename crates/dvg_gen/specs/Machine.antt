@@ -43,7 +43,7 @@ pub record IsAtRun (machine : Machine) (run : Newest) : Type 0 where
   pub beam : machine.beam ≡ beam_after run.first run.visits
   pub running : run.is_open ≡ true → IsInRun machine run
 
--- a machine stands after a history of words and a low byte that waits behind them: it stands at the run that the words
+-- a machine stands after a history of words and a low byte that waits after them: it stands at the run that the words
 -- leave, and has that low byte, for which the run is open
 pub record HasTaken (machine : Machine) (history : List Told) (waiting : Option ℕ) : Type 0 where
   pub run : Newest
@@ -59,7 +59,7 @@ IsReply (Done list) (Drew strokes) = list.items ≡ strokes
 IsReply (Broke fault) (Fails other) = fault ≡ other
 IsReply _ _ = ⊥
 
--- a machine stands after a history and one fetch more, which met this, with the answer that the definition gives to it:
+-- a machine stands after a history and one more fetch, which met this, with the answer that the definition gives to it:
 -- a low byte waits, and a word or a hole is told
 abbrev pub Answers : {A : Type 0} → List Told → Met → Machine → Taken A → Type 0
 Answers history (Waits byte) machine taken = HasTaken machine history (Some byte) × (taken ≡ Low)

@@ -14,18 +14,18 @@ pub record Visit : Type 0 where
   pub place : ℕ
   pub code : Instr
 
--- the address so many words on; after FFF comes 000
+-- the address this many words on; after FFF comes 000
 abbrev pub on : ℕ → ℕ → ℕ
 on place count = (place + count) % 4096
 
--- reading back past one instruction, where so many returns still want a call: a call that none wants is the one
+-- reading back past one instruction, where this many returns still want a call: a call that none wants is the one
 abbrev pub back_over : Act ℕ → ℕ → ℕ → (ℕ → ℕ) → ℕ
 back_over (Calls to) zero place older = on place 1
 back_over (Calls to) (suc wanting) place older = older wanting
 back_over Returns wanting place older = older (suc wanting)
 back_over _ wanting place older = older wanting
 
--- one past the latest call that is still open, where so many returns behind it still want a call of their own
+-- one past the latest call that is still open, where this many returns after it still want a call of their own
 abbrev pub past_call : ℕ → List Visit → ℕ
 past_call wanting [] = 0
 past_call wanting (visit ∷ older) = back_over (act_of visit.code) wanting visit.place (λ n. past_call n older)
@@ -105,7 +105,7 @@ pub data Adds : List Visit → Option ℕ → ℕ → List Visit → Option ℕ 
   two : {visits : List Visit} {held word : ℕ} {code : Instr} → Spells code (held ∷ word ∷ [])
       → Adds visits (Some held) word (record { place = next visits; code = code } ∷ visits) None
 
--- a lawful run of so many words over a memory that does not change
+-- a lawful run of this many words over a memory that does not change
 pub data Runs (memory : ℕ → Option ℕ) : ℕ → List Visit → Option ℕ → Type 0 where
   begins : Runs memory 0 [] None
   fetches : {count word : ℕ} {visits visits' : List Visit} {held held' : Option ℕ} → Runs memory count visits held

@@ -51,7 +51,7 @@ pub data Leaves : List Told → Newest → Type 0 where
       → run.is_open ≡ true
       → Adds run.visits run.held word visits held → Leaves (Fed (Some word) ∷ history) (grown run visits held)
 
--- what a fetch is answered: the run goes on, it is finished with these strokes, or it breaks
+-- the answer to a fetch: the run goes on, it is finished with these strokes, or it breaks
 pub data Reply : Type 0 where
   More : Reply
   Drew : List Stroke → Reply

@@ -55,9 +55,9 @@ impl Beam {
     /// Moves the beam by an instruction, and answers the stroke that it draws, if any.
     ///
     /// The effective scale is the sum of the global and the local scale, modulo 16. At 0 to 9 it
-    /// doubles a move so many times; 10 to 15 move the beam by nothing (this project's own choice).
-    /// A vector of intensity 1 to 15 draws one stroke, also where it moves by nothing. Instructions
-    /// other than LABS, VCTR and SVEC leave the beam as it is.
+    /// doubles a move that many times; at 10 to 15 the beam doesn't move (this project's own
+    /// choice). A vector of intensity 1 to 15 draws one stroke, even where it doesn't move the
+    /// beam. Instructions other than LABS, VCTR and SVEC leave the beam as it is.
     #[inline(always)]
     pub fn step(&mut self, code: &Code) -> Option<Stroke>
         ensures moved { self.new ≡ spec.moved self.old code.now }
@@ -77,7 +77,7 @@ impl Beam {
         }
     }
 
-    // Moves the beam so many units along each axis, and answers the stroke, unless it is blank.
+    // Moves the beam this many units along each axis, and answers the stroke, unless it is blank.
     fn slide(&mut self, dx: i16, dy: i16, unit: u32, z: u8) -> Option<Stroke>
         requires { unit ≤ 131072 }
         ensures moved { self.new ≡ spec.slid self.old dx dy unit }
@@ -109,7 +109,7 @@ fn unit(global: u8, local: u8) -> u32
     if effective <= 9 { 1 << effective } else { 0 }
 }
 
-// A position that was moved so many units, round the circle.
+// A position that was moved by `by` times a unit, round the circle.
 fn shifted(from: u32, by: i16, unit: u32) -> u32
     requires { unit ≤ 131072 }
     ensures moved { result ≡ spec.shifted from by unit }

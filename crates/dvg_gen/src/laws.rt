@@ -8,15 +8,16 @@ pub fn least_residue()
     ensures { LeastResidue }
 {}
 
-/// A vector with an intensity of at least 1 draws one stroke, also of length zero, and nothing else
+/// A vector with an intensity of at least 1 draws one stroke, even of length zero. Nothing else
 /// draws.
 pub fn what_draws()
     ensures seen { SeenDraws }
     ensures unseen { UnseenDrawsNothing }
 {}
 
-/// What is drawn is in range: positions are below 2,097,152, and the intensity is 1 to 15. It is so
-/// of an instruction in range, from each beam, and of the strokes of each history's newest run.
+/// What is drawn is in range: positions are below 2,097,152, and the intensity is 1 to 15. This
+/// holds of an instruction in range, from each beam, and of the strokes of each history's newest
+/// run.
 pub fn strokes_in_range()
     ensures step { StaysInRange }
     ensures run { RunInRange }
@@ -40,7 +41,7 @@ pub fn one_run()
     ensures { OneRun }
 {}
 
-/// A memory that does not change has one run of so many words at most.
+/// A memory that does not change has at most one run of a given number of words.
 pub fn one_run_of_memory()
     ensures { OneRunOfMemory }
 {}

@@ -2,7 +2,7 @@
 use Rattle.std.proofs.Common.{◌≡◌, ℕ, ◌+◌, ◌<◌, List, ◌++◌, length, drop, get_or, ap, flat_map}
 use Rattle.std.proofs.lemmas.List.{drop_more}
 use Rattle.dvg_gen.specs.declared.stroke.Stroke.{Stroke}
-use Rattle.dvg_lines.specs.Shows.{stroke_line}
+use Rattle.dvg_print.specs.Shows.{stroke_line}
 
 -- the stroke that stands for one after the end of a list
 abbrev pub no_stroke : Stroke

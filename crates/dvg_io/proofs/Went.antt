@@ -14,7 +14,7 @@ pub record Went (text rest : List ℕ) (old now : Option (List ℕ)) : Type 0 wh
 pub nothing : (text : List ℕ) (known : Option (List ℕ)) → Went text text known known
 nothing text known = record { done = []; parts = refl; wrote = Appends-nil known }
 
--- a piece more
+-- one more piece
 pub piece_more : {text rest : List ℕ} {old now new : Option (List ℕ)} (piece later : List ℕ) → Went text rest old now → rest ≡ piece ++ later → Appends now new piece → Went text later old new
 piece_more {old = old} {now = now} {new = new} piece later went is wrote = record {
   done = went.done ++ piece;
@@ -22,7 +22,7 @@ piece_more {old = old} {now = now} {new = new} piece later went is wrote = recor
   wrote = Appends-trans old now new _ _ went.wrote wrote;
 }
 
--- a beginning of a piece more
+-- a beginning of one more piece
 pub piece_begun : {text rest : List ℕ} {old now new : Option (List ℕ)} (piece later : List ℕ) → Went text rest old now → rest ≡ piece ++ later → BeginsToWrite piece now new → BeginsToWrite text old new
 piece_begun {old = old} {now = now} {new = new} piece later went is begun = record {
   front = went.done ++ begun.front;
@@ -58,7 +58,7 @@ abbrev pub Wrote : {W : Type 0} → (contents : W → Option (List ℕ)) → (te
 Wrote contents text old new =
     Appends (contents (device_of old)) (contents (device_of new)) text × (failures_of new ≡ failures_of old)
 
--- a text of which a beginning went out, with one failure more
+-- a text of which a beginning went out, with one more failure
 abbrev pub BrokeOff : {W : Type 0} → (contents : W → Option (List ℕ)) → (text : List ℕ) → (old new : Watched W) → Type 0
 BrokeOff contents text old new =
     BeginsToWrite text (contents (device_of old)) (contents (device_of new)) × (failures_of new ≡ one_more (failures_of old))

@@ -1,8 +1,8 @@
 -- Why an engine stops.
 use Rattle.std.specs.Prelude.{◌≢◌}
-use Rattle.dvg_text.specs.declared.fault.TextFault.TheVariants.{Cut}
-use Rattle.dvg_text.specs.declared.fault.TraceFault.{TraceFault}
-use Rattle.dvg_text.specs.declared.fault.TraceFault.TheVariants as of_trace
+use Rattle.dvg_read.specs.declared.fault.TextFault.TheVariants.{Cut}
+use Rattle.dvg_read.specs.declared.fault.TraceFault.{TraceFault}
+use Rattle.dvg_read.specs.declared.fault.TraceFault.TheVariants as of_trace
 use Rattle.dvg_io.specs.declared.fault.ToolFault.{ToolFault}
 use Rattle.dvg_io.specs.declared.fault.ToolFault.TheVariants.{Text, Writer, Memory}
 

@@ -1,7 +1,7 @@
 -- What an engine finds of its input, and what it is to serve an input with it.
 use Rattle.std.specs.Prelude.{◌≡◌, ℕ, ◌+◌, ◌≤◌, ◌↔◌, List, take, Option, Result, Ok, Err, IfErr, IfSome, IsErrOf}
 use Rattle.std.specs.Io.KnownBytes.{Appends}
-use Rattle.dvg_text.specs.declared.fault.TextFault.{TextFault}
+use Rattle.dvg_read.specs.declared.fault.TextFault.{TextFault}
 use Rattle.dvg_io.specs.declared.fault.ToolFault.{ToolFault}
 use Rattle.dvg_io.specs.declared.fault.ToolFault.TheVariants.{Text, Reader, Writer, Memory}
 use Rattle.dvg_io.specs.declared.watched.Watched.{Watched}
@@ -24,8 +24,8 @@ IsFinding Finds HasFault (Err _) = ⊥
 abbrev pub Meaning : Type 0 → Type 1
 Meaning V = Result V ToolFault → (input : List ℕ) → (old new : Option (List ℕ)) → Type 0
 
--- what is answered of an input, and what went out: the text of what is found, or at `Writer` a
--- beginning of it (that nothing went out at the other faults is a part of `Serves`)
+-- the answer to an input, and what went out: the text of what is found, or at `Writer` a beginning
+-- of it (that nothing went out at the other faults is a part of `Serves`)
 abbrev pub Answers : {F : Type 0} → (Finds : List ℕ → F → Type 0)
     → (HasFault : List ℕ → TextFault → Type 0) → (text : F → List ℕ)
     → Result F ToolFault → (input : List ℕ) → (old new : Option (List ℕ)) → Type 0
@@ -40,9 +40,9 @@ Answers Finds HasFault text (Err _) input old new = Unit {0}
 abbrev pub AreFresh : {R W : Type 0} → Watched R → Watched W → Type 0
 AreFresh reader writer = (failures_of reader ≡ 0) × (failures_of writer ≡ 0)
 
--- what an engine keeps: of a reader that tells its bytes this is answered and went out; no more
--- than so many bytes are taken; at an early fault the writer is as it was; and a device's failure is
--- counted and answered
+-- what an engine keeps: where a reader's bytes are known, this is answered and went out; no more
+-- than this many bytes are taken; at an early fault the writer is as it was; and a device's failure
+-- is counted and answered
 pub record Serves {R W V : Type 0}
     (remaining : R → Option (List ℕ)) (contents : W → Option (List ℕ)) (most : ℕ)
     (IsEarly : ToolFault → Type 0) (Means : Meaning V) (answer : Result V ToolFault)

@@ -11,7 +11,7 @@ device_of watched = watched.device
 abbrev pub failures_of : {T : Type 0} → Watched T → ℕ
 failures_of watched = watched.failures
 
--- one failure more, unless the count is at its greatest value
+-- one more failure, unless the count is at its greatest value
 abbrev pub one_more : ℕ → ℕ
 one_more count = min (count + 1) (2 ^ 32 - 1)
 
@@ -31,7 +31,7 @@ pub record BeginsToWrite (text : List ℕ) (old new : Option (List ℕ)) : Type 
   pub parts : text ≡ front ++ rest
   pub wrote : Appends old new front
 
--- the text went out, or a beginning of it with one failure more
+-- the text went out, or a beginning of it with one more failure
 abbrev pub Writes : {W V E : Type 0} → (contents : W → Option (List ℕ)) → (text : List ℕ)
     → Result V E → (old new : Watched W) → Type 0
 Writes contents text answer old new = MatchResult answer

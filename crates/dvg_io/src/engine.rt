@@ -1,6 +1,6 @@
 //! What the engines of the program `dvg` have in common.
 ghost use Rattle.std.specs.Prelude.{ℕ, List, ◌+◌};
-ghost use Rattle.dvg_text.specs.declared.fault.TextFault.{TextFault};
+ghost use Rattle.dvg_read.specs.declared.fault.TextFault.{TextFault};
 ghost use Rattle.dvg_io.specs.Faults.{ComesBeforeText};
 ghost use Rattle.dvg_io.specs.Serving.{Answers, AreFresh, IsFinding, OfInput, Serves};
 ghost use Rattle.dvg_io.specs.Watching.{Writes};
@@ -11,8 +11,8 @@ use crate::watched::{DeviceFailed, Watched};
 use std::alloc::Allocator;
 use std::io::{Read, Write};
 
-/// What one engine does and no other: what it finds of an input, and the text that it writes of
-/// that. How an input is read, and what becomes of the failures of devices, is `serve`'s.
+/// What one engine does and the others don't: what it finds of an input, and the text that it
+/// writes of that. `serve` reads the input, and sees to the failures of devices.
 pub trait Engine<A: Allocator> {
     /// What is found of an input.
     type Found: Drop;

@@ -4,7 +4,7 @@ ghost use Rattle.dvg_io.specs.Faults.{called};
 ghost use Rattle.dvg_io.specs.declared.fault.ToolFault.TheVariants.{Memory};
 
 use dvg_code::OutOfMemory;
-use dvg_text::{TextFault, TraceFault};
+use dvg_read::{TextFault, TraceFault};
 use thiserror::Error;
 
 /// Why an engine stopped. Its text is what `dvg` prints of it (this project's own choice).

@@ -1,12 +1,12 @@
 //! Strokes that are written.
 ghost use Rattle.std.specs.Prelude.{flat_map};
-ghost use Rattle.dvg_lines.specs.Shows.{stroke_line};
+ghost use Rattle.dvg_print.specs.Shows.{stroke_line};
 ghost use Rattle.dvg_io.specs.Watching.{Writes};
 
 use crate::transfer::write_whole;
 use crate::watched::{DeviceFailed, Watched};
 use dvg_gen::Stroke;
-use dvg_lines::Line;
+use dvg_print::Line;
 use std::io::Write;
 
 /// Writes the line of each stroke, `x0 y0 x1 y1 z`. The lines are made in `line`.

@@ -1,7 +1,7 @@
 -- What comes of laying out the sketch of a text.
 use Rattle.std.specs.Prelude.{◌≡◌, ℕ, List, map}
-use Rattle.dvg_text.specs.declared.fault.TextFault.{TextFault}
-use Rattle.dvg_text.specs.declared.fault.TextFault.TheVariants as texts
+use Rattle.dvg_read.specs.declared.fault.TextFault.{TextFault}
+use Rattle.dvg_read.specs.declared.fault.TextFault.TheVariants as texts
 use Rattle.dvg_io.specs.declared.fault.ToolFault.{ToolFault}
 use Rattle.dvg_io.specs.declared.fault.ToolFault.TheVariants.{Text, Memory}
 use Rattle.dvg_io.specs.Serving.{Answers, Meaning}

@@ -9,7 +9,7 @@ use Rattle.dvg_mem.specs.declared.half.Half.TheVariants.{H0}
 use Rattle.dvg_frame.specs.declared.op.OpKind.{OpKind}
 use Rattle.dvg_frame.specs.Bytes.{bytes}
 use Rattle.dvg_frame.specs.Layout.{laid, op_code, size}
-use Rattle.dvg_lines.specs.Lines.{hex_3, hex_4}
+use Rattle.dvg_print.specs.Lines.{hex_3, hex_4}
 use Rattle.dvg_named.specs.declared.meaning.NamedFrame.{NamedFrame}
 use Rattle.dvg_named.specs.declared.meaning.RomName.{RomName}
 use Rattle.dvg_named.specs.declared.meaning.Source.{Source}

@@ -11,7 +11,7 @@ use crate::form::{Form, Laid, lay};
 use dvg_io::{DeviceFailed, Engine, ToolFault, Watched, serve, write_whole};
 use dvg_mem::Rom;
 use dvg_named::{NamedFault, Sketch, SketchFault, read_sketch};
-use dvg_text::{MOST_TEXT_BYTES, TextFault};
+use dvg_read::{MOST_TEXT_BYTES, TextFault};
 use std::alloc::Allocator;
 use std::io::{Read, Write};
 

@@ -1,6 +1,6 @@
 //! Why a sketch isn't laid out.
 use dvg_frame::FrameFault;
-use dvg_lines::{Line, Verdict};
+use dvg_print::{Line, Verdict};
 use std::alloc::{AllocFailed, Allocator, Global};
 use std::fmt;
 

@@ -2,7 +2,7 @@
 ghost use Rattle.std.specs.Prelude.{◌≡◌, ◌<◌, ◌++◌, ◌∷◌, [], OnOk, codes, decimal, true};
 ghost use Rattle.std.specs.Fmt.{digit_glyph};
 ghost use Rattle.std.specs.List.{join_by};
-ghost use Rattle.dvg_lines.specs.Lines.{hex_3};
+ghost use Rattle.dvg_print.specs.Lines.{hex_3};
 ghost use Rattle.dvg_lay.specs.Texts.{dollar};
 
 use itoa::Buffer;

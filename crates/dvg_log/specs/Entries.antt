@@ -34,7 +34,7 @@ Shown = Entry (List Stroke)
 abbrev pub OwnEntry : Type 0 → Type 0
 OwnEntry A = Entry (Vec Stroke A)
 
--- an entry of the code, so
+-- an entry of the code, with its strokes as a list
 abbrev pub shown_of : {A : Type 0} → OwnEntry A → Shown
 shown_of entry = map_entry (λ drew. drew.items) entry
 

@@ -26,7 +26,7 @@ Happening = Event (List OpKind) (List ℕ)
 abbrev pub OwnEvent : Type 0 → Type 0
 OwnEvent A = Event (Box (List OpKind) A) (List ℕ)
 
--- an event of the code, so
+-- an event of the code, with its draft and its image as lists
 abbrev pub happening_of : {A : Type 0} → OwnEvent A → Happening
 happening_of event = map_event (λ draft. draft.value) (λ image. image) event
 

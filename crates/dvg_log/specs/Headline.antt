@@ -58,7 +58,7 @@ IsNoOlder log event (Done address word drew) = (n : ℕ) → publication (at_zer
     → Throughout (IsNoLater n) log
 IsNoOlder log event entry = Unit {0}
 
--- how many bytes the open run has fetched: two a word, and the low byte that waits
+-- how many bytes the open run has fetched: two for each word, and the low byte that waits
 abbrev pub fetch_count : List (ℕ × ℕ) → Option ℕ → ℕ
 fetch_count words None = 2 * length words
 fetch_count words (Some low) = 2 * length words + 1

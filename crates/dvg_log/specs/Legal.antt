@@ -14,13 +14,13 @@ use Rattle.dvg_log.specs.declared.entry.Entry.TheVariants.{Offered, Refused, Bus
 use Rattle.dvg_log.specs.declared.entry.Entry.TheVariants.{Started, NoStrobe, Low, Fetched, Done, Broke, Still, Cleared}
 use Rattle.dvg_log.specs.Log.{◌⟼◌, Log, events_of, Throughout, meets, history, open_run, life, strobed}
 
--- after this history the next word is that at this address
+-- after this history the next word is the one at this address
 pub record IsWanted (before : List Told) (address : ℕ) : Type 0 where
   pub run : Newest
   pub leaves : Leaves before run
   pub wanted : wants run ≡ Some address
 
--- after this history the next word is that at this address, and it is answered so where it is this word, or a hole
+-- after this history the next word is the one at this address, and this is the answer where it is this word, or a hole
 pub record IsFetch (before : List Told) (address : ℕ) (word : Option ℕ) (answer : Reply) : Type 0 where
   pub asked : IsWanted before address
   pub later : Newest
@@ -67,7 +67,7 @@ IsLegal R image ((event ⟼ entry) ∷ log) = Fits R image log event entry × Is
 abbrev pub Always : (List ℕ → List ℕ → Log → Happening → Shown → Type 0) → Type 0
 Always P = (R image : List ℕ) (log : Log) → IsLegal R image log → Throughout (P R image) log
 
--- a list of events has one legal log at most
+-- a list of events has at most one legal log
 abbrev pub SameLog : Type 0
 SameLog = (R image : List ℕ) (one other : Log) → IsLegal R image one → IsLegal R image other
     → events_of one ≡ events_of other → one ≡ other

@@ -1,4 +1,4 @@
--- Logs, and what they tell: memory, runs, lives of the driver, what is published and what is drawn.
+-- Logs, and what they show: memory, runs, lives of the driver, what is published and what is drawn.
 use Rattle.std.specs.Prelude.{◌≡◌, ◌+◌, ◌==◌, ℕ, Bool, true, false, List, [], ◌∷◌, ◌++◌, length, slice_index, slice_set}
 use Rattle.std.specs.Prelude.{if◌then◌else◌, Option, Some, None, is_some, option_and_then, option_map}
 use Rattle.dvg_mem.specs.declared.half.Half.{Half}
@@ -57,7 +57,7 @@ waiting (line ∷ log) = waiting log
 abbrev pub low_byte : Log → Option ℕ
 low_byte log = option_map (λ low. low.1) (waiting log)
 
--- what a fetch at this address meets now: it reads the word's high byte behind a low byte that waits, and else its low
+-- what a fetch at this address meets now: it reads the word's high byte after a low byte that waits, and else its low
 -- one
 abbrev pub meets : List ℕ → List ℕ → Log → ℕ → Met
 meets R image log address = met (low_byte log) (fetched_byte (ram image log) R address (is_some (low_byte log)))
@@ -91,7 +91,7 @@ pub record IsBeingDrawn (log : Log) (half : Half) : Type 0 where
   pub fetches : open_run log ≡ Some (later ++ (0x000, 0xE000 + target) ∷ [])
   pub in_half : IsInHalf half target
 
--- the half that is free: the other one than byte 001 names
+-- the half that is free: the one that byte 001 doesn't name
 abbrev pub free_half : List ℕ → Log → Half
 free_half image log = other (half_of_high (slice_index (ram image log) 1))
 

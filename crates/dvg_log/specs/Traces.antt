@@ -6,7 +6,7 @@ use Rattle.dvg_log.specs.declared.event.Event.{Event}
 use Rattle.dvg_log.specs.declared.event.Event.TheVariants.{Offer}
 use Rattle.dvg_log.specs.Events.{Happening, map_event}
 
--- an event that tells where its operations lie, and how many they are, and which image it has
+-- an event that says where its operations lie, and how many they are, and which image it has
 abbrev pub Step : Type 0
 Step = Event (ℕ × ℕ) ℕ
 

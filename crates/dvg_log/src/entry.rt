@@ -50,8 +50,8 @@ pub enum Entry<S = Vec<Stroke>> {
 pub type OwnEntry<A = Global> = Entry<Vec<Stroke, A>>;
 
 impl<A: Allocator> Entry<Vec<Stroke, A>> {
-    /// The entry of a fetch at this word address, of a byte behind this low one, or of a hole, by
-    /// what the generator answers to it.
+    /// The entry of a fetch at this word address: of a byte, after this low one if there is one, or
+    /// of a hole. `taken` is the generator's answer to it.
     pub fn of_fetch(address: u16, low: Option<u8>, byte: Option<u8>, taken: Taken<A>) -> OwnEntry<A>
         ensures { shown_of result ≡ entry_by address (met low byte) taken }
     {

@@ -17,9 +17,9 @@ use std::marker::Model;
 pub const MOST_EVENTS: usize = 65_536;
 
 /// Events in order, at most 65,536 of them, in little room: the operations of all its offers lie in
-/// one list, so an offer takes what its own operations want, where a `Draft` has room for 511. The
-/// images of its resets lie in another, and an event that is pushed again has the operations or the
-/// image of the one before.
+/// one list, so an offer takes only what its own operations need, where a `Draft` has room for 511.
+/// The images of its resets lie in another, and an event that is pushed again shares the operations
+/// or the image of the earlier one.
 #[derive(Drop)]
 pub struct Trace<A: Allocator = Global> {
     steps: Vec<Step, A>,
@@ -92,8 +92,8 @@ impl<A: Allocator> Trace<A> {
         }
     }
 
-    /// Adds an event at the end of fewer than 65,536. An error is want of memory, and then nothing
-    /// has changed.
+    /// Adds an event at the end of fewer than 65,536. The only error is lack of memory, and then
+    /// nothing has changed.
     pub fn push(&mut self, event: OwnEvent<A>) -> Result<(), OutOfMemory>
         requires { length self.old < 65536 }
         ensures pushed { OnOk result (self.new ≡ self.old ++ happening_of event ∷ []) }
@@ -113,8 +113,8 @@ impl<A: Allocator> Trace<A> {
         Ok(())
     }
 
-    /// Adds an offer of a draft, which is copied, at the end of fewer than 65,536 events. An error
-    /// is want of memory, and then nothing has changed.
+    /// Adds an offer of a draft, which is copied, at the end of fewer than 65,536 events. The only
+    /// error is lack of memory, and then nothing has changed.
     pub fn push_offer(&mut self, draft: &Draft) -> Result<(), OutOfMemory>
         requires { length self.old < 65536 }
         ensures pushed { OnOk result (self.new ≡ self.old ++ Offer draft.now ∷ []) }
@@ -130,8 +130,8 @@ impl<A: Allocator> Trace<A> {
     }
 
     /// Adds the event of this number, counted from 0, once more at the end of fewer than 65,536
-    /// events. Its draft or image isn't copied. An error is want of memory, and then nothing has
-    /// changed.
+    /// events. Its draft or image isn't copied. The only error is lack of memory, and then nothing
+    /// has changed.
     pub fn push_again(&mut self, number: usize) -> Result<(), OutOfMemory>
         requires inside { number < length self.old }
         requires room { length self.old < 65536 }

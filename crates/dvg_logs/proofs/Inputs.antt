@@ -4,10 +4,10 @@ use Rattle.std.proofs.Math.Seq.{take-append-add}
 use Rattle.std.proofs.lemmas.Grind.{flat_map-append}
 use Rattle.std.specs.Io.KnownBytes.{Consumes, IsAtEnd}
 use Rattle.dvg_log.specs.Log.{Log}
-use Rattle.dvg_text.specs.Texts.{lines}
-use Rattle.dvg_lines.specs.declared.log_verdict.LogCounts.{LogCounts}
-use Rattle.dvg_lines.specs.declared.log_verdict.LogFinding.TheVariants.{NotTorn, NoRunDrew}
-use Rattle.dvg_lines.specs.declared.log_verdict.LogVerdict.{LogVerdict}
+use Rattle.dvg_read.specs.Texts.{lines}
+use Rattle.dvg_print.specs.declared.log_verdict.LogCounts.{LogCounts}
+use Rattle.dvg_print.specs.declared.log_verdict.LogFinding.TheVariants.{NotTorn, NoRunDrew}
+use Rattle.dvg_print.specs.declared.log_verdict.LogVerdict.{LogVerdict}
 use Rattle.std.specs.Prelude.{Ok}
 use Rattle.dvg_logs.specs.declared.log_reading.LogStop.{LogStop}
 use Rattle.dvg_logs.specs.declared.log_reading.LogStop.TheVariants.{Torn, Syntax, TooLong}

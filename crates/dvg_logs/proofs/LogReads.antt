@@ -11,10 +11,10 @@ use Rattle.dvg_log.specs.Log.{◌⟼◌, Line, Log, Throughout}
 use Rattle.dvg_world.specs.Judging.{StandsAfter}
 use Rattle.dvg_log.specs.Torn.{IsUntorn}
 use Rattle.std.proofs.lemmas.Bool.{cases_lt, eqb-true}
-use Rattle.dvg_text.specs.Texts.{lines}
-use Rattle.dvg_text.proofs.LineEnds.{line_at, line_last}
-use Rattle.dvg_text.proofs.FirstBytes.{IsCutAt, behind}
-use Rattle.dvg_text.proofs.Zips.{zip_length, zip_push}
+use Rattle.dvg_read.specs.Texts.{lines}
+use Rattle.dvg_read.proofs.LineEnds.{line_at, line_last}
+use Rattle.dvg_read.proofs.FirstBytes.{IsCutAt, behind}
+use Rattle.dvg_read.proofs.Zips.{zip_length, zip_push}
 use Rattle.dvg_logs.specs.LogLines.{IsLogOf, Tells, passed, told}
 use Rattle.dvg_logs.specs.LogCounts.{counts_of}
 use Rattle.dvg_logs.specs.LogTexts.{IsTornAt, IsUntornLog, IsWhole}
@@ -22,7 +22,7 @@ use Rattle.dvg_logs.specs.declared.log_reading.JudgedLines.{JudgedLines}
 use Rattle.dvg_logs.specs.LogReading.{IsOpen, IsRead, IsTornLine, HasJudged}
 use Rattle.dvg_logs.specs.Tears.{ended}
 
--- ---- one line more
+-- ---- one more line
 
 tells_more : (log : Log) (before : List (List ℕ)) (line : Line) (text : List ℕ) → IsLogOf log before → Tells line text → IsLogOf (line ∷ log) (before ++ text ∷ [])
 tells_more log before line text log_of tells =

@@ -13,9 +13,9 @@ use Rattle.dvg_driver.specs.declared.action.Action.TheVariants.{Wrote, Idle}
 use Rattle.dvg_log.specs.declared.entry.Entry.TheVariants.{Acted, Fetched, Low}
 use Rattle.dvg_log.specs.declared.event.Event.TheVariants.{Tick, Fetch}
 use Rattle.dvg_log.specs.Log.{◌⟼◌, Line}
-use Rattle.dvg_text.specs.Texts.{IsHex, parts, is_passed}
-use Rattle.dvg_text.proofs.FirstBytes.{HasNone}
-use Rattle.dvg_text.proofs.Spaces.{no_space}
+use Rattle.dvg_read.specs.Texts.{IsHex, parts, is_passed}
+use Rattle.dvg_read.proofs.FirstBytes.{HasNone}
+use Rattle.dvg_read.proofs.Spaces.{no_space}
 use Rattle.dvg_logs.specs.declared.log_line.LogLine.{LogLine}
 use Rattle.dvg_logs.specs.LogLines.{LogRow, Tells, started, fetched, low, wrote, halted, reset, passed, told}
 use Rattle.dvg_logs.specs.LogLineTells.{AreNumbers, line_of}
@@ -103,7 +103,7 @@ fetched_made text rest is numbers = subst (LogRow (fetched_line _ _)) (sym (ap p
 pub low_made : (text rest : List ℕ) {a byte : ℕ} → text ≡ codes "low " ++ rest → AreNumbers 2 a byte rest → LogRow (low_line a byte) (parts text)
 low_made text rest is numbers = subst (LogRow (low_line _ _)) (sym (ap parts is ∙ ap (λ ps. codes "low" ∷ ps) (number_parts numbers))) (low numbers.address numbers.number)
 
--- the numbers that a row tells, as they stand behind the name
+-- the numbers that a row has, as they stand after the name
 pub record Numbers (count : ℕ) (made : ℕ → ℕ → Line) (line : Line) (bytes : List ℕ) : Type 0 where
   pub a : ℕ
   pub n : ℕ

@@ -8,7 +8,7 @@ use Rattle.std.proofs.lemmas.Nat.{le_or_l, le_or_r}
 use Rattle.std.proofs.lemmas.List.{drop_more, take_rest}
 use Rattle.std.proofs.lemmas.List.Elements.{All-cons}
 use Rattle.dvg_log.specs.Log.{Line}
-use Rattle.dvg_text.specs.Texts.{IsHex, is_passed, parts}
+use Rattle.dvg_read.specs.Texts.{IsHex, is_passed, parts}
 use Rattle.dvg_logs.specs.LogLines.{LogRow, Tells, told}
 use Rattle.dvg_logs.specs.LogLineTells.{AreNumbers}
 use Rattle.dvg_logs.specs.declared.log_reading.JudgedLines.{JudgedLines}
@@ -48,7 +48,7 @@ four_hex a b d q x y z w e f g h few =
 
 -- ---- the head of a text
 
--- so many bytes from a place on
+-- this many bytes from a place on
 abbrev pub firsts : ℕ → ℕ → List ℕ → List ℕ
 firsts i zero text = []
 firsts i (suc k) text = get_or text i 0 ∷ firsts (suc i) k text

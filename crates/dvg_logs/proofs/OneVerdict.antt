@@ -9,13 +9,13 @@ use Rattle.dvg_log.specs.declared.entry.Entry.TheVariants.{Acted, Started, Done,
 use Rattle.dvg_log.specs.declared.event.Event.TheVariants.{Tick, Strobe, Fetch, ResetGen}
 use Rattle.dvg_log.specs.Log.{◌⟼◌, Line, Log, Throughout}
 use Rattle.dvg_log.specs.Torn.{IsUntorn}
-use Rattle.dvg_text.specs.Texts.{IsHex, lines}
-use Rattle.dvg_text.specs.declared.fault.TextFault.TheVariants.{Syntax, TooLong}
-use Rattle.dvg_lines.specs.declared.log_verdict.LogCounts.{LogCounts}
-use Rattle.dvg_lines.specs.declared.log_verdict.LogFinding.{LogFinding}
-use Rattle.dvg_lines.specs.declared.log_verdict.LogFinding.TheVariants.{NotTorn, NoRunDrew, Torn}
-use Rattle.dvg_lines.specs.declared.log_verdict.LogVerdict.{LogVerdict}
-use Rattle.dvg_text.proofs.Zips.{zip_same}
+use Rattle.dvg_read.specs.Texts.{IsHex, lines}
+use Rattle.dvg_read.specs.declared.fault.TextFault.TheVariants.{Syntax, TooLong}
+use Rattle.dvg_print.specs.declared.log_verdict.LogCounts.{LogCounts}
+use Rattle.dvg_print.specs.declared.log_verdict.LogFinding.{LogFinding}
+use Rattle.dvg_print.specs.declared.log_verdict.LogFinding.TheVariants.{NotTorn, NoRunDrew, Torn}
+use Rattle.dvg_print.specs.declared.log_verdict.LogVerdict.{LogVerdict}
+use Rattle.dvg_read.proofs.Zips.{zip_same}
 use Rattle.dvg_logs.specs.LogLines.{IsLogOf, LogRow, Tells, started, fetched, low, wrote, halted, reset, passed, told}
 use Rattle.dvg_logs.specs.declared.log_reading.LogStop.{LogStop}
 use Rattle.dvg_logs.specs.declared.log_reading.LogStop.TheVariants as stop

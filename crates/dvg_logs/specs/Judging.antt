@@ -1,19 +1,19 @@
 -- What is said of a log before that is written (for private contracts).
 use Rattle.std.specs.Prelude.{ℕ, List, Option, Result, Ok, Err, cond}
-use Rattle.dvg_text.specs.declared.fault.TextFault.TheVariants as of_text
-use Rattle.dvg_lines.specs.declared.log_verdict.LogVerdict.{LogVerdict}
-use Rattle.dvg_lines.specs.declared.log_verdict.LogFinding.{LogFinding}
-use Rattle.dvg_lines.specs.declared.log_verdict.LogFinding.TheVariants as found
+use Rattle.dvg_read.specs.declared.fault.TextFault.TheVariants as of_text
+use Rattle.dvg_print.specs.declared.log_verdict.LogVerdict.{LogVerdict}
+use Rattle.dvg_print.specs.declared.log_verdict.LogFinding.{LogFinding}
+use Rattle.dvg_print.specs.declared.log_verdict.LogFinding.TheVariants as found
 use Rattle.dvg_io.specs.declared.fault.ToolFault.{ToolFault}
 use Rattle.dvg_io.specs.declared.fault.ToolFault.TheVariants.{Text, Reader}
 use Rattle.dvg_logs.specs.declared.log_reading.LogStop.{LogStop}
 use Rattle.dvg_logs.specs.declared.log_reading.LogStop.TheVariants.{Torn, Syntax, TooLong}
-use Rattle.dvg_lines.specs.declared.log_verdict.LogCounts.{LogCounts}
+use Rattle.dvg_print.specs.declared.log_verdict.LogCounts.{LogCounts}
 use Rattle.dvg_logs.specs.LogCounts.{no_run_drew}
 use Rattle.dvg_logs.specs.LogTexts.{HasLogFault, JudgesLog}
 use Rattle.dvg_logs.specs.Tears.{Takes}
 
--- what is answered of a log, the reading of which stops so
+-- the answer to a log whose reading stops in this way
 abbrev pub answer_of : LogStop → Result LogVerdict ToolFault
 answer_of (Torn n address byte counts) = Ok (record { finding = found.Torn n address byte; counts = counts })
 answer_of (Syntax n) = Err (Text (of_text.Syntax n))
@@ -29,12 +29,12 @@ IsReadingFault (Text fault) = Unit {0}
 IsReadingFault Reader = Unit {0}
 IsReadingFault _ = ⊥
 
--- what is answered of an input
+-- the answer to an input
 abbrev pub Answers : Result LogVerdict ToolFault → (input : List ℕ) → Type 0
 Answers (Ok verdict) input = JudgesLog input verdict
 Answers (Err (Text fault)) input = HasLogFault input fault
 Answers (Err _) input = Unit {0}
 
--- what is answered of an input, and what was taken of it
+-- the answer to an input, and what was taken of it
 abbrev pub JudgesInput : Result LogVerdict ToolFault → (input : List ℕ) → Option (List ℕ) → Option (List ℕ) → Type 0
 JudgesInput answer input old new = Answers answer input × Takes answer input old new

@@ -1,14 +1,14 @@
--- What a line tells, as a reader has it.
+-- What a line says, as a reader has it.
 use Rattle.std.specs.Prelude.{◌≡◌, ℕ, List, [], ◌∷◌, ◌++◌}
 use Rattle.dvg_driver.specs.declared.action.Action.TheVariants.{Wrote, Idle}
 use Rattle.dvg_log.specs.declared.entry.Entry.TheVariants.{Acted, Started, Low, Fetched, Done, Cleared}
 use Rattle.dvg_log.specs.declared.event.Event.TheVariants.{Tick, Strobe, Fetch, ResetGen}
 use Rattle.dvg_log.specs.Log.{◌⟼◌, Line}
-use Rattle.dvg_text.specs.Texts.{IsHex}
+use Rattle.dvg_read.specs.Texts.{IsHex}
 use Rattle.dvg_logs.specs.declared.log_line.LogLine.{LogLine}
 use Rattle.dvg_logs.specs.declared.log_line.LogLine.TheVariants as code
 
--- the line of a log that a line of text tells
+-- the line of a log that a line of text stands for
 abbrev pub line_of : LogLine → Line
 line_of code.Passed = Tick ⟼ Acted Idle
 line_of code.Started = Strobe ⟼ Started
@@ -18,7 +18,7 @@ line_of (code.Wrote address byte) = Tick ⟼ Acted (Wrote address byte)
 line_of code.Halted = Fetch ⟼ Done 0 0 []
 line_of code.Reset = ResetGen ⟼ Cleared
 
--- an address of three hexadecimal digits and a number of so many, with one space between them; 32 is the space
+-- an address of three hexadecimal digits and a number of this many, with one space between them; 32 is the space
 pub record AreNumbers (count a n : ℕ) (bytes : List ℕ) : Type 0 where
   pub front : List ℕ
   pub back : List ℕ

@@ -1,14 +1,14 @@
--- The lines of a log's text, and the log that they tell.
+-- The lines of a log's text, and the log that they give.
 use Rattle.std.specs.Prelude.{◌≡◌, ℕ, ◌<◌, ◌≤◌, List, [], ◌∷◌, length, reverse, codes, true, false}
 use Rattle.std.specs.List.{AllZip}
 use Rattle.dvg_driver.specs.declared.action.Action.TheVariants.{Wrote, Idle}
 use Rattle.dvg_log.specs.declared.entry.Entry.TheVariants.{Acted, Started, Low, Fetched, Done, Cleared}
 use Rattle.dvg_log.specs.declared.event.Event.TheVariants.{Tick, Strobe, Fetch, ResetGen}
 use Rattle.dvg_log.specs.Log.{◌⟼◌, Line, Log}
-use Rattle.dvg_text.specs.Texts.{IsHex, is_passed, parts}
+use Rattle.dvg_read.specs.Texts.{IsHex, is_passed, parts}
 
--- the parts of a line that tells this line of a log; a byte is written in the RAM; of a HALT no word, address or stroke
--- is told: for these stand 0 and none
+-- the parts of a line that stands for this line of a log; a byte is written in the RAM; a HALT's word, address and
+-- strokes aren't given: for these stand 0 and none
 pub data LogRow : Line → List (List ℕ) → Type 0 where
   started : LogRow (Strobe ⟼ Started) (codes "started" ∷ [])
   fetched : {a word : ℕ} {address digits : List ℕ} → IsHex 3 a address → IsHex 4 word digits
@@ -20,12 +20,12 @@ pub data LogRow : Line → List (List ℕ) → Type 0 where
   halted : LogRow (Fetch ⟼ Done 0 0 []) (codes "halted" ∷ [])
   reset : LogRow (ResetGen ⟼ Cleared) (codes "reset" ∷ [])
 
--- a line of at most 64 bytes tells what its parts do, or is passed over, which is as much as an idle tick
+-- a line of at most 64 bytes says what its parts say, or is passed over, which counts as an idle tick
 pub data Tells : Line → List ℕ → Type 0 where
   passed : {text : List ℕ} → length text ≤ 64 → is_passed text ≡ true → Tells (Tick ⟼ Acted Idle) text
   told : {line : Line} {text : List ℕ} → length text ≤ 64 → is_passed text ≡ false → LogRow line (parts text)
       → Tells line text
 
--- these lines of text tell this log, a line each
+-- these lines of text give this log, a line each
 abbrev pub IsLogOf : Log → List (List ℕ) → Type 0
 IsLogOf log texts = AllZip Tells (reverse log) texts

@@ -3,7 +3,7 @@ use Rattle.std.specs.Prelude.{◌≡◌, ◌==◌, ◌+◌, ◌*◌, ◌^◌, �
 use Rattle.dvg_world.specs.Judging.{StandsAfter}
 use Rattle.dvg_log.specs.Log.{◌⟼◌, Line, Log}
 use Rattle.dvg_log.specs.Torn.{IsTorn}
-use Rattle.dvg_text.specs.Texts.{lines}
+use Rattle.dvg_read.specs.Texts.{lines}
 use Rattle.dvg_logs.specs.declared.log_reading.JudgedLines.{JudgedLines}
 use Rattle.dvg_logs.specs.declared.log_reading.LogReading.{LogReading}
 use Rattle.dvg_logs.specs.declared.log_reading.LogStop.{LogStop}
@@ -59,7 +59,7 @@ HasRead reading text = IsRead reading.judged reading.unfinished.items text
 abbrev pub place_of : LogReading → ℕ
 place_of reading = 65 * reading.judged.count + length reading.unfinished.items
 
--- at the head of a text stands a line that ends and tells this, and then comes the rest; 10 is LF
+-- at the head of a text stands a line that ends and says this, and then comes the rest; 10 is LF
 pub record HeadLine (told : Line) (text rest : List ℕ) : Type 0 where
   pub line : List ℕ
   pub split : text ≡ line ++ 10 ∷ rest

@@ -5,21 +5,21 @@ use Rattle.dvg_log.specs.declared.entry.Entry.TheVariants.{Acted}
 use Rattle.dvg_log.specs.declared.event.Event.TheVariants.{Tick}
 use Rattle.dvg_log.specs.Log.{◌⟼◌, Line, Log, Throughout}
 use Rattle.dvg_log.specs.Torn.{IsFirstTorn, IsUntorn}
-use Rattle.dvg_text.specs.Texts.{lines}
-use Rattle.dvg_text.specs.declared.fault.TextFault.{TextFault}
-use Rattle.dvg_text.specs.declared.fault.TextFault.TheVariants.{TooLong, Syntax}
-use Rattle.dvg_lines.specs.declared.log_verdict.LogFinding.{LogFinding}
-use Rattle.dvg_lines.specs.declared.log_verdict.LogFinding.TheVariants.{NotTorn, NoRunDrew, Torn}
-use Rattle.dvg_lines.specs.declared.log_verdict.LogVerdict.{LogVerdict}
+use Rattle.dvg_read.specs.Texts.{lines}
+use Rattle.dvg_read.specs.declared.fault.TextFault.{TextFault}
+use Rattle.dvg_read.specs.declared.fault.TextFault.TheVariants.{TooLong, Syntax}
+use Rattle.dvg_print.specs.declared.log_verdict.LogFinding.{LogFinding}
+use Rattle.dvg_print.specs.declared.log_verdict.LogFinding.TheVariants.{NotTorn, NoRunDrew, Torn}
+use Rattle.dvg_print.specs.declared.log_verdict.LogVerdict.{LogVerdict}
 use Rattle.dvg_logs.specs.LogCounts.{counts_of, no_run_drew}
 use Rattle.dvg_logs.specs.LogLines.{IsLogOf, Tells}
 
--- the lines tell this log, and none of it is torn
+-- the lines give this log, and none of it is torn
 pub record IsUntornLog (log : Log) (texts : List (List ℕ)) : Type 0 where
   pub tells : IsLogOf log texts
   pub untorn : Throughout IsUntorn log
 
--- line n is the first torn one, and wrote this byte at this byte address; the lines up to it tell this log
+-- line n is the first torn one, and wrote this byte at this byte address; the lines up to it give this log
 pub record IsTornAt (texts : List (List ℕ)) (log : Log) (n address byte : ℕ) : Type 0 where
   pub before : List (List ℕ)
   pub line : List ℕ
@@ -30,7 +30,7 @@ pub record IsTornAt (texts : List (List ℕ)) (log : Log) (n address byte : ℕ)
   pub torn : IsFirstTorn log (length before)
   pub wrote : Tells (Tick ⟼ Acted (Wrote address byte)) line
 
--- line n is the first that tells nothing that a line may, and none before it is torn
+-- line n is the first that says nothing that a line may say, and none before it is torn
 pub record MeetsSyntax (texts : List (List ℕ)) (n : ℕ) : Type 0 where
   pub before : List (List ℕ)
   pub line : List ℕ
@@ -41,7 +41,7 @@ pub record MeetsSyntax (texts : List (List ℕ)) (n : ℕ) : Type 0 where
   pub fine : IsUntornLog log before
   pub wrong : (told : Line) → ¬ Tells told line
 
--- there are more lines than 2 ^ 64 - 1, and none of the first so many is torn or at fault
+-- there are more than 2 ^ 64 - 1 lines, and none of the first 2 ^ 64 - 1 is torn or at fault
 pub record MeetsTooMany (texts : List (List ℕ)) : Type 0 where
   pub before : List (List ℕ)
   pub line : List ℕ
@@ -51,12 +51,12 @@ pub record MeetsTooMany (texts : List (List ℕ)) : Type 0 where
   pub log : Log
   pub fine : IsUntornLog log before
 
--- none of the lines is torn, they tell this log, and they are fewer than 2 ^ 64
+-- none of the lines is torn, they give this log, and they are fewer than 2 ^ 64
 pub record IsWhole (texts : List (List ℕ)) (log : Log) : Type 0 where
   pub fine : IsUntornLog log texts
   pub fits : length texts < 2 ^ 64
 
--- this is found in lines, of which those that are judged tell this log
+-- this is found in lines; those that are judged give this log
 abbrev pub Finds : LogFinding → List (List ℕ) → Log → Type 0
 Finds NotTorn texts log = IsWhole texts log × (no_run_drew (counts_of log) ≡ false)
 Finds NoRunDrew texts log = IsWhole texts log × (no_run_drew (counts_of log) ≡ true)

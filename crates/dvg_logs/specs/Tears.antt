@@ -1,18 +1,18 @@
 -- What `torn` answers, writes and takes.
 use Rattle.std.specs.Prelude.{◌+◌, ◌-◌, ◌^◌, ℕ, List, [], ◌∷◌, ◌++◌, flat_map, length, take, Option, Result, Ok, Err}
 use Rattle.std.specs.Io.KnownBytes.{Appends, Consumes, IsAtEnd}
-use Rattle.dvg_text.specs.Texts.{lines}
-use Rattle.dvg_lines.specs.LogVerdicts.{log_verdict_text}
-use Rattle.dvg_text.specs.declared.fault.TextFault.TheVariants.{Syntax}
-use Rattle.dvg_lines.specs.declared.log_verdict.LogVerdict.{LogVerdict}
-use Rattle.dvg_lines.specs.declared.log_verdict.LogFinding.{LogFinding}
-use Rattle.dvg_lines.specs.declared.log_verdict.LogFinding.TheVariants.{NotTorn, NoRunDrew, Torn}
+use Rattle.dvg_read.specs.Texts.{lines}
+use Rattle.dvg_print.specs.LogVerdicts.{log_verdict_text}
+use Rattle.dvg_read.specs.declared.fault.TextFault.TheVariants.{Syntax}
+use Rattle.dvg_print.specs.declared.log_verdict.LogVerdict.{LogVerdict}
+use Rattle.dvg_print.specs.declared.log_verdict.LogFinding.{LogFinding}
+use Rattle.dvg_print.specs.declared.log_verdict.LogFinding.TheVariants.{NotTorn, NoRunDrew, Torn}
 use Rattle.dvg_io.specs.declared.fault.ToolFault.{ToolFault}
 use Rattle.dvg_io.specs.declared.fault.ToolFault.TheVariants.{Text, Reader, Writer, Memory}
 use Rattle.dvg_io.specs.Watching.{BeginsToWrite, TakesAtMost}
 use Rattle.dvg_logs.specs.LogTexts.{HasLogFault, JudgesLog}
 
--- what `torn` answers of an input, and what went out: the verdict's text, or at `Writer` a beginning of it (that
+-- what `torn` answers to an input, and what went out: the verdict's text, or at `Writer` a beginning of it (that
 -- nothing went out at the others is a clause of its own)
 abbrev pub Tears : Result LogVerdict ToolFault → (input : List ℕ) → Option (List ℕ) → Option (List ℕ) → Type 0
 Tears (Ok verdict) input old new = JudgesLog input verdict × Appends old new (log_verdict_text verdict)

@@ -5,22 +5,22 @@ ghost use Rattle.dvg_logs.specs.LogLaws.{OneLogVerdict};
 
 use crate::log_reading::LogReading;
 
-/// Of the text of a log one verdict is given at most.
+/// At most one verdict is given of the text of a log.
 pub fn one_verdict()
     ensures { OneLogVerdict }
 {}
 
-/// One line at most is the first that tells nothing.
+/// At most one line is the first that says nothing.
 pub fn one_fault()
     ensures { OneLogFault }
 {}
 
-/// Of a text with such a line no verdict is given.
+/// No verdict is given of a text with such a line.
 pub fn no_verdict_beside_fault()
     ensures { NoVerdictBesideFault }
 {}
 
-/// Of each text a verdict is given, or it has a fault. That one of them holds shows by what a
+/// A verdict is given of each text, or it has a fault. That one of them holds is shown by what a
 /// reading of it comes to.
 pub fn each_is_judged(text: &[u8])
     ensures { IsJudged text.now }

@@ -1,4 +1,4 @@
-//! Logs as texts, of any length and whoever's: what each line tells, and the engine that answers
+//! Logs as texts, of any length and from anyone: what each line says, and the engine that answers
 //! the first write that tears a picture (the format is this project's own choice). A log is read in
 //! pieces and takes no memory.
 #![tactic(auto)]
@@ -9,6 +9,6 @@ mod log_reading;
 mod number_line;
 mod tears;
 
-pub use dvg_lines::{LogCounts, LogFinding, LogVerdict};
+pub use dvg_print::{LogCounts, LogFinding, LogVerdict};
 pub use log_line::{LogLine, MOST_LINE_BYTES, read_log_line};
 pub use tears::torn;

@@ -1,11 +1,11 @@
 //! Lines of logs.
 ghost use Rattle.std.specs.Prelude.{◌≡◌, ◌≤◌, [], ◌∷◌, ℕ, IfSome, IsSomeAnd, Some};
-ghost use Rattle.dvg_text.specs.Texts.{parts};
+ghost use Rattle.dvg_read.specs.Texts.{parts};
 ghost use Rattle.dvg_log.specs.Log.{Line};
 ghost use Rattle.dvg_logs.specs.LogLines.{LogRow, Tells};
 ghost use Rattle.dvg_logs.specs.LogLineTells.{AreNumbers, line_of};
 
-use dvg_text::{hex, is_passed};
+use dvg_read::{hex, is_passed};
 
 /// The first byte address that isn't one of the RAM.
 pub(crate) const RAM_END: u16 = 0x800;
@@ -13,7 +13,7 @@ pub(crate) const RAM_END: u16 = 0x800;
 /// The most bytes of a line, without its end (this project's own choice).
 pub const MOST_LINE_BYTES: usize = 64;
 
-/// What a line tells.
+/// What a line says.
 #[derive(Clone, Copy, Debug, PartialEq, Eq)]
 pub enum LogLine {
     /// Nothing, as it is passed over.
@@ -32,7 +32,7 @@ pub enum LogLine {
     Reset,
 }
 
-/// What a line of a log tells. None exactly where it tells nothing that a line may: it is
+/// What a line of a log says. None exactly where it says nothing that a line may say: it is
 /// `started`, `fetched` with a word address and the word there, `low` with a word address and a
 /// byte, `wrote` with a byte address of the RAM, 000 to 7FF, and the byte, `halted` or `reset`, one
 /// space between the parts; or it is passed over, as it is empty or begins with `#`. An address has
@@ -51,7 +51,7 @@ pub fn read_log_line(line: &[u8]) -> Option<LogLine>
     row(line)
 }
 
-// What a line tells that isn't passed over.
+// What a line says that isn't passed over.
 fn row(line: &[u8]) -> Option<LogLine>
     ensures found { IfSome result (λ told. LogRow (line_of told) (parts line.now)) }
     ensures only { (told : Line) → LogRow told (parts line.now)
@@ -74,7 +74,7 @@ fn row(line: &[u8]) -> Option<LogLine>
     }
 }
 
-// An address of three hexadecimal digits and a number of so many, with one space between them.
+// An address of three hexadecimal digits and a number of this many, with one space between them.
 fn numbers(bytes: &[u8], digits: usize) -> Option<(u16, u16)>
     requires { digits ≤ 4 }
     ensures found { IfSome result (λ numbers. AreNumbers digits numbers.0 numbers.1 bytes.now) }
@@ -89,7 +89,7 @@ fn numbers(bytes: &[u8], digits: usize) -> Option<(u16, u16)>
     Some((address, number))
 }
 
-// What a name alone tells.
+// What a name alone says.
 fn bare(name: &[u8]) -> Option<LogLine>
     ensures found { IfSome result (λ told. LogRow (line_of told) (name.now ∷ [])) }
     ensures only { (told : Line) → LogRow told (name.now ∷ [])

@@ -6,7 +6,7 @@ ghost use Rattle.dvg_log.specs.declared.entry.Entry.TheVariants.{Acted};
 ghost use Rattle.dvg_log.specs.declared.event.Event.TheVariants.{Tick};
 ghost use Rattle.dvg_world.specs.Judging.{StandsAfter};
 ghost use Rattle.dvg_log.specs.Log.{Line, Log, ◌⟼◌};
-ghost use Rattle.dvg_text.specs.Texts.{lines};
+ghost use Rattle.dvg_read.specs.Texts.{lines};
 ghost use Rattle.dvg_logs.specs.LogLines.{Tells};
 ghost use Rattle.dvg_logs.specs.LogCounts.{counts_of};
 ghost use Rattle.dvg_logs.specs.LogTexts.{IsWhole};
@@ -16,7 +16,7 @@ ghost use Rattle.dvg_logs.specs.LogReading.{number_of, place_of};
 
 use crate::log_line::{LogLine, MOST_LINE_BYTES, read_log_line};
 use arrayvec::ArrayVec;
-use dvg_lines::LogCounts;
+use dvg_print::LogCounts;
 use dvg_world::Judge;
 use memchr::memchr;
 
@@ -24,21 +24,21 @@ use memchr::memchr;
 #[derive(Clone, Copy, Debug, PartialEq, Eq)]
 pub enum LogStop {
     /// The line of this number, counted from 1, writes a byte, at a byte address, in the half that
-    /// the open run draws. Up to there the lines count so.
+    /// the open run draws. These are the counts of the lines up to there.
     Torn {
         line: usize,
         address: u16,
         byte: u8,
         counts: LogCounts,
     },
-    /// The line of this number, counted from 1, tells nothing that a line may.
+    /// The line of this number, counted from 1, says nothing that a line may say.
     Syntax(usize),
     /// There are more lines than are counted.
     TooLong,
 }
 
-// Tells the judge what a line tells. The byte address and the byte of the write that tears a
-// picture, where it does.
+// Tells the judge what a line says. Answers the byte address and the byte of the write that tears a
+// picture, if it does.
 #[inline(always)]
 fn tell(judge: &mut Judge, told: LogLine) -> Option<(u16, u8)>
     ensures stands { (log : Log) → StandsAfter judge.old log
@@ -64,8 +64,8 @@ fn tell(judge: &mut Judge, told: LogLine) -> Option<(u16, u8)>
     None
 }
 
-// What was counted in some lines, and what one more tells. None of the numbers passes that of the
-// lines, so none wraps.
+// What was counted in some lines, and in one more. None of the numbers passes that of the lines, so
+// none wraps.
 #[inline(always)]
 fn counted(counts: LogCounts, told: LogLine) -> LogCounts
     ensures { (log : Log) → counts ≡ counts_of log → length log < 2 ^ 64 - 1
@@ -89,13 +89,13 @@ fn counted(counts: LogCounts, told: LogLine) -> LogCounts
 #[derive(Clone, Copy, Debug, PartialEq, Eq)]
 pub struct JudgedLines {
     judge: Judge,
-    /// How many they are.
+    /// How many there are.
     pub count: usize,
     counts: LogCounts,
 }
 
 impl JudgedLines {
-    // Why the next line stops the reading, where it tells nothing that a line may.
+    // Why the next line stops the reading, where it says nothing that a line may say.
     fn wrong(&self) -> LogStop
         ensures stop { (before : List (List ℕ)) (line : List ℕ) (after : List (List ℕ))
             → HasJudged self.now before → ((told : Line) → ¬ Tells told line)
@@ -140,7 +140,7 @@ impl JudgedLines {
         }
     }
 
-    /// Takes a line that tells this, where that isn't torn. Whether it is taken.
+    /// Takes a line that says this, where that isn't torn. Answers whether it is taken.
     #[inline(always)]
     pub fn take_told(&mut self, told: LogLine) -> bool
         requires room { self.old.count < 2 ^ 64 - 1 }
@@ -189,7 +189,7 @@ impl LogReading {
         }
     }
 
-    // Takes bytes of a line, of which it is not the end.
+    // Takes bytes of a line, which are not its end.
     fn begin_line(&mut self, bytes: &[u8]) -> Result<(), LogStop>
         requires { IsOpen bytes.now }
         ensures read { (text : List ℕ) → HasRead self.old text
@@ -231,7 +231,7 @@ impl LogReading {
         taken
     }
 
-    /// Takes a piece more of the text.
+    /// Takes one more piece of the text.
     pub fn take_piece(&mut self, piece: &[u8]) -> Result<(), LogStop>
         ensures read { (text : List ℕ) → HasRead self.old text
             → OnOk result (HasRead self.new (text ++ piece.now)) }
@@ -252,7 +252,8 @@ impl LogReading {
         self.begin_line(rest)
     }
 
-    /// Takes the end of the text, which ends a line that has begun. What was counted in all lines.
+    /// Takes the end of the text, which ends a line that has begun. Answers what was counted in all
+    /// lines.
     pub fn finish(self) -> Result<LogCounts, LogStop>
         ensures read { IfOk result (λ counts. (text : List ℕ) → HasRead self text
             → (log : Log) × IsWhole (lines text) log × (counts ≡ counts_of log)) }

@@ -3,20 +3,20 @@ ghost use Rattle.std.specs.Prelude.{◌≡◌, ◌⊎◌, ◌↔◌, ◌≤◌, 
 ghost use Rattle.std.specs.Io.KnownBytes.{Appends};
 ghost use Rattle.dvg_io.specs.Faults.{StopsBeforeWriting};
 ghost use Rattle.dvg_io.specs.Watching.{BeginsToWrite, CountsErrors, device_of, failures_of};
-ghost use Rattle.dvg_lines.specs.LogVerdicts.{log_verdict_text};
+ghost use Rattle.dvg_print.specs.LogVerdicts.{log_verdict_text};
 ghost use Rattle.dvg_logs.specs.Tears.{Takes, Tears};
 ghost use Rattle.dvg_logs.specs.Judging.{IsReadingFault, JudgesInput, answer_of, found_in};
 
 use crate::log_reading::{LogReading, LogStop};
 use dvg_io::{DeviceFailed, ToolFault, Watched, write_whole};
-use dvg_lines::{Line, LogCounts, LogFinding, LogVerdict};
-use dvg_text::TextFault;
+use dvg_print::{Line, LogCounts, LogFinding, LogVerdict};
+use dvg_read::TextFault;
 use std::io::{Read, Write};
 
 /// The most bytes that one read takes.
 const PIECE: usize = 32_768;
 
-// What is answered of a log, the reading of which stops so.
+// The answer to a log whose reading stops in this way.
 fn answer(stop: LogStop) -> Result<LogVerdict, ToolFault>
     ensures { result ≡ answer_of stop }
 {
@@ -109,16 +109,16 @@ fn write_verdict<W: Write>(writer: &mut Watched<W>, verdict: LogVerdict) -> Resu
 /// writes what is said of it (the text is this project's own choice):
 ///
 /// - `not torn: R runs, H halted, W writes`, where no byte was written in the half that the open
-///   run draws: so many runs began, so many ended by a HALT, and so many bytes were written;
+///   run draws: R runs began, H ended by a HALT, and W bytes were written;
 /// - `no run drew:` and the same, where bytes were written and no run began, or runs began and no
 ///   word was fetched;
 /// - `torn at line N: wrote A B` of the first write in such a half, by its line, its byte address
-///   and its byte, and on a line more `so far:` and the same numbers up to that line.
+///   and its byte, and on one more line `so far:` and the same numbers up to that line.
 ///
 /// It takes no memory.
 ///
-/// - `Syntax`: this line is the first that tells nothing that a line may, as `read_log_line` says,
-///   none before it being torn.
+/// - `Syntax`: this line is the first that says nothing that a line may say (see `read_log_line`),
+///   and none before it is torn.
 /// - `TooLong`: none of the first 18,446,744,073,709,551,615 lines is torn or at fault, and there
 ///   are more.
 /// - `Reader`, `Writer`: that device failed. After `Writer` a beginning of the text went out.
@@ -133,7 +133,7 @@ pub fn torn<R: Read, W: Write>(
     requires fresh_reader { failures_of reader.old ≡ 0 }
     requires fresh_writer { failures_of writer.old ≡ 0 }
 
-    // Of a reader that tells its bytes: what is said, what went out, when each fault of the text
+    // Where the reader's bytes are known: what is said, what went out, when each fault of the text
     // comes, what was taken.
     ensures tears { IfSome (R.remaining (device_of reader.old)) (λ input.
         Tears result input (W.contents (device_of writer.old))

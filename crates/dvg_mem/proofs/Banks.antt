@@ -11,11 +11,11 @@ use Rattle.dvg_mem.specs.Banks.{AreBanks, half_bytes}
 abbrev IsByte : ℕ → Type 0
 IsByte byte = byte < 256
 
--- behind a front of so many there is what is behind it
+-- after a front of this many items comes the back
 behind : (n m : ℕ) (front back : List ℕ) → length front ≡ n → drop (n + m) (front ++ back) ≡ drop m back
 behind n m front back count = subst (λ k. drop (k + m) (front ++ back) ≡ drop m back) count (drop-append-add front back m)
 
--- the front of so many
+-- the front of this many
 before : (n : ℕ) (front back : List ℕ) → length front ≡ n → take n (front ++ back) ≡ front
 before n front back count = subst (λ k. take k (front ++ back) ≡ front) count (take-append_seam front back)
 

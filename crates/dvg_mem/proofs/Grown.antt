@@ -9,7 +9,7 @@ use Rattle.dvg_mem.specs.Memory.{IsGrown, IsRom, first_word, rom_word}
 use Rattle.dvg_mem.proofs.Roms.{large_first, words_from_first}
 use Rattle.dvg_mem.specs.Grown.{AreReturns, ArePushedBack}
 
--- a word of the front, and one behind it
+-- a word of the front, and one after it
 pub word_before : (xs ys : List ℕ) (k : ℕ) → 2 * k + 1 < length xs → word_in (xs ++ ys) k ≡ word_in xs k
 word_before xs ys k inside = ap₂ (λ low high. low + 256 * high) (get_or_append_left xs ys 0 (2 * k) (omega arith)) (get_or_append_left xs ys 0 (2 * k + 1) inside)
 
@@ -26,7 +26,7 @@ return_fits zero d less = lit< tt
 return_fits (suc zero) d less = lit< tt
 return_fits (suc (suc k)) d less = absurd (omega arith)
 
--- one return more
+-- one more return
 pub one_more : (xs : List ℕ) (n : ℕ) → AreReturns xs n → AreReturns (xs ++ 0x00 ∷ 0xD0 ∷ []) (n + 1)
 one_more xs n are = record {
   count = let size = are.count in length-append xs _ ∙ omega arith;

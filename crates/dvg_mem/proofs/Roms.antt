@@ -11,7 +11,7 @@ low_by : (b : Bool) → 0x400 ≤ (if b then 0x800 else 0x400)
 low_by true = lit≤ tt
 low_by false = lit≤ tt
 
--- the first word lies behind the RAM
+-- the first word lies after the RAM
 pub behind_ram : (R : List ℕ) → 0x400 ≤ first_word R
 behind_ram R = low_by (length R == 2048)
 

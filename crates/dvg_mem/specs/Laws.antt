@@ -7,7 +7,7 @@ use Rattle.dvg_mem.specs.Areas.{IsInHalf, IsInMap, base, half_of_high, high, oth
 use Rattle.dvg_mem.specs.Memory.{IsImage, IsRom, first_word, rom_word, fetched_byte}
 use Rattle.dvg_code.specs.Words.{words_of}
 
--- each word address lies in an area, and in no other, wherever behind the RAM the ROM's first word is
+-- each word address lies in an area, and in no other, wherever after the RAM the ROM's first word is
 abbrev pub OneArea : Type 0
 OneArea = (first w : ℕ) → 0x400 ≤ first → first ≤ 0xBFF → w ≤ 0xFFF
     → (one : Area) × IsInMap first one w × ((also : Area) → IsInMap first also w → also ≡ one)
@@ -17,7 +17,7 @@ OneArea = (first w : ℕ) → 0x400 ≤ first → first ≤ 0xBFF → w ≤ 0xFF
 abbrev pub HighNamesHalf : Type 0
 HighNamesHalf = (half : Half) → (0x01 + 256 * high half ≡ 0xE000 + base half) × (half_of_high (high half) ≡ half)
 
--- the other half is another one, and its other half is the first
+-- the other half is a different one, and its other half is the first
 abbrev pub HalvesDiffer : Type 0
 HalvesDiffer = (half : Half) → (other half ≢ half) × (other (other half) ≡ half)
 

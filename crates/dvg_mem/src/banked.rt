@@ -1,4 +1,4 @@
-//! A store in four parts, of which none has bytes of both halves.
+//! A store in four parts. None of them has bytes of both halves.
 ghost use Rattle.std.specs.Prelude.{◌≡◌};
 ghost use Rattle.dvg_mem.specs.Banks.{half_bytes};
 
@@ -10,7 +10,7 @@ use dvg_code::OutOfMemory;
 use std::alloc::{Allocator, Global};
 use std::marker::Model;
 
-// The address of half 0's first byte, that of the byte behind it, and those of half 1's first byte.
+// The addresses of half 0's first byte, of the byte after half 0, and of half 1's first byte.
 const HALF_0: usize = WORD_BYTES;
 
 const UNUSED: usize = HALF_0 + HALF_BYTES;
@@ -27,7 +27,7 @@ pub struct Banked<A: Allocator = Global> {
     half_1: Box<[u8; HALF_BYTES], A>,
 }
 
-/// Contracts see the list of the bytes: those of the four parts, one behind the other.
+/// Contracts see the list of the bytes: those of the four parts, one after the other.
 impl<A: Allocator> Model for Banked<A> {
     ghost use Rattle.std.specs.Prelude.{List, ℕ, ◌++◌};
     ghost use Rattle.dvg_mem.specs.Banks.{AreBanks};

@@ -10,7 +10,7 @@ use thiserror::Error;
 /// Why a memory was not made.
 #[derive(Clone, Copy, Debug, PartialEq, Eq, Error)]
 pub enum MemFault {
-    /// There are not as many bytes as the memory has: 2,048, or for a ROM 2,048 or 4,096.
+    /// The number of bytes isn't that of the memory: 2,048, or for a ROM 2,048 or 4,096.
     #[error("there are not as many bytes as the memory has")]
     Size,
     /// A growth was refused for want of memory.

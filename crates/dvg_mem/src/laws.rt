@@ -27,7 +27,7 @@ pub fn high_names_half()
     ensures { HighNamesHalf }
 {}
 
-/// A half is not its other half, whose other half it is.
+/// A half is not its other half, and it is the other half of that one.
 pub fn halves_differ()
     ensures { HalvesDiffer }
 {}

@@ -51,9 +51,9 @@ impl<A: Allocator> Rom<A> {
         }
     }
 
-    /// Takes other bytes in place of its own, in the memory that it has where they are as many.
-    /// They are refused as `Size` exactly where they are neither 2,048 nor 4,096, and nothing has
-    /// changed after an error. Memory is taken only for a ROM of another size.
+    /// Takes other bytes in place of its own. If there are as many of them, they go into the memory
+    /// that it has. They are refused as `Size` exactly where they are neither 2,048 nor 4,096.
+    /// After an error nothing has changed. Memory is taken only for a ROM of another size.
     pub fn copy_from(&mut self, alloc: A, bytes: &[u8]) -> Result<(), MemFault>
         ensures bytes { OnOk result (self.new ≡ bytes.now) }
         ensures size { IsErrOf result MemFault.Size
@@ -105,7 +105,7 @@ impl<A: Allocator> Rom<A> {
     }
 
     /// The ROM of 4,096 bytes that has this one's words from 800 on, and D000, a return, at 400 to
-    /// 7FF. It takes its memory from this allocator, and is refused as `OutOfMemory` alone.
+    /// 7FF. It takes its memory from this allocator. `OutOfMemory` is its only error.
     #[tactic(auto, using(crate::proofs::Grown::is_rom, crate::proofs::Grown::grown))]
     pub fn grow(&self, alloc: A) -> Result<Rom<A>, MemFault>
         requires { first_word self.now ≡ 0x800 }
@@ -119,7 +119,7 @@ impl<A: Allocator> Rom<A> {
         }
     }
 
-    // The bytes of 1,024 returns, and this ROM's behind them.
+    // The bytes of 1,024 returns, and then those of this ROM.
     #[tactic(auto, using(crate::proofs::Grown::one_more, crate::proofs::Grown::no_return))]
     fn grown_bytes(&self, alloc: A) -> Result<Vec<u8, A>, AllocError>
         ensures { IfOk result (λ bytes. ArePushedBack self.now bytes.items) }

@@ -6,7 +6,7 @@ use Rattle.std.proofs.lemmas.List.Elements.{filter_map-append}
 use Rattle.std.proofs.lemmas.Option.{slice_get_read}
 use Rattle.std.specs.List.{AllZip, cons_option}
 use Rattle.dvg_frame.specs.declared.op.OpKind.{OpKind}
-use Rattle.dvg_text.proofs.Zips.{zip_push}
+use Rattle.dvg_read.proofs.Zips.{zip_push}
 use Rattle.dvg_named.specs.declared.row.Doing as held_doing
 use Rattle.dvg_named.specs.declared.row.Row as held
 use Rattle.dvg_named.specs.HeldRows.{rows_of}

@@ -1,6 +1,6 @@
 -- The names of the examples.
 use Rattle.std.proofs.Common.{◌≡◌, ℕ, List, [], length, refl, sym, true≢false, arith, codes}
-use Rattle.dvg_text.specs.Texts.{IsHex}
+use Rattle.dvg_read.specs.Texts.{IsHex}
 use Rattle.dvg_named.specs.Rows.{IsName}
 
 -- what doesn't have three bytes is no address

@@ -2,11 +2,11 @@
 use Rattle.std.proofs.Common.{◌≡◌, ◌≤◌, ℕ, List, [], ◌∷◌, length, ap, arith}
 use Rattle.std.specs.List.{AllZip}
 use Rattle.dvg_frame.specs.declared.op.OpKind.{OpKind}
-use Rattle.dvg_text.specs.OpLines.{OpParts}
-use Rattle.dvg_text.specs.OpLines as ops
-use Rattle.dvg_text.specs.RomReading.{TellsRom, gives_words, tells_map}
-use Rattle.dvg_text.specs.RomTexts.{IsMapLine, IsRomLine, RomLine, RomText, large, small}
-use Rattle.dvg_text.specs.Texts.{parts}
+use Rattle.dvg_read.specs.OpLines.{OpParts}
+use Rattle.dvg_read.specs.OpLines as ops
+use Rattle.dvg_read.specs.RomReading.{TellsRom, gives_words, tells_map}
+use Rattle.dvg_read.specs.RomTexts.{IsMapLine, IsRomLine, RomLine, RomText, large, small}
+use Rattle.dvg_read.specs.Texts.{parts}
 use Rattle.dvg_named.specs.Rows.{Doing, DoingParts, Head, HeadParts, Row, RowParts}
 use Rattle.dvg_named.specs.Rows as rows
 use Rattle.dvg_named.specs.Sections.{Spelled}

@@ -4,7 +4,7 @@ use Rattle.std.proofs.Common.{append_assoc, None, All, ◌≤◌, ◌-◌, drop,
 use Rattle.std.proofs.lemmas.List.{map-append, map_more, take_all}
 use Rattle.std.proofs.lemmas.List.Elements.{All-push, filter_map-append}
 use Rattle.std.specs.List.{AllZip, filter_map}
-use Rattle.dvg_text.specs.RomTexts.{RomText}
+use Rattle.dvg_read.specs.RomTexts.{RomText}
 use Rattle.dvg_named.specs.declared.frame_rows.FrameRows as held
 use Rattle.dvg_named.specs.declared.part.Part.{Part}
 use Rattle.dvg_named.specs.declared.row.Row as held_row

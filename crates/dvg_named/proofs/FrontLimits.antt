@@ -4,8 +4,8 @@ use Rattle.std.proofs.lemmas.Grind.{flat_map-append}
 use Rattle.std.proofs.lemmas.List.Elements.{All-cons, All-nil, All-push, filter_map-append}
 use Rattle.std.specs.List.{filter_map, flat_map}
 use Rattle.std.specs.Option.{option_to_list}
-use Rattle.dvg_text.specs.RomTexts.{RomText}
-use Rattle.dvg_text.proofs.Steps.{Leads, here, on}
+use Rattle.dvg_read.specs.RomTexts.{RomText}
+use Rattle.dvg_read.proofs.Steps.{Leads, here, on}
 use Rattle.dvg_named.specs.NamedFaults.{AreDistinct, KeepsLimits, LiesOn, names_of}
 use Rattle.dvg_named.specs.Places.{Laid, doings, size}
 use Rattle.dvg_named.specs.ReadParts.{free_told}

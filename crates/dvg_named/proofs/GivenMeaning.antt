@@ -8,7 +8,7 @@ use Rattle.dvg_code.specs.declared.instr.Instr.{Instr}
 use Rattle.dvg_code.specs.declared.instr.Instr.TheVariants as instrs
 use Rattle.dvg_frame.specs.declared.op.OpKind.{OpKind}
 use Rattle.dvg_frame.specs.declared.op.OpKind.TheVariants as kinds
-use Rattle.dvg_text.specs.RomTexts.{RomLine, RomText}
+use Rattle.dvg_read.specs.RomTexts.{RomLine, RomText}
 use Rattle.dvg_named.specs.FirstUnknown.{WantsNone}
 use Rattle.dvg_named.specs.Meanings.{Frame, IsDrafted, IsEncoded, IsFrameOf, IsGiven, IsMeant}
 use Rattle.dvg_named.specs.NamedFaults.{IsUngiven, laid_of}

@@ -3,7 +3,7 @@ use Rattle.std.proofs.Common.{◌≡◌, ◌<◌, ◌≤◌, ◌+◌, ℕ, List,
 use Rattle.std.proofs.Common.{unwrap_or}
 use Rattle.std.proofs.lemmas.Grind.{flat_map-append}
 use Rattle.std.proofs.lemmas.List.{append-nil, append_assoc, map-append, map_more, take-append-drop}
-use Rattle.dvg_text.specs.RomTexts.{RomLine}
+use Rattle.dvg_read.specs.RomTexts.{RomLine}
 use Rattle.dvg_named.specs.declared.laid.LaidRows as held_laid
 use Rattle.dvg_named.specs.declared.laid.RomRows as held_rom
 use Rattle.dvg_named.specs.HeldRows.{rows_of}

@@ -2,7 +2,7 @@
 use Rattle.std.proofs.Common.{◌≡◌, ℕ, List, [], ◌∷◌, ◌++◌, refl, ap, sym, subst, Bool, ◌∙◌, true, false, not, eqb}
 use Rattle.std.proofs.lemmas.List.Elements.{All-cons, All-head, All-nil, All-tail}
 use Rattle.std.proofs.lemmas.List.Sums.{take_while-cons}
-use Rattle.dvg_text.proofs.FirstBytes.{HasNone}
+use Rattle.dvg_read.proofs.FirstBytes.{HasNone}
 use Rattle.std.specs.List.{filter, slice_split}
 use Rattle.std.specs.Str.Lines.{strip_carriage_return}
 use Rattle.dvg_named.specs.PlainLines.{is_blank, is_some_byte, uncommented, words}

@@ -1,7 +1,7 @@
 -- A text has one first line at fault at most, and none where all its lines spell a sketch within the limits.
 use Rattle.std.proofs.Common.{◌≡◌, ◌∙◌, ℕ, List, [], ◌∷◌, ◌++◌, length, ap, append_assoc, arith, false, not, refl, subst, sym}
 use Rattle.std.proofs.lemmas.List.Elements.{filter-append}
-use Rattle.dvg_text.specs.Texts.{is_passed, told}
+use Rattle.dvg_read.specs.Texts.{is_passed, told}
 use Rattle.dvg_named.specs.NamedFaults.{DraftsFit, GivesOnce, IsFineSketch, KeepsLimits, LieApart, Meets, MeetsNothing, ReachesLine, RomFits}
 use Rattle.dvg_named.specs.PlainLines.{plain_lines}
 use Rattle.dvg_named.specs.Sections.{Spelled, SpellsSketch}

@@ -3,11 +3,11 @@ use Rattle.std.proofs.Common.{◌≡◌, ◌⊎◌, ◌∙◌, ◌<◌, ◌≤�
 use Rattle.std.proofs.lemmas.Bool.{cases_lt}
 use Rattle.std.proofs.lemmas.List.Elements.{All-cons, All-nil}
 use Rattle.std.proofs.lemmas.Option.{slice_get-get_or}
-use Rattle.dvg_text.specs.FirstFaults.{IsShort}
-use Rattle.dvg_text.specs.RomReading.{untold}
-use Rattle.dvg_text.specs.RomTexts.{RomText}
-use Rattle.dvg_text.specs.Texts.{is_passed, told}
-use Rattle.dvg_text.proofs.ReadTo.{told_more, told_one}
+use Rattle.dvg_read.specs.FirstFaults.{IsShort}
+use Rattle.dvg_read.specs.RomReading.{untold}
+use Rattle.dvg_read.specs.RomTexts.{RomText}
+use Rattle.dvg_read.specs.Texts.{is_passed, told}
+use Rattle.dvg_read.proofs.ReadTo.{told_more, told_one}
 use Rattle.dvg_named.specs.declared.fault.NamedFault.{NamedFault}
 use Rattle.dvg_named.specs.declared.fault.NamedFault.TheVariants.{Full, OutOfRom, Overlap, Syntax, TooLong, Twice, Unknown}
 use Rattle.dvg_named.specs.FirstUnknown.{WantsNone}

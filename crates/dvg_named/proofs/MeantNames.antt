@@ -7,9 +7,9 @@ use Rattle.std.specs.Char.{to_ascii_lowercase}
 use Rattle.std.specs.List.{AllZip, cons_option, filter_map, join_with_byte}
 use Rattle.dvg_code.specs.declared.instr.Instr.{Instr}
 use Rattle.dvg_frame.specs.declared.op.OpKind.{OpKind}
-use Rattle.dvg_text.specs.RomTexts.{RomLine, RomText}
-use Rattle.dvg_text.specs.Texts.{is_passed, lines, told}
-use Rattle.dvg_text.proofs.Steps.{Leads}
+use Rattle.dvg_read.specs.RomTexts.{RomLine, RomText}
+use Rattle.dvg_read.specs.Texts.{is_passed, lines, told}
+use Rattle.dvg_read.proofs.Steps.{Leads}
 use Rattle.dvg_named.specs.FrameValues.{frame_in}
 use Rattle.dvg_named.specs.Meanings.{Frame, IsDrafted, IsEncoded, IsFrameOf, IsGiven, IsMeant}
 use Rattle.dvg_named.specs.NamedFaults.{DenotesFrames, IsUngiven, WantsUngiven, laid_of}

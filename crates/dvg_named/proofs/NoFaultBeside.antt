@@ -1,6 +1,6 @@
 -- A text that denotes something has no fault.
 use Rattle.std.proofs.Common.{ℕ, List, arith}
-use Rattle.dvg_text.specs.RomTexts.{RomText}
+use Rattle.dvg_read.specs.RomTexts.{RomText}
 use Rattle.dvg_named.specs.declared.fault.NamedFault.{NamedFault}
 use Rattle.dvg_named.specs.Meanings.{Frame}
 use Rattle.dvg_named.specs.NamedFaults.{DenotesFrames, HasNamedFault}

@@ -3,11 +3,11 @@ use Rattle.std.proofs.Common.{◌≡◌, ◌<◌, ℕ, ◌+◌, ◌⊎◌, inl, 
 use Rattle.std.proofs.lemmas.List.Elements.{All-contains_itself, Contains-append_left, Contains-push, Contains-push_cases}
 use Rattle.std.proofs.lemmas.List.Quantifiers.{all_pairs_push}
 use Rattle.std.specs.List.{AllPairs}
-use Rattle.dvg_text.specs.Texts.{parts, told}
+use Rattle.dvg_read.specs.Texts.{parts, told}
 use Rattle.dvg_named.specs.declared.reading.Reading.{Reading}
 use Rattle.dvg_named.specs.LineNumbers.{AreNumbered, Entry, IsEntryOf, KeepsEntries, entries_in, head_at_top}
 use Rattle.dvg_frame.specs.declared.op.OpKind.{OpKind}
-use Rattle.dvg_text.specs.OpLines.{OpParts}
+use Rattle.dvg_read.specs.OpLines.{OpParts}
 use Rattle.dvg_named.specs.ReadParts.{later}
 use Rattle.dvg_named.specs.Rows.{Doing, DoingParts, IsRowLine, Row, plain}
 use Rattle.dvg_named.specs.Sections.{Section, Spelled, SpellsSketch}

@@ -7,8 +7,8 @@ use Rattle.dvg_code.specs.declared.instr.Instr.{Instr}
 use Rattle.dvg_code.specs.declared.instr.Instr.TheVariants.{Jmpl, Jsrl}
 use Rattle.dvg_frame.specs.declared.op.OpKind.{OpKind}
 use Rattle.dvg_frame.specs.declared.op.OpKind.TheVariants as kinds
-use Rattle.dvg_text.specs.RomTexts.{RomLine, RomText, first_told}
-use Rattle.dvg_text.specs.Texts.{told}
+use Rattle.dvg_read.specs.RomTexts.{RomLine, RomText, first_told}
+use Rattle.dvg_read.specs.Texts.{told}
 use Rattle.dvg_named.specs.LaidValues.{rows_laid}
 use Rattle.dvg_named.specs.Meanings.{Frame, IsDrafted, IsEncoded, IsFrameOf, IsGiven, IsMeant, IsRomText}
 use Rattle.dvg_named.specs.NamedFaults.{AreDistinct, DenotesFrames, GivesOnce, laid_of, names_of}

@@ -4,16 +4,16 @@ use Rattle.std.proofs.Common.{append-nil, length-append, codes, Some, All}
 use Rattle.std.proofs.lemmas.List.{append_cancel_right, flat_map_more, same_from_push}
 use Rattle.std.proofs.lemmas.List.Elements.{All-head, All-nil, All-push, All-tail}
 use Rattle.std.specs.List.{AllZip, flat_map}
-use Rattle.dvg_text.specs.OpLines.{OpParts}
-use Rattle.dvg_text.specs.OpLines as ops
+use Rattle.dvg_read.specs.OpLines.{OpParts}
+use Rattle.dvg_read.specs.OpLines as ops
 use Rattle.dvg_frame.specs.declared.op.OpKind.{OpKind}
-use Rattle.dvg_text.specs.Texts.{IsHex, parts}
-use Rattle.dvg_text.specs.RomTexts.{RomText, unmapped}
-use Rattle.dvg_text.specs.RomReading.{TellsRom, untold}
-use Rattle.dvg_text.proofs.OneOperation.{one_operation}
-use Rattle.dvg_text.proofs.RomSteps.{one_told, rom_leads, tells_more, told_by_name}
-use Rattle.dvg_text.proofs.Steps.{Leads, front_says, further, here, last_line, on, one_saying}
-use Rattle.dvg_text.proofs.Zips.{zip_push}
+use Rattle.dvg_read.specs.Texts.{IsHex, parts}
+use Rattle.dvg_read.specs.RomTexts.{RomText, unmapped}
+use Rattle.dvg_read.specs.RomReading.{TellsRom, untold}
+use Rattle.dvg_read.proofs.OneOperation.{one_operation}
+use Rattle.dvg_read.proofs.RomSteps.{one_told, rom_leads, tells_more, told_by_name}
+use Rattle.dvg_read.proofs.Steps.{Leads, front_says, further, here, last_line, on, one_saying}
+use Rattle.dvg_read.proofs.Zips.{zip_push}
 use Rattle.dvg_named.specs.Rows.{Doing, DoingParts, Head, HeadParts, IsHeadLine, IsName, IsRowLine, Row, RowParts, plain}
 use Rattle.dvg_named.specs.Rows as rows
 use Rattle.dvg_named.specs.Sections.{MayStand, Section, Spelled, SpellsSection, SpellsSketch}

@@ -8,10 +8,10 @@ use Rattle.std.specs.Char.{to_ascii_lowercase}
 use Rattle.std.specs.List.{AllZip, filter, onto_first, slice_split}
 use Rattle.std.specs.Prelude.{if◌then◌else◌}
 use Rattle.dvg_frame.specs.declared.op.OpKind.{OpKind}
-use Rattle.dvg_text.specs.DraftTexts.{Denotes}
-use Rattle.dvg_text.specs.OpLines.{IsOpLine}
-use Rattle.dvg_text.specs.RomTexts.{IsMapLine, IsRomLine, RomLine, RomText, SpellsRom, large, mapped, small, unmapped}
-use Rattle.dvg_text.specs.Texts.{IsHex, is_passed, lines, parts, told}
+use Rattle.dvg_read.specs.DraftTexts.{Denotes}
+use Rattle.dvg_read.specs.OpLines.{IsOpLine}
+use Rattle.dvg_read.specs.RomTexts.{IsMapLine, IsRomLine, RomLine, RomText, SpellsRom, large, mapped, small, unmapped}
+use Rattle.dvg_read.specs.Texts.{IsHex, is_passed, lines, parts, told}
 use Rattle.dvg_named.specs.Meanings.{IsDrafted, IsFrameOf}
 use Rattle.dvg_named.specs.NamedFaults.{AreDistinct, DenotesFrames, KeepsLimits, laid_of, names_of}
 use Rattle.dvg_named.specs.Places.{Laid, doings}

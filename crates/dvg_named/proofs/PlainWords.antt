@@ -5,8 +5,8 @@ use Rattle.std.proofs.lemmas.List.Elements.{All-cons, All-filter, All-head, All-
 use Rattle.std.proofs.lemmas.List.Splits.{slice_split_at, slice_split_none}
 use Rattle.std.specs.List.{join_with_byte, onto_first, slice_split}
 use Rattle.std.specs.Str.Lines.{strip_carriage_return}
-use Rattle.dvg_text.proofs.FirstBytes.{HasNone}
-use Rattle.dvg_text.specs.Texts.{is_passed, parts}
+use Rattle.dvg_read.proofs.FirstBytes.{HasNone}
+use Rattle.dvg_read.specs.Texts.{is_passed, parts}
 use Rattle.dvg_named.specs.PlainLines.{is_blank, is_some_byte, plain, uncommented, words}
 use Rattle.dvg_named.proofs.LineCuts.{none_in_uncommented}
 

@@ -2,9 +2,9 @@
 use Rattle.std.proofs.Common.{◌≡◌, ℕ, List, [], ◌∷◌, ◌++◌, get_or, map, refl, sym, ap, subst, ◌∙◌, arith, Option, None, true, false}
 use Rattle.std.proofs.lemmas.List.Elements.{All-cons, All-nil}
 use Rattle.std.specs.Option.{option_to_list}
-use Rattle.dvg_text.specs.LineParts.{bytes_of}
-use Rattle.dvg_text.specs.RomReading.{TellsRom, untold}
-use Rattle.dvg_text.specs.RomTexts.{RomText, first_told}
+use Rattle.dvg_read.specs.LineParts.{bytes_of}
+use Rattle.dvg_read.specs.RomReading.{TellsRom, untold}
+use Rattle.dvg_read.specs.RomTexts.{RomText, first_told}
 use Rattle.dvg_named.specs.declared.given_names.GivenNames.{GivenNames}
 use Rattle.dvg_named.specs.declared.line_fault.LineFault.{LineFault}
 use Rattle.dvg_named.specs.declared.line_fault.LineFault.TheVariants.{Full, Memory, OutOfRom, Overlap, Syntax, Twice}

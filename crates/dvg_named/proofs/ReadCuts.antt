@@ -4,8 +4,8 @@ use Rattle.std.proofs.Common.{length-append, Option, None}
 use Rattle.std.proofs.lemmas.List.{same_from_push}
 use Rattle.std.proofs.lemmas.List.Elements.{filter_map-append}
 use Rattle.std.specs.List.{filter_map}
-use Rattle.dvg_text.specs.RomTexts.{RomText}
-use Rattle.dvg_text.specs.RomReading.{TellsRom}
+use Rattle.dvg_read.specs.RomTexts.{RomText}
+use Rattle.dvg_read.specs.RomReading.{TellsRom}
 use Rattle.dvg_named.specs.ReadParts.{StartsAtTop, front_roms, sketch_of}
 use Rattle.dvg_named.specs.RomParts.{rom_in, rom_list}
 use Rattle.dvg_named.specs.Rows.{Head, IsHeadLine, IsRowLine, Row, frame, rom, top}

@@ -5,7 +5,7 @@ use Rattle.std.proofs.lemmas.Grind.{flat_map-append}
 use Rattle.std.proofs.lemmas.List.Elements.{All-nil, All-push, filter_map-append}
 use Rattle.std.specs.List.{cons_option, filter_map, flat_map}
 use Rattle.std.specs.Option.{option_to_list}
-use Rattle.dvg_text.specs.RomTexts.{RomText, first_told}
+use Rattle.dvg_read.specs.RomTexts.{RomText, first_told}
 use Rattle.dvg_named.specs.GivenNames.{IsAgain, IsFresh}
 use Rattle.dvg_named.specs.NamedFaults.{AreDistinct, DraftsFit, GivesOnce, KeepsLimits, LieApart, RomFits, names_of}
 use Rattle.dvg_named.specs.Places.{Laid, doings, laid_end, laid_from, size}

@@ -3,7 +3,7 @@ use Rattle.std.proofs.Common.{◌≡◌, ◌<◌, ◌≤◌, ◌+◌, ◌⊎◌,
 use Rattle.std.proofs.Common.{append-nil, unwrap_or, All, true, false, Option, None}
 use Rattle.std.specs.List.{filter_map, flat_map}
 use Rattle.std.specs.Option.{option_to_list}
-use Rattle.dvg_text.specs.RomTexts.{RomText, first_told}
+use Rattle.dvg_read.specs.RomTexts.{RomText, first_told}
 use Rattle.dvg_named.specs.declared.rom_area.RomArea.{RomArea}
 use Rattle.dvg_named.specs.GivenNames.{IsAgain, IsFresh}
 use Rattle.dvg_named.specs.NamedFaults.{DraftsFit, GivesOnce, LieApart, RomFits, names_of}

@@ -2,9 +2,9 @@
 use Rattle.std.proofs.Common.{◌≡◌, ℕ, List, [], ◌∷◌, ◌++◌, sym, ap, subst, ◌∙◌, Option, None, Result, Ok, Err, OnOk}
 use Rattle.std.proofs.lemmas.List.{map-append}
 use Rattle.std.specs.Option.{option_to_list}
-use Rattle.dvg_text.specs.LineParts.{bytes_of}
-use Rattle.dvg_text.specs.RomTexts.{RomText}
-use Rattle.dvg_text.specs.Texts.{parts}
+use Rattle.dvg_read.specs.LineParts.{bytes_of}
+use Rattle.dvg_read.specs.RomTexts.{RomText}
+use Rattle.dvg_read.specs.Texts.{parts}
 use Rattle.dvg_named.specs.declared.given_names.GivenNames.{GivenNames}
 use Rattle.dvg_named.specs.declared.line_fault.LineFault.{LineFault}
 use Rattle.dvg_named.specs.declared.line_fault.LineFault.TheVariants.{Full, Memory, OutOfRom, Overlap, Syntax, Twice}

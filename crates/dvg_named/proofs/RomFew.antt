@@ -9,9 +9,9 @@ use Rattle.dvg_code.specs.Spelling.{word_count}
 use Rattle.dvg_code.specs.declared.instr.Instr.{Instr}
 use Rattle.dvg_code.specs.declared.instr.Instr.TheVariants as instrs
 use Rattle.dvg_frame.specs.declared.op.OpKind.TheVariants as kinds
-use Rattle.dvg_text.proofs.ReadTo.{lines_length}
-use Rattle.dvg_text.specs.RomTexts.{RomText}
-use Rattle.dvg_text.specs.Texts.{is_passed, lines, told}
+use Rattle.dvg_read.proofs.ReadTo.{lines_length}
+use Rattle.dvg_read.specs.RomTexts.{RomText}
+use Rattle.dvg_read.specs.Texts.{is_passed, lines, told}
 use Rattle.dvg_named.specs.declared.laid.LaidRows as held_laid
 use Rattle.dvg_named.specs.declared.laid.RomRows as held_rom
 use Rattle.dvg_named.specs.declared.part.Part.{Part}

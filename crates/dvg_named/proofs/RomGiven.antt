@@ -2,7 +2,7 @@
 use Rattle.std.proofs.Common.{◌≡◌, ◌+◌, ◌-◌, ◌/◌, ◌⊎◌, ℕ, List, [], ◌∷◌, length, max, unwrap_or, refl, sym, subst, arith, All}
 use Rattle.std.proofs.lemmas.List.Elements.{All-cons, All-tail}
 use Rattle.std.specs.List.{AllZip, cons_option, filter_map}
-use Rattle.dvg_text.specs.RomTexts.{IsRomOf}
+use Rattle.dvg_read.specs.RomTexts.{IsRomOf}
 use Rattle.dvg_named.specs.declared.laid.LaidRows as held_laid
 use Rattle.dvg_named.specs.declared.reading.Reading.{Reading}
 use Rattle.dvg_named.specs.GivenRoms.{IsLaidText}

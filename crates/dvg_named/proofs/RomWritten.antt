@@ -13,10 +13,10 @@ use Rattle.dvg_code.specs.declared.instr.Instr.TheVariants.{Vctr, Labs, Halt, Js
 use Rattle.dvg_code.specs.Spelling.{canon, word_count}
 use Rattle.dvg_code.specs.Words.{word_in}
 use Rattle.dvg_frame.specs.declared.op.OpKind.TheVariants as kinds
-use Rattle.dvg_text.specs.RomTexts.{IsRomOf, RomText, first_told}
-use Rattle.dvg_text.proofs.GivenWords.{all_put}
-use Rattle.dvg_text.proofs.HeldRom.{all_fit, words_held}
-use Rattle.dvg_text.proofs.Zips.{zip_push}
+use Rattle.dvg_read.specs.RomTexts.{IsRomOf, RomText, first_told}
+use Rattle.dvg_read.proofs.GivenWords.{all_put}
+use Rattle.dvg_read.proofs.HeldRom.{all_fit, words_held}
+use Rattle.dvg_read.proofs.Zips.{zip_push}
 use Rattle.dvg_named.specs.declared.laid.LaidRows as held_laid
 use Rattle.dvg_named.specs.declared.row.Doing as held_doing
 use Rattle.dvg_named.specs.declared.row.Row as held

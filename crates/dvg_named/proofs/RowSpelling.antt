@@ -3,19 +3,19 @@ use Rattle.std.proofs.Common.{◌≡◌, ◌<◌, ◌^◌, ◌≤◌, ℕ, List,
 use Rattle.std.proofs.Common.{codes, decimal, get_or, Option, Some, None, ◌-◌, take, drop}
 use Rattle.std.proofs.lemmas.List.{take_all}
 use Rattle.std.specs.Borrow.{Bor}
-use Rattle.dvg_text.specs.LineParts.{bytes_of}
+use Rattle.dvg_read.specs.LineParts.{bytes_of}
 use Rattle.std.proofs.lemmas.Str.Parse.{digit_at}
 use Rattle.std.proofs.lemmas.Bool.Decides.{nat_tests}
 use Rattle.dvg_frame.specs.declared.op.OpKind.{OpKind}
-use Rattle.dvg_text.proofs.Decimals.{shaped}
-use Rattle.dvg_text.specs.OpLines.{OpParts, vctr, svec, labs, callrom, jumprom, return, halt}
-use Rattle.dvg_text.specs.OpLines as ops
+use Rattle.dvg_read.proofs.Decimals.{shaped}
+use Rattle.dvg_read.specs.OpLines.{OpParts, vctr, svec, labs, callrom, jumprom, return, halt}
+use Rattle.dvg_read.specs.OpLines as ops
 use Rattle.dvg_named.specs.Rows.{BeginsWithLetter, Doing, DoingParts, Head, HeadParts, IsName, Row, RowParts, both}
 use Rattle.dvg_named.specs.Rows.{calls, calls_rom, does, frame, jumps, jumps_rom, named, named_frame, plain, plainly}
 use Rattle.dvg_named.specs.RowValues.{head_of}
 use Rattle.dvg_named.specs.declared.row.Head as held
 use Rattle.std.specs.Prelude.{◌≢◌, IfSome, IsSomeAnd}
-use Rattle.dvg_text.proofs.OneOperation.{one_operation}
+use Rattle.dvg_read.proofs.OneOperation.{one_operation}
 use Rattle.dvg_named.specs.Rows as rows
 
 -- ---- a name is no number

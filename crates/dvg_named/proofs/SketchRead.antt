@@ -4,12 +4,12 @@ use Rattle.std.proofs.lemmas.List.{length-map, map-append}
 use Rattle.std.specs.Char.{to_ascii_lowercase}
 use Rattle.std.specs.Borrow.{Bor}
 use Rattle.std.specs.Prelude.{◌==◌}
-use Rattle.dvg_text.specs.FirstFaults.{IsShort}
-use Rattle.dvg_text.specs.LineParts.{bytes_of}
-use Rattle.dvg_text.specs.RomTexts.{RomText}
-use Rattle.dvg_text.specs.RomReading.{untold}
-use Rattle.dvg_text.specs.Texts.{lines, told}
-use Rattle.dvg_text.proofs.ReadTo.{count_on, lines_length, told_more, told_one}
+use Rattle.dvg_read.specs.FirstFaults.{IsShort}
+use Rattle.dvg_read.specs.LineParts.{bytes_of}
+use Rattle.dvg_read.specs.RomTexts.{RomText}
+use Rattle.dvg_read.specs.RomReading.{untold}
+use Rattle.dvg_read.specs.Texts.{lines, told}
+use Rattle.dvg_read.proofs.ReadTo.{count_on, lines_length, told_more, told_one}
 use Rattle.dvg_named.specs.declared.line_fault.LineFault.{LineFault}
 use Rattle.dvg_named.specs.declared.line_fault.LineFault.TheVariants as line_fault
 use Rattle.dvg_named.specs.declared.reading.Reading.{Reading}

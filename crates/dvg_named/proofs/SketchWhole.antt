@@ -4,7 +4,7 @@ use Rattle.std.specs.Char.{to_ascii_lowercase}
 use Rattle.std.specs.List.{AllZip, flat_map}
 use Rattle.std.proofs.lemmas.List.{length-map}
 use Rattle.dvg_frame.specs.declared.op.OpKind.{OpKind}
-use Rattle.dvg_text.specs.RomTexts.{first_told}
+use Rattle.dvg_read.specs.RomTexts.{first_told}
 use Rattle.dvg_named.specs.declared.joining.FrameSpan.{FrameSpan}
 use Rattle.dvg_named.specs.declared.laid.LaidRows as held_laid
 use Rattle.dvg_named.specs.declared.meaning.RomName.{RomName}

@@ -15,10 +15,10 @@ use Rattle.dvg_code.specs.Ranges.{InRange}
 use Rattle.dvg_code.specs.declared.instr.Instr.TheVariants.{Labs, Svec, Vctr}
 use Rattle.dvg_frame.specs.declared.op.OpKind.{OpKind}
 use Rattle.dvg_frame.specs.declared.op.OpKind.TheVariants.{Call, Draw, Jump}
-use Rattle.dvg_text.specs.OpLines.{OpParts}
-use Rattle.dvg_text.specs.OpLines as ops
-use Rattle.dvg_text.specs.Texts.{IsHex}
-use Rattle.dvg_text.proofs.Decimals.{shaped}
+use Rattle.dvg_read.specs.OpLines.{OpParts}
+use Rattle.dvg_read.specs.OpLines as ops
+use Rattle.dvg_read.specs.Texts.{IsHex}
+use Rattle.dvg_read.proofs.Decimals.{shaped}
 
 -- in small letters
 abbrev pub low : List ℕ → List ℕ

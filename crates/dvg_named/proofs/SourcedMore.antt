@@ -1,7 +1,7 @@
 -- The lines of rows, with a row more.
 use Rattle.std.proofs.Common.{◌≡◌, ℕ, List, [], ◌∷◌, ◌++◌, sym, subst, Result, Ok, Err, OnOk}
 use Rattle.std.specs.List.{AllZip}
-use Rattle.dvg_text.proofs.Zips.{zip_push}
+use Rattle.dvg_read.proofs.Zips.{zip_push}
 use Rattle.dvg_named.specs.declared.meaning.Source.{Source}
 use Rattle.dvg_named.specs.declared.part.Part.{Part}
 use Rattle.dvg_named.specs.declared.row.Row as held_row

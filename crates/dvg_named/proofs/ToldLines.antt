@@ -6,10 +6,10 @@ use Rattle.std.proofs.lemmas.Option.{none-some}
 use Rattle.std.specs.List.{refill}
 use Rattle.dvg_mem.specs.Grown.{AreReturns}
 use Rattle.dvg_mem.proofs.Roms.{words_from_first}
-use Rattle.dvg_text.specs.RomReading.{IsBehind, gives_words, tells_map, untold}
-use Rattle.dvg_text.specs.RomTexts.{IsMapLine, IsRomLine, IsRomOf, RomLine, RomText, first_told}
-use Rattle.dvg_text.proofs.HeldRom.{all_fit, first_of_map, returns_held, words_held}
-use Rattle.dvg_text.proofs.RomSteps.{told_rom}
+use Rattle.dvg_read.specs.RomReading.{IsBehind, gives_words, tells_map, untold}
+use Rattle.dvg_read.specs.RomTexts.{IsMapLine, IsRomLine, IsRomOf, RomLine, RomText, first_told}
+use Rattle.dvg_read.proofs.HeldRom.{all_fit, first_of_map, returns_held, words_held}
+use Rattle.dvg_read.proofs.RomSteps.{told_rom}
 use Rattle.dvg_named.specs.declared.told_rom.ToldRom.{ToldRom}
 use Rattle.dvg_named.specs.Places.{free_after}
 use Rattle.dvg_named.specs.ToldRoms.{HoldsTold, TellsTold}

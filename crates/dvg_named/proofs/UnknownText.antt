@@ -4,8 +4,8 @@ use Rattle.std.proofs.lemmas.List.{get_or-append-add, length-map}
 use Rattle.std.proofs.lemmas.List.Elements.{All-contains, Contains-append_cases, Contains-append_right, Contains-append_left, Contains-push, Contains-push_cases}
 use Rattle.std.specs.Char.{to_ascii_lowercase}
 use Rattle.std.specs.List.{AllPairs, AllZip}
-use Rattle.dvg_text.specs.RomTexts.{RomText}
-use Rattle.dvg_text.specs.Texts.{lines, told}
+use Rattle.dvg_read.specs.RomTexts.{RomText}
+use Rattle.dvg_read.specs.Texts.{lines, told}
 use Rattle.dvg_named.specs.declared.fault.NamedFault.TheVariants.{Unknown}
 use Rattle.dvg_named.specs.declared.part.Part.{Part}
 use Rattle.dvg_named.specs.declared.reading.Reading.{Reading}

@@ -7,10 +7,10 @@ use Rattle.std.proofs.lemmas.List.Elements.{All-cons, filter_map-append}
 use Rattle.std.proofs.lemmas.List.Kept.{AllPairs-cons}
 use Rattle.dvg_code.specs.declared.instr.Instr.TheVariants.{Rtsl}
 use Rattle.dvg_frame.specs.declared.op.OpKind.TheVariants.{Call, Halt, Jump, Return}
-use Rattle.dvg_text.specs.OpLines as ops
-use Rattle.dvg_text.specs.RomReading.{untold}
-use Rattle.dvg_text.specs.RomTexts.{unmapped}
-use Rattle.dvg_text.specs.Texts.{IsHex}
+use Rattle.dvg_read.specs.OpLines as ops
+use Rattle.dvg_read.specs.RomReading.{untold}
+use Rattle.dvg_read.specs.RomTexts.{unmapped}
+use Rattle.dvg_read.specs.Texts.{IsHex}
 use Rattle.dvg_named.specs.Rows.{Doing, Row, plainly, jumps, calls_rom, frame, rom, top, does, both, plain, jump}
 use Rattle.dvg_named.specs.Rows.{callrom, named_frame, at}
 use Rattle.dvg_named.specs.Sections.{FrameRows, MayStand, Section, Spelled, SpellsSection, SpellsSketch}

@@ -2,7 +2,7 @@
 use Rattle.std.specs.Prelude.{◌≡◌, pos, [], ◌∷◌, ◌++◌, Some, None, codes}
 use Rattle.dvg_code.specs.declared.instr.Instr.TheVariants.{Labs, Svec}
 use Rattle.dvg_frame.specs.declared.op.OpKind.TheVariants.{Draw, Halt}
-use Rattle.dvg_text.specs.Texts.{told}
+use Rattle.dvg_read.specs.Texts.{told}
 use Rattle.dvg_named.specs.PlainLines.{plain, plain_lines, words}
 use Rattle.dvg_named.specs.Rows.{IsHeadLine, IsName, IsRowLine, Row, calls, frame, plainly, rom}
 use Rattle.dvg_named.specs.Sections.{frames}

@@ -1,6 +1,6 @@
 -- The bytes of the ROM that a sketch gives.
 use Rattle.std.specs.Prelude.{◌≡◌, ℕ, List}
-use Rattle.dvg_text.specs.RomTexts.{IsRomOf, RomText}
+use Rattle.dvg_read.specs.RomTexts.{IsRomOf, RomText}
 use Rattle.dvg_named.specs.declared.laid.LaidRows as held_laid
 use Rattle.dvg_named.specs.declared.reading.Reading.{Reading}
 use Rattle.dvg_named.specs.LaidValues.{laid_sections}

@@ -1,6 +1,6 @@
 -- The rows that the reader of a sketch holds, and the number of the line of each (for private contracts).
 use Rattle.std.specs.Prelude.{◌≡◌, ◌<◌, ℕ, ◌+◌, List, [], ◌∷◌, ◌++◌, AllPairs, Contains, None, Option, length}
-use Rattle.dvg_text.specs.Texts.{told}
+use Rattle.dvg_read.specs.Texts.{told}
 use Rattle.dvg_named.specs.declared.meaning.Source.{Source}
 use Rattle.dvg_named.specs.declared.part.Part.{Part}
 use Rattle.dvg_named.specs.declared.reading.Reading.{Reading}

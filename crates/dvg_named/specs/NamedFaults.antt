@@ -2,9 +2,9 @@
 use Rattle.std.specs.Prelude.{◌≡◌, ◌≢◌, ℕ, ◌+◌, ◌<◌, ◌≤◌, List, [], ◌∷◌, ◌++◌, length, All, AllPairs, Some, slice_get}
 use Rattle.std.specs.Prelude.{false}
 use Rattle.std.specs.List.{filter_map, flat_map}
-use Rattle.dvg_text.specs.FirstFaults.{IsShort}
-use Rattle.dvg_text.specs.RomTexts.{first_told}
-use Rattle.dvg_text.specs.Texts.{is_passed, told}
+use Rattle.dvg_read.specs.FirstFaults.{IsShort}
+use Rattle.dvg_read.specs.RomTexts.{first_told}
+use Rattle.dvg_read.specs.Texts.{is_passed, told}
 use Rattle.dvg_named.specs.declared.fault.NamedFault.{NamedFault}
 use Rattle.dvg_named.specs.declared.fault.NamedFault.TheVariants.{TooLong, Syntax, Twice, Full, OutOfRom, Overlap}
 use Rattle.dvg_named.specs.declared.fault.NamedFault.TheVariants.{Unknown}
@@ -13,7 +13,7 @@ use Rattle.dvg_named.specs.Rows.{Doing, Head, IsRowLine, Row, plainly, calls, ju
 use Rattle.dvg_named.specs.Sections.{Section, Spelled, SpellsSketch, frames, rom_sections, sections}
 use Rattle.dvg_named.specs.Places.{IsAddress, IsNumber, Laid, doings, laid, laid_end}
 use Rattle.dvg_named.specs.Meanings.{Frame, IsMeant}
-use Rattle.dvg_text.specs.RomTexts.{RomText}
+use Rattle.dvg_read.specs.RomTexts.{RomText}
 
 -- no two of these names are the same
 abbrev pub AreDistinct : List (List ℕ) → Type 0

@@ -3,7 +3,7 @@ use Rattle.std.specs.Prelude.{◌≡◌, ℕ, ◌+◌, max, List, [], ◌∷◌,
 use Rattle.std.specs.List.{filter_map, sum_by}
 use Rattle.dvg_code.specs.Spelling.{word_count}
 use Rattle.dvg_frame.specs.declared.op.OpKind.TheVariants.{Draw}
-use Rattle.dvg_text.specs.RomTexts.{RomLine, RomText, first_told}
+use Rattle.dvg_read.specs.RomTexts.{RomLine, RomText, first_told}
 use Rattle.dvg_named.specs.Rows.{Doing, Row, plainly}
 use Rattle.dvg_named.specs.Sections.{RomRows}
 

@@ -3,7 +3,7 @@ use Rattle.std.specs.Prelude.{ℕ, List, [], ◌∷◌, Bool, false, true, map, 
 use Rattle.std.specs.Char.{to_ascii_lowercase}
 use Rattle.std.specs.List.{before_first, join_with_byte, slice_split}
 use Rattle.std.specs.Str.Lines.{strip_carriage_return}
-use Rattle.dvg_text.specs.Texts.{lines}
+use Rattle.dvg_read.specs.Texts.{lines}
 
 -- a space and a tab are blanks; 32 is the space, and 9 the tab
 abbrev pub is_blank : ℕ → Bool

@@ -2,7 +2,7 @@
 use Rattle.std.specs.Prelude.{◌≡◌, ◌≢◌, ℕ, ◌+◌, max, List, [], ◌∷◌, ◌++◌, Any, get_or}
 use Rattle.std.specs.Prelude.{length, false, true, unwrap_or}
 use Rattle.std.specs.List.{filter_map, flat_map}
-use Rattle.dvg_text.specs.RomTexts.{RomText, first_told}
+use Rattle.dvg_read.specs.RomTexts.{RomText, first_told}
 use Rattle.dvg_named.specs.declared.rom_area.RomArea.{RomArea}
 use Rattle.dvg_named.specs.NamedFaults.{LiesOn, names_of}
 use Rattle.dvg_named.specs.Places.{doings, free_after, laid, size}

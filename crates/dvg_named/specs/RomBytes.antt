@@ -3,8 +3,8 @@ use Rattle.std.specs.Prelude.{◌≡◌, ◌≢◌, ◌+◌, ◌<◌, ◌≤◌,
 use Rattle.std.specs.Prelude.{slice_get, slice_index}
 use Rattle.std.specs.List.{AllZip}
 use Rattle.dvg_code.specs.Words.{word_in}
-use Rattle.dvg_text.specs.RomReading.{IsBehind}
-use Rattle.dvg_text.specs.RomTexts.{IsRomOf, RomLine, RomText}
+use Rattle.dvg_read.specs.RomReading.{IsBehind}
+use Rattle.dvg_read.specs.RomTexts.{IsRomOf, RomLine, RomText}
 use Rattle.dvg_frame.specs.declared.op.OpKind.TheVariants.{Call, Jump}
 use Rattle.dvg_named.specs.declared.laid.LaidRows as held_laid
 use Rattle.dvg_named.specs.declared.rom_words.RomRow.{RomRow}

@@ -4,8 +4,8 @@ use Rattle.std.specs.Prelude.{None, codes}
 use Rattle.std.specs.Char.{is_ascii_lowercase, is_ascii_digit}
 use Rattle.std.specs.List.{list_all}
 use Rattle.dvg_frame.specs.declared.op.OpKind.{OpKind}
-use Rattle.dvg_text.specs.OpLines.{OpParts}
-use Rattle.dvg_text.specs.Texts.{IsHex, parts}
+use Rattle.dvg_read.specs.OpLines.{OpParts}
+use Rattle.dvg_read.specs.Texts.{IsHex, parts}
 
 -- a letter, a digit or `_`; 95 is `_`
 abbrev pub is_name_byte : ℕ → Bool

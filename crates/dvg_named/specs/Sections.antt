@@ -2,7 +2,7 @@
 use Rattle.std.specs.Prelude.{◌≡◌, ◌≢◌, ℕ, List, [], ◌∷◌, ◌++◌, All, IfSome, Option, Some, None}
 use Rattle.std.specs.List.{AllZip, filter_map, flat_map}
 use Rattle.dvg_frame.specs.declared.op.OpKind.TheVariants.{Call, Jump}
-use Rattle.dvg_text.specs.RomTexts.{RomText, SpellsRom}
+use Rattle.dvg_read.specs.RomTexts.{RomText, SpellsRom}
 use Rattle.dvg_named.specs.Rows.{Head, IsHeadLine, IsRowLine, Row, frame, plainly, rom, top}
 
 -- a section: how it begins, and its rows

@@ -1,9 +1,9 @@
 -- Laws of sketches.
 use Rattle.std.specs.Prelude.{◌≡◌, ℕ, ◌<◌, List, [], ◌∷◌, None, length}
 use Rattle.dvg_frame.specs.declared.op.OpKind.{OpKind}
-use Rattle.dvg_text.specs.DraftTexts.{Denotes}
-use Rattle.dvg_text.specs.RomTexts.{RomText}
-use Rattle.dvg_text.specs.Texts.{parts}
+use Rattle.dvg_read.specs.DraftTexts.{Denotes}
+use Rattle.dvg_read.specs.RomTexts.{RomText}
+use Rattle.dvg_read.specs.Texts.{parts}
 use Rattle.dvg_named.specs.declared.fault.NamedFault.{NamedFault}
 use Rattle.dvg_named.specs.Meanings.{Frame}
 use Rattle.dvg_named.specs.NamedFaults.{DenotesFrames, HasNamedFault}

@@ -1,9 +1,9 @@
 -- A sketch, line by line (for private contracts).
 use Rattle.std.specs.Prelude.{◌≡◌, ℕ, List, [], ◌∷◌, ◌++◌}
 use Rattle.std.specs.List.{join_with_byte}
-use Rattle.dvg_text.specs.RomReading.{TellsRom}
-use Rattle.dvg_text.specs.RomTexts.{RomText}
-use Rattle.dvg_text.specs.Texts.{parts}
+use Rattle.dvg_read.specs.RomReading.{TellsRom}
+use Rattle.dvg_read.specs.RomTexts.{RomText}
+use Rattle.dvg_read.specs.Texts.{parts}
 use Rattle.dvg_named.specs.Rows.{Head, IsHeadLine, IsRowLine, Row}
 use Rattle.dvg_named.specs.Sections.{MayStand, Section, Spelled}
 

@@ -1,7 +1,7 @@
 -- The lines in which the rows stand that the reader of a sketch holds.
 use Rattle.std.specs.Prelude.{◌≡◌, ℕ, ◌+◌, List, [], ◌∷◌, ◌++◌, All, Option, None, Some, length}
 use Rattle.std.specs.List.{AllZip}
-use Rattle.dvg_text.specs.Texts.{lines}
+use Rattle.dvg_read.specs.Texts.{lines}
 use Rattle.dvg_named.specs.declared.meaning.Source.{Source}
 use Rattle.dvg_named.specs.declared.part.Part.{Part}
 use Rattle.dvg_named.specs.declared.reading.Reading.{Reading}

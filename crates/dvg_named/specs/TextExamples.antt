@@ -1,7 +1,7 @@
 -- Worked examples of whole texts: what they denote, and which fault they have.
 use Rattle.std.specs.Prelude.{ℕ, List, [], ◌∷◌, ◌++◌, Some, None, codes}
 use Rattle.dvg_frame.specs.declared.op.OpKind.TheVariants.{CallRom, Halt, Jump}
-use Rattle.dvg_text.specs.RomReading.{untold}
+use Rattle.dvg_read.specs.RomReading.{untold}
 use Rattle.dvg_named.specs.declared.fault.NamedFault.TheVariants.{OutOfRom, Overlap, Twice, Unknown}
 use Rattle.dvg_named.specs.NamedFaults.{DenotesFrames, HasNamedFault}
 

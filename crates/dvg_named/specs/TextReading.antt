@@ -1,7 +1,7 @@
 -- What the reader of all lines of a sketch answers.
 use Rattle.std.specs.Prelude.{ℕ, ◌≤◌, List, length, map}
-use Rattle.dvg_text.specs.RomTexts.{RomText}
-use Rattle.dvg_text.specs.Texts.{lines, told}
+use Rattle.dvg_read.specs.RomTexts.{RomText}
+use Rattle.dvg_read.specs.Texts.{lines, told}
 use Rattle.dvg_named.specs.declared.fault.NamedFault.TheVariants.{Full, OutOfRom, Overlap, Syntax, Twice}
 use Rattle.dvg_named.specs.declared.fault.SketchFault.{SketchFault}
 use Rattle.dvg_named.specs.declared.fault.SketchFault.TheVariants.{Memory, Text}

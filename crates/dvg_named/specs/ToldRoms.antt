@@ -1,8 +1,8 @@
 -- What the reader of a sketch holds of its ROM (for private contracts).
 use Rattle.std.specs.Prelude.{◌≡◌, ℕ, List}
-use Rattle.dvg_text.specs.declared.rom_text.RomReading as held_text
-use Rattle.dvg_text.specs.RomReading.{HoldsRom, TellsRom}
-use Rattle.dvg_text.specs.RomTexts.{RomText, first_told}
+use Rattle.dvg_read.specs.declared.rom_text.RomReading as held_text
+use Rattle.dvg_read.specs.RomReading.{HoldsRom, TellsRom}
+use Rattle.dvg_read.specs.RomTexts.{RomText, first_told}
 use Rattle.dvg_named.specs.declared.told_rom.ToldRom.{ToldRom}
 use Rattle.dvg_named.specs.Places.{free_after}
 

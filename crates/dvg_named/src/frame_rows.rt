@@ -1,7 +1,7 @@
 //! The frames among the sections of a sketch.
 ghost use Rattle.std.specs.Prelude.{◌≡◌, ◌++◌, ◌∷◌, [], All, IfOk, List, None, OnOk, map, ℕ};
 ghost use Rattle.std.specs.List.{filter_map};
-ghost use Rattle.dvg_text.specs.RomTexts.{RomText};
+ghost use Rattle.dvg_read.specs.RomTexts.{RomText};
 ghost use Rattle.dvg_named.specs.FrameValues.{IsFrameAt, frame_in, frame_list, frames_of};
 ghost use Rattle.dvg_named.specs.FrameValues.{rows_at_top};
 ghost use Rattle.dvg_named.specs.HeldRows.{rows_of};

@@ -1,6 +1,6 @@
 //! Names that were given.
 ghost use Rattle.std.specs.Prelude.{◌≡◌, ◌↔◌, Contains, IsTrue};
-ghost use Rattle.dvg_text.specs.LineParts.{bytes_of};
+ghost use Rattle.dvg_read.specs.LineParts.{bytes_of};
 
 use crate::line_fault::LineFault;
 use std::alloc::Allocator;
@@ -14,7 +14,7 @@ pub(crate) struct GivenNames<'a, A: Allocator> {
 impl<'a, A: Allocator> GivenNames<'a, A> {
     ghost use Rattle.std.specs.Prelude.{◌≡◌, ◌++◌, [], IfErr, OnOk};
     ghost use Rattle.std.specs.Option.{option_to_list};
-    ghost use Rattle.dvg_text.specs.LineParts.{bytes_of};
+    ghost use Rattle.dvg_read.specs.LineParts.{bytes_of};
     ghost use Rattle.dvg_named.specs.RowValues.{name_of};
     ghost use Rattle.dvg_named.specs.GivenNames.{IsFresh, StopsNames};
 

@@ -1,7 +1,7 @@
 //! Where sections of the ROM are laid.
 ghost use Rattle.std.specs.Prelude.{◌≡◌, ◌≤◌, ◌<◌, ◌+◌, ◌^◌, ℕ, List, [], ◌∷◌, ◌++◌, length, max};
 ghost use Rattle.std.specs.Prelude.{unwrap_or, IfNone, IfOk, IfSome, Some};
-ghost use Rattle.dvg_text.specs.RomTexts.{RomLine};
+ghost use Rattle.dvg_read.specs.RomTexts.{RomLine};
 ghost use Rattle.dvg_named.specs.LaidValues.{AreLaid, AreLow, NoneNames, laid_sections, rows_in};
 ghost use Rattle.dvg_named.specs.LaidValues.{rows_laid, sections_of};
 ghost use Rattle.dvg_named.specs.NamedFaults.{AreDistinct, names_of};

@@ -1,7 +1,7 @@
 //! The words of a line.
 ghost use Rattle.std.specs.Prelude.{◌≡◌, ◌<◌, length, IfNone, IfSome};
 ghost use Rattle.std.specs.Str.Lines.{strip_carriage_return};
-ghost use Rattle.dvg_text.specs.LineParts.{bytes_of};
+ghost use Rattle.dvg_read.specs.LineParts.{bytes_of};
 ghost use Rattle.dvg_named.specs.PlainLines.{is_blank, is_some_byte, uncommented, words};
 
 use arrayvec::ArrayVec;

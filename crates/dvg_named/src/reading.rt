@@ -52,10 +52,10 @@ impl<'a, A: Allocator + Copy> Reading<'a, A> {
     ghost use Rattle.std.specs.Prelude.{IsFalse, OnOk};
     ghost use Rattle.dvg_named.specs.FrameValues.{IsFrameAt, frames_of};
     ghost use Rattle.dvg_named.specs.Sections.{frames};
-    ghost use Rattle.dvg_text.specs.LineParts.{bytes_of};
-    ghost use Rattle.dvg_text.specs.RomReading.{untold};
-    ghost use Rattle.dvg_text.specs.RomTexts.{RomText};
-    ghost use Rattle.dvg_text.specs.RomReading.{TellsRom};
+    ghost use Rattle.dvg_read.specs.LineParts.{bytes_of};
+    ghost use Rattle.dvg_read.specs.RomReading.{untold};
+    ghost use Rattle.dvg_read.specs.RomTexts.{RomText};
+    ghost use Rattle.dvg_read.specs.RomReading.{TellsRom};
     ghost use Rattle.dvg_named.specs.RowValues.{head_of, name_of, row_of};
     ghost use Rattle.dvg_named.specs.Rows.{IsHeadLine, IsRowLine, Row as SpelledRow, frame, rom};
     ghost use Rattle.dvg_named.specs.RowMoves.{IsFrameHead, IsRomHead};

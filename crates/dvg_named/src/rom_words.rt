@@ -6,7 +6,7 @@ ghost use Rattle.dvg_code.specs.Spelling.{canon};
 ghost use Rattle.dvg_code.specs.Words.{word_in};
 ghost use Rattle.dvg_frame.specs.declared.op.OpKind.TheVariants.{Call, Jump};
 ghost use Rattle.dvg_frame.specs.Ops.{IsOp};
-ghost use Rattle.dvg_text.specs.RomTexts.{IsRomOf, RomText};
+ghost use Rattle.dvg_read.specs.RomTexts.{IsRomOf, RomText};
 ghost use Rattle.dvg_named.specs.HeldRows.{rows_of};
 ghost use Rattle.dvg_named.specs.LaidValues.{AreLow, IsAddressIn, NoneNames, laid_section};
 ghost use Rattle.dvg_named.specs.LaidValues.{laid_sections};

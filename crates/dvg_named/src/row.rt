@@ -1,6 +1,6 @@
 //! What a line of a sketch spells. Names are slices of the text.
 ghost use Rattle.std.specs.Prelude.{◌≡◌, ◌↔◌, ◌∷◌, ◌++◌, [], ℕ, List, IfSome, IsSomeAnd, IsTrue};
-ghost use Rattle.dvg_text.specs.LineParts.{bytes_of};
+ghost use Rattle.dvg_read.specs.LineParts.{bytes_of};
 ghost use Rattle.dvg_named.specs.Rows.{Doing as SpelledDoing, Head as SpelledHead};
 ghost use Rattle.dvg_named.specs.Rows.{Row as SpelledRow};
 ghost use Rattle.dvg_named.specs.Rows.{DoingParts, HeadParts, IsName, RowParts};
@@ -9,7 +9,7 @@ ghost use Rattle.std.specs.List.{list_all};
 ghost use Rattle.dvg_named.specs.RowValues.{doing_of, head_of, row_of};
 
 use dvg_frame::Op;
-use dvg_text::{hex, read_op_parts};
+use dvg_read::{hex, read_op_parts};
 
 /// The most bytes of a name (this project's own choice).
 const MOST_NAME_BYTES: usize = 32;

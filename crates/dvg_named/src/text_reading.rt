@@ -1,7 +1,7 @@
 //! What all lines of a sketch spell.
 ghost use Rattle.std.specs.Prelude.{◌≡◌, ℕ, List, IfErr, IfOk, map};
 ghost use Rattle.std.specs.Char.{to_ascii_lowercase};
-ghost use Rattle.dvg_text.specs.Texts.{lines};
+ghost use Rattle.dvg_read.specs.Texts.{lines};
 ghost use Rattle.dvg_named.specs.SourcedRows.{first_of};
 ghost use Rattle.dvg_named.specs.TextReading.{ReadsText, StopsText, fault_at};
 
@@ -10,7 +10,7 @@ use crate::line_fault::LineFault;
 use crate::line_words::words_of;
 use crate::meaning::Source;
 use crate::reading::Reading;
-use dvg_text::{MOST_TEXT_BYTES, TextLines};
+use dvg_read::{MOST_TEXT_BYTES, TextLines};
 use std::alloc::Allocator;
 
 /// Reads all lines of a text in small letters, in one pass. Or else the text has a fault: it is too

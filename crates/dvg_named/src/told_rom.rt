@@ -2,16 +2,16 @@
 ghost use Rattle.std.specs.Prelude.{◌≡◌, ◌⊎◌, ◌+◌, ◌-◌, ◌/◌, ◌∷◌, [], ℕ, List, length, IfSome};
 ghost use Rattle.std.specs.Prelude.{IsFalse, IsTrue, Some};
 ghost use Rattle.dvg_mem.specs.Grown.{AreReturns};
-ghost use Rattle.dvg_text.specs.LineParts.{bytes_of};
-ghost use Rattle.dvg_text.specs.RomReading.{TellsRom, untold};
-ghost use Rattle.dvg_text.specs.RomTexts.{IsMapLine, RomText};
+ghost use Rattle.dvg_read.specs.LineParts.{bytes_of};
+ghost use Rattle.dvg_read.specs.RomReading.{TellsRom, untold};
+ghost use Rattle.dvg_read.specs.RomTexts.{IsMapLine, RomText};
 ghost use Rattle.dvg_named.specs.SketchSteps.{AreParts, line_of};
 ghost use Rattle.dvg_named.specs.ToldRoms.{HoldsTold, TellsTold};
 
 use crate::laid::free_with;
 use arrayvec::ArrayVec;
 use dvg_mem::{FIRST_LARGE_ROM_WORD, FIRST_ROM_WORD, LARGE_ROM_BYTES, LAST_ROM_WORD};
-use dvg_text::read_rom_parts;
+use dvg_read::read_rom_parts;
 
 /// A word that no line gives, an RTSL, its low byte first (this project's own choice).
 const UNGIVEN: [u8; 2] = [0x00, 0xD0];

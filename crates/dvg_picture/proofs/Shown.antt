@@ -2,8 +2,8 @@
 use Rattle.std.proofs.Common.{◌≡◌, ℕ, ◌+◌, ◌<◌, ◌≤◌, List, ◌++◌, inl, inr, Bool, Option, Result, Ok, Err, IfOk, IfErr, length, take, take_all, drop, get_or, flat_map, ap, sym, ◌∙◌, subst, arith}
 use Rattle.std.proofs.lemmas.List.{drop_more, length-take}
 use Rattle.std.specs.Io.KnownBytes.{Appends}
-use Rattle.dvg_text.specs.declared.fault.TextFault.{TextFault}
-use Rattle.dvg_text.specs.declared.fault.TextFault.TheVariants.{DumpSize, LongDump}
+use Rattle.dvg_read.specs.declared.fault.TextFault.{TextFault}
+use Rattle.dvg_read.specs.declared.fault.TextFault.TheVariants.{DumpSize, LongDump}
 use Rattle.dvg_io.specs.declared.fault.ToolFault.{ToolFault}
 use Rattle.dvg_io.specs.declared.fault.ToolFault.TheVariants.{Text, Reader, Writer, Memory}
 use Rattle.dvg_io.specs.Watching.{BeginsToWrite}

@@ -1,9 +1,9 @@
 -- What `picture` writes.
 use Rattle.std.specs.Prelude.{ℕ, List, [], ◌∷◌, ◌++◌, Option, Bool, codes, decimal, flat_map, length, option_to_list}
 use Rattle.dvg_gen.specs.Run.{Visit}
-use Rattle.dvg_lines.specs.Lines.{spaced}
-use Rattle.dvg_lines.specs.RunLines.{broke_line, endless_line, instruction_line}
-use Rattle.dvg_lines.specs.Shows.{stroke_line}
+use Rattle.dvg_print.specs.Lines.{spaced}
+use Rattle.dvg_print.specs.RunLines.{broke_line, endless_line, instruction_line}
+use Rattle.dvg_print.specs.Shows.{stroke_line}
 use Rattle.dvg_dump.specs.declared.ran.Ran.{Ran}
 use Rattle.dvg_dump.specs.Ends.{End, Complete, Broken, Endless}
 use Rattle.dvg_dump.specs.Traces.{trace_if}

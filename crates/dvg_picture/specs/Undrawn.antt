@@ -1,7 +1,7 @@
 -- Why a run drew no picture.
 use Rattle.std.specs.Prelude.{List, [], ◌∷◌, ◌++◌, ℕ, Option, Some, None, codes, decimal}
 use Rattle.dvg_gen.specs.Numbers.{fault_number}
-use Rattle.dvg_lines.specs.Lines.{hex_3, spaced}
+use Rattle.dvg_print.specs.Lines.{hex_3, spaced}
 use Rattle.dvg_dump.specs.Ends.{End, Complete, Broken, Endless}
 use Rattle.dvg_picture.specs.declared.undrawn.Undrawn.{Undrawn}
 use Rattle.dvg_picture.specs.declared.undrawn.Undrawn.TheVariants as undrawn

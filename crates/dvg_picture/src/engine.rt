@@ -10,7 +10,7 @@ ghost use Rattle.dvg_picture.specs.Texts.{run_text};
 use crate::writes::write_run;
 use dvg_dump::{Dump, DumpFault, LARGE_DUMP_BYTES, Outcome, Traced};
 use dvg_io::{DeviceFailed, Engine, ToolFault, Watched, serve};
-use dvg_text::TextFault;
+use dvg_read::TextFault;
 use std::alloc::Allocator;
 use std::io::{Read, Write};
 

@@ -5,7 +5,7 @@ ghost use Rattle.dvg_picture.specs.Undrawn.{reason_text, undrawn_by};
 
 use dvg_dump::Ending;
 use dvg_gen::GenFault;
-use dvg_lines::Line;
+use dvg_print::Line;
 use std::alloc::Allocator;
 use std::fmt;
 

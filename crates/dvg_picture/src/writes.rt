@@ -2,13 +2,13 @@
 ghost use Rattle.std.specs.Prelude.{◌++◌, flat_map};
 ghost use Rattle.dvg_dump.specs.Endings.{end_of};
 ghost use Rattle.dvg_io.specs.Watching.{Writes};
-ghost use Rattle.dvg_lines.specs.Shows.{stroke_line};
+ghost use Rattle.dvg_print.specs.Shows.{stroke_line};
 ghost use Rattle.dvg_picture.specs.Texts.{end_text, ran_text, run_text};
 
 use dvg_dump::{Ending, Ran, Traced};
 use dvg_gen::Stroke;
 use dvg_io::{DeviceFailed, Watched, write_strokes, write_whole};
-use dvg_lines::Line;
+use dvg_print::Line;
 use std::alloc::Allocator;
 use std::io::Write;
 

@@ -74,7 +74,7 @@ module _ (R image : List ℕ) (before : Log) where
   abbrev start : Log
   start = (Strobe ⟼ Started) ∷ before
 
-  -- after so many words of a run
+  -- after this many words of a run
   record Followed (beam : Beam) (later : Log) (count : ℕ) (visits : List Visit)
       (held : Option ℕ) : Type 0 where
     legal : IsLegal R image (later ++ start)

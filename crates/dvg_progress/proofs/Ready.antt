@@ -15,7 +15,7 @@ use Rattle.dvg_progress.proofs.Lives.{LivesOn, quiet}
 use Rattle.dvg_progress.proofs.Newest.{NotStrobe, none_stays}
 use Rattle.dvg_progress.proofs.Sending.{waits, sends, waiting_busy, sending_busy}
 
--- the strobe was sent, or the driver is about to, after so many ticks at most that found no run open
+-- the strobe was sent, or the driver is about to, after at most this many ticks that found no run open
 pub data Ready (image : List ℕ) (log : Log) (count : ℕ) : Type 0 where
   sent : strobed log ≡ true → Ready image log count
   sending : (first : Bool) → place_of_life (life image log) ≡ Some (Sending first) → count ≤ 1

@@ -43,7 +43,7 @@ tick R image log l =
     (place_life (life image log) k.0 k.1.stands) in
     (one.0, ((one.1, one.2), tt, l))
 
--- so many ticks
+-- this many ticks
 pub record Some_ticks (R image : List ℕ) (log : Log) (count : ℕ) : Type 0 where
   pub later : Log
   pub only : Ticks later
@@ -68,7 +68,7 @@ some_ticks R image log (suc count) l =
       long = ap suc before.long;
     }
 
--- the driver rests after so many ticks at most
+-- the driver rests after at most this many ticks
 pub record Rests (R image : List ℕ) (log : Log) (most : ℕ) : Type 0 where
   pub later : Log
   pub only : Ticks later

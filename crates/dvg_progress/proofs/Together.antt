@@ -129,7 +129,7 @@ module _ (R image : List ℕ) (F : List OpKind) where
           waiting false stands (omega arith),
         )
 
-    -- so many ticks after the offer, or more
+    -- this many ticks after the offer, or more
     pub reached : (later : Log) → IsLegal R image (later ++ start R image before F)
         → Throughout LivesOn later → NoFrame later → length (all R image before F) ≤ ticks later
         → flipped (later ++ start R image before F)

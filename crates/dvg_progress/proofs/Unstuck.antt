@@ -33,7 +33,7 @@ use Rattle.dvg_progress.proofs.Writing.{time_is}
 abbrev resets : List Happening
 resets = ResetGen ∷ ResetCpu ∷ []
 
--- the newer log comes by so many events at most, with no reset
+-- the newer log comes by at most this many events, with no reset
 record Reaches (old new : Log) (most : ℕ) : Type 0 where
   later : Log
   split : new ≡ later ++ old

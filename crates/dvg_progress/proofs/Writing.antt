@@ -68,7 +68,7 @@ last_flips R image log writes a b to l stands after waits =
     by (to_zero at is_one more is todo) = absurd (not_writing more to waits is)
     by (to_one at is_high is z) = at
 
--- one write more
+-- one more write
 one_more : (writes : List (ℕ × ℕ)) (k a b : ℕ) → slice_get writes k ≡ Some (a, b)
     → reverse (wrote (take (suc k) writes)) ≡ Did (Wrote a b) ∷ reverse (wrote (take k writes))
 one_more writes k a b found =
@@ -106,7 +106,7 @@ module _ (R image : List ℕ) (before : Log) (F : List OpKind) where
   abbrev pub all : List (ℕ × ℕ)
   all = frame_writes (free_half image before) F (not (has_flip (life image before)))
 
-  -- what was written after so many ticks
+  -- what was written after this many ticks
   pub record SoFar (later : Log) : Type 0 where
     pub stands : place_of_life (life image (later ++ start)) ≡ Some
         (with_left (drop (ticks later) all))

@@ -89,7 +89,7 @@ ShownInTime = (R image : List ℕ) (F : List OpKind) (n : ℕ) (before write hal
     → Without (Strobe ∷ ResetGen ∷ []) draw → 2 * n ≤ fetched_since (draw ++ started)
     → DrawsOnce F R n started draw
 
--- from every log each frame that is accepted can come to be drawn with no reset, in so many events
+-- from every log each accepted frame can come to be drawn with no reset, in this many events
 abbrev pub NeverStuck : Type 0
 NeverStuck = (R image : List ℕ) (log : Log) (F : List OpKind) (m n : ℕ) → IsLegal R image log
     → IsDraft F → Accepts F R → IsBound F R n

@@ -35,7 +35,7 @@ none_more name steps i step low is none other =
 pub no_name : {N : Type 0} (b : Bool) → b ≡ false → (N → IsTrue b) → N → ⊥
 no_name b not f n = let yes : b ≡ true = f n in cc
 
--- one step more is counted
+-- one more step is counted
 pub count_more : (steps : List Step) (i number : ℕ) (step : Step) → i < length steps → step ≡ get_or steps i step → number ≡ op_count (take i steps) → is_operation step ≡ true → number + 1 ≡ op_count (take (i + 1) steps)
 count_more steps i number step low is count operation =
     let yes = count_by_more_yes is_operation steps i step low (ap is_operation (sym is) ∙ operation) in omega arith
@@ -90,7 +90,7 @@ allzip_more R [] (b ∷ ys) x y all here = absurd all
 allzip_more R (a ∷ xs) [] x y all here = absurd all
 allzip_more R (a ∷ xs) (b ∷ ys) x y all here = (all.0, allzip_more R xs ys x y all.1 here)
 
--- what is drafted with one step more
+-- what is drafted with one more step
 module _ (steps : List Step) (i : ℕ) (step : Step) (low : i < length steps) (is : step ≡ get_or steps i step) (draft new : List OpKind) where
   pub drafted_more : (op : OpKind) → is_operation step ≡ true → new ≡ draft ++ op ∷ [] → AllZip (IsDrafted steps) (filter is_operation (take i steps)) draft → IsDrafted steps step op
       → AllZip (IsDrafted steps) (filter is_operation (take (i + 1) steps)) new

@@ -29,11 +29,11 @@ GivesAgain steps place = (step : Step) × (name : List ℕ) × (slice_get steps 
 abbrev pub WantsUnknown : List Step → Step → Type 0
 WantsUnknown steps step = (name : List ℕ) × Wants step name × ((number : ℕ) → ¬ IsNumberOf steps name number)
 
--- so does the step at this place
+-- the step at this place does so
 abbrev pub IsUnknown : List Step → ℕ → Type 0
 IsUnknown steps place = (step : Step) × (slice_get steps place ≡ Some step) × WantsUnknown steps step
 
--- it is so at this place, and at none before it
+-- this holds at this place, and at none before it
 abbrev pub IsFirst : (ℕ → Type 0) → ℕ → Type 0
 IsFirst P place = P place × ((earlier : ℕ) → earlier < place → ¬ P earlier)
 

@@ -11,7 +11,7 @@ use dvg_frame::{Draft, Op, OpKind};
 /// The most operations of a draft.
 const MOST_OPS: usize = 511;
 
-// The number of the operation that is named so.
+// The number of the operation with this name.
 fn number_of(steps: &[Step], name: &str) -> Option<u16>
     requires { op_count steps.now ≤ 511 }
     ensures { MatchOption result ((n : ℕ) → ¬ IsNumberOf steps.now name.now n)
@@ -29,7 +29,7 @@ fn number_of(steps: &[Step], name: &str) -> Option<u16>
     None
 }
 
-// The first step that gives a name which one before it gives.
+// The first step that gives a name which an earlier one gives.
 fn given_again(steps: &[Step]) -> Option<usize>
     requires { op_count steps.now ≤ 511 }
     ensures { MatchOption result ((place : ℕ) → ¬ GivesAgain steps.now place)
@@ -45,7 +45,7 @@ fn given_again(steps: &[Step]) -> Option<usize>
     None
 }
 
-// The operation of a step that is one. None where it names one that isn't there.
+// The operation of a step that is an operation. None where it names one that doesn't exist.
 fn operation(steps: &[Step], step: &Step) -> Option<Op>
     requires few { op_count steps.now ≤ 511 }
     requires is { is_operation step.now ≡ true }
@@ -73,7 +73,7 @@ fn operation(steps: &[Step], step: &Step) -> Option<Op>
 /// - `Twice`: else, this step is the first that gives a name which an earlier one gave.
 /// - `Unknown`: else, this step is the first that calls or jumps to a name which no step gives.
 ///
-/// A name behind the last operation names one that isn't there, which the check of a draft refuses
+/// A name after the last operation names one that doesn't exist. The check of a draft refuses that
 /// where it is used.
 pub fn draft_of(steps: &[Step]) -> Result<Draft, SketchFault>
     ensures draft { IfOk result (IsDraftOf steps.now) }

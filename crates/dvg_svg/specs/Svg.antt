@@ -2,7 +2,7 @@
 use Rattle.std.specs.Prelude.{ℕ, zero, suc, ◌-◌, ◌*◌, ◌/◌, List, [], ◌∷◌, ◌++◌, length, flat_map, map, Vec}
 use Rattle.std.specs.Prelude.{codes, decimal, Option, Some, None}
 use Rattle.dvg_gen.specs.declared.stroke.Stroke.{Stroke}
-use Rattle.dvg_lines.specs.Svg.{path_line}
+use Rattle.dvg_print.specs.Svg.{path_line}
 use Rattle.dvg_svg.specs.declared.show.Show.{Show}
 
 -- the side of a picture in pixels, by its size in percent

@@ -14,7 +14,7 @@ byte image log a = slice_index (ram image log) a
 abbrev pub byte_of : Bool → ℕ → ℕ
 byte_of high word = if high then word / 256 else word % 256
 
--- what a fetch meets in these memories, behind a low byte that waits or none
+-- what a fetch meets in these memories, after a low byte that waits or none
 abbrev pub read : (ram rom : List ℕ) → Option ℕ → ℕ → Met
 read ram rom low address = met low (fetched_byte ram rom address (is_some low))
 

@@ -292,7 +292,7 @@ module _ (h : Half) (F : List OpKind) (rom : List ℕ) (mem : ℕ → Option ℕ
       let r : InRange (Jmpl (base h)) = omega arith in
       reads_canon mem (Jmpl (base h)) 0 (omega arith) (canon_spells (Jmpl (base h)) r) (holds.zero, tt)
 
-  -- an instruction of the draft or of the ROM stands behind word zero, and does not wrap round
+  -- an instruction of the draft or of the ROM stands after word zero, and does not wrap round
   pub behind : (p : Place) (d : ℕ) → Reached F rom p d → (1 ≤ addr h F p) × (addr h F p < 4095)
   behind p d r = behind_in p (inside p d r)
     where

@@ -21,7 +21,7 @@ written w v u b ws q e = both (nat_eq w v) (nat_eq u b) refl refl e
     both true false es et d = absurd (cc)
     both false t es et d = absurd (cc)
 
--- after so many writes
+-- after this many writes
 pub written_at : (ws : List (ℕ × ℕ)) (n a b : ℕ) (q : Place) → after_write (drop n ws) a b ≡ Some q → (slice_get ws n ≡ Some (a, b)) × (with_left (drop (suc n) ws) ≡ q)
 written_at [] zero a b q e = absurd (cc)
 written_at [] (suc n) a b q e = absurd (cc)

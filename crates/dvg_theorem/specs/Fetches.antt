@@ -47,13 +47,13 @@ FromLayout log address word = (half : Half) (F : List OpKind) → IsBeingDrawn l
     → IsInHalf half address
     → (address < base half + length (laid half F)) × (word ≡ slice_index (laid half F) (address - base half))
 
--- each word that a run fetches is so
+-- this holds of each word that a run fetches
 abbrev pub ReadsOneFrame : Log → Happening → Shown → Type 0
 ReadsOneFrame log event (Fetched address word) = FromLayout log address word
 ReadsOneFrame log event (Done address word drew) = FromLayout log address word
 ReadsOneFrame log event entry = Unit {0}
 
--- what the open run shows has a bound, and each fetch of the run stays within it: two bytes a word
+-- what the open run shows has a bound, and each fetch of the run stays within it: two bytes for each word
 abbrev pub WithinBound : List ℕ → Log → Happening → Shown → Type 0
 WithinBound R log Fetch entry = (words : List (ℕ × ℕ)) (F : List OpKind) → open_run log ≡ Some words → IsShown log F
     → (n : ℕ) × IsBound F R n × (n < 2 ^ 63) × (suc (fetch_count words (low_byte log)) ≤ 2 * n)

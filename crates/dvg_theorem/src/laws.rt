@@ -27,19 +27,19 @@ pub fn ends_in_time()
     ensures { EndsInTime }
 {}
 
-/// A list of events has one legal log at most. That it has one is not said here.
+/// A list of events has at most one legal log. That it has one is not said here.
 pub fn one_log()
     ensures { SameLog }
 {}
 
 /// In every legal log no byte is written in the half being drawn. What a reset of the whole system
-/// puts into the RAM is no write; it ends the run.
+/// puts into the RAM isn't a write; it ends the run.
 pub fn never_torn()
     ensures { Always (λ R image. SparesDrawn) }
 {}
 
 /// In every legal log the generator never faults: no run meets a hole, makes a fifth call or
-/// returns without one. How long a run can be is told by `always_bounded`.
+/// returns without one. `always_bounded` says how long a run can be.
 pub fn never_faults()
     ensures { Always (λ R image. NoFault) }
 {}
@@ -60,13 +60,13 @@ pub fn never_older()
 
 /// In every legal log what a run shows has a picture, of `n` words; the run fetches at most `2n`
 /// bytes, and its fetch number `2n` is the one that finishes it, with the picture's strokes. Every
-/// frame that is accepted has exactly one picture. That so many fetches come is not said.
+/// frame that is accepted has exactly one picture. That this many fetches come is not said.
 pub fn always_in_time()
     ensures { Always (λ R image. KeepsTime R) }
 {}
 
 /// In every legal log a run that fetched word zero while a frame was newest published fetches at
-/// most two bytes for each word of the frame's bound: the number that `Frame::bound` tells. That
+/// most two bytes for each word of the frame's bound: the number that `Frame::bound` gives. That
 /// the fetches come is not said.
 pub fn always_bounded()
     ensures { Always (λ R image. WithinBound R) }

@@ -9,8 +9,8 @@ use Rattle.dvg_svg.specs.declared.show.Show.{Show}
 use Rattle.dvg_lay.specs.Sketches.{Lays}
 use Rattle.dvg_lay.specs.declared.form.Form.{Form}
 use Rattle.dvg_lay.specs.declared.form.Laid.{Laid}
-use Rattle.dvg_words.specs.declared.task.Job.TheVariants.{Draw, DrawCheck, Lay}
-use Rattle.dvg_words.specs.declared.task.LayForm.{LayForm}
+use Rattle.dvg_args.specs.declared.task.Job.TheVariants.{Draw, DrawCheck, Lay}
+use Rattle.dvg_args.specs.declared.task.LayForm.{LayForm}
 use Rattle.dvg_tool.specs.Jobs.{Performs, form_of, told, told_drawn}
 use Rattle.dvg_tool.specs.declared.outcome.Done.{Done}
 use Rattle.dvg_tool.specs.declared.outcome.Done.TheVariants.{CheckedFrames}

@@ -3,15 +3,15 @@ use Rattle.std.proofs.Common.{◌≡◌, ℕ, List, ap, ap₂, subst, sym, ◌�
 use Rattle.dvg_frame.specs.declared.op.OpKind.{OpKind}
 use Rattle.dvg_frame.proofs.OneFault.{accepted_stays, one_fault}
 use Rattle.dvg_frame.proofs.Pictures.{one_picture}
-use Rattle.dvg_lines.specs.declared.verdict.Verdict.{Verdict}
-use Rattle.dvg_lines.specs.declared.verdict.Verdict.TheVariants.{Good, Refused}
-use Rattle.dvg_lines.specs.declared.verdict.BoundedVerdict.{BoundedVerdict}
-use Rattle.dvg_lines.specs.declared.verdict.BoundedVerdict.TheVariants as bounded
-use Rattle.dvg_text.specs.RomTexts.{IsRomOf}
-use Rattle.dvg_lines.specs.Verdicts.{IsBoundedVerdict, IsVerdict}
+use Rattle.dvg_print.specs.declared.verdict.Verdict.{Verdict}
+use Rattle.dvg_print.specs.declared.verdict.Verdict.TheVariants.{Good, Refused}
+use Rattle.dvg_print.specs.declared.verdict.BoundedVerdict.{BoundedVerdict}
+use Rattle.dvg_print.specs.declared.verdict.BoundedVerdict.TheVariants as bounded
+use Rattle.dvg_read.specs.RomTexts.{IsRomOf}
+use Rattle.dvg_print.specs.Verdicts.{IsBoundedVerdict, IsVerdict}
 use Rattle.dvg_tool.specs.Checks.{Judges, JudgesBound, JudgesBy}
-use Rattle.dvg_text.proofs.DraftSteps.{one_meaning}
-use Rattle.dvg_text.proofs.OneRom.{one_rom}
+use Rattle.dvg_read.proofs.DraftSteps.{one_meaning}
+use Rattle.dvg_read.proofs.OneRom.{one_rom}
 
 -- of a draft over a ROM one verdict is right
 one_said : (F : List OpKind) (R : List ℕ) (one other : Verdict) → IsVerdict F R one → IsVerdict F R other → other ≡ one

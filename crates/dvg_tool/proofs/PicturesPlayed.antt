@@ -8,8 +8,8 @@ use Rattle.dvg_log.specs.Headline.{KeepsHeadline}
 use Rattle.dvg_log.specs.Legal.{IsLegal}
 use Rattle.dvg_log.specs.Log.{Throughout}
 use Rattle.dvg_world.specs.Runs.{log_of}
-use Rattle.dvg_text.specs.TraceGives.{GivesTrace}
-use Rattle.dvg_text.specs.TraceTexts.{HasTraceFault}
+use Rattle.dvg_read.specs.TraceGives.{GivesTrace}
+use Rattle.dvg_read.specs.TraceTexts.{HasTraceFault}
 use Rattle.dvg_io.specs.declared.fault.ToolFault.{ToolFault}
 use Rattle.dvg_io.specs.declared.fault.ToolFault.TheVariants.{Text, Reader, Writer, Memory}
 use Rattle.dvg_io.specs.Serving.{Answers, IsFinding, OfInput}

@@ -14,8 +14,8 @@ use Rattle.dvg_world.specs.Runs.{IsStop, log_of}
 use Rattle.dvg_log.specs.Headline.{KeepsHeadline}
 use Rattle.dvg_world.proofs.WholeRuns.{log_of-none}
 use Rattle.dvg_tool.specs.Plays.{IsPlayed, StopsNext, entry_of, event_of, log_text, zeros}
-use Rattle.dvg_lines.specs.Shows.{shown}
-use Rattle.dvg_text.specs.TraceGives.{GivesTrace}
+use Rattle.dvg_print.specs.Shows.{shown}
+use Rattle.dvg_read.specs.TraceGives.{GivesTrace}
 
 -- the lines of events and entries, oldest first
 abbrev lines_of : {A : Type 0} → List Happening → List (OwnEntry A) → List Line

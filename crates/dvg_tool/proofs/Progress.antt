@@ -13,7 +13,7 @@ use Rattle.dvg_code.specs.Cutting.{Cuts, Cutting, Placed}
 use Rattle.dvg_code.specs.Listing.{NextListed, place_of, words_left}
 use Rattle.dvg_code.proofs.Unique.{cut_is_rest, spelling_length}
 use Rattle.dvg_code.proofs.Listings.{goes_on, only_rest}
-use Rattle.dvg_lines.specs.Lines.{line_text}
+use Rattle.dvg_print.specs.Lines.{line_text}
 use Rattle.dvg_tool.specs.Lists.{line_at, line_by, text_by}
 use Rattle.dvg_io.specs.Watching.{BeginsToWrite}
 use Rattle.dvg_io.proofs.Known.{Appends-nil, Appends-trans}
@@ -83,7 +83,7 @@ module _ (address : ℕ → ℕ) where
   text-snoc items item =
       ap (λ l. text_by address items ++ l) (sym (append-nil (line_by address item))) ∙ sym (flat_map-append (line_by address) items (item ∷ []))
 
-  -- a line more went out
+  -- one more line went out
   pub advance : (words : List ℕ) (s t : Listing) (place : ℕ) (instr : Instr) (old now new : Option (List ℕ)) (cutting : Cutting words)
       → Stands words (words_left s) (place_of s) → Progress address cutting.items cutting.end cutting.rest (words_left s) (place_of s) old now → NextListed s (Some (At place instr)) t
       → Appends now new (line_at words place (address place) instr) → Progress address cutting.items cutting.end cutting.rest (words_left t) (place_of t) old new
@@ -101,7 +101,7 @@ module _ (address : ℕ → ℕ) where
         wrote = subst (Appends old new) (text-snoc p.done item) (Appends-trans old now new _ _ p.wrote (subst (Appends now new) is line));
       }
 
-  -- a beginning of a line more went out
+  -- a beginning of one more line went out
   pub broke_off : (words : List ℕ) (s t : Listing) (place : ℕ) (instr : Instr) (old now new : Option (List ℕ)) (cutting : Cutting words)
       → Stands words (words_left s) (place_of s) → Progress address cutting.items cutting.end cutting.rest (words_left s) (place_of s) old now → NextListed s (Some (At place instr)) t
       → BeginsToWrite (line_at words place (address place) instr) now new → BeginsToWrite (text_by address cutting.items) old new

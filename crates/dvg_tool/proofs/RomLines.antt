@@ -5,7 +5,7 @@ use Rattle.std.proofs.lemmas.Bool.Decides.{eqb_tells}
 use Rattle.std.specs.Io.KnownBytes.{Appends}
 use Rattle.dvg_code.specs.Words.{words_of}
 use Rattle.dvg_mem.proofs.Roms.{large_first, small_first}
-use Rattle.dvg_lines.specs.Lines.{map_text, rom_line, rom_lines, rom_text}
+use Rattle.dvg_print.specs.Lines.{map_text, rom_line, rom_lines, rom_text}
 use Rattle.dvg_tool.specs.Roms.{HasRomSize, words_text}
 use Rattle.dvg_io.specs.Watching.{BeginsToWrite}
 use Rattle.dvg_io.proofs.Inputs.{length-words_of}
@@ -74,12 +74,12 @@ next_row : (first : ℕ) (words line : List ℕ) (row : ℕ) → row * 8 + 8 ≤
     → rom_lines (first + row * 8) (drop (row * 8) words) ≡ line ++ rom_lines (first + (row + 1) * 8) (drop ((row + 1) * 8) words)
 next_row first words line row within is = row_of first words row within ∙ ap (λ l. l ++ rom_lines (first + (row + 1) * 8) (drop ((row + 1) * 8) words)) (sym is)
 
--- a row more
+-- one more row
 pub row_written : (first : ℕ) (words line : List ℕ) (row : ℕ) (old now new : Option (List ℕ)) → row * 8 + 8 ≤ length words → RowsWritten first words row old now
     → line ≡ rom_line (first + row * 8) (take 8 (drop (row * 8) words)) → Appends now new line → RowsWritten first words (row + 1) old new
 row_written first words line row old now new within went is wrote = piece_more line _ went (next_row first words line row within is) wrote
 
--- a beginning of a row more
+-- a beginning of one more row
 pub row_begun : (first : ℕ) (words line : List ℕ) (row : ℕ) (old now new : Option (List ℕ)) → row * 8 + 8 ≤ length words → RowsWritten first words row old now
     → line ≡ rom_line (first + row * 8) (take 8 (drop (row * 8) words)) → BeginsToWrite line now new → BeginsToWrite (rom_lines first words) old new
 row_begun first words line row old now new within went is begun = piece_begun line _ went (next_row first words line row within is) begun

@@ -4,7 +4,7 @@ use Rattle.std.proofs.lemmas.List.{drop_more}
 use Rattle.dvg_gen.specs.declared.stroke.Stroke.{Stroke}
 use Rattle.dvg_log.specs.declared.entry.Entry.TheVariants.{Done}
 use Rattle.dvg_log.specs.Entries.{OwnEntry, shown_of}
-use Rattle.dvg_lines.specs.Shows.{picture_line, shown, shown_entry, strokes_of}
+use Rattle.dvg_print.specs.Shows.{picture_line, shown, shown_entry, strokes_of}
 
 -- the entry isn't one of a finished run
 abbrev pub IsNoPicture : {A : Type 0} → OwnEntry A → Type 0

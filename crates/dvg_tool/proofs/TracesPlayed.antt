@@ -8,12 +8,12 @@ use Rattle.dvg_log.specs.Legal.{IsLegal}
 use Rattle.dvg_log.specs.Log.{Log, Throughout}
 use Rattle.dvg_world.specs.declared.stopped.Stopped.{Stopped}
 use Rattle.dvg_world.specs.Runs.{IsStop, log_by, log_of}
-use Rattle.dvg_text.specs.declared.fault.TextFault.{TextFault}
-use Rattle.dvg_text.specs.declared.fault.TextFault.TheVariants.{TooLong, Syntax, Full, Many, Unended}
-use Rattle.dvg_text.specs.declared.fault.TraceFault.{TraceFault}
-use Rattle.dvg_text.specs.declared.fault.TraceFault.TheVariants as of_trace
-use Rattle.dvg_text.specs.TraceGives.{GivesTrace, StopsReading}
-use Rattle.dvg_text.specs.TraceTexts.{HasTraceFault, TraceMeetsSyntax, TraceMeetsFull, MeetsMany, EndsInside}
+use Rattle.dvg_read.specs.declared.fault.TextFault.{TextFault}
+use Rattle.dvg_read.specs.declared.fault.TextFault.TheVariants.{TooLong, Syntax, Full, Many, Unended}
+use Rattle.dvg_read.specs.declared.fault.TraceFault.{TraceFault}
+use Rattle.dvg_read.specs.declared.fault.TraceFault.TheVariants as of_trace
+use Rattle.dvg_read.specs.TraceGives.{GivesTrace, StopsReading}
+use Rattle.dvg_read.specs.TraceTexts.{HasTraceFault, TraceMeetsSyntax, TraceMeetsFull, MeetsMany, EndsInside}
 use Rattle.dvg_io.specs.declared.fault.ToolFault.{ToolFault}
 use Rattle.dvg_io.specs.declared.fault.ToolFault.TheVariants.{Text, Reader, Writer, Memory}
 use Rattle.dvg_io.specs.declared.watched.Watched.{Watched}

@@ -2,21 +2,21 @@
 use Rattle.std.proofs.Common.{◌≡◌, ℕ, refl, sym, ◌%◌, ◌≤◌, List, Option, None, Some, Result, Ok, Err, IfErr, IfOk, IfSome, Vec, length, take, take_all, ap, subst, ◌∙◌, arith, ◌⊎◌, inl, inr, ⊎_elim}
 use Rattle.std.specs.Io.KnownBytes.{Appends}
 use Rattle.dvg_code.specs.Words.{words_of}
-use Rattle.dvg_text.specs.declared.fault.TextFault.{TextFault}
+use Rattle.dvg_read.specs.declared.fault.TextFault.{TextFault}
 use Rattle.dvg_frame.specs.declared.op.OpKind.{OpKind}
-use Rattle.dvg_lines.specs.declared.verdict.BoundedVerdict.{BoundedVerdict}
-use Rattle.dvg_lines.specs.declared.verdict.BoundedVerdict.TheVariants as bounded
-use Rattle.dvg_lines.specs.Verdicts.{IsBoundedVerdict, without_bound}
+use Rattle.dvg_print.specs.declared.verdict.BoundedVerdict.{BoundedVerdict}
+use Rattle.dvg_print.specs.declared.verdict.BoundedVerdict.TheVariants as bounded
+use Rattle.dvg_print.specs.Verdicts.{IsBoundedVerdict, without_bound}
 use Rattle.dvg_io.specs.Serving.{Answers, IsFinding, OfInput}
 use Rattle.dvg_tool.specs.Checks.{IsJudgingFault, Judges, JudgesBound, JudgesBy}
-use Rattle.dvg_text.specs.DraftTexts.{HasDraftFault}
+use Rattle.dvg_read.specs.DraftTexts.{HasDraftFault}
 use Rattle.dvg_io.specs.Watching.{BeginsToWrite}
 use Rattle.dvg_io.proofs.Inputs.{Read, whole, whole_or_long}
-use Rattle.dvg_lines.specs.Lines.{rom_text}
+use Rattle.dvg_print.specs.Lines.{rom_text}
 use Rattle.dvg_tool.specs.Roms.{HasRomFault, HasRomSize, IsRomFault, IsRomOf, WritesRom, words_text}
 use Rattle.dvg_tool.proofs.RomLines.{text_of_words}
 use Rattle.dvg_tool.specs.Lists.{IsListable, Lists, ListsAt, ListsWords, ListsWordsAt}
-use Rattle.dvg_text.specs.declared.fault.TextFault.TheVariants.{TooLong, Cut, RomSize, Syntax, Full}
+use Rattle.dvg_read.specs.declared.fault.TextFault.TheVariants.{TooLong, Cut, RomSize, Syntax, Full}
 use Rattle.dvg_io.specs.declared.fault.ToolFault.{ToolFault}
 use Rattle.dvg_io.specs.declared.fault.ToolFault.TheVariants.{Text, Reader, Writer, Memory}
 

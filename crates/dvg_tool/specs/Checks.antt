@@ -3,11 +3,11 @@ use Rattle.std.specs.Prelude.{ℕ, List}
 use Rattle.dvg_frame.specs.declared.op.OpKind.{OpKind}
 use Rattle.dvg_io.specs.declared.fault.ToolFault.{ToolFault}
 use Rattle.dvg_io.specs.declared.fault.ToolFault.TheVariants.{Text, Memory}
-use Rattle.dvg_lines.specs.declared.verdict.BoundedVerdict.{BoundedVerdict}
-use Rattle.dvg_lines.specs.declared.verdict.Verdict.{Verdict}
-use Rattle.dvg_text.specs.DraftReading.{Gives}
-use Rattle.dvg_text.specs.DraftTexts.{HasDraftFault}
-use Rattle.dvg_lines.specs.Verdicts.{IsBoundedVerdict, IsVerdict, bounded_line, verdict_line}
+use Rattle.dvg_print.specs.declared.verdict.BoundedVerdict.{BoundedVerdict}
+use Rattle.dvg_print.specs.declared.verdict.Verdict.{Verdict}
+use Rattle.dvg_read.specs.DraftReading.{Gives}
+use Rattle.dvg_read.specs.DraftTexts.{HasDraftFault}
+use Rattle.dvg_print.specs.Verdicts.{IsBoundedVerdict, IsVerdict, bounded_line, verdict_line}
 use Rattle.dvg_io.specs.Serving.{Answers, Meaning}
 
 -- the text denotes a draft and a ROM, over which the check says this of the draft
@@ -33,7 +33,7 @@ IsJudgingFault text (Text fault) = HasDraftFault text fault
 IsJudgingFault text Memory = (F : List OpKind) × (R : List ℕ) × Gives text F R
 IsJudgingFault text _ = ⊥
 
--- what `check_text` answers of an input, and what went out: the verdict's line
+-- what `check_text` answers to an input, and what went out: the verdict's line
 abbrev pub Checks : Meaning Verdict
 Checks = Answers Judges HasDraftFault verdict_line
 

@@ -26,11 +26,11 @@ use Rattle.dvg_svg.specs.declared.show.Show.{Show}
 use Rattle.dvg_tool.specs.declared.outcome.Done.{Done}
 use Rattle.dvg_tool.specs.declared.outcome.Done.TheVariants.{Written, Judged, Bounded, Drew, DrewSvg, Searched}
 use Rattle.dvg_tool.specs.declared.outcome.Done.TheVariants.{Refused, CheckedFrames}
-use Rattle.dvg_words.specs.declared.task.Job.{Job}
-use Rattle.dvg_words.specs.declared.task.Job.TheVariants.{List as list_job, ListAt, Rom, Picture, PictureSvg, Check}
-use Rattle.dvg_words.specs.declared.task.Job.TheVariants.{Play, PlaySvg, Torn, Draw, DrawCheck, Lay}
-use Rattle.dvg_words.specs.declared.task.LayForm.{LayForm}
-use Rattle.dvg_words.specs.declared.task.LayForm.TheVariants as asked
+use Rattle.dvg_args.specs.declared.task.Job.{Job}
+use Rattle.dvg_args.specs.declared.task.Job.TheVariants.{List as list_job, ListAt, Rom, Picture, PictureSvg, Check}
+use Rattle.dvg_args.specs.declared.task.Job.TheVariants.{Play, PlaySvg, Torn, Draw, DrawCheck, Lay}
+use Rattle.dvg_args.specs.declared.task.LayForm.{LayForm}
+use Rattle.dvg_args.specs.declared.task.LayForm.TheVariants as asked
 
 -- how pictures of this size and rate are shown
 abbrev pub show_of : (percent rate : ℕ) → Show
@@ -44,20 +44,19 @@ form_of asked.Table = Tables
 form_of asked.Rom = RomBytes
 form_of asked.Equates = RomNames
 
--- what is told of what came of laying a sketch out: why a frame is refused
+-- what is said of a sketch that was laid out: why a frame is refused
 abbrev pub told : {A : Type 0} → Laid A → Done A
 told (laids.Text text) = Written
 told (laids.Refused refusal) = Refused refusal
 
--- and of drawing one
+-- and of one that was drawn
 abbrev pub told_drawn : {A : Type 0} → Drawn A → Done A
 told_drawn (drawns.Pictures pictures) = Written
 told_drawn (drawns.Refused refusal) = Refused refusal
 
--- what is answered of an input, and what went out: a check tells its verdict, `picture` what the
--- run came to, or as SVG why it drew no picture, `torn` what is said of the log, `lay` and `draw`
--- why a frame is refused, `draw --check` whether all frames are good, and no other job tells
--- anything
+-- the answer to an input, and what went out: a check answers its verdict, `picture` what the run
+-- came to, or as SVG why it drew no picture, `torn` what is said of the log, `lay` and `draw` why a
+-- frame is refused, `draw --check` whether all frames are good, and no other job answers anything
 abbrev pub Performs : {A : Type 0} → Job → Result (Done A) ToolFault → (input : List ℕ) → Option (List ℕ)
     → Option (List ℕ) → Type 0
 Performs {A} list_job (Ok Written) input old new = Lists {T = Done A} (Ok Written) input old new
@@ -102,7 +101,7 @@ StaysUnwritten (Play all banked) fault = StopsBeforeShowing fault
 StaysUnwritten Torn fault = StopsBeforeWriting fault
 StaysUnwritten _ fault = ComesBeforeText fault
 
--- what is taken of the input: so many bytes at most, and of a log no more than a piece after the
+-- what is taken of the input: at most this many bytes, and of a log no more than a piece after the
 -- line that decides
 abbrev pub TakesBy : {A : Type 0} → Job → Result (Done A) ToolFault → Option (List ℕ) → Option (List ℕ) → Type 0
 TakesBy list_job answer old new = TakesAtMost 8193 old new

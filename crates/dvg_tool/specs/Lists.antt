@@ -9,9 +9,9 @@ use Rattle.dvg_code.specs.declared.instr.Instr.{Instr}
 use Rattle.dvg_code.specs.Spelling.{canon}
 use Rattle.dvg_code.specs.Words.{words_of}
 use Rattle.dvg_code.specs.Cutting.{Cutting, Placed}
-use Rattle.dvg_lines.specs.Lines.{line_text, list_text}
+use Rattle.dvg_print.specs.Lines.{line_text, list_text}
 use Rattle.dvg_io.specs.Watching.{BeginsToWrite}
-use Rattle.dvg_text.specs.declared.fault.TextFault.TheVariants.{TooLong, Odd, Cut}
+use Rattle.dvg_read.specs.declared.fault.TextFault.TheVariants.{TooLong, Odd, Cut}
 use Rattle.dvg_io.specs.declared.fault.ToolFault.{ToolFault}
 use Rattle.dvg_io.specs.declared.fault.ToolFault.TheVariants.{Text, Writer}
 
@@ -52,7 +52,7 @@ ListsWords answer words old new = MatchResult answer
 abbrev pub IsListable : List ℕ → Type 0
 IsListable input = (length input ≤ 8192) × (length input % 2 ≡ 0)
 
--- what `list` answers of an input, and what went out: the text of the instructions, at `Cut` of
+-- what `list` answers to an input, and what went out: the text of the instructions, at `Cut` of
 -- those before the rest, at `Writer` a beginning of it (that nothing went out at the others is a
 -- part of `Serves`)
 abbrev pub Lists : {T : Type 0} → Result T ToolFault → (input : List ℕ) → Option (List ℕ) → Option (List ℕ) → Type 0
@@ -86,7 +86,7 @@ ListsWordsAt at answer words old new = MatchResult answer
     (λ _. (cutting : Cutting words) → (cutting.rest ≡ []) × Appends old new (text_by (address_from at) cutting.items))
     (λ fault. StopsListingAt at fault words old new)
 
--- what `list_at` answers of an input, and what went out: as `list` does, where addresses count from
+-- what `list_at` answers to an input, and what went out: as `list` does, where addresses count from
 -- this one
 abbrev pub ListsAt : {T : Type 0} → (at : ℕ) → Result T ToolFault → (input : List ℕ) → Option (List ℕ) → Option (List ℕ)
     → Type 0

@@ -6,10 +6,10 @@ use Rattle.dvg_tool.specs.declared.outcome.Done.{Done}
 use Rattle.dvg_tool.specs.declared.outcome.Done.TheVariants.{Written, Judged, Bounded, Drew, DrewSvg, Searched}
 use Rattle.dvg_tool.specs.declared.outcome.Done.TheVariants.{Refused as unlaid, CheckedFrames}
 use Rattle.dvg_dump.specs.declared.ending.Outcome.TheVariants as outcomes
-use Rattle.dvg_lines.specs.declared.log_verdict.LogFinding.{LogFinding}
-use Rattle.dvg_lines.specs.declared.log_verdict.LogFinding.TheVariants.{NotTorn}
-use Rattle.dvg_lines.specs.declared.verdict.BoundedVerdict.TheVariants as bounded
-use Rattle.dvg_lines.specs.declared.verdict.Verdict.TheVariants.{Good, Refused}
+use Rattle.dvg_print.specs.declared.log_verdict.LogFinding.{LogFinding}
+use Rattle.dvg_print.specs.declared.log_verdict.LogFinding.TheVariants.{NotTorn}
+use Rattle.dvg_print.specs.declared.verdict.BoundedVerdict.TheVariants as bounded
+use Rattle.dvg_print.specs.declared.verdict.Verdict.TheVariants.{Good, Refused}
 use Rattle.dvg_io.specs.Watching.{one_more}
 
 -- the answer stays and no failure was counted, or one was counted and the answer is `Writer`

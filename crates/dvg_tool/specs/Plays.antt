@@ -14,9 +14,9 @@ use Rattle.dvg_world.specs.Wanting.{TakesMemory}
 use Rattle.dvg_io.specs.declared.fault.ToolFault.{ToolFault}
 use Rattle.dvg_io.specs.declared.fault.ToolFault.TheVariants.{Text, Reader, Writer, Memory}
 use Rattle.dvg_io.specs.Faults.{StopsBeforeWriting}
-use Rattle.dvg_lines.specs.Shows.{shown}
-use Rattle.dvg_text.specs.TraceGives.{GivesTrace}
-use Rattle.dvg_text.specs.TraceTexts.{HasTraceFault}
+use Rattle.dvg_print.specs.Shows.{shown}
+use Rattle.dvg_read.specs.TraceGives.{GivesTrace}
+use Rattle.dvg_read.specs.TraceTexts.{HasTraceFault}
 use Rattle.dvg_io.specs.Watching.{BeginsToWrite}
 
 -- the bytes of a memory of zeros
@@ -54,7 +54,7 @@ pub record IsPlayed (text : List ℕ) (log : Log) (later : List Happening) : Typ
   pub headline : Throughout (KeepsHeadline R zeros) log
   pub in_order : events ≡ map event_of (reverse log) ++ later
 
--- this holds of what is shown of a log that was played, which ends so
+-- this holds of what is shown of a log that was played and ends in this way
 pub record ShowsUntil (all : Bool) (text : List ℕ) (Ends : List ℕ → Log → List Happening → Type 0)
     (Holds : List ℕ → Type 0) : Type 0 where
   pub log : Log
@@ -71,8 +71,8 @@ IsStopped R log later = (log ≡ []) ⊎ StopsNext R log later
 abbrev pub run_shown : {A : Type 0} → Bool → Result (Vec (OwnEntry A) A) (Stopped A) → List ℕ
 run_shown all run = shown all 0 (map shown_of (entries_of run))
 
--- a log that was played is shown so: the whole one, or that of a run that stopped (for a private
--- contract)
+-- a log that was played is shown in this way: the whole one, or that of a run that stopped (for a
+-- private contract)
 abbrev pub IsRun : {A : Type 0} → Bool → (text : List ℕ)
     → Result (Vec (OwnEntry A) A) (Stopped A) → Type 0
 IsRun all text (Ok entries) =
@@ -85,7 +85,7 @@ abbrev pub StopsBeforeShowing : ToolFault → Type 0
 StopsBeforeShowing Memory = ⊥
 StopsBeforeShowing fault = StopsBeforeWriting fault
 
--- what `play` answers of an input, and what went out: what is shown of the log, or at `Memory` and
+-- what `play` answers to an input, and what went out: what is shown of the log, or at `Memory` and
 -- `Writer` of its front (that nothing went out at the first two faults is a part of `Serves`)
 abbrev pub Plays : {T : Type 0} → Bool → Result T ToolFault → (input : List ℕ) → Option (List ℕ) → Option (List ℕ)
     → Type 0

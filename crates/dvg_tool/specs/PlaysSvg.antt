@@ -5,7 +5,7 @@ use Rattle.dvg_gen.specs.declared.stroke.Stroke.{Stroke}
 use Rattle.dvg_log.specs.declared.entry.Entry.TheVariants.{Done}
 use Rattle.dvg_log.specs.Entries.{Shown}
 use Rattle.dvg_log.specs.Log.{Log}
-use Rattle.dvg_text.specs.TraceTexts.{HasTraceFault}
+use Rattle.dvg_read.specs.TraceTexts.{HasTraceFault}
 use Rattle.dvg_io.specs.declared.fault.ToolFault.{ToolFault}
 use Rattle.dvg_io.specs.declared.fault.ToolFault.TheVariants.{Text, Writer}
 use Rattle.dvg_io.specs.Watching.{BeginsToWrite}
@@ -26,7 +26,7 @@ pictures_of log = flat_map picture_of (map entry_of (reverse log))
 abbrev pub ShowsPictures : (text : List ℕ) → List (List Stroke) → Type 0
 ShowsPictures text pictures = (log : Log) × IsPlayed text log [] × (pictures ≡ pictures_of log)
 
--- what `play_svg` answers of an input, and what went out: the pictures of the log, or at `Writer` a
+-- what `play_svg` answers to an input, and what went out: the pictures of the log, or at `Writer` a
 -- beginning of their text (that nothing went out at the other faults is a part of `Serves`)
 abbrev pub PlaysSvg : {T : Type 0} → Show → Result T ToolFault → (input : List ℕ) → Option (List ℕ) → Option (List ℕ)
     → Type 0

@@ -3,10 +3,10 @@ use Rattle.std.specs.Prelude.{◌≡◌, ◌⊎◌, ◌==◌, ℕ, List, [], ◌
 use Rattle.std.specs.Prelude.{Err}
 use Rattle.std.specs.Io.KnownBytes.{Appends}
 use Rattle.dvg_code.specs.Words.{words_of}
-use Rattle.dvg_lines.specs.Lines.{rom_lines, rom_text}
+use Rattle.dvg_print.specs.Lines.{rom_lines, rom_text}
 use Rattle.dvg_io.specs.Watching.{BeginsToWrite}
-use Rattle.dvg_text.specs.declared.fault.TextFault.{TextFault}
-use Rattle.dvg_text.specs.declared.fault.TextFault.TheVariants.{RomSize}
+use Rattle.dvg_read.specs.declared.fault.TextFault.{TextFault}
+use Rattle.dvg_read.specs.declared.fault.TextFault.TheVariants.{RomSize}
 use Rattle.dvg_io.specs.declared.fault.ToolFault.{ToolFault}
 use Rattle.dvg_io.specs.declared.fault.ToolFault.TheVariants.{Text, Writer, Memory}
 
@@ -36,7 +36,7 @@ IsRomFault bytes (Text fault) = HasRomFault bytes fault
 IsRomFault bytes Memory = HasRomSize bytes
 IsRomFault bytes _ = ⊥
 
--- what `rom_text` answers of an input, and what went out: the text, or at `Writer` a beginning of
+-- what `rom_text` answers to an input, and what went out: the text, or at `Writer` a beginning of
 -- it (that nothing went out at the other faults is a part of `Serves`)
 abbrev pub WritesRom : {T : Type 0} → Result T ToolFault → (input : List ℕ) → Option (List ℕ) → Option (List ℕ) → Type 0
 WritesRom (Ok done) input old new = HasRomSize input × Appends old new (rom_text input)

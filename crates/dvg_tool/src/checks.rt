@@ -2,15 +2,15 @@
 ghost use Rattle.std.specs.Prelude.{IfErr, IfOk};
 ghost use Rattle.dvg_io.specs.Faults.{ComesBeforeText};
 ghost use Rattle.dvg_io.specs.Serving.{AreFresh, Serves};
-ghost use Rattle.dvg_lines.specs.Verdicts.{bounded_line, verdict_line};
-ghost use Rattle.dvg_text.specs.DraftTexts.{HasDraftFault};
+ghost use Rattle.dvg_print.specs.Verdicts.{bounded_line, verdict_line};
+ghost use Rattle.dvg_read.specs.DraftTexts.{HasDraftFault};
 ghost use Rattle.dvg_tool.specs.Checks.{Checks, ChecksBound, IsJudgingFault, Judges, JudgesBound};
 
 use dvg_frame::check;
 use dvg_io::{DeviceFailed, Engine, ToolFault, Watched, serve, write_whole};
-use dvg_lines::{BoundedVerdict, Line, Verdict};
 use dvg_mem::Rom;
-use dvg_text::{MOST_TEXT_BYTES, read_draft};
+use dvg_print::{BoundedVerdict, Line, Verdict};
+use dvg_read::{MOST_TEXT_BYTES, read_draft};
 use std::alloc::Allocator;
 use std::io::{Read, Write};
 
@@ -127,7 +127,7 @@ pub fn check_text<A: Allocator, R: Read, W: Write>(
     serve(&CheckEngine, &alloc, reader, writer)
 }
 
-/// The same, but the line of a good draft tells its bound, too: `ok`, its number of words and how
+/// The same, but the line of a good draft gives its bound, too: `ok`, its number of words and how
 /// many fetches its whole run takes, which are the words that the generator fetches, word zero
 /// included.
 #[inline(never)]

@@ -13,6 +13,7 @@ use crate::outcome::Done;
 use crate::plays::{play, play_in};
 use crate::plays_svg::{play_svg, play_svg_in};
 use crate::roms::rom_text;
+use dvg_args::{Job, LayForm};
 use dvg_draw::{Drawn, check_sketch, draw_sketch};
 use dvg_io::{ToolFault, Watched};
 use dvg_lay::{Form, Laid, lay_sketch};
@@ -20,7 +21,6 @@ use dvg_logs::torn;
 use dvg_mem::{Banked, Half};
 use dvg_picture::{picture, picture_svg};
 use dvg_svg::Show;
-use dvg_words::{Job, LayForm};
 use std::alloc::Allocator;
 use std::io::{Read, Write};
 
@@ -73,7 +73,7 @@ fn form_of(form: LayForm) -> Form
     }
 }
 
-// What is told of what came of laying a sketch out.
+// What is said of a sketch that was laid out.
 fn told<A: Allocator>(laid: Laid<A>) -> Done<A>
     ensures { result ≡ told laid }
 {
@@ -100,7 +100,7 @@ fn lay_told<A: Allocator + Copy, R: Read, W: Write>(
     }
 }
 
-// What is told of what came of drawing a sketch.
+// What is said of a sketch that was drawn.
 fn told_drawn<A: Allocator>(drawn: Drawn<A>) -> Done<A>
     ensures { result ≡ told_drawn drawn }
 {
@@ -148,8 +148,8 @@ fn check_told<A: Allocator + Copy, R: Read, W: Write>(
 
 /// Does a job by its engine: `list` or `list_at`, `rom_text`, `picture` or `picture_svg`,
 /// `check_text` or `check_bound`, `play` or `play_svg`, or `play_in` or `play_svg_in` over the
-/// store `Banked`, `torn`, `draw_sketch`, `check_sketch` or `lay_sketch`; and tells what `picture`,
-/// `picture_svg`, a check, `torn` and a sketch that is refused have to tell.
+/// store `Banked`, `torn`, `draw_sketch`, `check_sketch` or `lay_sketch`; and answers what
+/// `picture`, `picture_svg`, a check, `torn` and a sketch that is refused have to say.
 pub fn perform<A: Allocator + Copy, R: Read, W: Write>(
     alloc: A,
     job: Job,
@@ -159,7 +159,7 @@ pub fn perform<A: Allocator + Copy, R: Read, W: Write>(
     requires fresh_reader { failures_of reader.old ≡ 0 }
     requires fresh_writer { failures_of writer.old ≡ 0 }
 
-    // Of a reader that tells its bytes.
+    // Where the reader's bytes are known.
     ensures performs { IfSome (R.remaining (device_of reader.old)) (λ input.
         Performs job result input (W.contents (device_of writer.old))
         (W.contents (device_of writer.new))) }

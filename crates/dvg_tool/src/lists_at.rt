@@ -9,8 +9,8 @@ ghost use Rattle.dvg_io.specs.Watching.{device_of, failures_of};
 use crate::lists::{MOST_LIST_BYTES, write_item};
 use dvg_code::{Listed, Listing};
 use dvg_io::{ToolFault, Watched, collect_words, read_up_to};
-use dvg_lines::Line;
-use dvg_text::TextFault;
+use dvg_print::Line;
+use dvg_read::TextFault;
 use std::alloc::Allocator;
 use std::io::{Read, Write};
 
@@ -50,7 +50,7 @@ fn list_words_at<W: Write>(at: u16, words: &[u16], writer: &mut Watched<W>) -> R
 }
 
 /// Lists words as `list` does, where the first one has this address and the others count on from
-/// it, modulo 4,096. Lines and the fault `Cut` tell addresses so; all else is as `list` has it.
+/// it, modulo 4,096. Lines and the fault `Cut` give these addresses; all else is as `list` has it.
 pub fn list_at<A: Allocator, R: Read, W: Write>(
     alloc: A,
     reader: &mut Watched<R>,

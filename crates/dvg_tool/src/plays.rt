@@ -6,14 +6,14 @@ ghost use Rattle.dvg_log.specs.Legal.{IsLegal};
 ghost use Rattle.dvg_log.specs.Log.{Throughout};
 ghost use Rattle.dvg_world.specs.Runs.{IsStop, log_by};
 ghost use Rattle.dvg_io.specs.Serving.{AreFresh, Serves};
-ghost use Rattle.dvg_text.specs.TraceTexts.{HasTraceFault};
+ghost use Rattle.dvg_read.specs.TraceTexts.{HasTraceFault};
 ghost use Rattle.dvg_tool.specs.Plays.{IsRun, Plays, StopsBeforeShowing, run_shown, zeros};
 
 use crate::shows::write_entries;
 use dvg_io::{DeviceFailed, Engine, ToolFault, Watched, serve};
 use dvg_log::OwnEntry;
 use dvg_mem::{Flat, Image, MEMORY_BYTES, Rom, Store};
-use dvg_text::{MOST_TEXT_BYTES, TraceText, read_trace};
+use dvg_read::{MOST_TEXT_BYTES, TraceText, read_trace};
 use dvg_world::{Stopped, run_trace};
 use std::alloc::Allocator;
 use std::io::{Read, Write};
@@ -102,12 +102,11 @@ impl<S: Store> Engine<S::Alloc> for PlayEngine<S> {
 /// - `TooLong`: the text has more than 1,048,576 bytes, of which no more than 1,048,577 are taken.
 ///   This is decided before all others.
 /// - `Syntax`, `Full`, `Many`, `Unended`: this is the first fault of the text, as `read_trace`
-///   tells it.
+///   says.
 /// - `Reader`, `Writer`: that device failed. After `Writer` a beginning of the text went out.
 /// - `Memory`: a growth was refused. At an event, which is a fetch that completes a vector with an
 ///   intensity of at least 1, the text of the events before it went out first. The contract can't
-///   tell where memory was refused, so by it nothing at all may have gone out; tests show that
-///   text.
+///   say where memory was refused, so by it nothing at all may have gone out; tests show that text.
 ///
 /// Where it stops before it writes, which is at any fault but `Writer` and `Memory`, the writer is
 /// as it was.

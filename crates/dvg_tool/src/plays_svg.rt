@@ -5,8 +5,8 @@ ghost use Rattle.dvg_log.specs.Entries.{shown_of};
 ghost use Rattle.dvg_io.specs.Faults.{ComesBeforeText};
 ghost use Rattle.dvg_io.specs.Serving.{AreFresh, Serves};
 ghost use Rattle.dvg_svg.specs.Svg.{strokes_of, svgs_text};
-ghost use Rattle.dvg_text.specs.TraceGives.{GivesTrace};
-ghost use Rattle.dvg_text.specs.TraceTexts.{HasTraceFault};
+ghost use Rattle.dvg_read.specs.TraceGives.{GivesTrace};
+ghost use Rattle.dvg_read.specs.TraceTexts.{HasTraceFault};
 ghost use Rattle.dvg_tool.specs.PlaysSvg.{PlaysSvg, ShowsPictures, picture_of};
 
 use crate::plays::run_text;
@@ -14,8 +14,8 @@ use dvg_gen::Stroke;
 use dvg_io::{DeviceFailed, Engine, ToolFault, Watched, serve};
 use dvg_log::{Entry, OwnEntry};
 use dvg_mem::{Flat, Store};
+use dvg_read::{MOST_TEXT_BYTES, TraceText, read_trace};
 use dvg_svg::{Show, write_svgs};
-use dvg_text::{MOST_TEXT_BYTES, TraceText, read_trace};
 use std::alloc::Allocator;
 use std::io::{Read, Write};
 use std::marker::PhantomData;
@@ -95,7 +95,7 @@ impl<S: Store> Engine<S::Alloc> for SvgEngine<S> {
 /// runs that finished as one SVG, in which they are shown in turn (the text is this project's own
 /// choice).
 ///
-/// - `TooLong`, `Syntax`, `Full`, `Many`, `Unended`: as `play_in` tells it.
+/// - `TooLong`, `Syntax`, `Full`, `Many`, `Unended`: as `play_in` says.
 /// - `Reader`, `Writer`: that device failed. After `Writer` a beginning of the text went out.
 /// - `Memory`: a growth was refused.
 ///

@@ -1,7 +1,7 @@
 //! The engine `rom_text`.
 ghost use Rattle.std.specs.Prelude.{◌≡◌, ◌++◌, IfErr, IfOk};
 ghost use Rattle.dvg_code.specs.Words.{words_of};
-ghost use Rattle.dvg_lines.specs.Lines.{rom_lines};
+ghost use Rattle.dvg_print.specs.Lines.{rom_lines};
 ghost use Rattle.dvg_io.specs.Faults.{ComesBeforeText};
 ghost use Rattle.dvg_io.specs.Serving.{AreFresh, Serves};
 ghost use Rattle.dvg_io.specs.Watching.{Writes};
@@ -9,19 +9,19 @@ ghost use Rattle.dvg_tool.specs.Roms.{HasRomFault, HasRomSize, IsRomFault, IsRom
 ghost use Rattle.dvg_tool.specs.Roms.{words_text};
 
 use dvg_io::{DeviceFailed, Engine, ToolFault, Watched, collect_words, serve, write_whole};
-use dvg_lines::Line;
 use dvg_mem::{FIRST_LARGE_ROM_WORD, FIRST_ROM_WORD, LARGE_ROM_BYTES, MEMORY_BYTES};
-use dvg_text::TextFault;
+use dvg_print::Line;
+use dvg_read::TextFault;
 use std::alloc::Allocator;
 use std::io::{Read, Write};
 
 /// How many words stand in a line.
 const LINE_WORDS: usize = 8;
 
-/// The line that tells the map of the larger ROM.
+/// The line that gives the map of the larger ROM.
 const LARGE_MAP: &[u8] = b"map 4096\n";
 
-// Writes a line for each eight words of a ROM, from the first one's address on.
+// Writes a line for every eight words of a ROM, from the first one's address on.
 fn write_rows<W: Write>(
     first: u16,
     words: &[u16],

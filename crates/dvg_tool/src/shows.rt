@@ -1,12 +1,12 @@
 //! What is written of a log's entries.
 ghost use Rattle.std.specs.Prelude.{map};
 ghost use Rattle.dvg_log.specs.Entries.{shown_of};
-ghost use Rattle.dvg_lines.specs.Shows.{head_line, shown, shown_entry, strokes_of};
+ghost use Rattle.dvg_print.specs.Shows.{head_line, shown, shown_entry, strokes_of};
 ghost use Rattle.dvg_io.specs.Watching.{Writes};
 
 use dvg_io::{DeviceFailed, Watched, write_strokes, write_whole};
-use dvg_lines::Line;
 use dvg_log::{Entry, OwnEntry};
+use dvg_print::Line;
 use std::alloc::Allocator;
 use std::io::Write;
 

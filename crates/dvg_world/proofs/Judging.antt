@@ -86,14 +86,14 @@ none_torn drawing not log event (Acted (Wrote a byte)) draws torn =
     none_within drawing not (open_run ((event ⟼ Acted (Wrote a byte)) ∷ log)) draws (within_of ((event ⟼ Acted (Wrote a byte)) ∷ log) torn.1)
 none_torn drawing not log event entry draws torn = absurd torn
 
--- the open run behind a line
+-- the open run after a line
 open_behind : (log : Log) (event : Happening) (entry : Shown) → behind entry (left_by event (open_run log)) ≡ open_run ((event ⟼ entry) ∷ log)
 open_behind log event Started = refl
 open_behind log ResetGen entry = refl
 open_behind log (ResetAll bytes) entry = refl
 open_behind log event entry = refl
 
--- what is drawn behind a line
+-- what is drawn after a line
 pub drawn_behind : (old left new : Drawing) (log : Log) (event : Happening) (entry : Shown) → FitsRun old (open_run log) → ((run : Run) → FitsRun old run → FitsRun left (left_by event run))
     → ((run : Run) → FitsRun left run → FitsRun new (behind entry run)) → FitsRun new (open_run ((event ⟼ entry) ∷ log))
 drawn_behind old left new log event entry draws leaves goes =
@@ -118,7 +118,7 @@ log_of-append events entries more =
     ∙ (ap reverse (map-append line_of (zip events entries) (zip (drop (length entries) events) more))
     ∙ reverse-append (map line_of (zip events entries)) (map line_of (zip (drop (length entries) events) more)))
 
--- what holds behind as many lines: what is drawn, and that none is torn
+-- what holds after this many lines: what is drawn, and that none is torn
 pub record IsJudged {A : Type 0} (events : List Happening) (entries : List (OwnEntry A)) (n : ℕ) (judge : Judge) : Type 0 where
   pub stands : StandsAfter judge (log_of events (take n entries))
   pub whole : Throughout IsUntorn (log_of events (take n entries))
@@ -135,7 +135,7 @@ none_judged {A} events entries judge stands = record {
   count = ap length (log_of-none A events);
 }
 
--- one line more
+-- one more line
 module _ {A : Type 0} (events : List (OwnEvent A)) (entries : List (OwnEntry A)) (n : ℕ) (event : OwnEvent A) (entry : OwnEntry A)
     (inside : n < min (length events) (length entries)) (is_event : event ≡ get_or events n event) (is_entry : entry ≡ get_or entries n entry) where
   abbrev happenings : List Happening
@@ -186,7 +186,7 @@ module _ {A : Type 0} (events : List (OwnEvent A)) (entries : List (OwnEntry A))
         untorn = judged.whole;
       }
 
--- behind the last line, none is torn
+-- after the last line, none is torn
 no_zip : {A B : Type 0} (xs : List A) → zip {X = B} xs [] ≡ []
 no_zip [] = refl
 no_zip (x ∷ xs) = refl

@@ -12,14 +12,14 @@ use Rattle.dvg_world.specs.Runs.{log_of, IsStop}
 use Rattle.dvg_world.specs.Standing.{State, WorldAfter}
 use Rattle.dvg_world.specs.own.Stepping.{AddsEvent, WantsMemory}
 
--- one item more on the right takes the next one on the left
+-- one more item on the right takes the next one on the left
 zip-more : {A B : Type 0} (xs : List A) (ys : List B) (x : A) (y : B) → length ys < length xs → x ≡ get_or xs (length ys) x → zip xs (ys ++ y ∷ []) ≡ zip xs ys ++ (x, y) ∷ []
 zip-more [] ys x y inside item = absurd (not-suc-le-zero inside)
 zip-more (a ∷ []) [] x y inside item = ap (λ z. (z, y) ∷ []) (sym item)
 zip-more (a ∷ b ∷ xs) [] x y inside item = ap (λ z. (z, y) ∷ []) (sym item)
 zip-more (a ∷ xs) (b ∷ ys) x y inside item = ap (λ pairs. (a, b) ∷ pairs) (zip-more xs ys x y (le_of_suc-le-suc inside) item)
 
--- one entry more is one line more
+-- one more entry is one more line
 pub log_of-more : {A : Type 0} (events : List Happening) (entries : List (OwnEntry A)) (event : Happening) (entry : OwnEntry A) → length entries < length events → event ≡ get_or events (length entries) event
     → (event ⟼ shown_of entry) ∷ log_of events entries ≡ log_of events (entries ++ entry ∷ [])
 log_of-more events entries event entry inside item =

@@ -45,7 +45,7 @@ RedrawAnswers stage later Asked = OfLives stage (λ peeked life. (has_flip life 
     × StandsAfter later peeked (script.Asked ∷ life))
 RedrawAnswers stage later entry = ⊥
 
--- a tick: the action is the next one of the script, tells the HALT flag that was handed in, and writes in the RAM alone
+-- a tick: the action is the next one of the script, shows the HALT flag that was handed in, and writes in the RAM alone
 abbrev pub TickAnswers : Bool → ℕ → Stage → Stage → Action → Type 0
 TickAnswers halted byte1 stage later action = Tells action halted × IsInRam action
     × OfLives stage (λ peeked life. IsLife (Did action ∷ life)

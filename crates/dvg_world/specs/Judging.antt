@@ -20,6 +20,6 @@ FitsRun Nothing run = (run ≢ Some []) × ((half : Half) → ¬ IsRunIn run hal
 FitsRun Begun run = run ≡ Some []
 FitsRun (Within half) run = IsRunIn run half
 
--- the judge was told this log: it knows what the open run draws
+-- the judge was given this log: it knows what the open run draws
 abbrev pub StandsAfter : Judge → Log → Type 0
 StandsAfter judge log = FitsRun judge.drawing (open_run log)

@@ -22,7 +22,7 @@ pub record State : Type 0 where
   pub sent : Bool
 
 -- a world has this ROM and this RAM; its generator stands after the words that it was told and the low byte that waits,
--- and its driver after its life, which tells byte 001 of the RAM; and it knows whether a strobe was sent
+-- and its driver after its life, which gives byte 001 of the RAM; and it knows whether a strobe was sent
 pub record StandsAt (world : State) (R bytes : List ℕ) (told : List Told) (low : Option ℕ) (items : List Item)
     (strobe : Bool) : Type 0 where
   pub rom : world.rom ≡ R

@@ -10,7 +10,7 @@ use std::alloc::{AllocError, Allocator, Global};
 use std::marker::Model;
 
 /// A driver with the ROM over which its drafts are checked, and what they are checked by. It knows
-/// no RAM: what it does is told by its answers.
+/// no RAM: its answers say what it does.
 #[derive(Drop)]
 pub struct Desk<A: Allocator = Global> {
     rom: Rom<A>,
@@ -41,8 +41,8 @@ impl<A: Allocator> Desk<A> {
     }
 
     /// The driver is just reset, over a ROM of these bytes. Memory is taken, and may be refused,
-    /// only for a ROM of another size. All is as it was after an error, which is `Size` exactly
-    /// where a ROM has another number of bytes.
+    /// only for a ROM of another size. After an error all is as it was. The error is `Size` exactly
+    /// where no ROM has this number of bytes.
     pub fn begin_anew(&mut self, alloc: A, rom: &[u8]) -> Result<(), MemFault>
         ensures fresh { OnOk result (IsFresh rom.now self.new) }
         ensures size { IsErrOf result MemFault.Size

@@ -1,10 +1,10 @@
 //! An example: a trace is played over banked memory, and its log is judged. A test program would
-//! judge the log of its own driver so.
+//! judge the log of its own driver in the same way.
 #![tactic(auto)]
 
 use dvg_frame::Draft;
 use dvg_mem::{Banked, Image, MEMORY_BYTES, Rom};
-use dvg_text::read_trace;
+use dvg_read::read_trace;
 use dvg_world::{Event, Trace, TraceEvent, first_torn, run_trace};
 use std::io;
 use std::process::ExitCode;
@@ -37,7 +37,7 @@ fn events(rt: &HostRuntime, trace: &Trace) -> Option<Vec<Event>> {
 }
 
 /// Plays the trace of a text, and finds the first entry of its log that tears a picture. None where
-/// the text is no trace, or memory is refused.
+/// the text isn't a trace, or memory is refused.
 fn judge(rt: &HostRuntime, text: &[u8]) -> Option<Option<usize>> {
     let told = read_trace(rt.alloc(), text).ok()?;
     let rom = Rom::new(rt.alloc(), told.rom.as_slice()).ok()?;

@@ -1,4 +1,4 @@
-//! The plain Rust twin of the proved program `dvg_bench`, with the same words and lines: a
+//! The plain Rust twin of the proved program `bench_speed`, with the same words and lines: a
 //! generator that is handed one byte a call with a looping display list, and the check of a draft,
 //! written for speed and clarity with no proof.
 

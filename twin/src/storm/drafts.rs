@@ -27,7 +27,7 @@ impl Random {
         self.below(2 * most as usize + 1) as i64 - most
     }
 
-    /// So many random bits.
+    /// This many random bits.
     fn bits(&mut self, count: u32) -> u16 {
         (self.next() & ((1 << count) - 1)) as u16
     }

@@ -84,7 +84,7 @@ fn number(word: &str, least: i64, most: i64) -> Option<i64> {
     ((least..=most).contains(&number) && number.to_string() == word).then_some(number)
 }
 
-/// A number of so many hexadecimal digits, in small letters.
+/// A number of this many hexadecimal digits, in small letters.
 fn digits(word: &str, count: usize) -> Option<usize> {
     let is_digit = |digit: char| "0123456789abcdef".contains(digit);
     (word.len() == count && word.chars().all(is_digit))

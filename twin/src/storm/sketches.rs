@@ -250,7 +250,7 @@ impl Given {
         self.free = self.free.max(start + size);
     }
 
-    /// Whether so many words from there on aren't given; those of lines may be laid on.
+    /// Whether this many words from there on aren't given; those of lines may be laid on.
     fn has_room(&self, start: usize, size: usize, over_lines: bool) -> bool {
         let end = start + size;
         end <= ROM_END
@@ -258,7 +258,7 @@ impl Given {
             && (over_lines || !self.by_lines[start..end].contains(&true))
     }
 
-    /// Where a section of so many words may stand: None for the first free word.
+    /// Where a section of this many words may stand: None for the first free word.
     fn place(&self, size: usize, random: &mut Random) -> Option<usize> {
         let any = self.first + random.below(ROM_END - self.first);
         let wanted = match random.below(8) {

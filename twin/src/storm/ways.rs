@@ -261,7 +261,7 @@ fn judge_rom(sketch: &Sketch, denoted: &Denoted, wrong: &mut Wrong) {
     expect(wrong, "names of the ROM", &equates, &names.into_bytes());
 }
 
-/// Events of one kind, so many.
+/// Events of one kind, this many.
 fn events(name: &str, mut count: usize) -> String {
     let mut lines = String::new();
     while count > 0 {

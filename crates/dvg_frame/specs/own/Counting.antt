@@ -4,7 +4,7 @@ use Rattle.dvg_frame.specs.declared.op.OpKind.{OpKind}
 use Rattle.dvg_frame.specs.Layout.{op_words}
 use Rattle.dvg_frame.specs.Ops.{IsDraft}
 
--- how many words stand before each operation, where so many stand before the first, and then how many there are in all
+-- how many words stand before each operation, if this many stand before the first, and then how many there are in all
 abbrev pub counts_from : ℕ → List OpKind → List ℕ
 counts_from n [] = n ∷ []
 counts_from n (op ∷ ops) = n ∷ counts_from (n + op_words op) ops

@@ -29,7 +29,7 @@ DrawsLabs (Jump j) = ⊥
 DrawsLabs Return = ⊥
 DrawsLabs Stop = ⊥
 
--- the operation names one that is none of so many
+-- the operation names one that isn't among this many
 abbrev pub NamesNone : ℕ → OpKind → Type 0
 NamesNone count (Draw instr) = ⊥
 NamesNone count (CallRom a) = ⊥

@@ -5,7 +5,7 @@ use Rattle.dvg_frame.specs.declared.checking.pair.TheConstants.{PAIRS}
 use Rattle.dvg_frame.specs.declared.checking.pair.Pair.{Pair}
 use Rattle.dvg_frame.specs.own.Pairs.{IsPair, index}
 
--- the list grew at its end, by nothing but what New tells, and now holds all that New tells
+-- the list grew at its end, only by pairs of which New holds, and now has all of those
 pub record Grows (old new : List Pair) (New : Pair → Type 0) : Type 0 where
   pub more : List Pair
   pub kept : new ≡ old ++ more

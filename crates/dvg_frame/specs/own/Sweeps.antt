@@ -59,7 +59,7 @@ pub record IsDone (F : List OpKind) (R : List ℕ) (items : List Pair) (best : O
   pub fine : FinePair F R pair → (next : Pair) → LeadsTo F R pair next → Contains items next
   pub bad : (fault : FrameFault) → BadPair F R pair fault → IsUpTo best pair
 
--- a sweep that looked at so many of the pairs in its list
+-- a sweep that looked at this many of the pairs in its list
 pub record Sweeps (F : List OpKind) (R : List ℕ) (items : List Pair) (best : Option Found) (done : ℕ) : Type 0 where
   pub count : done ≤ length items
   pub begins : Contains items first_pair

@@ -55,7 +55,7 @@ HasNone table = (p : Place) → IsPlace p → known_at table p ≡ None
 abbrev pub KeepsKnown : List (Option Drawn) → List (Option Drawn) → Type 0
 KeepsKnown old new = (p : Place) (drawn : Drawn) → IsPlace p → known_at old p ≡ Some drawn → known_at new p ≡ Some drawn
 
--- what a note tells in this round
+-- what a note says in this round
 abbrev pub noted : ℕ → Note → Option Drawn
 noted round note = if note.round == round then Some
     (record { words = note.words; end = note.end; returns = note.returns; calls = note.calls }) else None
@@ -90,7 +90,7 @@ pub record GoesTo (table : List (Option Drawn)) (q : Place) (e : ℕ) : Type 0 w
   pub known : known_at table q ≡ Some drawn
   pub fits : FitsAt drawn e
 
--- this is so of a place: at a depth that it fits it has no fault and leads to such places, and at a depth at which it
+-- this holds of a place: at a depth that it fits it has no fault and leads to such places, and at a depth at which it
 -- is reached it fits where no reached pair has a fault
 pub record IsKnown (F : List OpKind) (R : List ℕ) (table : List (Option Drawn)) (p : Place)
     (drawn : Drawn) : Type 0 where
@@ -154,14 +154,14 @@ IsChain F R table d start (pair ∷ pairs) =
     × (((next : Place) × StepsOn F R pair.place next × IsChain F R table d next pairs)
     ⊎ (((q : Place) → ¬ StepsOn F R pair.place q) × (pairs ≡ [])))
 
--- a list has such a chain behind what was there before
+-- a list has such a chain after what was there before
 pub record HasChain (F : List OpKind) (R : List ℕ) (table : List (Option Drawn)) (d : ℕ) (start : Place)
     (before all : List Pair) : Type 0 where
   pub pairs : List Pair
   pub is : all ≡ before ++ pairs
   pub chain : IsChain F R table d start pairs
 
--- the same is drawn, with so many words more
+-- the same is drawn, with this many more words
 pub record IsLonger (rest : Drawn) (more : ℕ) (new : Drawn) : Type 0 where
   pub sum : rest.words + more < 2 ^ 64 → new.words ≡ rest.words + more
   pub end : new.end ≡ rest.end

@@ -25,7 +25,7 @@ way (Calls to) after = Call to after
 way Returns after = Return
 way Halts after = Halt
 
--- something stands at this place that leads on so
+-- something stands at this place that leads on in this way
 pub record StandsSo (F : List OpKind) (R : List ℕ) (p : Place) (seen : Way) : Type 0 where
   pub act : Act Place
   pub after : Place
@@ -79,7 +79,7 @@ IsReturn (Call to after) = ⊥
 IsReturn Return = Unit {0}
 IsReturn Halt = ⊥
 
--- the fault holds at a pair among so many operations, where this is the way on
+-- the fault holds at a pair among this many operations, where this is the way on
 abbrev pub HasFaultAt : List ℕ → ℕ → Pair → Way → FrameFault → Type 0
 HasFaultAt R count pair seen Empty = ⊥
 HasFaultAt R count pair seen NoLabs = ⊥

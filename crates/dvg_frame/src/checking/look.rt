@@ -13,7 +13,7 @@ use crate::place::Place;
 use dvg_mem::Rom;
 use std::alloc::Allocator;
 
-// The operation at a place, if it is the last one of so many.
+// The operation at a place, if it is the last one of this many.
 fn last_op(count: usize, place: Place) -> Option<u16>
     ensures { MatchOption result ((i : ℕ) → i + 1 ≡ count → place ≢ Place.InFrame i)
         (λ i. (place ≡ Place.InFrame i) × (i + 1 ≡ count)) }
@@ -30,7 +30,7 @@ fn last_op(count: usize, place: Place) -> Option<u16>
     }
 }
 
-// The fault at a pair among so many operations, where this is the way on: that of least number.
+// The fault of least number at a pair among this many operations, where this is the way on.
 #[inline(always)]
 fn fault_at<A: Allocator>(rom: &Rom<A>, count: usize, pair: Pair, seen: Way) -> Option<FrameFault>
     ensures { MatchOption result ((fault : FrameFault) → ¬ HasFaultAt rom.now count pair seen fault)

@@ -34,19 +34,10 @@ pub(crate) struct Pair {
 }
 
 /// The pair at which each run begins.
-impl Default for Pair {
-    ghost use Rattle.std.specs.Prelude.{◌≡◌};
-    ghost use Rattle.dvg_frame.specs.own.Pairs.{first_pair};
-
-    ghost is_default = { λ pair. pair ≡ first_pair };
-
-    fn default() -> Pair {
-        Pair {
-            place: Place::InFrame(0),
-            depth: 0,
-        }
-    }
-}
+pub(crate) const FIRST: Pair = Pair {
+    place: Place::InFrame(0),
+    depth: 0,
+};
 
 // The number of a pair, counted in the order in which faults are picked.
 pub(crate) fn index_of(pair: Pair) -> usize

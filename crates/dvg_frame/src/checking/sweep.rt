@@ -9,7 +9,7 @@ ghost use Rattle.dvg_frame.specs.own.Sweeps.{Follows, StaysIn};
 ghost use Rattle.dvg_frame.specs.own.Tables.{AllFine};
 
 use crate::checking::look::look;
-use crate::checking::pair::{DEEPEST, Pair, index_of};
+use crate::checking::pair::{DEEPEST, FIRST, Pair, index_of};
 use crate::checking::way::Way;
 use crate::checking::worklist::Worklist;
 use crate::draft::Draft;
@@ -81,7 +81,7 @@ pub(crate) fn sweep<A: Allocator>(list: &mut Worklist, draft: &Draft, rom: &Rom<
         (AllFine draft.now rom.now)
         (λ found. Least draft.now rom.now found.fault) }
 {
-    list.add(Pair::default());
+    list.add(FIRST);
     let mut best = None;
     let mut done = 0;
     while done < list.len() {

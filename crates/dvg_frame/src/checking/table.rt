@@ -21,8 +21,8 @@ pub(crate) enum Ending {
 /// What is drawn from a place.
 #[derive(Clone, Copy)]
 pub(crate) struct Drawn {
-    /// How many words are fetched. It stops at the greatest number, to which no draft without a
-    /// fault comes.
+    /// How many words are fetched. The count stops at the greatest number, which no draft without a
+    /// fault reaches.
     pub(crate) words: u64,
     /// How it ends.
     pub(crate) end: Ending,
@@ -32,8 +32,8 @@ pub(crate) struct Drawn {
     pub(crate) calls: u8,
 }
 
-/// What was put down of a place, and in which round. Before the first round each place has a note
-/// of round 0.
+/// What was noted of a place, and in which round. Before the first round each place has a note of
+/// round 0.
 #[derive(Clone, Copy)]
 pub(crate) struct Note {
     words: u64,
@@ -43,7 +43,7 @@ pub(crate) struct Note {
     calls: u8,
 }
 
-/// The note of a place of which nothing was put down.
+/// The note of a place of which nothing was noted.
 const BLANK: Note = Note {
     words: 0,
     round: 0,
@@ -52,8 +52,8 @@ const BLANK: Note = Note {
     calls: 0,
 };
 
-/// For each place what is known of it: its note, where that is of the newest round. So to forget
-/// all is to begin a round.
+/// What is known of each place: its note, where that is of the newest round. To forget everything,
+/// a new round begins.
 #[derive(Drop)]
 pub(crate) struct Table {
     notes: [Note; PLACES],
@@ -75,7 +75,7 @@ impl Table {
         ensures { HasNone result }
     {
         Table {
-            notes: blanks(),
+            notes: [BLANK; PLACES],
             round: 1,
         }
     }
@@ -98,7 +98,7 @@ impl Table {
         }
     }
 
-    // Puts down what is drawn from a place.
+    // Notes what is drawn from a place.
     pub(crate) fn put(&mut self, place: Place, drawn: Drawn)
         requires place { IsPlace place }
         ensures table { self.new ≡ set self.old (place_index place) (Some drawn) }
@@ -113,7 +113,7 @@ impl Table {
         };
     }
 
-    // Forgets what is known. No note is gone over but where the rounds are at their greatest
+    // Forgets what is known. The notes are gone over only where the rounds are at their greatest
     // number.
     pub(crate) fn clear(&mut self)
         ensures { HasNone self.new }
@@ -124,13 +124,6 @@ impl Table {
         }
         self.round += 1;
     }
-}
-
-// The note of each place before the first round.
-fn blanks() -> [Note; PLACES]
-    ensures { AreNotes 0 result }
-{
-    [BLANK; PLACES]
 }
 
 // The number of a place, counted in the order of the places.

@@ -16,7 +16,7 @@ use std::alloc::Allocator;
 /// How what stands at a place leads on.
 #[derive(Clone, Copy)]
 pub(crate) enum Way {
-    /// Over so many words to the place after it.
+    /// Over this many words to the place after it.
     Move(Place, u64),
     /// To a target.
     Jump(Place),

@@ -30,7 +30,7 @@ impl Worklist {
         ensures { result ≡ [] }
     {
         Worklist {
-            marks: no_marks(),
+            marks: [false; PAIRS],
             pairs: PairList::new(),
         }
     }
@@ -74,11 +74,4 @@ impl Worklist {
             self.pairs.push(pair);
         }
     }
-}
-
-// The marks of no pair.
-fn no_marks() -> [bool; PAIRS]
-    ensures { AreMarked result [] }
-{
-    [false; PAIRS]
 }

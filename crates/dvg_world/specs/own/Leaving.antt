@@ -11,7 +11,7 @@ left_by ResetGen run = None
 left_by (ResetAll bytes) run = None
 left_by event run = run
 
--- the run behind an entry
+-- the run after an entry
 abbrev pub behind : Shown → Option (List (ℕ × ℕ)) → Option (List (ℕ × ℕ))
 behind Started run = Some []
 behind (Fetched address word) run = option_map (λ fetches. (address, word) ∷ fetches) run

@@ -17,7 +17,7 @@ impl Code {
         }
     }
 
-    /// The instruction, of which the caller knows that it is in range.
+    /// An instruction that the caller knows to be in range.
     pub fn within(instr: Instr) -> Code {
         Code { instr }
     }
@@ -25,6 +25,14 @@ impl Code {
     /// The instruction, which is in range.
     pub fn instr(&self) -> Instr {
         self.instr
+    }
+
+    /// How many words it has: a VCTR and a LABS have two, all others one.
+    pub fn word_count(&self) -> u16 {
+        match self.instr {
+            Instr::Vctr { .. } | Instr::Labs { .. } => 2,
+            Instr::Halt | Instr::Jsrl(_) | Instr::Rtsl | Instr::Jmpl(_) | Instr::Svec { .. } => 1,
+        }
     }
 }
 
@@ -41,7 +49,7 @@ fn is_in_range(instr: Instr) -> bool {
     }
 }
 
-// Whether a vector's moves are at most so large, and its intensity has four bits.
+// Whether no move of a vector is larger than `most`, and its intensity has four bits.
 fn is_move(most: u16, dx: i16, dy: i16, z: u8) -> bool {
     dx.unsigned_abs() <= most && dy.unsigned_abs() <= most && z <= 15
 }

@@ -14,12 +14,12 @@ pub enum CodeFault {
     Cut,
 }
 
-// So many bits of a word, from this one up.
+// This many bits of a word, from this one up.
 fn bits(word: u16, from: u32, count: u32) -> u16 {
     (word >> from) & ((1 << count) - 1)
 }
 
-// A number by its sign bit and its magnitude.
+// The number with this sign bit and this magnitude.
 fn signed(sign: u16, magnitude: u16) -> i16 {
     if sign == 0 {
         magnitude as i16
@@ -28,7 +28,7 @@ fn signed(sign: u16, magnitude: u16) -> i16 {
     }
 }
 
-// What two words spell, of which the first has an opcode of 0 to 9.
+// What two words spell, where the first has an opcode of 0 to 9.
 fn read_vctr(first: u16, second: u16) -> Code {
     let dy = signed(bits(first, 10, 1), bits(first, 0, 10));
     let dx = signed(bits(second, 10, 1), bits(second, 0, 10));
@@ -40,7 +40,7 @@ fn read_vctr(first: u16, second: u16) -> Code {
     })
 }
 
-// What two words spell, of which the first has the opcode A.
+// What two words spell, where the first has the opcode A.
 fn read_labs(first: u16, second: u16) -> Code {
     Code::within(Instr::Labs {
         x: bits(second, 0, 12),
@@ -49,7 +49,7 @@ fn read_labs(first: u16, second: u16) -> Code {
     })
 }
 
-// What two words spell, of which the first has an opcode of 0 to A.
+// What two words spell, where the first has an opcode of 0 to A.
 fn read_two(first: u16, second: u16) -> Code {
     if first < 0xA000 {
         read_vctr(first, second)
@@ -58,7 +58,7 @@ fn read_two(first: u16, second: u16) -> Code {
     }
 }
 
-// What a word of the opcode F spells.
+// What a word with the opcode F spells.
 fn read_short(word: u16) -> Code {
     let dy = signed(bits(word, 10, 1), bits(word, 8, 2));
     let dx = signed(bits(word, 2, 1), bits(word, 0, 2));
@@ -71,7 +71,7 @@ fn read_short(word: u16) -> Code {
     })
 }
 
-// What a word of an opcode of B to F spells.
+// What a word with an opcode of B to F spells.
 fn read_one(word: u16) -> Code {
     match bits(word, 12, 4) {
         0xB => Code::within(Instr::Halt),

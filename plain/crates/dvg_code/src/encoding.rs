@@ -7,7 +7,7 @@ use arrayvec::ArrayVec;
 /// The words of one instruction.
 pub type Words = ArrayVec<u16, 2>;
 
-// The sign bit that is written of a number.
+// The sign bit that is written for a number.
 fn sign_of(n: i16) -> u16 {
     if n < 0 { 1 } else { 0 }
 }
@@ -59,7 +59,7 @@ pub fn encode(code: &Code) -> Words {
     }
 }
 
-/// Whether the words are what `encode` writes of some instruction.
+/// Whether the words are what `encode` writes for some instruction.
 pub fn is_canonical(words: &[u16]) -> bool {
     match decode(words) {
         Ok(read) => encode(&read.0).as_slice() == words,

@@ -11,7 +11,7 @@ pub enum Listed {
     Cut(usize),
 }
 
-/// An iterator over the instructions of borrowed words, from place 0 on. Where a word is left whose
+/// An iterator over the instructions of borrowed words, from place 0 on. If a word is left whose
 /// second word is missing, its `Listed::Cut` comes last.
 pub struct Listing<'a> {
     words: &'a [u16],

@@ -57,8 +57,7 @@ impl Device {
     /// One request, as a number of 64 bits, and its answer. `Request` says which requests there
     /// are, and `Reply` which answers.
     pub fn turn(&mut self, request: u64) -> u64 {
-        // Those that come most often go their way at once, so that what they bring stays in
-        // registers.
+        // The most frequent ones are handled at once, so that what they bring stays in registers.
         match request % 0x100 {
             2 => self.ask(Request::of(request)).number(),
             4 => self.ask(Request::of(request)).number(),
@@ -103,7 +102,7 @@ impl Device {
         Reply::Came(Entry::Cleared)
     }
 
-    // Stages a byte so often.
+    // Stages a byte this many times.
     fn stage(&mut self, byte: u8, count: u16) -> Reply {
         let length = self.staged.len() + usize::from(count);
         if MOST_STAGED < length {

@@ -7,8 +7,8 @@ use dvg_gen::Stroke;
 use dvg_log::Entry;
 
 /// What a device answers. As a number, its lowest byte is the kind, which stands first here, an
-/// address stands in bits 8 to 23, and a value from bit 24 on; but the answers to questions for
-/// strokes are what was asked for, and nothing else.
+/// address stands in bits 8 to 23, and a value from bit 24 on; but an answer to a question about
+/// strokes is what was asked for, and nothing else.
 #[derive(Clone, Copy, Debug, PartialEq, Eq)]
 pub enum Reply {
     /// 0 to 17: what came of it, as a log shows it; the strokes of a run that came to a HALT can be
@@ -40,18 +40,18 @@ pub enum Reply {
     /// 20: the draft has 511 operations, or more than 6,144 bytes would be staged. Nothing has
     /// changed.
     Full,
-    /// 21: so many bytes are staged.
+    /// 21: this many bytes are staged.
     Staged(u16),
     /// 22: it is open.
     Opened,
-    /// 23: other than as many bytes are staged as it takes, and nothing has changed.
+    /// 23: the number of staged bytes isn't one that it takes, and nothing has changed.
     WrongSize,
     /// 24: nothing is open, or not any more.
     Closed,
     /// 25: a generator wants a byte of the word at this address, the high one (1) or the low one
     /// (0).
     Wants(u16, bool),
-    /// So many strokes.
+    /// This many strokes.
     Count(u64),
     /// A place, in 1/512 of a screen unit, below 2,097,152 each: x in bits 0 to 31, and y in bits
     /// 32 to 63.

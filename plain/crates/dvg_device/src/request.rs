@@ -3,7 +3,7 @@ use crate::operation::Operation;
 
 /// What a device can be asked for. As a number, its lowest byte is the code, which stands first
 /// here, and what it brings stands above: a flag in bit 8, a byte in bits 16 to 23, a count in bits
-/// 24 to 39, and the number of a stroke from bit 8 on. Bits that say nothing may be any.
+/// 24 to 39, and the number of a stroke from bit 8 on. Bits that mean nothing may have any value.
 #[derive(Clone, Copy, Debug, PartialEq, Eq)]
 pub enum Request {
     /// 0: the driver is handed the draft.
@@ -32,12 +32,12 @@ pub enum Request {
     /// 7: a reset of the whole system, which takes no memory. The RAM holds the 2,048 bytes that
     /// were staged.
     ResetAll,
-    /// 8: one operation more for the draft. The kind stands in bits 8 to 15, the scale in 16 to 23,
+    /// 8: one more operation for the draft. The kind stands in bits 8 to 15, the scale in 16 to 23,
     /// the intensity in 24 to 31, x in 32 to 47, and y in 48 to 63.
     Push(Operation),
     /// 9: the draft has no operation any more.
     ClearDraft,
-    /// 10: a byte is staged so often.
+    /// 10: a byte is staged as often as the count says.
     Stage {
         /// The byte.
         byte: u8,

@@ -6,10 +6,10 @@ use dvg_code::OutOfMemory;
 use dvg_frame::{Checker, Draft};
 use dvg_io::{DeviceFailed, Engine, ToolFault, Watched, serve, write_whole};
 use dvg_lay::tool_fault;
-use dvg_lines::{BoundedVerdict, Line};
 use dvg_mem::Rom;
 use dvg_named::{NamedFrame, Sketch, read_sketch};
-use dvg_text::MOST_TEXT_BYTES;
+use dvg_print::{BoundedVerdict, Line};
+use dvg_read::MOST_TEXT_BYTES;
 use std::alloc::{AllocError, Allocator};
 use std::io::{Read, Write};
 

@@ -1,7 +1,7 @@
 //! What the check says of frames.
 use std::prelude::*;
 
-use dvg_lines::BoundedVerdict;
+use dvg_print::BoundedVerdict;
 use std::alloc::{Allocator, Global};
 
 /// What the check says of the frames of a sketch.

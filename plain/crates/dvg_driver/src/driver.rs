@@ -49,12 +49,12 @@ impl Driver {
 
     /// Forgets everything, also a frame that is being written.
     pub fn reset(&mut self) {
-        // The half and the cursor count no more: the peek and the next frame set them.
+        // The half and the cursor no longer count: the peek and the next frame set them.
         self.phase = Phase::Start;
         self.flipped = false;
     }
 
-    /// Whether it is idle, so that it would take a frame.
+    /// Whether it is idle, and so would take a frame.
     pub fn is_idle(&self) -> bool {
         match self.phase {
             Phase::Resting => true,
@@ -106,8 +106,8 @@ impl Driver {
     }
 
     /// Does the next action of the script. `halted` is the HALT flag, and `byte1` is byte 001 of
-    /// the RAM; what isn't read has no effect. A `Wrote` is for the caller to do, and so is a
-    /// `Sent`.
+    /// the RAM; what isn't read has no effect. The caller does the write of a `Wrote`, and sends
+    /// the strobe of a `Sent`.
     pub fn tick(&mut self, halted: bool, byte1: u8) -> Action {
         self.act(halted, byte1)
     }

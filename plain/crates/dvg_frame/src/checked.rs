@@ -4,9 +4,9 @@ use crate::frame::Frame;
 
 /// A draft that was checked, borrowed: nothing of it is copied before `to_frame`.
 pub struct Checked<'a> {
-    draft: &'a Draft,
-    words: u16,
-    bound: u64,
+    pub(crate) draft: &'a Draft,
+    pub(crate) words: u16,
+    pub(crate) bound: u64,
 }
 
 impl<'a> Checked<'a> {
@@ -24,18 +24,13 @@ impl<'a> Checked<'a> {
         self.words
     }
 
-    /// How many words the whole run of its frame fetches, as `Frame::bound` tells.
+    /// How many words the whole run of its frame fetches, as `Frame::bound` says.
     pub fn bound(&self) -> u64 {
         self.bound
     }
 
     /// A frame of the draft, which is copied.
     pub fn to_frame(&self) -> Frame {
-        Frame::of(self.draft, self.words, self.bound)
-    }
-
-    // Makes a frame that is there the one of this draft, in the memory that it has.
-    pub(crate) fn copy_to(&self, frame: &mut Frame) {
-        frame.copy_from(self.draft, self.words, self.bound);
+        Frame::of(self)
     }
 }

@@ -50,7 +50,7 @@ impl Cursor {
     /// copied into the memory that the cursor has: the time is linear in its operations, and in
     /// those of the frame that the cursor kept.
     pub fn restart(&mut self, checked: &Checked, half: Half) {
-        checked.copy_to(&mut self.frame);
+        self.frame.copy_from(checked);
         self.words_before = self.frame.words_before_each();
         self.half = half;
         self.words = Words::new();

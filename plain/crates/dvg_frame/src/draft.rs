@@ -1,7 +1,6 @@
 //! Drafts.
 use crate::op::{Op, OpKind};
 use arrayvec::ArrayVec;
-use dvg_code::{Code, Instr};
 use thiserror::Error;
 
 /// The most operations that a draft holds. One word each is as much as a half of the RAM has.
@@ -73,13 +72,6 @@ impl Draft {
         self.ops.as_slice()
     }
 
-    // The same operations again.
-    pub(crate) fn copy(&self) -> Draft {
-        let mut copy = Draft::new();
-        copy.copy_from(self);
-        copy
-    }
-
     // Takes the operations of another draft in place of its own, in the memory that it has.
     pub(crate) fn copy_from(&mut self, other: &Draft) {
         self.clear();
@@ -94,18 +86,10 @@ fn are_ops(ops: &[Op]) {
     }
 }
 
-// How many words an instruction has.
-fn word_count(code: Code) -> u16 {
-    match code.instr() {
-        Instr::Vctr { .. } | Instr::Labs { .. } => 2,
-        Instr::Halt | Instr::Jsrl(_) | Instr::Rtsl | Instr::Jmpl(_) | Instr::Svec { .. } => 1,
-    }
-}
-
 // How many words an operation has.
 pub(crate) fn words_of(kind: OpKind) -> u16 {
     match kind {
-        OpKind::Draw(code) => word_count(code),
+        OpKind::Draw(code) => code.word_count(),
         _ => 1,
     }
 }

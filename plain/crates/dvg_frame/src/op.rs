@@ -34,8 +34,8 @@ impl Default for Op {
 }
 
 impl Op {
-    /// The operation. None exactly for a `Draw` of another instruction than VCTR, SVEC or LABS, and
-    /// for a `CallRom` or `JumpRom` whose address is over FFF.
+    /// The operation. None exactly for a `Draw` of an instruction other than VCTR, SVEC or LABS,
+    /// and for a `CallRom` or `JumpRom` whose address is over FFF.
     pub fn new(kind: OpKind) -> Option<Op> {
         if is_op(&kind) {
             Some(Op { kind })
@@ -53,16 +53,11 @@ impl Op {
 // Whether a draft may hold it.
 fn is_op(kind: &OpKind) -> bool {
     match *kind {
-        OpKind::Draw(code) => is_drawing(code),
+        OpKind::Draw(code) => matches!(
+            code.instr(),
+            Instr::Vctr { .. } | Instr::Svec { .. } | Instr::Labs { .. }
+        ),
         OpKind::CallRom(address) | OpKind::JumpRom(address) => address <= 0xFFF,
         OpKind::Call(_) | OpKind::Jump(_) | OpKind::Return | OpKind::Halt => true,
-    }
-}
-
-// Whether it is a VCTR, an SVEC or a LABS.
-fn is_drawing(code: Code) -> bool {
-    match code.instr() {
-        Instr::Vctr { .. } | Instr::Svec { .. } | Instr::Labs { .. } => true,
-        Instr::Halt | Instr::Jsrl(_) | Instr::Rtsl | Instr::Jmpl(_) => false,
     }
 }

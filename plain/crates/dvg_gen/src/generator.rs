@@ -17,9 +17,9 @@ use std::mem;
 pub struct Generator<A: Allocator> {
     alloc: A,
     is_open: bool,
-    // Neither this nor the address lies at a multiple of four bytes, where the processor would be
-    // made to wait for it: each fetch reads them as the one before has written them. So this is no
-    // part of an `Option`.
+    // Neither this nor the address lies at a multiple of four bytes. There the processor would have
+    // to wait for them, as each fetch reads what the one before has written. So this isn't part of
+    // an `Option`.
     has_low: bool,
     // The address of the next word.
     at: u16,
@@ -32,7 +32,7 @@ pub struct Generator<A: Allocator> {
 }
 
 impl<A: Allocator + Copy> Generator<A> {
-    /// A generator that was told nothing. Its strokes will be in memory of this allocator.
+    /// A generator that was told nothing yet. Its strokes will be in memory of this allocator.
     pub fn new(alloc: A) -> Generator<A> {
         Generator {
             alloc,
@@ -90,8 +90,8 @@ impl<A: Allocator + Copy> Generator<A> {
     /// `wants_high`; None where no memory answers there. After `Done` or `Broke` the generator is
     /// halted.
     ///
-    /// An error is want of memory, and then nothing has changed. It comes only where a high byte
-    /// completes a vector with an intensity of at least 1.
+    /// The only error is lack of memory, and then nothing has changed. It comes only where a high
+    /// byte completes a vector with an intensity of at least 1.
     #[inline(always)]
     pub fn take_byte(&mut self, byte: Option<u8>) -> Result<Taken<A>, OutOfMemory> {
         let Some(byte) = byte else {
@@ -108,8 +108,8 @@ impl<A: Allocator + Copy> Generator<A> {
     // Takes a whole word.
     #[inline(always)]
     fn take(&mut self, word: u16) -> Result<Taken<A>, OutOfMemory> {
-        // The opcode says which instruction it is. To tell the decoded ones apart once more would
-        // take time.
+        // The opcode says which instruction it is. To look at the decoded ones once more would take
+        // time.
         if let Some(first) = self.held {
             let code = of_two(first, word);
             return if first < 0xA000 {

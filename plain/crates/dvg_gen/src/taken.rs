@@ -20,7 +20,7 @@ pub enum GenFault {
 }
 
 impl GenFault {
-    /// The number by which texts and answers tell the fault: 1 to 3, in the order in which they are
+    /// The number of the fault in texts and answers: 1 to 3, in the order in which the faults are
     /// declared (this project's own choice).
     pub fn number(self) -> u8 {
         match self {

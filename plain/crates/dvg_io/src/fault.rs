@@ -1,6 +1,6 @@
 //! Why an engine stops.
 use dvg_code::OutOfMemory;
-use dvg_text::{TextFault, TraceFault};
+use dvg_read::{TextFault, TraceFault};
 use thiserror::Error;
 
 /// Why an engine stopped. Its text is what `dvg` prints of it (this project's own choice).

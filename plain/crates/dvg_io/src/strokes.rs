@@ -2,7 +2,7 @@
 use crate::transfer::write_whole;
 use crate::watched::{DeviceFailed, Watched};
 use dvg_gen::Stroke;
-use dvg_lines::Line;
+use dvg_print::Line;
 use std::io::Write;
 
 /// Writes the line of each stroke, `x0 y0 x1 y1 z`. The lines are made in `line`.

@@ -9,7 +9,7 @@ pub struct DeviceFailed;
 
 /// A reader or writer behind calls that count its failures. A failure is an error that it answers,
 /// and a write that takes nothing of a part that isn't empty; an interrupted call is an error like
-/// any other. It is no `Read` or `Write` itself, so that no call goes past the count.
+/// any other. It isn't a `Read` or `Write` itself, so that no call goes past the count.
 pub struct Watched<T> {
     device: T,
     failures: u32,

@@ -2,7 +2,7 @@
 use std::prelude::*;
 
 use dvg_frame::FrameFault;
-use dvg_lines::{Line, Verdict};
+use dvg_print::{Line, Verdict};
 use std::alloc::{AllocFailed, Allocator, Global};
 use std::fmt;
 

@@ -11,9 +11,9 @@ use std::alloc::{Allocator, Global};
 pub const MOST_EVENTS: usize = 65_536;
 
 /// Events in order, at most 65,536 of them, in little room: the operations of all its offers lie in
-/// one list, so an offer takes what its own operations want, where a `Draft` has room for 511. The
-/// images of its resets lie in another, and an event that is pushed again has the operations or the
-/// image of the one before.
+/// one list, so an offer takes only what its own operations need, where a `Draft` has room for 511.
+/// The images of its resets lie in another, and an event that is pushed again shares the operations
+/// or the image of the earlier one.
 pub struct Trace<A: Allocator = Global> {
     steps: Vec<Step, A>,
     /// The operations of all offers.
@@ -65,8 +65,8 @@ impl<A: Allocator> Trace<A> {
         }
     }
 
-    /// Adds an event at the end of fewer than 65,536. An error is want of memory, and then nothing
-    /// has changed.
+    /// Adds an event at the end of fewer than 65,536. The only error is lack of memory, and then
+    /// nothing has changed.
     pub fn push(&mut self, event: OwnEvent<A>) -> Result<(), OutOfMemory> {
         let step = match event {
             Event::Offer(draft) => return self.push_offer(&draft),
@@ -82,8 +82,8 @@ impl<A: Allocator> Trace<A> {
         Ok(())
     }
 
-    /// Adds an offer of a draft, which is copied, at the end of fewer than 65,536 events. An error
-    /// is want of memory, and then nothing has changed.
+    /// Adds an offer of a draft, which is copied, at the end of fewer than 65,536 events. The only
+    /// error is lack of memory, and then nothing has changed.
     pub fn push_offer(&mut self, draft: &Draft) -> Result<(), OutOfMemory> {
         let first = self.ops.len() as u32;
         let count = draft.len();
@@ -95,8 +95,8 @@ impl<A: Allocator> Trace<A> {
     }
 
     /// Adds the event of this number, counted from 0, once more at the end of fewer than 65,536
-    /// events. Its draft or image isn't copied. An error is want of memory, and then nothing has
-    /// changed.
+    /// events. Its draft or image isn't copied. The only error is lack of memory, and then nothing
+    /// has changed.
     pub fn push_again(&mut self, number: usize) -> Result<(), OutOfMemory> {
         let step = self.steps[number];
         self.steps.push(step)?;

@@ -1,10 +1,10 @@
-//! Lines of logs that tell numbers, as most do: each is read at the head of a text, with no search
+//! Lines of logs that have numbers, as most do: each is read at the head of a text, with no search
 //! for its end.
 use crate::log_line::{LogLine, RAM_END};
 use crate::log_reading::JudgedLines;
-use dvg_text::digit_of;
+use dvg_read::digit_of;
 
-// The number of two hexadecimal digits. None where a byte is no digit.
+// The number of two hexadecimal digits. None where a byte isn't a digit.
 #[inline(always)]
 fn of_two(a: u8, b: u8) -> Option<u8> {
     let (a, b) = (digit_of(a), digit_of(b));
@@ -37,7 +37,7 @@ fn of_four(a: u8, b: u8, c: u8, d: u8) -> Option<u16> {
     Some(256 * u16::from(16 * a + b) + u16::from(16 * c + d))
 }
 
-// The lines that tell numbers are most of a log. Each is taken from the head of a text, where it
+// The lines that have numbers are most of a log. Each is taken from the head of a text, where it
 // ends and isn't torn, and what comes after it is answered.
 impl JudgedLines {
     #[inline(always)]
@@ -142,8 +142,8 @@ impl JudgedLines {
         }
     }
 
-    /// Takes lines that tell numbers from the head of a text, up to the first line that doesn't,
-    /// that is torn or that doesn't end. What comes after them.
+    /// Takes lines that have numbers from the head of a text, up to the first line that has none,
+    /// that is torn or that doesn't end. Answers what comes after them.
     #[inline(never)]
     pub fn take_number_lines<'a>(&mut self, text: &'a [u8]) -> &'a [u8] {
         let mut judged = *self;

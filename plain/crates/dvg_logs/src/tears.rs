@@ -1,14 +1,14 @@
 //! The engine `torn`.
 use crate::log_reading::{LogReading, LogStop};
 use dvg_io::{DeviceFailed, ToolFault, Watched, write_whole};
-use dvg_lines::{Line, LogCounts, LogFinding, LogVerdict};
-use dvg_text::TextFault;
+use dvg_print::{Line, LogCounts, LogFinding, LogVerdict};
+use dvg_read::TextFault;
 use std::io::{Read, Write};
 
 /// The most bytes that one read takes.
 const PIECE: usize = 32_768;
 
-// What is answered of a log, the reading of which stops so.
+// The answer to a log whose reading stops in this way.
 fn answer(stop: LogStop) -> Result<LogVerdict, ToolFault> {
     match stop {
         LogStop::Torn {
@@ -83,16 +83,16 @@ fn write_verdict<W: Write>(writer: &mut Watched<W>, verdict: LogVerdict) -> Resu
 /// writes what is said of it (the text is this project's own choice):
 ///
 /// - `not torn: R runs, H halted, W writes`, where no byte was written in the half that the open
-///   run draws: so many runs began, so many ended by a HALT, and so many bytes were written;
+///   run draws: R runs began, H ended by a HALT, and W bytes were written;
 /// - `no run drew:` and the same, where bytes were written and no run began, or runs began and no
 ///   word was fetched;
 /// - `torn at line N: wrote A B` of the first write in such a half, by its line, its byte address
-///   and its byte, and on a line more `so far:` and the same numbers up to that line.
+///   and its byte, and on one more line `so far:` and the same numbers up to that line.
 ///
 /// It takes no memory.
 ///
-/// - `Syntax`: this line is the first that tells nothing that a line may, as `read_log_line` says,
-///   none before it being torn.
+/// - `Syntax`: this line is the first that says nothing that a line may say (see `read_log_line`),
+///   and none before it is torn.
 /// - `TooLong`: none of the first 18,446,744,073,709,551,615 lines is torn or at fault, and there
 ///   are more.
 /// - `Reader`, `Writer`: that device failed. After `Writer` a beginning of the text went out.

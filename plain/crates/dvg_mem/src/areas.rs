@@ -12,6 +12,6 @@ pub enum Area {
     Unused,
     /// The vector ROM.
     Rom,
-    /// An address that no memory answers (this project's own choice).
+    /// An address at which no memory answers (this project's own choice).
     Hole,
 }

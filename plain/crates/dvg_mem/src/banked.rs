@@ -1,4 +1,4 @@
-//! A store in four parts, of which none has bytes of both halves.
+//! A store in four parts. None of them has bytes of both halves.
 use std::prelude::*;
 
 use crate::half::Half;
@@ -8,7 +8,7 @@ use crate::{HALF_BYTES, WORD_BYTES};
 use dvg_code::OutOfMemory;
 use std::alloc::{Allocator, Global};
 
-// The address of half 0's first byte, that of the byte behind it, and those of half 1's first byte.
+// The addresses of half 0's first byte, of the byte after half 0, and of half 1's first byte.
 const HALF_0: usize = WORD_BYTES;
 
 const UNUSED: usize = HALF_0 + HALF_BYTES;

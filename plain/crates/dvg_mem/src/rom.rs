@@ -29,9 +29,9 @@ impl<A: Allocator> Rom<A> {
         }
     }
 
-    /// Takes other bytes in place of its own, in the memory that it has where they are as many.
-    /// They are refused as `Size` exactly where they are neither 2,048 nor 4,096, and nothing has
-    /// changed after an error. Memory is taken only for a ROM of another size.
+    /// Takes other bytes in place of its own. If there are as many of them, they go into the memory
+    /// that it has. They are refused as `Size` exactly where they are neither 2,048 nor 4,096.
+    /// After an error nothing has changed. Memory is taken only for a ROM of another size.
     pub fn copy_from(&mut self, alloc: A, bytes: &[u8]) -> Result<(), MemFault> {
         if bytes.len() == self.bytes.len() {
             self.bytes.as_mut_slice().copy_from_slice(bytes);
@@ -66,7 +66,7 @@ impl<A: Allocator> Rom<A> {
     }
 
     /// The ROM of 4,096 bytes that has this one's words from 800 on, and D000, a return, at 400 to
-    /// 7FF. It takes its memory from this allocator, and is refused as `OutOfMemory` alone.
+    /// 7FF. It takes its memory from this allocator. `OutOfMemory` is its only error.
     pub fn grow(&self, alloc: A) -> Result<Rom<A>, MemFault> {
         let _ = &self.bytes;
         match self.grown_bytes(alloc) {
@@ -75,7 +75,7 @@ impl<A: Allocator> Rom<A> {
         }
     }
 
-    // The bytes of 1,024 returns, and this ROM's behind them.
+    // The bytes of 1,024 returns, and then those of this ROM.
     fn grown_bytes(&self, alloc: A) -> Result<Vec<u8, A>, AllocError> {
         let mut bytes = Vec::with_capacity(alloc, LARGE_ROM_BYTES)?;
         for _word in 0..1024u16 {

@@ -1,6 +1,6 @@
 //! What a line of a sketch spells. Names are slices of the text.
 use dvg_frame::Op;
-use dvg_text::{hex, read_op_parts};
+use dvg_read::{hex, read_op_parts};
 
 /// The most bytes of a name (this project's own choice).
 const MOST_NAME_BYTES: usize = 32;

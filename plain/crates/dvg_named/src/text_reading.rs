@@ -4,7 +4,7 @@ use crate::line_fault::LineFault;
 use crate::line_words::words_of;
 use crate::meaning::Source;
 use crate::reading::Reading;
-use dvg_text::{MOST_TEXT_BYTES, TextLines};
+use dvg_read::{MOST_TEXT_BYTES, TextLines};
 use std::alloc::Allocator;
 
 /// Reads all lines of a text in small letters, in one pass. Or else the text has a fault: it is too

@@ -2,7 +2,7 @@
 use crate::writes::write_run;
 use dvg_dump::{Dump, DumpFault, LARGE_DUMP_BYTES, Outcome, Traced};
 use dvg_io::{DeviceFailed, Engine, ToolFault, Watched, serve};
-use dvg_text::TextFault;
+use dvg_read::TextFault;
 use std::alloc::Allocator;
 use std::io::{Read, Write};
 

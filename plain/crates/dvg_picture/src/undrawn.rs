@@ -1,7 +1,7 @@
 //! Why a run drew no picture.
 use dvg_dump::Ending;
 use dvg_gen::GenFault;
-use dvg_lines::Line;
+use dvg_print::Line;
 use std::alloc::Allocator;
 use std::fmt;
 

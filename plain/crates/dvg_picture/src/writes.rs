@@ -2,7 +2,7 @@
 use dvg_dump::{Ending, Ran, Traced};
 use dvg_gen::Stroke;
 use dvg_io::{DeviceFailed, Watched, write_strokes, write_whole};
-use dvg_lines::Line;
+use dvg_print::Line;
 use std::alloc::Allocator;
 use std::io::Write;
 

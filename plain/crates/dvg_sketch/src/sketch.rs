@@ -6,7 +6,7 @@ use dvg_frame::{Draft, Op, OpKind};
 /// The most operations of a draft.
 const MOST_OPS: usize = 511;
 
-// The number of the operation that is named so.
+// The number of the operation with this name.
 fn number_of(steps: &[Step], name: &str) -> Option<u16> {
     let mut number = 0;
     for step in steps {
@@ -20,7 +20,7 @@ fn number_of(steps: &[Step], name: &str) -> Option<u16> {
     None
 }
 
-// The first step that gives a name which one before it gives.
+// The first step that gives a name which an earlier one gives.
 fn given_again(steps: &[Step]) -> Option<usize> {
     for (place, step) in steps.iter().enumerate() {
         if let Step::Name(name) = step {
@@ -32,7 +32,7 @@ fn given_again(steps: &[Step]) -> Option<usize> {
     None
 }
 
-// The operation of a step that is one. None where it names one that isn't there.
+// The operation of a step that is an operation. None where it names one that doesn't exist.
 fn operation(steps: &[Step], step: &Step) -> Option<Op> {
     match step {
         Step::Op(op) => Some(*op),
@@ -56,7 +56,7 @@ fn operation(steps: &[Step], step: &Step) -> Option<Op> {
 /// - `Twice`: else, this step is the first that gives a name which an earlier one gave.
 /// - `Unknown`: else, this step is the first that calls or jumps to a name which no step gives.
 ///
-/// A name behind the last operation names one that isn't there, which the check of a draft refuses
+/// A name after the last operation names one that doesn't exist. The check of a draft refuses that
 /// where it is used.
 pub fn draft_of(steps: &[Step]) -> Result<Draft, SketchFault> {
     if steps.iter().filter(|step| step.is_operation()).count() > MOST_OPS {

@@ -5,7 +5,7 @@ use crate::parts::write_parts;
 use crate::show::Show;
 use dvg_gen::Stroke;
 use dvg_io::{DeviceFailed, Watched, write_whole};
-use dvg_lines::Line;
+use dvg_print::Line;
 use itoa::Buffer;
 use std::alloc::Allocator;
 use std::io::Write;

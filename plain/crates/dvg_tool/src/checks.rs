@@ -1,9 +1,9 @@
 //! The engines `check_text` and `check_bound`.
 use dvg_frame::check;
 use dvg_io::{DeviceFailed, Engine, ToolFault, Watched, serve, write_whole};
-use dvg_lines::{BoundedVerdict, Line, Verdict};
 use dvg_mem::Rom;
-use dvg_text::{MOST_TEXT_BYTES, read_draft};
+use dvg_print::{BoundedVerdict, Line, Verdict};
+use dvg_read::{MOST_TEXT_BYTES, read_draft};
 use std::alloc::Allocator;
 use std::io::{Read, Write};
 
@@ -95,7 +95,7 @@ pub fn check_text<A: Allocator, R: Read, W: Write>(
     serve(&CheckEngine, &alloc, reader, writer)
 }
 
-/// The same, but the line of a good draft tells its bound, too: `ok`, its number of words and how
+/// The same, but the line of a good draft gives its bound, too: `ok`, its number of words and how
 /// many fetches its whole run takes, which are the words that the generator fetches, word zero
 /// included.
 #[inline(never)]

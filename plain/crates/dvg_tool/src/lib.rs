@@ -1,6 +1,6 @@
 //! The engines of the program `dvg` but `picture`, `torn`, `draw` and `lay`, over any watched
-//! reader and writer; and the jobs that its words ask for, which are those of `dvg_words`. What it
-//! reads are the texts of `dvg_text`, and what it writes the lines of `dvg_lines`.
+//! reader and writer; and the jobs that its words ask for, which are those of `dvg_args`. What it
+//! reads are the texts of `dvg_read`, and what it writes the lines of `dvg_print`.
 //!
 //! An engine reads its whole input before it writes, and takes no memory after its first write: its
 //! lines are made in an array of fixed size (that what writes is handed no allocator is seen by
@@ -20,13 +20,13 @@ mod roms;
 mod shows;
 
 pub use checks::{check_bound, check_text};
+pub use dvg_args::{Job, LayForm, job, words_status};
 pub use dvg_io::{DeviceFailed, ToolFault, Watched};
-pub use dvg_lines::{BoundedVerdict, Verdict};
 pub use dvg_logs::{LogCounts, LogFinding, LogVerdict, torn};
 pub use dvg_picture::{Outcome, Undrawn, picture, picture_svg};
+pub use dvg_print::{BoundedVerdict, Verdict};
+pub use dvg_read::{MOST_TEXT_BYTES, TextFault};
 pub use dvg_svg::Show;
-pub use dvg_text::{MOST_TEXT_BYTES, TextFault};
-pub use dvg_words::{Job, LayForm, job, words_status};
 pub use jobs::perform;
 pub use lists::{MOST_LIST_BYTES, list};
 pub use lists_at::list_at;

@@ -1,9 +1,9 @@
-//! The engine `list`. Its fault `Cut` comes in the midst of its writing, so it is no `Engine` that
-//! is served.
+//! The engine `list`. Its fault `Cut` comes in the middle of its writing, so it isn't an `Engine`
+//! that is served.
 use dvg_code::{Code, Listed, Listing, encode};
 use dvg_io::{DeviceFailed, ToolFault, Watched, collect_words, read_up_to, write_whole};
-use dvg_lines::Line;
-use dvg_text::TextFault;
+use dvg_print::Line;
+use dvg_read::TextFault;
 use std::alloc::Allocator;
 use std::io::{Read, Write};
 

@@ -1,13 +1,13 @@
 //! How the program ends.
 use dvg_io::{ToolFault, Watched};
 use dvg_lay::Refusal;
-use dvg_lines::{BoundedVerdict, Verdict};
 use dvg_logs::{LogFinding, LogVerdict};
 use dvg_picture::{Outcome, Undrawn};
+use dvg_print::{BoundedVerdict, Verdict};
 use std::alloc::{Allocator, Global};
 use std::io::Write;
 
-/// What an engine that is done has to tell.
+/// What an engine that is done has to say.
 #[derive(Debug, PartialEq, Eq)]
 pub enum Done<A: Allocator = Global> {
     /// The text was written.
@@ -18,8 +18,7 @@ pub enum Done<A: Allocator = Global> {
     Bounded(BoundedVerdict),
     /// The run over a dump came to this, and its text was written.
     Drew(Outcome),
-    /// What the run over a dump drew was written as SVG. It is no picture for this reason, if there
-    /// is one.
+    /// What the run over a dump drew was written as SVG. If it isn't a picture, this is why.
     DrewSvg(Option<Undrawn>),
     /// This was said of a log, and the text of it was written.
     Searched(LogVerdict),

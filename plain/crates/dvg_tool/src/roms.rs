@@ -2,19 +2,19 @@
 use std::prelude::*;
 
 use dvg_io::{DeviceFailed, Engine, ToolFault, Watched, collect_words, serve, write_whole};
-use dvg_lines::Line;
 use dvg_mem::{FIRST_LARGE_ROM_WORD, FIRST_ROM_WORD, LARGE_ROM_BYTES, MEMORY_BYTES};
-use dvg_text::TextFault;
+use dvg_print::Line;
+use dvg_read::TextFault;
 use std::alloc::Allocator;
 use std::io::{Read, Write};
 
 /// How many words stand in a line.
 const LINE_WORDS: usize = 8;
 
-/// The line that tells the map of the larger ROM.
+/// The line that gives the map of the larger ROM.
 const LARGE_MAP: &[u8] = b"map 4096\n";
 
-// Writes a line for each eight words of a ROM, from the first one's address on.
+// Writes a line for every eight words of a ROM, from the first one's address on.
 fn write_rows<W: Write>(
     first: u16,
     words: &[u16],

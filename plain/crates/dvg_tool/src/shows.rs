@@ -1,7 +1,7 @@
 //! What is written of a log's entries.
 use dvg_io::{DeviceFailed, Watched, write_strokes, write_whole};
-use dvg_lines::Line;
 use dvg_log::{Entry, OwnEntry};
+use dvg_print::Line;
 use std::alloc::Allocator;
 use std::io::Write;
 

@@ -8,7 +8,7 @@ use dvg_mem::{MemFault, Rom};
 use std::alloc::{AllocError, Allocator, Global};
 
 /// A driver with the ROM over which its drafts are checked, and what they are checked by. It knows
-/// no RAM: what it does is told by its answers.
+/// no RAM: its answers say what it does.
 pub struct Desk<A: Allocator = Global> {
     rom: Rom<A>,
     driver: Driver,
@@ -27,8 +27,8 @@ impl<A: Allocator> Desk<A> {
     }
 
     /// The driver is just reset, over a ROM of these bytes. Memory is taken, and may be refused,
-    /// only for a ROM of another size. All is as it was after an error, which is `Size` exactly
-    /// where a ROM has another number of bytes.
+    /// only for a ROM of another size. After an error all is as it was. The error is `Size` exactly
+    /// where no ROM has this number of bytes.
     pub fn begin_anew(&mut self, alloc: A, rom: &[u8]) -> Result<(), MemFault> {
         match self.rom.copy_from(alloc, rom) {
             Ok(()) => {

@@ -35,7 +35,7 @@ impl Drawing {
         }
     }
 
-    // What is drawn behind the fetch of a word at this address.
+    // What is drawn after the fetch of a word at this address.
     fn after_fetch(self, address: u16, word: u16) -> Drawing {
         match self {
             Drawing::Begun => Drawing::from_first(address, word),
@@ -43,7 +43,7 @@ impl Drawing {
         }
     }
 
-    // What is drawn behind an entry.
+    // What is drawn after an entry.
     fn after_entry<A: Allocator>(self, entry: &OwnEntry<A>) -> Drawing {
         match entry {
             Entry::Started => Drawing::Begun,
@@ -62,7 +62,7 @@ impl Drawing {
         Half::of_word(address / 2) == Some(half)
     }
 
-    // Whether this entry, behind which that is drawn, tears the picture.
+    // Whether this entry, after which that is drawn, tears the picture.
     fn is_torn_by<A: Allocator>(self, entry: &OwnEntry<A>) -> bool {
         match entry {
             Entry::Acted(Action::Wrote(address, _)) => self.is_torn_at(*address),
@@ -71,9 +71,9 @@ impl Drawing {
     }
 }
 
-/// A judge of one log, whoever made it, that is told its lines in order: each by its event and its
-/// entry, or by what it shows. It keeps no more than which half the open run draws, and takes no
-/// memory.
+/// A judge of one log, whoever made it. It is given the log's lines in order: each by its event and
+/// its entry, or by what it shows. It keeps no more than which half the open run draws, and takes
+/// no memory.
 #[derive(Clone, Copy, Debug, PartialEq, Eq)]
 pub struct Judge {
     drawing: Drawing,
@@ -87,7 +87,7 @@ impl Judge {
         }
     }
 
-    /// Is told a line more. Whether that tears a picture.
+    /// Is given one more line. Answers whether that line tears a picture.
     pub fn take<A: Allocator>(&mut self, event: &OwnEvent<A>, entry: &OwnEntry<A>) -> bool {
         self.drawing = self.drawing.after_event(event).after_entry(entry);
         self.drawing.is_torn_by(entry)
@@ -114,17 +114,17 @@ impl Judge {
         self.drawing = Drawing::Nothing;
     }
 
-    /// Is told that the driver wrote a byte at this byte address of the RAM. Whether that tears a
-    /// picture.
+    /// Is told that the driver wrote a byte at this byte address of the RAM. Answers whether that
+    /// tears a picture.
     pub fn wrote(&self, address: u16) -> bool {
         self.drawing.is_torn_at(address)
     }
 }
 
 /// The number of the first entry that tears a picture: a byte written in the half that the open run
-/// draws. None exactly where there is none. The log may be any one, legal or not, as that of
-/// another driver or of a test program; where one list is longer than the other, what it has more
-/// is passed over.
+/// draws. None exactly where there is none. The log may be any one, legal or not, such as that of
+/// another driver or of a test program. Where one list is longer than the other, the rest of it is
+/// passed over.
 ///
 /// A strobe that began a run opens it, and a HALT, a fault, and a reset of the generator or of the
 /// whole system end it; such a reset ends it before its own entry counts. It draws a half where the

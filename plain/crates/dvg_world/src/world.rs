@@ -50,8 +50,8 @@ impl<S: Store> World<S> {
 
     /// Makes this world one over a ROM of these bytes after a reset of the whole system, as `new`
     /// makes one, in the memory that it has: for callers that open one world after another. Memory
-    /// is taken, and may be refused, only for a ROM of another size. The world is as it was after
-    /// an error, which is `Size` exactly where a ROM has another number of bytes.
+    /// is taken, and may be refused, only for a ROM of another size. After an error the world is as
+    /// it was. The error is `Size` exactly where no ROM has this number of bytes.
     pub fn begin_anew(
         &mut self,
         alloc: S::Alloc,
@@ -80,8 +80,8 @@ impl<S: Store> World<S> {
 
     /// Lets an event happen, by the call that does it, and answers its entry.
     ///
-    /// An error is want of memory, and then the world is as it was. It comes only for a fetch that
-    /// completes a vector with an intensity of at least 1.
+    /// The only error is lack of memory, and then the world is as it was. It comes only for a fetch
+    /// that completes a vector with an intensity of at least 1.
     pub fn apply(&mut self, event: &OwnEvent<S::Alloc>) -> Result<OwnEntry<S::Alloc>, OutOfMemory> {
         match event {
             Event::Offer(draft) => Ok(self.offer(draft)),
@@ -134,8 +134,8 @@ impl<S: Store> World<S> {
     }
 
     /// The generator fetches one byte, as by `Event::Fetch`. This is the one event that takes
-    /// memory, for the stroke of a vector with an intensity of at least 1. An error is want of it,
-    /// and then the world is as it was.
+    /// memory, for the stroke of a vector with an intensity of at least 1. The only error is lack
+    /// of memory, and then the world is as it was.
     pub fn fetch(&mut self) -> Result<OwnEntry<S::Alloc>, OutOfMemory> {
         let Some(address) = self.generator.wants() else {
             return Ok(Entry::Still);

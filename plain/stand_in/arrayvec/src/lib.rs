@@ -1,4 +1,4 @@
-//! What the sources use of `arrayvec`: a vector of at most so many elements, in an array.
+//! What the sources use of `arrayvec`: a vector of at most this many elements, in an array.
 #![no_std]
 
 use core::mem::MaybeUninit;

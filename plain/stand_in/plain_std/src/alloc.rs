@@ -211,7 +211,7 @@ impl<T: Copy, A> Vec<T, A> {
         Ok(())
     }
 
-    /// So many elements, by cutting or by more of this one.
+    /// This many elements, by cutting or by more of this one.
     pub fn resize(&mut self, length: usize, item: T) -> Result<(), AllocError> {
         self.reserve(length.saturating_sub(self.items.len()))?;
         self.items.resize(length, item);

@@ -1,5 +1,5 @@
 use Rattle.std.proofs.Common.{rules, flat_map, drop, get_or, ◌+◌}
-use Rattle.dvg_lines.specs.Shows.{stroke_line}
+use Rattle.dvg_print.specs.Shows.{stroke_line}
 use Rattle.dvg_io.specs.Watching.{BeginsToWrite, device_of}
 use Rattle.dvg_io.proofs.StrokeLines.{next_stroke, no_stroke}
 use Rattle.dvg_io.proofs.Went.{piece_begun, piece_more}

@@ -1,5 +1,5 @@
 use Rattle.std.proofs.Common.{◌≡◌, drop, flat_map}
-use Rattle.dvg_lines.specs.Shows.{stroke_line}
+use Rattle.dvg_print.specs.Shows.{stroke_line}
 use Rattle.dvg_io.specs.Watching.{device_of, failures_of}
 use Rattle.dvg_io.proofs.Went.{Went}
 use Rattle.dvg_io.proofs.strokes.write_strokes.Given as goal

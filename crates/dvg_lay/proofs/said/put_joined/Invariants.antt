@@ -1,6 +1,6 @@
 use Rattle.std.proofs.Common.{◌≡◌, ◌++◌, ◌∷◌, drop, flat_map}
 use Rattle.std.specs.List.{join_with_byte}
-use Rattle.dvg_text.specs.LineParts.{bytes_of}
+use Rattle.dvg_read.specs.LineParts.{bytes_of}
 use Rattle.dvg_lay.proofs.said.put_joined.Given as goal
 
 abbrev pub invariant-loop-word : goal.invariant-loop-word

@@ -1,5 +1,5 @@
 use Rattle.std.proofs.Common.{[], append-nil, subst}
-use Rattle.dvg_text.specs.Texts.{lines}
+use Rattle.dvg_read.specs.Texts.{lines}
 use Rattle.dvg_logs.specs.LogReading.{HasRead, StopsAt}
 use Rattle.dvg_logs.proofs.OneVerdict.{judged_at, judged_by}
 use Rattle.dvg_logs.proofs.laws.each_is_judged.Goals as goal

@@ -1,5 +1,5 @@
 use Rattle.std.proofs.Common.{[], ◌∷◌, codes, arith, rules}
-use Rattle.dvg_text.proofs.OpRows.{named}
+use Rattle.dvg_read.proofs.OpRows.{named}
 use Rattle.dvg_logs.specs.LogLines.{LogRow, started, halted, reset}
 use Rattle.dvg_logs.specs.LogLineTells.{line_of}
 use Rattle.dvg_logs.specs.declared.log_line.LogLine.TheVariants.{Started, Halted, Reset}

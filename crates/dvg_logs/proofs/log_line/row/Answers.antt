@@ -1,7 +1,7 @@
 use Rattle.std.proofs.Common.{◌<◌, codes, arith, subst, sym}
-use Rattle.dvg_text.specs.Texts.{parts}
+use Rattle.dvg_read.specs.Texts.{parts}
 use Rattle.dvg_logs.specs.LogLines.{LogRow}
-use Rattle.dvg_text.proofs.EventRows.{byte_fits}
+use Rattle.dvg_read.proofs.EventRows.{byte_fits}
 use Rattle.dvg_logs.proofs.LogRows.{bare_parts, bare_row, behind_name, fetched_line, fetched_made, fetched_numbers, low_line, low_made, low_numbers, same_line, without, wrote_in_ram, wrote_line, wrote_made, wrote_numbers}
 use Rattle.dvg_logs.proofs.log_line.row.Goals as goal
 

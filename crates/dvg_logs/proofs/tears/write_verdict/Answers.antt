@@ -1,6 +1,6 @@
 use Rattle.std.proofs.Common.{rules, ◌++◌, OnErr}
 use Rattle.std.specs.Io.KnownBytes.{Appends}
-use Rattle.dvg_lines.specs.LogVerdicts.{finding_text, runs_text, writes_text}
+use Rattle.dvg_print.specs.LogVerdicts.{finding_text, runs_text, writes_text}
 use Rattle.dvg_io.specs.Watching.{BeginsToWrite, device_of}
 use Rattle.dvg_io.proofs.Went.{first_begun, or_second_begun, second_begun}
 use Rattle.dvg_logs.proofs.tears.write_verdict.Goals as goal

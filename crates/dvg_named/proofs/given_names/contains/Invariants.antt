@@ -1,5 +1,5 @@
 use Rattle.std.proofs.Common.{◌≡◌, ◌<◌, ℕ, get_or}
-use Rattle.dvg_text.specs.LineParts.{bytes_of}
+use Rattle.dvg_read.specs.LineParts.{bytes_of}
 use Rattle.dvg_named.proofs.given_names.contains.Given as goal
 
 abbrev pub invariant-loop-given : goal.invariant-loop-given

@@ -1,5 +1,5 @@
 use Rattle.std.proofs.Common.{sym, ap, ◌∙◌}
-use Rattle.dvg_text.proofs.FirstBytes.{IsCutAt, cut_at_first}
+use Rattle.dvg_read.proofs.FirstBytes.{IsCutAt, cut_at_first}
 use Rattle.dvg_named.specs.PlainLines.{uncommented}
 use Rattle.dvg_named.proofs.LineCuts.{cut_at_comment, nothing_cut}
 use Rattle.dvg_named.proofs.line_words.without_comment.Goals as goal

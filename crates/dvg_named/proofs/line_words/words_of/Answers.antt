@@ -5,8 +5,8 @@ use Rattle.std.proofs.lemmas.Iterator.Splits.{YieldsList-from_slice_split}
 use Rattle.std.specs.Iterator.Adapters.{filter_callee, filter_source}
 use Rattle.std.specs.Slice.Iter.{split_callee, split_done, split_rest}
 use borrow.Author.Tests.{tests}
-use Rattle.dvg_text.specs.LineParts.{bytes_of}
-use Rattle.dvg_text.proofs.Cuts.{fewer}
+use Rattle.dvg_read.specs.LineParts.{bytes_of}
+use Rattle.dvg_read.proofs.Cuts.{fewer}
 use Rattle.dvg_named.specs.PlainLines.{is_blank, is_some_byte}
 use Rattle.dvg_named.proofs.LineCuts.{words_are}
 use Rattle.dvg_named.proofs.line_words.words_of.Goals as goal

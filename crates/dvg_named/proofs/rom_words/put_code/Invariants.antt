@@ -1,5 +1,5 @@
 use Rattle.std.proofs.Common.{◌≡◌, ◌<◌, ◌+◌, ℕ, get_or, length}
-use Rattle.dvg_text.proofs.GivenWords.{PutTo}
+use Rattle.dvg_read.proofs.GivenWords.{PutTo}
 use Rattle.dvg_named.proofs.rom_words.put_code.Given as goal
 
 abbrev pub invariant-loop-word : goal.invariant-loop-word

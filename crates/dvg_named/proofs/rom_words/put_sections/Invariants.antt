@@ -1,5 +1,5 @@
 use Rattle.std.proofs.Common.{◌≡◌, ◌<◌, ℕ, length, take}
-use Rattle.dvg_text.specs.RomTexts.{IsRomOf, RomText}
+use Rattle.dvg_read.specs.RomTexts.{IsRomOf, RomText}
 use Rattle.dvg_named.specs.LaidValues.{laid_sections}
 use Rattle.dvg_named.specs.RomBytes.{TellsSections, WantsNothing}
 use Rattle.dvg_named.proofs.rom_words.put_sections.Given as goal

@@ -1,5 +1,5 @@
 use Rattle.std.proofs.Common.{rules, arith}
-use Rattle.dvg_text.proofs.GivenWords.{set_fits}
+use Rattle.dvg_read.proofs.GivenWords.{set_fits}
 use Rattle.dvg_named.proofs.rom_words.put_word.Goals as goal
 
 pub returns-clause-fits : goal.returns-clause-fits

@@ -1,5 +1,5 @@
 use Rattle.std.proofs.Common.{[], ◌∷◌, None, codes, arith, rules}
-use Rattle.dvg_text.proofs.OpRows.{named}
+use Rattle.dvg_read.proofs.OpRows.{named}
 use Rattle.dvg_named.specs.Rows.{HeadParts, anywhere, frame, nameless, rom}
 use Rattle.dvg_named.proofs.row.bare_head.Goals as goal
 

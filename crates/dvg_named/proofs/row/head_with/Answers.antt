@@ -1,6 +1,6 @@
 use Rattle.std.proofs.Common.{[], ◌∷◌, Some, codes, arith, rules}
 use Rattle.std.specs.Prelude.{IfSome, IsSomeAnd, ◌≡◌}
-use Rattle.dvg_text.proofs.OpRows.{named}
+use Rattle.dvg_read.proofs.OpRows.{named}
 use Rattle.dvg_named.specs.Rows.{Head, HeadParts, at, rom}
 use Rattle.dvg_named.specs.RowValues.{head_of}
 use Rattle.dvg_named.proofs.RowSpelling.{frame_found, frame_only}

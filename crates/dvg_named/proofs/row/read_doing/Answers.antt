@@ -1,7 +1,7 @@
 use Rattle.std.proofs.Common.{◌≡◌, ℕ, List, [], ◌∷◌, arith, ap, length, subst, sym, rules}
 use Rattle.std.proofs.lemmas.List.{length-map}
 use Rattle.std.specs.Borrow.{Bor}
-use Rattle.dvg_text.specs.LineParts.{bytes_of}
+use Rattle.dvg_read.specs.LineParts.{bytes_of}
 use Rattle.dvg_named.specs.Rows.{IsName, plain}
 use Rattle.dvg_named.proofs.RowSpelling.{one_plain, second_is}
 use Rattle.dvg_named.proofs.row.read_doing.Goals.{then-words-lt2, in-len2+else-is_name, else-words-lt2+else-words-lt3}

@@ -1,5 +1,5 @@
 use Rattle.std.proofs.Common.{◌≡◌, [], ◌∷◌, codes, arith, rules}
-use Rattle.dvg_text.proofs.OpRows.{named}
+use Rattle.dvg_read.proofs.OpRows.{named}
 use Rattle.dvg_named.specs.Rows.{Doing, DoingParts, call, callrom, calls, calls_rom, jump, jumprom, jumps, jumps_rom}
 use Rattle.dvg_named.proofs.RowSpelling.{no_other, one_call, one_callrom, one_jump, one_jumprom}
 use Rattle.dvg_named.proofs.row.wanting.Goals as goal

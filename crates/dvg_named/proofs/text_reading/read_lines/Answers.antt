@@ -1,7 +1,7 @@
 use Rattle.std.proofs.Common.{◌≡◌, ◌∙◌, ap, sym, subst, arith, rules, refl}
-use Rattle.dvg_text.specs.LineParts.{bytes_of}
-use Rattle.dvg_text.specs.Texts.{lines}
-use Rattle.dvg_text.specs.TextLines.{lines_left}
+use Rattle.dvg_read.specs.LineParts.{bytes_of}
+use Rattle.dvg_read.specs.Texts.{lines}
+use Rattle.dvg_read.specs.TextLines.{lines_left}
 use Rattle.dvg_named.specs.TextReading.{StopsText}
 use Rattle.dvg_named.proofs.SketchRead.{are_parts, begins, bounded, goes_by, line_at, many, no_words, passes, plain_is, reads_all, some_words, stops_words}
 use Rattle.dvg_named.proofs.text_reading.read_lines.Goals as goal

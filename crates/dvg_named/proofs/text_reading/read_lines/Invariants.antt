@@ -1,5 +1,5 @@
 use Rattle.std.proofs.Common.{◌≤◌, length}
-use Rattle.dvg_text.specs.TextLines.{lines_left}
+use Rattle.dvg_read.specs.TextLines.{lines_left}
 use Rattle.dvg_named.specs.SourcedRows.{AreSourced}
 use Rattle.dvg_named.proofs.SketchRead.{ReadTo}
 use Rattle.dvg_named.proofs.text_reading.read_lines.Given as goal

@@ -1,6 +1,6 @@
 use Rattle.std.proofs.Common.{◌≡◌, ◌∷◌, ◌++◌, codes, arith, rules}
-use Rattle.dvg_text.proofs.OpRows.{named}
-use Rattle.dvg_text.specs.RomTexts.{IsMapLine, large, small}
+use Rattle.dvg_read.proofs.OpRows.{named}
+use Rattle.dvg_read.specs.RomTexts.{IsMapLine, large, small}
 use Rattle.dvg_named.proofs.told_rom.map_named.Goals as goal
 
 pub returns-in-50-clause-found : goal.returns-in-50-clause-found

@@ -1,5 +1,5 @@
 use Rattle.std.proofs.Common.{rules, drop, get_or, ◌+◌, refl}
-use Rattle.dvg_lines.specs.Svg.{path_line}
+use Rattle.dvg_print.specs.Svg.{path_line}
 use Rattle.dvg_io.specs.Watching.{BeginsToWrite, device_of}
 use Rattle.dvg_io.proofs.StrokeLines.{no_stroke}
 use Rattle.dvg_io.proofs.Went.{piece_begun, piece_more}

@@ -1,5 +1,5 @@
 use Rattle.std.proofs.Common.{◌≡◌, ◌+◌, ◌-◌, ◌*◌, ◌<◌, ◌∙◌, ap, length, take, drop, arith, rules}
-use Rattle.dvg_lines.specs.Lines.{rom_line}
+use Rattle.dvg_print.specs.Lines.{rom_line}
 use Rattle.dvg_io.specs.Watching.{BeginsToWrite, device_of}
 use Rattle.dvg_tool.proofs.RomLines.{all_rows, row_begun, row_written}
 use Rattle.dvg_tool.proofs.roms.write_rows.Goals as goal

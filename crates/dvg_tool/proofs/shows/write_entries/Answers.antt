@@ -1,6 +1,6 @@
 use Rattle.std.proofs.Common.{rules, ◌+◌, drop, map}
 use Rattle.dvg_log.specs.Entries.{shown_of}
-use Rattle.dvg_lines.specs.Shows.{shown, shown_entry}
+use Rattle.dvg_print.specs.Shows.{shown, shown_entry}
 use Rattle.dvg_io.specs.Watching.{BeginsToWrite, device_of}
 use Rattle.dvg_tool.proofs.Shown.{next_entry}
 use Rattle.dvg_io.proofs.Went.{piece_begun, piece_more}

@@ -1,6 +1,6 @@
 use Rattle.std.proofs.Common.{◌≡◌, drop, map}
 use Rattle.dvg_log.specs.Entries.{shown_of}
-use Rattle.dvg_lines.specs.Shows.{shown}
+use Rattle.dvg_print.specs.Shows.{shown}
 use Rattle.dvg_io.specs.Watching.{device_of, failures_of}
 use Rattle.dvg_io.proofs.Went.{Went}
 use Rattle.dvg_tool.proofs.shows.write_entries.Given as goal

@@ -1,6 +1,6 @@
 use Rattle.std.proofs.Common.{rules}
 use Rattle.dvg_log.specs.Entries.{shown_of}
-use Rattle.dvg_lines.specs.Shows.{head_line, strokes_of}
+use Rattle.dvg_print.specs.Shows.{head_line, strokes_of}
 use Rattle.dvg_io.proofs.Went.{writes_first, writes_second}
 use Rattle.dvg_tool.proofs.shows.write_entry.Goals as goal
 

@@ -1,7 +1,7 @@
 use Rattle.std.proofs.Common.{ap, refl, subst, sym, ◌∙◌}
 use Rattle.std.specs.Io.KnownBytes.{Appends}
 use Rattle.dvg_log.specs.Entries.{shown_of}
-use Rattle.dvg_lines.specs.Shows.{head_line}
+use Rattle.dvg_print.specs.Shows.{head_line}
 use Rattle.dvg_io.specs.Watching.{device_of}
 use Rattle.dvg_io.proofs.Known.{Appends-nil}
 use Rattle.dvg_tool.proofs.Shown.{no_line}

@@ -2,7 +2,7 @@
 //! to no end.
 use crate::checking::chain::Chain;
 use crate::checking::look::look;
-use crate::checking::pair::{DEEPEST, Pair};
+use crate::checking::pair::{DEEPEST, FIRST, Pair};
 use crate::checking::table::{Drawn, Ending, Table};
 use crate::checking::way::{Way, way_at};
 use crate::draft::Draft;
@@ -18,7 +18,7 @@ fn onward(way: Way) -> Option<Place> {
     }
 }
 
-// The same with so many words more.
+// The same with this many more words.
 fn longer(rest: Drawn, more: u64) -> Drawn {
     Drawn {
         words: rest.words.saturating_add(more),
@@ -56,7 +56,7 @@ fn entry(table: &Table, place: Place) -> Drawn {
     drawn
 }
 
-// What is drawn from a place that leads on so.
+// What is drawn from a place that leads on in this way.
 #[inline(always)]
 fn draw(table: &Table, way: Way) -> Drawn {
     match way {
@@ -78,7 +78,7 @@ fn draw(table: &Table, way: Way) -> Drawn {
     }
 }
 
-// Puts down what is drawn from a place that leads on so, where that isn't there.
+// Notes what is drawn from a place that leads on in this way, unless the table has it.
 #[inline(always)]
 fn put_drawn(table: &mut Table, place: Place, way: Way) {
     if table.at(place).is_none() {
@@ -87,9 +87,9 @@ fn put_drawn(table: &mut Table, place: Place, way: Way) {
     }
 }
 
-// Follows the steps at one depth from a pair, up to a place of which the table has what is drawn
-// from it, or from which nothing leads on. The chain gets the pairs on the way. False where a pair
-// has a fault, or the steps come to no end.
+// Follows the steps at one depth from a pair, up to a place that the table has an entry for, or
+// from which nothing leads on. The chain gets the pairs on the way. False where a pair has a fault,
+// or the steps come to no end.
 #[inline(always)]
 fn follow<A: Allocator>(
     draft: &Draft,
@@ -119,17 +119,8 @@ fn follow<A: Allocator>(
     false
 }
 
-// How a place without a fault leads on.
-#[inline(always)]
-fn way_on<A: Allocator>(draft: &Draft, rom: &Rom<A>, place: Place) -> Way {
-    let Some(way) = way_at(draft, rom, place) else {
-        unreachable!()
-    };
-    way
-}
-
 // Finds what is drawn from a pair's place, and from each place on the way from it. False where a
-// pair has a fault, or steps at one depth come to no end. What the chain has of other depths stays
+// pair has a fault, or steps at one depth come to no end. The chain's pairs of other depths stay
 // there.
 fn settle<A: Allocator>(
     draft: &Draft,
@@ -144,7 +135,9 @@ fn settle<A: Allocator>(
     }
     while chain.len() > base {
         let place = chain.pop().place;
-        let way = way_on(draft, rom, place);
+        let Some(way) = way_at(draft, rom, place) else {
+            unreachable!() // It has no fault.
+        };
         if let Way::Call(to, _) = way {
             let inside = Pair {
                 place: to,
@@ -163,9 +156,9 @@ fn settle<A: Allocator>(
 /// reached pair has a fault, or steps at one depth come to no end. The table has nothing at first.
 ///
 /// Each place is gone over once, however many depths it is reached at: what is drawn from it is the
-/// same at each, and the table has at which depths no run from it breaks. So the time is linear in
-/// the places that are reached, but that a loop is followed for as many steps as there are
-/// operations and ROM words.
+/// same at each, and the table says at which depths no run from it breaks. So the time is linear in
+/// the places that are reached. Only a loop takes longer: it is followed for as many steps as there
+/// are operations and ROM words.
 pub(crate) fn bound_of<A: Allocator>(
     draft: &Draft,
     rom: &Rom<A>,
@@ -173,7 +166,7 @@ pub(crate) fn bound_of<A: Allocator>(
     chain: &mut Chain,
 ) -> Option<u64> {
     chain.clear();
-    if !settle(draft, rom, table, chain, Pair::default()) {
+    if !settle(draft, rom, table, chain, FIRST) {
         return None;
     }
     let first = entry(table, Place::InFrame(0));

@@ -21,7 +21,7 @@ fn is_labs(kind: OpKind) -> bool {
     }
 }
 
-// Whether it names an operation that is none of so many.
+// Whether it names an operation that isn't among this many.
 fn names_none(count: usize, kind: OpKind) -> bool {
     match kind {
         OpKind::Call(j) | OpKind::Jump(j) => count <= usize::from(j),
@@ -70,8 +70,8 @@ fn words_or_fault(draft: &Draft) -> Result<u16, FrameFault> {
 
 /// The check, with tables of a fixed size that are kept from one check to the next: a check takes
 /// time for the operations and for the places and pairs that it reaches, and none for the size of
-/// the tables, which is about 105 KB. What it answers doesn't depend on what it checked before.
-/// Whoever checks many drafts keeps one, on the heap.
+/// the tables, which is about 105 KB. What it answers doesn't depend on what it checked before. A
+/// caller that checks many drafts should keep one, on the heap.
 pub struct Checker {
     reached: Worklist,
     table: Table,
@@ -99,8 +99,8 @@ impl Checker {
     /// depth. A return, a halt and a pair with a fault lead nowhere.
     ///
     /// Exactly one answer holds of each draft and ROM. The time is linear in the draft's operations
-    /// and the places and pairs that are reached, but that a loop is followed for as many steps as
-    /// there are places.
+    /// and the places and pairs that are reached. Only a loop takes longer: it is followed for as
+    /// many steps as there are places.
     pub fn check<'a, A: Allocator>(
         &mut self,
         draft: &'a Draft,
@@ -129,26 +129,20 @@ impl Checker {
         match bound {
             Some(bound) => Ok(bound),
             None => {
-                let fault = fault_of(draft, rom, &mut self.reached);
+                let found = sweep(&mut self.reached, draft, rom);
                 self.reached.clear();
-                Err(fault)
+                match found {
+                    Some(found) => Err(found.fault),
+                    None => Err(FrameFault::Loops),
+                }
             }
         }
     }
 }
 
-// The fault that is picked of a draft that has one after the first four, or a loop. The list has no
-// pair at first, and the reached ones at the end.
-fn fault_of<A: Allocator>(draft: &Draft, rom: &Rom<A>, list: &mut Worklist) -> FrameFault {
-    match sweep(list, draft, rom) {
-        Some(found) => found.fault,
-        None => FrameFault::Loops,
-    }
-}
-
 /// The frame of a draft that has no fault over the ROM, and else the fault that is picked, as by a
-/// `Checker`, which it lays out on the stack. Whoever checks many drafts keeps a `Checker`, and
-/// saves the time for that.
+/// `Checker`, which it lays out on the stack. A caller that checks many drafts should keep a
+/// `Checker`, which saves the time for that.
 pub fn check<A: Allocator>(draft: &Draft, rom: &Rom<A>) -> Result<Frame, FrameFault> {
     match Checker::new().check(draft, rom) {
         Ok(checked) => Ok(checked.to_frame()),

@@ -7,7 +7,7 @@ use crate::place::Place;
 use dvg_mem::Rom;
 use std::alloc::Allocator;
 
-// The operation at a place, if it is the last one of so many.
+// The operation at a place, if it is the last one of this many.
 fn last_op(count: usize, place: Place) -> Option<u16> {
     match place {
         Place::InFrame(i) => {
@@ -21,7 +21,7 @@ fn last_op(count: usize, place: Place) -> Option<u16> {
     }
 }
 
-// The fault at a pair among so many operations, where this is the way on: that of least number.
+// The fault of least number at a pair among this many operations, where this is the way on.
 #[inline(always)]
 fn fault_at<A: Allocator>(rom: &Rom<A>, count: usize, pair: Pair, seen: Way) -> Option<FrameFault> {
     if seen.goes_on() {

@@ -2,7 +2,7 @@
 use crate::checking::pair::{Pair, index_of, pair_of};
 use arrayvec::ArrayVec;
 
-/// A list of at most so many pairs. Each takes two bytes: its number in the order in which faults
+/// A list of at most `MOST` pairs. Each takes two bytes: its number in the order in which faults
 /// are picked.
 pub(crate) struct PairList<const MOST: usize> {
     numbers: ArrayVec<u16, MOST>,

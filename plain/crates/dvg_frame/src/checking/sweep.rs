@@ -1,6 +1,6 @@
 //! The sweep over all pairs that a draft's run can come to.
 use crate::checking::look::look;
-use crate::checking::pair::{DEEPEST, Pair, index_of};
+use crate::checking::pair::{DEEPEST, FIRST, Pair, index_of};
 use crate::checking::way::Way;
 use crate::checking::worklist::Worklist;
 use crate::draft::Draft;
@@ -55,7 +55,7 @@ fn first_of(best: Option<Found>, found: Found) -> Found {
 /// Each pair is looked at once, when its turn comes in a list without doubles, so the time is
 /// linear in the number of reached pairs.
 pub(crate) fn sweep<A: Allocator>(list: &mut Worklist, draft: &Draft, rom: &Rom<A>) -> Option<Found> {
-    list.add(Pair::default());
+    list.add(FIRST);
     let mut best = None;
     let mut done = 0;
     while done < list.len() {

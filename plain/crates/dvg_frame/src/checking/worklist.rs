@@ -12,7 +12,7 @@ impl Worklist {
     // A list with no pair.
     pub(crate) fn new() -> Worklist {
         Worklist {
-            marks: no_marks(),
+            marks: [false; PAIRS],
             pairs: PairList::new(),
         }
     }
@@ -44,9 +44,4 @@ impl Worklist {
             self.pairs.push(pair);
         }
     }
-}
-
-// The marks of no pair.
-fn no_marks() -> [bool; PAIRS] {
-    [false; PAIRS]
 }

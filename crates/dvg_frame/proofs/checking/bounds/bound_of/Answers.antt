@@ -1,12 +1,11 @@
-use Rattle.std.proofs.Common.{◌≡◌, ◌∙◌, sym, subst, arith, true, false}
+use Rattle.std.proofs.Common.{◌≡◌, ◌∙◌, sym, arith, true, false}
 use Rattle.dvg_frame.specs.Steps.{begin}
-use Rattle.dvg_frame.specs.own.Sweeps.{ReachedPair}
 use Rattle.dvg_frame.proofs.Settled.{returns_refused, deep_refused, accepted, bound, small, fits_by}
 use Rattle.dvg_frame.proofs.checking.bounds.bound_of.Goals as goal
 use Rattle.dvg_frame.proofs.checking.bounds.bound_of.Goals.{then-first-via-then-first, then-first-via-else-first+then-first-gt-DEEPEST}
 
 pub settle-requires-clause-reached : goal.settle-requires-clause-reached
-settle-requires-clause-reached g c = λ all. subst (ReachedPair _ _) (sym c.default.ensures) begin
+settle-requires-clause-reached g c = λ all. begin
 
 pub returns-then-first : goal.returns-then-first
 returns-then-first g c =

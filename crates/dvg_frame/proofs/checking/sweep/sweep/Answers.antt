@@ -1,10 +1,10 @@
-use Rattle.std.proofs.Common.{arith}
+use Rattle.std.proofs.Common.{arith, refl}
 use Rattle.dvg_frame.proofs.Swept.{few_ops, begins_sweep, is_reached, pair_in, stays, fine_step, bad_step, found_pair, finish, all_up_to}
 use Rattle.dvg_frame.proofs.checking.sweep.sweep.Goals as goal
 use Rattle.dvg_frame.proofs.checking.sweep.sweep.Goals.{in-Ok, in-Err}
 
 pub loop-done-init : goal.loop-done-init
-loop-done-init g c = begins_sweep _ _ (few_ops _ c.requires.begins) c.requires.begins _ _ _ c.requires.empty c.default.ensures c.add.ensures
+loop-done-init g c = begins_sweep _ _ (few_ops _ c.requires.begins) c.requires.begins _ _ _ c.requires.empty refl c.add.ensures
 
 pub look-requires-clause-inside : goal.look-requires-clause-inside
 look-requires-clause-inside g c =

@@ -12,4 +12,4 @@ invariant_of-self c = record {
 }
 
 pub returns-clause-in_ram : goal.returns-clause-in_ram
-returns-clause-in_ram c = in_ram c.args.half c.copy_to.new.frame.operations c.new-self-inside.result.items c.base.result c.len_words.result c.new-self-inside.ensures c.base.ensures (c.len_words.ensures.laid c.args.half) c.len_words.ensures.bound
+returns-clause-in_ram c = in_ram c.args.half c.copy_from.new.self.operations c.new-self-inside.result.items c.base.result c.len_words.result c.new-self-inside.ensures c.base.ensures (c.len_words.ensures.laid c.args.half) c.len_words.ensures.bound

@@ -1,6 +1,6 @@
 use Rattle.std.proofs.Common.{◌++◌, ◌∷◌, [], ◌∙◌, take, ap, sym, subst, refl, append_assoc, append-nil, arith, OnOk}
-use Rattle.dvg_text.specs.Texts.{lines}
-use Rattle.dvg_text.proofs.FirstBytes.{IsCutAt, behind, cut_at_first}
+use Rattle.dvg_read.specs.Texts.{lines}
+use Rattle.dvg_read.proofs.FirstBytes.{IsCutAt, behind, cut_at_first}
 use Rattle.dvg_logs.specs.LogReading.{HasRead, IsRead, StopsAt}
 use Rattle.dvg_logs.proofs.NumberLines.{lines_off, lines_read}
 use Rattle.dvg_logs.proofs.LogReads.{at_line, behind_front, cut_line, if_err_weaker, line_off, no_line}

@@ -4,9 +4,9 @@ use Rattle.dvg_named.specs.RowValues.{row_of}
 use Rattle.dvg_named.proofs.OneSketch.{head_is_no_row}
 use Rattle.dvg_named.proofs.ReadRows.{on_ok}
 use Rattle.std.proofs.Common.{◌≡◌, Bool, true, false, subst, sym, ◌∙◌}
-use Rattle.dvg_text.specs.LineParts.{bytes_of}
-use Rattle.dvg_text.specs.RomReading.{TellsRom}
-use Rattle.dvg_text.specs.RomTexts.{RomText}
+use Rattle.dvg_read.specs.LineParts.{bytes_of}
+use Rattle.dvg_read.specs.RomReading.{TellsRom}
+use Rattle.dvg_read.specs.RomTexts.{RomText}
 use Rattle.dvg_named.specs.Rows.{HeadParts, RowParts}
 use Rattle.dvg_named.specs.SketchReading.{IsBare, closed_in, section_in}
 use Rattle.dvg_named.specs.SketchSteps.{line_of}

@@ -1,6 +1,6 @@
 use Rattle.dvg_named.proofs.OneSketch.{tells_no_row}
 use Rattle.std.proofs.Common.{◌∙◌}
-use Rattle.dvg_text.specs.LineParts.{bytes_of}
+use Rattle.dvg_read.specs.LineParts.{bytes_of}
 use Rattle.dvg_named.specs.SketchSteps.{line_of}
 use Rattle.dvg_named.proofs.ReadBegins.{rom_told}
 use Rattle.dvg_named.proofs.reading.Reading.tell.Goals as goal

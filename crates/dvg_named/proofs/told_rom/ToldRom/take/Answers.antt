@@ -1,6 +1,6 @@
 use Rattle.std.proofs.Common.{refl, rules, true}
-use Rattle.dvg_text.proofs.HeldRom.{nothing_told}
-use Rattle.dvg_text.specs.LineParts.{bytes_of}
+use Rattle.dvg_read.proofs.HeldRom.{nothing_told}
+use Rattle.dvg_read.specs.LineParts.{bytes_of}
 use Rattle.dvg_named.specs.SketchSteps.{line_of}
 use Rattle.dvg_named.specs.ToldRoms.{as_drafted}
 use Rattle.dvg_named.proofs.ToldLines.{map_taken, words_taken}

@@ -1,7 +1,7 @@
 use Rattle.std.proofs.Common.{ap, ◌∙◌, Err}
 use Rattle.std.proofs.lemmas.Result.{err_from_is_err_and}
 use Rattle.dvg_io.specs.Faults.{called}
-use Rattle.dvg_text.specs.TraceGives.{StopsReading}
+use Rattle.dvg_read.specs.TraceGives.{StopsReading}
 use Rattle.dvg_tool.specs.Plays.{IsRun}
 use Rattle.dvg_tool.proofs.TracesPlayed.{finds_run, misread}
 use Rattle.dvg_tool.proofs.plays.PlayEngineEngineAlloc.find.Goals as goal

@@ -1,6 +1,6 @@
 use Rattle.std.proofs.Common.{ap, ◌∙◌, Err}
 use Rattle.std.proofs.lemmas.Result.{err_from_is_err_and}
-use Rattle.dvg_text.specs.TraceGives.{StopsReading}
+use Rattle.dvg_read.specs.TraceGives.{StopsReading}
 use Rattle.dvg_tool.proofs.PicturesPlayed.{Finds, finds}
 use Rattle.dvg_tool.proofs.TracesPlayed.{misread}
 use Rattle.dvg_tool.proofs.plays_svg.SvgEngineEngineAlloc.find.Goals as goal

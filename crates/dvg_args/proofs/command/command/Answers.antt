@@ -1,0 +1,19 @@
+use Rattle.std.proofs.Common.{◌≡◌}
+use Rattle.std.proofs.lemmas.Result.{IfOk-weaker}
+use Rattle.clap.specs.Words.{app_of}
+use Rattle.dvg_args.specs.Words.{dvg_app}
+use Rattle.dvg_args.proofs.Parts.{added, same}
+use Rattle.dvg_args.proofs.command.command.Goals as goal
+
+pub returns-clause-app : goal.returns-clause-app
+unfolding dvg_app
+returns-clause-app c =
+    let list = same c.in_ok-with_list.ensures.app c.program.ensures.app c.in_ok-list_command.ensures.app in
+    let rom = same c.in_ok-with_rom.ensures.app list c.helped-rom.ensures.app in
+    let picture = same c.in_ok-with_picture.ensures.app rom c.in_ok-picture_command.ensures.app in
+    let check = same c.in_ok-with_check.ensures.app picture c.in_ok-check_command.ensures.app in
+    let play = same c.in_ok-with_play.ensures.app check c.in_ok-play_command.ensures.app in
+    let torn = same c.in_ok-with_torn.ensures.app play c.helped-torn.ensures.app in
+    let draw = same c.in_ok-with_draw.ensures.app torn c.in_ok-draw_command.ensures.app in
+    IfOk-weaker c.with_part-8.result (λ r. app_of r ≡ added (app_of c.in_ok-with_draw.with_draw) (app_of c.in_ok-lay_command.field-0)) _
+    (λ r e. same e draw c.in_ok-lay_command.ensures.app) c.with_part-8.ensures.app

@@ -1,0 +1,98 @@
+-- What some words come to.
+use Rattle.std.specs.Prelude.{◌≡◌, true, false, List, [], ◌∷◌, codes}
+use Rattle.clap.specs.Words.{Kinds, Text, subcommand_of}
+use Rattle.clap.specs.declared.error.kind.ErrorKind.TheVariants.{ArgumentConflict, DisplayHelp, DisplayVersion}
+use Rattle.clap.specs.declared.error.kind.ErrorKind.TheVariants.{InvalidSubcommand, InvalidValue}
+use Rattle.clap.specs.declared.error.kind.ErrorKind.TheVariants.{MissingRequiredArgument, MissingSubcommand}
+use Rattle.clap.specs.declared.error.kind.ErrorKind.TheVariants.{UnknownArgument}
+use Rattle.dvg_args.specs.Words.{IsJob, TakesWords, dvg_app, words_fault}
+use Rattle.dvg_args.specs.declared.task.Job.{Job}
+use Rattle.dvg_args.specs.declared.task.Job.TheVariants.{List as list_job, ListAt, Rom, Picture, PictureSvg, Check}
+use Rattle.dvg_args.specs.declared.task.Job.TheVariants.{Play, PlaySvg, Torn, Draw, DrawCheck, Lay}
+use Rattle.dvg_args.specs.declared.task.LayForm.TheVariants.{Half0, Half1, Table, Rom as RomBytes, Equates}
+
+-- after any name of the program, the words are taken and ask for the job
+abbrev pub AskFor : List Text → Job → Type 0
+AskFor words job = (name : Text) → TakesWords (name ∷ words) × (words_fault (name ∷ words) ≡ [])
+    × IsJob job (subcommand_of dvg_app (name ∷ words))
+
+-- after any name of the program, the words fail by one of the kinds
+abbrev pub FailAs : List Text → Kinds → Type 0
+FailAs words kinds = (name : Text) → words_fault (name ∷ words) ≡ kinds
+
+-- the words of each job that reads no sketch
+abbrev pub TextJobWords : Type 0
+TextJobWords = AskFor (codes "list" ∷ []) list_job
+    × AskFor (codes "list" ∷ codes "--at" ∷ codes "000" ∷ []) (ListAt 0)
+    × AskFor (codes "list" ∷ codes "--at" ∷ codes "FfE" ∷ []) (ListAt 4094)
+    × AskFor (codes "rom" ∷ []) Rom
+    × AskFor (codes "picture" ∷ []) (Picture false)
+    × AskFor (codes "picture" ∷ codes "--all" ∷ []) (Picture true)
+    × AskFor (codes "picture" ∷ codes "--svg" ∷ []) (PictureSvg 100)
+    × AskFor (codes "picture" ∷ codes "--scale" ∷ codes "10" ∷ codes "--svg" ∷ []) (PictureSvg 10)
+    × AskFor (codes "check" ∷ []) (Check false)
+    × AskFor (codes "check" ∷ codes "--bound" ∷ []) (Check true)
+    × AskFor (codes "play" ∷ []) (Play false false)
+    × AskFor (codes "play" ∷ codes "--all" ∷ []) (Play true false)
+    × AskFor (codes "play" ∷ codes "--banked" ∷ []) (Play false true)
+    × AskFor (codes "play" ∷ codes "--banked" ∷ codes "--all" ∷ []) (Play true true)
+    × AskFor (codes "play" ∷ codes "--svg" ∷ []) (PlaySvg false 100 30)
+    × AskFor (codes "play" ∷ codes "--rate" ∷ codes "60" ∷ codes "--svg" ∷ codes "--banked" ∷ codes "--scale=400" ∷ [])
+    (PlaySvg true 400 60)
+    × AskFor (codes "torn" ∷ []) Torn
+
+-- the words of each job that reads a sketch
+abbrev pub SketchJobWords : Type 0
+SketchJobWords = AskFor (codes "draw" ∷ []) (Draw 100 30)
+    × AskFor (codes "draw" ∷ codes "--scale" ∷ codes "33" ∷ codes "--rate" ∷ codes "1" ∷ []) (Draw 33 1)
+    × AskFor (codes "draw" ∷ codes "--check" ∷ []) DrawCheck
+    × AskFor (codes "draw" ∷ codes "--check" ∷ codes "--scale" ∷ codes "50" ∷ codes "--rate" ∷ codes "3" ∷ []) DrawCheck
+    × AskFor (codes "lay" ∷ []) (Lay Half0)
+    × AskFor (codes "lay" ∷ codes "--half" ∷ codes "0" ∷ []) (Lay Half0)
+    × AskFor (codes "lay" ∷ codes "--half" ∷ codes "1" ∷ []) (Lay Half1)
+    × AskFor (codes "lay" ∷ codes "--half=1" ∷ []) (Lay Half1)
+    × AskFor (codes "lay" ∷ codes "--table" ∷ []) (Lay Table)
+    × AskFor (codes "lay" ∷ codes "--rom" ∷ []) (Lay RomBytes)
+    × AskFor (codes "lay" ∷ codes "--equates" ∷ []) (Lay Equates)
+
+-- words that ask for help, or for the version; the words after `help` may name no subcommand
+abbrev pub HelpWords : Type 0
+HelpWords = FailAs (codes "--help" ∷ []) (DisplayHelp ∷ [])
+    × FailAs (codes "-h" ∷ []) (DisplayHelp ∷ [])
+    × FailAs (codes "play" ∷ codes "--help" ∷ []) (DisplayHelp ∷ [])
+    × FailAs (codes "help" ∷ []) (DisplayHelp ∷ InvalidSubcommand ∷ [])
+    × FailAs (codes "help" ∷ codes "play" ∷ []) (DisplayHelp ∷ InvalidSubcommand ∷ [])
+    × FailAs (codes "--version" ∷ []) (DisplayVersion ∷ [])
+    × FailAs (codes "-V" ∷ []) (DisplayVersion ∷ [])
+
+-- words that are refused: none, another subcommand, an option of another subcommand, an option
+-- twice, and a word too many
+abbrev pub OtherWords : Type 0
+OtherWords = FailAs [] (MissingSubcommand ∷ [])
+    × FailAs (codes "lists" ∷ []) (UnknownArgument ∷ InvalidSubcommand ∷ [])
+    × FailAs (codes "list" ∷ codes "--all" ∷ []) (UnknownArgument ∷ [])
+    × FailAs (codes "check" ∷ codes "--all" ∷ []) (UnknownArgument ∷ [])
+    × FailAs (codes "play" ∷ codes "--all" ∷ codes "--all" ∷ []) (ArgumentConflict ∷ [])
+    × FailAs (codes "list" ∷ codes "list" ∷ []) (UnknownArgument ∷ [])
+
+-- options that are refused: a value that is none or that is missing, options that exclude each
+-- other, and a size or a rate without `--svg`
+abbrev pub RefusedOptions : Type 0
+RefusedOptions = FailAs (codes "list" ∷ codes "--at" ∷ codes "12" ∷ []) (InvalidValue ∷ [])
+    × FailAs (codes "list" ∷ codes "--at" ∷ codes "12G" ∷ []) (InvalidValue ∷ [])
+    × FailAs (codes "list" ∷ codes "--at" ∷ codes "+12" ∷ []) (InvalidValue ∷ [])
+    × FailAs (codes "list" ∷ codes "--at" ∷ codes "1000" ∷ []) (InvalidValue ∷ [])
+    × FailAs (codes "picture" ∷ codes "--svg" ∷ codes "--all" ∷ []) (ArgumentConflict ∷ [])
+    × FailAs (codes "picture" ∷ codes "--scale" ∷ codes "50" ∷ []) (MissingRequiredArgument ∷ [])
+    × FailAs (codes "picture" ∷ codes "--svg" ∷ codes "--scale" ∷ codes "9" ∷ []) (InvalidValue ∷ [])
+    × FailAs (codes "play" ∷ codes "--all" ∷ codes "--svg" ∷ []) (ArgumentConflict ∷ [])
+    × FailAs (codes "play" ∷ codes "--rate" ∷ codes "3" ∷ []) (MissingRequiredArgument ∷ [])
+    × FailAs (codes "play" ∷ codes "--svg" ∷ codes "--rate" ∷ codes "61" ∷ []) (InvalidValue ∷ [])
+    × FailAs (codes "draw" ∷ codes "--scale" ∷ codes "401" ∷ []) (InvalidValue ∷ [])
+    × FailAs (codes "draw" ∷ codes "--check" ∷ codes "--rate" ∷ codes "0" ∷ []) (InvalidValue ∷ [])
+    × FailAs (codes "draw" ∷ codes "--rate" ∷ []) (InvalidValue ∷ [])
+    × FailAs (codes "lay" ∷ codes "--half" ∷ codes "2" ∷ []) (InvalidValue ∷ [])
+    × FailAs (codes "lay" ∷ codes "--half" ∷ []) (InvalidValue ∷ [])
+    × FailAs (codes "lay" ∷ codes "--half" ∷ codes "0" ∷ codes "--rom" ∷ []) (ArgumentConflict ∷ [])
+    × FailAs (codes "lay" ∷ codes "--rom" ∷ codes "--table" ∷ []) (ArgumentConflict ∷ [])
+    × FailAs (codes "lay" ∷ codes "--half" ∷ codes "0" ∷ codes "--half" ∷ codes "1" ∷ []) (ArgumentConflict ∷ [])

@@ -1,0 +1,135 @@
+-- What the options of a subcommand say, and how they are refused.
+use Rattle.std.specs.Prelude.{◌≡◌, ◌==◌, ◌&&◌, ◌||◌, ℕ, Bool, true, false, not, List, [], ◌∷◌, Option, Some, None}
+use Rattle.std.specs.Prelude.{Result, MatchResult, codes, count_by, if◌then◌else◌, is_some, length, nat_lt}
+use Rattle.std.specs.Prelude.{option_and_then}
+use Rattle.std.specs.Char.{digit_value}
+use Rattle.std.specs.Int.{is_in_range}
+use Rattle.std.specs.List.{list_all}
+use Rattle.std.specs.Option.{option_map_or}
+use Rattle.std.specs.Str.{bytes_eq}
+use Rattle.std.specs.Str.Parse.{digits_value, without_leading_plus}
+use Rattle.clap.specs.Words.{Kinds, Row, Text, first_of}
+use Rattle.clap.specs.declared.error.kind.ErrorKind.{ErrorKind}
+use Rattle.clap.specs.declared.error.kind.ErrorKind.TheVariants.{ArgumentConflict, InvalidValue}
+use Rattle.clap.specs.declared.error.kind.ErrorKind.TheVariants.{MissingRequiredArgument}
+use Rattle.dvg_args.specs.declared.options.Shown.{Shown}
+use Rattle.dvg_args.specs.declared.task.LayForm.{LayForm}
+use Rattle.dvg_args.specs.declared.task.LayForm.TheVariants.{Half0, Half1, Table, Rom as RomBytes, Equates}
+
+-- the matching sets the flag
+abbrev pub sets : Text → List Row → Bool
+sets id rows = option_map_or (λ t. bytes_eq t (codes "true")) (first_of id rows) false
+
+-- the matching gives the option a value
+abbrev pub gives : Text → List Row → Bool
+gives id rows = is_some (first_of id rows)
+
+-- ---- numbers
+
+-- digits, at least one
+abbrev pub is_numeral : (radix : ℕ) → Text → Bool
+is_numeral radix digits = nat_lt 0 (length digits) && list_all (λ d. nat_lt (digit_value d) radix) digits
+
+-- the number that decimal digits write, where it is one from `least` to `most`
+abbrev pub decimal_in : (least most : ℕ) → (digits : Text) → Option ℕ
+decimal_in least most digits =
+    if is_numeral 10 digits && is_in_range least most (digits_value 10 digits) then Some (digits_value 10 digits)
+    else None
+
+-- the same of a text, in which a plus may stand first
+abbrev pub number_in : (least most : ℕ) → Text → Option ℕ
+number_in least most text = decimal_in least most (without_leading_plus text)
+
+-- the number that an option gives, or else the default
+abbrev pub number_of : Text → (least most default : ℕ) → List Row → Option ℕ
+number_of id least most default rows = option_map_or (number_in least most) (first_of id rows) (Some default)
+
+-- the size of pictures, in percent
+abbrev pub percent_of : List Row → Option ℕ
+percent_of = number_of (codes "scale") 10 400 100
+
+-- how many pictures are shown a second
+abbrev pub rate_of : List Row → Option ℕ
+rate_of = number_of (codes "rate") 1 60 30
+
+-- the address that three hexadecimal digits write
+abbrev pub address_in : Text → Option ℕ
+address_in text = if length text == 3 && is_numeral 16 text then Some (digits_value 16 text) else None
+
+-- the address that `list` is given
+abbrev pub address_of : List Row → Option ℕ
+address_of rows = option_and_then address_in (first_of (codes "at") rows)
+
+-- ---- the forms of `lay`
+
+-- how many of the four options of `lay` are given
+abbrev pub given_count : (half table rom equates : Bool) → ℕ
+given_count half table rom equates =
+    count_by (λ is_given. is_given) (half ∷ table ∷ rom ∷ equates ∷ [])
+
+-- the form in a half of this number
+abbrev pub half_form : Text → Option LayForm
+half_form number = if bytes_eq number (codes "0") then Some Half0
+    else (if bytes_eq number (codes "1") then Some Half1 else None)
+
+-- the form that an option asks for; without one it is half 0
+abbrev pub form_by : (table rom equates : Bool) → (half : Option Text) → Option LayForm
+form_by true rom equates half = Some Table
+form_by false true equates half = Some RomBytes
+form_by false false true half = Some Equates
+form_by false false false half = option_map_or half_form half (Some Half0)
+
+-- how many of the options of `lay` the matching gives
+abbrev pub forms_given : List Row → ℕ
+forms_given rows = given_count (gives (codes "half") rows) (sets (codes "table") rows)
+    (sets (codes "rom") rows) (sets (codes "equates") rows)
+
+-- the form that the options of `lay` ask for
+abbrev pub form_of : List Row → Option LayForm
+form_of rows = form_by (sets (codes "table") rows) (sets (codes "rom") rows)
+    (sets (codes "equates") rows) (first_of (codes "half") rows)
+
+-- ---- how options are refused
+
+-- options that exclude each other, one that wants another which isn't given, or a value that is none
+abbrev pub refused_by : (clash lacking good : Bool) → Kinds
+refused_by clash lacking good = if clash then ArgumentConflict ∷ []
+    else (if lacking then MissingRequiredArgument ∷ [] else (if good then [] else InvalidValue ∷ []))
+
+-- the size and the rate are good
+abbrev pub shows_well : List Row → Bool
+shows_well rows = is_some (percent_of rows) && is_some (rate_of rows)
+
+-- how the option of `list` is refused
+abbrev pub list_fault : List Row → Kinds
+list_fault rows = refused_by false false (not (gives (codes "at") rows) || is_some (address_of rows))
+
+-- how the options of `picture` and of `play` are refused: a size and a rate go with `--svg` alone
+abbrev pub svg_fault : List Row → Kinds
+svg_fault rows = refused_by (sets (codes "svg") rows && sets (codes "all") rows)
+    (not (sets (codes "svg") rows) && (gives (codes "scale") rows || gives (codes "rate") rows))
+    (shows_well rows)
+
+-- how the options of `draw` are refused
+abbrev pub draw_fault : List Row → Kinds
+draw_fault rows = refused_by false false (shows_well rows)
+
+-- how the options of `lay` are refused
+abbrev pub lay_fault : List Row → Kinds
+lay_fault rows = refused_by (nat_lt 1 (forms_given rows)) false (is_some (form_of rows))
+
+-- how the options of a subcommand are refused; one that isn't named here has none that can be
+abbrev pub fault_in : Text → List Row → Kinds
+fault_in name rows = if bytes_eq name (codes "list") then list_fault rows
+    else (if bytes_eq name (codes "picture") then svg_fault rows
+    else (if bytes_eq name (codes "play") then svg_fault rows
+    else (if bytes_eq name (codes "draw") then draw_fault rows
+    else (if bytes_eq name (codes "lay") then lay_fault rows else []))))
+
+-- an answer comes only where nothing is refused, and a kind where it is the one (for a private contract)
+abbrev pub Refuses : {T : Type 0} → Result T ErrorKind → Kinds → Type 0
+Refuses answer kinds = MatchResult answer (λ _. kinds ≡ []) (λ kind. kinds ≡ kind ∷ [])
+
+-- how large and how fast pictures are shown (for a private contract)
+abbrev pub Shows : List Row → Shown → Type 0
+Shows rows shown = (percent_of rows ≡ Some shown.percent) × (rate_of rows ≡ Some shown.rate)

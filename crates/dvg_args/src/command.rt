@@ -1,0 +1,214 @@
+//! The program's command, as `clap` reads it.
+ghost use Rattle.std.specs.Prelude.{◌≡◌, IfOk, codes, false};
+ghost use Rattle.clap.specs.Words.{app_of, new_app, rule_of, with_rule, with_subcommand};
+ghost use Rattle.clap.specs.declared.builder.command.Command.TheViews.{out-Command as fields_of};
+ghost use Rattle.dvg_args.specs.Words as spec;
+ghost use Rattle.dvg_args.specs.Words.{check_app, draw_app, dvg_app, flag, lay_app, list_app, picture_app, play_app, program_app, valued};
+
+use crate::help;
+use clap::{Arg, ArgAction, Command};
+use std::alloc::{AllocError, Global};
+
+// A command with its help: what it does, how it is called, and what it reads and writes.
+fn helped<'a>(
+    alloc: Global,
+    name: &'a str,
+    about: &'a str,
+    usage: &'a str,
+    details: &'a str,
+) -> Command<'a>
+    ensures app { app_of result ≡ new_app name.entry.now }
+    ensures local { (fields_of result).has_globals ≡ false }
+{
+    Command::new(alloc, name)
+        .about(about)
+        .override_usage(usage)
+        .after_help(details)
+}
+
+// An option that is given or not.
+fn flag<'a>(alloc: Global, option: &'a str, details: &'a str) -> Arg<'a>
+    ensures rule { rule_of result ≡ flag option.entry.now }
+    ensures local { result.global ≡ false }
+{
+    Arg::new(alloc, option)
+        .long(option)
+        .help(details)
+        .action(ArgAction::SetTrue)
+}
+
+// An option that takes a value.
+fn valued<'a>(alloc: Global, option: &'a str, value: &'a str, details: &'a str) -> Arg<'a>
+    ensures rule { rule_of result ≡ valued option.entry.now }
+    ensures local { result.global ≡ false }
+{
+    Arg::new(alloc, option)
+        .long(option)
+        .value_name(value)
+        .help(details)
+        .action(ArgAction::Set)
+}
+
+// The command with one more option, which is given or not.
+fn with_flag<'a>(
+    alloc: Global,
+    part: Command<'a>,
+    option: &'a str,
+    details: &'a str,
+) -> Result<Command<'a>, AllocError>
+    requires { (fields_of part).has_globals ≡ false }
+    ensures app { IfOk result (λ c.
+        app_of c ≡ spec.with_flag (app_of part.entry) option.entry.now) }
+    ensures local { IfOk result (λ c. (fields_of c).has_globals ≡ false) }
+{
+    part.arg(flag(alloc, option, details))
+}
+
+// The command with one more option, which takes a value.
+fn with_value<'a>(
+    alloc: Global,
+    part: Command<'a>,
+    option: &'a str,
+    value: &'a str,
+    details: &'a str,
+) -> Result<Command<'a>, AllocError>
+    requires { (fields_of part).has_globals ≡ false }
+    ensures app { IfOk result (λ c.
+        app_of c ≡ spec.with_value (app_of part.entry) option.entry.now) }
+    ensures local { IfOk result (λ c. (fields_of c).has_globals ≡ false) }
+{
+    part.arg(valued(alloc, option, value, details))
+}
+
+// The command with the size and the rate of pictures as further options.
+fn showing<'a>(alloc: Global, part: Command<'a>) -> Result<Command<'a>, AllocError>
+    requires { (fields_of part).has_globals ≡ false }
+    ensures app { IfOk result (λ c. app_of c ≡ spec.showing (app_of part.entry)) }
+    ensures local { IfOk result (λ c. (fields_of c).has_globals ≡ false) }
+{
+    let with_scale = with_value(alloc, part, "scale", "N", help::SCALE)?;
+    let rate = "Show so many pictures a second, 1 to 60 [default: 30]";
+    with_value(alloc, with_scale, "rate", "N", rate)
+}
+
+// The subcommand `list`.
+fn list_command<'a>(alloc: Global) -> Result<Command<'a>, AllocError>
+    ensures app { IfOk result (λ c. app_of c ≡ list_app) }
+    ensures local { IfOk result (λ c. (fields_of c).has_globals ≡ false) }
+{
+    let about = "List the instructions of words";
+    let list = helped(alloc, "list", about, help::LIST_USAGE, help::LIST);
+    let at = "Count addresses from this one, three hexadecimal digits";
+    with_value(alloc, list, "at", "HHH", at)
+}
+
+// The subcommand `picture`.
+fn picture_command<'a>(alloc: Global) -> Result<Command<'a>, AllocError>
+    ensures app { IfOk result (λ c. app_of c ≡ picture_app) }
+    ensures local { IfOk result (λ c. (fields_of c).has_globals ≡ false) }
+{
+    let about = "Draw what a dump of the vector memory draws";
+    let usage = help::PICTURE_USAGE;
+    let picture = helped(alloc, "picture", about, usage, help::PICTURE);
+    let each = "Print each instruction that is run, too";
+    let with_all = with_flag(alloc, picture, "all", each)?;
+    let with_svg = with_flag(alloc, with_all, "svg", "Write the picture as SVG")?;
+    with_value(alloc, with_svg, "scale", "N", help::SCALE)
+}
+
+// The subcommand `check`.
+fn check_command<'a>(alloc: Global) -> Result<Command<'a>, AllocError>
+    ensures app { IfOk result (λ c. app_of c ≡ check_app) }
+    ensures local { IfOk result (λ c. (fields_of c).has_globals ≡ false) }
+{
+    let about = "Say whether a draft may be drawn";
+    let usage = "dvg check [--bound] < DRAFT";
+    let check = helped(alloc, "check", about, usage, help::CHECK);
+    let bound = "Also tell how many words the whole run of a good draft fetches";
+    with_flag(alloc, check, "bound", bound)
+}
+
+// The subcommand `play`.
+fn play_command<'a>(alloc: Global) -> Result<Command<'a>, AllocError>
+    ensures app { IfOk result (λ c. app_of c ≡ play_app) }
+    ensures local { IfOk result (λ c. (fields_of c).has_globals ≡ false) }
+{
+    let play = helped(alloc, "play", "Play a trace", help::PLAY_USAGE, help::PLAY);
+    let all = "Print each entry, not the finished pictures alone";
+    let with_all = with_flag(alloc, play, "all", all)?;
+    let banked = "Keep the RAM in banks, not in one piece";
+    let with_banked = with_flag(alloc, with_all, "banked", banked)?;
+    let svg = "Write the finished pictures as one SVG";
+    let with_svg = with_flag(alloc, with_banked, "svg", svg)?;
+    showing(alloc, with_svg)
+}
+
+// The subcommand `draw`.
+fn draw_command<'a>(alloc: Global) -> Result<Command<'a>, AllocError>
+    ensures app { IfOk result (λ c. app_of c ≡ draw_app) }
+    ensures local { IfOk result (λ c. (fields_of c).has_globals ≡ false) }
+{
+    let about = "Draw the frames of a sketch";
+    let draw = helped(alloc, "draw", about, help::DRAW_USAGE, help::DRAW);
+    let check = "Say of each frame whether it may be drawn, and draw none";
+    let with_check = with_flag(alloc, draw, "check", check)?;
+    showing(alloc, with_check)
+}
+
+// The subcommand `lay`.
+fn lay_command<'a>(alloc: Global) -> Result<Command<'a>, AllocError>
+    ensures app { IfOk result (λ c. app_of c ≡ lay_app) }
+    ensures local { IfOk result (λ c. (fields_of c).has_globals ≡ false) }
+{
+    let about = "Lay out the frames of a sketch";
+    let lay = helped(alloc, "lay", about, help::LAY_USAGE, help::LAY);
+    let half = "Write the frames as they lie in this half [default: 0]";
+    let with_half = with_value(alloc, lay, "half", "0|1", half)?;
+    let table = "Write the frames as text for the assembler ca65";
+    let with_table = with_flag(alloc, with_half, "table", table)?;
+    let rom = "Write the bytes of the ROM";
+    let with_rom = with_flag(alloc, with_table, "rom", rom)?;
+    let equates = "Write the names of the ROM with their addresses";
+    with_flag(alloc, with_rom, "equates", equates)
+}
+
+// The program without its subcommands.
+fn program<'a>(alloc: Global) -> Command<'a>
+    ensures app { app_of result ≡ program_app }
+    ensures local { (fields_of result).has_globals ≡ false }
+{
+    let about = "List, check, draw and play display lists of the Digital Vector Generator (DVG)";
+    helped(alloc, "dvg", about, help::USAGE, help::PROGRAM)
+        .version(help::VERSION)
+        .subcommand_required(true)
+}
+
+// The program with one more subcommand.
+fn with_part<'a>(program: Command<'a>, part: Command<'a>) -> Result<Command<'a>, AllocError>
+    requires program { (fields_of program).has_globals ≡ false }
+    requires part { (fields_of part).has_globals ≡ false }
+    ensures app { IfOk result (λ c.
+        app_of c ≡ with_subcommand (app_of program.entry) (app_of part.entry).top) }
+    ensures local { IfOk result (λ c. (fields_of c).has_globals ≡ false) }
+{
+    program.subcommand(part)
+}
+
+/// The program's command.
+pub(crate) fn command<'a>(alloc: Global) -> Result<Command<'a>, AllocError>
+    ensures app { IfOk result (λ c. app_of c ≡ dvg_app) }
+    ensures local { IfOk result (λ c. (fields_of c).has_globals ≡ false) }
+{
+    let rom_usage = "dvg rom < ROM";
+    let rom = helped(alloc, "rom", "Write a ROM as text", rom_usage, help::ROM);
+    let about_torn = "Say whether a log tears a picture, and where";
+    let torn = helped(alloc, "torn", about_torn, "dvg torn < LOG", help::TORN);
+    let with_list = with_part(program(alloc), list_command(alloc)?)?;
+    let with_rom = with_part(with_list, rom)?;
+    let with_picture = with_part(with_rom, picture_command(alloc)?)?;
+    let with_check = with_part(with_picture, check_command(alloc)?)?;
+    let with_play = with_part(with_check, play_command(alloc)?)?;
+    let with_torn = with_part(with_play, torn)?;
+    let with_draw = with_part(with_torn, draw_command(alloc)?)?;
+    with_part(with_draw, lay_command(alloc)?)
+}

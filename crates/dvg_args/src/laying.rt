@@ -1,0 +1,79 @@
+//! What the options of `lay` ask for. They exclude each other, which is this project's own choice.
+ghost use Rattle.std.specs.Prelude.{◌≡◌, IfOk, Some, codes, option_map};
+ghost use Rattle.clap.specs.Words.{found_of, rows_of};
+ghost use Rattle.dvg_args.specs.Options.{Refuses, form_by, form_of, given_count, half_form, lay_fault};
+ghost use Rattle.dvg_args.specs.Words.{IsJob};
+
+use crate::options::is_set;
+use crate::task::{Job, LayForm};
+use clap::ArgMatches;
+use clap::error::ErrorKind;
+
+// How many of the options are given.
+fn given_count(half: bool, table: bool, rom: bool, equates: bool) -> u8
+    ensures { result ≡ given_count half table rom equates }
+{
+    u8::from(half) + u8::from(table) + u8::from(rom) + u8::from(equates)
+}
+
+// The form in a half of this number.
+fn half_form(number: &str) -> Option<LayForm>
+    ensures { result ≡ half_form number.now }
+{
+    if number == "0" {
+        Some(LayForm::Half0)
+    } else if number == "1" {
+        Some(LayForm::Half1)
+    } else {
+        None
+    }
+}
+
+// The form that the options ask for.
+fn form_by(table: bool, rom: bool, equates: bool, half: Option<&str>) -> Option<LayForm>
+    ensures { result ≡ form_by table rom equates (option_map (λ s. s.now) half.entry) }
+{
+    if table {
+        return Some(LayForm::Table);
+    }
+    if rom {
+        return Some(LayForm::Rom);
+    }
+    if equates {
+        return Some(LayForm::Equates);
+    }
+    match half {
+        Some(number) => half_form(number),
+        None => Some(LayForm::Half0),
+    }
+}
+
+// The form that the options ask for: bytes in half 0 where none is given.
+fn lay_form(found: &ArgMatches) -> Result<LayForm, ErrorKind>
+    ensures ok { IfOk result (λ f. form_of (rows_of (found_of found.now)) ≡ Some f) }
+    ensures kinds { Refuses result (lay_fault (rows_of (found_of found.now))) }
+{
+    let half = found.get_str("half");
+    let table = is_set(found, "table");
+    let rom = is_set(found, "rom");
+    let equates = is_set(found, "equates");
+    if given_count(half.is_some(), table, rom, equates) > 1 {
+        return Err(ErrorKind::ArgumentConflict);
+    }
+    match form_by(table, rom, equates, half) {
+        Some(form) => Ok(form),
+        None => Err(ErrorKind::InvalidValue),
+    }
+}
+
+/// What the options of `lay` ask for. They are refused where two are given (`ArgumentConflict`), or
+/// a half that is neither 0 nor 1 (`InvalidValue`).
+pub(crate) fn lay_job(found: &ArgMatches) -> Result<Job, ErrorKind>
+    ensures ok { IfOk result (λ j. IsJob j (Some (codes "lay", rows_of (found_of found.now)))) }
+    ensures kinds { Refuses result (lay_fault (rows_of (found_of found.now))) }
+{
+    match lay_form(found) {
+        Ok(form) => Ok(Job::Lay { form }),
+        Err(kind) => Err(kind),
+    }
+}

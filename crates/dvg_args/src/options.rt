@@ -1,0 +1,82 @@
+//! What the options of a subcommand say.
+ghost use Rattle.std.specs.Prelude.{◌≡◌, IfNone, IfSome, false};
+ghost use Rattle.clap.specs.Words.{found_of, rows_of};
+ghost use Rattle.dvg_args.specs.Options as spec;
+ghost use Rattle.dvg_args.specs.Options.{Shows, gives, sets, shows_well};
+
+use clap::ArgMatches;
+
+/// How large pictures are shown, in percent, and how many of them a second.
+#[derive(Clone, Copy)]
+pub(crate) struct Shown {
+    pub(crate) percent: u16,
+    pub(crate) rate: u16,
+}
+
+/// Whether the matching sets a flag.
+pub(crate) fn is_set(found: &ArgMatches, id: &str) -> bool
+    ensures { result ≡ sets id.now (rows_of (found_of found.now)) }
+{
+    match found.get_str(id) {
+        Some(text) => text == "true",
+        None => false,
+    }
+}
+
+/// Whether the matching gives an option a value.
+pub(crate) fn is_given(found: &ArgMatches, id: &str) -> bool
+    ensures { result ≡ gives id.now (rows_of (found_of found.now)) }
+{
+    found.get_str(id).is_some()
+}
+
+// The number that a text writes in decimal, where it is one of these.
+fn number_in(least: u16, most: u16, text: &str) -> Option<u16>
+    ensures { result ≡ spec.number_in least most text.now }
+{
+    let Ok(number) = text.parse::<u16>() else {
+        return None;
+    };
+    if number < least || most < number {
+        return None;
+    }
+    Some(number)
+}
+
+// The number that an option gives, or else the default.
+fn number_of(found: &ArgMatches, id: &str, least: u16, most: u16, default: u16) -> Option<u16>
+    ensures { result ≡ spec.number_of id.now least most default (rows_of (found_of found.now)) }
+{
+    match found.get_str(id) {
+        Some(text) => number_in(least, most, text),
+        None => Some(default),
+    }
+}
+
+/// How pictures are shown, where the options give good numbers or none.
+pub(crate) fn read_shown(found: &ArgMatches) -> Option<Shown>
+    ensures some { IfSome result (Shows (rows_of (found_of found.now))) }
+    ensures none { IfNone result (shows_well (rows_of (found_of found.now)) ≡ false) }
+{
+    let Some(percent) = number_of(found, "scale", 10, 400, 100) else {
+        return None;
+    };
+    let Some(rate) = number_of(found, "rate", 1, 60, 30) else {
+        return None;
+    };
+    Some(Shown { percent, rate })
+}
+
+/// The address that three hexadecimal digits write.
+pub(crate) fn address_in(text: &str) -> Option<u16>
+    ensures { result ≡ spec.address_in text.now }
+{
+    let bytes = text.as_bytes();
+    if bytes.len() != 3 || bytes[0] == b'+' {
+        return None;
+    }
+    match u16::from_str_radix(text, 16) {
+        Ok(address) => Some(address),
+        Err(_) => None,
+    }
+}

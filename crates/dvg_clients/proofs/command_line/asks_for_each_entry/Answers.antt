@@ -1,6 +1,0 @@
-use Rattle.std.specs.Prelude.{codes}
-use Rattle.dvg_clients.proofs.Clients.{job_is}
-use Rattle.dvg_clients.proofs.command_line.asks_for_each_entry.Goals as goal
-
-pub returns : goal.returns
-returns c = job_is c.job.result _ c.job.ensures.ok (c.text_job_words.ensures.11 (codes "dvg")).2

@@ -1,5 +1,0 @@
-use Rattle.dvg_clients.proofs.Clients.{plays_tick}
-use Rattle.dvg_clients.proofs.engines.plays_a_tick.Goals as goal
-
-pub returns-in-Ok : goal.returns-in-Ok
-returns-in-Ok g c is = plays_tick _ _ _ c.in-Ok.field-0 c.requires.text c.in-Ok.ensures.means

@@ -1,6 +1,0 @@
-use Rattle.std.proofs.Common.{refl, []}
-use Rattle.dvg_code.proofs.Rows.{long_vector}
-use Rattle.dvg_clients.proofs.instructions.decodes_a_vector.Goals as goal
-
-pub returns : goal.returns
-returns c = c.decode.ensures.found _ 2 (record { front = _; after = []; parts = refl; spells = long_vector; counted = refl })

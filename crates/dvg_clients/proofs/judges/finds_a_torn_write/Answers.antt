@@ -1,5 +1,0 @@
-use Rattle.dvg_clients.proofs.Judged.{torn_at_2}
-use Rattle.dvg_clients.proofs.judges.finds_a_torn_write.Goals as goal
-
-pub returns : goal.returns
-returns c = torn_at_2 c.first_torn.result c.first_torn.ensures.torn c.first_torn.ensures.untorn

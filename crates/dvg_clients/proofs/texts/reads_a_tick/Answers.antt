@@ -1,7 +1,0 @@
-use Rattle.std.proofs.Common.{subst}
-use Rattle.dvg_text.specs.TraceGives.{GivesTrace}
-use Rattle.dvg_clients.proofs.Clients.{events_are}
-use Rattle.dvg_clients.proofs.texts.reads_a_tick.Goals as goal
-
-pub returns-in-Ok : goal.returns-in-Ok
-returns-in-Ok c = events_are c.in-Ok.told.events c.in-Ok.told.rom.items (subst (λ text. GivesTrace text c.in-Ok.told.events c.in-Ok.told.rom.items) c.requires c.in-Ok.ensures.gives)

@@ -1,8 +1,0 @@
-use Rattle.std.proofs.Common.{subst}
-use Rattle.std.specs.Prelude.{IfErr}
-use Rattle.dvg_text.specs.TraceGives.{StopsReading}
-use Rattle.dvg_clients.proofs.Clients.{no_fault_in}
-use Rattle.dvg_clients.proofs.texts.tick_has_no_fault.Goals as goal
-
-pub returns : goal.returns
-returns c = no_fault_in c.read_trace.result (subst (λ text. IfErr c.read_trace.result (λ fault. StopsReading fault text)) c.requires c.read_trace.ensures.fault)

@@ -1,6 +1,0 @@
-use Rattle.dvg_mem.specs.Memory.{fetched}
-use Rattle.dvg_clients.proofs.Alone.{InRun}
-use Rattle.dvg_clients.proofs.undisturbed.drawn.Given as goal
-
-abbrev pub invariant-loop-words : goal.invariant-loop-words
-invariant-loop-words l = InRun (fetched l.store l.rom) l.words l.generator

@@ -1,5 +1,0 @@
-use Rattle.dvg_clients.proofs.Laying.{IsLaid}
-use Rattle.dvg_clients.proofs.undisturbed.laid.Given as goal
-
-abbrev pub invariant-loop-k : goal.invariant-loop-k
-invariant-loop-k l = IsLaid l.store l.half l.frame.operations l.k

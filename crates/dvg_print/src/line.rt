@@ -1,0 +1,324 @@
+//! Lines of output, made without taking memory.
+ghost use Rattle.std.specs.Prelude.{◌≡◌, ◌≤◌, ◌<◌, ◌+◌, ◌++◌, ◌∷◌, [], List, ℕ, length, codes};
+ghost use Rattle.std.specs.Prelude.{decimal, true};
+ghost use Rattle.std.specs.Fmt.{digit_glyph};
+ghost use Rattle.dvg_print.specs.Lines.{hex_2, hex_3, hex_4, instr_parts, line_text, listed_parts};
+ghost use Rattle.dvg_print.specs.Lines.{rom_line, spaced, vector_parts};
+ghost use Rattle.dvg_print.specs.Verdicts.{bounded_line, fault_parts, place_parts, verdict_line};
+
+use crate::verdict::{BoundedVerdict, Verdict};
+use arrayvec::ArrayVec;
+use dvg_code::{Code, Instr};
+use dvg_frame::{FrameFault, Place};
+use itoa::{Buffer, Integer};
+use std::marker::Model;
+
+/// A line of output, of at most 64 bytes.
+#[derive(Drop)]
+pub struct Line {
+    bytes: ArrayVec<u8, 64>,
+}
+
+/// Contracts see the bytes.
+impl Model for Line {
+    ghost Value = { List ℕ };
+
+    ghost view = { λ line. line.bytes.items };
+
+    ghost invariant = { λ line. length line.bytes.items ≤ 64 };
+}
+
+impl Line {
+    /// A line with no bytes.
+    pub fn new() -> Line
+        ensures { result ≡ [] }
+    {
+        Line {
+            bytes: ArrayVec::new(),
+        }
+    }
+
+    /// The bytes.
+    pub fn as_bytes(&self) -> &[u8]
+        ensures { result.now ≡ self.now }
+    {
+        self.bytes.as_slice()
+    }
+
+    // Becomes a line with no bytes.
+    pub(crate) fn clear(&mut self)
+        ensures { self.new ≡ [] }
+    {
+        self.bytes.clear();
+    }
+
+    // Becomes a number in decimal.
+    pub(crate) fn become_number<I: Integer>(&mut self, n: I)
+        requires { I.MAX_STR_LEN ≤ 64 }
+        ensures text { self.new ≡ I.text n }
+        ensures grew { length self.new ≤ I.MAX_STR_LEN }
+    {
+        self.bytes.clear();
+        self.text(Buffer::new().format(n).as_bytes());
+    }
+
+    // Appends a text.
+    pub(crate) fn text(&mut self, text: &[u8])
+        requires { length self.old + length text.now ≤ 64 }
+        ensures text { self.new ≡ self.old ++ text.now }
+        ensures grew { length self.new ≡ length self.old + length text.now }
+    {
+        self.bytes.try_extend_from_slice(text).unwrap();
+    }
+
+    // Appends a space and a part of the line.
+    pub(crate) fn part(&mut self, part: &[u8])
+        requires { length self.old + length part.now < 64 }
+        ensures text { self.new ≡ self.old ++ spaced (part.now ∷ []) }
+        ensures grew { length self.new ≡ length self.old + length part.now + 1 }
+    {
+        self.text(b" ");
+        self.text(part);
+    }
+
+    // Appends a space and a number in decimal.
+    pub(crate) fn number<I: Integer>(&mut self, n: I)
+        requires { length self.old + I.MAX_STR_LEN < 64 }
+        ensures text { self.new ≡ self.old ++ spaced (I.text n ∷ []) }
+        ensures grew { length self.new ≤ length self.old + I.MAX_STR_LEN + 1 }
+    {
+        self.part(Buffer::new().format(n).as_bytes());
+    }
+
+    // Appends a hexadecimal digit in upper case.
+    fn hex_digit(&mut self, digit: usize)
+        requires digit { digit < 16 }
+        requires room { length self.old < 64 }
+        ensures text { self.new ≡ self.old ++ digit_glyph true digit ∷ [] }
+        ensures grew { length self.new ≡ length self.old + 1 }
+    {
+        self.bytes.push(b"0123456789ABCDEF"[digit]);
+    }
+
+    // Appends a space and two hexadecimal digits.
+    pub(crate) fn hex_2(&mut self, byte: u8)
+        requires { length self.old + 3 ≤ 64 }
+        ensures text { self.new ≡ self.old ++ spaced (hex_2 byte ∷ []) }
+        ensures grew { length self.new ≡ length self.old + 3 }
+    {
+        let n = usize::from(byte);
+        self.text(b" ");
+        self.hex_digit(n / 16);
+        self.hex_digit(n % 16);
+    }
+
+    // Appends three hexadecimal digits.
+    pub(crate) fn hex_3(&mut self, n: usize)
+        requires { length self.old + 3 ≤ 64 }
+        ensures text { self.new ≡ self.old ++ hex_3 n }
+        ensures grew { length self.new ≡ length self.old + 3 }
+    {
+        self.hex_digit(n / 256 % 16);
+        self.hex_digit(n / 16 % 16);
+        self.hex_digit(n % 16);
+    }
+
+    // Appends a space and four hexadecimal digits.
+    pub(crate) fn hex_4(&mut self, word: u16)
+        requires { length self.old + 5 ≤ 64 }
+        ensures text { self.new ≡ self.old ++ spaced (hex_4 word ∷ []) }
+        ensures grew { length self.new ≡ length self.old + 5 }
+    {
+        let n = usize::from(word);
+        self.text(b" ");
+        self.hex_digit(n / 4096 % 16);
+        self.hex_3(n);
+    }
+
+    // Appends the name of a vector and its numbers.
+    fn vector(&mut self, name: &[u8], scale: u8, dx: i16, dy: i16, z: u8)
+        requires { length self.old + length name.now + 23 ≤ 64 }
+        ensures text { self.new ≡ self.old ++ spaced (vector_parts name.now scale dx dy z) }
+        ensures grew { length self.new ≤ length self.old + length name.now + 23 }
+    {
+        self.part(name);
+        self.number(scale);
+        self.number(dx);
+        self.number(dy);
+        self.number(z);
+    }
+
+    // Appends the name of a LABS and its numbers.
+    fn labs(&mut self, x: u16, y: u16, scale: u8)
+        requires { length self.old + 21 ≤ 64 }
+        ensures text { self.new ≡ self.old
+            ++ spaced (codes "LABS" ∷ decimal x ∷ decimal y ∷ decimal scale ∷ []) }
+        ensures grew { length self.new ≤ length self.old + 21 }
+    {
+        self.part(b"LABS");
+        self.number(x);
+        self.number(y);
+        self.number(scale);
+    }
+
+    // Appends the name of an instruction and a word address.
+    pub(crate) fn with_address(&mut self, name: &[u8], address: u16)
+        requires { length self.old + length name.now + 5 ≤ 64 }
+        ensures text { self.new ≡ self.old ++ spaced (name.now ∷ hex_3 address ∷ []) }
+        ensures grew { length self.new ≡ length self.old + length name.now + 5 }
+    {
+        self.part(name);
+        self.text(b" ");
+        self.hex_3(usize::from(address));
+    }
+
+    // Appends the name of an instruction and its operands.
+    fn instr(&mut self, instr: Instr)
+        requires { length self.old + 27 ≤ 64 }
+        ensures text { self.new ≡ self.old ++ spaced (instr_parts instr) }
+        ensures grew { length self.new ≤ length self.old + 27 }
+    {
+        match instr {
+            Instr::Vctr { scale, dx, dy, z } => self.vector(b"VCTR", scale, dx, dy, z),
+            Instr::Labs { x, y, scale } => self.labs(x, y, scale),
+            Instr::Halt => self.part(b"HALT"),
+            Instr::Jsrl(address) => self.with_address(b"JSRL", address),
+            Instr::Rtsl => self.part(b"RTSL"),
+            Instr::Jmpl(address) => self.with_address(b"JMPL", address),
+            Instr::Svec { scale, dx, dy, z } => {
+                self.vector(b"SVEC", scale, i16::from(dx), i16::from(dy), z)
+            }
+        }
+    }
+
+    // Appends a place: an operation's number, or a ROM word's address.
+    fn place(&mut self, place: Place)
+        requires { length self.old + 9 ≤ 64 }
+        ensures text { self.new ≡ self.old ++ spaced (place_parts place) }
+        ensures grew { length self.new ≤ length self.old + 9 }
+    {
+        match place {
+            Place::InFrame(i) => {
+                self.part(b"op");
+                self.number(i);
+            }
+            Place::InRom(a) => self.with_address(b"word", a),
+        }
+    }
+
+    // Appends a fault's number and name, and a place.
+    fn fault_at(&mut self, name: &[u8], place: Place)
+        requires { length self.old + length name.now + 10 ≤ 64 }
+        ensures text { self.new ≡ self.old ++ spaced (name.now ∷ place_parts place) }
+        ensures grew { length self.new ≤ length self.old + length name.now + 10 }
+    {
+        self.part(name);
+        self.place(place);
+    }
+
+    // Appends a fault's number and name, and the number of an operation.
+    fn fault_of(&mut self, name: &[u8], i: u16)
+        requires { length self.old + length name.now + 7 ≤ 64 }
+        ensures text { self.new ≡ self.old ++ spaced (name.now ∷ decimal i ∷ []) }
+        ensures grew { length self.new ≤ length self.old + length name.now + 7 }
+    {
+        self.part(name);
+        self.number(i);
+    }
+
+    // Appends the parts of a fault's text.
+    pub(crate) fn fault(&mut self, fault: FrameFault)
+        requires { length self.old + 22 ≤ 64 }
+        ensures text { self.new ≡ self.old ++ spaced (fault_parts fault) }
+        ensures grew { length self.new ≤ length self.old + 22 }
+    {
+        match fault {
+            FrameFault::Empty => self.part(b"1 empty"),
+            FrameFault::NoLabs => self.part(b"2 no labs"),
+            FrameFault::TooLong => self.part(b"3 too long"),
+            FrameFault::Target(i) => self.fault_of(b"4 target", i),
+            FrameFault::RunsOff(i) => self.fault_of(b"5 runs off", i),
+            FrameFault::OutOfRom(place) => self.fault_at(b"6 out of rom", place),
+            FrameFault::TooDeep(place) => self.fault_at(b"7 too deep", place),
+            FrameFault::NoCaller(place) => self.fault_at(b"8 no caller", place),
+            FrameFault::Loops => self.part(b"9 loops"),
+        }
+    }
+
+    // Becomes the place of an instruction, its name and operands, and a star where its words aren't
+    // canonical.
+    pub(crate) fn become_placed(&mut self, place: usize, code: &Code, canonical: bool)
+        ensures text { self.new ≡ hex_3 place ++ spaced (listed_parts code.now canonical) }
+        ensures short { length self.new ≤ 32 }
+    {
+        self.bytes.clear();
+        self.hex_3(place);
+        self.instr(code.instr());
+        if !canonical {
+            self.part(b"*");
+        }
+    }
+
+    /// Becomes the line that `list` writes of an instruction at a place, of words that are
+    /// canonical or not.
+    pub fn become_listed(&mut self, place: usize, code: &Code, canonical: bool)
+        ensures { self.new ≡ line_text place code.now canonical }
+    {
+        self.become_placed(place, code, canonical);
+        self.text(b"\n");
+    }
+
+    /// Becomes the ROM line of eight words, from an address on.
+    pub fn become_rom(&mut self, address: usize, words: &[u16])
+        requires { length words.now ≡ 8 }
+        ensures { self.new ≡ rom_line address words.now }
+    {
+        self.bytes.clear();
+        self.text(b"rom ");
+        self.hex_3(address);
+        for word in words {
+            self.hex_4(*word);
+        }
+        self.text(b"\n");
+    }
+
+    /// Becomes the line that `check` writes of a verdict.
+    pub fn become_verdict(&mut self, verdict: Verdict)
+        ensures { self.new ≡ verdict_line verdict }
+    {
+        self.bytes.clear();
+        match verdict {
+            Verdict::Good(words) => {
+                self.text(b"ok");
+                self.number(words);
+                self.part(b"words");
+            }
+            Verdict::Refused(fault) => {
+                self.text(b"fault");
+                self.fault(fault);
+            }
+        }
+        self.text(b"\n");
+    }
+
+    /// Becomes the line that `check` writes of a verdict, with the bound of a good draft.
+    pub fn become_bounded(&mut self, verdict: BoundedVerdict)
+        ensures { self.new ≡ bounded_line verdict }
+    {
+        self.bytes.clear();
+        match verdict {
+            BoundedVerdict::Good { words, bound } => {
+                self.text(b"ok");
+                self.number(words);
+                self.part(b"words");
+                self.number(bound);
+                self.part(b"fetches");
+            }
+            BoundedVerdict::Refused(fault) => {
+                self.text(b"fault");
+                self.fault(fault);
+            }
+        }
+        self.text(b"\n");
+    }
+}

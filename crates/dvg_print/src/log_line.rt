@@ -1,0 +1,112 @@
+//! Lines of what a log shows.
+ghost use Rattle.std.specs.Prelude.{◌≡◌, ◌≤◌, ◌+◌, ◌++◌, ◌∷◌, [], ℕ, length, codes, decimal};
+ghost use Rattle.dvg_log.specs.Entries.{shown_of};
+ghost use Rattle.dvg_print.specs.Lines.{hex_3, hex_4, spaced};
+ghost use Rattle.dvg_print.specs.Shows.{action_parts, entry_line, entry_parts, stroke_line};
+
+use crate::line::Line;
+use dvg_driver::Action;
+use dvg_gen::Stroke;
+use dvg_log::{Entry, OwnEntry};
+use std::alloc::Allocator;
+
+impl Line {
+    // Appends what an action did.
+    pub(crate) fn action(&mut self, action: Action)
+        requires { length self.old + 13 ≤ 64 }
+        ensures text { self.new ≡ self.old ++ spaced (action_parts action) }
+        ensures grew { length self.new ≤ length self.old + 13 }
+    {
+        match action {
+            Action::Peek => self.part(b"peek"),
+            Action::Wrote(address, byte) => {
+                self.with_address(b"wrote", address);
+                self.hex_2(byte);
+            }
+            Action::Read(true) => self.part(b"read halted"),
+            Action::Read(false) => self.part(b"read running"),
+            Action::Sent => self.part(b"sent"),
+            Action::Idle => self.part(b"idle"),
+        }
+    }
+
+    // Appends what a fetch led to, its word address, and the word there.
+    fn fetched(&mut self, name: &[u8], address: u16, word: u16)
+        requires { length self.old + length name.now + 10 ≤ 64 }
+        ensures text { self.new ≡ self.old ++ spaced (name.now ∷ hex_3 address ∷ hex_4 word ∷ []) }
+        ensures grew { length self.new ≡ length self.old + length name.now + 10 }
+    {
+        self.with_address(name, address);
+        self.hex_4(word);
+    }
+
+    // Appends what an event led to.
+    fn entry<A: Allocator>(&mut self, entry: &OwnEntry<A>)
+        requires { length self.old + 36 ≤ 64 }
+        ensures text { self.new ≡ self.old ++ spaced (entry_parts (shown_of entry.now)) }
+        ensures grew { length self.new ≤ length self.old + 36 }
+    {
+        match entry {
+            Entry::Offered => self.part(b"offered"),
+            Entry::Refused(fault) => {
+                self.part(b"refused");
+                self.fault(*fault);
+            }
+            Entry::Busy => self.part(b"busy"),
+            Entry::Asked => self.part(b"asked"),
+            Entry::NothingPublished => self.part(b"nothing published"),
+            Entry::Acted(action) => self.action(*action),
+            Entry::Started => self.part(b"started"),
+            Entry::NoStrobe => self.part(b"no strobe"),
+            Entry::Low(address, byte) => {
+                self.with_address(b"low", *address);
+                self.hex_2(*byte);
+            }
+            Entry::Fetched(address, word) => self.fetched(b"fetched", *address, *word),
+            Entry::Done(address, word, strokes) => {
+                self.fetched(b"done", *address, *word);
+                self.number(strokes.len());
+            }
+            Entry::Broke(address, fault) => {
+                self.with_address(b"broke", *address);
+                self.number(fault.number());
+            }
+            Entry::Still => self.part(b"still"),
+            Entry::Cleared => self.part(b"cleared"),
+        }
+    }
+
+    /// Becomes the line that `play --all` writes of an event's entry.
+    pub fn become_entry<A: Allocator>(&mut self, number: usize, entry: &OwnEntry<A>)
+        ensures { self.new ≡ entry_line number (shown_of entry.now) }
+    {
+        self.become_number(number);
+        self.entry(entry);
+        self.text(b"\n");
+    }
+
+    /// Becomes the line of a picture of this many strokes, by the number of the event that finished
+    /// it.
+    pub fn become_picture(&mut self, number: usize, strokes: usize)
+        ensures { self.new ≡ codes "picture" ++ spaced (decimal number ∷ decimal strokes ∷ [])
+            ++ 10 ∷ [] }
+    {
+        self.clear();
+        self.text(b"picture");
+        self.number(number);
+        self.number(strokes);
+        self.text(b"\n");
+    }
+
+    /// Becomes the line of a stroke.
+    pub fn become_stroke(&mut self, stroke: Stroke)
+        ensures { self.new ≡ stroke_line stroke }
+    {
+        self.become_number(stroke.x0);
+        self.number(stroke.y0);
+        self.number(stroke.x1);
+        self.number(stroke.y1);
+        self.number(stroke.z);
+        self.text(b"\n");
+    }
+}

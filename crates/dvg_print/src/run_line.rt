@@ -1,0 +1,53 @@
+//! Lines of what one run of the generator does.
+ghost use Rattle.std.specs.Prelude.{◌≡◌, ◌≤◌, ◌+◌, ◌++◌, length};
+ghost use Rattle.dvg_print.specs.Lines.{spaced};
+ghost use Rattle.dvg_print.specs.RunLines.{beam_parts, broke_line, endless_line, instruction_line};
+
+use crate::line::Line;
+use dvg_code::Code;
+use dvg_gen::{Beam, GenFault};
+
+impl Line {
+    // Appends where the beam is.
+    fn beam(&mut self, beam: &Beam)
+        requires { length self.old + 29 ≤ 64 }
+        ensures text { self.new ≡ self.old ++ spaced (beam_parts beam.now) }
+        ensures grew { length self.new ≤ length self.old + 29 }
+    {
+        self.part(b"at");
+        self.number(beam.x);
+        self.number(beam.y);
+        self.number(beam.scale);
+    }
+
+    /// Becomes the line that `picture --all` writes of an instruction that was run: its address,
+    /// name and operands, a star where its words aren't canonical, and the beam after it, in 1/512
+    /// units, with the global scale.
+    pub fn become_instruction(&mut self, address: u16, code: &Code, canonical: bool, beam: &Beam)
+        ensures { self.new ≡ instruction_line address code.now canonical beam.now }
+    {
+        self.become_placed(usize::from(address), code, canonical);
+        self.beam(beam);
+        self.text(b"\n");
+    }
+
+    /// Becomes the line that `picture` writes of a run that broke, by the address of the fetch at
+    /// which it did.
+    pub fn become_broke(&mut self, address: u16, fault: GenFault)
+        ensures { self.new ≡ broke_line address fault }
+    {
+        self.clear();
+        self.text(b"broke ");
+        self.hex_3(usize::from(address));
+        self.number(fault.number());
+        self.text(b"\n");
+    }
+
+    /// Becomes the line that `picture` writes of a run that has no end.
+    pub fn become_endless(&mut self)
+        ensures { self.new ≡ endless_line }
+    {
+        self.clear();
+        self.text(b"endless\n");
+    }
+}

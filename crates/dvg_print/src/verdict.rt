@@ -1,0 +1,36 @@
+//! What `check` says of a draft.
+ghost use Rattle.std.specs.Prelude.{◌≡◌};
+ghost use Rattle.dvg_print.specs.Verdicts.{without_bound};
+
+use dvg_frame::FrameFault;
+
+/// What the check says of a draft over a ROM.
+#[derive(Clone, Copy, Debug, PartialEq, Eq)]
+pub enum Verdict {
+    /// It may be drawn, and has this many words.
+    Good(u16),
+    /// It is refused, for this fault.
+    Refused(FrameFault),
+}
+
+/// The same, with the bound of a good draft.
+#[derive(Clone, Copy, Debug, PartialEq, Eq)]
+pub enum BoundedVerdict {
+    /// It may be drawn: its number of words, and its bound, which is how many words the generator
+    /// fetches in the whole run, word zero included.
+    Good { words: u16, bound: u64 },
+    /// It is refused, for this fault.
+    Refused(FrameFault),
+}
+
+impl BoundedVerdict {
+    /// The same without the bound.
+    pub fn verdict(self) -> Verdict
+        ensures { result ≡ without_bound self }
+    {
+        match self {
+            BoundedVerdict::Good { words, .. } => Verdict::Good(words),
+            BoundedVerdict::Refused(fault) => Verdict::Refused(fault),
+        }
+    }
+}

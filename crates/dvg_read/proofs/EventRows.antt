@@ -1,0 +1,275 @@
+-- A line spells one list of events at most, and what it spells shows by its name.
+use Rattle.std.proofs.Common.{◌≡◌, ◌<◌, ◌≤◌, ℕ, List, [], ◌∷◌, Some, ◌⊎◌, inl, inr, length, replicate, get_or, refl, sym, ap, subst, ◌∙◌, arith, codes, decimal}
+use Rattle.std.proofs.lemmas.Fmt.{decimal_injective}
+use Rattle.std.proofs.lemmas.List.{length-replicate}
+use Rattle.dvg_log.specs.Events.{Happening}
+use Rattle.dvg_log.specs.declared.event.Event.TheVariants.{Offer, Redraw, Tick, Strobe, Fetch, ResetGen, ResetCpu, ResetAll}
+use Rattle.std.proofs.lemmas.Int.Digits.{digits_value-lt}
+use Rattle.dvg_read.specs.EventLines.{TakesCount, IsNamed}
+use Rattle.dvg_read.specs.Texts.{IsHex}
+use Rattle.dvg_read.specs.TraceTexts.{Counts, EventParts, once, times, redraw, tick, strobe, fetch, resetgen, resetcpu, resetall}
+
+-- The rows, with the bytes of a reset as a function of the byte: a match on `EventParts` itself computes 2,048 of them.
+data Row (fill : ℕ → List ℕ) : List Happening → List (List ℕ) → Type 0 where
+  redraws : Row fill (Redraw ∷ []) (codes "redraw" ∷ [])
+  ticks : {n : ℕ} {ps : List (List ℕ)} → Counts (codes "tick") n ps → Row fill (replicate n Tick) ps
+  strobes : {n : ℕ} {ps : List (List ℕ)} → Counts (codes "strobe") n ps → Row fill (replicate n Strobe) ps
+  fetches : {n : ℕ} {ps : List (List ℕ)} → Counts (codes "fetch") n ps → Row fill (replicate n Fetch) ps
+  resets_gen : Row fill (ResetGen ∷ []) (codes "resetgen" ∷ [])
+  resets_cpu : Row fill (ResetCpu ∷ []) (codes "resetcpu" ∷ [])
+  resets_all : {byte : ℕ} {digits : List ℕ} → IsHex 2 byte digits → Row fill (ResetAll (fill byte) ∷ []) (codes "resetall" ∷ digits ∷ [])
+
+row : {events : List Happening} {ps : List (List ℕ)} → EventParts events ps → Row (replicate 2048) events ps
+row redraw = redraws
+row (tick c) = ticks c
+row (strobe c) = strobes c
+row (fetch c) = fetches c
+row resetgen = resets_gen
+row resetcpu = resets_cpu
+row (resetall h) = resets_all h
+
+-- the first letter of the first part
+abbrev pub letter_of : List (List ℕ) → ℕ
+letter_of [] = 0
+letter_of (part ∷ ps) = get_or part 0 0
+
+-- a name alone, or with its count
+abbrev Counted : List ℕ → ℕ → List (List ℕ) → Type 0
+Counted name n ps = ((ps ≡ name ∷ []) × (n ≡ 1)) ⊎ ((ps ≡ name ∷ decimal n ∷ []) × (1 ≤ n) × (n ≤ 9999))
+
+pub counted : {name : List ℕ} {n : ℕ} {ps : List (List ℕ)} → Counts name n ps → Counted name n ps
+counted once = inl (refl, refl)
+counted (times some most) = inr (refl, some, most)
+
+letter : {name : List ℕ} {n : ℕ} {ps : List (List ℕ)} → Counts name n ps → letter_of ps ≡ get_or name 0 0
+letter once = refl
+letter (times some most) = refl
+
+pub count_bounds : {name : List ℕ} {n : ℕ} {ps : List (List ℕ)} → Counts name n ps → (1 ≤ n) × (n ≤ 9999)
+count_bounds once = (omega arith, omega arith)
+count_bounds (times some most) = (some, most)
+
+one_count_of : (name : List ℕ) (m n : ℕ) (ps : List (List ℕ)) → Counted name m ps → Counted name n ps → n ≡ m
+one_count_of name m n ps (inl (is, one)) (inl (same, other)) = other ∙ sym one
+one_count_of name m n ps (inl (is, one)) (inr (same, some, most)) = absurd (cc)
+one_count_of name m n ps (inr (is, some, most)) (inl (same, other)) = absurd (cc)
+one_count_of name m n ps (inr (is, some, most)) (inr (same, more, least)) = decimal_injective n m (omega arith) (omega arith) (cc)
+
+-- a name and a count give one count
+pub one_count : {name : List ℕ} {m n : ℕ} {ps : List (List ℕ)} → Counts name m ps → Counts name n ps → n ≡ m
+one_count {name} {m} {n} {ps} a b = one_count_of name m n ps (counted a) (counted b)
+
+tick_row : {fill : ℕ → List ℕ} {more : List Happening} {ps : List (List ℕ)} → Row fill more ps → letter_of ps ≡ 116 → (n : ℕ) × Counts (codes "tick") n ps × (more ≡ replicate n Tick)
+tick_row redraws e = absurd (omega arith)
+tick_row (ticks {n = n} c) e = (n, c, refl)
+tick_row (strobes c) e = let is = letter c in absurd (omega arith)
+tick_row (fetches c) e = let is = letter c in absurd (omega arith)
+tick_row resets_gen e = absurd (omega arith)
+tick_row resets_cpu e = absurd (omega arith)
+tick_row (resets_all h) e = absurd (omega arith)
+
+strobe_row : {fill : ℕ → List ℕ} {more : List Happening} {ps : List (List ℕ)} → Row fill more ps → letter_of ps ≡ 115 → (n : ℕ) × Counts (codes "strobe") n ps × (more ≡ replicate n Strobe)
+strobe_row redraws e = absurd (omega arith)
+strobe_row (ticks c) e = let is = letter c in absurd (omega arith)
+strobe_row (strobes {n = n} c) e = (n, c, refl)
+strobe_row (fetches c) e = let is = letter c in absurd (omega arith)
+strobe_row resets_gen e = absurd (omega arith)
+strobe_row resets_cpu e = absurd (omega arith)
+strobe_row (resets_all h) e = absurd (omega arith)
+
+fetch_row : {fill : ℕ → List ℕ} {more : List Happening} {ps : List (List ℕ)} → Row fill more ps → letter_of ps ≡ 102 → (n : ℕ) × Counts (codes "fetch") n ps × (more ≡ replicate n Fetch)
+fetch_row redraws e = absurd (omega arith)
+fetch_row (ticks c) e = let is = letter c in absurd (omega arith)
+fetch_row (strobes c) e = let is = letter c in absurd (omega arith)
+fetch_row (fetches {n = n} c) e = (n, c, refl)
+fetch_row resets_gen e = absurd (omega arith)
+fetch_row resets_cpu e = absurd (omega arith)
+fetch_row (resets_all h) e = absurd (omega arith)
+
+redraw_row : {fill : ℕ → List ℕ} {more : List Happening} → Row fill more (codes "redraw" ∷ []) → more ≡ Redraw ∷ []
+redraw_row redraws = refl
+redraw_row (ticks c) = let is = letter c in absurd (omega arith)
+redraw_row (strobes c) = let is = letter c in absurd (omega arith)
+redraw_row (fetches c) = let is = letter c in absurd (omega arith)
+
+resetgen_row : {fill : ℕ → List ℕ} {more : List Happening} → Row fill more (codes "resetgen" ∷ []) → more ≡ ResetGen ∷ []
+resetgen_row (ticks c) = let is = letter c in absurd (omega arith)
+resetgen_row (strobes c) = let is = letter c in absurd (omega arith)
+resetgen_row (fetches c) = let is = letter c in absurd (omega arith)
+resetgen_row resets_gen = refl
+
+resetcpu_row : {fill : ℕ → List ℕ} {more : List Happening} → Row fill more (codes "resetcpu" ∷ []) → more ≡ ResetCpu ∷ []
+resetcpu_row (ticks c) = let is = letter c in absurd (omega arith)
+resetcpu_row (strobes c) = let is = letter c in absurd (omega arith)
+resetcpu_row (fetches c) = let is = letter c in absurd (omega arith)
+resetcpu_row resets_cpu = refl
+
+resetall_row : {fill : ℕ → List ℕ} {more : List Happening} {digits : List ℕ} → Row fill more (codes "resetall" ∷ digits ∷ []) → (byte : ℕ) × IsHex 2 byte digits × (more ≡ ResetAll (fill byte) ∷ [])
+resetall_row (ticks c) = let is = letter c in absurd (omega arith)
+resetall_row (strobes c) = let is = letter c in absurd (omega arith)
+resetall_row (fetches c) = let is = letter c in absurd (omega arith)
+resetall_row (resets_all {byte = byte} h) = (byte, h, refl)
+
+-- a line of events begins with the name of none of these lines
+no_rom_row : {fill : ℕ → List ℕ} {more : List Happening} {ps : List (List ℕ)} → Row fill more (codes "rom" ∷ ps) → ⊥
+no_rom_row (ticks c) = let is = letter c in absurd (omega arith)
+no_rom_row (strobes c) = let is = letter c in absurd (omega arith)
+no_rom_row (fetches c) = let is = letter c in absurd (omega arith)
+
+no_offer_row : {fill : ℕ → List ℕ} {more : List Happening} {ps : List (List ℕ)} → Row fill more (codes "offer" ∷ ps) → ⊥
+no_offer_row (ticks c) = let is = letter c in absurd (omega arith)
+no_offer_row (strobes c) = let is = letter c in absurd (omega arith)
+no_offer_row (fetches c) = let is = letter c in absurd (omega arith)
+
+no_map_row : {fill : ℕ → List ℕ} {more : List Happening} {ps : List (List ℕ)} → Row fill more (codes "map" ∷ ps) → ⊥
+no_map_row (ticks c) = let is = letter c in absurd (omega arith)
+no_map_row (strobes c) = let is = letter c in absurd (omega arith)
+no_map_row (fetches c) = let is = letter c in absurd (omega arith)
+
+pub no_map : {more : List Happening} {ps : List (List ℕ)} → EventParts more (codes "map" ∷ ps) → ⊥
+no_map h = no_map_row (row h)
+
+pub no_rom : {more : List Happening} {ps : List (List ℕ)} → EventParts more (codes "rom" ∷ ps) → ⊥
+no_rom h = no_rom_row (row h)
+
+pub no_offer : {more : List Happening} {ps : List (List ℕ)} → EventParts more (codes "offer" ∷ ps) → ⊥
+no_offer h = no_offer_row (row h)
+
+-- parts spell one list of events at most
+one_row : {fill : ℕ → List ℕ} {more other : List Happening} {ps : List (List ℕ)} → Row fill more ps → Row fill other ps → other ≡ more
+one_row redraws q = redraw_row q
+one_row (ticks c) q = let (n, d, is) = tick_row q (letter c) in is ∙ ap (λ n. replicate n Tick) (one_count c d)
+one_row (strobes c) q = let (n, d, is) = strobe_row q (letter c) in is ∙ ap (λ n. replicate n Strobe) (one_count c d)
+one_row (fetches c) q = let (n, d, is) = fetch_row q (letter c) in is ∙ ap (λ n. replicate n Fetch) (one_count c d)
+one_row resets_gen q = resetgen_row q
+one_row resets_cpu q = resetcpu_row q
+one_row {fill} (resets_all h) q = let (byte, k, is) = resetall_row q in is ∙ ap (λ byte. ResetAll (fill byte) ∷ []) (sym k.value ∙ h.value)
+
+pub one_events : {more other : List Happening} {ps : List (List ℕ)} → EventParts more ps → EventParts other ps → other ≡ more
+one_events p q = one_row (row p) (row q)
+
+-- and one event at least
+some_row : {fill : ℕ → List ℕ} {more : List Happening} {ps : List (List ℕ)} → Row fill more ps → 1 ≤ length more
+some_row redraws = omega arith
+some_row (ticks {n = n} c) = let (some, most) = count_bounds c in omega (arith, length-replicate {A = Happening} n Tick)
+some_row (strobes {n = n} c) = let (some, most) = count_bounds c in omega (arith, length-replicate {A = Happening} n Strobe)
+some_row (fetches {n = n} c) = let (some, most) = count_bounds c in omega (arith, length-replicate {A = Happening} n Fetch)
+some_row resets_gen = omega arith
+some_row resets_cpu = omega arith
+some_row (resets_all h) = omega arith
+
+pub some_events : {more : List Happening} {ps : List (List ℕ)} → EventParts more ps → 1 ≤ length more
+some_events h = some_row (row h)
+
+pub byte_fits : {n : ℕ} {digits : List ℕ} → IsHex 2 n digits → n < 256
+byte_fits {n} {digits} h = let small = digits_value-lt 16 digits h.digits in let size = rw h.size at small in omega (arith, size, h.value)
+
+-- the rows of a name alone
+
+pub alone_made : (event : Happening) (name : List ℕ) → IsNamed event name → EventParts (event ∷ []) (name ∷ [])
+alone_made Redraw name e = rw e redraw
+alone_made Tick name e = rw e (tick once)
+alone_made Strobe name e = rw e (strobe once)
+alone_made Fetch name e = rw e (fetch once)
+alone_made ResetGen name e = rw e resetgen
+alone_made ResetCpu name e = rw e resetcpu
+alone_made (Offer F) name e = absurd e
+alone_made (ResetAll bytes) name e = absurd e
+
+alone_count_of : (name first : List ℕ) (n : ℕ) → Counted name n (first ∷ []) → (first ≡ name) × (1 ≡ n)
+alone_count_of name first n (inl (e, is)) = (cc, sym is)
+alone_count_of name first n (inr (e, some, most)) = absurd (cc)
+
+alone_count : {name first : List ℕ} {n : ℕ} → Counts name n (first ∷ []) → (first ≡ name) × (1 ≡ n)
+alone_count {name} {first} {n} c = alone_count_of name first n (counted c)
+
+-- an event by its name
+pub record Alone (events : List Happening) (name : List ℕ) : Type 0 where
+  pub event : Happening
+  pub named : IsNamed event name
+  pub all : event ∷ [] ≡ events
+
+alone : {fill : ℕ → List ℕ} {events : List Happening} {name : List ℕ} → Row fill events (name ∷ []) → Alone events name
+alone redraws = record { event = Redraw; named = refl; all = refl }
+alone (ticks c) = let is = alone_count c in record { event = Tick; named = is.0; all = ap (λ n. replicate n Tick) is.1 }
+alone (strobes c) = let is = alone_count c in record { event = Strobe; named = is.0; all = ap (λ n. replicate n Strobe) is.1 }
+alone (fetches c) = let is = alone_count c in record { event = Fetch; named = is.0; all = ap (λ n. replicate n Fetch) is.1 }
+alone resets_gen = record { event = ResetGen; named = refl; all = refl }
+alone resets_cpu = record { event = ResetCpu; named = refl; all = refl }
+
+pub alone_row : {events : List Happening} {name : List ℕ} → EventParts events (name ∷ []) → Alone events name
+alone_row h = alone (row h)
+
+-- the rows of a name and an operand
+
+pub times_made : (event : Happening) (n : ℕ) (name operand : List ℕ) → IsNamed event name → TakesCount event → operand ≡ decimal n → 1 ≤ n → n ≤ 9999 → EventParts (replicate n event) (name ∷ operand ∷ [])
+times_made Tick n name operand e h is some most = rw (e, is) (tick (times some most))
+times_made Strobe n name operand e h is some most = rw (e, is) (strobe (times some most))
+times_made Fetch n name operand e h is some most = rw (e, is) (fetch (times some most))
+times_made Redraw n name operand e h is some most = absurd h
+times_made ResetGen n name operand e h is some most = absurd h
+times_made ResetCpu n name operand e h is some most = absurd h
+times_made (Offer F) n name operand e h is some most = absurd h
+times_made (ResetAll bytes) n name operand e h is some most = absurd h
+
+pub resetall_made : (byte : ℕ) (name operand : List ℕ) → name ≡ codes "resetall" → IsHex 2 byte operand → EventParts (ResetAll (replicate 2048 byte) ∷ []) (name ∷ operand ∷ [])
+resetall_made byte name operand e h = rw e (resetall h)
+
+-- a name with a count
+pub record Repeated (events : List Happening) (name operand : List ℕ) : Type 0 where
+  pub event : Happening
+  pub counts : TakesCount event
+  pub named : IsNamed event name
+  pub n : ℕ
+  pub some : 1 ≤ n
+  pub most : n ≤ 9999
+  pub spelled : operand ≡ decimal n
+  pub all : replicate n event ≡ events
+
+-- the name of a reset of the whole system, with the byte
+pub record Filled (fill : ℕ → List ℕ) (events : List Happening) (name operand : List ℕ) : Type 0 where
+  pub named : name ≡ codes "resetall"
+  pub byte : ℕ
+  pub spelled : IsHex 2 byte operand
+  pub all : ResetAll (fill byte) ∷ [] ≡ events
+
+count_row_of : (name first operand : List ℕ) (n : ℕ) → Counted name n (first ∷ operand ∷ []) → (first ≡ name) × (operand ≡ decimal n) × (1 ≤ n) × (n ≤ 9999)
+count_row_of name first operand n (inl (e, is)) = absurd (cc)
+count_row_of name first operand n (inr (e, some, most)) = (cc, cc, some, most)
+
+count_row : {name first operand : List ℕ} {n : ℕ} → Counts name n (first ∷ operand ∷ []) → (first ≡ name) × (operand ≡ decimal n) × (1 ≤ n) × (n ≤ 9999)
+count_row {name} {first} {operand} {n} c = count_row_of name first operand n (counted c)
+
+with_operand : {fill : ℕ → List ℕ} {events : List Happening} {name operand : List ℕ} → Row fill events (name ∷ operand ∷ []) → Repeated events name operand ⊎ Filled fill events name operand
+with_operand (ticks {n = n} c) = let r = count_row c in inl (record { event = Tick; counts = tt; named = r.0; n = n; some = r.2; most = r.3; spelled = r.1; all = refl })
+with_operand (strobes {n = n} c) = let r = count_row c in inl (record { event = Strobe; counts = tt; named = r.0; n = n; some = r.2; most = r.3; spelled = r.1; all = refl })
+with_operand (fetches {n = n} c) = let r = count_row c in inl (record { event = Fetch; counts = tt; named = r.0; n = n; some = r.2; most = r.3; spelled = r.1; all = refl })
+with_operand (resets_all {byte = byte} h) = inr (record { named = refl; byte = byte; spelled = h; all = refl })
+
+pub operand_row : {events : List Happening} {name operand : List ℕ} → EventParts events (name ∷ operand ∷ []) → Repeated events name operand ⊎ Filled (replicate 2048) events name operand
+operand_row h = with_operand (row h)
+
+-- a `resetall` has one byte
+pub resetall_only : (byte : ℕ) (name operand : List ℕ) → name ≡ codes "resetall" → ((n : ℕ) → IsHex 2 n operand → Some byte ≡ Some n) → (events : List Happening) → EventParts events (name ∷ operand ∷ []) → ResetAll (replicate 2048 byte) ∷ [] ≡ events
+resetall_only byte name operand e only events h =
+    let (n, spelled, is) = resetall_row (row (subst (λ name. EventParts events (name ∷ operand ∷ [])) e h)) in
+    let same = only n spelled in
+    let equal : n ≡ byte = cc in
+    sym (is ∙ ap (λ n. ResetAll (replicate 2048 n) ∷ []) equal)
+
+few_of : {name : List ℕ} {n : ℕ} {ps : List (List ℕ)} → Counted name n ps → length ps ≤ 2
+few_of (inl (e, is)) = omega (arith, ap length e)
+few_of (inr (e, some, most)) = omega (arith, ap length e)
+
+few : {fill : ℕ → List ℕ} {events : List Happening} {ps : List (List ℕ)} → Row fill events ps → length ps ≤ 2
+few redraws = omega arith
+few (ticks c) = few_of (counted c)
+few (strobes c) = few_of (counted c)
+few (fetches c) = few_of (counted c)
+few resets_gen = omega arith
+few resets_cpu = omega arith
+few (resets_all h) = omega arith
+
+-- there are two parts at most
+pub few_parts : {events : List Happening} {ps : List (List ℕ)} → EventParts events ps → length ps ≤ 2
+few_parts h = few (row h)

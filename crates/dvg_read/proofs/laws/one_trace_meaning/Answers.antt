@@ -1,0 +1,5 @@
+use Rattle.dvg_read.proofs.OneTrace.{one_trace_meaning}
+use Rattle.dvg_read.proofs.laws.one_trace_meaning.Goals as goal
+
+pub returns : goal.returns
+returns c = one_trace_meaning

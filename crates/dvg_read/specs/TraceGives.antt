@@ -1,0 +1,110 @@
+-- What the reader of traces answers.
+use Rattle.std.specs.Prelude.{ℕ, ◌+◌, ◌<◌, ◌≤◌, List, ◌∷◌, [], ◌++◌, length, get_or, slice_get, replicate, ◌≡◌, Bool}
+use Rattle.std.specs.Prelude.{true, false, Option, Some, None}
+use Rattle.dvg_frame.specs.declared.op.OpKind.{OpKind}
+use Rattle.dvg_log.specs.Events.{Happening}
+use Rattle.dvg_log.specs.declared.event.Event.TheVariants.{ResetAll}
+use Rattle.dvg_read.specs.declared.fault.TextFault.TheVariants.{Syntax, Full, Many}
+use Rattle.dvg_read.specs.declared.fault.TraceFault.{TraceFault}
+use Rattle.dvg_read.specs.declared.fault.TraceFault.TheVariants.{Text, Memory}
+use Rattle.dvg_read.specs.declared.trace_text.LineFault.{LineFault}
+use Rattle.dvg_read.specs.declared.trace_text.LineFault.TheVariants as line_fault
+use Rattle.dvg_read.specs.declared.trace_text.Reading.{Reading}
+use Rattle.dvg_read.specs.OpLines.{IsOpLine}
+use Rattle.dvg_read.specs.RomTexts.{IsRomOf, RomText}
+use Rattle.dvg_read.specs.declared.rom_text.RomReading.{RomReading}
+use Rattle.dvg_read.specs.RomReading.{HoldsRom}
+use Rattle.dvg_read.specs.TraceReading.{Takes}
+use Rattle.dvg_read.specs.FirstFaults.{Reaches}
+use Rattle.dvg_read.specs.Texts.{told}
+use Rattle.dvg_read.specs.TraceTexts.{DenotesTrace, FitsTrace, HasTraceFault, IsFineTrace, SpellsTrace}
+
+-- the text denotes these events and a ROM of these bytes
+pub record GivesTrace (text : List ℕ) (events : List Happening) (R : List ℕ) : Type 0 where
+  pub rom : RomText
+  pub denotes : DenotesTrace text rom events
+  pub bytes : IsRomOf rom R
+
+-- a line brings events or ends an offer; no line before it is at fault, and the lines up to it spell
+-- 65,536 events at most
+pub record BringsEvents (text : List ℕ) : Type 0 where
+  pub n : ℕ
+  pub before : List (List ℕ)
+  pub line : List ℕ
+  pub reaches : Reaches IsFineTrace text n before line
+  pub rom : RomText
+  pub events : List Happening
+  pub right : SpellsTrace rom events None (told before ++ line ∷ [])
+  pub some : 1 ≤ length events
+  pub few : length events ≤ 65536
+
+-- why a trace isn't read: the fault of its text, or want of memory, where a line brings events
+abbrev pub StopsReading : TraceFault → List ℕ → Type 0
+StopsReading (Text fault) text = HasTraceFault text fault
+StopsReading Memory text = BringsEvents text
+
+-- what a fault of a line is called at the line of this number (this and what follows is for private contracts)
+abbrev pub fault_at : LineFault → ℕ → TraceFault
+fault_at line_fault.Syntax n = Text (Syntax n)
+fault_at line_fault.Full n = Text (Full n)
+fault_at line_fault.Many n = Text (Many n)
+fault_at line_fault.Memory n = Memory
+
+-- the events that were read
+abbrev pub events_read : {A : Type 0} → Reading A → List Happening
+events_read reading = reading.events
+
+-- the operations of the newest offer, where it isn't ended
+abbrev pub opened_by : Bool → List OpKind → Option (List OpKind)
+opened_by true F = Some F
+opened_by false F = None
+
+-- the operations of the offer that isn't ended
+abbrev pub opened_of : {A : Type 0} → Reading A → Option (List OpKind)
+opened_of reading = opened_by reading.is_open reading.draft
+
+-- where a byte has a number, the event of this number is a reset of the whole system with this byte
+pub record AreResets (numbers : List (Option ℕ)) (events : List Happening) : Type 0 where
+  pub found : (byte n : ℕ) → get_or numbers byte None ≡ Some n
+      → slice_get events n ≡ Some (ResetAll (replicate 2048 byte))
+
+-- what was read is within the limits, and the resets of its bytes are known
+pub record IsHeld {A : Type 0} (reading : Reading A) : Type 0 where
+  pub fits : FitsTrace (events_read reading) (opened_of reading)
+  pub known : AreResets reading.resets (events_read reading)
+
+-- one more line was read, after lines that gave this ROM
+pub record TakesLine (rom : RomText) (old : List Happening) (opened : Option (List OpKind)) (line : List ℕ)
+    (new : List Happening) (left : Option (List OpKind)) (held : RomReading) : Type 0 where
+  pub now : RomText
+  pub takes : Takes rom old opened line now new left
+  pub holds : HoldsRom now held
+
+-- the same, of the reader before the line and after it
+abbrev pub ReadsLine : {A : Type 0} → Reading A → List ℕ → Reading A → Type 0
+ReadsLine old line new = (rom : RomText) → HoldsRom rom old.rom
+    → TakesLine rom (events_read old) (opened_of old) line (events_read new) (opened_of new) new.rom
+
+-- why one more line isn't read
+abbrev pub StopsLine : LineFault → List Happening → Option (List OpKind) → RomReading → List ℕ → Type 0
+StopsLine line_fault.Syntax old opened held line = (rom now : RomText) (new : List Happening)
+    (left : Option (List OpKind)) → HoldsRom rom held → ¬ Takes rom old opened line now new left
+StopsLine line_fault.Full old opened held line = (F : List OpKind) × (511 < length F)
+    × ((rom : RomText) → Takes rom old opened line rom old (Some F))
+StopsLine line_fault.Many old opened held line = (new : List Happening) × (65536 < length new)
+    × ((rom : RomText) → Takes rom old opened line rom new None)
+StopsLine line_fault.Memory old opened held line =
+    (new : List Happening) × (1 ≤ length new) × (length new ≤ 65536)
+    × ((rom : RomText) → Takes rom old opened line rom new None)
+
+-- why one more operation isn't read
+abbrev pub StopsOperation : LineFault → List OpKind → List ℕ → Type 0
+StopsOperation line_fault.Syntax F line = (op : OpKind) → ¬ IsOpLine op line
+StopsOperation line_fault.Full F line = (op : OpKind) × (511 ≤ length F) × IsOpLine op line
+StopsOperation _ F line = ⊥
+
+-- why these further events aren't held
+abbrev pub StopsEvents : LineFault → List Happening → List Happening → Type 0
+StopsEvents line_fault.Many old more = 65536 < length old + length more
+StopsEvents line_fault.Memory old more = length old + length more ≤ 65536
+StopsEvents _ old more = ⊥

@@ -1,0 +1,63 @@
+//! Texts of drafts.
+ghost use Rattle.std.specs.Prelude.{IfErr, IfOk};
+ghost use Rattle.dvg_read.specs.DraftReading.{Gives};
+ghost use Rattle.dvg_read.specs.DraftTexts.{HasDraftFault};
+
+use crate::fault::TextFault;
+use crate::op_line::read_op;
+use crate::rom_text::RomReading;
+use crate::text_lines::{TextLines, is_passed};
+use arrayvec::ArrayVec;
+use dvg_frame::Draft;
+use dvg_mem::LARGE_ROM_BYTES;
+
+/// The most bytes of a text (this project's own choice).
+pub const MOST_TEXT_BYTES: usize = 1_048_576;
+
+/// What the text of a draft denotes.
+#[derive(Drop)]
+pub struct DraftText {
+    /// Its operations.
+    pub draft: Draft,
+    /// The bytes of the ROM, 2,048 or 4,096: the words that its lines `rom` give, and D000, an
+    /// RTSL, for each other.
+    pub rom: ArrayVec<u8, LARGE_ROM_BYTES>,
+}
+
+/// Reads the text of a draft, in one pass over its lines and without taking memory. It answers for
+/// each text, so each either denotes a draft and a ROM, or has a fault (the format is this
+/// project's own choice).
+///
+/// - `TooLong`: the text has more than 1,048,576 bytes. This is decided before all others.
+/// - `Syntax`: this line is the first that spells nothing that may stand at its place.
+/// - `Full`: this line spells operation number 511, the lines before it being without fault.
+pub fn read_draft(text: &[u8]) -> Result<DraftText, TextFault>
+    ensures gives { IfOk result (λ told. Gives text.now told.draft told.rom.items) }
+    ensures fault { IfErr result (λ fault. HasDraftFault text.now fault) }
+{
+    if text.len() > MOST_TEXT_BYTES {
+        return Err(TextFault::TooLong);
+    }
+    let mut draft = Draft::new();
+    let mut rom = RomReading::new();
+    let mut number = 0;
+    for line in TextLines::new(text) {
+        number += 1;
+        if is_passed(line) {
+            continue;
+        }
+        if draft.is_empty() && rom.take(line) {
+            continue;
+        }
+        let Some(op) = read_op(line) else {
+            return Err(TextFault::Syntax(number));
+        };
+        if draft.push(op).is_err() {
+            return Err(TextFault::Full(number));
+        }
+    }
+    Ok(DraftText {
+        draft,
+        rom: rom.into_bytes(),
+    })
+}

@@ -1,0 +1,125 @@
+//! Lines that spell events by themselves.
+ghost use Rattle.std.specs.Prelude.{◌≡◌, ◌↔◌, ℕ, ◌≤◌, List, [], ◌∷◌, decimal, length, IfSome};
+ghost use Rattle.std.specs.Prelude.{IsSomeAnd, IsTrue, Some};
+ghost use Rattle.dvg_log.specs.Events.{Happening};
+ghost use Rattle.dvg_read.specs.Texts.{IsHex, parts};
+ghost use Rattle.dvg_read.specs.EventLines.{TakesCount, IsNamed, happenings, spelled_as};
+ghost use Rattle.dvg_read.specs.TraceTexts.{EventParts};
+
+use crate::number::{hex, natural};
+use dvg_log::Event;
+use memchr::memchr;
+use std::convert::Infallible;
+
+/// The most events of one line.
+const MAX_TIMES: u16 = 9999;
+
+/// An event that a line spells by itself. It isn't an offer. A reset of the whole system has the
+/// value that each byte of the RAM has after it.
+pub(crate) type SpelledEvent = Event<Infallible, u8>;
+
+/// The events of a line: one event, this many times in a row.
+#[derive(Clone, Copy)]
+pub struct EventLine {
+    pub(crate) event: SpelledEvent,
+    pub(crate) count: u16,
+}
+
+/// The events that a line spells by itself. None exactly where it spells none.
+pub fn read_event_line(line: &[u8]) -> Option<EventLine>
+    ensures found { IfSome result (λ told. EventParts (happenings told) (parts line.now)) }
+    ensures only { (events : List Happening) → EventParts events (parts line.now)
+        → IsSomeAnd result (λ told. happenings told ≡ events) }
+{
+    match memchr(b' ', line) {
+        Some(space) => with_operand(&line[..space], &line[space + 1..]),
+        None => once(line),
+    }
+}
+
+// The event of a name alone.
+fn once(name: &[u8]) -> Option<EventLine>
+    ensures found { IfSome result (λ told. EventParts (happenings told) (name.now ∷ [])) }
+    ensures only { (events : List Happening) → EventParts events (name.now ∷ [])
+        → IsSomeAnd result (λ told. happenings told ≡ events) }
+{
+    Some(EventLine {
+        event: event_named(name)?,
+        count: 1,
+    })
+}
+
+// The events of a name and its operand.
+fn with_operand(name: &[u8], operand: &[u8]) -> Option<EventLine>
+    ensures found { IfSome result (λ told. EventParts (happenings told)
+        (name.now ∷ operand.now ∷ [])) }
+    ensures only { (events : List Happening) → EventParts events (name.now ∷ operand.now ∷ [])
+        → IsSomeAnd result (λ told. happenings told ≡ events) }
+{
+    if name == b"resetall".as_slice() {
+        return Some(EventLine {
+            event: Event::ResetAll(byte(operand)?),
+            count: 1,
+        });
+    }
+    let event = event_named(name)?;
+    if !is_counted(&event) {
+        return None;
+    }
+    Some(EventLine {
+        event,
+        count: times(operand)?,
+    })
+}
+
+// The event that this name alone spells.
+fn event_named(name: &[u8]) -> Option<SpelledEvent>
+    ensures found { IfSome result (λ event. IsNamed (spelled_as event) name.now) }
+    ensures only { (event : Happening) → IsNamed event name.now
+        → IsSomeAnd result (λ found. spelled_as found ≡ event) }
+{
+    if name == b"redraw".as_slice() {
+        Some(Event::Redraw)
+    } else if name == b"tick".as_slice() {
+        Some(Event::Tick)
+    } else if name == b"strobe".as_slice() {
+        Some(Event::Strobe)
+    } else if name == b"fetch".as_slice() {
+        Some(Event::Fetch)
+    } else if name == b"resetgen".as_slice() {
+        Some(Event::ResetGen)
+    } else if name == b"resetcpu".as_slice() {
+        Some(Event::ResetCpu)
+    } else {
+        None
+    }
+}
+
+// Whether a count may follow an event's name.
+fn is_counted(event: &SpelledEvent) -> bool
+    ensures { IsTrue result ↔ TakesCount (spelled_as event.now) }
+{
+    matches!(event, Event::Tick | Event::Strobe | Event::Fetch)
+}
+
+// How many times, 1 to 9,999.
+fn times(count: &[u8]) -> Option<u16>
+    ensures found { IfSome result (λ n. count.now ≡ decimal n) }
+    ensures least { IfSome result (λ n. 1 ≤ n) }
+    ensures most { IfSome result (λ n. n ≤ 9999) }
+    ensures only { (n : ℕ) → 1 ≤ n → n ≤ 9999 → count.now ≡ decimal n → result ≡ Some n }
+{
+    let count = natural(count)?;
+    if count == 0 || count > MAX_TIMES {
+        return None;
+    }
+    Some(count)
+}
+
+// A byte of two hexadecimal digits.
+fn byte(digits: &[u8]) -> Option<u8>
+    ensures found { IfSome result (λ n. IsHex 2 n digits.now) }
+    ensures only { (n : ℕ) → IsHex 2 n digits.now → result ≡ Some n }
+{
+    u8::try_from(hex(digits, 2)?).ok()
+}

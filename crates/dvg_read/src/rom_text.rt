@@ -1,0 +1,99 @@
+//! The lines of a text that describe a ROM.
+ghost use Rattle.std.specs.Prelude.{◌≡◌, ◌⊎◌, ◌+◌, ◌-◌, ◌/◌, ℕ, length, IfSome, IsFalse, IsTrue};
+ghost use Rattle.std.specs.Prelude.{Some};
+ghost use Rattle.dvg_mem.specs.Grown.{AreReturns};
+ghost use Rattle.dvg_read.specs.RomReading.{HoldsRom, TellsMore, TellsRom, untold};
+ghost use Rattle.dvg_read.specs.RomTexts.{IsMapLine, RomText};
+
+use crate::rom_line::read_rom_line;
+use arrayvec::ArrayVec;
+use dvg_mem::{FIRST_LARGE_ROM_WORD, FIRST_ROM_WORD, LARGE_ROM_BYTES, LAST_ROM_WORD};
+
+/// A word that no line gives, an RTSL, its low byte first (this project's own choice).
+const UNGIVEN: [u8; 2] = [0x00, 0xD0];
+
+/// The ROM that the lines describe which were read.
+#[derive(Drop)]
+pub struct RomReading {
+    // Whether a line said something of the ROM.
+    is_told: bool,
+    bytes: ArrayVec<u8, LARGE_ROM_BYTES>,
+}
+
+impl RomReading {
+    /// Before the first line.
+    pub fn new() -> RomReading
+        ensures { HoldsRom untold result }
+    {
+        RomReading {
+            is_told: false,
+            bytes: ungiven(FIRST_ROM_WORD),
+        }
+    }
+
+    /// Reads one more line. Answers whether it says something of the ROM, and may stand here.
+    pub fn take(&mut self, line: &[u8]) -> bool
+        ensures took { IsTrue result → (rom : RomText) → HoldsRom rom self.old
+            → TellsMore rom line.now self.new }
+        ensures refused { IsFalse result → (rom now : RomText) → HoldsRom rom self.old
+            → ¬ TellsRom rom line.now now }
+        ensures kept { IsFalse result → self.new ≡ self.old }
+    {
+        if let Some(first) = read_map_line(line) {
+            if self.is_told {
+                return false;
+            }
+            self.is_told = true;
+            self.bytes = ungiven(first);
+            return true;
+        }
+        let first = self.first();
+        let Some(given) = read_rom_line(first, line) else {
+            return false;
+        };
+        given.put(first, self.bytes.as_mut_slice());
+        self.is_told = true;
+        true
+    }
+
+    // The word address of the ROM's first word: the last one is at BFF.
+    fn first(&self) -> u16
+        ensures { result + length self.now.bytes.items / 2 ≡ 0xC00 }
+    {
+        LAST_ROM_WORD + 1 - (self.bytes.as_slice().len() / 2) as u16
+    }
+
+    /// The bytes of the ROM.
+    pub fn into_bytes(self) -> ArrayVec<u8, LARGE_ROM_BYTES>
+        ensures { result ≡ self.bytes }
+    {
+        self.bytes
+    }
+}
+
+// The word address of the ROM's first word in the memory map that a line gives. None exactly where
+// it gives none.
+fn read_map_line(line: &[u8]) -> Option<u16>
+    ensures found { IfSome result (λ first. IsMapLine first line.now) }
+    ensures only { (first : ℕ) → IsMapLine first line.now → result ≡ Some first }
+{
+    if line == b"map 2048".as_slice() {
+        Some(FIRST_ROM_WORD)
+    } else if line == b"map 4096".as_slice() {
+        Some(FIRST_LARGE_ROM_WORD)
+    } else {
+        None
+    }
+}
+
+// The bytes of a ROM of which no line gives a word.
+fn ungiven(first: u16) -> ArrayVec<u8, LARGE_ROM_BYTES>
+    requires { (first ≡ 0x800) ⊎ (first ≡ 0x400) }
+    ensures { AreReturns result.items (0xC00 - first) }
+{
+    let mut bytes = ArrayVec::new();
+    for _word in 0..LAST_ROM_WORD + 1 - first {
+        bytes.try_extend_from_slice(&UNGIVEN).unwrap();
+    }
+    bytes
+}

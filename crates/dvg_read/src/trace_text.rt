@@ -1,0 +1,296 @@
+//! Texts of traces.
+ghost use Rattle.std.specs.Prelude.{◌≡◌, ◌+◌, ◌^◌, ◌<◌, ◌≤◌, ◌∷◌, [], ◌++◌, ℕ, List, codes, length};
+ghost use Rattle.std.specs.Prelude.{replicate, IfErr, IfOk, IsFalse, IsTrue, OnOk};
+ghost use Rattle.dvg_frame.specs.declared.op.OpKind.{OpKind};
+ghost use Rattle.dvg_read.specs.EventLines.{happenings, spelled_as};
+ghost use Rattle.dvg_read.specs.OpLines.{IsOpLine};
+ghost use Rattle.dvg_read.specs.TraceGives.{AreResets, GivesTrace, IsHeld, ReadsLine, StopsEvents};
+ghost use Rattle.dvg_read.specs.TraceGives.{StopsLine, StopsOperation, StopsReading, events_read};
+ghost use Rattle.dvg_read.specs.TraceGives.{fault_at, opened_of};
+ghost use Rattle.dvg_log.specs.declared.event.Event.TheVariants.{ResetAll};
+
+use crate::draft_text::MOST_TEXT_BYTES;
+use crate::event_line::{EventLine, SpelledEvent, read_event_line};
+use crate::fault::{TextFault, TraceFault};
+use crate::op_line::read_op;
+use crate::rom_text::RomReading;
+use crate::text_lines::{TextLines, is_passed};
+use arrayvec::ArrayVec;
+use dvg_code::OutOfMemory;
+use dvg_frame::Draft;
+use dvg_log::{Event, MOST_EVENTS, Trace};
+use dvg_mem::{Image, LARGE_ROM_BYTES, MEMORY_BYTES};
+use std::alloc::{Allocator, Global};
+
+/// What the text of a trace denotes.
+#[derive(Drop)]
+pub struct TraceText<A: Allocator = Global> {
+    /// Its events, in order.
+    pub events: Trace<A>,
+    /// The bytes of the ROM, 2,048 or 4,096: the words that its ROM lines give, and D000, an RTSL,
+    /// for each other.
+    pub rom: ArrayVec<u8, LARGE_ROM_BYTES>,
+}
+
+/// Reads the text of a trace, in one pass over its lines (the format is this project's own choice).
+///
+/// - `TooLong`: the text has more than 1,048,576 bytes. This is decided before all others.
+/// - `Syntax`: this line is the first that spells nothing that may stand at its place.
+/// - `Full`: this line spells operation number 511 of its offer, the lines before it being without
+///   fault.
+/// - `Many`: this line brings the number of events above 65,536, the lines before it being without
+///   fault. An offer is an event with its `end`.
+/// - `Unended`: no line is at fault, and the text ends inside an offer.
+/// - `Memory`: a growth was refused, at a line that brings events or ends an offer.
+pub fn read_trace<A: Allocator + Copy>(alloc: A, text: &[u8]) -> Result<TraceText<A>, TraceFault>
+    ensures gives { IfOk result (λ told. GivesTrace text.now told.events told.rom.items) }
+    ensures fault { IfErr result (λ fault. StopsReading fault text.now) }
+{
+    if text.len() > MOST_TEXT_BYTES {
+        return Err(TraceFault::Text(TextFault::TooLong));
+    }
+    let mut reading = Reading {
+        alloc,
+        rom: RomReading::new(),
+        events: Trace::new(alloc),
+        draft: Draft::new(),
+        is_open: false,
+        resets: [None; 256],
+    };
+    let mut number = 0;
+    for line in TextLines::new(text) {
+        number += 1;
+        if is_passed(line) {
+            continue;
+        }
+        match reading.take(line) {
+            Ok(()) => {}
+            Err(fault) => return Err(at_line(fault, number)),
+        }
+    }
+    if reading.is_open {
+        return Err(TraceFault::Text(TextFault::Unended));
+    }
+    Ok(TraceText {
+        events: reading.events,
+        rom: reading.rom.into_bytes(),
+    })
+}
+
+// Why a line was not taken.
+#[derive(Clone, Copy)]
+pub(crate) enum LineFault {
+    // It spells nothing that may stand at its place.
+    Syntax,
+    // The draft of the offer has its 511 operations already.
+    Full,
+    // There would be more events than a trace has.
+    Many,
+    // A growth was refused.
+    Memory,
+}
+
+// The same, as the fault of the line of this number.
+pub(crate) fn at_line(fault: LineFault, number: usize) -> TraceFault
+    ensures { result ≡ fault_at fault number }
+{
+    match fault {
+        LineFault::Syntax => TraceFault::Text(TextFault::Syntax(number)),
+        LineFault::Full => TraceFault::Text(TextFault::Full(number)),
+        LineFault::Many => TraceFault::Text(TextFault::Many(number)),
+        LineFault::Memory => TraceFault::Memory,
+    }
+}
+
+// What was read of a trace's text. After a fault it is read no further.
+#[derive(Drop)]
+struct Reading<A: Allocator> {
+    alloc: A,
+    rom: RomReading,
+    events: Trace<A>,
+    // The draft of the newest offer.
+    draft: Draft,
+    // Whether that offer isn't ended.
+    is_open: bool,
+    // For each byte the number of the first event that resets the system with it.
+    resets: [Option<u32>; 256],
+}
+
+impl<A: Allocator + Copy> Reading<A> {
+    // Reads one more line, which isn't passed over.
+    fn take(&mut self, line: &[u8]) -> Result<(), LineFault>
+        requires held { IsHeld self.old }
+        ensures taken { OnOk result (ReadsLine self.old line.now self.new) }
+        ensures held { OnOk result (IsHeld self.new) }
+        ensures fault { IfErr result (λ fault. StopsLine fault (events_read self.old)
+            (opened_of self.old) self.old.rom line.now) }
+    {
+        if !self.is_open {
+            return self.take_outside(line);
+        }
+        if line == b"end".as_slice() {
+            return self.end_offer();
+        }
+        add_op(&mut self.draft, line)
+    }
+
+    // Reads one more line where no offer is open.
+    fn take_outside(&mut self, line: &[u8]) -> Result<(), LineFault>
+        requires outside { IsFalse self.old.is_open }
+        requires held { IsHeld self.old }
+        ensures taken { OnOk result (ReadsLine self.old line.now self.new) }
+        ensures held { OnOk result (IsHeld self.new) }
+        ensures fault { IfErr result (λ fault. StopsLine fault (events_read self.old)
+            (opened_of self.old) self.old.rom line.now) }
+    {
+        if line == b"offer".as_slice() {
+            self.draft.clear();
+            self.is_open = true;
+            return Ok(());
+        }
+        if let Some(told) = read_event_line(line) {
+            return add_events(self.alloc, told, &mut self.resets, &mut self.events);
+        }
+        if self.events.is_empty() && self.rom.take(line) {
+            return Ok(());
+        }
+        Err(LineFault::Syntax)
+    }
+
+    // Ends the offer that is open.
+    fn end_offer(&mut self) -> Result<(), LineFault>
+        requires inside { IsTrue self.old.is_open }
+        requires held { IsHeld self.old }
+        ensures taken { OnOk result (ReadsLine self.old (codes "end") self.new) }
+        ensures held { OnOk result (IsHeld self.new) }
+        ensures fault { IfErr result (λ fault. StopsLine fault (events_read self.old)
+            (opened_of self.old) self.old.rom (codes "end")) }
+    {
+        if self.events.len() == MOST_EVENTS {
+            return Err(LineFault::Many);
+        }
+        if self.events.push_offer(&self.draft).is_err() {
+            return Err(LineFault::Memory);
+        }
+        self.is_open = false;
+        Ok(())
+    }
+}
+
+// Adds the operation that a line spells.
+pub(crate) fn add_op(draft: &mut Draft, line: &[u8]) -> Result<(), LineFault>
+    ensures added { OnOk result ((op : OpKind) × IsOpLine op line.now
+        × (draft.new ≡ draft.old ++ op ∷ [])) }
+    ensures room { OnOk result (length draft.old < 511) }
+    ensures fault { IfErr result (λ fault. StopsOperation fault draft.old line.now) }
+{
+    let Some(op) = read_op(line) else {
+        return Err(LineFault::Syntax);
+    };
+    match draft.push(op) {
+        Ok(_) => Ok(()),
+        Err(_) => Err(LineFault::Full),
+    }
+}
+
+// Adds the events of a line.
+fn add_events<A: Allocator>(
+    alloc: A,
+    told: EventLine,
+    resets: &mut [Option<u32>; 256],
+    events: &mut Trace<A>,
+) -> Result<(), LineFault>
+    requires some { 1 ≤ length (happenings told) }
+    requires resets { AreResets resets.old events.old }
+    ensures added { OnOk result (events.new ≡ events.old ++ happenings told) }
+    ensures room { OnOk result (length events.new ≤ 65536) }
+    ensures resets { OnOk result (AreResets resets.new events.new) }
+    ensures fault { IfErr result (λ fault. StopsEvents fault events.old (happenings told)) }
+{
+    if events.len() + count(&told) > MOST_EVENTS {
+        return Err(LineFault::Many);
+    }
+    if add_times(alloc, told.event, told.count, resets, events).is_err() {
+        return Err(LineFault::Memory);
+    }
+    Ok(())
+}
+
+// How many events a line has.
+pub(crate) fn count(told: &EventLine) -> usize
+    ensures value { result ≡ length (happenings told.now) }
+    ensures bound { result < 2 ^ 16 }
+{
+    usize::from(told.count)
+}
+
+// Adds an event, this many times in a row: itself, and then the same again.
+fn add_times<A: Allocator>(
+    alloc: A,
+    event: SpelledEvent,
+    count: u16,
+    resets: &mut [Option<u32>; 256],
+    events: &mut Trace<A>,
+) -> Result<(), OutOfMemory>
+    requires some { 1 ≤ count }
+    requires room { length events.old + count ≤ 65536 }
+    requires resets { AreResets resets.old events.old }
+    ensures added { OnOk result (events.new ≡ events.old ++ replicate count (spelled_as event)) }
+    ensures resets { OnOk result (AreResets resets.new events.new) }
+{
+    let first = events.len();
+    add_once(alloc, event, resets, events)?;
+    for _time in 1..count {
+        events.push_again(first)?;
+    }
+    Ok(())
+}
+
+// Adds an event.
+fn add_once<A: Allocator>(
+    alloc: A,
+    event: SpelledEvent,
+    resets: &mut [Option<u32>; 256],
+    events: &mut Trace<A>,
+) -> Result<(), OutOfMemory>
+    requires room { length events.old < 65536 }
+    requires resets { AreResets resets.old events.old }
+    ensures added { OnOk result (events.new ≡ events.old ++ spelled_as event ∷ []) }
+    ensures resets { OnOk result (AreResets resets.new events.new) }
+{
+    let own = match event {
+        Event::Redraw => Event::Redraw,
+        Event::Tick => Event::Tick,
+        Event::Strobe => Event::Strobe,
+        Event::Fetch => Event::Fetch,
+        Event::ResetGen => Event::ResetGen,
+        Event::ResetCpu => Event::ResetCpu,
+        Event::ResetAll(byte) => return add_reset(alloc, byte, resets, events),
+    };
+    events.push(own)
+}
+
+// Adds a reset of the whole system, after which each byte is this one. Its image is made where it
+// is the first such reset.
+fn add_reset<A: Allocator>(
+    alloc: A,
+    byte: u8,
+    resets: &mut [Option<u32>; 256],
+    events: &mut Trace<A>,
+) -> Result<(), OutOfMemory>
+    requires room { length events.old < 65536 }
+    requires resets { AreResets resets.old events.old }
+    ensures added { OnOk result (events.new ≡ events.old ++ ResetAll (replicate 2048 byte) ∷ []) }
+    ensures resets { OnOk result (AreResets resets.new events.new) }
+{
+    if let Some(first) = resets[usize::from(byte)] {
+        return events.push_again(first as usize);
+    }
+    let Ok(image) = Image::new(alloc, &[byte; MEMORY_BYTES]) else {
+        return Err(OutOfMemory);
+    };
+    let number = events.len() as u32;
+    events.push(Event::ResetAll(image))?;
+    resets[usize::from(byte)] = Some(number);
+    Ok(())
+}

@@ -1,5 +1,0 @@
-use Rattle.dvg_text.proofs.OneTrace.{no_fault_beside_trace}
-use Rattle.dvg_text.proofs.laws.no_fault_beside_trace.Goals as goal
-
-pub returns : goal.returns
-returns c = no_fault_beside_trace

@@ -1,5 +1,0 @@
-use Rattle.dvg_text.proofs.DraftSteps.{one_meaning}
-use Rattle.dvg_text.proofs.laws.one_meaning.Goals as goal
-
-pub returns : goal.returns
-returns c = one_meaning

@@ -1,0 +1,159 @@
+//! What a generator wants and answers, of which a trace never shows a fault or a word at any
+//! address.
+use dvg_code::OutOfMemory;
+use dvg_gen::{GenFault, Generator, Stroke, Taken};
+use std::alloc::Global;
+
+/// What was answered last.
+#[derive(Clone, Copy, Debug, PartialEq, Eq)]
+enum Answer {
+    Low,
+    Word,
+    /// The run is finished, with this many strokes, of which this is the first.
+    Done(usize, Option<Stroke>),
+    Broke(GenFault),
+    /// The generator was halted already.
+    Halted,
+}
+
+/// Hands the generator a byte, or that no memory answers.
+fn told(generator: &mut Generator<Global>, byte: Option<u8>) -> Result<Answer, OutOfMemory> {
+    if generator.halted() {
+        return Ok(Answer::Halted);
+    }
+    Ok(match generator.take_byte(byte)? {
+        Taken::Low => Answer::Low,
+        Taken::Word => Answer::Word,
+        Taken::Done(strokes) => Answer::Done(strokes.len(), strokes.as_slice().first().copied()),
+        Taken::Broke(fault) => Answer::Broke(fault),
+    })
+}
+
+/// Hands it a word, low byte first.
+fn told_word(generator: &mut Generator<Global>, word: u16) -> Result<Answer, OutOfMemory> {
+    let [low, high] = word.to_le_bytes();
+    let _ = told(generator, Some(low))?;
+    told(generator, Some(high))
+}
+
+/// Hands it words, and answers the last answer.
+fn told_words(generator: &mut Generator<Global>, words: &[u16]) -> Result<Answer, OutOfMemory> {
+    let mut last = Answer::Halted;
+    for word in words {
+        last = told_word(generator, *word)?;
+    }
+    Ok(last)
+}
+
+/// What breaks a run, or finishes it.
+const ENDS: [(&[u16], Answer); 4] = [
+    (&[0xD000], Answer::Broke(GenFault::StackUnder)),
+    (
+        &[0xC800, 0xC800, 0xC800, 0xC800, 0xC800],
+        Answer::Broke(GenFault::StackOver),
+    ),
+    (
+        &[0xC800, 0xC800, 0xC800, 0xC800, 0xB000],
+        Answer::Done(0, None),
+    ),
+    (&[0xB000, 0xB000], Answer::Halted),
+];
+
+#[test]
+fn runs_end(rt: HostRuntime) -> Result<(), OutOfMemory> {
+    let mut generator = Generator::new(rt.alloc());
+    for (words, wanted) in ENDS {
+        generator.start();
+        assert_eq!(rt; told_words(&mut generator, words)?, wanted);
+        assert!(rt; generator.halted());
+    }
+    generator.start();
+    assert_eq!(rt; told(&mut generator, None)?, Answer::Broke(GenFault::Hole));
+    Ok(())
+}
+
+/// Words, and the address that is wanted after each.
+const ADDRESSES: [(u16, u16); 8] = [
+    // JMPL FFF. Its second word comes after the first, and after FFF comes 000.
+    (0xEFFF, 0xFFF),
+    (0xA000, 0x000),
+    (0x0000, 0x001),
+    // 001 calls 800, which calls C00. The newest call is returned from first.
+    (0xC800, 0x800),
+    (0xCC00, 0xC00),
+    (0xD000, 0x801),
+    (0xDFFF, 0x002),
+    (0xF000, 0x003),
+];
+
+#[test]
+fn addresses_are_wanted(rt: HostRuntime) -> Result<(), OutOfMemory> {
+    let mut generator = Generator::new(rt.alloc());
+    assert_eq!(rt; generator.wants(), None);
+    generator.start();
+    assert_eq!(rt; generator.wants(), Some(0));
+    for (word, wanted) in ADDRESSES {
+        assert_eq!(rt; told_word(&mut generator, word)?, Answer::Word, "{word:x}");
+        assert_eq!(rt; generator.wants(), Some(wanted), "{word:x}");
+    }
+    Ok(())
+}
+
+/// Whether the generator takes its next byte as the low one of word zero.
+fn begins(generator: &mut Generator<Global>) -> Result<bool, OutOfMemory> {
+    let is_first = generator.wants() == Some(0) && !generator.wants_high();
+    let is_low = told(generator, Some(0xA5))? == Answer::Low;
+    Ok(is_first && is_low && generator.wants_high() && generator.wants() == Some(0))
+}
+
+#[test]
+fn a_start_or_a_reset_drops_a_low_byte(rt: HostRuntime) -> Result<(), OutOfMemory> {
+    let mut generator = Generator::new(rt.alloc());
+    generator.start();
+    assert!(rt; begins(&mut generator)?);
+    generator.start();
+    assert!(rt; begins(&mut generator)?);
+    generator.reset();
+    assert!(rt; generator.halted() && !generator.wants_high());
+    generator.start();
+    assert!(rt; begins(&mut generator)?);
+    Ok(())
+}
+
+/// The stroke of LABS 512 400 0, VCTR 9 -100 100 7, and that of a point after it and after SVEC 2 1
+/// 0 1.
+const LINE: Stroke = Stroke {
+    x0: 262_144,
+    y0: 204_800,
+    x1: 210_944,
+    y1: 256_000,
+    z: 7,
+};
+
+const POINT: Stroke = Stroke {
+    x0: 211_968,
+    y0: 256_000,
+    x1: 211_968,
+    y1: 256_000,
+    z: 1,
+};
+
+#[test]
+fn a_start_drops_strokes_and_leaves_the_beam(rt: HostRuntime) -> Result<(), OutOfMemory> {
+    let mut generator = Generator::new(rt.alloc());
+    generator.start();
+    let line = [0xA190, 0x0200, 0x9064, 0x7464, 0xB000];
+    assert_eq!(rt;
+        told_words(&mut generator, &line)?,
+        Answer::Done(1, Some(LINE))
+    );
+    generator.start();
+    assert_eq!(rt; told_words(&mut generator, &[0xF011])?, Answer::Word);
+    generator.start();
+    let point = [0xF010, 0xB000];
+    assert_eq!(rt;
+        told_words(&mut generator, &point)?,
+        Answer::Done(1, Some(POINT))
+    );
+    Ok(())
+}

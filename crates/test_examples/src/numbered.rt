@@ -1,0 +1,221 @@
+//! Devices that are asked by numbers alone, as callers in other languages do.
+use dvg_device::{Device, Operation, Reply, Request};
+use dvg_driver::Action;
+use dvg_gen::GenFault;
+use dvg_log::Entry;
+
+/// The draft LABS 512 400 0, VCTR 9 -100 100 7, HALT, as requests.
+const FIRST_DRAFT: [u64; 3] = [
+    0x0190_0200_0000_0208,
+    0x0064_FF9C_0709_0008,
+    0x0000_0000_0000_0808,
+];
+
+/// The requests that open a world over zeros: 4,096 bytes are staged, 2,048 of the RAM and 2,048 of
+/// the ROM.
+const OPENS_WORLD: [u64; 2] = [0x10_0000_000A, 12];
+
+/// Asks all of them, and answers the last answer.
+fn asked(device: &mut Device, requests: &[u64]) -> u64 {
+    let mut last = 0;
+    for request in requests {
+        last = device.turn(*request);
+    }
+    last
+}
+
+#[test]
+fn a_world_draws_the_first_picture(rt: HostRuntime) {
+    let mut device = Device::new(rt.alloc());
+    assert_eq!(rt; asked(&mut device, &OPENS_WORLD), 22);
+    assert_eq!(rt; asked(&mut device, &[2, 2]), 0x100_0007);
+    // The operations have the numbers 0 to 2.
+    assert_eq!(rt; asked(&mut device, &FIRST_DRAFT), 0x200_0012);
+    assert_eq!(rt; device.turn(0), 0);
+    // The first byte that is written is 90, at 402; after the last one and the flip the flag is
+    // read, and a strobe sent.
+    assert_eq!(rt; device.turn(2), 0x9004_0206);
+    assert_eq!(rt; asked(&mut device, &[2; 13]), 8);
+    assert_eq!(rt; device.turn(3), 10);
+    assert_eq!(rt; device.turn(4), 0x100_000C);
+    assert_eq!(rt; device.turn(4), 0xE2_0100_000D);
+    assert_eq!(rt; asked(&mut device, &[4; 10]), 0xB0_0002_050E);
+    assert_eq!(rt; device.turn(17), 1);
+    assert_eq!(rt; device.turn(18), 262_144 + (204_800 << 32));
+    assert_eq!(rt; device.turn(19), 210_944 + (256_000 << 32));
+    assert_eq!(rt; device.turn(20), 7);
+    assert_eq!(rt; device.turn(0x114), 0);
+    assert_eq!(rt; device.turn(4), 16);
+}
+
+#[test]
+fn a_closed_device_has_an_answer_to_each_request(rt: HostRuntime) {
+    let mut device = Device::new(rt.alloc());
+    assert_eq!(rt; asked(&mut device, &OPENS_WORLD), 22);
+    assert_eq!(rt; device.turn(15), 24);
+    for code in 0..8 {
+        assert_eq!(rt; device.turn(code), 24, "{code}");
+    }
+    assert_eq!(rt; device.turn(16), 24);
+    assert_eq!(rt; device.turn(17), 0);
+    assert_eq!(rt; device.turn(12), 23);
+    assert_eq!(rt; device.turn(15), 24);
+    for code in 21..256 {
+        assert_eq!(rt; device.turn(code), 254, "{code}");
+    }
+}
+
+/// A driver alone writes into these bytes, and a generator alone draws out of them, one tick and
+/// one fetch after another.
+fn draws(ram: &mut [u8; 2048], driver: &mut Device, generator: &mut Device) -> Option<u64> {
+    let mut halted = true;
+    for _step in 0..100u8 {
+        match driver.answer(Request::Tick {
+            halted,
+            byte1: ram[1],
+        }) {
+            Reply::Came(Entry::Acted(Action::Wrote(address, byte))) => {
+                if address < 2048 {
+                    ram[usize::from(address)] = byte;
+                }
+            }
+            Reply::Came(Entry::Acted(Action::Sent)) => {
+                let _ = generator.answer(Request::Strobe);
+            }
+            _ => {}
+        }
+        let Reply::Wants(address, high) = generator.answer(Request::Wants) else {
+            continue;
+        };
+        let at = 2 * usize::from(address % 1024) + usize::from(high);
+        halted = matches!(
+            generator.answer(Request::Fetch(Some(ram[at]))),
+            Reply::Came(Entry::Done(..) | Entry::Broke(..))
+        );
+        if halted {
+            return Some(generator.turn(18));
+        }
+    }
+    None
+}
+
+#[test]
+fn a_driver_and_a_generator_alone_draw_it_too(rt: HostRuntime) {
+    let mut ram = [0u8; 2048];
+    let mut driver = Device::new(rt.alloc());
+    let mut generator = Device::new(rt.alloc());
+    assert_eq!(rt; asked(&mut driver, &[0x8_0000_000A, 13]), 22);
+    assert_eq!(rt; generator.turn(14), 22);
+    assert_eq!(rt; driver.turn(0x102), 5);
+    assert_eq!(rt; driver.turn(0x102), 0x100_0007);
+    let _ = asked(&mut driver, &FIRST_DRAFT);
+    assert_eq!(rt; driver.turn(0), 0);
+    assert_eq!(rt;
+        draws(&mut ram, &mut driver, &mut generator),
+        Some(262_144 + (204_800 << 32))
+    );
+    assert_eq!(rt;
+        generator.answer(Request::Fetch(None)),
+        Reply::Came(Entry::Still)
+    );
+    assert_eq!(rt; generator.turn(3), 10);
+    assert_eq!(rt;
+        generator.answer(Request::Fetch(None)),
+        Reply::Came(Entry::Broke(0, GenFault::Hole))
+    );
+}
+
+/// Kinds, scales and x of operations, of which a draft takes none.
+const NO_OPERATIONS: [(u8, u8, u16); 6] = [
+    (0, 10, 0),
+    (0, 9, 1024),
+    (1, 2, 0x100),
+    (2, 16, 0),
+    (5, 0, 0x1000),
+    (9, 0, 0),
+];
+
+/// Fields with no intensity.
+fn fields(kind: u8, scale: u8, x: u16, y: u16) -> Operation {
+    Operation {
+        kind,
+        scale,
+        z: 0,
+        x,
+        y,
+    }
+}
+
+#[test]
+fn what_is_no_operation_is_refused(rt: HostRuntime) {
+    let mut device = Device::new(rt.alloc());
+    for (kind, scale, x) in NO_OPERATIONS {
+        let operation = fields(kind, scale, x, 0);
+        assert_eq!(rt; device.answer(Request::Push(operation)), Reply::NoOperation);
+    }
+    // -3 is FFFD, and 1023 is 3FF.
+    assert_eq!(rt;
+        device.answer(Request::Push(fields(1, 5, 0xFFFD, 3))),
+        Reply::Pushed(0)
+    );
+    assert_eq!(rt;
+        device.answer(Request::Push(fields(0, 9, 0xFC01, 0x3FF))),
+        Reply::Pushed(1)
+    );
+    for i in 2..511 {
+        assert_eq!(rt;
+            device.answer(Request::Push(fields(7, 0, 0, 0))),
+            Reply::Pushed(i)
+        );
+    }
+    assert_eq!(rt;
+        device.answer(Request::Push(fields(7, 0, 0, 0))),
+        Reply::Full
+    );
+}
+
+#[test]
+fn so_many_bytes_are_staged(rt: HostRuntime) {
+    let mut device = Device::new(rt.alloc());
+    assert_eq!(rt; device.turn(13), 23);
+    // 6,144 bytes at most.
+    assert_eq!(rt;
+        device.answer(Request::Stage {
+            byte: 0,
+            count: 6145
+        }),
+        Reply::Full
+    );
+    assert_eq!(rt;
+        device.answer(Request::Stage {
+            byte: 0,
+            count: 2047
+        }),
+        Reply::Staged(2047)
+    );
+    assert_eq!(rt; device.turn(13), 23);
+    assert_eq!(rt;
+        device.answer(Request::Stage { byte: 0, count: 1 }),
+        Reply::Staged(2048)
+    );
+    assert_eq!(rt; device.turn(12), 23);
+    assert_eq!(rt; device.turn(13), 22);
+    assert_eq!(rt;
+        device.answer(Request::Stage {
+            byte: 0,
+            count: 4096
+        }),
+        Reply::Staged(6144)
+    );
+    assert_eq!(rt; device.turn(12), 22);
+    assert_eq!(rt; device.turn(7), 23);
+    assert_eq!(rt; device.turn(11), 17);
+    assert_eq!(rt;
+        device.answer(Request::Stage {
+            byte: 0xFF,
+            count: 2048
+        }),
+        Reply::Staged(2048)
+    );
+    assert_eq!(rt; device.turn(7), 17);
+}

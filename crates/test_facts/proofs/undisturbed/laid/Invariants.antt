@@ -1,0 +1,5 @@
+use Rattle.test_facts.proofs.Laying.{IsLaid}
+use Rattle.test_facts.proofs.undisturbed.laid.Given as goal
+
+abbrev pub invariant-loop-k : goal.invariant-loop-k
+invariant-loop-k l = IsLaid l.store l.half l.frame.operations l.k

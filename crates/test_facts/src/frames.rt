@@ -1,0 +1,64 @@
+//! What follows from the contracts of the check and of cursors.
+ghost use Rattle.std.specs.Prelude.{◌≡◌, ◌*◌, ◌<◌, ◌∷◌, [], Err, Some, slice_get, true};
+ghost use Rattle.dvg_mem.specs.Areas.{base};
+ghost use Rattle.dvg_frame.specs.Bytes.{addressed};
+ghost use Rattle.test_facts.specs.Facts.{blank_frame, jump_bytes, jump_frame};
+
+use dvg_frame::{Checker, Cursor, Draft, Frame, FrameFault, OpKind, check};
+use dvg_mem::{Half, Rom};
+use std::alloc::Global;
+
+/// A draft without operations is refused for fault 1, over each ROM.
+pub fn empty_draft_is_refused(rom: &Rom<Global>) -> Result<Frame, FrameFault>
+    ensures { result ≡ Err FrameFault.Empty }
+{
+    check(&Draft::new(), rom)
+}
+
+/// A checker that has checked a draft answers as if the next one were its first.
+pub fn checker_answers_anew(draft: &Draft, rom: &Rom<Global>) -> bool
+    requires { draft.now ≡ OpKind.Halt ∷ [] }
+    ensures { result ≡ true }
+{
+    let mut checker = Checker::new();
+    let _ = checker.check(&Draft::new(), rom);
+    match checker.check(draft, rom) {
+        Ok(_) => false,
+        Err(fault) => matches!(fault, FrameFault::NoLabs),
+    }
+}
+
+/// The second byte of a frame that begins with LABS 512 400 0 goes to 403 in half 1, and is A1.
+pub fn second_byte(frame: Frame) -> Option<(u16, u8)>
+    requires { frame.operations ≡ blank_frame }
+    ensures { result ≡ Some (0x403, 0xA1) }
+{
+    let mut cursor = Cursor::new(frame, Half::H1);
+    let _ = cursor.next();
+    cursor.next()
+}
+
+/// A byte of `labs 0 0 0; jump 2; halt` in either half, by its number.
+pub fn byte_of_a_jump(frame: &Frame, half: Half, k: u16) -> u8
+    requires frame { frame.now.operations ≡ jump_frame }
+    requires number { k < 8 }
+    ensures { slice_get (jump_bytes half) k ≡ Some result }
+{
+    frame.byte(half, k)
+}
+
+/// A cursor over that frame gives all of them, each with its address.
+pub fn bytes_of_a_jump(frame: Frame, half: Half) -> Cursor
+    requires { frame.operations ≡ jump_frame }
+    ensures { result ≡ addressed (2 * base half) (jump_bytes half) }
+{
+    Cursor::new(frame, half)
+}
+
+/// Eight are left before the first is given.
+pub fn left_of_a_jump(frame: Frame, half: Half) -> u16
+    requires { frame.operations ≡ jump_frame }
+    ensures { result ≡ 8 }
+{
+    Cursor::new(frame, half).left()
+}

@@ -1,0 +1,26 @@
+//! What follows from the contract of the reader of traces.
+ghost use Rattle.std.specs.Prelude.{◌≡◌, IfErr, IfSome};
+ghost use Rattle.test_facts.specs.Facts.{one_tick, tick_text};
+
+use dvg_log::Trace;
+use dvg_read::{TraceFault, TraceText, read_trace};
+use std::alloc::Global;
+
+/// The text `tick` denotes one tick. None where memory was refused.
+pub fn reads_a_tick(alloc: Global, text: &[u8]) -> Option<Trace<Global>>
+    requires { text.now ≡ tick_text }
+    ensures { IfSome result (λ events. events ≡ one_tick) }
+{
+    match read_trace(alloc, text) {
+        Ok(told) => Some(told.events),
+        Err(_) => None,
+    }
+}
+
+/// It has no fault.
+pub fn tick_has_no_fault(alloc: Global, text: &[u8]) -> Result<TraceText<Global>, TraceFault>
+    requires { text.now ≡ tick_text }
+    ensures { IfErr result (λ fault. fault ≡ TraceFault.Memory) }
+{
+    read_trace(alloc, text)
+}

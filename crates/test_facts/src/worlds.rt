@@ -1,0 +1,115 @@
+//! What follows from the contracts of worlds, traces and whole runs.
+ghost use Rattle.std.specs.Prelude.{◌≡◌, IfSome, map, true};
+ghost use Rattle.test_facts.specs.Facts.{first_picture, first_picture_events, two_ticks};
+ghost use Rattle.test_facts.specs.Facts.{two_ticks_shown};
+ghost use Rattle.dvg_tool.specs.Plays.{zeros};
+ghost use Rattle.dvg_log.specs.Entries.{shown_of};
+ghost use Rattle.dvg_log.specs.declared.entry.Entry.TheVariants.{Acted};
+ghost use Rattle.dvg_log.specs.Events.{happening_of};
+
+use dvg_driver::Action;
+use dvg_mem::{Flat, Image, Rom};
+use dvg_world::{Event, OwnEntry, OwnEvent, Trace, TraceEvent, World, run, run_trace};
+use std::alloc::Global;
+
+/// The first tick of a new world is the driver's peek, over each ROM and image. None where there is
+/// no memory for a world.
+pub fn first_tick(
+    alloc: Global,
+    rom: Rom<Global>,
+    image: &Image<Global>,
+) -> Option<OwnEntry<Global>>
+    ensures { IfSome result (λ entry. shown_of entry ≡ Acted Action.Peek) }
+{
+    let Ok(mut world) = World::<Flat<Global>>::new(alloc, rom, image) else {
+        return None;
+    };
+    match world.apply(&Event::Tick) {
+        Ok(entry) => Some(entry),
+        Err(_) => None,
+    }
+}
+
+/// A tick is never refused memory.
+pub fn tick_takes_no_memory(alloc: Global, rom: Rom<Global>, image: &Image<Global>) -> bool
+    ensures { result ≡ true }
+{
+    let Ok(mut world) = World::<Flat<Global>>::new(alloc, rom, image) else {
+        return true;
+    };
+    match world.apply(&Event::Tick) {
+        Ok(_) => true,
+        Err(_) => false,
+    }
+}
+
+/// Two ticks have these two entries, over each ROM and image. None where memory was refused.
+pub fn runs_two_ticks(
+    alloc: Global,
+    rom: Rom<Global>,
+    image: &Image<Global>,
+) -> Option<Vec<OwnEntry<Global>, Global>>
+    ensures { IfSome result (λ entries. map shown_of entries.items ≡ two_ticks_shown) }
+{
+    match run::<Flat<Global>>(alloc, rom, image, &[Event::Tick, Event::Tick]) {
+        Ok(entries) => Some(entries),
+        Err(_) => None,
+    }
+}
+
+/// The same of a trace of two ticks.
+pub fn runs_a_trace_of_two_ticks(
+    alloc: Global,
+    rom: Rom<Global>,
+    image: &Image<Global>,
+    trace: &Trace<Global>,
+) -> Option<Vec<OwnEntry<Global>, Global>>
+    requires { trace.now ≡ two_ticks }
+    ensures { IfSome result (λ entries. map shown_of entries.items ≡ two_ticks_shown) }
+{
+    match run_trace::<Flat<Global>>(alloc, rom, image, trace) {
+        Ok(entries) => Some(entries),
+        Err(_) => None,
+    }
+}
+
+/// A trace keeps its events in order.
+pub fn trace_keeps_its_events(alloc: Global) -> Option<bool>
+    ensures { IfSome result (λ is_strobe. is_strobe ≡ true) }
+{
+    let mut trace = Trace::new(alloc);
+    trace.push(Event::Tick).ok()?;
+    trace.push(Event::Strobe).ok()?;
+    Some(matches!(trace.event(1), TraceEvent::Strobe))
+}
+
+/// An event that is pushed again stands at the end.
+pub fn trace_keeps_what_is_pushed_again(alloc: Global) -> Option<bool>
+    ensures { IfSome result (λ is_strobe. is_strobe ≡ true) }
+{
+    let mut trace = Trace::new(alloc);
+    trace.push(Event::Strobe).ok()?;
+    trace.push(Event::Tick).ok()?;
+    trace.push_again(0).ok()?;
+    Some(matches!(trace.event(2), TraceEvent::Strobe))
+}
+
+/// The first picture: over a ROM and a RAM of zeros a frame of one vector is offered, written,
+/// published and drawn, and each of the events has exactly this entry. None where memory was
+/// refused.
+pub fn runs_the_first_picture(
+    alloc: Global,
+    rom: Rom<Global>,
+    image: &Image<Global>,
+    events: &[OwnEvent<Global>],
+) -> Option<Vec<OwnEntry<Global>, Global>>
+    requires rom { rom ≡ zeros }
+    requires image { image.now ≡ zeros }
+    requires events { map happening_of events.now ≡ first_picture_events }
+    ensures { IfSome result (λ entries. map shown_of entries.items ≡ first_picture) }
+{
+    match run::<Flat<Global>>(alloc, rom, image, events) {
+        Ok(entries) => Some(entries),
+        Err(_) => None,
+    }
+}

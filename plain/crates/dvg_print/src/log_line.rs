@@ -1,0 +1,88 @@
+//! Lines of what a log shows.
+use crate::line::Line;
+use dvg_driver::Action;
+use dvg_gen::Stroke;
+use dvg_log::{Entry, OwnEntry};
+use std::alloc::Allocator;
+
+impl Line {
+    // Appends what an action did.
+    pub(crate) fn action(&mut self, action: Action) {
+        match action {
+            Action::Peek => self.part(b"peek"),
+            Action::Wrote(address, byte) => {
+                self.with_address(b"wrote", address);
+                self.hex_2(byte);
+            }
+            Action::Read(true) => self.part(b"read halted"),
+            Action::Read(false) => self.part(b"read running"),
+            Action::Sent => self.part(b"sent"),
+            Action::Idle => self.part(b"idle"),
+        }
+    }
+
+    // Appends what a fetch led to, its word address, and the word there.
+    fn fetched(&mut self, name: &[u8], address: u16, word: u16) {
+        self.with_address(name, address);
+        self.hex_4(word);
+    }
+
+    // Appends what an event led to.
+    fn entry<A: Allocator>(&mut self, entry: &OwnEntry<A>) {
+        match entry {
+            Entry::Offered => self.part(b"offered"),
+            Entry::Refused(fault) => {
+                self.part(b"refused");
+                self.fault(*fault);
+            }
+            Entry::Busy => self.part(b"busy"),
+            Entry::Asked => self.part(b"asked"),
+            Entry::NothingPublished => self.part(b"nothing published"),
+            Entry::Acted(action) => self.action(*action),
+            Entry::Started => self.part(b"started"),
+            Entry::NoStrobe => self.part(b"no strobe"),
+            Entry::Low(address, byte) => {
+                self.with_address(b"low", *address);
+                self.hex_2(*byte);
+            }
+            Entry::Fetched(address, word) => self.fetched(b"fetched", *address, *word),
+            Entry::Done(address, word, strokes) => {
+                self.fetched(b"done", *address, *word);
+                self.number(strokes.len());
+            }
+            Entry::Broke(address, fault) => {
+                self.with_address(b"broke", *address);
+                self.number(fault.number());
+            }
+            Entry::Still => self.part(b"still"),
+            Entry::Cleared => self.part(b"cleared"),
+        }
+    }
+
+    /// Becomes the line that `play --all` writes of an event's entry.
+    pub fn become_entry<A: Allocator>(&mut self, number: usize, entry: &OwnEntry<A>) {
+        self.become_number(number);
+        self.entry(entry);
+        self.text(b"\n");
+    }
+
+    /// Becomes the line of a picture of this many strokes, by the number of the event that finished
+    /// it.
+    pub fn become_picture(&mut self, number: usize, strokes: usize) {
+        self.clear();
+        self.text(b"picture");
+        self.number(number);
+        self.number(strokes);
+        self.text(b"\n");
+    }
+
+    /// Becomes the line of a stroke.
+    pub fn become_stroke(&mut self, stroke: Stroke) {
+        self.become_number(stroke.x0);
+        self.number(stroke.y0);
+        self.number(stroke.x1);
+        self.number(stroke.y1);
+        self.number(stroke.z);
+        self.text(b"\n");
+    }
+}

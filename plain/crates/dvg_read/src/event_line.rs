@@ -1,0 +1,91 @@
+//! Lines that spell events by themselves.
+use crate::number::{hex, natural};
+use dvg_log::Event;
+use memchr::memchr;
+use std::convert::Infallible;
+
+/// The most events of one line.
+const MAX_TIMES: u16 = 9999;
+
+/// An event that a line spells by itself. It isn't an offer. A reset of the whole system has the
+/// value that each byte of the RAM has after it.
+pub(crate) type SpelledEvent = Event<Infallible, u8>;
+
+/// The events of a line: one event, this many times in a row.
+#[derive(Clone, Copy)]
+pub struct EventLine {
+    pub(crate) event: SpelledEvent,
+    pub(crate) count: u16,
+}
+
+/// The events that a line spells by itself. None exactly where it spells none.
+pub fn read_event_line(line: &[u8]) -> Option<EventLine> {
+    match memchr(b' ', line) {
+        Some(space) => with_operand(&line[..space], &line[space + 1..]),
+        None => once(line),
+    }
+}
+
+// The event of a name alone.
+fn once(name: &[u8]) -> Option<EventLine> {
+    Some(EventLine {
+        event: event_named(name)?,
+        count: 1,
+    })
+}
+
+// The events of a name and its operand.
+fn with_operand(name: &[u8], operand: &[u8]) -> Option<EventLine> {
+    if name == b"resetall".as_slice() {
+        return Some(EventLine {
+            event: Event::ResetAll(byte(operand)?),
+            count: 1,
+        });
+    }
+    let event = event_named(name)?;
+    if !is_counted(&event) {
+        return None;
+    }
+    Some(EventLine {
+        event,
+        count: times(operand)?,
+    })
+}
+
+// The event that this name alone spells.
+fn event_named(name: &[u8]) -> Option<SpelledEvent> {
+    if name == b"redraw".as_slice() {
+        Some(Event::Redraw)
+    } else if name == b"tick".as_slice() {
+        Some(Event::Tick)
+    } else if name == b"strobe".as_slice() {
+        Some(Event::Strobe)
+    } else if name == b"fetch".as_slice() {
+        Some(Event::Fetch)
+    } else if name == b"resetgen".as_slice() {
+        Some(Event::ResetGen)
+    } else if name == b"resetcpu".as_slice() {
+        Some(Event::ResetCpu)
+    } else {
+        None
+    }
+}
+
+// Whether a count may follow an event's name.
+fn is_counted(event: &SpelledEvent) -> bool {
+    matches!(event, Event::Tick | Event::Strobe | Event::Fetch)
+}
+
+// How many times, 1 to 9,999.
+fn times(count: &[u8]) -> Option<u16> {
+    let count = natural(count)?;
+    if count == 0 || count > MAX_TIMES {
+        return None;
+    }
+    Some(count)
+}
+
+// A byte of two hexadecimal digits.
+fn byte(digits: &[u8]) -> Option<u8> {
+    u8::try_from(hex(digits, 2)?).ok()
+}
