@@ -544,7 +544,8 @@ class Draft:
     """The operations of a frame, numbered from 0. Each call adds one, and answers the draft.
 
     A field out of its range is a BadOperation, and a 512th operation a DraftFull: the draft is then
-    as it was. Whether the whole may be drawn an offer tells.
+    as it was. A field that isn't whole loses its fraction. Whether the whole may be drawn an offer
+    tells.
     """
 
     def __init__(self) -> None:
@@ -858,9 +859,9 @@ class Torn(NamedTuple):
 class Verdict(NamedTuple):
     """What is said of a log: its first torn line, or None, and what it tells up to there.
 
-    runs is how many began, halted how many came to a HALT, writes how many bytes were written, and
-    words how many words were fetched. A log in which no run came to a HALT shows little, whatever
-    is said of it. As text it is what `dvg torn` writes.
+    runs is how many began, halted how many lines `halted` there were, writes how many bytes were
+    written, and words how many lines `fetched` and `halted`. A log in which no run came to a HALT
+    shows little, whatever is said of it. As text it is what `dvg torn` writes.
     """
 
     torn: Optional[Torn]
@@ -883,8 +884,9 @@ class Judge:
     """Judges a log whose lines come one at a time, of a driver and a generator of any kind.
 
     A run draws a half where the first word that it fetched is the one at 000, a jump to a word of
-    that half: from then on, until it ends. `runs`, `halts`, `writes` and `words` count. This is the
-    rule of `dvg torn`, written once more in Python: it is tested against that.
+    that half: from then on, until it ends. `runs`, `halts` and `writes` count; `words` counts the
+    calls of `fetched` and `halted`. This is the rule of `dvg torn`, written once more in Python: it
+    is tested against that.
     """
 
     def __init__(self) -> None:
@@ -906,7 +908,7 @@ class Judge:
             self._half = _half(word & 0xFFF) if jumps else None
 
     def halted(self) -> None:
-        """The run ended by a HALT."""
+        """The run ended: by a HALT, or it broke."""
         self.halts += 1
         self.words += 1
         self.reset()
