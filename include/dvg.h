@@ -510,8 +510,9 @@ static inline dvg_answer dvg_halt(dvg *device)
  *
  * A driver alone beside a generator alone is what a world is, if their caller
  *
+ *   - opens the driver over the ROM that the generator reads,
  *   - hands a tick the HALT flag and byte 001 as they are at that moment,
- *   - writes the byte of a DVG_WROTE before the next tick and the next fetch,
+ *   - writes the byte of a DVG_WROTE before the next tick and the next fetch, and no other byte,
  *   - lets a strobe arrive only after a DVG_SENT since the last reset of the whole system, which is
  *     a reset of both, and drops a strobe that was on its way. */
 
