@@ -407,9 +407,9 @@ static inline dvg_answer dvg_shut(dvg *device)
 
 /* --- Drafts --- */
 
-/* A device has one draft, whatever is open, and an offer hands it to the driver. Each of these adds
- * one operation to it: DVG_PUSHED with its number; DVG_NO_OPERATION where a field is out of its
- * range, whatever int it is; DVG_FULL. */
+/* A device has one draft, whatever is open. An offer hands it to the driver, and it stays as it is:
+ * dvg_clear begins the next one. Each of these adds one operation to it: DVG_PUSHED with its
+ * number; DVG_NO_OPERATION where a field is out of its range, whatever int it is; DVG_FULL. */
 
 /* An operation by its number and fields. Fields that don't fit into their bits are those of no
  * operation. */
@@ -535,9 +535,9 @@ static inline dvg_answer dvg_tick(dvg *device)
     return dvg_ask(device, DVG_REQUEST_TICK);
 }
 
-/* Of a driver: the same, where `halted` is the HALT flag, and byte1 byte 001 of the RAM. What
- * DVG_WROTE says is to be written by the caller, before the next tick and the next fetch, and what
- * DVG_SENT says is the caller's to send. */
+/* Of a driver: the same, where `halted` is whether the generator is halted, and byte1 byte 001 of
+ * the RAM. What DVG_WROTE says is to be written by the caller, before the next tick and the next
+ * fetch, and what DVG_SENT says is the caller's to send. */
 static inline dvg_answer dvg_driver_tick(dvg *device, bool halted, uint8_t byte1)
 {
     return dvg_ask(device, DVG_REQUEST_TICK | (uint64_t)halted << 8 | (uint64_t)byte1 << 16);

@@ -619,7 +619,8 @@ class Driver(_Device):
     """A driver alone, just reset. Its drafts are checked over a ROM, RETURNS where none is named.
 
     The RAM is the caller's: after a tick that wrote, put the byte there before the next tick and
-    the next fetch. After one that sent a strobe, start the generator.
+    the next fetch, and write no other byte. After one that sent a strobe, start the generator. Name
+    the ROM that the generator reads.
     """
 
     def __init__(self, rom: Optional[Bytes] = None) -> None:
@@ -630,7 +631,7 @@ class Driver(_Device):
     def tick(self, halted: bool, byte1: int) -> Entry:
         """The driver does one action: PEEK, WROTE (a byte, at a byte address), READ, SENT or IDLE.
 
-        halted is the HALT flag, and byte1 byte 001 of the RAM, 0 to 255.
+        halted is whether the generator is halted, and byte1 byte 001 of the RAM, 0 to 255.
         """
         return self._ask(_Request.TICK, bool(halted) << 8 | _byte(byte1) << 16)
 
