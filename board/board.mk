@@ -35,11 +35,17 @@ build/roms/asteroid: build/$(PROGRAM).program build/rom build/prom
 build/$(PROGRAM).program: build/$(PROGRAM).o build/driver.o $(BOARD)board.cfg
 	ld65 -C $(BOARD)board.cfg -Ln build/$(PROGRAM).labels -o $@ build/$(PROGRAM).o build/driver.o
 
+# Says where the assembler comes from, if it isn't there.
+find_ca65 = @command -v ca65 >/dev/null || { \
+    echo 'make: ca65 is not found; board/install installs it' >&2 && exit 1; }
+
 build/$(PROGRAM).o: $(PROGRAM).s $(BOARD)dvg.inc build/tables.inc build/shapes.equates \
     build/options
+	$(find_ca65)
 	ca65 -g -I $(BOARD) -I build $(DEFINES) -o $@ $(PROGRAM).s
 
 build/driver.o: $(BOARD)driver.s $(BOARD)dvg.inc build/options
+	$(find_ca65)
 	ca65 -g $(DRIVER) -o $@ $(BOARD)driver.s
 
 build/sketch: $(SKETCH) $(BOARD)outline.awk build/options

@@ -140,7 +140,8 @@ typedef enum dvg_kind {
                                     run goes on */
     DVG_DONE = 14,             /*   the same, and the word is a HALT: the run's strokes can be
                                     asked for */
-    DVG_BROKE = 15,            /*   the fetch at this word address broke the run: dvg_break_of */
+    DVG_BROKE = 15,            /*   the fetch at this word address broke the run, which is over:
+                                    dvg_break_of */
     DVG_STILL = 16,            /* = no run is open */
     DVG_CLEARED = 17,          /*   it was done */
     DVG_PUSHED = 18,           /*   value: the operation's number in the draft, from 0 */
@@ -406,9 +407,9 @@ static inline dvg_answer dvg_shut(dvg *device)
 
 /* --- Drafts --- */
 
-/* A device has one draft, whatever is open, and an offer hands it to the driver. Each of these adds
- * one operation to it: DVG_PUSHED with its number; DVG_NO_OPERATION where a field is out of its
- * range, whatever int it is; DVG_FULL. */
+/* A device has one draft, whatever is open. An offer hands it to the driver, and it stays as it is:
+ * dvg_clear begins the next one. Each of these adds one operation to it: DVG_PUSHED with its
+ * number; DVG_NO_OPERATION where a field is out of its range, whatever int it is; DVG_FULL. */
 
 /* An operation by its number and fields. Fields that don't fit into their bits are those of no
  * operation. */
@@ -500,7 +501,20 @@ static inline dvg_answer dvg_halt(dvg *device)
 /* --- Events --- */
 
 /* Each answers DVG_CLOSED where nothing is open, and DVG_UNKNOWN where it is none of what is open.
- * (By dvg_turn, a number that is no request is answered DVG_UNKNOWN also while nothing is open.) */
+ * (By dvg_turn, a number that is no request is answered DVG_UNKNOWN also while nothing is open.)
+ *
+ * A tick and a fetch are one request of a world and of an end alone. So nothing tells these apart:
+ * dvg_tick hands a driver alone the flag of a running generator and byte 00, and dvg_fetch hands a
+ * generator alone byte 00; a world passes over what dvg_driver_tick, dvg_generator_fetch and
+ * dvg_generator_hole hand it.
+ *
+ * A driver alone beside a generator alone is what a world is, if their caller
+ *
+ *   - opens the driver over the ROM that the generator reads,
+ *   - hands a tick the HALT flag and byte 001 as they are at that moment,
+ *   - writes the byte of a DVG_WROTE before the next tick and the next fetch, and no other byte,
+ *   - lets a strobe arrive only after a DVG_SENT since the last reset of the whole system, which is
+ *     a reset of both, and drops a strobe that was on its way. */
 
 /* Of a world or a driver: offers the draft. DVG_OFFERED; DVG_REFUSED; DVG_BUSY. */
 static inline dvg_answer dvg_offer(dvg *device)
@@ -521,15 +535,16 @@ static inline dvg_answer dvg_tick(dvg *device)
     return dvg_ask(device, DVG_REQUEST_TICK);
 }
 
-/* Of a driver: the same, where `halted` is the HALT flag, and byte1 byte 001 of the RAM. What
- * DVG_WROTE says is to be written by the caller, before the next tick and the next fetch, and what
- * DVG_SENT says is the caller's to send. */
+/* Of a driver: the same, where `halted` is whether the generator is halted, and byte1 byte 001 of
+ * the RAM. What DVG_WROTE says is to be written by the caller, before the next tick and the next
+ * fetch, and what DVG_SENT says is the caller's to send. */
 static inline dvg_answer dvg_driver_tick(dvg *device, bool halted, uint8_t byte1)
 {
     return dvg_ask(device, DVG_REQUEST_TICK | (uint64_t)halted << 8 | (uint64_t)byte1 << 16);
 }
 
-/* Of a world or a generator: a start strobe arrives. DVG_STARTED; of a world also DVG_NO_STROBE. */
+/* Of a world or a generator: a start strobe arrives. DVG_STARTED, also amid a run, which is
+ * abandoned with its strokes; of a world also DVG_NO_STROBE. */
 static inline dvg_answer dvg_strobe(dvg *device)
 {
     return dvg_ask(device, DVG_REQUEST_STROBE);
@@ -638,7 +653,8 @@ static inline dvg_answer dvg_generator_fetch_from(dvg *device, const uint8_t *ra
 /* How dvg_draw ended. */
 typedef struct dvg_drawn {
     dvg_answer last;            /* the last answer: its kind tells how the run ended */
-    uint32_t words;             /* how many words were fetched, with the last one */
+    uint32_t words;             /* how many words were fetched, with that of a HALT, and without
+                                   one that broke the run */
     uint64_t strokes;           /* how many strokes were drawn; 0 where there was no HALT */
 } dvg_drawn;
 

@@ -544,7 +544,8 @@ class Draft:
     """The operations of a frame, numbered from 0. Each call adds one, and answers the draft.
 
     A field out of its range is a BadOperation, and a 512th operation a DraftFull: the draft is then
-    as it was. Whether the whole may be drawn an offer tells.
+    as it was. A field that isn't whole loses its fraction. Whether the whole may be drawn an offer
+    tells.
     """
 
     def __init__(self) -> None:
@@ -618,7 +619,8 @@ class Driver(_Device):
     """A driver alone, just reset. Its drafts are checked over a ROM, RETURNS where none is named.
 
     The RAM is the caller's: after a tick that wrote, put the byte there before the next tick and
-    the next fetch. After one that sent a strobe, start the generator.
+    the next fetch, and write no other byte. After one that sent a strobe, start the generator. Name
+    the ROM that the generator reads.
     """
 
     def __init__(self, rom: Optional[Bytes] = None) -> None:
@@ -629,7 +631,7 @@ class Driver(_Device):
     def tick(self, halted: bool, byte1: int) -> Entry:
         """The driver does one action: PEEK, WROTE (a byte, at a byte address), READ, SENT or IDLE.
 
-        halted is the HALT flag, and byte1 byte 001 of the RAM, 0 to 255.
+        halted is whether the generator is halted, and byte1 byte 001 of the RAM, 0 to 255.
         """
         return self._ask(_Request.TICK, bool(halted) << 8 | _byte(byte1) << 16)
 
@@ -858,9 +860,9 @@ class Torn(NamedTuple):
 class Verdict(NamedTuple):
     """What is said of a log: its first torn line, or None, and what it tells up to there.
 
-    runs is how many began, halted how many came to a HALT, writes how many bytes were written, and
-    words how many words were fetched. A log in which no run came to a HALT shows little, whatever
-    is said of it. As text it is what `dvg torn` writes.
+    runs is how many began, halted how many lines `halted` there were, writes how many bytes were
+    written, and words how many lines `fetched` and `halted`. A log in which no run came to a HALT
+    shows little, whatever is said of it. As text it is what `dvg torn` writes.
     """
 
     torn: Optional[Torn]
@@ -883,8 +885,9 @@ class Judge:
     """Judges a log whose lines come one at a time, of a driver and a generator of any kind.
 
     A run draws a half where the first word that it fetched is the one at 000, a jump to a word of
-    that half: from then on, until it ends. `runs`, `halts`, `writes` and `words` count. This is the
-    rule of `dvg torn`, written once more in Python: it is tested against that.
+    that half: from then on, until it ends. `runs`, `halts` and `writes` count; `words` counts the
+    calls of `fetched` and `halted`. This is the rule of `dvg torn`, written once more in Python: it
+    is tested against that.
     """
 
     def __init__(self) -> None:
@@ -906,7 +909,7 @@ class Judge:
             self._half = _half(word & 0xFFF) if jumps else None
 
     def halted(self) -> None:
-        """The run ended by a HALT."""
+        """The run ended: by a HALT, or it broke."""
         self.halts += 1
         self.words += 1
         self.reset()

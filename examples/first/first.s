@@ -44,6 +44,7 @@ irq:    rti
 
 .segment "DATA"
 .include "tables.inc"
+        .assert tables_high - tables_low < 256, error, "first.s shows at most 255 frames"
 
 .segment "VECTORS"
         .word nmi, reset, irq
