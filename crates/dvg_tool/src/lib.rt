@@ -14,6 +14,7 @@ mod lists;
 mod lists_at;
 mod outcome;
 mod plays;
+mod plays_pictures;
 mod plays_svg;
 mod roms;
 mod shows;
