@@ -1,6 +1,6 @@
 -- From the pictures of a trace that was read to what is shown of its log.
-use Rattle.std.proofs.Common.{◌≡◌, ℕ, ◌+◌, List, [], ◌∷◌, ◌++◌, map, flat_map, reverse, length, take, refl, sym, ap, ◌∙◌, subst, suc, Bool, true, false, Vec, append_assoc, append-nil, add-one, arith}
-use Rattle.std.proofs.lemmas.List.{length-map, length-reverse, map-append, reverse-append}
+use Rattle.std.proofs.Common.{◌≡◌, ℕ, ◌+◌, ◌<◌, List, [], ◌∷◌, ◌++◌, map, flat_map, reverse, length, drop, get_or, refl, sym, ap, ◌∙◌, subst, suc, Bool, true, false, Vec, append_assoc, append-nil, add-one, arith}
+use Rattle.std.proofs.lemmas.List.{drop_more, length-map, length-reverse, map-append, reverse-append}
 use Rattle.std.proofs.lemmas.Grind.{flat_map-append}
 use Rattle.dvg_gen.specs.declared.stroke.Stroke.{Stroke}
 use Rattle.dvg_log.specs.declared.entry.Entry.TheVariants.{Done}
@@ -9,7 +9,8 @@ use Rattle.dvg_log.specs.Events.{Happening}
 use Rattle.dvg_log.specs.Log.{Line, Log, ◌⟼◌, events_of}
 use Rattle.dvg_print.specs.Shows.{shown, shown_entry}
 use Rattle.dvg_world.specs.declared.pictures.Drawn.{Drawn}
-use Rattle.dvg_world.specs.Pictures.{Draws, pictures_of}
+use Rattle.dvg_world.specs.declared.pictures.Picture.{Picture}
+use Rattle.dvg_world.specs.Pictures.{Draws, picture_seen, pictures_of}
 use Rattle.dvg_io.specs.Serving.{OfInput}
 use Rattle.dvg_io.proofs.Inputs.{whole}
 use Rattle.dvg_read.specs.TraceGives.{GivesTrace}
@@ -75,3 +76,9 @@ finds_drawn read R events drawn gives draws input e = record {
   ends = draws.ends;
   holds = ap (flat_map picture_text) draws.pictures ∙ sym (text_of_pictures draws.log);
 }
+
+-- the next picture is that at this index
+pub next_picture : {A : Type 0} (pictures : List (Picture A)) (i : ℕ) (picture : Picture A) → i < length pictures → picture ≡ get_or pictures i picture
+    → flat_map picture_text (map picture_seen (drop i pictures)) ≡ picture_text (picture_seen picture) ++ flat_map picture_text (map picture_seen (drop (i + 1) pictures))
+next_picture pictures i picture low is =
+    ap (λ l. flat_map picture_text (map picture_seen l)) (drop_more pictures i picture low ∙ ap (λ p. p ∷ drop (i + 1) pictures) (sym is))
