@@ -28,7 +28,9 @@ events_shown ((event ⟼ entry) ∷ log) =
 -- one more entry is shown after the others
 shown_more : (all : Bool) (number : ℕ) (entries : List Shown) (entry : Shown)
     → shown all number (entries ++ entry ∷ []) ≡ shown all number entries ++ shown_entry all (number + length entries) entry
-shown_more all number [] entry = append-nil (shown_entry all number entry)
+shown_more all number [] entry =
+    let same : number ≡ number + 0 = omega arith in
+    append-nil (shown_entry all number entry) ∙ ap (λ k. shown_entry all k entry) same
 shown_more all number (first ∷ entries) entry =
     ap (λ l. shown_entry all number first ++ l) (shown_more all (suc number) entries entry)
     ∙ sym (append_assoc (shown_entry all number first) (shown all (suc number) entries) _)
@@ -40,16 +42,17 @@ entries_count log = length-map (reverse log) entry_of ∙ length-reverse log
 -- of a log, one more line
 log_more : (all : Bool) (line : Line) (log : Log) → log_text all (line ∷ log) ≡ log_text all log ++ shown_entry all (length log) (entry_of line)
 log_more all line log =
+    let count : 0 + length (map entry_of (reverse log)) ≡ length log = let same = entries_count log in omega arith in
     ap (λ lines. shown all 0 (map entry_of lines)) (reverse-append (line ∷ []) log)
     ∙ ap (shown all 0) (map-append entry_of (reverse log) (line ∷ []))
     ∙ shown_more all 0 (map entry_of (reverse log)) (entry_of line)
-    ∙ ap (λ k. log_text all log ++ shown_entry all k (entry_of line)) (entries_count log)
+    ∙ ap (λ k. log_text all log ++ shown_entry all k (entry_of line)) count
 
 -- by its newest entry
 shown_by : (event : Happening) (entry : Shown) (log : Log) → log_text false log ≡ flat_map picture_text (pictures_of log)
     → log_text false log ++ shown_entry false (length log) entry ≡ flat_map picture_text (pictures_of ((event ⟼ entry) ∷ log))
 shown_by event (Done address word strokes) log so_far =
-    let picture = (length log, strokes) in
+    let picture : ℕ × List Stroke = (length log, strokes) in
     ap (λ l. l ++ picture_text picture) so_far
     ∙ sym (flat_map-append picture_text (pictures_of log) (picture ∷ []) ∙ ap (λ l. flat_map picture_text (pictures_of log) ++ l) (append-nil (picture_text picture)))
 shown_by event _ log so_far = append-nil (log_text false log) ∙ so_far

@@ -18,10 +18,7 @@ use std::io::{Read, Write};
 use std::marker::PhantomData;
 
 /// Lets the events of a trace happen over its ROM, from a RAM of zeros, and keeps the pictures.
-pub(crate) fn draw_text<S: Store>(
-    alloc: S::Alloc,
-    told: &TraceText<S::Alloc>,
-) -> Drawn<S::Alloc>
+pub(crate) fn draw_text<S: Store>(alloc: S::Alloc, told: &TraceText<S::Alloc>) -> Drawn<S::Alloc>
     requires { IsRom told.now.rom.items }
     ensures { Draws told.now.rom.items zeros told.now.events result }
 {

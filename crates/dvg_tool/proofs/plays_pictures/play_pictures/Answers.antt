@@ -16,3 +16,14 @@ returns-in_err-serve g c =
     unserved g.R.Read.remaining g.W.Write.contents 1048577 _ _ _ _ c.args.reader.now c.serve.new.reader writer written c.from_residual.result fault
     (is.1 ∙ ap Err is.2) (earlier fault)
     (λ input. stops (Unit {0}) false IsDrawn (λ drawn. drawn.is_whole) drawn_shown fault g.W.Write.contents writer written input (λ drawn found. found) c.in_err-serve.ensures.unwritten) c.in_err-serve.ensures
+
+pub returns-else-branch : goal.returns-else-branch
+returns-else-branch g c =
+    let drawn = c.in_ok-serve.field-0 in
+    let old = g.W.Write.contents (device_of c.args.writer.now) in
+    let new = g.W.Write.contents (device_of c.serve.new.writer) in
+    served_wanting g.R.Read.remaining g.W.Write.contents 1048577 _ _ _ _ c.args.reader.now c.serve.new.reader c.args.writer.now c.serve.new.writer
+    drawn (λ early. early)
+    (λ input h. told_part (Unit {0}) false (drawn_shown drawn) old new input
+    (subst (λ is_whole. IsShown false is_whole input (drawn_shown drawn) × Appends old new (drawn_shown drawn)) c.if-branch.false h))
+    c.in_ok-serve.ensures
