@@ -9,10 +9,7 @@ use std::io::{Read, Write};
 use std::marker::PhantomData;
 
 /// Lets the events of a trace happen over its ROM, from a RAM of zeros, and keeps the pictures.
-pub(crate) fn draw_text<S: Store>(
-    alloc: S::Alloc,
-    told: &TraceText<S::Alloc>,
-) -> Drawn<S::Alloc> {
+pub(crate) fn draw_text<S: Store>(alloc: S::Alloc, told: &TraceText<S::Alloc>) -> Drawn<S::Alloc> {
     let Ok(rom) = Rom::new(alloc, told.rom.as_slice()) else {
         return Drawn::unstarted(alloc);
     };
