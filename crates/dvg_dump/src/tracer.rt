@@ -67,7 +67,7 @@ fn read(words: &[u16]) -> Option<Spelled>
     }
 }
 
-// What a word completes, behind the first word that is held; None where it wants a second one.
+// What a word completes, after the first word that is held; None where it wants a second one.
 #[inline(always)]
 fn completed(held: Option<u16>, word: u16) -> Option<Spelled>
     ensures found { (code : Instr) → Completes held word code

@@ -17,9 +17,9 @@ const ROM_END: u16 = 0xC00;
 
 /// The bytes of frames in order, each as it lies in a half, the low byte of each word first.
 ///
-/// - `Refused`: the check refuses a frame over the ROM. The first such frame is told: its fault,
-///   and the line of the operation at fault, or the word of the ROM with the name that stands there
-///   or before it. Of a fault of the whole draft it is the line of operation 0, or else that which
+/// - `Refused`: the check refuses a frame over the ROM. Of the first such frame it tells the fault,
+///   and the line at fault; or the word of the ROM, with the newest name at it or before it. For a
+///   fault of the whole draft that is the line of operation 0, or where there is none the line that
 ///   begins the frame.
 /// - `Memory`: a growth was refused.
 pub fn lay_bytes<A: Allocator + Copy>(

@@ -4,6 +4,7 @@ pub mod RomLines
 pub mod Shown
 pub mod Played
 pub mod TracesPlayed
+pub mod DrawnPlayed
 pub mod JobsDone
 mod OneVerdict
 pub mod PicturesPlayed

@@ -108,7 +108,7 @@ played_part text R events stopped gives legal headline count stop = record {
 pub few : {A : Type 0} (R : List ℕ) (events : List Happening) (stopped : Stopped A) → length stopped.entries.items ≡ stopped.event → IsStop R zeros events stopped → length stopped.entries.items ≤ length events
 few R events stopped count stop = let h = within R events stopped stop in omega arith
 
-zeros_are_image : IsImage zeros
+pub zeros_are_image : IsImage zeros
 zeros_are_image = record { count = length-replicate {A = ℕ} 2048 0; bytes = All-replicate (λ byte. byte < 256) 2048 0 (omega arith) }
 
 -- before the first event there is a log, and it is legal

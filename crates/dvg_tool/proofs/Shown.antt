@@ -4,15 +4,11 @@ use Rattle.std.proofs.lemmas.List.{drop_more}
 use Rattle.dvg_gen.specs.declared.stroke.Stroke.{Stroke}
 use Rattle.dvg_log.specs.declared.entry.Entry.TheVariants.{Done}
 use Rattle.dvg_log.specs.Entries.{OwnEntry, shown_of}
-use Rattle.dvg_print.specs.Shows.{picture_line, shown, shown_entry, strokes_of}
+use Rattle.dvg_print.specs.Shows.{shown, shown_entry, strokes_of}
 
 -- the entry isn't one of a finished run
 abbrev pub IsNoPicture : {A : Type 0} → OwnEntry A → Type 0
 IsNoPicture {A = A} entry = (address word : ℕ) (strokes : Vec Stroke A) → entry ≡ Done address word strokes → ⊥
-
-pub no_line : {A : Type 0} (number : ℕ) (entry : OwnEntry A) → IsNoPicture entry → [] ≡ picture_line number (shown_of entry)
-no_line number (Done address word strokes) none = absurd (none address word strokes refl)
-no_line number _ none = refl
 
 pub no_strokes : {A : Type 0} (entry : OwnEntry A) → IsNoPicture entry → [] ≡ strokes_of (shown_of entry)
 no_strokes (Done address word strokes) none = absurd (none address word strokes refl)

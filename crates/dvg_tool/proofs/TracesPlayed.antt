@@ -1,5 +1,5 @@
 -- From what was read of a trace to what the reader had.
-use Rattle.std.proofs.Common.{◌≡◌, ℕ, List, [], inl, inr, ⊎_elim, Bool, Option, Result, Ok, Err, IfErr, IfOk, Vec, length, take, drop, length-take, ap, refl, subst, sym, arith}
+use Rattle.std.proofs.Common.{◌≡◌, ℕ, List, [], inl, inr, ⊎_elim, Bool, true, false, Option, Result, Ok, Err, IfErr, IfOk, Vec, length, take, drop, length-take, ap, refl, subst, sym, arith}
 use Rattle.std.specs.Io.KnownBytes.{Appends}
 use Rattle.dvg_log.specs.Entries.{OwnEntry}
 use Rattle.dvg_log.specs.Events.{Happening}
@@ -22,7 +22,7 @@ use Rattle.dvg_io.specs.Serving.{Answers, IsFinding, OfInput}
 use Rattle.dvg_io.specs.Watching.{BeginsToWrite, device_of}
 use Rattle.dvg_io.proofs.Inputs.{whole}
 use Rattle.dvg_io.proofs.Known.{Appends-nil}
-use Rattle.dvg_tool.specs.Plays.{IsPlayed, IsRun, Plays, StopsBeforeShowing, log_text, run_shown, zeros}
+use Rattle.dvg_tool.specs.Plays.{IsPlayed, IsRun, IsShown, Plays, StopsBeforeShowing, log_text, zeros}
 use Rattle.dvg_tool.proofs.Played.{PlayedPart, few, log_shown, played_part, played_whole}
 
 -- the fault of what was read is that of the input
@@ -43,25 +43,25 @@ played_so_far : {log : Log} {later : List Happening} (input read : List ℕ) →
 played_so_far {log = log} {later = later} input read e p = subst (λ text. PlayedPart text log later) (whole 1048576 read input e p.played.gives.denotes.short) p
 
 -- what is found of a trace that was read is found of the input
-pub finds_run : {A : Type 0} (all : Bool) (read R : List ℕ) (events : List Happening) (run : Result (Vec (OwnEntry A) A) (Stopped A))
+pub finds_run : {A : Type 0} (read R : List ℕ) (events : List Happening) (run : Result (Vec (OwnEntry A) A) (Stopped A))
     → GivesTrace read events R → IsLegal R zeros (log_by events run) → Throughout (KeepsHeadline R zeros) (log_by events run)
     → IfOk run (λ entries. length entries.items ≡ length events) → IfErr run (λ stopped. length stopped.entries.items ≡ stopped.event)
-    → IfErr run (IsStop R zeros events) → OfInput 1048576 read (λ input. IsRun all input run)
-finds_run all read R events (Ok entries) gives legal headline all_of_them count early input e = record {
+    → IfErr run (IsStop R zeros events) → OfInput 1048576 read (λ input. IsRun input run)
+finds_run read R events (Ok entries) gives legal headline all_of_them count early input e = record {
   log = log_of events entries.items;
   later = [];
   played = played input read e (played_whole read R events entries.items gives legal headline all_of_them);
   ends = refl;
-  holds = log_shown all events entries.items (omega arith);
+  holds = log_shown true events entries.items (omega arith);
 }
-finds_run all read R events (Err stopped) gives legal headline all_of_them count early input e =
+finds_run read R events (Err stopped) gives legal headline all_of_them count early input e =
     let part = played_so_far input read e (played_part read R events stopped gives legal headline count early) in
     record {
       log = log_of events stopped.entries.items;
       later = drop (length stopped.entries.items) events;
       played = part.played;
       ends = part.stops;
-      holds = log_shown all events stopped.entries.items (few R events stopped count early);
+      holds = log_shown true events stopped.entries.items (few R events stopped count early);
     }
 
 -- or the trace is at fault, or memory was refused
@@ -75,15 +75,15 @@ pub misread : {F : Type 0} (Finds : List ℕ → F → Type 0) (answer : Result 
 misread Finds answer fault read is h =
     subst (λ answer. OfInput 1048576 read (λ input. IsFinding (Finds input) (HasTraceFault input) answer)) (sym is) (misread_by Finds fault read h)
 
--- a run is played whole, and what is shown of it went out
-pub told_whole : {A T : Type 0} (all : Bool) (entries : Vec (OwnEntry A) A) (done : T) (old new : Option (List ℕ)) (input : List ℕ)
-    → IsRun {A = A} all input (Ok entries) × Appends old new (run_shown {A = A} all (Ok entries)) → Plays all (Ok done) input old new
-told_whole all entries done old new input h = (h.0.log, subst (λ later. IsPlayed input h.0.log later) h.0.ends h.0.played, subst (Appends old new) h.0.holds h.1)
+-- a log is played whole, and what is shown of it went out
+pub told_whole : {T : Type 0} (all : Bool) (shown : List ℕ) (done : T) (old new : Option (List ℕ)) (input : List ℕ)
+    → IsShown all true input shown × Appends old new shown → Plays all (Ok done) input old new
+told_whole all shown done old new input h = (h.0.log, subst (λ later. IsPlayed input h.0.log later) h.0.ends h.0.played, subst (Appends old new) h.0.holds h.1)
 
 -- or up to where it stopped
-pub told_part : {A : Type 0} (T : Type 0) (all : Bool) (stopped : Stopped A) (old new : Option (List ℕ)) (input : List ℕ)
-    → IsRun {A = A} all input (Err stopped) × Appends old new (run_shown {A = A} all (Err stopped)) → Plays {T = T} all (Err Memory) input old new
-told_part T all stopped old new input h =
+pub told_part : (T : Type 0) (all : Bool) (shown : List ℕ) (old new : Option (List ℕ)) (input : List ℕ)
+    → IsShown all false input shown × Appends old new shown → Plays {T = T} all (Err Memory) input old new
+told_part T all shown old new input h =
     let wrote = subst (Appends old new) h.0.holds h.1 in
     ⊎_elim
     (λ none. inl (subst (Appends old new) (ap (log_text all) none) wrote))
@@ -91,23 +91,24 @@ told_part T all stopped old new input h =
     h.0.ends
 
 -- or the writer failed
-broke_off : {A : Type 0} (T : Type 0) (all : Bool) (run : Result (Vec (OwnEntry A) A) (Stopped A)) (old new : Option (List ℕ)) (input : List ℕ)
-    → IsRun {A = A} all input run → BeginsToWrite (run_shown {A = A} all run) old new → Plays {T = T} all (Err Writer) input old new
-broke_off T all (Ok entries) old new input run begun =
+pub broke_off : (T : Type 0) (all is_whole : Bool) (shown : List ℕ) (old new : Option (List ℕ)) (input : List ℕ)
+    → IsShown all is_whole input shown → BeginsToWrite shown old new → Plays {T = T} all (Err Writer) input old new
+broke_off T all true shown old new input run begun =
     record { log = run.log; later = run.later; played = run.played; ends = inl run.ends; holds = subst (λ text. BeginsToWrite text old new) run.holds begun }
-broke_off T all (Err stopped) old new input run begun =
+broke_off T all false shown old new input run begun =
     record { log = run.log; later = run.later; played = run.played; ends = inr run.ends; holds = subst (λ text. BeginsToWrite text old new) run.holds begun }
 
 -- where it stops
-pub stops : {W : Type 0} (A T : Type 0) (all : Bool) (fault : ToolFault) (contents : W → Option (List ℕ)) (old new : Watched W) (input : List ℕ)
-    → (ComesBeforeText fault → new ≡ old)
-    → Answers (λ input. IsRun {A = A} all input) HasTraceFault (run_shown {A = A} all) (Err fault) input (contents (device_of old)) (contents (device_of new))
+pub stops : {F W : Type 0} (T : Type 0) (all : Bool) (Finds : List ℕ → F → Type 0) (is_whole : F → Bool) (text : F → List ℕ) (fault : ToolFault) (contents : W → Option (List ℕ)) (old new : Watched W) (input : List ℕ)
+    → ((found : F) → Finds input found → IsShown all (is_whole found) input (text found)) → (ComesBeforeText fault → new ≡ old)
+    → Answers Finds HasTraceFault text (Err fault) input (contents (device_of old)) (contents (device_of new))
     → Plays {T = T} all (Err fault) input (contents (device_of old)) (contents (device_of new))
-stops A T all (Text fault) contents old new input same h = h
-stops A T all Reader contents old new input same h = tt
-stops A T all Memory contents old new input same h =
+stops T all Finds is_whole text (Text fault) contents old new input shows same h = h
+stops T all Finds is_whole text Reader contents old new input shows same h = tt
+stops T all Finds is_whole text Memory contents old new input shows same h =
     inl (subst (λ writer. Appends (contents (device_of old)) (contents (device_of writer)) []) (sym (same (λ is. cc))) (Appends-nil (contents (device_of old))))
-stops A T all Writer contents old new input same (run, found, begun) = broke_off T all run _ _ input found begun
+stops T all Finds is_whole text Writer contents old new input shows same (run, found, begun) =
+    broke_off T all (is_whole run) (text run) _ _ input (shows run found) begun
 
 -- what comes before the first line is shown comes before the first write
 pub earlier : (fault : ToolFault) → StopsBeforeShowing fault → ComesBeforeText fault

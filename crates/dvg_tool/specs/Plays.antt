@@ -1,20 +1,22 @@
 -- What `play` answers and writes.
-use Rattle.std.specs.Prelude.{◌≡◌, ℕ, ◌⊎◌, List, [], ◌∷◌, ◌++◌, map, replicate, reverse, Bool, Option, Result, Ok, Err}
-use Rattle.std.specs.Prelude.{Vec}
+use Rattle.std.specs.Prelude.{◌≡◌, ℕ, ◌⊎◌, List, [], ◌∷◌, ◌++◌, length, map, flat_map, replicate, reverse, codes, decimal}
+use Rattle.std.specs.Prelude.{Bool, true, false, Option, Result, Ok, Err, is_ok, Vec}
 use Rattle.std.specs.Io.KnownBytes.{Appends}
-use Rattle.dvg_log.specs.Entries.{OwnEntry}
-use Rattle.dvg_log.specs.Entries.{Shown, shown_of}
+use Rattle.dvg_gen.specs.declared.stroke.Stroke.{Stroke}
+use Rattle.dvg_log.specs.Entries.{OwnEntry, Shown, shown_of}
 use Rattle.dvg_log.specs.Events.{Happening}
 use Rattle.dvg_log.specs.Headline.{KeepsHeadline}
 use Rattle.dvg_log.specs.Legal.{IsLegal}
 use Rattle.dvg_log.specs.Log.{Line, Log, Throughout, ◌⟼◌}
 use Rattle.dvg_world.specs.declared.stopped.Stopped.{Stopped}
+use Rattle.dvg_world.specs.declared.pictures.Drawn.{Drawn}
+use Rattle.dvg_world.specs.Pictures.{IsEndOf, TakesMemoryNext, picture_seen}
 use Rattle.dvg_world.specs.Runs.{entries_of}
-use Rattle.dvg_world.specs.Wanting.{TakesMemory}
 use Rattle.dvg_io.specs.declared.fault.ToolFault.{ToolFault}
 use Rattle.dvg_io.specs.declared.fault.ToolFault.TheVariants.{Text, Reader, Writer, Memory}
 use Rattle.dvg_io.specs.Faults.{StopsBeforeWriting}
-use Rattle.dvg_print.specs.Shows.{shown}
+use Rattle.dvg_print.specs.Lines.{spaced}
+use Rattle.dvg_print.specs.Shows.{shown, stroke_line}
 use Rattle.dvg_read.specs.TraceGives.{GivesTrace}
 use Rattle.dvg_read.specs.TraceTexts.{HasTraceFault}
 use Rattle.dvg_io.specs.Watching.{BeginsToWrite}
@@ -37,8 +39,7 @@ log_text all log = shown all 0 (map entry_of (reverse log))
 
 -- the next event is one that takes memory
 abbrev pub StopsNext : (R : List ℕ) → Log → (later : List Happening) → Type 0
-StopsNext R log [] = ⊥
-StopsNext R log (event ∷ later) = TakesMemory R zeros log event
+StopsNext R log later = TakesMemoryNext R zeros log later
 
 -- no event comes later, or none came before, or the next one takes memory
 abbrev pub IsEnd : (R : List ℕ) → Log → (later : List Happening) → Type 0
@@ -63,22 +64,33 @@ pub record ShowsUntil (all : Bool) (text : List ℕ) (Ends : List ℕ → Log �
   pub ends : Ends played.R log later
   pub holds : Holds (log_text all log)
 
--- no event came, or the next one takes memory
-abbrev pub IsStopped : (R : List ℕ) → Log → (later : List Happening) → Type 0
-IsStopped R log later = (log ≡ []) ⊎ StopsNext R log later
+-- this is what is shown of a log that was played, and it is whole, or stopped for want of memory (for a private
+-- contract)
+abbrev pub IsShown : (all is_whole : Bool) → (text : List ℕ) → (shown : List ℕ) → Type 0
+IsShown all is_whole text shown =
+    ShowsUntil all text (λ R log later. IsEndOf is_whole R zeros log later) (λ log. shown ≡ log)
 
--- what is shown of a run (for a private contract)
-abbrev pub run_shown : {A : Type 0} → Bool → Result (Vec (OwnEntry A) A) (Stopped A) → List ℕ
-run_shown all run = shown all 0 (map shown_of (entries_of run))
+-- what is shown of a run, entry by entry (for a private contract)
+abbrev pub run_shown : {A : Type 0} → Result (Vec (OwnEntry A) A) (Stopped A) → List ℕ
+run_shown run = shown true 0 (map shown_of (entries_of run))
 
 -- a log that was played is shown in this way: the whole one, or that of a run that stopped (for a
 -- private contract)
-abbrev pub IsRun : {A : Type 0} → Bool → (text : List ℕ)
-    → Result (Vec (OwnEntry A) A) (Stopped A) → Type 0
-IsRun all text (Ok entries) =
-    ShowsUntil all text (λ R log later. later ≡ []) (λ shown. run_shown all (Ok entries) ≡ shown)
-IsRun all text (Err stopped) =
-    ShowsUntil all text IsStopped (λ shown. run_shown all (Err stopped) ≡ shown)
+abbrev pub IsRun : {A : Type 0} → (text : List ℕ) → Result (Vec (OwnEntry A) A) (Stopped A) → Type 0
+IsRun text run = IsShown true (is_ok run) text (run_shown run)
+
+-- the text of a picture: its line, and one for each of its strokes
+abbrev pub picture_text : ℕ × List Stroke → List ℕ
+picture_text picture = codes "picture" ++ spaced (decimal picture.0 ∷ decimal (length picture.1) ∷ []) ++ 10 ∷ []
+    ++ flat_map stroke_line picture.1
+
+-- what is shown of pictures (for a private contract)
+abbrev pub drawn_shown : {A : Type 0} → Drawn A → List ℕ
+drawn_shown drawn = flat_map picture_text (map picture_seen drawn.pictures.items)
+
+-- the pictures of a log that was played are shown in this way (for a private contract)
+abbrev pub IsDrawn : {A : Type 0} → (text : List ℕ) → Drawn A → Type 0
+IsDrawn text drawn = IsShown false drawn.is_whole text (drawn_shown drawn)
 
 -- the faults that come before the first write; want of memory may come after it
 abbrev pub StopsBeforeShowing : ToolFault → Type 0

@@ -146,10 +146,7 @@ fn check_told<A: Allocator + Copy, R: Read, W: Write>(
     }
 }
 
-/// Does a job by its engine: `list` or `list_at`, `rom_text`, `picture` or `picture_svg`,
-/// `check_text` or `check_bound`, `play` or `play_svg`, or `play_in` or `play_svg_in` over the
-/// store `Banked`, `torn`, `draw_sketch`, `check_sketch` or `lay_sketch`; and answers what
-/// `picture`, `picture_svg`, a check, `torn` and a sketch that is refused have to say.
+/// Does a job by the engine of its name, and answers what that has to say.
 pub fn perform<A: Allocator + Copy, R: Read, W: Write>(
     alloc: A,
     job: Job,

@@ -1,5 +1,5 @@
 //! The engine `play`.
-ghost use Rattle.std.specs.Prelude.{◌≡◌, [], length, IfErr, IfOk};
+ghost use Rattle.std.specs.Prelude.{◌≡◌, [], length, true, IfErr, IfOk};
 ghost use Rattle.dvg_mem.specs.Memory.{IsRom};
 ghost use Rattle.dvg_log.specs.Headline.{KeepsHeadline};
 ghost use Rattle.dvg_log.specs.Legal.{IsLegal};
@@ -9,6 +9,7 @@ ghost use Rattle.dvg_io.specs.Serving.{AreFresh, Serves};
 ghost use Rattle.dvg_read.specs.TraceTexts.{HasTraceFault};
 ghost use Rattle.dvg_tool.specs.Plays.{IsRun, Plays, StopsBeforeShowing, run_shown, zeros};
 
+use crate::plays_pictures::play_pictures;
 use crate::shows::write_entries;
 use dvg_io::{DeviceFailed, Engine, ToolFault, Watched, serve};
 use dvg_log::OwnEntry;
@@ -52,26 +53,24 @@ pub(crate) fn run_text<S: Store>(
     run_trace::<S>(alloc, rom, &image, &told.events)
 }
 
-// The engine: of a trace it finds how its events happen, over a RAM that is kept in a store.
+// The engine: of a trace it finds the entries of its events, over a RAM that is kept in a store.
 #[derive(Drop)]
-struct PlayEngine<S> {
-    // Whether each entry is shown.
-    all: bool,
+struct EntriesEngine<S> {
     store: PhantomData<S>,
 }
 
-impl<S: Store> Engine<S::Alloc> for PlayEngine<S> {
+impl<S: Store> Engine<S::Alloc> for EntriesEngine<S> {
     type Found = Result<Vec<OwnEntry<S::Alloc>, S::Alloc>, Stopped<S::Alloc>>;
 
     const MOST: u32 = MOST_TEXT_BYTES as u32;
 
     ghost MOST = { 1048576 };
 
-    ghost Finds = { λ engine. IsRun engine.all };
+    ghost Finds = { λ engine. IsRun };
 
     ghost HasFault = { λ engine. HasTraceFault };
 
-    ghost text = { λ engine. run_shown engine.all };
+    ghost text = { λ engine. run_shown };
 
     fn find(&self, alloc: S::Alloc, read: &[u8]) -> Result<Self::Found, ToolFault> {
         let told = read_trace(alloc, read)?;
@@ -84,9 +83,26 @@ impl<S: Store> Engine<S::Alloc> for PlayEngine<S> {
         writer: &mut Watched<W>,
     ) -> Result<(), DeviceFailed> {
         match run {
-            Ok(entries) => write_entries(entries.as_slice(), self.all, writer),
-            Err(stopped) => write_entries(stopped.entries.as_slice(), self.all, writer),
+            Ok(entries) => write_entries(entries.as_slice(), writer),
+            Err(stopped) => write_entries(stopped.entries.as_slice(), writer),
         }
+    }
+}
+
+// Plays a trace, and writes each entry.
+fn play_entries<S: Store, R: Read, W: Write>(
+    alloc: S::Alloc,
+    reader: &mut Watched<R>,
+    writer: &mut Watched<W>,
+) -> Result<(), ToolFault>
+    requires fresh { AreFresh reader.old writer.old }
+    ensures { Serves R.remaining W.contents 1048577 StopsBeforeShowing (Plays true)
+        result reader.old reader.new writer.old writer.new }
+{
+    let engine = EntriesEngine::<S> { store: PhantomData };
+    match serve(&engine, alloc, reader, writer)? {
+        Ok(_) => Ok(()),
+        Err(_) => Err(ToolFault::Memory),
     }
 }
 
@@ -95,9 +111,10 @@ impl<S: Store> Engine<S::Alloc> for PlayEngine<S> {
 /// else for each finished run; and after the line of a finished run one for each of its strokes, in
 /// the order drawn (the texts are this project's own choice).
 ///
-/// The events happen by `dvg_world::run_trace`: the log is the one legal log of them, and each of
-/// its lines keeps the headline, which `Plays` says, too. The whole text is read before the first
-/// event happens, and what writes is handed no allocator.
+/// The events happen by `dvg_world::run_trace`, or, where only finished runs are shown, by
+/// `draw_trace`, which keeps nothing else: the log is the one legal log of them, and each of its
+/// lines keeps the headline, which `Plays` says, too. The whole text is read before the first event
+/// happens, and what writes is handed no allocator.
 ///
 /// - `TooLong`: the text has more than 1,048,576 bytes, of which no more than 1,048,577 are taken.
 ///   This is decided before all others.
@@ -124,13 +141,10 @@ pub fn play_in<S: Store, R: Read, W: Write>(
     ensures { Serves R.remaining W.contents 1048577 StopsBeforeShowing (Plays all)
         result reader.old reader.new writer.old writer.new }
 {
-    let engine = PlayEngine::<S> {
-        all,
-        store: PhantomData,
-    };
-    match serve(&engine, alloc, reader, writer)? {
-        Ok(_) => Ok(()),
-        Err(_) => Err(ToolFault::Memory),
+    if all {
+        play_entries::<S, R, W>(alloc, reader, writer)
+    } else {
+        play_pictures::<S, R, W>(alloc, reader, writer)
     }
 }
 

@@ -1,7 +1,7 @@
 //! What is written of a log's entries.
-ghost use Rattle.std.specs.Prelude.{map};
+ghost use Rattle.std.specs.Prelude.{map, true};
 ghost use Rattle.dvg_log.specs.Entries.{shown_of};
-ghost use Rattle.dvg_print.specs.Shows.{head_line, shown, shown_entry, strokes_of};
+ghost use Rattle.dvg_print.specs.Shows.{shown, shown_entry, strokes_of};
 ghost use Rattle.dvg_io.specs.Watching.{Writes};
 
 use dvg_io::{DeviceFailed, Watched, write_strokes, write_whole};
@@ -9,28 +9,6 @@ use dvg_log::{Entry, OwnEntry};
 use dvg_print::Line;
 use std::alloc::Allocator;
 use std::io::Write;
-
-// Writes the line of an entry, or with its pictures alone that of a picture, if it is one. The line
-// is made in `line`.
-fn write_head<A: Allocator, W: Write>(
-    line: &mut Line,
-    number: usize,
-    entry: &OwnEntry<A>,
-    all: bool,
-    writer: &mut Watched<W>,
-) -> Result<(), DeviceFailed>
-    ensures { Writes W.contents (head_line all number (shown_of entry.now))
-        result writer.old writer.new }
-{
-    if all {
-        line.become_entry(number, entry);
-    } else if let Entry::Done(_, _, strokes) = entry {
-        line.become_picture(number, strokes.len());
-    } else {
-        return Ok(());
-    }
-    write_whole(writer, line.as_bytes())
-}
 
 // Writes the strokes of a finished run; nothing for another entry. The lines are made in `line`.
 fn write_drawn<A: Allocator, W: Write>(
@@ -52,29 +30,27 @@ fn write_entry<A: Allocator, W: Write>(
     line: &mut Line,
     number: usize,
     entry: &OwnEntry<A>,
-    all: bool,
     writer: &mut Watched<W>,
 ) -> Result<(), DeviceFailed>
-    ensures { Writes W.contents (shown_entry all number (shown_of entry.now))
+    ensures { Writes W.contents (shown_entry true number (shown_of entry.now))
         result writer.old writer.new }
 {
-    write_head(line, number, entry, all, writer)?;
+    line.become_entry(number, entry);
+    write_whole(writer, line.as_bytes())?;
     write_drawn(line, entry, writer)
 }
 
-/// Writes what is shown of entries, the first of which is that of event 0: with `all` of each, and
-/// else of finished runs alone.
+/// Writes what is shown of each of these entries, the first of which is that of event 0.
 pub fn write_entries<A: Allocator, W: Write>(
     entries: &[OwnEntry<A>],
-    all: bool,
     writer: &mut Watched<W>,
 ) -> Result<(), DeviceFailed>
-    ensures { Writes W.contents (shown all 0 (map shown_of entries.now))
+    ensures { Writes W.contents (shown true 0 (map shown_of entries.now))
         result writer.old writer.new }
 {
     let mut line = Line::new();
     for (number, entry) in entries.iter().enumerate() {
-        write_entry(&mut line, number, entry, all, writer)?;
+        write_entry(&mut line, number, entry, writer)?;
     }
     Ok(())
 }

@@ -11,6 +11,7 @@
 mod desk;
 mod happens;
 mod judge;
+mod pictures;
 mod runs;
 mod stopped;
 mod world;
@@ -19,6 +20,7 @@ pub use desk::Desk;
 pub use dvg_log::{Entry, Event, MOST_EVENTS, OwnEntry, OwnEvent, Trace, TraceEvent};
 pub use dvg_theorem::laws;
 pub use judge::{Judge, first_torn};
+pub use pictures::{Drawn, Picture, draw_trace};
 pub use runs::{run, run_trace};
 pub use stopped::Stopped;
 pub use world::World;

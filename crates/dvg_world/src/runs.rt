@@ -24,10 +24,9 @@ use std::alloc::Allocator;
 /// log keeps the headline (`KeepsHeadline`, of which each part has a name): no byte is written in
 /// the half being drawn, the generator never faults, and every run that reaches HALT drew exactly
 /// the picture of the frame newest published when it fetched word zero, so no picture is older than
-/// the one before. Every frame that is accepted has exactly one picture: a run of it is finished at
-/// the picture's last fetch, and fetches at most two bytes for each word of the frame's bound. A
-/// run that has fetched word zero is drawing a half, and the half holds the frame that the run
-/// shows. The log has one entry for each event, and each entry is the one that its event gets over
+/// the one before. What a run shows has a picture: the run is finished at the picture's last fetch,
+/// and fetches at most two bytes for each word of the frame's bound. A run that has fetched word
+/// zero is drawing a half, and the half holds the frame that the run shows. The log has one entry for each event, and each entry is the one that its event gets over
 /// the log before it: the log is legal, so driver and generator really act.
 ///
 /// This rests on three premises. The log ends early only for want of memory: before the first

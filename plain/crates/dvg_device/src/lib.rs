@@ -1,5 +1,5 @@
-//! Both ends of the vector RAM, and each end alone, behind plain numbers: for callers that nobody
-//! proves, in other languages too.
+//! Both ends of the vector RAM, and each end alone, asked by plain numbers: for callers whose code
+//! isn't proved, in other languages too.
 //!
 //! A `Device` is asked by a number of 64 bits, and answers one (`turn`). Nothing is required of a
 //! caller: each number is a request, in each order, and each has an answer. What opens in a device

@@ -37,8 +37,8 @@ fn of_four(a: u8, b: u8, c: u8, d: u8) -> Option<u16> {
     Some(256 * u16::from(16 * a + b) + u16::from(16 * c + d))
 }
 
-// The lines that have numbers are most of a log. Each is taken from the head of a text, where it
-// ends and isn't torn, and what comes after it is answered.
+// Most lines of a log have numbers. Each is taken from the head of a text, if it ends there and
+// isn't torn. What comes after it is the answer.
 impl JudgedLines {
     #[inline(always)]
     fn take_wrote<'a>(&mut self, text: &'a [u8]) -> Option<&'a [u8]> {

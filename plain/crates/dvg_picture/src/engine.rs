@@ -57,12 +57,16 @@ impl<A: Allocator + Copy> Engine<A> for PictureEngine {
 }
 
 /// Reads a dump of vector memory, 2,048 bytes of RAM and then 2,048 or 4,096 of ROM, starts a new
-/// generator once over it, which doesn't change, and writes how that ends: `picture` with the
-/// numbers of words that were fetched and of strokes, and a line for each stroke; `broke` with the
-/// address of the fetch and the fault's number; or `endless`, where there is neither within 65,536
-/// words. With `all` it first writes a line for each instruction that was run, with the beam after
-/// it, and after it that of its stroke (the texts are this project's own choice). It answers which
-/// of the three it was.
+/// generator once over it, which doesn't change, and writes how that ends (the texts are this
+/// project's own choice):
+///
+/// - `picture`: with the numbers of words that were fetched and of strokes, and then a line for each
+///   stroke.
+/// - `broke`: with the address of the fetch and the fault's number.
+/// - `endless`: there is neither within 65,536 words.
+///
+/// With `all` it first writes a line for each instruction that was run, with the beam after it, and
+/// after it that of its stroke. It answers which of the three it was. The faults:
 ///
 /// - `DumpSize`: the input has so many bytes, up to 6,144, and neither 4,096 nor 6,144.
 /// - `LongDump`: it has more than 6,144, of which no more than 6,145 are taken.

@@ -42,8 +42,8 @@ pub enum TextFault {
     /// operation past the ROM's end.
     #[error("out of rom at line {0}")]
     OutOfRom(usize),
-    /// The line of this number, counted from 1, lays an operation on a word on which another section
-    /// of the ROM lies.
+    /// The line of this number, counted from 1, lays an operation on a word of another section of
+    /// the ROM.
     #[error("overlap at line {0}")]
     Overlap(usize),
     /// The line of this number, counted from 1, wants a name that no line gives.

@@ -104,7 +104,7 @@ fn write_first_turn<W: Write>(
     )
 }
 
-// Writes the lines that show a picture after this one in its turn.
+// Writes the lines that show a later picture in its turn, after picture `before`.
 fn write_later_turn<W: Write>(
     rate: u16,
     before: usize,

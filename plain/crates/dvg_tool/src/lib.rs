@@ -3,8 +3,8 @@
 //! reads are the texts of `dvg_read`, and what it writes the lines of `dvg_print`.
 //!
 //! An engine reads its whole input before it writes, and takes no memory after its first write: its
-//! lines are made in an array of fixed size (that what writes is handed no allocator is seen by
-//! reading). It stops at the first failure of its reader or writer.
+//! lines are made in an array of fixed size. That no allocator reaches what writes is seen by
+//! reading. It stops at the first failure of its reader or writer.
 #![no_std]
 
 extern crate plain_std as std;
@@ -15,6 +15,7 @@ mod lists;
 mod lists_at;
 mod outcome;
 mod plays;
+mod plays_pictures;
 mod plays_svg;
 mod roms;
 mod shows;

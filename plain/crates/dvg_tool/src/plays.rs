@@ -1,6 +1,7 @@
 //! The engine `play`.
 use std::prelude::*;
 
+use crate::plays_pictures::play_pictures;
 use crate::shows::write_entries;
 use dvg_io::{DeviceFailed, Engine, ToolFault, Watched, serve};
 use dvg_log::OwnEntry;
@@ -33,14 +34,12 @@ pub(crate) fn run_text<S: Store>(
     run_trace::<S>(alloc, rom, &image, &told.events)
 }
 
-// The engine: of a trace it finds how its events happen, over a RAM that is kept in a store.
-struct PlayEngine<S> {
-    // Whether each entry is shown.
-    all: bool,
+// The engine: of a trace it finds the entries of its events, over a RAM that is kept in a store.
+struct EntriesEngine<S> {
     store: PhantomData<S>,
 }
 
-impl<S: Store> Engine<S::Alloc> for PlayEngine<S> {
+impl<S: Store> Engine<S::Alloc> for EntriesEngine<S> {
     type Found = Result<Vec<OwnEntry<S::Alloc>, S::Alloc>, Stopped<S::Alloc>>;
 
     const MOST: u32 = MOST_TEXT_BYTES as u32;
@@ -56,9 +55,22 @@ impl<S: Store> Engine<S::Alloc> for PlayEngine<S> {
         writer: &mut Watched<W>,
     ) -> Result<(), DeviceFailed> {
         match run {
-            Ok(entries) => write_entries(entries.as_slice(), self.all, writer),
-            Err(stopped) => write_entries(stopped.entries.as_slice(), self.all, writer),
+            Ok(entries) => write_entries(entries.as_slice(), writer),
+            Err(stopped) => write_entries(stopped.entries.as_slice(), writer),
         }
+    }
+}
+
+// Plays a trace, and writes each entry.
+fn play_entries<S: Store, R: Read, W: Write>(
+    alloc: S::Alloc,
+    reader: &mut Watched<R>,
+    writer: &mut Watched<W>,
+) -> Result<(), ToolFault> {
+    let engine = EntriesEngine::<S> { store: PhantomData };
+    match serve(&engine, alloc, reader, writer)? {
+        Ok(_) => Ok(()),
+        Err(_) => Err(ToolFault::Memory),
     }
 }
 
@@ -67,9 +79,10 @@ impl<S: Store> Engine<S::Alloc> for PlayEngine<S> {
 /// else for each finished run; and after the line of a finished run one for each of its strokes, in
 /// the order drawn (the texts are this project's own choice).
 ///
-/// The events happen by `dvg_world::run_trace`: the log is the one legal log of them, and each of
-/// its lines keeps the headline, which `Plays` says, too. The whole text is read before the first
-/// event happens, and what writes is handed no allocator.
+/// The events happen by `dvg_world::run_trace`, or, where only finished runs are shown, by
+/// `draw_trace`, which keeps nothing else: the log is the one legal log of them, and each of its
+/// lines keeps the headline, which `Plays` says, too. The whole text is read before the first event
+/// happens, and what writes is handed no allocator.
 ///
 /// - `TooLong`: the text has more than 1,048,576 bytes, of which no more than 1,048,577 are taken.
 ///   This is decided before all others.
@@ -92,13 +105,10 @@ pub fn play_in<S: Store, R: Read, W: Write>(
     writer: &mut Watched<W>,
     all: bool,
 ) -> Result<(), ToolFault> {
-    let engine = PlayEngine::<S> {
-        all,
-        store: PhantomData,
-    };
-    match serve(&engine, alloc, reader, writer)? {
-        Ok(_) => Ok(()),
-        Err(_) => Err(ToolFault::Memory),
+    if all {
+        play_entries::<S, R, W>(alloc, reader, writer)
+    } else {
+        play_pictures::<S, R, W>(alloc, reader, writer)
     }
 }
 

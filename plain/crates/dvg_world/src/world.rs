@@ -10,10 +10,9 @@ use dvg_mem::{Image, MemFault, Rom, Store, fetch_byte};
 /// Both ends of the vector RAM: the driver that writes frames into it, and the generator that draws
 /// out of it and out of the ROM.
 ///
-/// `apply` lets any event happen, and the calls beside it one each. Of a world that stands after a
-/// legal log each answers the entry that the event gets over that log; the world then stands after
-/// the log with this line (`stands`), and the line keeps the headline, as `run` says of each line
-/// (`headline`).
+/// `apply` lets any event happen, and the calls beside it one each. If the world stands after a
+/// legal log, each answers the entry that its event gets over that log. The world then stands after
+/// the log with this line (`stands`), and the line keeps the headline (`headline`).
 ///
 /// A strobe that the driver has sent is under way until the next reset of the whole system, and may
 /// arrive never, once or often (this project's own choice, as a strobe that the hardware passes
@@ -48,10 +47,10 @@ impl<S: Store> World<S> {
         })
     }
 
-    /// Makes this world one over a ROM of these bytes after a reset of the whole system, as `new`
-    /// makes one, in the memory that it has: for callers that open one world after another. Memory
-    /// is taken, and may be refused, only for a ROM of another size. After an error the world is as
-    /// it was. The error is `Size` exactly where no ROM has this number of bytes.
+    /// Begins anew, as a world that `new` makes of a ROM of these bytes and this image, in the memory
+    /// that it has: for callers that open one world after another. Memory is taken, and may be
+    /// refused, only for a ROM of another size. After an error the world is as it was. The error is
+    /// `Size` exactly where no ROM has this number of bytes.
     pub fn begin_anew(
         &mut self,
         alloc: S::Alloc,

@@ -1,0 +1,87 @@
+-- From the pictures of a trace that was read to what is shown of its log.
+use Rattle.std.proofs.Common.{◌≡◌, ℕ, ◌+◌, ◌<◌, List, [], ◌∷◌, ◌++◌, map, flat_map, reverse, length, drop, get_or, refl, sym, ap, ◌∙◌, subst, suc, Bool, true, false, Vec, append_assoc, append-nil, add-one, arith}
+use Rattle.std.proofs.lemmas.List.{drop_more, length-map, length-reverse, map-append, reverse-append}
+use Rattle.std.proofs.lemmas.Grind.{flat_map-append}
+use Rattle.dvg_gen.specs.declared.stroke.Stroke.{Stroke}
+use Rattle.dvg_log.specs.declared.entry.Entry.TheVariants.{Done}
+use Rattle.dvg_log.specs.Entries.{Shown}
+use Rattle.dvg_log.specs.Events.{Happening}
+use Rattle.dvg_log.specs.Log.{Line, Log, ◌⟼◌, events_of}
+use Rattle.dvg_print.specs.Shows.{shown, shown_entry}
+use Rattle.dvg_world.specs.declared.pictures.Drawn.{Drawn}
+use Rattle.dvg_world.specs.declared.pictures.Picture.{Picture}
+use Rattle.dvg_world.specs.Pictures.{Draws, picture_seen, pictures_of}
+use Rattle.dvg_io.specs.Serving.{OfInput}
+use Rattle.dvg_io.proofs.Inputs.{whole}
+use Rattle.dvg_read.specs.TraceGives.{GivesTrace}
+use Rattle.dvg_tool.specs.Plays.{IsDrawn, entry_of, event_of, log_text, picture_text, zeros}
+
+-- the events of a log, oldest first
+events_shown : (log : Log) → reverse (events_of log) ≡ map event_of (reverse log)
+events_shown [] = refl
+events_shown ((event ⟼ entry) ∷ log) =
+    reverse-append (event ∷ []) (events_of log)
+    ∙ ap (λ events. events ++ event ∷ []) (events_shown log)
+    ∙ sym (map-append event_of (reverse log) ((event ⟼ entry) ∷ []))
+    ∙ ap (map event_of) (sym (reverse-append ((event ⟼ entry) ∷ []) log))
+
+-- one more entry is shown after the others
+shown_more : (all : Bool) (number : ℕ) (entries : List Shown) (entry : Shown)
+    → shown all number (entries ++ entry ∷ []) ≡ shown all number entries ++ shown_entry all (number + length entries) entry
+shown_more all number [] entry =
+    let same : number ≡ number + 0 = omega arith in
+    append-nil (shown_entry all number entry) ∙ ap (λ k. shown_entry all k entry) same
+shown_more all number (first ∷ entries) entry =
+    ap (λ l. shown_entry all number first ++ l) (shown_more all (suc number) entries entry)
+    ∙ sym (append_assoc (shown_entry all number first) (shown all (suc number) entries) _)
+    ∙ ap (λ k. shown_entry all number first ++ shown all (suc number) entries ++ shown_entry all k entry) (omega arith)
+
+entries_count : (log : Log) → length (map entry_of (reverse log)) ≡ length log
+entries_count log = length-map (reverse log) entry_of ∙ length-reverse log
+
+-- of a log, one more line
+log_more : (all : Bool) (line : Line) (log : Log) → log_text all (line ∷ log) ≡ log_text all log ++ shown_entry all (length log) (entry_of line)
+log_more all line log =
+    let count : 0 + length (map entry_of (reverse log)) ≡ length log = let same = entries_count log in omega arith in
+    ap (λ lines. shown all 0 (map entry_of lines)) (reverse-append (line ∷ []) log)
+    ∙ ap (shown all 0) (map-append entry_of (reverse log) (line ∷ []))
+    ∙ shown_more all 0 (map entry_of (reverse log)) (entry_of line)
+    ∙ ap (λ k. log_text all log ++ shown_entry all k (entry_of line)) count
+
+-- by its newest entry
+shown_by : (event : Happening) (entry : Shown) (log : Log) → log_text false log ≡ flat_map picture_text (pictures_of log)
+    → log_text false log ++ shown_entry false (length log) entry ≡ flat_map picture_text (pictures_of ((event ⟼ entry) ∷ log))
+shown_by event (Done address word strokes) log so_far =
+    let picture : ℕ × List Stroke = (length log, strokes) in
+    ap (λ l. l ++ picture_text picture) so_far
+    ∙ sym (flat_map-append picture_text (pictures_of log) (picture ∷ []) ∙ ap (λ l. flat_map picture_text (pictures_of log) ++ l) (append-nil (picture_text picture)))
+shown_by event _ log so_far = append-nil (log_text false log) ∙ so_far
+
+-- what is shown of a log without each entry is the text of its pictures
+pub text_of_pictures : (log : Log) → log_text false log ≡ flat_map picture_text (pictures_of log)
+text_of_pictures [] = refl
+text_of_pictures ((event ⟼ entry) ∷ log) = log_more false (event ⟼ entry) log ∙ shown_by event entry log (text_of_pictures log)
+
+-- what is drawn of a trace that was read is drawn of the input
+pub finds_drawn : {A : Type 0} (read R : List ℕ) (events : List Happening) (drawn : Drawn A) → GivesTrace read events R → Draws R zeros events drawn
+    → OfInput 1048576 read (λ input. IsDrawn input drawn)
+finds_drawn read R events drawn gives draws input e = record {
+  log = draws.log;
+  later = draws.later;
+  played = record {
+    events = events;
+    R = R;
+    gives = subst (λ text. GivesTrace text events R) (whole 1048576 read input e gives.denotes.short) gives;
+    legal = draws.legal;
+    headline = draws.headline;
+    in_order = draws.in_order ∙ ap (λ l. l ++ draws.later) (events_shown draws.log);
+  };
+  ends = draws.ends;
+  holds = ap (flat_map picture_text) draws.pictures ∙ sym (text_of_pictures draws.log);
+}
+
+-- the next picture is that at this index
+pub next_picture : {A : Type 0} (pictures : List (Picture A)) (i : ℕ) (picture : Picture A) → i < length pictures → picture ≡ get_or pictures i picture
+    → flat_map picture_text (map picture_seen (drop i pictures)) ≡ picture_text (picture_seen picture) ++ flat_map picture_text (map picture_seen (drop (i + 1) pictures))
+next_picture pictures i picture low is =
+    ap (λ l. flat_map picture_text (map picture_seen l)) (drop_more pictures i picture low ∙ ap (λ p. p ∷ drop (i + 1) pictures) (sym is))

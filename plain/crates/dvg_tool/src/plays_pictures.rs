@@ -1,0 +1,81 @@
+//! The engine `play` without each entry: the pictures alone.
+use dvg_io::{DeviceFailed, Engine, ToolFault, Watched, serve, write_strokes, write_whole};
+use dvg_mem::{Image, MEMORY_BYTES, Rom, Store};
+use dvg_print::Line;
+use dvg_read::{MOST_TEXT_BYTES, TraceText, read_trace};
+use dvg_world::{Drawn, Picture, draw_trace};
+use std::alloc::Allocator;
+use std::io::{Read, Write};
+use std::marker::PhantomData;
+
+/// Lets the events of a trace happen over its ROM, from a RAM of zeros, and keeps the pictures.
+pub(crate) fn draw_text<S: Store>(alloc: S::Alloc, told: &TraceText<S::Alloc>) -> Drawn<S::Alloc> {
+    let Ok(rom) = Rom::new(alloc, told.rom.as_slice()) else {
+        return Drawn::unstarted(alloc);
+    };
+    let Ok(image) = Image::new(alloc, &[0; MEMORY_BYTES]) else {
+        return Drawn::unstarted(alloc);
+    };
+    draw_trace::<S>(alloc, rom, &image, &told.events)
+}
+
+// Writes a picture: its line, and one for each of its strokes. The lines are made in `line`.
+fn write_picture<A: Allocator, W: Write>(
+    line: &mut Line,
+    picture: &Picture<A>,
+    writer: &mut Watched<W>,
+) -> Result<(), DeviceFailed> {
+    line.become_picture(picture.event, picture.strokes.len());
+    write_whole(writer, line.as_bytes())?;
+    write_strokes(line, picture.strokes.as_slice(), writer)
+}
+
+// Writes pictures, one after the other.
+fn write_pictures<A: Allocator, W: Write>(
+    pictures: &[Picture<A>],
+    writer: &mut Watched<W>,
+) -> Result<(), DeviceFailed> {
+    let mut line = Line::new();
+    for picture in pictures {
+        write_picture(&mut line, picture, writer)?;
+    }
+    Ok(())
+}
+
+// The engine: of a trace it finds the pictures, over a RAM that is kept in a store.
+struct PicturesEngine<S> {
+    store: PhantomData<S>,
+}
+
+impl<S: Store> Engine<S::Alloc> for PicturesEngine<S> {
+    type Found = Drawn<S::Alloc>;
+
+    const MOST: u32 = MOST_TEXT_BYTES as u32;
+
+    fn find(&self, alloc: S::Alloc, read: &[u8]) -> Result<Self::Found, ToolFault> {
+        let told = read_trace(alloc, read)?;
+        Ok(draw_text::<S>(alloc, &told))
+    }
+
+    fn write<W: Write>(
+        &self,
+        drawn: &Self::Found,
+        writer: &mut Watched<W>,
+    ) -> Result<(), DeviceFailed> {
+        write_pictures(drawn.pictures.as_slice(), writer)
+    }
+}
+
+/// Plays a trace, and writes the pictures.
+pub(crate) fn play_pictures<S: Store, R: Read, W: Write>(
+    alloc: S::Alloc,
+    reader: &mut Watched<R>,
+    writer: &mut Watched<W>,
+) -> Result<(), ToolFault> {
+    let engine = PicturesEngine::<S> { store: PhantomData };
+    if serve(&engine, alloc, reader, writer)?.is_whole {
+        Ok(())
+    } else {
+        Err(ToolFault::Memory)
+    }
+}
