@@ -48,7 +48,7 @@ pub data Instr : Type 0 where
   ShiftRightA : Instr
   -- CLC, SEC
   SetCarry : Bool → Instr
-  -- BPL and its like: taken where the flag has this value
+  -- BNE and its like: taken where the flag has this value
   Branch : Flag → Bool → Instr
   -- JMP abs, JSR, RTS
   Jump : Instr

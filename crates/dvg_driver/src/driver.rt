@@ -36,8 +36,8 @@ enum Phase {
     Sending,
 }
 
-/// The driver of the vector generator, from one reset to the next and beyond. It keeps one frame at
-/// most, while it writes it.
+/// The driver of the vector generator, from one reset to the next and beyond. It keeps at most one
+/// frame: the one that it writes.
 #[derive(Drop)]
 pub struct Driver {
     phase: Phase,

@@ -16,7 +16,7 @@ pub struct Checked<'a> {
     pub(crate) bound: u64,
 }
 
-/// Contracts see what they see of its frame.
+/// Contracts see the operations of its draft, and its bound.
 impl<'a> Model for Checked<'a> {
     ghost Value = { FrameState };
 

@@ -121,8 +121,8 @@ impl Frame {
     }
 }
 
-// Byte `k` of words, of which this one holds it: the low byte where `k` is even, and else the high
-// byte.
+// The byte of this word that is byte `k` of a list of words: the low one where `k` is even, else
+// the high one.
 pub(crate) fn byte_of(word: u16, k: u16) -> u8
     ensures { slice_get (bytes (word ∷ [])) (k % 2) ≡ Some result }
 {

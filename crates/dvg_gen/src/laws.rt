@@ -23,8 +23,8 @@ pub fn strokes_in_range()
     ensures run { RunInRange }
 {}
 
-/// A return answers exactly one call, wherever there are more calls than returns: reading back from
-/// it, the first place where there is one call more than returns.
+/// Where there are more calls than returns, a return answers exactly one call: reading back from
+/// it, the first place with one call more than returns.
 pub fn one_call()
     ensures { OneCall }
 {}

@@ -12,7 +12,8 @@ pub fn half_from_base()
     ensures { HalfFromBase }
 {}
 
-/// The ROM's words, from 800 on, are the words of its bytes in order.
+/// The ROM's words, from its first address on (800, or 400 of the larger one), are the words of its
+/// bytes in order.
 pub fn rom_words_in_order()
     ensures { RomWordsInOrder }
 {}

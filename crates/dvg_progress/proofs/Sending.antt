@@ -17,7 +17,7 @@ use Rattle.dvg_log.specs.Legal.{IsLegal}
 use Rattle.dvg_theorem.proofs.Bytes.{byte}
 use Rattle.dvg_theorem.proofs.Drawing.{past_zero}
 use Rattle.dvg_theorem.proofs.Kept.{KeptBy, kept}
-use Rattle.dvg_theorem.proofs.Todo.{IsWrite, to_half, to_zero, to_one, is_write}
+use Rattle.dvg_theorem.proofs.ToCome.{IsWrite, to_half, to_zero, to_one, is_write}
 use Rattle.dvg_theorem.proofs.Words.{words_are_whole}
 use Rattle.dvg_progress.specs.Progress.{ticks, SentInTime}
 use Rattle.dvg_progress.proofs.Lives.{IsBusy, LivesOn, lives_on, newer, older, quiet, ticked}

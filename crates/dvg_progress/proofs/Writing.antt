@@ -25,7 +25,7 @@ use Rattle.dvg_log.specs.Log.{◌⟼◌, Log, Throughout, free_half, life, offer
 use Rattle.dvg_log.specs.Legal.{IsLegal}
 use Rattle.dvg_theorem.proofs.Bytes.{byte}
 use Rattle.dvg_theorem.proofs.Kept.{KeptBy, kept, same_place}
-use Rattle.dvg_theorem.proofs.Todo.{IsWrite, to_half, to_zero, to_one, is_write}
+use Rattle.dvg_theorem.proofs.ToCome.{IsWrite, to_half, to_zero, to_one, is_write}
 use Rattle.dvg_theorem.proofs.Words.{words_are_whole}
 use Rattle.dvg_theorem.proofs.Writes.{written_at}
 use Rattle.dvg_progress.specs.Progress.{ticks, PublishedInTime}

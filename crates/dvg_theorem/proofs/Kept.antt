@@ -31,7 +31,7 @@ use Rattle.dvg_driver.proofs.Places.{whole_rests, life_place, place_before}
 use Rattle.dvg_theorem.proofs.Drawing.{LeadsTo, drawn_leads, leads_none, leads_before, leads_same, not_both, past_zero, half_high, jump_word, jump_there}
 use Rattle.dvg_theorem.proofs.Flips.{no_flip}
 use Rattle.dvg_theorem.proofs.Linked.{Cut, none, fetching}
-use Rattle.dvg_theorem.proofs.Todo.{Todo, todo_frame, IsWrite, to_half, to_zero, to_one, is_write}
+use Rattle.dvg_theorem.proofs.ToCome.{ToCome, to_come_frame, IsWrite, to_half, to_zero, to_one, is_write}
 
 -- the RAM keeps its size
 pub sized : (R image : List ℕ) (log : Log) → IsLegal R image log → length (ram image log) ≡ 0x800
@@ -69,7 +69,7 @@ abbrev pub AtPlace : ℕ → ℕ → Option (List (ℕ × ℕ)) → Option Log �
 AtPlace b0 b1 run flip Start = Unit {0}
 AtPlace b0 b1 run flip Booting = Unit {0}
 AtPlace b0 b1 run flip (Resting first) = DrawsCurrent b1 run × (first ≡ false → HasFlipped flip)
-AtPlace b0 b1 run flip (Writing ws) = DrawsCurrent b1 run × Todo (other (half_of_high b1)) b0 ws
+AtPlace b0 b1 run flip (Writing ws) = DrawsCurrent b1 run × ToCome (other (half_of_high b1)) b0 ws
 AtPlace b0 b1 run flip (Waiting first) = HasFlipped flip
 AtPlace b0 b1 run flip (Sending first) = DrawsCurrent b1 run × HasFlipped flip
 
@@ -115,7 +115,7 @@ offer_step R image log p F k c w =
     rw (same_place (life image log) p (Resting first) k.stands rests.1) at k.here in (
       Writing (frame_writes h F first),
       moved k (Script.Offered h F ∷ life image log) (Writing (frame_writes h F first)) (ap (option_and_then (λ p. next_place p (Script.Offered h F))) rests.1)
-          (at.0, todo_frame h (byte image log 0) F R first c (λ e. (k.jumps (at.1 e)).0)),
+          (at.0, to_come_frame h (byte image log 0) F R first c (λ e. (k.jumps (at.1 e)).0)),
     )
 
 ask_step : (image : List ℕ) (log : Log) (p : Place) → KeptBy image log p → has_flip (life image log) ≡ true → IsWhole (life image log) →

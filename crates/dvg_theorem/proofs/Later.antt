@@ -36,7 +36,7 @@ use Rattle.dvg_theorem.proofs.Paced.{KeepsPace}
 use Rattle.dvg_theorem.proofs.Linked.{Cut, none, word, cut_same, wanting, fetching, added}
 use Rattle.dvg_theorem.proofs.Bytes.{same_Whole, low_met, word_met, byte}
 use Rattle.dvg_theorem.proofs.Shows.{current, Running, Shows, at_zero_fetched, at_zero_open, begun, idle_lays, write_shows, same_line, same_life}
-use Rattle.dvg_theorem.proofs.Todo.{is_write}
+use Rattle.dvg_theorem.proofs.ToCome.{is_write}
 
 -- what a fetch of the open run meets
 record Ready (R image : List ℕ) (log : Log) (ws : List (ℕ × ℕ)) (vs : List Visit) (held : Option ℕ) : Type 0 where

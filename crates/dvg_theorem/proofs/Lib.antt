@@ -9,7 +9,7 @@ pub mod Linked
 pub mod Drawing
 pub mod Writes
 pub mod Flips
-pub mod Todo
+pub mod ToCome
 pub mod Kept
 pub mod OneLog
 pub mod Least

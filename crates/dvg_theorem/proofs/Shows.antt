@@ -27,7 +27,7 @@ use Rattle.dvg_theorem.proofs.Drawing.{LeadsTo, not_both, past_zero, in_half, ha
 use Rattle.dvg_theorem.proofs.Kept.{byte_other, byte_here, not_equal, KeptBy, HasFlipped}
 use Rattle.dvg_theorem.proofs.Least.{Checked, fits, frame_memory, Lies}
 use Rattle.dvg_theorem.proofs.Linked.{Cut}
-use Rattle.dvg_theorem.proofs.Todo.{IsWrite, to_half, to_zero, to_one}
+use Rattle.dvg_theorem.proofs.ToCome.{IsWrite, to_half, to_zero, to_one}
 use Rattle.dvg_theorem.proofs.Writes.{write_byte, write_late, written_at}
 
 -- the half that byte 001 names

@@ -86,8 +86,8 @@ pub fn draws_a_half()
 {}
 
 /// Each line of every legal log keeps the headline: what the laws from `never_torn` to
-/// `draws_a_half` say, in one record. It is the clause `headline` of `run`, of `run_trace` and of
-/// the calls of a `World`, in `dvg_world`.
+/// `draws_a_half` say, but for `always_bounded`, in one record. It is the clause `headline` of
+/// `run`, of `run_trace` and of the calls of a `World`, in `dvg_world`.
 pub fn headline()
     ensures { Always KeepsHeadline }
 {}

@@ -152,7 +152,7 @@ impl Judge {
     }
 
     /// Is told that a fetch ended the run by a HALT, whatever its word address, its word and what
-    /// it drew.
+    /// it drew. Of a run that broke it is told the same.
     pub fn halted(&mut self)
         ensures { (address word : ℕ) (strokes : List Stroke) (log : Log) → StandsAfter self.old log
             → StandsAfter self.new ((Fetch ⟼ Done address word strokes) ∷ log) }

@@ -26,8 +26,9 @@ use std::alloc::Allocator;
 /// the picture of the frame newest published when it fetched word zero, so no picture is older than
 /// the one before. What a run shows has a picture: the run is finished at the picture's last fetch,
 /// and fetches at most two bytes for each word of the frame's bound. A run that has fetched word
-/// zero is drawing a half, and the half holds the frame that the run shows. The log has one entry for each event, and each entry is the one that its event gets over
-/// the log before it: the log is legal, so driver and generator really act.
+/// zero is drawing a half, and the half holds the frame that the run shows. The log has one entry
+/// for each event, and each entry is the one that its event gets over the log before it: the log is
+/// legal, so driver and generator really act.
 ///
 /// This rests on three premises. The log ends early only for want of memory: before the first
 /// event, or at a fetch that completes a vector with an intensity of at least 1. `Stopped` then has

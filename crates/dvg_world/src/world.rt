@@ -81,10 +81,10 @@ impl<S: Store> World<S> {
         })
     }
 
-    /// Begins anew, as a world that `new` makes of a ROM of these bytes and this image, in the memory
-    /// that it has: for callers that open one world after another. Memory is taken, and may be
-    /// refused, only for a ROM of another size. After an error the world is as it was. The error is
-    /// `Size` exactly where no ROM has this number of bytes.
+    /// Begins anew, as a world that `new` makes of a ROM of these bytes and this image, in the
+    /// memory that it has: for callers that open one world after another. Memory is taken, and may
+    /// be refused, only for a ROM of another size. After an error the world is as it was. The error
+    /// is `Size` exactly where no ROM has this number of bytes.
     pub fn begin_anew(
         &mut self,
         alloc: S::Alloc,

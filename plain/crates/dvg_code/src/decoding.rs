@@ -84,13 +84,17 @@ fn read_one(word: u16) -> Code {
 
 /// The instruction that the front of the words spells, and its number of words.
 ///
-/// | Opcode | Instruction | Fields | |---|---|---| | 0 to 9 | VCTR | first word: local scale (the
-/// opcode), bit 10 sign and bits 9 to 0 magnitude of y; second word: bits 15 to 12 intensity, bit
-/// 10 sign and bits 9 to 0 magnitude of x | | A | LABS | first word: bits 11 to 0 y; second word:
-/// bits 15 to 12 global scale, bits 11 to 0 x | | B | HALT | | | C | JSRL | bits 11 to 0 word
-/// address | | D | RTSL | | | E | JMPL | bits 11 to 0 word address | | F | SVEC | bit 11 scale
-/// weight 1, bit 10 sign and bits 9 to 8 magnitude of y, bits 7 to 4 intensity, bit 3 scale weight
-/// 2, bit 2 sign and bits 1 to 0 magnitude of x |
+/// | Opcode | Instruction | First word | Second word |
+/// |---|---|---|---|
+/// | 0 to 9 | VCTR | opcode: local scale; 10, 9 to 0: y | 15 to 12: intensity; 10, 9 to 0: x |
+/// | A | LABS | 11 to 0: y | 15 to 12: global scale; 11 to 0: x |
+/// | B | HALT | | |
+/// | C, E | JSRL, JMPL | 11 to 0: word address | |
+/// | D | RTSL | | |
+/// | F | SVEC | 11, 3: scale; 10, 9 to 8: y; 7 to 4: intensity; 2, 1 to 0: x | |
+///
+/// The numbers are those of bits. Two parts of x or y are its sign and its magnitude. Of the scale
+/// of an SVEC bit 11 has weight 1, and bit 3 weight 2.
 ///
 /// A sign bit of 1 means negative: sign and magnitude, where minus zero reads as zero. Bit 11 of
 /// both words of a VCTR and bits 11 to 0 of HALT and RTSL are ignored (this project's own choice),

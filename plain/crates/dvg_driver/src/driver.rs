@@ -24,8 +24,8 @@ enum Phase {
     Sending,
 }
 
-/// The driver of the vector generator, from one reset to the next and beyond. It keeps one frame at
-/// most, while it writes it.
+/// The driver of the vector generator, from one reset to the next and beyond. It keeps at most one
+/// frame: the one that it writes.
 pub struct Driver {
     phase: Phase,
     /// The bytes of the newest frame. They count only while the driver writes.

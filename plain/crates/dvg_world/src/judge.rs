@@ -104,7 +104,7 @@ impl Judge {
     }
 
     /// Is told that a fetch ended the run by a HALT, whatever its word address, its word and what
-    /// it drew.
+    /// it drew. Of a run that broke it is told the same.
     pub fn halted(&mut self) {
         self.drawing = Drawing::Nothing;
     }
