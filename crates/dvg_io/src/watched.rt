@@ -12,8 +12,9 @@ use thiserror::Error;
 #[error("a reader or writer failed")]
 pub struct DeviceFailed;
 
-/// A reader or writer whose failures are counted. A failure is an error that it answers, and a write that takes nothing of a part that isn't empty; an interrupted call is an error like
-/// any other. It isn't a `Read` or `Write` itself, so that no call goes past the count.
+/// A reader or writer whose failures are counted. A failure is an error that it answers, and a
+/// write that takes nothing of a part that isn't empty; an interrupted call is an error like any
+/// other. It isn't a `Read` or `Write` itself, so that no call goes past the count.
 #[derive(Drop)]
 pub struct Watched<T> {
     device: T,

@@ -84,8 +84,8 @@ impl<A: Allocator + Copy> Engine<A> for PictureEngine {
 /// generator once over it, which doesn't change, and writes how that ends (the texts are this
 /// project's own choice):
 ///
-/// - `picture`: with the numbers of words that were fetched and of strokes, and then a line for each
-///   stroke.
+/// - `picture`: with the numbers of words that were fetched and of strokes, and then a line for
+///   each stroke.
 /// - `broke`: with the address of the fetch and the fault's number.
 /// - `endless`: there is neither within 65,536 words.
 ///
