@@ -20,13 +20,20 @@ fn main() {
             Action::Sent => generator.start(),
             Action::Peek | Action::Read(_) | Action::Idle => {}
         }
-        if driver.is_idle() && let Some(frame) = next.take() {
+        if driver.is_idle()
+            && let Some(frame) = next.take()
+        {
             driver.offer(frame).expect("an idle driver");
         }
-        let Some(address) = generator.wants() else { continue };
+        let Some(address) = generator.wants() else {
+            continue;
+        };
         let at = 2 * usize::from(address) + usize::from(generator.wants_high());
         // None where no memory answers.
-        let byte = ram.get(at).or_else(|| rom.get(at.checked_sub(0x1000)?)).copied();
+        let byte = ram
+            .get(at)
+            .or_else(|| rom.get(at.checked_sub(0x1000)?))
+            .copied();
         if let Taken::Done(strokes) = generator.take_byte(byte).expect("memory") {
             return println!("{:?}", strokes.as_slice());
         }
