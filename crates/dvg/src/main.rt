@@ -2,6 +2,9 @@
 #![tactic(auto)]
 
 mod explain;
+mod explained;
+mod forms;
+mod places;
 
 use clap::Error;
 use clap::error::ErrorKind;

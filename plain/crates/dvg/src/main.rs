@@ -6,6 +6,9 @@ use std::prelude::*;
 use std::{eprint, eprintln};
 
 mod explain;
+mod explained;
+mod forms;
+mod places;
 
 use clap::Error;
 use clap::error::ErrorKind;
