@@ -156,7 +156,7 @@ fn better_row(words: &[&str], section: Section) -> Option<String> {
             Some(better_name(target))
         }
         ["call" | "jump", ..] if section == Section::Rom => {
-            Some("a name: in the ROM no operation has a number".to_string())
+            Some("a name: operations of the ROM have no numbers".to_string())
         }
         [word, ..] => form(word),
         [] => None,
@@ -264,7 +264,8 @@ fn better(fault: SketchFault, number: usize, small: &[u8]) -> Option<String> {
             _ => Some("no operation past BFF, the last word of the ROM".to_string()),
         },
         SketchFault::Overlap(_) => Some(
-            "words where no section lies: .rom without an address begins after all".to_string(),
+            "no word of another section: .rom without an address begins after all others"
+                .to_string(),
         ),
         SketchFault::Unknown(_) => given_elsewhere(&seen, this),
     }

@@ -81,7 +81,7 @@ pub const TWO_NAMES: &str = "one name in a line";
 pub const SEMICOLON: &str = "no semicolon: a comment begins with #";
 
 /// A call or a jump in the ROM.
-pub const BY_NUMBER: &str = "a name: in the ROM no operation has a number";
+pub const BY_NUMBER: &str = "a name: operations of the ROM have no numbers";
 
 /// Operation 512 of a frame.
 pub const FULL: &str = "at most 511 operations in a frame";
@@ -90,7 +90,8 @@ pub const FULL: &str = "at most 511 operations in a frame";
 pub const PAST_END: &str = "no operation past BFF, the last word of the ROM";
 
 /// An operation on a word of another section.
-pub const OVERLAP: &str = "words where no section lies: .rom without an address begins after all";
+pub const OVERLAP: &str =
+    "no word of another section: .rom without an address begins after all others";
 
 /// What is expected of a line that this word begins, or nothing where it may not begin one.
 pub fn form_of(word: &[u8]) -> &'static str {
