@@ -3,6 +3,7 @@
 
 pub mod draw;
 pub mod driver;
+pub mod explain;
 pub mod frames;
 pub mod generator;
 pub mod judge;

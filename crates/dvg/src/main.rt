@@ -1,11 +1,21 @@
 //! The program `dvg`, for people who write and debug display lists of the Digital Vector Generator.
 #![tactic(auto)]
 
+mod explain;
+mod explained;
+mod forms;
+mod places;
+
 use clap::Error;
 use clap::error::ErrorKind;
-use dvg_tool::{Done, Job, ToolFault, Watched, finish, job, perform, status, words_status};
+use dvg_io::read_up_to;
+use dvg_tool::{
+    Done, Job, MOST_TEXT_BYTES, TextFault, ToolFault, Watched, finish, job, perform, status,
+    words_status,
+};
+use explain::explain;
 use std::alloc::Global;
-use std::io::{BufWriter, Write};
+use std::io::{BufWriter, Read, Write};
 use std::process::ExitCode;
 use std::{env, io};
 
@@ -55,25 +65,32 @@ fn answer_words(rt: &HostRuntime, error: &Error) -> u8 {
     words_status(error)
 }
 
-/// Does a job from standard input to standard output.
-fn run(rt: &HostRuntime, job: Job) -> Result<Done<Global>, ToolFault> {
+/// Does a job from a reader to standard output.
+fn run<R: Read + Drop>(rt: &HostRuntime, job: Job, input: R) -> Result<Done<Global>, ToolFault> {
     let Ok(output) = BufWriter::new(rt.alloc(), io::writer(rt)) else {
         return Err(ToolFault::Memory);
     };
-    let mut reader = Watched::new(rt.stdin());
+    let mut reader = Watched::new(input);
     let mut writer = Watched::new(output);
     let answer = perform(rt.alloc(), job, &mut reader, &mut writer);
     finish(answer, &mut writer)
 }
 
-/// Does what the words ask for. Answers the exit status.
-fn do_words(rt: &HostRuntime, words: &[String]) -> u8 {
-    let job = match asked(rt, words) {
-        Ok(job) => job,
-        Err(error) => return answer_words(rt, &error),
-    };
-    let answer = run(rt, job);
-    match &answer {
+/// Says on standard error what is wrong with the text of a sketch: the fault with its line, and
+/// what was expected there.
+fn complain_of_sketch(rt: &HostRuntime, text: &[u8], fault: TextFault) {
+    if let Ok(small) = text.to_ascii_lowercase(rt.alloc()) {
+        if let Some(explained) = explain(fault, text, small.as_slice()) {
+            let _ = eprintln!(rt; "dvg: {fault}: {explained}");
+            return;
+        }
+    }
+    complain(rt, ToolFault::Text(fault));
+}
+
+/// Says on standard error what came of a job, where there is something to say.
+fn say(rt: &HostRuntime, answer: &Result<Done<Global>, ToolFault>) {
+    match answer {
         Ok(Done::Refused(refusal)) => {
             let _ = eprintln!(rt; "dvg: {refusal}");
         }
@@ -83,7 +100,41 @@ fn do_words(rt: &HostRuntime, words: &[String]) -> u8 {
         Ok(_) => {}
         Err(fault) => complain(rt, *fault),
     }
+}
+
+/// Does a job, and says what came of it. Answers the exit status.
+fn do_job(rt: &HostRuntime, job: Job) -> u8 {
+    let answer = run(rt, job, rt.stdin());
+    say(rt, &answer);
     status(&answer)
+}
+
+/// Does a job that reads a sketch, and says what came of it. Its text is kept to explain a fault.
+/// Answers the exit status.
+fn do_sketch(rt: &HostRuntime, job: Job) -> u8 {
+    let mut input = Watched::new(rt.stdin());
+    let text = match read_up_to(rt.alloc(), &mut input, MOST_TEXT_BYTES) {
+        Ok(text) => text,
+        Err(fault) => {
+            complain(rt, fault);
+            return status::<Global>(&Err(fault));
+        }
+    };
+    let answer = run(rt, job, text.as_slice());
+    match &answer {
+        Err(ToolFault::Text(fault)) => complain_of_sketch(rt, text.as_slice(), *fault),
+        _ => say(rt, &answer),
+    }
+    status(&answer)
+}
+
+/// Does what the words ask for. Answers the exit status.
+fn do_words(rt: &HostRuntime, words: &[String]) -> u8 {
+    match asked(rt, words) {
+        Ok(job @ (Job::Draw { .. } | Job::DrawCheck | Job::Lay { .. })) => do_sketch(rt, job),
+        Ok(job) => do_job(rt, job),
+        Err(error) => answer_words(rt, &error),
+    }
 }
 
 /// Says why the words can't be read. Answers the exit status.

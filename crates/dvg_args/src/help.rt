@@ -335,7 +335,8 @@ line at fault the first of these:
   unknown name at line N       it wants a name that is nowhere given; this one
                                comes after the faults of all other lines
 
-Lines are numbered from 1.
+Lines are numbered from 1. After the number stands the text of the line, and a
+second line tells what was expected.
 
 Example:
   $ printf 'labs 512 400 0\\nvctr 9 -100 100 7\\nhalt\\n' | dvg lay --table

@@ -7,6 +7,7 @@ use std::io::{self, Write};
 use std::path::Path;
 use std::process::ExitCode;
 use std::sync::{Mutex, PoisonError};
+use twin::explain::explain;
 use twin::frames::check;
 use twin::made::Made;
 use twin::sketch::read_sketch;
@@ -50,15 +51,15 @@ fn is_soon_drawn(text: &[u8]) -> bool {
 
 /// What the twin answers.
 fn twin_answer(made: &Made, text: &[u8]) -> io::Result<Answer> {
-    let mut text = text.to_vec();
+    let mut small = text.to_vec();
     let refused = |reason: String| Answer {
         status: Some(1),
         output: Vec::new(),
         error: format!("dvg: {reason}\n").into_bytes(),
     };
-    let sketch = match read_sketch(&mut text) {
+    let sketch = match read_sketch(&mut small) {
         Ok(sketch) => sketch,
-        Err(fault) => return Ok(refused(fault.to_string())),
+        Err(fault) => return Ok(refused(explain(fault, text))),
     };
     if let Err(refusal) = made.refuse(&sketch) {
         return Ok(refused(refusal.to_string()));

@@ -12,6 +12,7 @@ use std::fs::File;
 use std::io::{self, BufWriter, Read, Write};
 use std::os::fd::AsFd;
 use std::process::ExitCode;
+use twin::explain::explain;
 use twin::frames::check;
 use twin::lines::Line;
 use twin::listing::{ListFault, write_list};
@@ -20,7 +21,7 @@ use twin::memory::{BYTES, Banked, Flat};
 use twin::options::Options;
 use twin::picture::{is_image, write_picture, write_picture_svg};
 use twin::shows::write_entries;
-use twin::sketch::{SketchFault, read_sketch};
+use twin::sketch::read_sketch;
 use twin::svg::{Show, write_svgs};
 use twin::texts::{MOST_TEXT_BYTES, TextFault, hex, read_draft};
 use twin::torn::{LogFault, Torn, judge_text};
@@ -61,8 +62,7 @@ enum Fault {
     Full(usize),
     Many(usize),
     Unended,
-    Sketch(SketchFault),
-    /// A frame of a sketch is refused, and this is said of it.
+    /// A sketch is at fault, or a frame of it is refused, and this is said of it.
     Refused(String),
     Reader,
     Writer,
@@ -74,12 +74,6 @@ impl From<ListFault> for Fault {
             ListFault::Cut(place) => Fault::Cut(place),
             ListFault::Writer => Fault::Writer,
         }
-    }
-}
-
-impl From<SketchFault> for Fault {
-    fn from(fault: SketchFault) -> Fault {
-        Fault::Sketch(fault)
     }
 }
 
@@ -131,7 +125,6 @@ impl fmt::Display for Fault {
             Fault::Full(line) => write!(f, "full at line {line}"),
             Fault::Many(line) => write!(f, "too many events at line {line}"),
             Fault::Unended => write!(f, "offer without end"),
-            Fault::Sketch(fault) => fault.fmt(f),
             Fault::Refused(text) => f.write_str(text),
             Fault::Reader => write!(f, "read failed"),
             Fault::Writer => write!(f, "write failed"),
@@ -339,8 +332,9 @@ fn play(banked: bool, shown: Shown) -> Result<ExitCode, Fault> {
 
 /// Makes that of the sketch that standard input holds.
 fn make(made: &Made) -> Result<ExitCode, Fault> {
-    let mut text = read_text()?;
-    let sketch = read_sketch(&mut text)?;
+    let text = read_text()?;
+    let mut small = text.clone();
+    let sketch = read_sketch(&mut small).map_err(|fault| Fault::Refused(explain(fault, &text)))?;
     made.refuse(&sketch)
         .map_err(|refusal| Fault::Refused(refusal.to_string()))?;
     let mut writer = output()?;

@@ -1,0 +1,206 @@
+//! What was expected of the line at fault in a sketch. This module, and those that it uses of this
+//! crate, are tested: nothing is proved of them but that they can't panic, and come to an end.
+use crate::explained::{Expected, Explained, Found};
+use crate::forms::{
+    BY_NUMBER, COLON, FULL, NAME, OVERLAP, PAST_END, SEMICOLON, TWO_NAMES, form_of, is_operation,
+};
+use crate::places::{Place, Rows, first_frame, first_given, head_of, line_at, place_of, row_of};
+use arrayvec::ArrayVec;
+use dvg_named::{Doing, Head, MAX_WORDS, read_head, words_of};
+use dvg_read::hex;
+use dvg_tool::TextFault;
+
+/// What is expected of a line whose name is given before.
+fn another<'a>(text: &[u8], number: usize, line: &'a [u8]) -> Option<Expected<'a>> {
+    if let Some(Head::Frame(Some(name))) = head_of(line) {
+        return Some(Expected::Another(name, first_frame(text, name)?));
+    }
+    let name = row_of(line)?.name?;
+    let rows = place_of(text, number).rows();
+    Some(Expected::Another(name, first_given(text, name, rows)?))
+}
+
+/// Where a name is that isn't given where it was looked for, but perhaps in another frame.
+fn in_frames(text: &[u8], name: &[u8], frame: &'static str) -> Found {
+    match first_given(text, name, Rows::OfFrames) {
+        Some(at) => Found::In(frame, at),
+        None => Found::Nowhere,
+    }
+}
+
+/// What is expected of a line that wants a name of its frame. This word goes to one of the ROM.
+fn of_frame<'a>(text: &[u8], name: &'a [u8], word: &'static str) -> Expected<'a> {
+    let found = match first_given(text, name, Rows::OfRom) {
+        Some(_) => Found::InRom(word),
+        None => in_frames(text, name, "another frame"),
+    };
+    Expected::Known("a name of this frame", name, found)
+}
+
+/// What is expected of a line that wants a name of the ROM. This word goes to one of its frame.
+fn of_rom<'a>(text: &[u8], place: Place, name: &'a [u8], word: &'static str) -> Expected<'a> {
+    let found = match first_given(text, name, place.rows()) {
+        Some(_) => Found::InFrame(word),
+        None => in_frames(text, name, "a frame"),
+    };
+    Expected::Known("a name of the ROM", name, found)
+}
+
+/// What is expected of a line that wants a name which isn't given.
+fn known<'a>(text: &[u8], number: usize, line: &'a [u8]) -> Option<Expected<'a>> {
+    let place = place_of(text, number);
+    match row_of(line)?.doing? {
+        Doing::Plainly(_) => None,
+        Doing::Calls(name) if !place.is_rom => Some(of_frame(text, name, "callrom")),
+        Doing::Jumps(name) if !place.is_rom => Some(of_frame(text, name, "jumprom")),
+        Doing::Calls(name) | Doing::CallsRom(name) => Some(of_rom(text, place, name, "call")),
+        Doing::Jumps(name) | Doing::JumpsRom(name) => Some(of_rom(text, place, name, "jump")),
+    }
+}
+
+/// What is expected of a line that begins a section out of the ROM, or lays an operation there.
+fn in_rom<'a>(line: &[u8]) -> Expected<'a> {
+    if head_of(line).is_some() {
+        Expected::This(form_of(b".rom"))
+    } else {
+        Expected::This(PAST_END)
+    }
+}
+
+/// Whether a word is a name.
+fn is_name(word: &[u8]) -> bool {
+    matches!(
+        read_head(&[b".frame".as_slice(), word]),
+        Some(Head::Frame(Some(_)))
+    )
+}
+
+/// Whether it has the look of a name, which no number has.
+fn looks_like_name(word: &[u8]) -> bool {
+    match word.first() {
+        Some(b'a'..=b'z' | b'_') => true,
+        _ => word
+            .iter()
+            .any(|byte| matches!(*byte, b'g'..=b'w' | b'y' | b'z' | b'_')),
+    }
+}
+
+/// What is expected in place of a word that is no name.
+fn name_for(word: &[u8]) -> Expected<'_> {
+    match word.first() {
+        Some(b'a'..=b'f') if hex(word, 3).is_some() => Expected::NoAddress(word),
+        _ => Expected::This(NAME),
+    }
+}
+
+/// Whether a colon stands in a word.
+fn has_colon(word: &[u8]) -> bool {
+    word.iter().any(|byte| *byte == b':')
+}
+
+/// The words of a line, or the first ones of more than ten.
+fn first_words(line: &[u8]) -> ArrayVec<&[u8], MAX_WORDS> {
+    if let Some(words) = words_of(line) {
+        return words;
+    }
+    let mut words = ArrayVec::new();
+    for word in line.split(|byte| *byte == b' ' || *byte == b'\t') {
+        if !word.is_empty() && !words.is_full() {
+            words.push(word);
+        }
+    }
+    words
+}
+
+/// Whether a semicolon stands in a line before its comment.
+fn has_semicolon(line: &[u8]) -> bool {
+    for byte in line {
+        match *byte {
+            b'#' => return false,
+            b';' => return true,
+            _ => {}
+        }
+    }
+    false
+}
+
+/// What is expected of a line that spells nothing which may stand at its place.
+fn spelled(is_rom: bool, line: &[u8]) -> Expected<'_> {
+    if has_semicolon(line) {
+        return Expected::This(SEMICOLON);
+    }
+    let words = first_words(line);
+    let [first, rest @ ..] = words.as_slice() else {
+        return Expected::Beginning;
+    };
+    match first {
+        [name @ .., b':'] if is_name(name) => after_name(is_rom, rest),
+        [name @ .., b':'] => name_for(name),
+        _ if has_colon(first) || begins_with_colon(rest) => Expected::This(COLON),
+        _ => begun(is_rom, first, rest),
+    }
+}
+
+/// Whether the first of these words begins with a colon.
+fn begins_with_colon(words: &[&[u8]]) -> bool {
+    match words {
+        [word, ..] => word.starts_with(b":"),
+        [] => false,
+    }
+}
+
+/// What is expected of these words after a name.
+fn after_name<'a>(is_rom: bool, words: &[&'a [u8]]) -> Expected<'a> {
+    match words {
+        [first, ..] if first.ends_with(b":") => Expected::This(TWO_NAMES),
+        [first, rest @ ..] if is_operation(first) => begun(is_rom, first, rest),
+        _ => Expected::Operation,
+    }
+}
+
+/// What is expected of a line that this word begins, with these words after it.
+fn begun<'a>(is_rom: bool, first: &[u8], rest: &[&'a [u8]]) -> Expected<'a> {
+    match (first, rest) {
+        (b".frame", [name]) => return name_for(name),
+        (b"call" | b"jump" | b"callrom" | b"jumprom", [name]) if looks_like_name(name) => {
+            return name_for(name);
+        }
+        (b"call" | b"jump", _) if is_rom => return Expected::This(BY_NUMBER),
+        _ => {}
+    }
+    match form_of(first) {
+        "" => Expected::Beginning,
+        form => Expected::This(form),
+    }
+}
+
+/// What a fault tells of a sketch, which is also given in small letters. None of a fault that has no
+/// line.
+pub fn explain<'t, 'a>(
+    fault: TextFault,
+    text: &'t [u8],
+    small: &'a [u8],
+) -> Option<Explained<'t, 'a>> {
+    let number = match fault {
+        TextFault::Syntax(number)
+        | TextFault::NameGivenAgain(number)
+        | TextFault::Full(number)
+        | TextFault::OutOfRom(number)
+        | TextFault::Overlap(number)
+        | TextFault::UnknownName(number) => number,
+        _ => return None,
+    };
+    let line = line_at(small, number);
+    let expected = match fault {
+        TextFault::NameGivenAgain(_) => another(small, number, line)?,
+        TextFault::UnknownName(_) => known(small, number, line)?,
+        TextFault::OutOfRom(_) => in_rom(line),
+        TextFault::Overlap(_) => Expected::This(OVERLAP),
+        TextFault::Full(_) => Expected::This(FULL),
+        _ => spelled(place_of(small, number).is_rom, line),
+    };
+    Some(Explained {
+        line: line_at(text, number),
+        expected,
+    })
+}
