@@ -94,6 +94,7 @@ impl<A: Allocator> Trace<A> {
 
     /// Adds an event at the end of fewer than 65,536. The only error is lack of memory, and then
     /// nothing has changed.
+    #[inline(always)]
     pub fn push(&mut self, event: OwnEvent<A>) -> Result<(), OutOfMemory>
         requires { length self.old < 65536 }
         ensures pushed { OnOk result (self.new ≡ self.old ++ happening_of event ∷ []) }
