@@ -8,8 +8,9 @@ ghost use Rattle.dvg_read.specs.OpLines.{IsOpLine, OpParts};
 ghost use Rattle.dvg_read.specs.Texts.{parts};
 
 use crate::line_parts::parts_of;
-use crate::number::{hex, integer, integer_ahead, natural, natural_ahead, small_integer};
-use crate::number::small_natural;
+use crate::number::{
+    hex, integer, integer_ahead, natural, natural_ahead, small_integer, small_natural,
+};
 use dvg_code::{Code, Instr};
 use dvg_frame::{Op, OpKind};
 

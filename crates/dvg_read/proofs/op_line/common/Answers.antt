@@ -1,7 +1,6 @@
-use Rattle.std.proofs.Common.{◌≡◌, [], ◌∷◌, get_or, refl, subst, ap, sym, ◌∙◌, codes, decimal, arith, rules}
+use Rattle.std.proofs.Common.{◌≡◌, ◌∷◌, get_or, refl, subst, ap, sym, ◌∙◌, codes, arith, rules}
 use Rattle.dvg_frame.specs.declared.op.OpKind.TheVariants.{Call, Jump}
 use Rattle.dvg_read.specs.OpLines.{OpParts, call, jump}
-use Rattle.dvg_read.specs.Texts.{parts}
 use Rattle.dvg_read.proofs.Ahead.{name_ahead, number_alone}
 use Rattle.dvg_read.proofs.op_line.common.Goals as goal
 
