@@ -126,11 +126,7 @@ impl Line {
         ensures text { self.new ≡ self.old ++ hex_3 n }
         ensures grew { length self.new ≡ length self.old + 3 }
     {
-        self.text(&[
-            glyph(n / 256 % 16),
-            glyph(n / 16 % 16),
-            glyph(n % 16),
-        ]);
+        self.text(&[glyph(n / 256 % 16), glyph(n / 16 % 16), glyph(n % 16)]);
     }
 
     // Appends a space and four hexadecimal digits.
