@@ -69,20 +69,14 @@ fn event_named(name: &[u8]) -> Option<SpelledEvent>
     ensures only { (event : Happening) → IsNamed event name.now
         → IsSomeAnd result (λ found. spelled_as found ≡ event) }
 {
-    if name == b"tick".as_slice() {
-        Some(Event::Tick)
-    } else if name == b"fetch".as_slice() {
-        Some(Event::Fetch)
-    } else if name == b"strobe".as_slice() {
-        Some(Event::Strobe)
-    } else if name == b"redraw".as_slice() {
-        Some(Event::Redraw)
-    } else if name == b"resetgen".as_slice() {
-        Some(Event::ResetGen)
-    } else if name == b"resetcpu".as_slice() {
-        Some(Event::ResetCpu)
-    } else {
-        None
+    match name {
+        b"tick" => Some(Event::Tick),
+        b"fetch" => Some(Event::Fetch),
+        b"strobe" => Some(Event::Strobe),
+        b"redraw" => Some(Event::Redraw),
+        b"resetgen" => Some(Event::ResetGen),
+        b"resetcpu" => Some(Event::ResetCpu),
+        _ => None,
     }
 }
 
