@@ -67,6 +67,7 @@ impl<A: Allocator> Trace<A> {
 
     /// Adds an event at the end of fewer than 65,536. The only error is lack of memory, and then
     /// nothing has changed.
+    #[inline(always)]
     pub fn push(&mut self, event: OwnEvent<A>) -> Result<(), OutOfMemory> {
         let step = match event {
             Event::Offer(draft) => return self.push_offer(&draft),
