@@ -1,5 +1,5 @@
 -- A line that grew by one text after the other.
-use Rattle.std.proofs.Common.{◌≡◌, ℕ, ℤ, List, [], ◌++◌, ap, ◌∙◌, append_assoc, arith}
+use Rattle.std.proofs.Common.{◌≡◌, ℕ, ℤ, List, ◌++◌, ap, ◌∙◌, append_assoc, arith}
 use Rattle.dvg_print.specs.Svg.{pair_text}
 
 -- what was appended one by one

@@ -1,5 +1,5 @@
 //! Lines of output, made without taking memory.
-ghost use Rattle.std.specs.Prelude.{◌≡◌, ◌≤◌, ◌<◌, ◌+◌, ◌++◌, ◌∷◌, [], List, ℕ, length, codes};
+ghost use Rattle.std.specs.Prelude.{◌≡◌, ◌≤◌, ◌<◌, ◌+◌, ◌++◌, ◌∷◌, [], length, codes};
 ghost use Rattle.std.specs.Prelude.{decimal, true};
 ghost use Rattle.std.specs.Fmt.{digit_glyph};
 ghost use Rattle.dvg_print.specs.Lines.{hex_2, hex_3, hex_4, instr_parts, line_text, listed_parts};
@@ -7,25 +7,40 @@ ghost use Rattle.dvg_print.specs.Lines.{rom_line, spaced, vector_parts};
 ghost use Rattle.dvg_print.specs.Verdicts.{bounded_line, fault_parts, place_parts, verdict_line};
 
 use crate::verdict::{BoundedVerdict, Verdict};
-use arrayvec::ArrayVec;
 use dvg_code::{Code, Instr};
 use dvg_frame::{FrameFault, Place};
 use itoa::{Buffer, Integer};
 use std::marker::Model;
 
+/// The most bytes of a line.
+const MOST_BYTES: usize = 64;
+
+// A hexadecimal digit in upper case.
+#[inline(always)]
+fn glyph(digit: usize) -> u8
+    requires { digit < 16 }
+    ensures { result ≡ digit_glyph true digit }
+{
+    b"0123456789ABCDEF"[digit]
+}
+
 /// A line of output, of at most 64 bytes.
 #[derive(Drop)]
 pub struct Line {
-    bytes: ArrayVec<u8, 64>,
+    // The bytes of the line, and after them those of earlier lines, which are never cleared.
+    bytes: [u8; MOST_BYTES],
+    count: usize,
 }
 
 /// Contracts see the bytes.
 impl Model for Line {
+    ghost use Rattle.std.specs.Prelude.{◌≤◌, List, ℕ, take};
+
     ghost Value = { List ℕ };
 
-    ghost view = { λ line. line.bytes.items };
+    ghost view = { λ line. take line.count line.bytes };
 
-    ghost invariant = { λ line. length line.bytes.items ≤ 64 };
+    ghost invariant = { λ line. line.count ≤ 64 };
 }
 
 impl Line {
@@ -34,7 +49,8 @@ impl Line {
         ensures { result ≡ [] }
     {
         Line {
-            bytes: ArrayVec::new(),
+            bytes: [0; MOST_BYTES],
+            count: 0,
         }
     }
 
@@ -42,14 +58,14 @@ impl Line {
     pub fn as_bytes(&self) -> &[u8]
         ensures { result.now ≡ self.now }
     {
-        self.bytes.as_slice()
+        &self.bytes[..self.count]
     }
 
     // Becomes a line with no bytes.
     pub(crate) fn clear(&mut self)
         ensures { self.new ≡ [] }
     {
-        self.bytes.clear();
+        self.count = 0;
     }
 
     // Becomes a number in decimal.
@@ -58,20 +74,24 @@ impl Line {
         ensures text { self.new ≡ I.text n }
         ensures grew { length self.new ≤ I.MAX_STR_LEN }
     {
-        self.bytes.clear();
+        self.clear();
         self.text(Buffer::new().format(n).as_bytes());
     }
 
     // Appends a text.
+    #[inline(always)]
     pub(crate) fn text(&mut self, text: &[u8])
         requires { length self.old + length text.now ≤ 64 }
         ensures text { self.new ≡ self.old ++ text.now }
         ensures grew { length self.new ≡ length self.old + length text.now }
     {
-        self.bytes.try_extend_from_slice(text).unwrap();
+        let end = self.count + text.len();
+        self.bytes[self.count..end].copy_from_slice(text);
+        self.count = end;
     }
 
     // Appends a space and a part of the line.
+    #[inline(always)]
     pub(crate) fn part(&mut self, part: &[u8])
         requires { length self.old + length part.now < 64 }
         ensures text { self.new ≡ self.old ++ spaced (part.now ∷ []) }
@@ -90,16 +110,6 @@ impl Line {
         self.part(Buffer::new().format(n).as_bytes());
     }
 
-    // Appends a hexadecimal digit in upper case.
-    fn hex_digit(&mut self, digit: usize)
-        requires digit { digit < 16 }
-        requires room { length self.old < 64 }
-        ensures text { self.new ≡ self.old ++ digit_glyph true digit ∷ [] }
-        ensures grew { length self.new ≡ length self.old + 1 }
-    {
-        self.bytes.push(b"0123456789ABCDEF"[digit]);
-    }
-
     // Appends a space and two hexadecimal digits.
     pub(crate) fn hex_2(&mut self, byte: u8)
         requires { length self.old + 3 ≤ 64 }
@@ -107,9 +117,7 @@ impl Line {
         ensures grew { length self.new ≡ length self.old + 3 }
     {
         let n = usize::from(byte);
-        self.text(b" ");
-        self.hex_digit(n / 16);
-        self.hex_digit(n % 16);
+        self.text(&[b' ', glyph(n / 16), glyph(n % 16)]);
     }
 
     // Appends three hexadecimal digits.
@@ -118,9 +126,7 @@ impl Line {
         ensures text { self.new ≡ self.old ++ hex_3 n }
         ensures grew { length self.new ≡ length self.old + 3 }
     {
-        self.hex_digit(n / 256 % 16);
-        self.hex_digit(n / 16 % 16);
-        self.hex_digit(n % 16);
+        self.text(&[glyph(n / 256 % 16), glyph(n / 16 % 16), glyph(n % 16)]);
     }
 
     // Appends a space and four hexadecimal digits.
@@ -130,9 +136,13 @@ impl Line {
         ensures grew { length self.new ≡ length self.old + 5 }
     {
         let n = usize::from(word);
-        self.text(b" ");
-        self.hex_digit(n / 4096 % 16);
-        self.hex_3(n);
+        self.text(&[
+            b' ',
+            glyph(n / 4096 % 16),
+            glyph(n / 256 % 16),
+            glyph(n / 16 % 16),
+            glyph(n % 16),
+        ]);
     }
 
     // Appends the name of a vector and its numbers.
@@ -251,7 +261,7 @@ impl Line {
         ensures text { self.new ≡ hex_3 place ++ spaced (listed_parts code.now canonical) }
         ensures short { length self.new ≤ 32 }
     {
-        self.bytes.clear();
+        self.clear();
         self.hex_3(place);
         self.instr(code.instr());
         if !canonical {
@@ -273,7 +283,7 @@ impl Line {
         requires { length words.now ≡ 8 }
         ensures { self.new ≡ rom_line address words.now }
     {
-        self.bytes.clear();
+        self.clear();
         self.text(b"rom ");
         self.hex_3(address);
         for word in words {
@@ -286,7 +296,7 @@ impl Line {
     pub fn become_verdict(&mut self, verdict: Verdict)
         ensures { self.new ≡ verdict_line verdict }
     {
-        self.bytes.clear();
+        self.clear();
         match verdict {
             Verdict::Good(words) => {
                 self.text(b"ok");
@@ -305,7 +315,7 @@ impl Line {
     pub fn become_bounded(&mut self, verdict: BoundedVerdict)
         ensures { self.new ≡ bounded_line verdict }
     {
-        self.bytes.clear();
+        self.clear();
         match verdict {
             BoundedVerdict::Good { words, bound } => {
                 self.text(b"ok");

@@ -12,6 +12,7 @@ use std::alloc::Allocator;
 
 impl Line {
     // Appends what an action did.
+    #[inline(always)]
     pub(crate) fn action(&mut self, action: Action)
         requires { length self.old + 13 ≤ 64 }
         ensures text { self.new ≡ self.old ++ spaced (action_parts action) }

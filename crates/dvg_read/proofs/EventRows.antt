@@ -6,7 +6,7 @@ use Rattle.dvg_log.specs.Events.{Happening}
 use Rattle.dvg_log.specs.declared.event.Event.TheVariants.{Offer, Redraw, Tick, Strobe, Fetch, ResetGen, ResetCpu, ResetAll}
 use Rattle.std.proofs.lemmas.Int.Digits.{digits_value-lt}
 use Rattle.dvg_read.specs.EventLines.{TakesCount, IsNamed}
-use Rattle.dvg_read.specs.Texts.{IsHex}
+use Rattle.dvg_read.specs.Texts.{IsHex, parts}
 use Rattle.dvg_read.specs.TraceTexts.{Counts, EventParts, once, times, redraw, tick, strobe, fetch, resetgen, resetcpu, resetall}
 
 -- The rows, with the bytes of a reset as a function of the byte: a match on `EventParts` itself computes 2,048 of them.
@@ -176,6 +176,17 @@ alone_made ResetCpu name e = rw e resetcpu
 alone_made (Offer F) name e = absurd e
 alone_made (ResetAll bytes) name e = absurd e
 
+-- and such a name is its line's one part
+pub named_alone : (event : Happening) (name : List ℕ) → IsNamed event name → parts name ≡ name ∷ []
+named_alone Redraw name e = rw e refl
+named_alone Tick name e = rw e refl
+named_alone Strobe name e = rw e refl
+named_alone Fetch name e = rw e refl
+named_alone ResetGen name e = rw e refl
+named_alone ResetCpu name e = rw e refl
+named_alone (Offer F) name e = absurd e
+named_alone (ResetAll bytes) name e = absurd e
+
 alone_count_of : (name first : List ℕ) (n : ℕ) → Counted name n (first ∷ []) → (first ≡ name) × (1 ≡ n)
 alone_count_of name first n (inl (e, is)) = (cc, sym is)
 alone_count_of name first n (inr (e, some, most)) = absurd (cc)
@@ -199,6 +210,15 @@ alone resets_cpu = record { event = ResetCpu; named = refl; all = refl }
 
 pub alone_row : {events : List Happening} {name : List ℕ} → EventParts events (name ∷ []) → Alone events name
 alone_row h = alone (row h)
+
+pub named_made : (event : Happening) (name : List ℕ) → IsNamed event name → EventParts (event ∷ []) (parts name)
+named_made event name h = rw (named_alone event name h) (alone_made event name h)
+
+-- so a line that is the name of one event spells that one
+pub named_only : (event : Happening) (name : List ℕ) → IsNamed event name → ((other : Happening) → IsNamed other name → event ≡ other) → (events : List Happening) → EventParts events (parts name) → event ∷ [] ≡ events
+named_only event name h only events p =
+    let row = alone_row (rw (named_alone event name h) at p) in
+    ap (λ event. event ∷ []) (only row.event row.named) ∙ row.all
 
 -- the rows of a name and an operand
 

@@ -29,7 +29,7 @@ no_space radix digits most h k d inside = false_from_ne_true (eqb (get_or digits
     absurd (omega (arith, most, digit_below radix digits k h inside, ap digit_value (get_or_default digits k 0 d inside ∙ eqb-true _ 32 is))))
 
 -- so digits are one part
-digits_alone : (radix : ℕ) (digits : List ℕ) → radix ≤ 16 → AllDigits radix digits → parts digits ≡ digits ∷ []
+pub digits_alone : (radix : ℕ) (digits : List ℕ) → radix ≤ 16 → AllDigits radix digits → parts digits ≡ digits ∷ []
 digits_alone radix digits most h = slice_split_none (λ byte. eqb byte 32) digits (no_space radix digits most h)
 
 -- so is the operand of an event

@@ -26,27 +26,17 @@ pub struct EventLine {
 }
 
 /// The events that a line spells by itself. None exactly where it spells none.
+#[inline(always)]
 pub fn read_event_line(line: &[u8]) -> Option<EventLine>
     ensures found { IfSome result (λ told. EventParts (happenings told) (parts line.now)) }
     ensures only { (events : List Happening) → EventParts events (parts line.now)
         → IsSomeAnd result (λ told. happenings told ≡ events) }
 {
-    match memchr(b' ', line) {
-        Some(space) => with_operand(&line[..space], &line[space + 1..]),
-        None => once(line),
+    if let Some(event) = event_named(line) {
+        return Some(EventLine { event, count: 1 });
     }
-}
-
-// The event of a name alone.
-fn once(name: &[u8]) -> Option<EventLine>
-    ensures found { IfSome result (λ told. EventParts (happenings told) (name.now ∷ [])) }
-    ensures only { (events : List Happening) → EventParts events (name.now ∷ [])
-        → IsSomeAnd result (λ told. happenings told ≡ events) }
-{
-    Some(EventLine {
-        event: event_named(name)?,
-        count: 1,
-    })
+    let space = memchr(b' ', line)?;
+    with_operand(&line[..space], &line[space + 1..])
 }
 
 // The events of a name and its operand.
@@ -73,25 +63,20 @@ fn with_operand(name: &[u8], operand: &[u8]) -> Option<EventLine>
 }
 
 // The event that this name alone spells.
+#[inline(always)]
 fn event_named(name: &[u8]) -> Option<SpelledEvent>
     ensures found { IfSome result (λ event. IsNamed (spelled_as event) name.now) }
     ensures only { (event : Happening) → IsNamed event name.now
         → IsSomeAnd result (λ found. spelled_as found ≡ event) }
 {
-    if name == b"redraw".as_slice() {
-        Some(Event::Redraw)
-    } else if name == b"tick".as_slice() {
-        Some(Event::Tick)
-    } else if name == b"strobe".as_slice() {
-        Some(Event::Strobe)
-    } else if name == b"fetch".as_slice() {
-        Some(Event::Fetch)
-    } else if name == b"resetgen".as_slice() {
-        Some(Event::ResetGen)
-    } else if name == b"resetcpu".as_slice() {
-        Some(Event::ResetCpu)
-    } else {
-        None
+    match name {
+        b"tick" => Some(Event::Tick),
+        b"fetch" => Some(Event::Fetch),
+        b"strobe" => Some(Event::Strobe),
+        b"redraw" => Some(Event::Redraw),
+        b"resetgen" => Some(Event::ResetGen),
+        b"resetcpu" => Some(Event::ResetCpu),
+        _ => None,
     }
 }
 

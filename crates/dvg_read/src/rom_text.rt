@@ -86,7 +86,9 @@ fn read_map_line(line: &[u8]) -> Option<u16>
     }
 }
 
-// The bytes of a ROM of which no line gives a word.
+// The bytes of a ROM of which no line gives a word. It isn't inlined: else a ROM's room is cleared
+// for each line that is read.
+#[inline(never)]
 fn ungiven(first: u16) -> ArrayVec<u8, LARGE_ROM_BYTES>
     requires { (first ≡ 0x800) ⊎ (first ≡ 0x400) }
     ensures { AreReturns result.items (0xC00 - first) }

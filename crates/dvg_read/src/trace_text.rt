@@ -1,6 +1,6 @@
 //! Texts of traces.
-ghost use Rattle.std.specs.Prelude.{◌≡◌, ◌+◌, ◌^◌, ◌<◌, ◌≤◌, ◌∷◌, [], ◌++◌, ℕ, List, codes, length};
-ghost use Rattle.std.specs.Prelude.{replicate, IfErr, IfOk, IsFalse, IsTrue, OnOk};
+ghost use Rattle.std.specs.Prelude.{◌≡◌, ◌↔◌, ◌+◌, ◌^◌, ◌<◌, ◌≤◌, ◌∷◌, [], ◌++◌, ℕ, List, codes};
+ghost use Rattle.std.specs.Prelude.{length, replicate, IfErr, IfOk, IsFalse, IsTrue, OnOk};
 ghost use Rattle.dvg_frame.specs.declared.op.OpKind.{OpKind};
 ghost use Rattle.dvg_read.specs.EventLines.{happenings, spelled_as};
 ghost use Rattle.dvg_read.specs.OpLines.{IsOpLine};
@@ -143,7 +143,7 @@ impl<A: Allocator + Copy> Reading<A> {
         ensures fault { IfErr result (λ fault. StopsLine fault (events_read self.old)
             (opened_of self.old) self.old.rom line.now) }
     {
-        if line == b"offer".as_slice() {
+        if is_offer(line) {
             self.draft.clear();
             self.is_open = true;
             return Ok(());
@@ -175,6 +175,14 @@ impl<A: Allocator + Copy> Reading<A> {
         self.is_open = false;
         Ok(())
     }
+}
+
+// Whether an offer begins with this line.
+#[inline(always)]
+fn is_offer(line: &[u8]) -> bool
+    ensures { IsTrue result ↔ (line.now ≡ codes "offer") }
+{
+    matches!(line, b"offer")
 }
 
 // Adds the operation that a line spells.

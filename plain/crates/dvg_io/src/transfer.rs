@@ -44,6 +44,7 @@ pub fn collect_words<A: Allocator>(alloc: A, bytes: &[u8]) -> Result<Vec<u16, A>
 
 /// Writes the whole of a text, by as many writes as it takes. After a failure a beginning of it
 /// went out.
+#[inline(always)]
 pub fn write_whole<W: Write>(writer: &mut Watched<W>, text: &[u8]) -> Result<(), DeviceFailed> {
     let mut rest = text;
     while !rest.is_empty() {

@@ -1,45 +1,60 @@
 //! Lines of output, made without taking memory.
 use crate::verdict::{BoundedVerdict, Verdict};
-use arrayvec::ArrayVec;
 use dvg_code::{Code, Instr};
 use dvg_frame::{FrameFault, Place};
 use itoa::{Buffer, Integer};
 
+/// The most bytes of a line.
+const MOST_BYTES: usize = 64;
+
+// A hexadecimal digit in upper case.
+#[inline(always)]
+fn glyph(digit: usize) -> u8 {
+    b"0123456789ABCDEF"[digit]
+}
+
 /// A line of output, of at most 64 bytes.
 pub struct Line {
-    bytes: ArrayVec<u8, 64>,
+    // The bytes of the line, and after them those of earlier lines, which are never cleared.
+    bytes: [u8; MOST_BYTES],
+    count: usize,
 }
 
 impl Line {
     /// A line with no bytes.
     pub fn new() -> Line {
         Line {
-            bytes: ArrayVec::new(),
+            bytes: [0; MOST_BYTES],
+            count: 0,
         }
     }
 
     /// The bytes.
     pub fn as_bytes(&self) -> &[u8] {
-        self.bytes.as_slice()
+        &self.bytes[..self.count]
     }
 
     // Becomes a line with no bytes.
     pub(crate) fn clear(&mut self) {
-        self.bytes.clear();
+        self.count = 0;
     }
 
     // Becomes a number in decimal.
     pub(crate) fn become_number<I: Integer>(&mut self, n: I) {
-        self.bytes.clear();
+        self.clear();
         self.text(Buffer::new().format(n).as_bytes());
     }
 
     // Appends a text.
+    #[inline(always)]
     pub(crate) fn text(&mut self, text: &[u8]) {
-        self.bytes.try_extend_from_slice(text).unwrap();
+        let end = self.count + text.len();
+        self.bytes[self.count..end].copy_from_slice(text);
+        self.count = end;
     }
 
     // Appends a space and a part of the line.
+    #[inline(always)]
     pub(crate) fn part(&mut self, part: &[u8]) {
         self.text(b" ");
         self.text(part);
@@ -50,32 +65,27 @@ impl Line {
         self.part(Buffer::new().format(n).as_bytes());
     }
 
-    // Appends a hexadecimal digit in upper case.
-    fn hex_digit(&mut self, digit: usize) {
-        self.bytes.push(b"0123456789ABCDEF"[digit]);
-    }
-
     // Appends a space and two hexadecimal digits.
     pub(crate) fn hex_2(&mut self, byte: u8) {
         let n = usize::from(byte);
-        self.text(b" ");
-        self.hex_digit(n / 16);
-        self.hex_digit(n % 16);
+        self.text(&[b' ', glyph(n / 16), glyph(n % 16)]);
     }
 
     // Appends three hexadecimal digits.
     pub(crate) fn hex_3(&mut self, n: usize) {
-        self.hex_digit(n / 256 % 16);
-        self.hex_digit(n / 16 % 16);
-        self.hex_digit(n % 16);
+        self.text(&[glyph(n / 256 % 16), glyph(n / 16 % 16), glyph(n % 16)]);
     }
 
     // Appends a space and four hexadecimal digits.
     pub(crate) fn hex_4(&mut self, word: u16) {
         let n = usize::from(word);
-        self.text(b" ");
-        self.hex_digit(n / 4096 % 16);
-        self.hex_3(n);
+        self.text(&[
+            b' ',
+            glyph(n / 4096 % 16),
+            glyph(n / 256 % 16),
+            glyph(n / 16 % 16),
+            glyph(n % 16),
+        ]);
     }
 
     // Appends the name of a vector and its numbers.
@@ -158,7 +168,7 @@ impl Line {
     // Becomes the place of an instruction, its name and operands, and a star where its words aren't
     // canonical.
     pub(crate) fn become_placed(&mut self, place: usize, code: &Code, canonical: bool) {
-        self.bytes.clear();
+        self.clear();
         self.hex_3(place);
         self.instr(code.instr());
         if !canonical {
@@ -175,7 +185,7 @@ impl Line {
 
     /// Becomes the ROM line of eight words, from an address on.
     pub fn become_rom(&mut self, address: usize, words: &[u16]) {
-        self.bytes.clear();
+        self.clear();
         self.text(b"rom ");
         self.hex_3(address);
         for word in words {
@@ -186,7 +196,7 @@ impl Line {
 
     /// Becomes the line that `check` writes of a verdict.
     pub fn become_verdict(&mut self, verdict: Verdict) {
-        self.bytes.clear();
+        self.clear();
         match verdict {
             Verdict::Good(words) => {
                 self.text(b"ok");
@@ -203,7 +213,7 @@ impl Line {
 
     /// Becomes the line that `check` writes of a verdict, with the bound of a good draft.
     pub fn become_bounded(&mut self, verdict: BoundedVerdict) {
-        self.bytes.clear();
+        self.clear();
         match verdict {
             BoundedVerdict::Good { words, bound } => {
                 self.text(b"ok");

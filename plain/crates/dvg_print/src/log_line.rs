@@ -7,6 +7,7 @@ use std::alloc::Allocator;
 
 impl Line {
     // Appends what an action did.
+    #[inline(always)]
     pub(crate) fn action(&mut self, action: Action) {
         match action {
             Action::Peek => self.part(b"peek"),

@@ -52,6 +52,26 @@ pub fn natural(part: &[u8]) -> Option<u16> {
     u16::try_from(value_of(part, 10)?).ok()
 }
 
+/// The decimal number at the head of a text, up to a space, and what comes after that.
+#[inline(always)]
+pub(crate) fn natural_ahead(text: &[u8]) -> Option<(u16, &[u8])> {
+    let mut number = 0;
+    for (place, byte) in text.iter().enumerate() {
+        let digit = u32::from(digit_of(*byte));
+        if digit >= 10 {
+            if *byte != b' ' || place == 0 || (text[0] == b'0' && place > 1) {
+                return None;
+            }
+            return Some((u16::try_from(number).ok()?, &text[place + 1..]));
+        }
+        if place == MAX_DIGITS {
+            return None;
+        }
+        number = number * 10 + digit;
+    }
+    None
+}
+
 /// A decimal number of at most 8 bits, without a sign and without leading zeros.
 pub fn small_natural(part: &[u8]) -> Option<u8> {
     u8::try_from(natural(part)?).ok()
@@ -66,6 +86,19 @@ pub fn integer(part: &[u8]) -> Option<i16> {
     }
     let size = i16::try_from(natural(digits)?).ok()?;
     if size > 0 { Some(-size) } else { None }
+}
+
+/// The same at the head of a text, up to a space, and what comes after that.
+#[inline(always)]
+pub(crate) fn integer_ahead(text: &[u8]) -> Option<(i16, &[u8])> {
+    let (first, digits) = text.split_first()?;
+    if *first != b'-' {
+        let (size, rest) = natural_ahead(text)?;
+        return Some((i16::try_from(size).ok()?, rest));
+    }
+    let (size, rest) = natural_ahead(digits)?;
+    let size = i16::try_from(size).ok()?;
+    if size > 0 { Some((-size, rest)) } else { None }
 }
 
 /// The same, from -128 to 127.

@@ -64,7 +64,9 @@ fn read_map_line(line: &[u8]) -> Option<u16> {
     }
 }
 
-// The bytes of a ROM of which no line gives a word.
+// The bytes of a ROM of which no line gives a word. It isn't inlined: else a ROM's room is cleared
+// for each line that is read.
+#[inline(never)]
 fn ungiven(first: u16) -> ArrayVec<u8, LARGE_ROM_BYTES> {
     let mut bytes = ArrayVec::new();
     for _word in 0..LAST_ROM_WORD + 1 - first {

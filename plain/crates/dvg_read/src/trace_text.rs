@@ -113,7 +113,7 @@ impl<A: Allocator + Copy> Reading<A> {
 
     // Reads one more line where no offer is open.
     fn take_outside(&mut self, line: &[u8]) -> Result<(), LineFault> {
-        if line == b"offer".as_slice() {
+        if is_offer(line) {
             self.draft.clear();
             self.is_open = true;
             return Ok(());
@@ -138,6 +138,12 @@ impl<A: Allocator + Copy> Reading<A> {
         self.is_open = false;
         Ok(())
     }
+}
+
+// Whether an offer begins with this line.
+#[inline(always)]
+fn is_offer(line: &[u8]) -> bool {
+    matches!(line, b"offer")
 }
 
 // Adds the operation that a line spells.

@@ -1,6 +1,17 @@
 //! What the sources use of `itoa`.
 #![no_std]
 
+/// The digits of each number below 100, two by two.
+const PAIRS: [[u8; 2]; 100] = {
+    let mut pairs = [[b'0'; 2]; 100];
+    let mut number = 0;
+    while number < 100 {
+        pairs[number] = [b'0' + (number / 10) as u8, b'0' + (number % 10) as u8];
+        number += 1;
+    }
+    pairs
+};
+
 /// Room for a number.
 pub struct Buffer([u8; 40]);
 
@@ -41,18 +52,23 @@ impl Buffer {
             size /= 10;
         }
         let mut size = size as u64;
-        loop {
+        while size >= 100 {
+            at -= 2;
+            self.0[at..at + 2].copy_from_slice(&PAIRS[(size % 100) as usize]);
+            size /= 100;
+        }
+        if size >= 10 {
+            at -= 2;
+            self.0[at..at + 2].copy_from_slice(&PAIRS[size as usize]);
+        } else {
             at -= 1;
-            self.0[at] = b'0' + (size % 10) as u8;
-            size /= 10;
-            if size == 0 {
-                break;
-            }
+            self.0[at] = b'0' + size as u8;
         }
         if negative {
             at -= 1;
             self.0[at] = b'-';
         }
-        core::str::from_utf8(&self.0[at..]).unwrap_or("")
+        // SAFETY: they are digits, and perhaps a minus.
+        unsafe { core::str::from_utf8_unchecked(&self.0[at..]) }
     }
 }

@@ -1,4 +1,4 @@
-use Rattle.std.proofs.Common.{◌≡◌, ◌+◌, ◌*◌, length, decimal, ap, ◌∙◌, arith}
+use Rattle.std.proofs.Common.{◌≡◌, ◌+◌, ◌*◌, length, decimal, ap, arith}
 use Rattle.itoa.proofs.Decimal.{length_two}
 use Rattle.dvg_print.proofs.line.Line.opacity.Goals as goal
 

@@ -1,4 +1,4 @@
-use Rattle.std.proofs.Common.{◌≡◌, ◌≤◌, length, ap, ◌∙◌, arith}
+use Rattle.std.proofs.Common.{◌≡◌, length, ap, arith}
 use Rattle.std.proofs.lemmas.Fmt.{length_signed_le}
 use Rattle.std.proofs.lemmas.Int.{to_z-of_z}
 use Rattle.dvg_print.proofs.line.Line.signed.Goals as goal

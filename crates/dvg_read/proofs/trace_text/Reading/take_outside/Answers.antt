@@ -12,14 +12,14 @@ use Rattle.dvg_read.proofs.trace_text.Reading.take_outside.Goals.{else-is_empty-
 use Rattle.dvg_read.specs.RomTexts.{RomText}
 use Rattle.dvg_read.specs.RomReading.{HoldsRom, TellsRom}
 
-pub returns-then-eq-clause-taken : goal.returns-then-eq-clause-taken
-returns-then-eq-clause-taken g c =
+pub returns-then-is_offer-clause-taken : goal.returns-then-is_offer-clause-taken
+returns-then-is_offer-clause-taken g c =
     let reading = c.args.self.now in
     let named : c.args.line.now ≡ codes "offer" = search rules in
     offer_taken (events_read reading) (opened_of reading) (Some c.clear.new.self) c.args.line.now reading.rom (none_opened reading.is_open reading.draft c.requires.outside) named (ap Some c.clear.ensures)
 
-pub returns-then-eq-clause-held : goal.returns-then-eq-clause-held
-returns-then-eq-clause-held g c =
+pub returns-then-is_offer-clause-held : goal.returns-then-is_offer-clause-held
+returns-then-is_offer-clause-held g c =
     let reading = c.args.self.now in
     record { fits = subst (λ F. FitsTrace (events_read reading) (Some F)) (sym c.clear.ensures) (offer_fits (events_read reading) (opened_of reading) c.requires.held.fits); known = c.requires.held.known }
 
