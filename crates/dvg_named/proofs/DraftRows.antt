@@ -7,14 +7,15 @@ use Rattle.std.proofs.lemmas.Option.{slice_get_read}
 use Rattle.std.specs.List.{AllZip, cons_option}
 use Rattle.dvg_frame.specs.declared.op.OpKind.{OpKind}
 use Rattle.dvg_read.proofs.Zips.{zip_push}
-use Rattle.dvg_named.specs.declared.row.Doing as held_doing
-use Rattle.dvg_named.specs.declared.row.Row as held
-use Rattle.dvg_named.specs.HeldRows.{rows_of}
+use Rattle.dvg_rows.specs.declared.row.Doing as held_doing
+use Rattle.dvg_rows.specs.declared.row.Row as held
+use Rattle.dvg_rows.specs.HeldRows.{rows_of}
 use Rattle.dvg_named.specs.Meanings.{IsDrafted}
 use Rattle.dvg_named.specs.NamedFaults.{IsUngiven}
-use Rattle.dvg_named.specs.Places.{IsNumber, Laid, doings}
-use Rattle.dvg_named.specs.RowValues.{doing_of, doing_of_some, row_of}
-use Rattle.dvg_named.specs.Rows.{Doing, Row, plainly, calls, jumps, calls_rom, jumps_rom}
+use Rattle.dvg_named.specs.Places.{Laid}
+use Rattle.dvg_rows.specs.RowPlaces.{IsNumber, doings}
+use Rattle.dvg_rows.specs.RowValues.{doing_of, doing_of_some, row_of}
+use Rattle.dvg_rows.specs.Rows.{Doing, Row, plainly, calls, jumps, calls_rom, jumps_rom}
 use Rattle.dvg_named.specs.Sections.{Section}
 use Rattle.dvg_named.specs.Ungiven.{IsFirstUngiven, WantsAt, framed}
 

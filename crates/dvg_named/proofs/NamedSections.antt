@@ -5,12 +5,13 @@ use Rattle.std.proofs.lemmas.List.{append_assoc, drop_more, get_or_append_left, 
 use Rattle.std.proofs.lemmas.List.{length-map, take-append-drop}
 use Rattle.std.proofs.lemmas.List.Elements.{filter_map-append}
 use Rattle.dvg_named.specs.declared.laid.LaidRows as held
-use Rattle.dvg_named.specs.HeldRows.{rows_of}
+use Rattle.dvg_rows.specs.HeldRows.{rows_of}
 use Rattle.dvg_named.specs.LaidValues.{AreLow, laid_section, laid_sections, rows_laid}
-use Rattle.dvg_named.specs.NamedFaults.{AreDistinct, names_of}
-use Rattle.dvg_named.specs.Places.{IsAddress, IsNamedAfter, Laid, laid_end, size}
-use Rattle.dvg_named.specs.Rows.{Row}
-use Rattle.dvg_named.proofs.NamedRows.{distinct_after, names_around, not_again, one_place}
+use Rattle.dvg_rows.specs.RowPlaces.{AreDistinct, names_of}
+use Rattle.dvg_named.specs.Places.{IsAddress, Laid, laid_end}
+use Rattle.dvg_rows.specs.RowPlaces.{IsNamedAfter, size}
+use Rattle.dvg_rows.specs.Rows.{Row}
+use Rattle.dvg_rows.proofs.NamedRows.{distinct_after, names_around, not_again, one_place}
 
 -- ---- lists
 

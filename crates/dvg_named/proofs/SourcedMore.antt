@@ -2,9 +2,9 @@
 use Rattle.std.proofs.Common.{◌≡◌, ℕ, List, [], ◌∷◌, ◌++◌, sym, subst, Result, Ok, Err, OnOk}
 use Rattle.std.specs.List.{AllZip}
 use Rattle.dvg_read.proofs.Zips.{zip_push}
-use Rattle.dvg_named.specs.declared.meaning.Source.{Source}
-use Rattle.dvg_named.specs.declared.part.Part.{Part}
-use Rattle.dvg_named.specs.declared.row.Row as held_row
+use Rattle.dvg_rows.specs.declared.source.Source.{Source}
+use Rattle.dvg_rows.specs.declared.part.Part.{Part}
+use Rattle.dvg_rows.specs.declared.row.Row as held_row
 use Rattle.dvg_named.specs.SourcedRows.{BeginsIn, IsPartAt, IsRowAt}
 
 pub both_ok : {A E : Type 0} (r : Result A E) {P Q S : Type 0} → OnOk r P → OnOk r Q → (P → Q → S) → OnOk r S

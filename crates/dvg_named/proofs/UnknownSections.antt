@@ -2,7 +2,7 @@
 use Rattle.std.proofs.Common.{◌≡◌, ◌<◌, ◌≤◌, ℕ, ◌+◌, List, [], ◌∷◌, ◌++◌, length, map, take, get_or, refl, sym, ap, subst, ◌∙◌, arith, suc, zero, Option, Some, IfNone, slice_get, All}
 use Rattle.std.proofs.lemmas.List.{length-take-le, map_more, take_all, take_more}
 use Rattle.std.proofs.lemmas.List.Elements.{All-append, All-contains, All-contains_itself, All-push, Contains-append_left, Contains-append_right}
-use Rattle.dvg_named.specs.declared.part.Part.{Part}
+use Rattle.dvg_rows.specs.declared.part.Part.{Part}
 use Rattle.dvg_named.specs.FirstUnknown.{FirstOf, IsFirstOf, WantsNone, all_sections, entries_held}
 use Rattle.dvg_named.specs.LineNumbers.{Entry, entries_from, entries_last}
 use Rattle.dvg_named.specs.Places.{Laid}

@@ -7,12 +7,12 @@ use Rattle.std.specs.List.{AllPairs, AllZip}
 use Rattle.dvg_read.specs.RomTexts.{RomText}
 use Rattle.dvg_read.specs.Texts.{lines, told}
 use Rattle.dvg_named.specs.declared.fault.NamedFault.TheVariants.{Unknown}
-use Rattle.dvg_named.specs.declared.part.Part.{Part}
+use Rattle.dvg_rows.specs.declared.part.Part.{Part}
 use Rattle.dvg_named.specs.declared.reading.Reading.{Reading}
 use Rattle.dvg_named.specs.FirstUnknown.{FirstOf, HasLines, IsFirstOf, WantsIn, all_sections}
 use Rattle.dvg_named.specs.LineNumbers.{Entry, IsEntryOf, entries_in, first_head}
 use Rattle.dvg_named.specs.NamedFaults.{HasNamedFault, IsUngiven, WantsUngiven, laid_of}
-use Rattle.dvg_named.specs.PlainLines.{plain, plain_lines}
+use Rattle.dvg_rows.specs.PlainLines.{plain, plain_lines}
 use Rattle.dvg_named.specs.ReadParts.{sketch_of}
 use Rattle.dvg_named.specs.Sections.{Section, Spelled, SpellsSketch, sections}
 use Rattle.dvg_named.specs.SketchReading.{head_in, section_in, spelled_in}

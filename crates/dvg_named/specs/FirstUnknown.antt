@@ -1,14 +1,14 @@
 -- The first row of all sections that wants a name which isn't given (for private contracts).
 use Rattle.std.specs.Prelude.{◌≡◌, ℕ, List, ◌∷◌, ◌++◌, [], All, None, Option, Some, length, map, slice_get}
-use Rattle.dvg_named.specs.declared.part.Part.{Part}
+use Rattle.dvg_rows.specs.declared.part.Part.{Part}
 use Rattle.dvg_named.specs.declared.reading.Reading.{Reading}
-use Rattle.dvg_named.specs.declared.row.Head as held_head
-use Rattle.dvg_named.specs.declared.row.Row as held_row
-use Rattle.dvg_named.specs.HeldRows.{rows_of}
+use Rattle.dvg_rows.specs.declared.row.Head as held_head
+use Rattle.dvg_rows.specs.declared.row.Row as held_row
+use Rattle.dvg_rows.specs.HeldRows.{rows_of}
 use Rattle.dvg_named.specs.LineNumbers.{Entry, entries_from, entries_last}
 use Rattle.dvg_named.specs.NamedFaults.{IsUngiven}
 use Rattle.dvg_named.specs.Places.{Laid}
-use Rattle.dvg_named.specs.Rows.{Doing, Row}
+use Rattle.dvg_rows.specs.Rows.{Doing, Row}
 use Rattle.dvg_named.specs.Sections.{Section}
 use Rattle.dvg_named.specs.SketchReading.{head_in, section_in}
 use Rattle.dvg_named.specs.Ungiven.{WantsAt}

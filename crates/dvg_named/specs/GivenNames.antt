@@ -1,7 +1,7 @@
 -- Names that were given before (for private contracts).
 use Rattle.std.specs.Prelude.{ℕ, List, Option, Some, None, Contains}
-use Rattle.dvg_named.specs.declared.line_fault.LineFault.{LineFault}
-use Rattle.dvg_named.specs.declared.line_fault.LineFault.TheVariants.{Full, Memory, OutOfRom, Overlap, Syntax, Twice}
+use Rattle.dvg_rows.specs.declared.line_fault.LineFault.{LineFault}
+use Rattle.dvg_rows.specs.declared.line_fault.LineFault.TheVariants.{Full, Memory, OutOfRom, Overlap, Syntax, Twice}
 
 -- the name, if there is one, isn't among these
 abbrev pub IsFresh : List (List ℕ) → Option (List ℕ) → Type 0

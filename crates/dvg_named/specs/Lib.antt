@@ -5,14 +5,12 @@ pub mod FlatFrames
 pub mod FrameValues
 pub mod GivenNames
 pub mod GivenRoms
-pub mod HeldRows
 pub mod LaidValues
 pub mod LineNumbers
 pub mod Meanings
 pub mod NamedFaults
 pub mod OpSources
 pub mod Places
-pub mod PlainLines
 pub mod ReadParts
 pub mod ReadSketches
 pub mod RomAreas
@@ -20,8 +18,6 @@ pub mod RomBytes
 pub mod RomNames
 pub mod RomParts
 pub mod RowMoves
-pub mod RowValues
-pub mod Rows
 pub mod Sections
 pub mod SketchLaws
 pub mod SketchReading

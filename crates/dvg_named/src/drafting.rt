@@ -1,17 +1,16 @@
 //! The draft of a frame.
 ghost use Rattle.std.specs.Prelude.{◌≡◌, ◌≤◌, length, IfErr, IfNone, IfOk, IfSome};
-ghost use Rattle.dvg_named.specs.HeldRows.{rows_of};
+ghost use Rattle.dvg_rows.specs.HeldRows.{rows_of};
 ghost use Rattle.dvg_named.specs.LaidValues.{AreLow, laid_sections};
 ghost use Rattle.dvg_named.specs.Meanings.{IsDrafted};
 ghost use Rattle.dvg_named.specs.NamedFaults.{IsUngiven};
-ghost use Rattle.dvg_named.specs.Places.{doings};
-ghost use Rattle.dvg_named.specs.RowValues.{doing_of};
+ghost use Rattle.dvg_rows.specs.RowPlaces.{doings};
+ghost use Rattle.dvg_rows.specs.RowValues.{doing_of};
 ghost use Rattle.dvg_named.specs.Ungiven.{Drafts, IsFirstInFrame, framed};
 
 use crate::laid::{LaidRows, address_of};
-use crate::number::number_of;
-use crate::row::{Doing, Row};
 use dvg_frame::{Draft, Op, OpKind};
+use dvg_rows::{Doing, Row, number_of};
 
 /// The draft of a frame: what its rows do, in order, where each name is that of an operation of the
 /// frame, and after `callrom` and `jumprom` that of a word of the ROM. Or else the place, counted

@@ -1,14 +1,14 @@
 //! The operations of frames in one list.
 ghost use Rattle.std.specs.Prelude.{◌≡◌, ◌≤◌, length, IfErr, OnErr, OnOk};
 ghost use Rattle.dvg_named.specs.FlatDrafts.{PushesDraft, StopsDraft};
-ghost use Rattle.dvg_named.specs.HeldRows.{rows_of};
+ghost use Rattle.dvg_rows.specs.HeldRows.{rows_of};
 ghost use Rattle.dvg_named.specs.LaidValues.{AreLow, laid_sections};
-ghost use Rattle.dvg_named.specs.Places.{doings};
+ghost use Rattle.dvg_rows.specs.RowPlaces.{doings};
 
 use crate::drafting::draft_of;
 use crate::laid::LaidRows;
-use crate::row::Row;
 use dvg_frame::Op;
+use dvg_rows::Row;
 use std::alloc::Allocator;
 
 /// Why the operations of a frame are not added.

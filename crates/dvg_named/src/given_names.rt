@@ -2,7 +2,7 @@
 ghost use Rattle.std.specs.Prelude.{◌≡◌, ◌↔◌, Contains, IsTrue};
 ghost use Rattle.dvg_read.specs.LineParts.{bytes_of};
 
-use crate::line_fault::LineFault;
+use dvg_rows::LineFault;
 use std::alloc::Allocator;
 
 /// The names that were given, in order, each once.
@@ -15,7 +15,7 @@ impl<'a, A: Allocator> GivenNames<'a, A> {
     ghost use Rattle.std.specs.Prelude.{◌≡◌, ◌++◌, [], IfErr, OnOk};
     ghost use Rattle.std.specs.Option.{option_to_list};
     ghost use Rattle.dvg_read.specs.LineParts.{bytes_of};
-    ghost use Rattle.dvg_named.specs.RowValues.{name_of};
+    ghost use Rattle.dvg_rows.specs.RowValues.{name_of};
     ghost use Rattle.dvg_named.specs.GivenNames.{IsFresh, StopsNames};
 
     /// No names.

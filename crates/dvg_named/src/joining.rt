@@ -10,10 +10,9 @@ ghost use Rattle.dvg_named.specs.OpSources.{op_sources};
 use crate::flat_draft::{DraftFault, push_draft};
 use crate::frame_rows::FrameRows;
 use crate::laid::LaidRows;
-use crate::meaning::Source;
-use crate::row::Row;
 use dvg_code::OutOfMemory;
 use dvg_frame::Op;
+use dvg_rows::{Row, Source};
 use std::alloc::Allocator;
 
 /// Where the operations of a frame stand in a list of those of all frames.

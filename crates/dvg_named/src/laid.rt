@@ -4,13 +4,12 @@ ghost use Rattle.std.specs.Prelude.{unwrap_or, IfNone, IfOk, IfSome, Some};
 ghost use Rattle.dvg_read.specs.RomTexts.{RomLine};
 ghost use Rattle.dvg_named.specs.LaidValues.{AreLaid, AreLow, NoneNames, laid_sections, rows_in};
 ghost use Rattle.dvg_named.specs.LaidValues.{rows_laid, sections_of};
-ghost use Rattle.dvg_named.specs.NamedFaults.{AreDistinct, names_of};
-ghost use Rattle.dvg_named.specs.Places.{IsAddress, free_after, size as words_of_rows};
+ghost use Rattle.dvg_rows.specs.RowPlaces.{AreDistinct, names_of};
+ghost use Rattle.dvg_named.specs.Places.{IsAddress, free_after};
+ghost use Rattle.dvg_rows.specs.RowPlaces.{size as words_of_rows};
 
-use crate::number::place_of;
-use crate::row::Row;
-use crate::sizes::size;
 use dvg_code::OutOfMemory;
+use dvg_rows::{Row, place_of, size};
 use std::alloc::Allocator;
 
 /// The rows of a section of the ROM, and the word address that its line `.rom` gives, if it gives

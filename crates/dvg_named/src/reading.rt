@@ -2,28 +2,24 @@
 ghost use Rattle.std.specs.Prelude.{◌↔◌, IfNone, IfSome, IsTrue};
 ghost use Rattle.dvg_named.specs.RowMoves.{IsCounted, IsFull};
 ghost use Rattle.dvg_named.specs.RomBytes.{MayBeEncoded};
-ghost use Rattle.dvg_named.specs.RowValues.{doing_of, row_of};
-ghost use Rattle.dvg_named.specs.Rows.{plainly, rom};
+ghost use Rattle.dvg_rows.specs.RowValues.{doing_of, row_of};
+ghost use Rattle.dvg_rows.specs.Rows.{plainly, rom};
 ghost use Rattle.dvg_named.specs.Sections.{MayStand};
 
 use crate::frame_rows::{FrameRows, frame_rows};
 use crate::given_names::GivenNames;
 use crate::joining::{JoinedFrames, join_frames};
 use crate::laid::{LaidRows, lay};
-use crate::line_fault::LineFault;
-use crate::meaning::Source;
-use crate::part::Part;
 use crate::rom_area::RomArea;
 use crate::rom_sections::rom_rows;
 use crate::rom_words::{RomRow, put_sections};
-use crate::row::{Doing, Head, Row, read_head, read_row};
-use crate::sizes::words_of_row;
 use crate::told_rom::ToldRom;
 use crate::unknown::first_unknown;
 use arrayvec::ArrayVec;
 use dvg_code::OutOfMemory;
 use dvg_frame::OpKind;
 use dvg_mem::LARGE_ROM_BYTES;
+use dvg_rows::{Doing, Head, LineFault, Part, Row, Source, read_head, read_row, words_of_row};
 use std::alloc::Allocator;
 use std::mem;
 
@@ -56,8 +52,8 @@ impl<'a, A: Allocator + Copy> Reading<'a, A> {
     ghost use Rattle.dvg_read.specs.RomReading.{untold};
     ghost use Rattle.dvg_read.specs.RomTexts.{RomText};
     ghost use Rattle.dvg_read.specs.RomReading.{TellsRom};
-    ghost use Rattle.dvg_named.specs.RowValues.{head_of, name_of, row_of};
-    ghost use Rattle.dvg_named.specs.Rows.{IsHeadLine, IsRowLine, Row as SpelledRow, frame, rom};
+    ghost use Rattle.dvg_rows.specs.RowValues.{head_of, name_of, row_of};
+    ghost use Rattle.dvg_rows.specs.Rows.{IsHeadLine, IsRowLine, Row as SpelledRow, frame, rom};
     ghost use Rattle.dvg_named.specs.RowMoves.{IsFrameHead, IsRomHead};
     ghost use Rattle.dvg_named.specs.SketchReading.{IsBare, Opens, Reads, ReadsMore, StopsSketch};
     ghost use Rattle.dvg_named.specs.SketchReading.{head_in, spelled_in};
@@ -65,7 +61,7 @@ impl<'a, A: Allocator + Copy> Reading<'a, A> {
     ghost use Rattle.dvg_named.specs.RomBytes.{IsFirstInRom};
     ghost use Rattle.dvg_named.specs.LaidValues.{laid_sections};
     ghost use Rattle.dvg_named.specs.NamedFaults.{laid_of};
-    ghost use Rattle.dvg_named.specs.PlainLines.{plain};
+    ghost use Rattle.dvg_rows.specs.PlainLines.{plain};
     ghost use Rattle.dvg_named.specs.TextReading.{ReadsText};
     ghost use Rattle.dvg_named.specs.SketchSteps.{AreParts, line_of};
     ghost use Rattle.dvg_named.specs.SourcedRows.{AreSourced, BeginsIn, IsHeadAt, IsLineAt};

@@ -3,9 +3,9 @@ ghost use Rattle.std.specs.Prelude.{◌≡◌, ◌+◌, ◌≤◌, ◌<◌, ◌�
 ghost use Rattle.std.specs.Prelude.{get_or, true, false, IfErr, IsTrue, OnOk};
 ghost use Rattle.dvg_named.specs.RomAreas.{BeginsAt, IsFree, StopsArea, StopsBegin, Takes};
 
-use crate::line_fault::LineFault;
 use crate::rom_words::ROM_END;
 use dvg_mem::FIRST_ROM_WORD;
+use dvg_rows::LineFault;
 
 /// The words that sections take which were laid, and where the next word is laid.
 #[derive(Drop)]

@@ -7,7 +7,7 @@ ghost use Rattle.dvg_code.specs.Words.{word_in};
 ghost use Rattle.dvg_frame.specs.declared.op.OpKind.TheVariants.{Call, Jump};
 ghost use Rattle.dvg_frame.specs.Ops.{IsOp};
 ghost use Rattle.dvg_read.specs.RomTexts.{IsRomOf, RomText};
-ghost use Rattle.dvg_named.specs.HeldRows.{rows_of};
+ghost use Rattle.dvg_rows.specs.HeldRows.{rows_of};
 ghost use Rattle.dvg_named.specs.LaidValues.{AreLow, IsAddressIn, NoneNames, laid_section};
 ghost use Rattle.dvg_named.specs.LaidValues.{laid_sections};
 ghost use Rattle.dvg_named.specs.Meanings.{IsEncoded};
@@ -15,14 +15,14 @@ ghost use Rattle.dvg_named.specs.NamedFaults.{IsUngiven};
 ghost use Rattle.dvg_named.specs.Places.{IsAddress, Laid, laid_end};
 ghost use Rattle.dvg_named.specs.RomBytes.{ArePut, IsFirstInRom, LieInRom, MayBeEncoded};
 ghost use Rattle.dvg_named.specs.RomBytes.{MayStandInRom, PutsSection, TellsSections};
-ghost use Rattle.dvg_named.specs.RowValues.{doing_of};
-ghost use Rattle.dvg_named.specs.Rows.{plainly};
+ghost use Rattle.dvg_rows.specs.RowValues.{doing_of};
+ghost use Rattle.dvg_rows.specs.Rows.{plainly};
 ghost use Rattle.dvg_named.specs.Ungiven.{IsFirstInSection, WantsAt, WantsInRom, in_rom};
 
 use crate::laid::{LaidRows, address_of};
-use crate::row::Doing;
 use dvg_code::{Code, Instr, encode};
 use dvg_frame::OpKind;
+use dvg_rows::Doing;
 
 /// The word address after the ROM's last word.
 pub(crate) const ROM_END: usize = 0xC00;

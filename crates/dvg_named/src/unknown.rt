@@ -3,20 +3,18 @@ ghost use Rattle.std.specs.Prelude.{◌≡◌, ◌↔◌, ◌<◌, ℕ, All, IfN
 ghost use Rattle.std.specs.Prelude.{length, slice_get, List};
 ghost use Rattle.dvg_named.specs.FirstUnknown.{FirstOf, HasLines, WantsIn, WantsNone, WantsRow};
 ghost use Rattle.dvg_named.specs.FirstUnknown.{all_sections, entries_held, section_held};
-ghost use Rattle.dvg_named.specs.HeldRows.{rows_of};
+ghost use Rattle.dvg_rows.specs.HeldRows.{rows_of};
 ghost use Rattle.dvg_named.specs.LaidValues.{AreLow, NoneNames, laid_sections};
 ghost use Rattle.dvg_named.specs.LineNumbers.{entries_last};
 ghost use Rattle.dvg_named.specs.NamedFaults.{IsLost, IsUngiven};
-ghost use Rattle.dvg_named.specs.Places.{IsNumber};
-ghost use Rattle.dvg_named.specs.RowValues.{doing_of, head_of, row_of};
+ghost use Rattle.dvg_rows.specs.RowPlaces.{IsNumber};
+ghost use Rattle.dvg_rows.specs.RowValues.{doing_of, head_of, row_of};
 ghost use Rattle.dvg_named.specs.Sections.{Section};
 ghost use Rattle.dvg_named.specs.SketchReading.{head_in, section_in};
 ghost use Rattle.dvg_named.specs.Ungiven.{IsFirstUngiven, WantsAt};
 
 use crate::laid::{LaidRows, address_of};
-use crate::number::number_of;
-use crate::part::Part;
-use crate::row::{Doing, Head, Row};
+use dvg_rows::{Doing, Head, Part, Row, number_of};
 use std::alloc::Allocator;
 
 /// The number of the line of the first row that wants a name which isn't given, in the order of the

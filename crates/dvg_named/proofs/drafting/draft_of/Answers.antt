@@ -1,10 +1,10 @@
 use Rattle.std.proofs.Common.{◌≡◌, ◌+◌, ◌∙◌, ◌++◌, [], ◌∷◌, ap, arith, below_more, length, length-append, refl, rules, sym, subst, take}
 use Rattle.std.specs.List.{AllZip}
-use Rattle.dvg_named.specs.HeldRows.{rows_of}
+use Rattle.dvg_rows.specs.HeldRows.{rows_of}
 use Rattle.dvg_named.specs.LaidValues.{laid_sections}
 use Rattle.dvg_named.specs.Meanings.{IsDrafted}
-use Rattle.dvg_named.specs.Places.{doings}
-use Rattle.dvg_named.specs.RowValues.{doing_of}
+use Rattle.dvg_rows.specs.RowPlaces.{doings}
+use Rattle.dvg_rows.specs.RowValues.{doing_of}
 use Rattle.dvg_named.specs.Ungiven.{framed}
 use Rattle.dvg_named.proofs.DraftRows.{does_known, does_nothing, drafted_known, first_ungiven, front_doings, no_doing, nothing_left}
 use Rattle.dvg_named.proofs.DraftRows.{one_doing, zip_more}

@@ -1,5 +1,5 @@
 use Rattle.std.proofs.Common.{arith}
-use Rattle.dvg_named.specs.HeldRows.{rows_of}
+use Rattle.dvg_rows.specs.HeldRows.{rows_of}
 use Rattle.dvg_named.proofs.DraftRows.{number_most}
 use Rattle.dvg_named.proofs.drafting.op_of.Goals as goal
 

@@ -1,11 +1,11 @@
 use Rattle.std.proofs.Common.{◌≤◌, ◌+◌, ◌∙◌, ap, arith, below_more, drop, length, subst, take, Some}
 use Rattle.std.proofs.lemmas.List.{get_or_default}
 use Rattle.dvg_named.specs.declared.laid.LaidRows as held
-use Rattle.dvg_named.specs.HeldRows.{rows_of}
+use Rattle.dvg_rows.specs.HeldRows.{rows_of}
 use Rattle.dvg_named.specs.LaidValues.{laid_section, laid_sections}
-use Rattle.dvg_named.specs.Places.{IsNamedAfter}
+use Rattle.dvg_rows.specs.RowPlaces.{IsNamedAfter}
 use Rattle.dvg_named.proofs.NamedSections.{low_at, map_cut_at, no_address, one_address}
-use Rattle.dvg_named.proofs.RowSizes.{size_front}
+use Rattle.dvg_rows.proofs.RowSizes.{size_front}
 use Rattle.dvg_named.proofs.laid.address_of.Goals as goal
 
 pub size-requires : goal.size-requires

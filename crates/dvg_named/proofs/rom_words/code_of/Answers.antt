@@ -1,8 +1,8 @@
 use Rattle.std.proofs.Common.{◌≡◌, ◌∙◌, ap, subst, sym}
 use Rattle.dvg_named.specs.LaidValues.{laid_sections}
 use Rattle.dvg_named.specs.Meanings.{IsEncoded}
-use Rattle.dvg_named.specs.RowValues.{doing_of}
-use Rattle.dvg_named.specs.Rows.{plainly}
+use Rattle.dvg_rows.specs.RowValues.{doing_of}
+use Rattle.dvg_rows.specs.Rows.{plainly}
 use Rattle.dvg_named.proofs.rom_words.code_of.Goals as goal
 
 pub plain_code-requires-clause-may : goal.plain_code-requires-clause-may

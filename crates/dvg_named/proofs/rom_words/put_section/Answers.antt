@@ -1,11 +1,11 @@
 use Rattle.std.proofs.Common.{◌≡◌, ◌≤◌, ◌+◌, ◌-◌, ◌∙◌, [], arith, below_more, length, refl, subst, sym, take}
 use Rattle.std.proofs.lemmas.List.{length-map, take_all}
 use Rattle.dvg_code.specs.Spelling.{canon}
-use Rattle.dvg_named.specs.HeldRows.{rows_of}
+use Rattle.dvg_rows.specs.HeldRows.{rows_of}
 use Rattle.dvg_named.specs.LaidValues.{laid_section, laid_sections}
-use Rattle.dvg_named.specs.Places.{doings}
+use Rattle.dvg_rows.specs.RowPlaces.{doings}
 use Rattle.dvg_named.specs.RomBytes.{ArePut}
-use Rattle.dvg_named.specs.RowValues.{doing_of, row_of}
+use Rattle.dvg_rows.specs.RowValues.{doing_of, row_of}
 use Rattle.dvg_named.specs.Ungiven.{in_rom}
 use Rattle.dvg_named.proofs.DraftRows.{does_known, does_nothing, first_ungiven, no_doing, nothing_left, one_doing}
 use Rattle.dvg_named.proofs.RomWritten.{Written, code_room, encoded_known, may_at, none_wants, same_in_rom, section_put}

@@ -1,7 +1,7 @@
 use Rattle.std.proofs.Common.{◌≤◌, below_more, length, refl, arith}
 use Rattle.dvg_named.specs.FirstUnknown.{section_held}
 use Rattle.dvg_named.specs.LaidValues.{laid_sections}
-use Rattle.dvg_named.specs.RowValues.{row_of}
+use Rattle.dvg_rows.specs.RowValues.{row_of}
 use Rattle.dvg_named.proofs.DraftRows.{stands_at, wants_none}
 use Rattle.dvg_named.proofs.UnknownRows.{wants_at, wants_nowhere}
 use Rattle.dvg_named.proofs.unknown.first_in.Goals as goal

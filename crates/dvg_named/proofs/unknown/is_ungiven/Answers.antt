@@ -1,9 +1,9 @@
 use Rattle.std.proofs.Common.{sym, subst, IsTrue}
-use Rattle.dvg_named.specs.declared.row.Doing as held_doing
+use Rattle.dvg_rows.specs.declared.row.Doing as held_doing
 use Rattle.dvg_named.specs.FirstUnknown.{section_held}
 use Rattle.dvg_named.specs.LaidValues.{laid_sections}
 use Rattle.dvg_named.specs.NamedFaults.{IsUngiven}
-use Rattle.dvg_named.specs.RowValues.{doing_of}
+use Rattle.dvg_rows.specs.RowValues.{doing_of}
 use Rattle.dvg_named.proofs.unknown.is_ungiven.Goals as goal
 
 pub returns-in-CallsRom : goal.returns-in-CallsRom

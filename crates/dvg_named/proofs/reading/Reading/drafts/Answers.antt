@@ -5,7 +5,7 @@ use Rattle.dvg_named.specs.FlatFrames.{HasFewOps, IsSpanOf, KnowsNames, frame_at
 use Rattle.dvg_named.specs.LaidValues.{laid_sections}
 use Rattle.dvg_named.specs.Meanings.{IsFrameOf}
 use Rattle.dvg_named.specs.OpSources.{AreLinesOf, HasRowLines}
-use Rattle.dvg_named.specs.Places.{doings}
+use Rattle.dvg_rows.specs.RowPlaces.{doings}
 use Rattle.dvg_named.specs.ReadSketches.{StandsIn, joined_at}
 use Rattle.dvg_named.specs.Sections.{FrameRows}
 use Rattle.dvg_named.specs.SketchReading.{spelled_in}

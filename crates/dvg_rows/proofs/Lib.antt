@@ -1,0 +1,4 @@
+pub mod LineCuts
+pub mod NamedRows
+pub mod RowSizes
+pub mod RowSpelling

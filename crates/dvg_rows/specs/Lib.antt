@@ -1,0 +1,5 @@
+pub mod HeldRows
+pub mod PlainLines
+pub mod RowPlaces
+pub mod RowValues
+pub mod Rows
