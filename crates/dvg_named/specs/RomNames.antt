@@ -11,6 +11,15 @@ names_listed = map (λ (named : RomName). named.name.now)
 abbrev pub IsNamedIn : List Laid → RomName → Type 0
 IsNamedIn laid named = IsAddress laid named.name.now named.address
 
+-- the name is listed with this address
+pub record IsListed (names : List RomName) (name : List ℕ) (address : ℕ) : Type 0 where
+  pub before : List RomName
+  pub named : RomName
+  pub after : List RomName
+  pub cut : names ≡ before ++ named ∷ after
+  pub name_is : named.name.now ≡ name
+  pub address_is : named.address ≡ address
+
 -- the section is one of these
 pub record StandsIn (laid : List Laid) (section : Laid) : Type 0 where
   pub earlier : List Laid

@@ -28,14 +28,13 @@ mod unknown;
 pub use addresses::rom_names;
 pub use drafting::draft_of;
 pub use dvg_rows::{
-    Doing, Head, MAX_WORDS, Row, Source, number_of, op_count, place_of, read_head, read_row, size,
-    words_of,
+    Doing, Head, MAX_WORDS, NamedRows, Row, Source, number_of, read_head, read_row, size, words_of,
 };
 pub use fault::{NamedFault, SketchFault};
 pub use flat_draft::{DraftFault, push_draft};
 pub use frame_rows::FrameRows;
 pub use joining::{FrameSpan, JoinedFrames, join_frames};
-pub use laid::{LaidRows, RomRows, address_of, free_with, lay};
+pub use laid::{LaidNames, LaidRows, RomRows, address_of, free_with, lay};
 pub use meaning::{NamedFrame, RomName};
 pub use rom_words::{RomRow, put_sections};
 pub use sketch::{Sketch, read_sketch};

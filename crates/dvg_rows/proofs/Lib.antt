@@ -1,4 +1,6 @@
 pub mod LineCuts
 pub mod NamedRows
+pub mod NameTables
+pub mod NumberedRows
 pub mod RowSizes
 pub mod RowSpelling

@@ -1,4 +1,5 @@
 pub mod HeldRows
+pub mod NameTables
 pub mod PlainLines
 pub mod RowPlaces
 pub mod RowValues

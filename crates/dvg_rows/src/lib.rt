@@ -5,6 +5,7 @@
 
 mod line_fault;
 mod line_words;
+mod name_table;
 mod number;
 mod part;
 mod row;
@@ -13,7 +14,8 @@ mod source;
 
 pub use line_fault::LineFault;
 pub use line_words::{MAX_WORDS, words_of};
-pub use number::{number_of, op_count, place_of};
+pub use name_table::NameTable;
+pub use number::{NamedRows, number_of};
 pub use part::Part;
 pub use row::{Doing, Head, Row, read_head, read_row};
 pub use sizes::{size, words_of_row};

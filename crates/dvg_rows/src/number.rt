@@ -1,67 +1,95 @@
 //! Which operation of a frame a name names.
-ghost use Rattle.std.specs.Prelude.{◌≡◌, ◌≤◌, ◌<◌, ◌↔◌, ℕ, List, length, IfNone, IfSome, IsSome};
-ghost use Rattle.std.specs.Prelude.{IsTrue, Some};
-ghost use Rattle.std.specs.Option.{is_some};
-ghost use Rattle.dvg_rows.specs.HeldRows.{Gives, GivesAt, IsLeast, NoneGives, rows_of};
-ghost use Rattle.dvg_rows.specs.RowPlaces.{AreDistinct, names_of};
-ghost use Rattle.dvg_rows.specs.RowPlaces.{IsNamedAfter, IsNumber, doings};
-ghost use Rattle.dvg_rows.specs.Rows.{Row as SpelledRow};
+ghost use Rattle.std.specs.Prelude.{◌≡◌, ◌≤◌, ◌∷◌, [], ℕ, length, IfNone, IfOk, IfSome, Some};
+ghost use Rattle.dvg_rows.specs.HeldRows.{rows_of};
+ghost use Rattle.dvg_rows.specs.NameTables.{Tells};
+ghost use Rattle.dvg_rows.specs.RowPlaces.{AreDistinct, IsNumber, doings, names_of};
+ghost use Rattle.dvg_rows.specs.RowValues.{row_of};
 
+use crate::name_table::NameTable;
 use crate::row::Row;
+use dvg_code::OutOfMemory;
+use std::alloc::Allocator;
+use std::marker::Model;
+
+/// Rows of a section, of which each name is known that they give.
+#[derive(Drop)]
+pub struct NamedRows<'r, 'a, A: Allocator + Copy> {
+    rows: &'r [Row<'a>],
+    numbers: NameTable<'a, A>,
+}
+
+impl<'r, 'a, A: Allocator + Copy> Model for NamedRows<'r, 'a, A> {
+    ghost use Rattle.std.specs.Prelude.{List};
+    ghost use Rattle.dvg_rows.specs.declared.row.Row.{Row as HeldRow};
+    ghost use Rattle.dvg_rows.specs.HeldRows.{rows_of};
+    ghost use Rattle.dvg_rows.specs.NameTables.{Tells};
+    ghost use Rattle.dvg_rows.specs.RowPlaces.{IsNumber};
+
+    ghost Value = { List HeldRow };
+
+    ghost view = { λ named. named.rows.now };
+
+    ghost invariant = { λ named. Tells (IsNumber (rows_of named.rows.now)) named.numbers };
+}
+
+impl<'r, 'a, A: Allocator + Copy> NamedRows<'r, 'a, A> {
+    ghost use Rattle.std.specs.Prelude.{◌≡◌, IfOk};
+
+    /// Makes the names known that rows give. A growth may be refused. The time grows with the
+    /// number of rows.
+    pub fn new(alloc: A, rows: &'r [Row<'a>]) -> Result<NamedRows<'r, 'a, A>, OutOfMemory>
+        ensures { IfOk result (λ named. named ≡ rows.now) }
+    {
+        let numbers = numbers_of(alloc, rows)?;
+        Ok(NamedRows { rows, numbers })
+    }
+
+    /// The rows, in order.
+    pub fn rows(&self) -> &'r [Row<'a>]
+        ensures { result.now ≡ self.now }
+    {
+        self.rows
+    }
+}
 
 /// The number of the operation that a name names in a frame, counted from 0: as many operations
-/// stand before the first row that gives it. None exactly where no row gives it. The time grows
+/// stand before the row that gives it. None exactly where no row gives it. The time doesn't grow
 /// with the number of rows.
 ///
 /// Where each name is given once, no other number is that of the name. A name after the last
 /// operation has the number of one that isn't there (this project's own choice).
-pub fn number_of(rows: &[Row], name: &[u8]) -> Option<usize>
-    ensures found { IfSome result (IsLeast (IsNumber (rows_of rows.now) name.now)) }
+pub fn number_of<A: Allocator + Copy>(rows: &NamedRows<'_, '_, A>, name: &[u8]) -> Option<usize>
+    ensures found { IfSome result (IsNumber (rows_of rows.now) name.now) }
     ensures none { IfNone result ((number : ℕ) → ¬ IsNumber (rows_of rows.now) name.now number) }
     ensures only { AreDistinct (names_of (rows_of rows.now)) → (number : ℕ)
         → IsNumber (rows_of rows.now) name.now number → result ≡ Some number }
 {
-    match place_of(rows, name) {
-        Some(place) => Some(op_count(&rows[..place])),
-        None => None,
-    }
+    rows.numbers.get(name)
 }
 
-/// The place of the first row that gives a name, counted from 0. None exactly where no row does.
-pub fn place_of(rows: &[Row], name: &[u8]) -> Option<usize>
-    ensures low { IfSome result (λ place. place < length rows.now) }
-    ensures found { IfSome result (GivesAt rows.now name.now) }
-    ensures first { IfSome result (λ place. (before : List SpelledRow)
-        → IsNamedAfter (rows_of rows.now) name.now before → place ≤ length before) }
-    ensures none { IfNone result (NoneGives rows.now name.now) }
+// The number of each name that rows give.
+fn numbers_of<'a, A: Allocator + Copy>(
+    alloc: A,
+    rows: &[Row<'a>],
+) -> Result<NameTable<'a, A>, OutOfMemory>
+    ensures { IfOk result (Tells (IsNumber (rows_of rows.now))) }
 {
-    for (place, row) in rows.iter().enumerate() {
-        if gives(row, name) {
-            return Some(place);
-        }
+    let mut numbers = NameTable::new(alloc);
+    let mut count = 0;
+    for row in rows {
+        numbers.put(row.name, count)?;
+        count += op_count(row);
     }
-    None
+    Ok(numbers)
 }
 
-// Whether a row gives this name.
-fn gives(row: &Row, name: &[u8]) -> bool
-    ensures { IsTrue result ↔ Gives row.now name.now }
+// How many operations a row has.
+fn op_count(row: &Row) -> usize
+    ensures value { result ≡ length (doings (row_of row.now ∷ [])) }
+    ensures most { result ≤ 1 }
 {
-    match row.name {
-        Some(given) => given == name,
-        None => false,
+    match row.doing {
+        Some(_) => 1,
+        None => 0,
     }
-}
-
-/// How many operations rows have.
-pub fn op_count(rows: &[Row]) -> usize
-    ensures value { result ≡ length (doings (rows_of rows.now)) }
-    ensures most { result ≤ length rows.now }
-{
-    let working = rows.iter().filter(
-        |row|
-            ensures { result ≡ is_some row.now.now.doing }
-        { row.doing.is_some() },
-    );
-    working.count()
 }

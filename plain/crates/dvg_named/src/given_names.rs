@@ -1,25 +1,20 @@
 //! Names that were given.
-use std::prelude::*;
-
-use crate::line_fault::LineFault;
+use dvg_rows::LineFault;
+use indexmap::IndexSet;
 use std::alloc::Allocator;
+use std::hash::{BuildHasherDefault, FoldHasher};
 
 /// The names that were given, in order, each once.
-pub(crate) struct GivenNames<'a, A: Allocator> {
-    given: Vec<&'a [u8], A>,
+pub(crate) struct GivenNames<'a, A: Allocator + Copy> {
+    given: IndexSet<&'a [u8], BuildHasherDefault<FoldHasher>, A>,
 }
 
-impl<'a, A: Allocator> GivenNames<'a, A> {
+impl<'a, A: Allocator + Copy> GivenNames<'a, A> {
     /// No names.
     pub fn new(alloc: A) -> GivenNames<'a, A> {
         GivenNames {
-            given: Vec::new(alloc),
+            given: IndexSet::new(alloc),
         }
-    }
-
-    /// None of them any more.
-    pub fn clear(&mut self) {
-        self.given.clear();
     }
 
     /// Gives one name more, if there is one.
@@ -27,27 +22,10 @@ impl<'a, A: Allocator> GivenNames<'a, A> {
         let Some(name) = name else {
             return Ok(());
         };
-        if contains(self.given.as_slice(), name) {
-            return Err(LineFault::Twice);
-        }
-        if self.given.push(name).is_err() {
-            return Err(LineFault::Memory);
-        }
-        Ok(())
-    }
-}
-
-// Whether a name is one of these. The time grows with their number.
-fn contains(names: &[&[u8]], name: &[u8]) -> bool {
-    for given in names {
-        if is_same(given, name) {
-            return true;
+        match self.given.insert(name) {
+            Ok(true) => Ok(()),
+            Ok(false) => Err(LineFault::Twice),
+            Err(_) => Err(LineFault::Memory),
         }
     }
-    false
-}
-
-// Whether two names are the same.
-fn is_same(given: &[u8], name: &[u8]) -> bool {
-    given == name
 }

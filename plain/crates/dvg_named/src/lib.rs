@@ -16,17 +16,11 @@ mod frame_rows;
 mod given_names;
 mod joining;
 mod laid;
-mod line_fault;
-mod line_words;
 mod meaning;
-mod number;
-mod part;
 mod reading;
 mod rom_area;
 mod rom_sections;
 mod rom_words;
-mod row;
-mod sizes;
 mod sketch;
 mod text_reading;
 mod told_rom;
@@ -34,15 +28,14 @@ mod unknown;
 
 pub use addresses::rom_names;
 pub use drafting::draft_of;
+pub use dvg_rows::{
+    Doing, Head, MAX_WORDS, NamedRows, Row, Source, number_of, read_head, read_row, size, words_of,
+};
 pub use fault::{NamedFault, SketchFault};
 pub use flat_draft::{DraftFault, push_draft};
 pub use frame_rows::FrameRows;
 pub use joining::{FrameSpan, JoinedFrames, join_frames};
-pub use laid::{LaidRows, RomRows, address_of, free_with, lay};
-pub use line_words::{MAX_WORDS, words_of};
-pub use meaning::{NamedFrame, RomName, Source};
-pub use number::{number_of, op_count, place_of};
+pub use laid::{LaidNames, LaidRows, RomRows, address_of, free_with, lay};
+pub use meaning::{NamedFrame, RomName};
 pub use rom_words::{RomRow, put_sections};
-pub use row::{Doing, Head, Row, read_head, read_row};
-pub use sizes::size;
 pub use sketch::{Sketch, read_sketch};

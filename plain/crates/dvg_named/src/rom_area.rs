@@ -1,7 +1,7 @@
 //! Which words of the ROM the sections take that were laid.
-use crate::line_fault::LineFault;
 use crate::rom_words::ROM_END;
 use dvg_mem::FIRST_ROM_WORD;
+use dvg_rows::LineFault;
 
 /// The words that sections take which were laid, and where the next word is laid.
 pub(crate) struct RomArea {

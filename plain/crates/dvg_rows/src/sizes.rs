@@ -1,6 +1,5 @@
 //! How many words rows take in the ROM.
 use crate::row::{Doing, Row};
-use dvg_code::{Code, Instr};
 use dvg_frame::OpKind;
 
 /// How many words rows take: two for each VCTR and each LABS, one for each other operation, and
@@ -14,7 +13,7 @@ pub fn size(rows: &[Row]) -> usize {
 }
 
 /// How many words one row takes.
-pub(crate) fn words_of_row(row: &Row) -> usize {
+pub fn words_of_row(row: &Row) -> usize {
     match &row.doing {
         Some(doing) => words_of_doing(doing),
         None => 0,
@@ -32,15 +31,7 @@ fn words_of_doing(doing: &Doing) -> usize {
 // How many words an operation takes.
 fn words_of_kind(kind: OpKind) -> usize {
     match kind {
-        OpKind::Draw(code) => words_of_code(code),
+        OpKind::Draw(code) => usize::from(code.word_count()),
         _ => 1,
-    }
-}
-
-// How many words an instruction takes.
-fn words_of_code(code: Code) -> usize {
-    match code.instr() {
-        Instr::Vctr { .. } | Instr::Labs { .. } => 2,
-        Instr::Halt | Instr::Jsrl(_) | Instr::Rtsl | Instr::Jmpl(_) | Instr::Svec { .. } => 1,
     }
 }

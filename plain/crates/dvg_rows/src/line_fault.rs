@@ -1,7 +1,7 @@
 //! Why a line of a sketch was not taken.
 /// Why a line of a sketch was not taken.
 #[derive(Clone, Copy)]
-pub(crate) enum LineFault {
+pub enum LineFault {
     /// It spells nothing that may stand at its place.
     Syntax,
     /// It gives a name that was given before.

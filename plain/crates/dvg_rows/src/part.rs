@@ -2,13 +2,13 @@
 use std::prelude::*;
 
 use crate::line_fault::LineFault;
-use crate::meaning::Source;
 use crate::row::{Head, Row};
+use crate::source::Source;
 use std::alloc::Allocator;
 use std::slice;
 
 /// A section that was read.
-pub(crate) struct Part<'a, A: Allocator> {
+pub struct Part<'a, A: Allocator> {
     /// How its line begins it. That at the top has none.
     pub head: Option<Head<'a>>,
     /// The line that begins it. That at the top begins with the text's first line.
