@@ -1,5 +1,5 @@
 pub mod LineCuts
-pub mod NamedRows
+pub mod RowNames
 pub mod NameTables
 pub mod NumberedRows
 pub mod RowSizes

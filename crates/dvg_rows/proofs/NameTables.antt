@@ -1,8 +1,8 @@
 -- What tables of names tell, with a name more.
 use Rattle.std.proofs.Common.{◌≡◌, ℕ, List, Bool, true, false, Option, Some, None, cond, refl, sym, ap, subst, ◌∙◌}
-use Rattle.std.proofs.Common.{false≢true}
+use Rattle.std.proofs.lemmas.Bool.{false≢true}
 use Rattle.std.proofs.lemmas.Bool.Decides.{Decides-eqb}
-use Rattle.std.specs.Prelude.{IfNone, IfSome}
+use Rattle.std.specs.Prelude.{IfNone}
 use Rattle.std.specs.Borrow.{Bor}
 use Rattle.std.specs.Cmp.Lexicographic.{pointwise_decides}
 use Rattle.dvg_rows.specs.declared.name_table.NameTable.{NameTable}
@@ -48,10 +48,6 @@ tells_more P Q (Some name) number old new is wider narrower here tells other = b
         false≢true (sym e ∙ (pointwise_decides Decides-eqb name.now other.now).1 same))) (tells other))
 
 -- ---- what is found
-
-pub found_some : (P : ℕ → Type 0) (found : Option ℕ) → IsFound P found → IfSome found P
-found_some P None h = tt
-found_some P (Some number) h = h
 
 pub found_none : (P : ℕ → Type 0) (found : Option ℕ) → IsFound P found → IfNone found ((number : ℕ) → ¬ P number)
 found_none P None h = h

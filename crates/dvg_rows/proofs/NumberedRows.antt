@@ -11,20 +11,20 @@ name_in row = row.name
 -- a row that gives a name, and isn't the last one, stands before it
 named_before : (rows before after : List Row) (row other : Row) (name : List ℕ) → rows ++ row ∷ [] ≡ before ++ other ∷ after
     → other.name ≡ Some name → ¬ (row.name ≡ Some name) → IsNamedAfter rows name before
-named_before [] [] after row other name cut gives no =
-    let same : row ≡ other = cc in absurd (no (ap name_in same ∙ gives))
-named_before [] (x ∷ before) after row other name cut gives no =
+named_before [] [] after row other name cut gives not_last =
+    let same : row ≡ other = cc in absurd (not_last (ap name_in same ∙ gives))
+named_before [] (x ∷ before) after row other name cut gives not_last =
     let size : 1 ≡ suc (length before + suc (length after)) =
     ap length cut ∙ ap suc (length-append before (other ∷ after)) in
     absurd (omega (arith, size))
-named_before (first ∷ rows) [] after row other name cut gives no = record {
+named_before (first ∷ rows) [] after row other name cut gives not_last = record {
   row = first;
   after = rows;
   cut = refl;
   gives = ap name_in (let same : first ≡ other = cc in same) ∙ gives;
 }
-named_before (first ∷ rows) (x ∷ before) after row other name cut gives no =
-    let rest = named_before rows before after row other name (cc) gives no in
+named_before (first ∷ rows) (x ∷ before) after row other name cut gives not_last =
+    let rest = named_before rows before after row other name (cc) gives not_last in
     let same : first ≡ x = cc in
     let cut_rest = rest.cut in
     record { row = rest.row; after = rest.after; cut = cc; gives = rest.gives }
@@ -32,9 +32,9 @@ named_before (first ∷ rows) (x ∷ before) after row other name cut gives no =
 -- a name that the last row doesn't give has no number more
 pub narrower : (rows : List Row) (row : Row) (name : List ℕ) (number : ℕ) → ¬ (row.name ≡ Some name)
     → IsNumber (rows ++ row ∷ []) name number → IsNumber rows name number
-narrower rows row name number no h = record {
+narrower rows row name number not_last h = record {
   before = h.before;
-  named = named_before rows h.before h.named.after row h.named.row name h.named.cut h.named.gives no;
+  named = named_before rows h.before h.named.after row h.named.row name h.named.cut h.named.gives not_last;
   count = h.count;
 }
 

@@ -1,5 +1,5 @@
 -- Names with numbers, which are looked up.
-use Rattle.std.specs.Prelude.{◌≡◌, ℕ, List, Bool, Option, None, Some, cond, nat_eq}
+use Rattle.std.specs.Prelude.{ℕ, List, Bool, Option, None, Some, cond, nat_eq}
 use Rattle.std.specs.Borrow.{Bor}
 use Rattle.std.specs.Cmp.Lexicographic.{pointwise}
 use Rattle.indexmap.specs.IndexMap.{get}

@@ -8,7 +8,7 @@ use Rattle.std.specs.List.{cons_option}
 use Rattle.dvg_rows.specs.declared.row.Row as held
 use Rattle.dvg_rows.specs.HeldRows.{rows_of}
 use Rattle.dvg_rows.specs.RowPlaces.{AreDistinct, names_of}
-use Rattle.dvg_rows.specs.RowPlaces.{IsNamedAfter, IsNumber, doings}
+use Rattle.dvg_rows.specs.RowPlaces.{IsNumber, doings}
 use Rattle.dvg_rows.specs.RowValues.{row_of}
 use Rattle.dvg_rows.specs.Rows.{Row}
 
