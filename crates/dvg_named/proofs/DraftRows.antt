@@ -19,6 +19,13 @@ use Rattle.dvg_rows.specs.Rows.{Doing, Row, plainly, calls, jumps, calls_rom, ju
 use Rattle.dvg_named.specs.Sections.{Section}
 use Rattle.dvg_named.specs.Ungiven.{IsFirstUngiven, WantsAt, framed}
 
+-- what stands at a place of a list stands there in the same list by another name
+pub low_in : {X : Type 0} {xs ys : List X} (i : ℕ) → xs ≡ ys → i < length xs → i < length ys
+low_in i same low = subst (λ l. i < length l) same low
+
+pub at_in : {X : Type 0} {xs ys : List X} (i : ℕ) (x : X) → xs ≡ ys → x ≡ get_or xs i x → x ≡ get_or ys i x
+at_in i x same is = is ∙ ap (λ l. get_or l i x) same
+
 abbrev doing_in : Row → Option Doing
 doing_in row = row.doing
 

@@ -19,6 +19,7 @@ mod SourcedMore
 mod RomFew
 mod FrameLists
 mod NamesLaid
+mod ListedNames
 mod RomGiven
 mod EntriesMore
 mod NumberSteps

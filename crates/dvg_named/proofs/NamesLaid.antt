@@ -15,7 +15,7 @@ use Rattle.dvg_rows.specs.RowPlaces.{size}
 use Rattle.dvg_named.specs.RomNames.{StandsIn}
 use Rattle.dvg_rows.specs.RowValues.{name_of, row_of}
 use Rattle.dvg_rows.specs.Rows.{Row}
-use Rattle.dvg_rows.proofs.NamedRows.{cut_at}
+use Rattle.dvg_rows.proofs.RowNames.{cut_at}
 use Rattle.dvg_named.proofs.NamedSections.{map_cut_at}
 use Rattle.dvg_named.proofs.NamesMore.{names_more}
 

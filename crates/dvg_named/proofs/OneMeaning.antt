@@ -18,7 +18,7 @@ use Rattle.dvg_rows.specs.RowPlaces.{doings}
 use Rattle.dvg_rows.specs.PlainLines.{plain_lines}
 use Rattle.dvg_rows.specs.Rows.{Doing, Row, plainly, calls, jumps, calls_rom, jumps_rom}
 use Rattle.dvg_named.specs.Sections.{FrameRows, Spelled, frames, rom_sections}
-use Rattle.dvg_rows.proofs.NamedRows.{one_number}
+use Rattle.dvg_rows.proofs.RowNames.{one_number}
 use Rattle.dvg_named.proofs.NamedSections.{one_address}
 use Rattle.dvg_named.proofs.OneSketch.{one_sketch}
 use Rattle.dvg_named.proofs.SketchWhole.{rows_are}

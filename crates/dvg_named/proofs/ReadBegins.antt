@@ -5,18 +5,18 @@ use Rattle.std.specs.Option.{option_to_list}
 use Rattle.dvg_read.specs.LineParts.{bytes_of}
 use Rattle.dvg_read.specs.RomReading.{TellsRom, untold}
 use Rattle.dvg_read.specs.RomTexts.{RomText, first_told}
-use Rattle.dvg_named.specs.declared.given_names.GivenNames.{GivenNames}
+use Rattle.dvg_rows.specs.declared.given_names.GivenNames.{GivenNames}
 use Rattle.dvg_rows.specs.declared.line_fault.LineFault.{LineFault}
 use Rattle.dvg_rows.specs.declared.line_fault.LineFault.TheVariants.{Full, Memory, OutOfRom, Overlap, Syntax, Twice}
 use Rattle.dvg_named.specs.declared.reading.Reading.{Reading}
-use Rattle.dvg_named.specs.declared.rom_area.RomArea.{RomArea}
+use Rattle.dvg_rows.specs.declared.rom_area.RomArea.{RomArea}
 use Rattle.dvg_named.specs.declared.told_rom.ToldRom.{ToldRom}
-use Rattle.dvg_named.specs.GivenNames.{IsFresh, StopsNames}
+use Rattle.dvg_rows.specs.FreshNames.{IsFresh, StopsNames}
 use Rattle.dvg_rows.specs.HeldRows.{rows_of}
 use Rattle.dvg_named.specs.NamedFaults.{KeepsLimits}
 use Rattle.dvg_rows.specs.RowPlaces.{AreDistinct}
 use Rattle.dvg_named.specs.ReadParts.{KeepsNext, free_told, sketch_of}
-use Rattle.dvg_named.specs.RomAreas.{BeginsAt, StopsBegin}
+use Rattle.dvg_rows.specs.RomAreas.{BeginsAt, StopsBegin}
 use Rattle.dvg_rows.specs.Rows.{Head, IsHeadLine, frame, rom, top}
 use Rattle.dvg_named.specs.Sections.{Section}
 use Rattle.dvg_named.specs.SketchReading.{IsBare, Keeps, Opens, Reads, ReadsMore, StopsSketch, closed_in, head_in, section_in, spelled_in}

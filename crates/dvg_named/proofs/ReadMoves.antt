@@ -4,14 +4,14 @@ use Rattle.std.proofs.Common.{append-nil, unwrap_or, All, true, false, Option, N
 use Rattle.std.specs.List.{filter_map, flat_map}
 use Rattle.std.specs.Option.{option_to_list}
 use Rattle.dvg_read.specs.RomTexts.{RomText, first_told}
-use Rattle.dvg_named.specs.declared.rom_area.RomArea.{RomArea}
-use Rattle.dvg_named.specs.GivenNames.{IsAgain, IsFresh}
+use Rattle.dvg_rows.specs.declared.rom_area.RomArea.{RomArea}
+use Rattle.dvg_rows.specs.FreshNames.{IsAgain, IsFresh}
 use Rattle.dvg_named.specs.NamedFaults.{DraftsFit, GivesOnce, LieApart, RomFits}
 use Rattle.dvg_rows.specs.RowPlaces.{names_of}
 use Rattle.dvg_named.specs.Places.{Laid}
 use Rattle.dvg_rows.specs.RowPlaces.{doings, size}
 use Rattle.dvg_named.specs.ReadParts.{KeepsArea, KeepsFrame, KeepsNext, StartsAtTop, free_from, free_told, front_roms, sketch_of}
-use Rattle.dvg_named.specs.RomAreas.{BeginsAt, IsFree, Takes}
+use Rattle.dvg_rows.specs.RomAreas.{BeginsAt, IsFree, Takes}
 use Rattle.dvg_named.specs.RomParts.{rom_list}
 use Rattle.dvg_named.specs.RowMoves.{IsCounted, IsFrameHead, IsFull}
 use Rattle.dvg_rows.specs.Rows.{Head, IsHeadLine, IsRowLine, Row, frame, rom, top}

@@ -5,19 +5,19 @@ use Rattle.std.specs.Option.{option_to_list}
 use Rattle.dvg_read.specs.LineParts.{bytes_of}
 use Rattle.dvg_read.specs.RomTexts.{RomText}
 use Rattle.dvg_read.specs.Texts.{parts}
-use Rattle.dvg_named.specs.declared.given_names.GivenNames.{GivenNames}
+use Rattle.dvg_rows.specs.declared.given_names.GivenNames.{GivenNames}
 use Rattle.dvg_rows.specs.declared.line_fault.LineFault.{LineFault}
 use Rattle.dvg_rows.specs.declared.line_fault.LineFault.TheVariants.{Full, Memory, OutOfRom, Overlap, Syntax, Twice}
 use Rattle.dvg_rows.specs.declared.part.Part.{Part}
 use Rattle.dvg_named.specs.declared.reading.Reading.{Reading}
-use Rattle.dvg_named.specs.declared.rom_area.RomArea.{RomArea}
+use Rattle.dvg_rows.specs.declared.rom_area.RomArea.{RomArea}
 use Rattle.dvg_rows.specs.declared.row.Row as held_row
-use Rattle.dvg_named.specs.GivenNames.{IsAgain, IsFresh, StopsNames}
+use Rattle.dvg_rows.specs.FreshNames.{IsAgain, IsFresh, StopsNames}
 use Rattle.dvg_rows.specs.HeldRows.{rows_of}
 use Rattle.dvg_named.specs.NamedFaults.{DraftsFit, GivesOnce, LieApart, RomFits}
 use Rattle.dvg_rows.specs.RowPlaces.{size}
 use Rattle.dvg_named.specs.ReadParts.{sketch_of}
-use Rattle.dvg_named.specs.RomAreas.{StopsArea, Takes}
+use Rattle.dvg_rows.specs.RomAreas.{StopsArea, Takes}
 use Rattle.dvg_named.specs.RowMoves.{IsCounted, IsFrameHead, IsFull, IsRomHead}
 use Rattle.dvg_rows.specs.Rows.{Head, IsRowLine, Row, frame, rom, top}
 use Rattle.dvg_rows.specs.RowValues.{row_of}

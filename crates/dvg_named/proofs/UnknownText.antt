@@ -165,6 +165,11 @@ has_lines small part h = zip_lengths _ part.rows.items part.sources.items h.rows
 pub have_lines : {A : Type 0} (small : List ℕ) (parts : List (Part A)) → All (IsPartAt small) parts → All HasLines parts
 have_lines small parts all = λ k d low. has_lines small (get_or parts k d) (all k d low)
 
+-- what is so of a number that was found
+pub of_some : (P : ℕ → Type 0) (found : Option ℕ) (n : ℕ) → found ≡ Some n → IfSome found P → P n
+of_some P None n e h = absurd cc
+of_some P (Some m) n e h = subst P (let same : m ≡ n = cc in same) h
+
 -- what follows from a row that was found first
 pub if_found : (P : Entry → Type 0) (entries : List Entry) (Q : ℕ → Type 0) (found : Option ℕ) → FirstOf P entries found
     → ((n : ℕ) → IsFirstOf P entries n → Q n) → IfSome found Q

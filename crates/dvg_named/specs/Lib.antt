@@ -3,7 +3,6 @@ pub mod FirstUnknown
 pub mod FlatDrafts
 pub mod FlatFrames
 pub mod FrameValues
-pub mod GivenNames
 pub mod GivenRoms
 pub mod LaidValues
 pub mod LineNumbers
@@ -13,7 +12,6 @@ pub mod OpSources
 pub mod Places
 pub mod ReadParts
 pub mod ReadSketches
-pub mod RomAreas
 pub mod RomBytes
 pub mod RomNames
 pub mod RomParts

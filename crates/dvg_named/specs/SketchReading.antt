@@ -4,7 +4,7 @@ use Rattle.dvg_read.specs.LineParts.{bytes_of}
 use Rattle.dvg_read.specs.RomTexts.{RomText}
 use Rattle.dvg_rows.specs.declared.line_fault.LineFault.{LineFault}
 use Rattle.dvg_rows.specs.declared.line_fault.LineFault.TheVariants.{Full, Memory, OutOfRom, Overlap, Syntax, Twice}
-use Rattle.dvg_named.specs.declared.rom_area.RomArea.{RomArea}
+use Rattle.dvg_rows.specs.declared.rom_area.RomArea.{RomArea}
 use Rattle.dvg_rows.specs.declared.part.Part.{Part}
 use Rattle.dvg_named.specs.declared.reading.Reading.{Reading}
 use Rattle.dvg_rows.specs.declared.row.Head as held_head

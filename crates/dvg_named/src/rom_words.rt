@@ -22,11 +22,8 @@ ghost use Rattle.dvg_named.specs.Ungiven.{IsFirstInSection, WantsAt, WantsInRom,
 use crate::laid::{LaidNames, LaidRows, address_of};
 use dvg_code::{Code, Instr, encode};
 use dvg_frame::OpKind;
-use dvg_rows::Doing;
+use dvg_rows::{Doing, ROM_END};
 use std::alloc::Allocator;
-
-/// The word address after the ROM's last word.
-pub(crate) const ROM_END: usize = 0xC00;
 
 /// A row of a section of the ROM, by the numbers of both, counted from 0.
 #[derive(Clone, Copy, Debug, PartialEq, Eq)]

@@ -4,6 +4,9 @@ ghost use Rattle.std.specs.Char.{to_ascii_lowercase};
 ghost use Rattle.dvg_named.specs.FirstUnknown.{WantsNone, sections_in};
 ghost use Rattle.dvg_named.specs.GivenRoms.{IsLaidText};
 ghost use Rattle.dvg_named.specs.LaidValues.{laid_sections};
+ghost use Rattle.dvg_named.specs.NamedFaults.{laid_of};
+ghost use Rattle.dvg_named.specs.SketchReading.{Reads, spelled_in};
+ghost use Rattle.dvg_read.specs.RomTexts.{RomText};
 ghost use Rattle.dvg_named.specs.ReadSketches.{AreInside, IsReadOf};
 ghost use Rattle.dvg_named.specs.TextReading.{ReadsText, StopsText};
 
@@ -126,6 +129,8 @@ fn unknown<A: Allocator + Copy>(
     laid: &LaidNames<'_, '_, '_, A>,
 ) -> SketchFault
     requires text { IsLaidText reading.now laid.now }
+    requires laid { (told : RomText) → Reads told reading.now
+        → laid_sections laid.now ≡ laid_of (spelled_in told reading.now) }
     requires wants { ¬ All (WantsNone (laid_sections laid.now)) (sections_in reading.now) }
     ensures { (text : List ℕ) → ReadsText (map to_ascii_lowercase text) reading.now
         → StopsText result text }

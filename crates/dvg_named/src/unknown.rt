@@ -37,8 +37,9 @@ pub(crate) fn first_unknown<A: Allocator + Copy>(
         (All (WantsNone (laid_sections laid.now)) (all_sections closed.now last.now))) }
 {
     for part in closed {
-        if let Some(number) = unknown_in(alloc, part, laid)? {
-            return Ok(Some(number));
+        let found = unknown_in(alloc, part, laid)?;
+        if found.is_some() {
+            return Ok(found);
         }
     }
     unknown_in(alloc, last, laid)
@@ -60,9 +61,27 @@ fn unknown_in<A: Allocator + Copy>(
         IfNone found (WantsNone (laid_sections laid.now) (section_in part.now))) }
 {
     let rows = NamedRows::new(alloc, part.rows.as_slice())?;
-    match first_in(part.head, &rows, laid) {
-        Some(place) => Ok(Some(part.sources[place].number)),
-        None => Ok(None),
+    Ok(number_in(part, &rows, laid))
+}
+
+// The same of a section of these rows.
+fn number_in<A: Allocator + Copy>(
+    part: &Part<'_, A>,
+    rows: &NamedRows<'_, '_, A>,
+    laid: &LaidNames<'_, '_, '_, A>,
+) -> Option<usize>
+    requires low { AreLow (laid_sections laid.now) }
+    requires lines { HasLines part.now }
+    requires rows { rows.now ≡ part.now.rows.items }
+    ensures first { (sections : List Section) (number : ℕ)
+        → slice_get sections number ≡ Some (section_in part.now)
+        → FirstOf (WantsIn (laid_sections laid.now) sections) (entries_last number part.now)
+        result }
+    ensures known { IfNone result (WantsNone (laid_sections laid.now) (section_in part.now)) }
+{
+    match first_in(part.head, rows, laid) {
+        Some(place) => Some(part.sources[place].number),
+        None => None,
     }
 }
 

@@ -3,10 +3,8 @@ use std::prelude::*;
 
 use crate::flat_draft::DraftFault;
 use crate::frame_rows::{FrameRows, frame_rows};
-use crate::given_names::GivenNames;
 use crate::joining::{JoinedFrames, join_frames};
 use crate::laid::{LaidNames, LaidRows, lay};
-use crate::rom_area::RomArea;
 use crate::rom_sections::rom_rows;
 use crate::rom_words::{RomRow, put_sections};
 use crate::told_rom::ToldRom;
@@ -15,7 +13,10 @@ use arrayvec::ArrayVec;
 use dvg_code::OutOfMemory;
 use dvg_frame::OpKind;
 use dvg_mem::LARGE_ROM_BYTES;
-use dvg_rows::{Doing, Head, LineFault, Part, Row, Source, read_head, read_row, words_of_row};
+use dvg_rows::{
+    Doing, GivenNames, Head, LineFault, Part, RomArea, Row, Source, read_head, read_row,
+    words_of_row,
+};
 use std::alloc::Allocator;
 use std::mem;
 

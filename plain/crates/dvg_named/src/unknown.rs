@@ -14,8 +14,9 @@ pub(crate) fn first_unknown<A: Allocator + Copy>(
     laid: &LaidNames<'_, '_, '_, A>,
 ) -> Result<Option<usize>, OutOfMemory> {
     for part in closed {
-        if let Some(number) = unknown_in(alloc, part, laid)? {
-            return Ok(Some(number));
+        let found = unknown_in(alloc, part, laid)?;
+        if found.is_some() {
+            return Ok(found);
         }
     }
     unknown_in(alloc, last, laid)
@@ -28,9 +29,18 @@ fn unknown_in<A: Allocator + Copy>(
     laid: &LaidNames<'_, '_, '_, A>,
 ) -> Result<Option<usize>, OutOfMemory> {
     let rows = NamedRows::new(alloc, part.rows.as_slice())?;
-    match first_in(part.head, &rows, laid) {
-        Some(place) => Ok(Some(part.sources[place].number)),
-        None => Ok(None),
+    Ok(number_in(part, &rows, laid))
+}
+
+// The same of a section of these rows.
+fn number_in<A: Allocator + Copy>(
+    part: &Part<'_, A>,
+    rows: &NamedRows<'_, '_, A>,
+    laid: &LaidNames<'_, '_, '_, A>,
+) -> Option<usize> {
+    match first_in(part.head, rows, laid) {
+        Some(place) => Some(part.sources[place].number),
+        None => None,
     }
 }
 

@@ -8,7 +8,7 @@ use Rattle.dvg_named.specs.Ungiven.{WantsAt, framed}
 use Rattle.dvg_named.proofs.drafting.draft_of.Given as goal
 
 abbrev pub invariant-loop-place : goal.invariant-loop-place
-invariant-loop-place l = record {
+invariant-loop-place g l = record {
   drafted : AllZip (IsDrafted (laid_sections l.rom) (rows_of l.rows)) (doings (rows_of (take l.place l.rows))) l.draft;
   count : length l.draft ≡ length (doings (rows_of (take l.place l.rows)));
   known : (k : ℕ) → k < l.place → ¬ WantsAt (laid_sections l.rom) (framed (rows_of l.rows)) k;

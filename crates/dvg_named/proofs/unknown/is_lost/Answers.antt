@@ -7,14 +7,14 @@ use Rattle.dvg_named.specs.SketchReading.{head_in}
 use Rattle.dvg_named.proofs.unknown.is_lost.Goals as goal
 
 pub returns-in-Some : goal.returns-in-Some
-returns-in-Some c =
+returns-in-Some g c =
     subst (λ (head : Option held_head.Head).
     (IsTrue c.is_lost_after.result → IsLost (laid_sections c.args.laid.now) (head_in head) (rows_of c.args.rows.now) c.args.name.now)
     × (IsLost (laid_sections c.args.laid.now) (head_in head) (rows_of c.args.rows.now) c.args.name.now → IsTrue c.is_lost_after.result))
     (sym c.in-Some.is) c.is_lost_after.ensures
 
 pub returns-in-None : goal.returns-in-None
-returns-in-None c =
+returns-in-None g c =
     subst (λ (head : Option held_head.Head).
     (IsTrue c.has_no_number.result → IsLost (laid_sections c.args.laid.now) (head_in head) (rows_of c.args.rows.now) c.args.name.now)
     × (IsLost (laid_sections c.args.laid.now) (head_in head) (rows_of c.args.rows.now) c.args.name.now → IsTrue c.has_no_number.result))
