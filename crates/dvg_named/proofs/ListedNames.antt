@@ -2,14 +2,15 @@
 use Rattle.std.proofs.Common.{◌≡◌, ◌<◌, ◌≤◌, ◌+◌, ℕ, List, All, length, get_or, Option, Some, None, inl, inr, ◌⊎◌, refl, sym, ap, subst, ◌∙◌, arith}
 use Rattle.std.proofs.lemmas.Bool.{cases_lt}
 use Rattle.std.proofs.lemmas.List.{get_or_default}
-use Rattle.dvg_rows.specs.NameTables.{IsFound, Tells, number_in}
+use Rattle.std.specs.Borrow.{Bor}
+use Rattle.dvg_rows.specs.NameTables.{IsFound, Tells, number_in, number_with}
 use Rattle.dvg_rows.specs.declared.name_table.NameTable.{NameTable}
 use Rattle.dvg_rows.specs.RowPlaces.{names_of}
 use Rattle.dvg_named.specs.declared.meaning.RomName.{RomName}
 use Rattle.dvg_named.specs.LaidValues.{rows_laid}
 use Rattle.dvg_named.specs.Places.{IsAddress, Laid}
 use Rattle.dvg_named.specs.RomNames.{IsListed, IsListedBefore, IsNamedIn, names_listed}
-use Rattle.dvg_rows.proofs.NameTables.{found_as}
+use Rattle.dvg_rows.proofs.NameTables.{found_as, tells_more}
 use Rattle.dvg_named.proofs.NamedSections.{item_cut, name_laid}
 
 -- none of the first no names
@@ -65,6 +66,19 @@ listed_here names i last low is name same = record {
   name_is = same;
   address_is = refl;
 }
+
+-- with a name more a table tells of it, too
+pub told_more : {A : Type 0} (names : List RomName) (i : ℕ) (d : RomName) (number : ℕ) (old new : NameTable A)
+    → i < length names → number ≡ (get_or names i d).address
+    → ((other : Bor (List ℕ)) → number_in new other ≡ number_with old (Some (get_or names i d).name) number other)
+    → Tells (IsListedBefore names i) old → Tells (IsListedBefore names (i + 1)) new
+told_more names i d number old new low address is tells =
+    let last = get_or names i d in
+    let same : last ≡ get_or names i last = sym (get_or_default names i last d low) in
+    tells_more (IsListedBefore names i) (IsListedBefore names (i + 1)) (Some last.name) number old new is
+    (listed_wider names i) (λ name a other. listed_narrower names i last same name a (λ e. other (ap Some e)))
+    (λ name given. subst (IsListedBefore names (i + 1) name) (sym address)
+    (listed_here names i last low same name (let e : last.name.now ≡ name = cc in e))) tells
 
 -- those before the end are all
 pub all_listed : {A : Type 0} (names : List RomName) (i : ℕ) (table : NameTable A) → length names ≤ i

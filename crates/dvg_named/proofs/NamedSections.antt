@@ -5,7 +5,6 @@ use Rattle.std.proofs.lemmas.List.{append_assoc, drop_more, get_or_append_left, 
 use Rattle.std.proofs.lemmas.List.{length-map, take-append-drop}
 use Rattle.std.proofs.lemmas.List.Elements.{filter_map-append}
 use Rattle.dvg_named.specs.declared.laid.LaidRows as held
-use Rattle.dvg_rows.specs.HeldRows.{rows_of}
 use Rattle.dvg_rows.specs.NameTables.{IsFound}
 use Rattle.dvg_named.specs.LaidValues.{AreLow, laid_section, laid_sections, rows_laid}
 use Rattle.dvg_rows.specs.RowPlaces.{AreDistinct, names_of}

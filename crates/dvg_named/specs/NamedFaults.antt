@@ -1,5 +1,5 @@
 -- The limits of a sketch, and its one fault.
-use Rattle.std.specs.Prelude.{◌≡◌, ◌≢◌, ℕ, ◌+◌, ◌<◌, ◌≤◌, List, [], ◌∷◌, ◌++◌, length, All, AllPairs, Some, slice_get}
+use Rattle.std.specs.Prelude.{◌≡◌, ℕ, ◌+◌, ◌<◌, ◌≤◌, List, [], ◌∷◌, ◌++◌, length, All, AllPairs, Some, slice_get}
 use Rattle.std.specs.Prelude.{false}
 use Rattle.std.specs.List.{filter_map, flat_map}
 use Rattle.dvg_read.specs.FirstFaults.{IsShort}

@@ -1,4 +1,3 @@
-use Rattle.dvg_named.specs.LaidValues.{laid_sections}
 use Rattle.dvg_named.proofs.KnownFrames.{frame_stops}
 use Rattle.dvg_named.proofs.joining.push_frame.Goals as goal
 

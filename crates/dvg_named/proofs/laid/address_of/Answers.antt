@@ -1,4 +1,4 @@
-use Rattle.std.proofs.Common.{◌≤◌, Some, ap, arith}
+use Rattle.std.proofs.Common.{Some, ap, arith}
 use Rattle.dvg_named.specs.LaidValues.{laid_sections}
 use Rattle.dvg_named.proofs.NamedSections.{address_is, low_address, no_address, one_address}
 use Rattle.dvg_named.proofs.laid.address_of.Goals as goal

@@ -1,7 +1,7 @@
-use Rattle.std.proofs.Common.{◌≡◌, ◌≤◌, ◌+◌, Some, ap, arith, length}
+use Rattle.std.proofs.Common.{◌≤◌, arith, length}
 use Rattle.dvg_named.specs.RomNames.{IsListedBefore}
-use Rattle.dvg_rows.proofs.NameTables.{tells_more, tells_none}
-use Rattle.dvg_named.proofs.ListedNames.{all_listed, listed_here, listed_narrower, listed_wider, none_listed}
+use Rattle.dvg_rows.proofs.NameTables.{tells_none}
+use Rattle.dvg_named.proofs.ListedNames.{all_listed, none_listed, told_more}
 use Rattle.dvg_named.proofs.laid.table_of.Goals as goal
 
 pub loop-named-init : goal.loop-named-init
@@ -10,7 +10,9 @@ loop-named-init g c =
     (none_listed c.args.names.now)
 
 pub loop-named-preserved : goal.loop-named-preserved
-loop-named-preserved g c = ?
+loop-named-preserved g c =
+    told_more c.args.names.now c.loop-named.named-index _ c.from.result c.loop-named.addresses c.put.new.self
+    c.loop-named-test.true c.from.ensures c.in_ok-put.ensures c.loop-named.invariant
 
 pub returns : goal.returns
 returns g c =

@@ -1,4 +1,4 @@
-use Rattle.std.proofs.Common.{◌∙◌, All, ap, refl, subst, sym}
+use Rattle.std.proofs.Common.{◌∙◌, All, ap, subst, sym}
 use Rattle.dvg_rows.specs.RowPlaces.{names_of}
 use Rattle.dvg_named.specs.LaidValues.{laid_sections, rows_laid}
 use Rattle.dvg_named.specs.RomNames.{IsNamedIn}
