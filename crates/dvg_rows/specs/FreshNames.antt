@@ -1,4 +1,4 @@
--- Names that were given before (for private contracts).
+-- Names that were given before.
 use Rattle.std.specs.Prelude.{ℕ, List, Option, Some, None, Contains}
 use Rattle.dvg_rows.specs.declared.line_fault.LineFault.{LineFault}
 use Rattle.dvg_rows.specs.declared.line_fault.LineFault.TheVariants.{Full, Memory, OutOfRom, Overlap, Syntax, Twice}

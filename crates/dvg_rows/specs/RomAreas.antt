@@ -1,4 +1,4 @@
--- Which words of the ROM are taken (for private contracts).
+-- Which words of the ROM are taken.
 use Rattle.std.specs.Prelude.{◌≡◌, ◌+◌, ◌<◌, ◌≤◌, ◌⊎◌, ℕ, List, Bool, Option, max, unwrap_or, get_or, true, false}
 use Rattle.dvg_rows.specs.declared.line_fault.LineFault.{LineFault}
 use Rattle.dvg_rows.specs.declared.line_fault.LineFault.TheVariants.{Full, Memory, OutOfRom, Overlap, Syntax, Twice}

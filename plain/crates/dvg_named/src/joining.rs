@@ -45,7 +45,10 @@ pub fn join_frames<'a, A: Allocator + Copy>(
         if push_sources(&mut sources, frame).is_err() {
             return Err(DraftFault::Memory);
         }
-        let span = push_frame(alloc, &mut ops, frame, rom)?;
+        let span = match push_frame(alloc, &mut ops, frame, rom) {
+            Ok(span) => span,
+            Err(fault) => return Err(fault),
+        };
         if spans.push(span).is_err() {
             return Err(DraftFault::Memory);
         }
