@@ -6,7 +6,7 @@ use Rattle.std.proofs.lemmas.List.{append-nil}
 use Rattle.std.specs.Borrow.{Bor}
 use Rattle.std.specs.List.{join_with_byte}
 use Rattle.dvg_read.specs.LineParts.{bytes_of}
-use Rattle.dvg_named.specs.PlainLines.{words}
+use Rattle.dvg_rows.specs.PlainLines.{words}
 use Rattle.dvg_lay.specs.Said.{after_name, said}
 use Rattle.dvg_lay.proofs.Lists.{grew}
 

@@ -13,7 +13,8 @@ use Rattle.dvg_named.specs.declared.meaning.RomName.{RomName}
 use Rattle.dvg_named.specs.Meanings.{IsFrameOf}
 use Rattle.dvg_named.specs.NamedFaults.{HasNamedFault}
 use Rattle.dvg_named.specs.OpSources.{IsDoneAt}
-use Rattle.dvg_named.specs.Places.{Laid, doings}
+use Rattle.dvg_named.specs.Places.{Laid}
+use Rattle.dvg_rows.specs.RowPlaces.{doings}
 use Rattle.dvg_named.specs.ReadSketches.{IsSketchOf, StandsIn, as_frame, lent_of}
 use Rattle.dvg_named.specs.Sections.{FrameRows}
 use Rattle.dvg_named.specs.TextReading.{StopsText}

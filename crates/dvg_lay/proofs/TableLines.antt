@@ -8,7 +8,7 @@ use Rattle.dvg_frame.specs.declared.op.OpKind.{OpKind}
 use Rattle.dvg_frame.specs.Layout.{laid_ops, op_code, op_words}
 use Rattle.dvg_frame.proofs.Sizes.{canon_length}
 use Rattle.dvg_named.specs.declared.meaning.NamedFrame.{NamedFrame}
-use Rattle.dvg_named.specs.declared.meaning.Source.{Source}
+use Rattle.dvg_rows.specs.declared.source.Source.{Source}
 use Rattle.dvg_lay.specs.Texts.{frame_table, op_line, op_lines, tables}
 use Rattle.dvg_lay.proofs.Lists.{grew, next_at}
 

@@ -11,7 +11,7 @@ use Rattle.dvg_frame.specs.declared.fault.FrameFault.TheVariants.{NoCaller}
 use Rattle.dvg_frame.specs.Faults.{Accepts, Refuses}
 use Rattle.dvg_named.specs.declared.meaning.NamedFrame.{NamedFrame}
 use Rattle.dvg_named.specs.declared.meaning.RomName.{RomName}
-use Rattle.dvg_named.specs.declared.meaning.Source.{Source}
+use Rattle.dvg_rows.specs.declared.source.Source.{Source}
 use Rattle.dvg_lay.specs.Said.{said}
 use Rattle.dvg_lay.specs.declared.refusal.Blamed.{Blamed}
 use Rattle.dvg_lay.specs.declared.refusal.Blamed.TheVariants.{Line, Word}

@@ -1,7 +1,7 @@
 -- What a line of a sketch says.
 use Rattle.std.specs.Prelude.{ℕ, List, [], ◌∷◌, Bool, if◌then◌else◌, length, nat_eq, nat_le}
 use Rattle.std.specs.List.{ends_with, join_with_byte}
-use Rattle.dvg_named.specs.PlainLines.{words}
+use Rattle.dvg_rows.specs.PlainLines.{words}
 
 -- the word gives a name: it ends with a colon, which is 58; in a sketch no other first word does
 abbrev pub gives_name : List ℕ → Bool

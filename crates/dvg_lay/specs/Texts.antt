@@ -12,7 +12,7 @@ use Rattle.dvg_frame.specs.Layout.{laid, op_code, size}
 use Rattle.dvg_print.specs.Lines.{hex_3, hex_4}
 use Rattle.dvg_named.specs.declared.meaning.NamedFrame.{NamedFrame}
 use Rattle.dvg_named.specs.declared.meaning.RomName.{RomName}
-use Rattle.dvg_named.specs.declared.meaning.Source.{Source}
+use Rattle.dvg_rows.specs.declared.source.Source.{Source}
 use Rattle.dvg_lay.specs.Said.{said}
 
 -- the bytes of frames in order, each as it lies in a half

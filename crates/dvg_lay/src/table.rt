@@ -1,6 +1,5 @@
 //! Frames as they lie in a half, and their tables.
 ghost use Rattle.std.specs.Prelude.{◌≡◌, ◌++◌, IfOk, OnOk, decimal, length};
-ghost use Rattle.dvg_code.specs.Spelling.{word_count};
 ghost use Rattle.dvg_mem.specs.declared.half.Half.TheVariants.{H0};
 ghost use Rattle.dvg_frame.specs.Bytes.{bytes};
 ghost use Rattle.dvg_frame.specs.Layout.{laid, op_words};
@@ -9,7 +8,7 @@ ghost use Rattle.dvg_lay.specs.Texts.{frame_table, label, op_line, op_lines, wor
 
 use crate::said::put_said;
 use crate::text::{put, put_decimal, put_words};
-use dvg_code::{Code, Instr, OutOfMemory};
+use dvg_code::OutOfMemory;
 use dvg_frame::{Cursor, Frame, Op, OpKind};
 use dvg_io::collect_words;
 use dvg_mem::Half;
@@ -39,22 +38,12 @@ fn laid_words<A: Allocator + Copy>(alloc: A, frame: Frame) -> Result<Vec<u16, A>
     collect_words(alloc, bytes.as_slice())
 }
 
-// How many words an instruction has.
-fn word_count(code: Code) -> usize
-    ensures { result ≡ word_count code }
-{
-    match code.instr() {
-        Instr::Vctr { .. } | Instr::Labs { .. } => 2,
-        Instr::Halt | Instr::Jsrl(_) | Instr::Rtsl | Instr::Jmpl(_) | Instr::Svec { .. } => 1,
-    }
-}
-
 // How many words an operation has.
 fn op_words(op: &Op) -> usize
     ensures { result ≡ op_words op.now }
 {
     match op.kind() {
-        OpKind::Draw(code) => word_count(code),
+        OpKind::Draw(code) => usize::from(code.word_count()),
         _ => 1,
     }
 }

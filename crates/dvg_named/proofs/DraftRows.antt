@@ -7,16 +7,24 @@ use Rattle.std.proofs.lemmas.Option.{slice_get_read}
 use Rattle.std.specs.List.{AllZip, cons_option}
 use Rattle.dvg_frame.specs.declared.op.OpKind.{OpKind}
 use Rattle.dvg_read.proofs.Zips.{zip_push}
-use Rattle.dvg_named.specs.declared.row.Doing as held_doing
-use Rattle.dvg_named.specs.declared.row.Row as held
-use Rattle.dvg_named.specs.HeldRows.{rows_of}
+use Rattle.dvg_rows.specs.declared.row.Doing as held_doing
+use Rattle.dvg_rows.specs.declared.row.Row as held
+use Rattle.dvg_rows.specs.HeldRows.{rows_of}
 use Rattle.dvg_named.specs.Meanings.{IsDrafted}
 use Rattle.dvg_named.specs.NamedFaults.{IsUngiven}
-use Rattle.dvg_named.specs.Places.{IsNumber, Laid, doings}
-use Rattle.dvg_named.specs.RowValues.{doing_of, doing_of_some, row_of}
-use Rattle.dvg_named.specs.Rows.{Doing, Row, plainly, calls, jumps, calls_rom, jumps_rom}
+use Rattle.dvg_named.specs.Places.{Laid}
+use Rattle.dvg_rows.specs.RowPlaces.{IsNumber, doings}
+use Rattle.dvg_rows.specs.RowValues.{doing_of, doing_of_some, row_of}
+use Rattle.dvg_rows.specs.Rows.{Doing, Row, plainly, calls, jumps, calls_rom, jumps_rom}
 use Rattle.dvg_named.specs.Sections.{Section}
 use Rattle.dvg_named.specs.Ungiven.{IsFirstUngiven, WantsAt, framed}
+
+-- what stands at a place of a list stands there in the same list by another name
+pub low_in : {X : Type 0} {xs ys : List X} (i : ℕ) → xs ≡ ys → i < length xs → i < length ys
+low_in i same low = subst (λ l. i < length l) same low
+
+pub at_in : {X : Type 0} {xs ys : List X} (i : ℕ) (x : X) → xs ≡ ys → x ≡ get_or xs i x → x ≡ get_or ys i x
+at_in i x same is = is ∙ ap (λ l. get_or l i x) same
 
 abbrev doing_in : Row → Option Doing
 doing_in row = row.doing

@@ -2,12 +2,12 @@
 use Rattle.std.proofs.Common.{◌≡◌, ℕ, ◌+◌, List, [], ◌∷◌, ◌++◌, length, refl, sym, ap, ◌∙◌, append_assoc, append-nil, arith, Result, Ok, Err, false, if◌then◌else◌}
 use Rattle.std.specs.List.{AllZip}
 use Rattle.std.specs.Result.{is_err, is_ok}
-use Rattle.dvg_named.specs.declared.meaning.Source.{Source}
-use Rattle.dvg_named.specs.declared.part.Part.{Part}
+use Rattle.dvg_rows.specs.declared.source.Source.{Source}
+use Rattle.dvg_rows.specs.declared.part.Part.{Part}
 use Rattle.dvg_named.specs.declared.reading.Reading.{Reading}
-use Rattle.dvg_named.specs.declared.row.Row as held_row
+use Rattle.dvg_rows.specs.declared.row.Row as held_row
 use Rattle.dvg_named.specs.LineNumbers.{AddsEntry, KeepsEntries, entries_from, entries_in, entries_last, entries_of, entry_of, first_head}
-use Rattle.dvg_named.specs.RowValues.{row_of}
+use Rattle.dvg_rows.specs.RowValues.{row_of}
 
 pub entries_push : (R : held_row.Row → Source → Type 0) (section : ℕ) (rows : List held_row.Row) (sources : List Source)
     (row : held_row.Row) (source : Source) → AllZip R rows sources

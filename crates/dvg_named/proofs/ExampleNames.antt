@@ -1,7 +1,7 @@
 -- The names of the examples.
 use Rattle.std.proofs.Common.{◌≡◌, ℕ, List, [], length, refl, sym, true≢false, arith, codes}
 use Rattle.dvg_read.specs.Texts.{IsHex}
-use Rattle.dvg_named.specs.Rows.{IsName}
+use Rattle.dvg_rows.specs.Rows.{IsName}
 
 -- what doesn't have three bytes is no address
 other_size : (size : ℕ) (name : List ℕ) → length name ≡ size → (3 ≡ size → ⊥) → (a : ℕ) → ¬ IsHex 3 a name

@@ -7,8 +7,8 @@ use Rattle.dvg_read.specs.OpLines as ops
 use Rattle.dvg_read.specs.RomReading.{TellsRom, gives_words, tells_map}
 use Rattle.dvg_read.specs.RomTexts.{IsMapLine, IsRomLine, RomLine, RomText, large, small}
 use Rattle.dvg_read.specs.Texts.{parts}
-use Rattle.dvg_named.specs.Rows.{Doing, DoingParts, Head, HeadParts, Row, RowParts}
-use Rattle.dvg_named.specs.Rows as rows
+use Rattle.dvg_rows.specs.Rows.{Doing, DoingParts, Head, HeadParts, Row, RowParts}
+use Rattle.dvg_rows.specs.Rows as rows
 use Rattle.dvg_named.specs.Sections.{Spelled}
 use Rattle.dvg_named.specs.SketchSteps.{Goes, adds, begins, tells, tops}
 

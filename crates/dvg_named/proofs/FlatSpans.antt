@@ -6,10 +6,11 @@ use Rattle.dvg_frame.specs.declared.op.OpKind.{OpKind}
 use Rattle.dvg_named.specs.declared.joining.FrameSpan.{FrameSpan}
 use Rattle.dvg_named.specs.declared.frame_rows.FrameRows as held
 use Rattle.dvg_named.specs.FlatFrames.{IsSpanOf}
-use Rattle.dvg_named.specs.HeldRows.{rows_of}
+use Rattle.dvg_rows.specs.HeldRows.{rows_of}
 use Rattle.dvg_named.specs.Meanings.{IsDrafted}
-use Rattle.dvg_named.specs.Places.{Laid, doings}
-use Rattle.dvg_named.specs.RowValues.{name_of}
+use Rattle.dvg_named.specs.Places.{Laid}
+use Rattle.dvg_rows.specs.RowPlaces.{doings}
+use Rattle.dvg_rows.specs.RowValues.{name_of}
 
 pub drop_front : {X : Type 0} (xs ys : List X) → drop (length xs) (xs ++ ys) ≡ ys
 drop_front [] ys = refl

@@ -6,12 +6,12 @@ use Rattle.std.proofs.lemmas.List.Elements.{All-push, filter_map-append}
 use Rattle.std.specs.List.{AllZip, filter_map}
 use Rattle.dvg_read.specs.RomTexts.{RomText}
 use Rattle.dvg_named.specs.declared.frame_rows.FrameRows as held
-use Rattle.dvg_named.specs.declared.part.Part.{Part}
-use Rattle.dvg_named.specs.declared.row.Row as held_row
+use Rattle.dvg_rows.specs.declared.part.Part.{Part}
+use Rattle.dvg_rows.specs.declared.row.Row as held_row
 use Rattle.dvg_named.specs.FrameValues.{IsFrameAt, frame_held, frame_in, frame_list, frames_of, rows_at_top}
-use Rattle.dvg_named.specs.HeldRows.{rows_of}
+use Rattle.dvg_rows.specs.HeldRows.{rows_of}
 use Rattle.dvg_named.specs.ReadParts.{sketch_of}
-use Rattle.dvg_named.specs.Rows.{Head, Row, frame, rom, top}
+use Rattle.dvg_rows.specs.Rows.{Head, Row, frame, rom, top}
 use Rattle.dvg_named.specs.Sections.{FrameRows, Section, frames, top_frame}
 use Rattle.dvg_named.specs.SketchReading.{head_in, section_in}
 use Rattle.dvg_named.specs.SourcedRows.{IsPartAt, IsRowAt}

@@ -6,18 +6,20 @@ use Rattle.std.specs.List.{filter_map, flat_map}
 use Rattle.std.specs.Option.{option_to_list}
 use Rattle.dvg_read.specs.RomTexts.{RomText}
 use Rattle.dvg_read.proofs.Steps.{Leads, here, on}
-use Rattle.dvg_named.specs.NamedFaults.{AreDistinct, KeepsLimits, LiesOn, names_of}
-use Rattle.dvg_named.specs.Places.{Laid, doings, size}
+use Rattle.dvg_named.specs.NamedFaults.{KeepsLimits, LiesOn}
+use Rattle.dvg_rows.specs.RowPlaces.{AreDistinct, names_of}
+use Rattle.dvg_named.specs.Places.{Laid}
+use Rattle.dvg_rows.specs.RowPlaces.{doings, size}
 use Rattle.dvg_named.specs.ReadParts.{free_told}
 use Rattle.dvg_named.specs.RomParts.{rom_in}
-use Rattle.dvg_named.specs.Rows.{Head, Row, frame, rom, top}
+use Rattle.dvg_rows.specs.Rows.{Head, Row, frame, rom, top}
 use Rattle.dvg_named.specs.Sections.{FrameRows, RomRows, Section, Spelled, frame_of, frames, rom_sections, top_frame}
 use Rattle.dvg_named.specs.SketchSteps.{Goes, adds, begins, begun, so_far, tells, tops, with_row}
 use Rattle.dvg_named.proofs.LaidMore.{Apart, apart_from, apart_push, laid_push}
 use Rattle.dvg_named.proofs.NamesMore.{all_front, all_last, names_more, pairs_front}
 use Rattle.dvg_named.proofs.ReadCuts.{top_alone, top_before, top_list}
 use Rattle.dvg_named.proofs.ReadLimits.{IsInRom, IsOnce, IsSmall, Within, framed, laid_all, laid_last, of_rom, rom_names_more, row_names, start_at, within_in, within_out}
-use Rattle.dvg_named.proofs.RowSizes.{size-append}
+use Rattle.dvg_rows.proofs.RowSizes.{size-append}
 
 -- ---- frames, and those after one line more
 

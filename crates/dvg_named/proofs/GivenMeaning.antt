@@ -12,9 +12,10 @@ use Rattle.dvg_read.specs.RomTexts.{RomLine, RomText}
 use Rattle.dvg_named.specs.FirstUnknown.{WantsNone}
 use Rattle.dvg_named.specs.Meanings.{Frame, IsDrafted, IsEncoded, IsFrameOf, IsGiven, IsMeant}
 use Rattle.dvg_named.specs.NamedFaults.{IsUngiven, laid_of}
-use Rattle.dvg_named.specs.Places.{Laid, doings}
+use Rattle.dvg_named.specs.Places.{Laid}
+use Rattle.dvg_rows.specs.RowPlaces.{doings}
 use Rattle.dvg_named.specs.RomBytes.{MayBeEncoded, MayStandInRom}
-use Rattle.dvg_named.specs.Rows.{Doing, Row, calls, calls_rom, jumps, jumps_rom, plainly, rom}
+use Rattle.dvg_rows.specs.Rows.{Doing, Row, calls, calls_rom, jumps, jumps_rom, plainly, rom}
 use Rattle.dvg_named.specs.Sections.{FrameRows, MayStand, Section, Spelled, SpellsSketch, frames, rom_sections, sections}
 use Rattle.dvg_named.specs.Ungiven.{framed, in_rom}
 use Rattle.dvg_named.proofs.KnownFrames.{frames_known}

@@ -1,17 +1,25 @@
 -- Each name that a frame wants is given, where each name that a section wants is.
-use Rattle.std.proofs.Common.{ℕ, List, [], ◌∷◌, map, All, None, Option}
+use Rattle.std.proofs.Common.{◌≡◌, ◌<◌, ℕ, List, [], ◌∷◌, map, All, None, Option, false, get_or, length, subst, sym, Result, Ok, Err}
+use Rattle.std.specs.Prelude.{OnOk}
+use Rattle.std.specs.Result.{is_err}
 use Rattle.std.proofs.lemmas.List.Elements.{All-append, All-cons, All-head, All-nil, All-tail}
 use Rattle.std.specs.List.{AllZip, cons_option, filter_map}
 use Rattle.dvg_frame.specs.declared.op.OpKind.{OpKind}
 use Rattle.dvg_named.specs.declared.frame_rows.FrameRows as held
+use Rattle.dvg_named.specs.declared.flat_draft.DraftFault.{DraftFault}
+use Rattle.dvg_named.specs.declared.flat_draft.DraftFault.TheVariants.{Memory, Ungiven}
 use Rattle.dvg_named.specs.declared.joining.FrameSpan.{FrameSpan}
-use Rattle.dvg_named.specs.FirstUnknown.{WantsNone}
-use Rattle.dvg_named.specs.FlatFrames.{IsSpanOf, frame_at}
+use Rattle.dvg_named.specs.declared.laid.LaidRows as held_laid
+use Rattle.dvg_named.specs.declared.reading.Reading.{Reading}
+use Rattle.dvg_named.specs.FlatDrafts.{StopsDraft}
+use Rattle.dvg_named.specs.LaidValues.{laid_sections}
+use Rattle.dvg_named.specs.FirstUnknown.{StopsDrafts, WantsNone, sections_in}
+use Rattle.dvg_named.specs.FlatFrames.{IsSpanOf, KnowsNames, StopsFrame, StopsFrames, frame_at}
 use Rattle.dvg_named.specs.FrameValues.{frame_held, frame_in, frames_of}
 use Rattle.dvg_named.specs.Meanings.{IsFrameOf}
 use Rattle.dvg_named.specs.NamedFaults.{IsUngiven}
 use Rattle.dvg_named.specs.Places.{Laid}
-use Rattle.dvg_named.specs.Rows.{Doing, Head, Row, calls, calls_rom, frame, jumps, jumps_rom, plainly, rom, top}
+use Rattle.dvg_rows.specs.Rows.{Doing, Head, Row, calls, calls_rom, frame, jumps, jumps_rom, plainly, rom, top}
 use Rattle.dvg_named.specs.Sections.{FrameRows, Section, Spelled, frames, sections, top_frame}
 use Rattle.dvg_named.specs.Ungiven.{framed}
 
@@ -78,3 +86,28 @@ frames_are laid ops [] [] h = tt
 frames_are laid ops [] (span ∷ spans) h = absurd h
 frames_are laid ops (f ∷ found) [] h = absurd h
 frames_are laid ops (f ∷ found) (span ∷ spans) h = (h.0.is, frames_are laid ops found spans h.1)
+
+-- ---- why the drafts of frames aren't made
+
+-- what an answer says where it is no fault
+pub ok_then : {X E : Type 0} (r : Result X E) {P : Type 0} → is_err r ≡ false → OnOk r P → P
+ok_then (Ok x) ok h = h
+ok_then (Err e) ok h = absurd cc
+
+pub frame_stops : (sections : List held_laid.LaidRows) (found : held.FrameRows) (fault : DraftFault)
+    → StopsDraft sections found.rows.now fault → StopsFrame (laid_sections sections) found fault
+frame_stops sections found (Ungiven place) h = λ known. known place h.wants
+frame_stops sections found Memory h = tt
+
+pub frames_stop : (laid : List Laid) (all : List held.FrameRows) (i : ℕ) (found : held.FrameRows) → i < length all
+    → found ≡ get_or all i found → (fault : DraftFault) → StopsFrame laid found fault → StopsFrames laid all fault
+frames_stop laid all i found low is (Ungiven place) h =
+    λ known. h (subst (KnowsNames laid) (sym is) (known i found low))
+frames_stop laid all i found low is Memory h = tt
+
+-- where a name that a frame wants isn't given, a section wants one that isn't
+pub drafts_stop : {A : Type 0} (laid : List Laid) (reading : Reading A) (all : List held.FrameRows) (fault : DraftFault)
+    → (All (WantsNone laid) (sections_in reading) → All (KnowsNames laid) all) → StopsFrames laid all fault
+    → StopsDrafts laid reading fault
+drafts_stop laid reading all (Ungiven place) known h = λ none. h (known none)
+drafts_stop laid reading all Memory known h = tt

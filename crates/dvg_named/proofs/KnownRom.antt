@@ -10,10 +10,11 @@ use Rattle.dvg_named.specs.FirstUnknown.{WantsNone, sections_in}
 use Rattle.dvg_named.specs.GivenRoms.{IsLaidText}
 use Rattle.dvg_named.specs.LaidValues.{laid_sections}
 use Rattle.dvg_named.specs.NamedFaults.{IsUngiven}
-use Rattle.dvg_named.specs.Places.{Laid, laid_from, size}
+use Rattle.dvg_named.specs.Places.{Laid, laid_from}
+use Rattle.dvg_rows.specs.RowPlaces.{size}
 use Rattle.dvg_named.specs.RomBytes.{IsFirstInRom}
 use Rattle.dvg_named.specs.RomParts.{rom_in}
-use Rattle.dvg_named.specs.Rows.{Doing, Head, Row, calls, calls_rom, frame, jumps, jumps_rom, plainly, rom, top}
+use Rattle.dvg_rows.specs.Rows.{Doing, Head, Row, calls, calls_rom, frame, jumps, jumps_rom, plainly, rom, top}
 use Rattle.dvg_named.specs.Sections.{RomRows, Section, rom_sections}
 use Rattle.dvg_named.specs.SketchReading.{spelled_in}
 use Rattle.dvg_named.specs.Ungiven.{framed, in_rom}

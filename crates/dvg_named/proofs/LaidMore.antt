@@ -7,10 +7,11 @@ use Rattle.std.proofs.lemmas.List.Quantifiers.{Any-push, all_pairs_push}
 use Rattle.std.proofs.Math.Seq.{get_or-append_seam}
 use Rattle.std.specs.List.{AllPairs}
 use Rattle.dvg_named.specs.NamedFaults.{LiesOn}
-use Rattle.dvg_named.specs.Places.{Laid, laid_end, laid_from, size}
+use Rattle.dvg_named.specs.Places.{Laid, laid_end, laid_from}
+use Rattle.dvg_rows.specs.RowPlaces.{size}
 use Rattle.dvg_named.specs.ReadParts.{free_from}
-use Rattle.dvg_named.specs.RomAreas.{IsFree}
-use Rattle.dvg_named.specs.Rows.{Row}
+use Rattle.dvg_rows.specs.RomAreas.{IsFree}
+use Rattle.dvg_rows.specs.Rows.{Row}
 use Rattle.dvg_named.specs.Sections.{RomRows}
 use Rattle.dvg_named.proofs.NamesMore.{pairs_front, pairs_last}
 

@@ -6,11 +6,12 @@ use Rattle.std.proofs.lemmas.List.{append-nil, append_assoc, map-append, map_mor
 use Rattle.dvg_read.specs.RomTexts.{RomLine}
 use Rattle.dvg_named.specs.declared.laid.LaidRows as held_laid
 use Rattle.dvg_named.specs.declared.laid.RomRows as held_rom
-use Rattle.dvg_named.specs.HeldRows.{rows_of}
+use Rattle.dvg_rows.specs.HeldRows.{rows_of}
 use Rattle.dvg_named.specs.LaidValues.{laid_section, laid_sections, rows_in, rows_laid, section_of, sections_of}
-use Rattle.dvg_named.specs.Places.{Laid, free_after, laid_end, laid_from, size}
+use Rattle.dvg_named.specs.Places.{Laid, free_after, laid_end, laid_from}
+use Rattle.dvg_rows.specs.RowPlaces.{size}
 use Rattle.dvg_named.specs.Sections.{RomRows}
-use Rattle.dvg_named.proofs.RowSizes.{size-append}
+use Rattle.dvg_rows.proofs.RowSizes.{size-append}
 
 -- one section more is laid
 pub laid_more : (laid : List held_laid.LaidRows) (last : held_laid.LaidRows) (section : RomRows) (next now free : ℕ)

@@ -1,14 +1,10 @@
 mod DraftRows
 mod ExampleNames
 mod LaidOrder
-mod LineCuts
 mod PlainWords
-mod RowSpelling
 mod OneSketch
-mod NamedRows
 mod NamedSections
 mod RomWritten
-mod RowSizes
 mod WholeTexts
 mod ReadCuts
 mod NamesMore
@@ -23,6 +19,7 @@ mod SourcedMore
 mod RomFew
 mod FrameLists
 mod NamesLaid
+mod ListedNames
 mod RomGiven
 mod EntriesMore
 mod NumberSteps

@@ -3,7 +3,7 @@ use Rattle.std.proofs.Common.{◌≡◌, ◌∙◌, ℕ, List, [], ◌∷◌, �
 use Rattle.std.proofs.lemmas.List.Elements.{filter-append}
 use Rattle.dvg_read.specs.Texts.{is_passed, told}
 use Rattle.dvg_named.specs.NamedFaults.{DraftsFit, GivesOnce, IsFineSketch, KeepsLimits, LieApart, Meets, MeetsNothing, ReachesLine, RomFits}
-use Rattle.dvg_named.specs.PlainLines.{plain_lines}
+use Rattle.dvg_rows.specs.PlainLines.{plain_lines}
 use Rattle.dvg_named.specs.Sections.{Spelled, SpellsSketch}
 use Rattle.dvg_named.proofs.FrontLimits.{limits_front}
 use Rattle.dvg_named.proofs.OneSketch.{front_spells, one_sketch}

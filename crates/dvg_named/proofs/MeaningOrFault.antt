@@ -13,8 +13,8 @@ use Rattle.dvg_named.specs.declared.fault.NamedFault.TheVariants.{Full, OutOfRom
 use Rattle.dvg_named.specs.FirstUnknown.{WantsNone}
 use Rattle.dvg_named.specs.Meanings.{Frame}
 use Rattle.dvg_named.specs.NamedFaults.{DenotesFrames, HasNamedFault, KeepsLimits, Meets, ReachesLine, WantsUngiven, laid_of}
-use Rattle.dvg_named.specs.PlainLines.{plain_lines}
-use Rattle.dvg_named.specs.Rows.{Row}
+use Rattle.dvg_rows.specs.PlainLines.{plain_lines}
+use Rattle.dvg_rows.specs.Rows.{Row}
 use Rattle.dvg_named.specs.Sections.{Section, Spelled, SpellsSketch, sections}
 use Rattle.dvg_named.specs.SketchSteps.{so_far}
 use Rattle.dvg_named.proofs.FrontLimits.{no_names}

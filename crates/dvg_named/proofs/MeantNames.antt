@@ -13,10 +13,11 @@ use Rattle.dvg_read.proofs.Steps.{Leads}
 use Rattle.dvg_named.specs.FrameValues.{frame_in}
 use Rattle.dvg_named.specs.Meanings.{Frame, IsDrafted, IsEncoded, IsFrameOf, IsGiven, IsMeant}
 use Rattle.dvg_named.specs.NamedFaults.{DenotesFrames, IsUngiven, WantsUngiven, laid_of}
-use Rattle.dvg_named.specs.Places.{Laid, doings, laid_from, size}
-use Rattle.dvg_named.specs.PlainLines.{plain, plain_lines, words}
+use Rattle.dvg_named.specs.Places.{Laid, laid_from}
+use Rattle.dvg_rows.specs.RowPlaces.{doings, size}
+use Rattle.dvg_rows.specs.PlainLines.{plain, plain_lines, words}
 use Rattle.dvg_named.specs.RomParts.{rom_in}
-use Rattle.dvg_named.specs.Rows.{Doing, Head, IsHeadLine, IsRowLine, Row, calls, calls_rom, frame, jumps, jumps_rom, plainly, rom, top}
+use Rattle.dvg_rows.specs.Rows.{Doing, Head, IsHeadLine, IsRowLine, Row, calls, calls_rom, frame, jumps, jumps_rom, plainly, rom, top}
 use Rattle.dvg_named.specs.Sections.{FrameRows, RomRows, Section, Spelled, SpellsSection, SpellsSketch, frames, rom_sections, sections, top_frame}
 use Rattle.dvg_named.specs.SketchSteps.{Goes}
 use Rattle.dvg_named.specs.Ungiven.{framed, in_rom}

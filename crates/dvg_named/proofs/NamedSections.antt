@@ -1,16 +1,19 @@
 -- Which sections of the ROM give a name, and where.
 use Rattle.std.proofs.Common.{◌≡◌, ◌<◌, ◌≤◌, ◌+◌, ℕ, List, [], ◌∷◌, ◌++◌, length, get_or, take, drop, map}
-use Rattle.std.proofs.Common.{refl, sym, ap, subst, ◌∙◌, arith, Option, Some}
+use Rattle.std.proofs.Common.{refl, sym, ap, subst, ◌∙◌, arith, suc, Option, Some, None}
 use Rattle.std.proofs.lemmas.List.{append_assoc, drop_more, get_or_append_left, get_or-map, length-append, map-append}
 use Rattle.std.proofs.lemmas.List.{length-map, take-append-drop}
 use Rattle.std.proofs.lemmas.List.Elements.{filter_map-append}
 use Rattle.dvg_named.specs.declared.laid.LaidRows as held
-use Rattle.dvg_named.specs.HeldRows.{rows_of}
+use Rattle.dvg_rows.specs.NameTables.{IsFound}
 use Rattle.dvg_named.specs.LaidValues.{AreLow, laid_section, laid_sections, rows_laid}
-use Rattle.dvg_named.specs.NamedFaults.{AreDistinct, names_of}
-use Rattle.dvg_named.specs.Places.{IsAddress, IsNamedAfter, Laid, laid_end, size}
-use Rattle.dvg_named.specs.Rows.{Row}
-use Rattle.dvg_named.proofs.NamedRows.{distinct_after, names_around, not_again, one_place}
+use Rattle.dvg_rows.specs.RowPlaces.{AreDistinct, names_of}
+use Rattle.dvg_named.specs.Places.{IsAddress, Laid, laid_end}
+use Rattle.dvg_rows.specs.RowPlaces.{IsNamedAfter, size}
+use Rattle.dvg_rows.specs.Rows.{Row}
+use Rattle.std.proofs.Math.Seq.{get_or-append_seam}
+use Rattle.dvg_rows.proofs.RowSizes.{size-append}
+use Rattle.dvg_rows.proofs.RowNames.{distinct_after, names_around, not_again, one_place}
 
 -- ---- lists
 
@@ -39,21 +42,6 @@ item_cut f (x ∷ xs) (z ∷ ys) zs y e =
     let rest = item_cut f xs ys zs y (cc) in
     record { item = rest.item; same = rest.same; low = let low = rest.low in omega arith; there = rest.there }
 
--- ---- no section gives a name
-
--- none of the first so many sections gives this name
-abbrev pub NoneNames : List ℕ → List held.LaidRows → ℕ → Type 0
-NoneNames name sections i = (k : ℕ) → k < i → (d : held.LaidRows) → (before : List Row)
-    → ¬ IsNamedAfter (rows_of (get_or sections k d).rows.now) name before
-
-pub no_address : (sections : List held.LaidRows) (name : List ℕ) → NoneNames name sections (length sections)
-    → (address : ℕ) → ¬ IsAddress (laid_sections sections) name address
-no_address sections name none address h =
-    let cut = item_cut laid_section sections h.earlier h.later h.section h.cut in
-    let rows : h.section.rows ≡ rows_of (get_or sections (length h.earlier) cut.item).rows.now =
-    ap (λ (laid : Laid). laid.rows) (sym cut.same) ∙ ap (λ (laid : held.LaidRows). rows_of laid.rows.now) (sym (cut.there cut.item)) in
-    none (length h.earlier) cut.low cut.item h.before (subst (λ rows. IsNamedAfter rows name h.before) rows h.named)
-
 -- ---- names that are given once
 
 -- of distinct names those of an end are distinct
@@ -68,10 +56,10 @@ distinct_front names others h = λ i j d low inside same. h i j d low (omega (ar
     ∙ sym (get_or_append_left names others d j inside))
 
 -- the names of a list around one
-record HasName (names : List (List ℕ)) (name : List ℕ) : Type 0 where
-  before : List (List ℕ)
-  after : List (List ℕ)
-  cut : names ≡ before ++ name ∷ after
+pub record HasName (names : List (List ℕ)) (name : List ℕ) : Type 0 where
+  pub before : List (List ℕ)
+  pub after : List (List ℕ)
+  pub cut : names ≡ before ++ name ∷ after
 
 -- no name is in a front and in the end after it
 not_in_both : (names others : List (List ℕ)) (name : List ℕ) → AreDistinct (names ++ others) → HasName names name
@@ -101,7 +89,7 @@ names_first : (section : Laid) (others : List Laid)
 names_first section others = filter_map-append name_in section.rows (rows_laid others)
 
 -- a name that a section gives is among those of all
-name_laid : (sections earlier later : List Laid) (section : Laid) (name : List ℕ) (before : List Row)
+pub name_laid : (sections earlier later : List Laid) (section : Laid) (name : List ℕ) (before : List Row)
     → sections ≡ earlier ++ section ∷ later → IsNamedAfter section.rows name before
     → HasName (names_of (rows_laid sections)) name
 name_laid [] [] later section name before e h = absurd cc
@@ -172,3 +160,36 @@ pub low_at : (sections : List held.LaidRows) (i : ℕ) (section : held.LaidRows)
 low_at sections i section low inside is =
     subst (λ l. laid_end l ≤ 0xC00) (get_or-map laid_section sections i section (laid_section section) inside ∙ ap laid_section (sym is))
     (low i (laid_section section) (omega (arith, length-map sections laid_section)))
+
+-- a name is that of no word after the ROM's last one but the next
+pub low_address : (sections : List Laid) (name : List ℕ) (address : ℕ) → AreLow sections → IsAddress sections name address
+    → address ≤ 0xC00
+low_address sections name address low h =
+    let size_of : length sections ≡ length h.earlier + suc (length h.later) =
+    ap length h.cut ∙ length-append h.earlier (h.section ∷ h.later) in
+    let end : laid_end h.section ≤ 0xC00 =
+    subst (λ l. laid_end l ≤ 0xC00)
+    (ap (λ l. get_or l (length h.earlier) h.section) h.cut ∙ get_or-append_seam h.earlier h.section h.later h.section)
+    (low (length h.earlier) h.section (omega (arith, size_of))) in
+    let rows : size h.section.rows ≡ size h.before + size (h.named.row ∷ h.named.after) =
+    ap size h.named.cut ∙ size-append h.before (h.named.row ∷ h.named.after) in
+    let place = h.place in
+    omega (arith, end, rows, place)
+
+-- ---- what a table of addresses tells
+
+-- a name that is found has this address
+pub address_is : (sections others : List held.LaidRows) (name : List ℕ) (found result : Option ℕ) (address : ℕ) → sections ≡ others
+    → result ≡ found → result ≡ Some address → IsFound (IsAddress (laid_sections sections) name) found
+    → IsAddress (laid_sections others) name address
+address_is sections others name found result address same is some h =
+    subst (λ ls. IsAddress (laid_sections ls) name address) same
+    (subst (IsFound (IsAddress (laid_sections sections) name)) (sym is ∙ some) h)
+
+-- one that isn't found has none
+pub no_address : (sections others : List held.LaidRows) (name : List ℕ) (found result : Option ℕ) → sections ≡ others
+    → result ≡ found → result ≡ None → IsFound (IsAddress (laid_sections sections) name) found → (address : ℕ)
+    → ¬ IsAddress (laid_sections others) name address
+no_address sections others name found result same is none h address given =
+    subst (IsFound (IsAddress (laid_sections sections) name)) (sym is ∙ none) h address
+    (subst (λ ls. IsAddress (laid_sections ls) name address) (sym same) given)

@@ -6,15 +6,16 @@ use Rattle.std.proofs.lemmas.List.{map_more}
 use Rattle.std.proofs.lemmas.List.Elements.{filter_map-append}
 use Rattle.std.specs.Option.{option_to_list}
 use Rattle.dvg_named.specs.declared.laid.LaidRows as held_laid
-use Rattle.dvg_named.specs.declared.row.Row as held
-use Rattle.dvg_named.specs.HeldRows.{rows_of}
+use Rattle.dvg_rows.specs.declared.row.Row as held
+use Rattle.dvg_rows.specs.HeldRows.{rows_of}
 use Rattle.dvg_named.specs.LaidValues.{laid_section, laid_sections, rows_laid}
-use Rattle.dvg_named.specs.NamedFaults.{names_of}
-use Rattle.dvg_named.specs.Places.{IsAddress, Laid, size}
+use Rattle.dvg_rows.specs.RowPlaces.{names_of}
+use Rattle.dvg_named.specs.Places.{IsAddress, Laid}
+use Rattle.dvg_rows.specs.RowPlaces.{size}
 use Rattle.dvg_named.specs.RomNames.{StandsIn}
-use Rattle.dvg_named.specs.RowValues.{name_of, row_of}
-use Rattle.dvg_named.specs.Rows.{Row}
-use Rattle.dvg_named.proofs.NamedRows.{cut_at}
+use Rattle.dvg_rows.specs.RowValues.{name_of, row_of}
+use Rattle.dvg_rows.specs.Rows.{Row}
+use Rattle.dvg_rows.proofs.RowNames.{cut_at}
 use Rattle.dvg_named.proofs.NamedSections.{map_cut_at}
 use Rattle.dvg_named.proofs.NamesMore.{names_more}
 

@@ -7,9 +7,9 @@ use Rattle.std.proofs.lemmas.List.Quantifiers.{all_pairs_push}
 use Rattle.std.proofs.Math.Seq.{get_or-append_seam}
 use Rattle.std.specs.List.{AllPairs, cons_option}
 use Rattle.std.specs.Option.{option_to_list}
-use Rattle.dvg_named.specs.GivenNames.{IsAgain, IsFresh}
-use Rattle.dvg_named.specs.NamedFaults.{AreDistinct, names_of}
-use Rattle.dvg_named.specs.Rows.{Row}
+use Rattle.dvg_rows.specs.FreshNames.{IsAgain, IsFresh}
+use Rattle.dvg_rows.specs.RowPlaces.{AreDistinct, names_of}
+use Rattle.dvg_rows.specs.Rows.{Row}
 
 -- ---- lists
 

@@ -9,11 +9,11 @@ use Rattle.dvg_named.specs.LineNumbers.{AreNumbered, Entry, IsEntryOf, KeepsEntr
 use Rattle.dvg_frame.specs.declared.op.OpKind.{OpKind}
 use Rattle.dvg_read.specs.OpLines.{OpParts}
 use Rattle.dvg_named.specs.ReadParts.{later}
-use Rattle.dvg_named.specs.Rows.{Doing, DoingParts, IsRowLine, Row, plain}
+use Rattle.dvg_rows.specs.Rows.{Doing, DoingParts, IsRowLine, Row, plain}
 use Rattle.dvg_named.specs.Sections.{Section, Spelled, SpellsSketch}
 use Rattle.dvg_named.proofs.OneSketch.{one_row, one_sketch}
-use Rattle.dvg_named.proofs.RowSpelling.{RowCase, alone, row_case, unnamed}
-use Rattle.dvg_named.proofs.RowSpelling as spelling
+use Rattle.dvg_rows.proofs.RowSpelling.{RowCase, alone, row_case, unnamed}
+use Rattle.dvg_rows.proofs.RowSpelling as spelling
 
 -- an item of a list with one more: the last one, or one before
 data LastCut {X : Type 0} (xs : List X) (y : X) (before : List X) (x : X) : Type 0 where

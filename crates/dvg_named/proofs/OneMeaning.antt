@@ -11,12 +11,14 @@ use Rattle.dvg_read.specs.RomTexts.{RomLine, RomText, first_told}
 use Rattle.dvg_read.specs.Texts.{told}
 use Rattle.dvg_named.specs.LaidValues.{rows_laid}
 use Rattle.dvg_named.specs.Meanings.{Frame, IsDrafted, IsEncoded, IsFrameOf, IsGiven, IsMeant, IsRomText}
-use Rattle.dvg_named.specs.NamedFaults.{AreDistinct, DenotesFrames, GivesOnce, laid_of, names_of}
-use Rattle.dvg_named.specs.Places.{IsAddress, Laid, doings, free_after}
-use Rattle.dvg_named.specs.PlainLines.{plain_lines}
-use Rattle.dvg_named.specs.Rows.{Doing, Row, plainly, calls, jumps, calls_rom, jumps_rom}
+use Rattle.dvg_named.specs.NamedFaults.{DenotesFrames, GivesOnce, laid_of}
+use Rattle.dvg_rows.specs.RowPlaces.{AreDistinct, names_of}
+use Rattle.dvg_named.specs.Places.{IsAddress, Laid, free_after}
+use Rattle.dvg_rows.specs.RowPlaces.{doings}
+use Rattle.dvg_rows.specs.PlainLines.{plain_lines}
+use Rattle.dvg_rows.specs.Rows.{Doing, Row, plainly, calls, jumps, calls_rom, jumps_rom}
 use Rattle.dvg_named.specs.Sections.{FrameRows, Spelled, frames, rom_sections}
-use Rattle.dvg_named.proofs.NamedRows.{one_number}
+use Rattle.dvg_rows.proofs.RowNames.{one_number}
 use Rattle.dvg_named.proofs.NamedSections.{one_address}
 use Rattle.dvg_named.proofs.OneSketch.{one_sketch}
 use Rattle.dvg_named.proofs.SketchWhole.{rows_are}

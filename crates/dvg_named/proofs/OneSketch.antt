@@ -14,12 +14,12 @@ use Rattle.dvg_read.proofs.OneOperation.{one_operation}
 use Rattle.dvg_read.proofs.RomSteps.{one_told, rom_leads, tells_more, told_by_name}
 use Rattle.dvg_read.proofs.Steps.{Leads, front_says, further, here, last_line, on, one_saying}
 use Rattle.dvg_read.proofs.Zips.{zip_push}
-use Rattle.dvg_named.specs.Rows.{Doing, DoingParts, Head, HeadParts, IsHeadLine, IsName, IsRowLine, Row, RowParts, plain}
-use Rattle.dvg_named.specs.Rows as rows
+use Rattle.dvg_rows.specs.Rows.{Doing, DoingParts, Head, HeadParts, IsHeadLine, IsName, IsRowLine, Row, RowParts, plain}
+use Rattle.dvg_rows.specs.Rows as rows
 use Rattle.dvg_named.specs.Sections.{MayStand, Section, Spelled, SpellsSection, SpellsSketch}
 use Rattle.dvg_named.specs.SketchSteps.{Goes, adds, begins, begun, so_far, tells, tops, with_row}
-use Rattle.dvg_named.proofs.RowSpelling.{RowCase, alone, before, colon_at_end, does_not_name, last_byte, no_words_no_doing, no_words_no_row, not_plain}
-use Rattle.dvg_named.proofs.RowSpelling.{one_call, one_callrom, one_jump, one_jumprom, row_case, unnamed}
+use Rattle.dvg_rows.proofs.RowSpelling.{RowCase, alone, before, colon_at_end, does_not_name, last_byte, no_words_no_doing, no_words_no_row, not_plain}
+use Rattle.dvg_rows.proofs.RowSpelling.{one_call, one_callrom, one_jump, one_jumprom, row_case, unnamed}
 
 -- ---- words spell one row at most
 

@@ -8,16 +8,17 @@ use Rattle.std.proofs.lemmas.Slice.Zip.{AllZip-long}
 use Rattle.dvg_frame.specs.declared.op.OpKind.{OpKind}
 use Rattle.dvg_named.specs.declared.frame_rows.FrameRows as held_frame
 use Rattle.dvg_named.specs.declared.joining.FrameSpan.{FrameSpan}
-use Rattle.dvg_named.specs.declared.meaning.Source.{Source}
-use Rattle.dvg_named.specs.declared.row.Doing as held_doing
-use Rattle.dvg_named.specs.declared.row.Row as held
+use Rattle.dvg_rows.specs.declared.source.Source.{Source}
+use Rattle.dvg_rows.specs.declared.row.Doing as held_doing
+use Rattle.dvg_rows.specs.declared.row.Row as held
 use Rattle.dvg_named.specs.FlatFrames.{IsSpanOf}
 use Rattle.dvg_named.specs.FrameValues.{IsFrameAt, frames_of}
-use Rattle.dvg_named.specs.HeldRows.{rows_of}
+use Rattle.dvg_rows.specs.HeldRows.{rows_of}
 use Rattle.dvg_named.specs.OpSources.{AreLinesOf, HasRowLines, IsDoneAt, line_kept, op_sources}
-use Rattle.dvg_named.specs.Places.{Laid, doings}
+use Rattle.dvg_named.specs.Places.{Laid}
+use Rattle.dvg_rows.specs.RowPlaces.{doings}
 use Rattle.dvg_named.specs.ReadSketches.{IsInside, StandsIn, joined_at}
-use Rattle.dvg_named.specs.RowValues.{doing_of_some, row_of}
+use Rattle.dvg_rows.specs.RowValues.{doing_of_some, row_of}
 use Rattle.dvg_named.specs.SourcedRows.{IsRowAt}
 use Rattle.dvg_named.proofs.FlatSpans.{cut_front, drop_front}
 

@@ -13,15 +13,17 @@ use Rattle.dvg_read.specs.OpLines.{IsOpLine}
 use Rattle.dvg_read.specs.RomTexts.{IsMapLine, IsRomLine, RomLine, RomText, SpellsRom, large, mapped, small, unmapped}
 use Rattle.dvg_read.specs.Texts.{IsHex, is_passed, lines, parts, told}
 use Rattle.dvg_named.specs.Meanings.{IsDrafted, IsFrameOf}
-use Rattle.dvg_named.specs.NamedFaults.{AreDistinct, DenotesFrames, KeepsLimits, laid_of, names_of}
-use Rattle.dvg_named.specs.Places.{Laid, doings}
-use Rattle.dvg_named.specs.PlainLines.{is_blank, is_some_byte, plain, plain_lines, uncommented, words}
-use Rattle.dvg_named.specs.Rows.{IsRowLine, Row, RowParts, does, plainly}
-use Rattle.dvg_named.specs.Rows as rows
+use Rattle.dvg_named.specs.NamedFaults.{DenotesFrames, KeepsLimits, laid_of}
+use Rattle.dvg_rows.specs.RowPlaces.{AreDistinct, names_of}
+use Rattle.dvg_named.specs.Places.{Laid}
+use Rattle.dvg_rows.specs.RowPlaces.{doings}
+use Rattle.dvg_rows.specs.PlainLines.{is_blank, is_some_byte, plain, plain_lines, uncommented, words}
+use Rattle.dvg_rows.specs.Rows.{IsRowLine, Row, RowParts, does, plainly}
+use Rattle.dvg_rows.specs.Rows as rows
 use Rattle.dvg_named.specs.Sections.{Spelled, SpellsSketch}
 use Rattle.dvg_named.specs.SketchSteps.{so_far}
 use Rattle.dvg_named.proofs.FrontLimits.{no_names}
-use Rattle.dvg_named.proofs.LineCuts.{cut_at_comment}
+use Rattle.dvg_rows.proofs.LineCuts.{cut_at_comment}
 use Rattle.dvg_named.proofs.PlainWords.{passed_without_words}
 use Rattle.dvg_named.proofs.ReadCuts.{top_alone}
 use Rattle.dvg_named.proofs.ReadLimits.{IsInRom, IsOnce, IsSmall, framed, within_out}

@@ -7,8 +7,8 @@ use Rattle.std.specs.List.{join_with_byte, onto_first, slice_split}
 use Rattle.std.specs.Str.Lines.{strip_carriage_return}
 use Rattle.dvg_read.proofs.FirstBytes.{HasNone}
 use Rattle.dvg_read.specs.Texts.{is_passed, parts}
-use Rattle.dvg_named.specs.PlainLines.{is_blank, is_some_byte, plain, uncommented, words}
-use Rattle.dvg_named.proofs.LineCuts.{none_in_uncommented}
+use Rattle.dvg_rows.specs.PlainLines.{is_blank, is_some_byte, plain, uncommented, words}
+use Rattle.dvg_rows.proofs.LineCuts.{none_in_uncommented}
 
 -- ---- what holds of each byte of a list, but of those at which it is cut, holds of each byte of its parts
 

@@ -5,18 +5,19 @@ use Rattle.std.specs.Option.{option_to_list}
 use Rattle.dvg_read.specs.LineParts.{bytes_of}
 use Rattle.dvg_read.specs.RomReading.{TellsRom, untold}
 use Rattle.dvg_read.specs.RomTexts.{RomText, first_told}
-use Rattle.dvg_named.specs.declared.given_names.GivenNames.{GivenNames}
-use Rattle.dvg_named.specs.declared.line_fault.LineFault.{LineFault}
-use Rattle.dvg_named.specs.declared.line_fault.LineFault.TheVariants.{Full, Memory, OutOfRom, Overlap, Syntax, Twice}
+use Rattle.dvg_rows.specs.declared.given_names.GivenNames.{GivenNames}
+use Rattle.dvg_rows.specs.declared.line_fault.LineFault.{LineFault}
+use Rattle.dvg_rows.specs.declared.line_fault.LineFault.TheVariants.{Full, Memory, OutOfRom, Overlap, Syntax, Twice}
 use Rattle.dvg_named.specs.declared.reading.Reading.{Reading}
-use Rattle.dvg_named.specs.declared.rom_area.RomArea.{RomArea}
+use Rattle.dvg_rows.specs.declared.rom_area.RomArea.{RomArea}
 use Rattle.dvg_named.specs.declared.told_rom.ToldRom.{ToldRom}
-use Rattle.dvg_named.specs.GivenNames.{IsFresh, StopsNames}
-use Rattle.dvg_named.specs.HeldRows.{rows_of}
-use Rattle.dvg_named.specs.NamedFaults.{AreDistinct, KeepsLimits}
+use Rattle.dvg_rows.specs.FreshNames.{IsFresh, StopsNames}
+use Rattle.dvg_rows.specs.HeldRows.{rows_of}
+use Rattle.dvg_named.specs.NamedFaults.{KeepsLimits}
+use Rattle.dvg_rows.specs.RowPlaces.{AreDistinct}
 use Rattle.dvg_named.specs.ReadParts.{KeepsNext, free_told, sketch_of}
-use Rattle.dvg_named.specs.RomAreas.{BeginsAt, StopsBegin}
-use Rattle.dvg_named.specs.Rows.{Head, IsHeadLine, frame, rom, top}
+use Rattle.dvg_rows.specs.RomAreas.{BeginsAt, StopsBegin}
+use Rattle.dvg_rows.specs.Rows.{Head, IsHeadLine, frame, rom, top}
 use Rattle.dvg_named.specs.Sections.{Section}
 use Rattle.dvg_named.specs.SketchReading.{IsBare, Keeps, Opens, Reads, ReadsMore, StopsSketch, closed_in, head_in, section_in, spelled_in}
 use Rattle.dvg_named.specs.SketchSteps.{Goes, begun, tells}
@@ -53,8 +54,8 @@ module _ {A : Type 0} (old : Reading A) (told : RomText) (line : List ℕ) (read
       (sym opened.opened) (goes_begin told (closed_in old) (section_in old.last) head line spelled))
 
   pub frame_opened : (names : GivenNames A) (name : Option (List ℕ)) (new : Reading A) → IsHeadLine (frame name) line
-      → bytes_of names.given.items ≡ bytes_of old.frame_names.given.items ++ option_to_list name
-      → IsFresh (bytes_of old.frame_names.given.items) name → Opens (record old { frame_names = names }) (frame name) new
+      → bytes_of names.given.keys ≡ bytes_of old.frame_names.given.keys ++ option_to_list name
+      → IsFresh (bytes_of old.frame_names.given.keys) name → Opens (record old { frame_names = names }) (frame name) new
       → ReadsMore told old line new
   frame_opened names name new spelled given fresh opened = record {
     now = told;
@@ -63,22 +64,22 @@ module _ {A : Type 0} (old : Reading A) (told : RomText) (line : List ℕ) (read
       rom = subst (λ rom. HoldsTold told rom) (sym opened.rom) reads.rom;
       keeps =
           keeps_as told (closed_in old ++ section_in old.last ∷ []) (closed_in new) (begun (frame name)) (section_in new.last)
-          (bytes_of old.frame_names.given.items ++ option_to_list name) (bytes_of new.frame_names.given.items)
-          (bytes_of old.rom_names.given.items) (bytes_of new.rom_names.given.items) [] (bytes_of new.names.given.items) 0
+          (bytes_of old.frame_names.given.keys ++ option_to_list name) (bytes_of new.frame_names.given.keys)
+          (bytes_of old.rom_names.given.keys) (bytes_of new.rom_names.given.keys) [] (bytes_of new.names.given.keys) 0
           new.count old.area new.area opened.closed opened.opened
-          (ap (λ (names : GivenNames A). bytes_of names.given.items) opened.frame_names ∙ given)
-          (ap (λ (names : GivenNames A). bytes_of names.given.items) opened.rom_names) opened.names opened.count opened.area
-          (begun_frame told (closed_in old) (section_in old.last) (bytes_of old.frame_names.given.items)
-          (bytes_of old.rom_names.given.items) (bytes_of old.names.given.items) old.count old.area reads.keeps name fresh);
+          (ap (λ (names : GivenNames A). bytes_of names.given.keys) opened.frame_names ∙ given)
+          (ap (λ (names : GivenNames A). bytes_of names.given.keys) opened.rom_names) opened.names opened.count opened.area
+          (begun_frame told (closed_in old) (section_in old.last) (bytes_of old.frame_names.given.keys)
+          (bytes_of old.rom_names.given.keys) (bytes_of old.names.given.keys) old.count old.area reads.keeps name fresh);
     };
   }
 
   pub frame_refused : (name : Option (List ℕ)) (fault : LineFault) → IsHeadLine (frame name) line
-      → StopsNames (bytes_of old.frame_names.given.items) name fault → StopsSketch fault (spelled_in told old) line
+      → StopsNames (bytes_of old.frame_names.given.keys) name fault → StopsSketch fault (spelled_in told old) line
   frame_refused name fault spelled stops =
-      names_stop fault (bytes_of old.frame_names.given.items) name (spelled_in told old) line stops
-      (λ again. begun_twice told (closed_in old) (section_in old.last) (bytes_of old.frame_names.given.items)
-      (bytes_of old.rom_names.given.items) (bytes_of old.names.given.items) old.count old.area reads.keeps name line spelled
+      names_stop fault (bytes_of old.frame_names.given.keys) name (spelled_in told old) line stops
+      (λ again. begun_twice told (closed_in old) (section_in old.last) (bytes_of old.frame_names.given.keys)
+      (bytes_of old.rom_names.given.keys) (bytes_of old.names.given.keys) old.count old.area reads.keeps name line spelled
       again)
 
   pub rom_opened : (area : RomArea) (address : Option ℕ) (first : ℕ) (new : Reading A) → IsHeadLine (rom address) line
@@ -91,12 +92,12 @@ module _ {A : Type 0} (old : Reading A) (told : RomText) (line : List ℕ) (read
       rom = subst (λ rom. HoldsTold told rom) (sym opened.rom) reads.rom;
       keeps =
           keeps_as told (closed_in old ++ section_in old.last ∷ []) (closed_in new) (begun (rom address)) (section_in new.last)
-          (bytes_of old.frame_names.given.items) (bytes_of new.frame_names.given.items) (bytes_of old.rom_names.given.items)
-          (bytes_of new.rom_names.given.items) [] (bytes_of new.names.given.items) 0 new.count area new.area opened.closed
-          opened.opened (ap (λ (names : GivenNames A). bytes_of names.given.items) opened.frame_names)
-          (ap (λ (names : GivenNames A). bytes_of names.given.items) opened.rom_names) opened.names opened.count opened.area
-          (begun_rom told (closed_in old) (section_in old.last) (bytes_of old.frame_names.given.items)
-          (bytes_of old.rom_names.given.items) (bytes_of old.names.given.items) old.count old.area reads.keeps address first e
+          (bytes_of old.frame_names.given.keys) (bytes_of new.frame_names.given.keys) (bytes_of old.rom_names.given.keys)
+          (bytes_of new.rom_names.given.keys) [] (bytes_of new.names.given.keys) 0 new.count area new.area opened.closed
+          opened.opened (ap (λ (names : GivenNames A). bytes_of names.given.keys) opened.frame_names)
+          (ap (λ (names : GivenNames A). bytes_of names.given.keys) opened.rom_names) opened.names opened.count opened.area
+          (begun_rom told (closed_in old) (section_in old.last) (bytes_of old.frame_names.given.keys)
+          (bytes_of old.rom_names.given.keys) (bytes_of old.names.given.keys) old.count old.area reads.keeps address first e
           area begins);
     };
   }
@@ -105,8 +106,8 @@ module _ {A : Type 0} (old : Reading A) (told : RomText) (line : List ℕ) (read
       → first ≡ first_told told.map → StopsBegin first address old.area fault
       → StopsSketch fault (spelled_in told old) line
   begin_refused address first OutOfRom spelled e out =
-      begun_out told (closed_in old) (section_in old.last) (bytes_of old.frame_names.given.items)
-      (bytes_of old.rom_names.given.items) (bytes_of old.names.given.items) old.count old.area reads.keeps address line spelled
+      begun_out told (closed_in old) (section_in old.last) (bytes_of old.frame_names.given.keys)
+      (bytes_of old.rom_names.given.keys) (bytes_of old.names.given.keys) old.count old.area reads.keeps address line spelled
       first e out
   begin_refused address first Overlap spelled e h = absurd h
   begin_refused address first Twice spelled e h = absurd h
@@ -156,14 +157,14 @@ kept_bare told of_frames of_rom names count held a b c d free none = record {
 }
 
 pub begins_bare : {A : Type 0} (reading : Reading A) → HoldsTold untold reading.rom → reading.closed.items ≡ []
-    → reading.last.head ≡ None → reading.last.rows.items ≡ [] → bytes_of reading.frame_names.given.items ≡ []
-    → bytes_of reading.rom_names.given.items ≡ [] → bytes_of reading.names.given.items ≡ [] → reading.count ≡ 0
+    → reading.last.head ≡ None → reading.last.rows.items ≡ [] → bytes_of reading.frame_names.given.keys ≡ []
+    → bytes_of reading.rom_names.given.keys ≡ [] → bytes_of reading.names.given.keys ≡ [] → reading.count ≡ 0
     → reading.area.free ≡ 0x800 → ((a : ℕ) → get_or reading.area.is_taken a false ≡ false) → Reads untold reading
 begins_bare reading holds closed head rows a b c d free none = record {
   rom = holds;
   keeps =
-      keeps_as untold [] (closed_in reading) (record { head = top; rows = [] }) (section_in reading.last) [] (bytes_of reading.frame_names.given.items)
-      [] (bytes_of reading.rom_names.given.items) [] (bytes_of reading.names.given.items) 0 reading.count reading.area
+      keeps_as untold [] (closed_in reading) (record { head = top; rows = [] }) (section_in reading.last) [] (bytes_of reading.frame_names.given.keys)
+      [] (bytes_of reading.rom_names.given.keys) [] (bytes_of reading.names.given.keys) 0 reading.count reading.area
       reading.area (ap (map section_in) closed)
       (let at = ap head_in head in let none = ap rows_of rows in let s : section_in reading.last ≡ record { head = top; rows = [] } = cc in s)
       a b c d refl (kept_bare untold [] [] [] 0 reading.area refl refl refl refl free none);
@@ -215,8 +216,8 @@ rom_told old told line held area bare reads says free taken = record {
   goes = goes_told told says.now (closed_in old) (section_in old.last) line bare.0 bare.1 says.tells;
   reads = record {
     rom = says.holds;
-    keeps = told_by told says.now (closed_in old) (section_in old.last) (bytes_of old.frame_names.given.items)
-        (bytes_of old.rom_names.given.items) (bytes_of old.names.given.items) old.count old.area area bare.0 bare.1
+    keeps = told_by told says.now (closed_in old) (section_in old.last) (bytes_of old.frame_names.given.keys)
+        (bytes_of old.rom_names.given.keys) (bytes_of old.names.given.keys) old.count old.area area bare.0 bare.1
         (free ∙ says.holds.free) taken reads.keeps;
   };
 }

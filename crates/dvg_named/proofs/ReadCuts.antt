@@ -8,7 +8,7 @@ use Rattle.dvg_read.specs.RomTexts.{RomText}
 use Rattle.dvg_read.specs.RomReading.{TellsRom}
 use Rattle.dvg_named.specs.ReadParts.{StartsAtTop, front_roms, sketch_of}
 use Rattle.dvg_named.specs.RomParts.{rom_in, rom_list}
-use Rattle.dvg_named.specs.Rows.{Head, IsHeadLine, IsRowLine, Row, frame, rom, top}
+use Rattle.dvg_rows.specs.Rows.{Head, IsHeadLine, IsRowLine, Row, frame, rom, top}
 use Rattle.dvg_named.specs.Sections.{FrameRows, MayStand, Section, Spelled, frame_of, frames, rom_sections, top_frame}
 use Rattle.dvg_named.specs.SketchSteps.{Goes, adds, begins, begun, so_far, tells, tops, with_row}
 

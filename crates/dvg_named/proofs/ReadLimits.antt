@@ -6,12 +6,14 @@ use Rattle.std.proofs.lemmas.List.Elements.{All-nil, All-push, filter_map-append
 use Rattle.std.specs.List.{cons_option, filter_map, flat_map}
 use Rattle.std.specs.Option.{option_to_list}
 use Rattle.dvg_read.specs.RomTexts.{RomText, first_told}
-use Rattle.dvg_named.specs.GivenNames.{IsAgain, IsFresh}
-use Rattle.dvg_named.specs.NamedFaults.{AreDistinct, DraftsFit, GivesOnce, KeepsLimits, LieApart, RomFits, names_of}
-use Rattle.dvg_named.specs.Places.{Laid, doings, laid_end, laid_from, size}
+use Rattle.dvg_rows.specs.FreshNames.{IsAgain, IsFresh}
+use Rattle.dvg_named.specs.NamedFaults.{DraftsFit, GivesOnce, KeepsLimits, LieApart, RomFits}
+use Rattle.dvg_rows.specs.RowPlaces.{AreDistinct, names_of}
+use Rattle.dvg_named.specs.Places.{Laid, laid_end, laid_from}
+use Rattle.dvg_rows.specs.RowPlaces.{doings, size}
 use Rattle.dvg_named.specs.ReadParts.{free_from, free_told}
 use Rattle.dvg_named.specs.RowMoves.{IsCounted, IsFull}
-use Rattle.dvg_named.specs.Rows.{Doing, Row}
+use Rattle.dvg_rows.specs.Rows.{Doing, Row}
 use Rattle.dvg_named.specs.Sections.{FrameRows, RomRows, Spelled, frames, rom_sections}
 use Rattle.dvg_named.proofs.LaidMore.{Apart, laid_push}
 use Rattle.dvg_named.proofs.NamesMore.{again_breaks, all_front, all_last, as_list, distinct_push, names_more}

@@ -4,15 +4,17 @@ use Rattle.std.proofs.Common.{append-nil, unwrap_or, All, true, false, Option, N
 use Rattle.std.specs.List.{filter_map, flat_map}
 use Rattle.std.specs.Option.{option_to_list}
 use Rattle.dvg_read.specs.RomTexts.{RomText, first_told}
-use Rattle.dvg_named.specs.declared.rom_area.RomArea.{RomArea}
-use Rattle.dvg_named.specs.GivenNames.{IsAgain, IsFresh}
-use Rattle.dvg_named.specs.NamedFaults.{DraftsFit, GivesOnce, LieApart, RomFits, names_of}
-use Rattle.dvg_named.specs.Places.{Laid, doings, size}
+use Rattle.dvg_rows.specs.declared.rom_area.RomArea.{RomArea}
+use Rattle.dvg_rows.specs.FreshNames.{IsAgain, IsFresh}
+use Rattle.dvg_named.specs.NamedFaults.{DraftsFit, GivesOnce, LieApart, RomFits}
+use Rattle.dvg_rows.specs.RowPlaces.{names_of}
+use Rattle.dvg_named.specs.Places.{Laid}
+use Rattle.dvg_rows.specs.RowPlaces.{doings, size}
 use Rattle.dvg_named.specs.ReadParts.{KeepsArea, KeepsFrame, KeepsNext, StartsAtTop, free_from, free_told, front_roms, sketch_of}
-use Rattle.dvg_named.specs.RomAreas.{BeginsAt, IsFree, Takes}
+use Rattle.dvg_rows.specs.RomAreas.{BeginsAt, IsFree, Takes}
 use Rattle.dvg_named.specs.RomParts.{rom_list}
 use Rattle.dvg_named.specs.RowMoves.{IsCounted, IsFrameHead, IsFull}
-use Rattle.dvg_named.specs.Rows.{Head, IsHeadLine, IsRowLine, Row, frame, rom, top}
+use Rattle.dvg_rows.specs.Rows.{Head, IsHeadLine, IsRowLine, Row, frame, rom, top}
 use Rattle.dvg_named.specs.Sections.{FrameRows, MayStand, RomRows, Section, Spelled, frames, rom_sections}
 use Rattle.dvg_named.specs.SketchReading.{Breaks, Keeps}
 use Rattle.dvg_named.specs.SketchSteps.{Goes, begun}
@@ -21,7 +23,7 @@ use Rattle.dvg_named.proofs.ReadCuts.{frame_list, frames_close, frames_cut, fron
 use Rattle.dvg_named.proofs.ReadLimits.{IsInRom, IsSmall, Once, Within, drafts_out, drafts_in, framed, laid_all, laid_last, of_rom, once_in, once_out, rom_in, rom_out, apart_in, start_at, within_in, within_out}
 use Rattle.dvg_named.proofs.ReadLimits.{begun_again, begun_names, begun_once, begun_small, closed_names, closed_once, closed_small, counted_more, fits_front, fits_last, frame_row_again, frame_row_full, frame_row_once, frame_row_small, last_fits, rom_begun_once, rom_names_begun, rom_names_more, rom_row_again, rom_row_once, row_names}
 use Rattle.dvg_named.proofs.NamesMore.{names_more}
-use Rattle.dvg_named.proofs.RowSizes.{size-append}
+use Rattle.dvg_rows.proofs.RowSizes.{size-append}
 
 abbrev part : Head → List Row → Section
 part head rows = record { head = head; rows = rows }

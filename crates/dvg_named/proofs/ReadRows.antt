@@ -5,22 +5,22 @@ use Rattle.std.specs.Option.{option_to_list}
 use Rattle.dvg_read.specs.LineParts.{bytes_of}
 use Rattle.dvg_read.specs.RomTexts.{RomText}
 use Rattle.dvg_read.specs.Texts.{parts}
-use Rattle.dvg_named.specs.declared.given_names.GivenNames.{GivenNames}
-use Rattle.dvg_named.specs.declared.line_fault.LineFault.{LineFault}
-use Rattle.dvg_named.specs.declared.line_fault.LineFault.TheVariants.{Full, Memory, OutOfRom, Overlap, Syntax, Twice}
-use Rattle.dvg_named.specs.declared.part.Part.{Part}
+use Rattle.dvg_rows.specs.declared.given_names.GivenNames.{GivenNames}
+use Rattle.dvg_rows.specs.declared.line_fault.LineFault.{LineFault}
+use Rattle.dvg_rows.specs.declared.line_fault.LineFault.TheVariants.{Full, Memory, OutOfRom, Overlap, Syntax, Twice}
+use Rattle.dvg_rows.specs.declared.part.Part.{Part}
 use Rattle.dvg_named.specs.declared.reading.Reading.{Reading}
-use Rattle.dvg_named.specs.declared.rom_area.RomArea.{RomArea}
-use Rattle.dvg_named.specs.declared.row.Row as held_row
-use Rattle.dvg_named.specs.GivenNames.{IsAgain, IsFresh, StopsNames}
-use Rattle.dvg_named.specs.HeldRows.{rows_of}
+use Rattle.dvg_rows.specs.declared.rom_area.RomArea.{RomArea}
+use Rattle.dvg_rows.specs.declared.row.Row as held_row
+use Rattle.dvg_rows.specs.FreshNames.{IsAgain, IsFresh, StopsNames}
+use Rattle.dvg_rows.specs.HeldRows.{rows_of}
 use Rattle.dvg_named.specs.NamedFaults.{DraftsFit, GivesOnce, LieApart, RomFits}
-use Rattle.dvg_named.specs.Places.{size}
+use Rattle.dvg_rows.specs.RowPlaces.{size}
 use Rattle.dvg_named.specs.ReadParts.{sketch_of}
-use Rattle.dvg_named.specs.RomAreas.{StopsArea, Takes}
+use Rattle.dvg_rows.specs.RomAreas.{StopsArea, Takes}
 use Rattle.dvg_named.specs.RowMoves.{IsCounted, IsFrameHead, IsFull, IsRomHead}
-use Rattle.dvg_named.specs.Rows.{Head, IsRowLine, Row, frame, rom, top}
-use Rattle.dvg_named.specs.RowValues.{row_of}
+use Rattle.dvg_rows.specs.Rows.{Head, IsRowLine, Row, frame, rom, top}
+use Rattle.dvg_rows.specs.RowValues.{row_of}
 use Rattle.dvg_named.specs.Sections.{MayStand, Spelled}
 use Rattle.dvg_named.specs.SketchReading.{Breaks, Keeps, Reads, ReadsMore, StopsSketch, closed_in, head_in, section_in, spelled_in}
 use Rattle.dvg_named.specs.SketchSteps.{Goes, with_row}
@@ -63,13 +63,13 @@ module _ {A : Type 0} (old : Reading A) (row : held_row.Row) (told : RomText) (l
     (spelled : IsRowLine (row_of row) line) where
   pub frame_added : (last : Part A) (names : GivenNames A) (count : ℕ) → IsFrameHead (head_in old.last.head)
       → section_in last ≡ with_row (section_in old.last) (row_of row)
-      → bytes_of names.given.items ≡ bytes_of old.names.given.items ++ option_to_list (row_of row).name
-      → IsFresh (bytes_of old.names.given.items) (row_of row).name → IsCounted old.count (row_of row).doing count
+      → bytes_of names.given.keys ≡ bytes_of old.names.given.keys ++ option_to_list (row_of row).name
+      → IsFresh (bytes_of old.names.given.keys) (row_of row).name → IsCounted old.count (row_of row).doing count
       → ReadsMore told old line (record old { last = last; names = names; count = count })
   frame_added last names count head pushed given fresh counted =
       let closed = closed_in old in
-      let kept = frame_row told closed (rows_of old.last.rows.items) (row_of row) (bytes_of old.frame_names.given.items)
-      (bytes_of old.rom_names.given.items) (bytes_of old.names.given.items) old.count old.area (head_in old.last.head) head
+      let kept = frame_row told closed (rows_of old.last.rows.items) (row_of row) (bytes_of old.frame_names.given.keys)
+      (bytes_of old.rom_names.given.keys) (bytes_of old.names.given.keys) old.count old.area (head_in old.last.head) head
       reads.keeps fresh count counted in
       record {
         now = told;
@@ -78,27 +78,27 @@ module _ {A : Type 0} (old : Reading A) (row : held_row.Row) (told : RomText) (l
         reads = record {
           rom = reads.rom;
           keeps =
-              subst (λ s. Keeps told closed s (bytes_of old.frame_names.given.items) (bytes_of old.rom_names.given.items) (bytes_of names.given.items) count old.area)
+              subst (λ s. Keeps told closed s (bytes_of old.frame_names.given.keys) (bytes_of old.rom_names.given.keys) (bytes_of names.given.keys) count old.area)
               (sym pushed)
-              (subst (λ l. Keeps told closed (with_row (section_in old.last) (row_of row)) (bytes_of old.frame_names.given.items) (bytes_of old.rom_names.given.items) l count old.area)
+              (subst (λ l. Keeps told closed (with_row (section_in old.last) (row_of row)) (bytes_of old.frame_names.given.keys) (bytes_of old.rom_names.given.keys) l count old.area)
               (sym given) kept);
         };
       }
 
   pub frame_given : (fault : LineFault) → IsFrameHead (head_in old.last.head)
-      → StopsNames (bytes_of old.names.given.items) (row_of row).name fault → StopsSketch fault (spelled_in told old) line
+      → StopsNames (bytes_of old.names.given.keys) (row_of row).name fault → StopsSketch fault (spelled_in told old) line
   frame_given fault head stops =
-      names_stop fault (bytes_of old.names.given.items) (row_of row).name (spelled_in told old) line stops
+      names_stop fault (bytes_of old.names.given.keys) (row_of row).name (spelled_in told old) line stops
       (λ again. frame_twice told (closed_in old) (rows_of old.last.rows.items) (row_of row)
-      (bytes_of old.frame_names.given.items) (bytes_of old.rom_names.given.items) (bytes_of old.names.given.items) old.count
+      (bytes_of old.frame_names.given.keys) (bytes_of old.rom_names.given.keys) (bytes_of old.names.given.keys) old.count
       old.area (head_in old.last.head) head reads.keeps again line spelled)
 
-  pub frame_filled : IsFrameHead (head_in old.last.head) → IsFresh (bytes_of old.names.given.items) (row_of row).name
+  pub frame_filled : IsFrameHead (head_in old.last.head) → IsFresh (bytes_of old.names.given.keys) (row_of row).name
       → IsFull old.count (row_of row).doing
       → Breaks (λ now. GivesOnce now × (¬ DraftsFit now)) (spelled_in told old) line
   frame_filled head fresh full =
-      frame_full told (closed_in old) (rows_of old.last.rows.items) (row_of row) (bytes_of old.frame_names.given.items)
-      (bytes_of old.rom_names.given.items) (bytes_of old.names.given.items) old.count old.area (head_in old.last.head) head
+      frame_full told (closed_in old) (rows_of old.last.rows.items) (row_of row) (bytes_of old.frame_names.given.keys)
+      (bytes_of old.rom_names.given.keys) (bytes_of old.names.given.keys) old.count old.area (head_in old.last.head) head
       reads.keeps fresh line spelled full
 
   -- ---- a row of the ROM
@@ -106,17 +106,17 @@ module _ {A : Type 0} (old : Reading A) (row : held_row.Row) (told : RomText) (l
   pub rom_added : (head : Head) → head ≡ head_in old.last.head → IsRomHead head → MayStand (rom None) (row_of row)
       → (last : Part A) (names : GivenNames A) (area : RomArea)
       → section_in last ≡ with_row (section_in old.last) (row_of row)
-      → bytes_of names.given.items ≡ bytes_of old.rom_names.given.items ++ option_to_list (row_of row).name
-      → IsFresh (bytes_of old.rom_names.given.items) (row_of row).name → Takes (size (row_of row ∷ [])) old.area area
+      → bytes_of names.given.keys ≡ bytes_of old.rom_names.given.keys ++ option_to_list (row_of row).name
+      → IsFresh (bytes_of old.rom_names.given.keys) (row_of row).name → Takes (size (row_of row ∷ [])) old.area area
       → ReadsMore told old line (record old { last = last; rom_names = names; area = area })
   rom_added top e head may last names area pushed given fresh takes = absurd head
   rom_added (frame name) e head may last names area pushed given fresh takes = absurd head
   rom_added (rom address) e head may last names area pushed given fresh takes =
       let closed = closed_in old in
       let rows = rows_of old.last.rows.items in
-      let kept = rom_row told closed address rows (row_of row) (bytes_of old.frame_names.given.items)
-      (bytes_of old.rom_names.given.items) (bytes_of old.names.given.items) old.count old.area
-      (subst (λ head. Keeps told closed (record { head = head; rows = rows }) (bytes_of old.frame_names.given.items) (bytes_of old.rom_names.given.items) (bytes_of old.names.given.items) old.count old.area) (sym e) reads.keeps)
+      let kept = rom_row told closed address rows (row_of row) (bytes_of old.frame_names.given.keys)
+      (bytes_of old.rom_names.given.keys) (bytes_of old.names.given.keys) old.count old.area
+      (subst (λ head. Keeps told closed (record { head = head; rows = rows }) (bytes_of old.frame_names.given.keys) (bytes_of old.rom_names.given.keys) (bytes_of old.names.given.keys) old.count old.area) (sym e) reads.keeps)
       may fresh area takes in
       let is : section_in last ≡ record { head = rom address; rows = rows ++ row_of row ∷ [] } =
       pushed ∙ ap (λ head. with_row (record { head = head; rows = rows }) (row_of row)) (sym e) in
@@ -127,9 +127,9 @@ module _ {A : Type 0} (old : Reading A) (row : held_row.Row) (told : RomText) (l
         reads = record {
           rom = reads.rom;
           keeps =
-              subst (λ s. Keeps told closed s (bytes_of old.frame_names.given.items) (bytes_of names.given.items) (bytes_of old.names.given.items) old.count area)
+              subst (λ s. Keeps told closed s (bytes_of old.frame_names.given.keys) (bytes_of names.given.keys) (bytes_of old.names.given.keys) old.count area)
               (sym is)
-              (subst (λ l. Keeps told closed (record { head = rom address; rows = rows ++ row_of row ∷ [] }) (bytes_of old.frame_names.given.items) l (bytes_of old.names.given.items) old.count area)
+              (subst (λ l. Keeps told closed (record { head = rom address; rows = rows ++ row_of row ∷ [] }) (bytes_of old.frame_names.given.keys) l (bytes_of old.names.given.keys) old.count area)
               (sym given) kept);
         };
       }
@@ -138,10 +138,10 @@ module _ {A : Type 0} (old : Reading A) (row : held_row.Row) (told : RomText) (l
     abbrev rows : List Row
     rows = rows_of old.last.rows.items
 
-    keeps : Keeps told (closed_in old) (record { head = rom address; rows = rows }) (bytes_of old.frame_names.given.items)
-        (bytes_of old.rom_names.given.items) (bytes_of old.names.given.items) old.count old.area
+    keeps : Keeps told (closed_in old) (record { head = rom address; rows = rows }) (bytes_of old.frame_names.given.keys)
+        (bytes_of old.rom_names.given.keys) (bytes_of old.names.given.keys) old.count old.area
     keeps =
-        subst (λ head. Keeps told (closed_in old) (record { head = head; rows = rows }) (bytes_of old.frame_names.given.items) (bytes_of old.rom_names.given.items) (bytes_of old.names.given.items) old.count old.area)
+        subst (λ head. Keeps told (closed_in old) (record { head = head; rows = rows }) (bytes_of old.frame_names.given.keys) (bytes_of old.rom_names.given.keys) (bytes_of old.names.given.keys) old.count old.area)
         (sym e) reads.keeps
 
     abbrev as_rom : Spelled
@@ -150,38 +150,38 @@ module _ {A : Type 0} (old : Reading A) (row : held_row.Row) (told : RomText) (l
     is_as : as_rom ≡ spelled_in told old
     is_as = ap (λ head. sketch_of told (closed_in old) (record { head = head; rows = rows })) e
 
-    given_by : (fault : LineFault) → StopsNames (bytes_of old.rom_names.given.items) (row_of row).name fault
+    given_by : (fault : LineFault) → StopsNames (bytes_of old.rom_names.given.keys) (row_of row).name fault
         → StopsSketch fault (spelled_in told old) line
     given_by fault stops =
-        names_stop fault (bytes_of old.rom_names.given.items) (row_of row).name (spelled_in told old) line stops
+        names_stop fault (bytes_of old.rom_names.given.keys) (row_of row).name (spelled_in told old) line stops
         (λ again. subst (λ s. Breaks (λ now. ¬ GivesOnce now) s line) is_as
-        (rom_twice told (closed_in old) address rows (row_of row) (bytes_of old.frame_names.given.items)
-        (bytes_of old.rom_names.given.items) (bytes_of old.names.given.items) old.count old.area keeps may line spelled again))
+        (rom_twice told (closed_in old) address rows (row_of row) (bytes_of old.frame_names.given.keys)
+        (bytes_of old.rom_names.given.keys) (bytes_of old.names.given.keys) old.count old.area keeps may line spelled again))
 
-    area_by : (fault : LineFault) → IsFresh (bytes_of old.rom_names.given.items) (row_of row).name
+    area_by : (fault : LineFault) → IsFresh (bytes_of old.rom_names.given.keys) (row_of row).name
         → StopsArea (size (row_of row ∷ [])) old.area fault → StopsSketch fault (spelled_in told old) line
     area_by OutOfRom fresh over =
         subst (λ s. Breaks (λ now. GivesOnce now × DraftsFit now × (¬ RomFits now)) s line) is_as
-        (rom_out_of told (closed_in old) address rows (row_of row) (bytes_of old.frame_names.given.items)
-        (bytes_of old.rom_names.given.items) (bytes_of old.names.given.items) old.count old.area keeps may fresh line spelled over)
+        (rom_out_of told (closed_in old) address rows (row_of row) (bytes_of old.frame_names.given.keys)
+        (bytes_of old.rom_names.given.keys) (bytes_of old.names.given.keys) old.count old.area keeps may fresh line spelled over)
     area_by Overlap fresh h =
         subst (λ s. Breaks (λ now. GivesOnce now × DraftsFit now × RomFits now × (¬ LieApart now)) s line) is_as
-        (rom_overlaps told (closed_in old) address rows (row_of row) (bytes_of old.frame_names.given.items)
-        (bytes_of old.rom_names.given.items) (bytes_of old.names.given.items) old.count old.area keeps may fresh h.0 line spelled h.1)
+        (rom_overlaps told (closed_in old) address rows (row_of row) (bytes_of old.frame_names.given.keys)
+        (bytes_of old.rom_names.given.keys) (bytes_of old.names.given.keys) old.count old.area keeps may fresh h.0 line spelled h.1)
     area_by Twice fresh h = absurd h
     area_by Memory fresh h = absurd h
     area_by Syntax fresh h = absurd h
     area_by Full fresh h = absurd h
 
   pub rom_given : (head : Head) → head ≡ head_in old.last.head → IsRomHead head → MayStand (rom None) (row_of row)
-      → (fault : LineFault) → StopsNames (bytes_of old.rom_names.given.items) (row_of row).name fault
+      → (fault : LineFault) → StopsNames (bytes_of old.rom_names.given.keys) (row_of row).name fault
       → StopsSketch fault (spelled_in told old) line
   rom_given top e head may fault stops = absurd head
   rom_given (frame name) e head may fault stops = absurd head
   rom_given (rom address) e head may fault stops = given_by address e may fault stops
 
   pub rom_stops : (head : Head) → head ≡ head_in old.last.head → IsRomHead head → MayStand (rom None) (row_of row)
-      → (fault : LineFault) → IsFresh (bytes_of old.rom_names.given.items) (row_of row).name
+      → (fault : LineFault) → IsFresh (bytes_of old.rom_names.given.keys) (row_of row).name
       → StopsArea (size (row_of row ∷ [])) old.area fault → StopsSketch fault (spelled_in told old) line
   rom_stops top e head may fault fresh stops = absurd head
   rom_stops (frame name) e head may fault fresh stops = absurd head

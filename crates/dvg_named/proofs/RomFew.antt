@@ -14,16 +14,17 @@ use Rattle.dvg_read.specs.RomTexts.{RomText}
 use Rattle.dvg_read.specs.Texts.{is_passed, lines, told}
 use Rattle.dvg_named.specs.declared.laid.LaidRows as held_laid
 use Rattle.dvg_named.specs.declared.laid.RomRows as held_rom
-use Rattle.dvg_named.specs.declared.part.Part.{Part}
+use Rattle.dvg_rows.specs.declared.part.Part.{Part}
 use Rattle.dvg_named.specs.declared.reading.Reading.{Reading}
-use Rattle.dvg_named.specs.HeldRows.{rows_of}
+use Rattle.dvg_rows.specs.HeldRows.{rows_of}
 use Rattle.dvg_named.specs.LaidValues.{AreLaid, laid_sections, rows_in, sections_of}
 use Rattle.dvg_named.specs.NamedFaults.{laid_of}
-use Rattle.dvg_named.specs.Places.{doings, laid_from, size, words_taken}
-use Rattle.dvg_named.specs.PlainLines.{plain}
+use Rattle.dvg_named.specs.Places.{laid_from}
+use Rattle.dvg_rows.specs.RowPlaces.{doings, size, words_taken}
+use Rattle.dvg_rows.specs.PlainLines.{plain}
 use Rattle.dvg_named.specs.ReadParts.{front_roms}
 use Rattle.dvg_named.specs.RomParts.{rom_in, rom_list}
-use Rattle.dvg_named.specs.Rows.{Doing, Head, IsRowLine, Row, calls, calls_rom, frame, jumps, jumps_rom, plainly, rom, top}
+use Rattle.dvg_rows.specs.Rows.{Doing, Head, IsRowLine, Row, calls, calls_rom, frame, jumps, jumps_rom, plainly, rom, top}
 use Rattle.dvg_named.specs.Sections.{RomRows, Section, Spelled, SpellsSection, SpellsSketch, rom_sections}
 use Rattle.dvg_named.specs.SketchReading.{Reads, closed_in, head_in, section_in, spelled_in}
 use Rattle.dvg_named.specs.TextReading.{ReadsText}

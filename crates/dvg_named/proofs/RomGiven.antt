@@ -8,10 +8,11 @@ use Rattle.dvg_named.specs.declared.reading.Reading.{Reading}
 use Rattle.dvg_named.specs.GivenRoms.{IsLaidText}
 use Rattle.dvg_named.specs.LaidValues.{laid_sections}
 use Rattle.dvg_named.specs.NamedFaults.{laid_of}
-use Rattle.dvg_named.specs.Places.{Laid, laid_from, size}
+use Rattle.dvg_named.specs.Places.{Laid, laid_from}
+use Rattle.dvg_rows.specs.RowPlaces.{size}
 use Rattle.dvg_named.specs.RomBytes.{LieInRom, MayStandInRom}
 use Rattle.dvg_named.specs.RomParts.{rom_in}
-use Rattle.dvg_named.specs.Rows.{Head, Row, frame, rom, top}
+use Rattle.dvg_rows.specs.Rows.{Head, Row, frame, rom, top}
 use Rattle.dvg_named.specs.Sections.{MayStand, RomRows, Section, SpellsSection, rom_sections}
 use Rattle.dvg_named.specs.SketchReading.{spelled_in}
 use Rattle.dvg_named.proofs.RomWritten.{first_is}

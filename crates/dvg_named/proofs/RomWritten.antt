@@ -18,20 +18,21 @@ use Rattle.dvg_read.proofs.GivenWords.{all_put}
 use Rattle.dvg_read.proofs.HeldRom.{all_fit, words_held}
 use Rattle.dvg_read.proofs.Zips.{zip_push}
 use Rattle.dvg_named.specs.declared.laid.LaidRows as held_laid
-use Rattle.dvg_named.specs.declared.row.Doing as held_doing
-use Rattle.dvg_named.specs.declared.row.Row as held
-use Rattle.dvg_named.specs.HeldRows.{rows_of}
+use Rattle.dvg_rows.specs.declared.row.Doing as held_doing
+use Rattle.dvg_rows.specs.declared.row.Row as held
+use Rattle.dvg_rows.specs.HeldRows.{rows_of}
 use Rattle.dvg_named.specs.LaidValues.{laid_section, laid_sections}
 use Rattle.dvg_named.specs.Meanings.{IsEncoded, IsGiven}
 use Rattle.dvg_named.specs.NamedFaults.{IsUngiven}
-use Rattle.dvg_named.specs.Places.{Laid, doings, size, words_taken}
+use Rattle.dvg_named.specs.Places.{Laid}
+use Rattle.dvg_rows.specs.RowPlaces.{doings, size, words_taken}
 use Rattle.dvg_named.specs.RomBytes.{ArePut, IsPut, MayStandInRom, TellsSections}
-use Rattle.dvg_named.specs.RowValues.{doing_of, doing_of_some, row_of}
-use Rattle.dvg_named.specs.Rows.{Doing, Row, plainly, calls, jumps, calls_rom, jumps_rom, rom}
+use Rattle.dvg_rows.specs.RowValues.{doing_of, doing_of_some, row_of}
+use Rattle.dvg_rows.specs.Rows.{Doing, Row, plainly, calls, jumps, calls_rom, jumps_rom, rom}
 use Rattle.dvg_named.specs.Sections.{MayStand, Section}
 use Rattle.dvg_named.specs.Ungiven.{WantsAt, in_rom}
 use Rattle.dvg_named.proofs.DraftRows.{one_doing}
-use Rattle.dvg_named.proofs.RowSizes.{size_front}
+use Rattle.dvg_rows.proofs.RowSizes.{size_front}
 
 -- ---- words that are put after others
 

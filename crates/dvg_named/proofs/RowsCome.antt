@@ -1,7 +1,7 @@
 -- Each row of a sketch stands in one of its lines.
 use Rattle.std.proofs.Common.{◌≡◌, ◌⊎◌, ◌∙◌, ℕ, zero, suc, inl, inr, List, [], ◌∷◌, ◌++◌, Some, length, ap, append_assoc, arith, refl, slice_get, subst, sym, length-append}
 use Rattle.dvg_read.specs.Texts.{told}
-use Rattle.dvg_named.specs.Rows.{IsRowLine, Row}
+use Rattle.dvg_rows.specs.Rows.{IsRowLine, Row}
 use Rattle.dvg_named.specs.Sections.{Section, Spelled, SpellsSketch, sections}
 use Rattle.dvg_named.specs.SketchSteps.{Goes, adds, begins, begun, tells, tops, with_row}
 use Rattle.dvg_named.proofs.RowsStay.{HasAt, HasRow, at_top}

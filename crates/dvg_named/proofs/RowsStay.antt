@@ -2,7 +2,7 @@
 use Rattle.std.proofs.Common.{◌≡◌, ◌∙◌, ℕ, zero, suc, List, [], ◌∷◌, ◌++◌, Some, length, ap, append_assoc, arith, refl, slice_get, subst, length-append}
 use Rattle.dvg_read.specs.Texts.{parts}
 use Rattle.dvg_read.proofs.Steps.{Leads, here, on}
-use Rattle.dvg_named.specs.Rows.{IsRowLine, Row, top}
+use Rattle.dvg_rows.specs.Rows.{IsRowLine, Row, top}
 use Rattle.dvg_named.specs.Sections.{Section, Spelled, SpellsSketch, sections}
 use Rattle.dvg_named.specs.SketchSteps.{Goes, adds, begins, begun, tells, tops, with_row}
 use Rattle.dvg_named.proofs.OneSketch.{front_spells, head_is_no_row, one_row, tells_no_row}

@@ -10,16 +10,16 @@ use Rattle.dvg_read.specs.RomTexts.{RomText}
 use Rattle.dvg_read.specs.RomReading.{untold}
 use Rattle.dvg_read.specs.Texts.{lines, told}
 use Rattle.dvg_read.proofs.ReadTo.{count_on, lines_length, told_more, told_one}
-use Rattle.dvg_named.specs.declared.line_fault.LineFault.{LineFault}
-use Rattle.dvg_named.specs.declared.line_fault.LineFault.TheVariants as line_fault
+use Rattle.dvg_rows.specs.declared.line_fault.LineFault.{LineFault}
+use Rattle.dvg_rows.specs.declared.line_fault.LineFault.TheVariants as line_fault
 use Rattle.dvg_named.specs.declared.reading.Reading.{Reading}
 use Rattle.dvg_named.specs.NamedFaults.{Meets, MeetsNothing, ReachesLine}
-use Rattle.dvg_named.specs.PlainLines.{plain, words}
+use Rattle.dvg_rows.specs.PlainLines.{plain, words}
 use Rattle.dvg_named.specs.ReadParts.{sketch_of}
 use Rattle.dvg_named.specs.Sections.{Section, Spelled, SpellsSketch}
 use Rattle.dvg_named.specs.SketchReading.{Breaks, IsBare, Reads, ReadsMore, StopsSketch, closed_in, section_in, spelled_in}
 use Rattle.dvg_named.specs.SketchSteps.{AreParts, Goes, line_of}
-use Rattle.dvg_named.specs.declared.meaning.Source.{Source}
+use Rattle.dvg_rows.specs.declared.source.Source.{Source}
 use Rattle.dvg_named.specs.SourcedRows.{AreSourced, IsLineAt}
 use Rattle.dvg_named.specs.LineNumbers.{AreNumbered, Numbers, adds, entries_in, head_at_top, keeps}
 use Rattle.std.specs.List.{join_with_byte}

@@ -8,13 +8,14 @@ use Rattle.dvg_read.specs.RomTexts.{first_told}
 use Rattle.dvg_named.specs.declared.joining.FrameSpan.{FrameSpan}
 use Rattle.dvg_named.specs.declared.laid.LaidRows as held_laid
 use Rattle.dvg_named.specs.declared.meaning.RomName.{RomName}
-use Rattle.dvg_named.specs.declared.meaning.Source.{Source}
+use Rattle.dvg_rows.specs.declared.source.Source.{Source}
 use Rattle.dvg_named.specs.declared.reading.Reading.{Reading}
 use Rattle.dvg_named.specs.FlatFrames.{frame_at}
 use Rattle.dvg_named.specs.GivenRoms.{GivesRom}
 use Rattle.dvg_named.specs.LaidValues.{laid_sections, rows_laid}
 use Rattle.dvg_named.specs.Meanings.{IsFrameOf}
-use Rattle.dvg_named.specs.NamedFaults.{laid_of, names_of}
+use Rattle.dvg_named.specs.NamedFaults.{laid_of}
+use Rattle.dvg_rows.specs.RowPlaces.{names_of}
 use Rattle.dvg_named.specs.Places.{free_after, laid_end, laid_from}
 use Rattle.dvg_named.specs.ReadSketches.{IsSketchOf, StandsIn, as_frame, joined_at}
 use Rattle.dvg_named.specs.RomNames.{IsNamedIn, names_listed}

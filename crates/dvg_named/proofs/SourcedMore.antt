@@ -1,11 +1,14 @@
 -- The lines of rows, with a row more.
-use Rattle.std.proofs.Common.{◌≡◌, ℕ, List, [], ◌∷◌, ◌++◌, sym, subst, Result, Ok, Err, OnOk}
+use Rattle.std.proofs.Common.{◌≡◌, ℕ, List, [], ◌∷◌, ◌++◌, sym, subst, All, Some, Result, Ok, Err, OnOk}
+use Rattle.std.proofs.lemmas.List.Elements.{All-push}
 use Rattle.std.specs.List.{AllZip}
 use Rattle.dvg_read.proofs.Zips.{zip_push}
-use Rattle.dvg_named.specs.declared.meaning.Source.{Source}
-use Rattle.dvg_named.specs.declared.part.Part.{Part}
-use Rattle.dvg_named.specs.declared.row.Row as held_row
-use Rattle.dvg_named.specs.SourcedRows.{BeginsIn, IsPartAt, IsRowAt}
+use Rattle.dvg_rows.specs.declared.source.Source.{Source}
+use Rattle.dvg_rows.specs.declared.part.Part.{Part}
+use Rattle.dvg_rows.specs.declared.row.Row as held_row
+use Rattle.dvg_rows.specs.declared.row.Head as held_head
+use Rattle.dvg_named.specs.declared.reading.Reading.{Reading}
+use Rattle.dvg_named.specs.SourcedRows.{AreSourced, BeginsIn, IsHeadAt, IsPartAt, IsRowAt}
 
 pub both_ok : {A E : Type 0} (r : Result A E) {P Q S : Type 0} → OnOk r P → OnOk r Q → (P → Q → S) → OnOk r S
 both_ok (Ok x) h k f = f h k
@@ -22,4 +25,20 @@ part_more small old new row source head begin rows sources h at = record {
   rows = subst (λ rows. AllZip (IsRowAt small) rows new.sources.items) (sym rows)
       (subst (λ sources. AllZip (IsRowAt small) (old.rows.items ++ row ∷ []) sources) (sym sources)
       (zip_push (IsRowAt small) old.rows.items old.sources.items row source h.rows at));
+}
+
+-- a section more begins
+pub part_opened : {A : Type 0} (small : List ℕ) (old new : Reading A) (head : held_head.Head) (source : Source)
+    → new.closed.items ≡ old.closed.items ++ old.last ∷ [] → new.last.head ≡ Some head → new.last.begin ≡ source
+    → new.last.rows.items ≡ [] → new.last.sources.items ≡ [] → AreSourced small old → IsHeadAt small head source
+    → AreSourced small new
+part_opened small old new head source closed begins begin rows sources h at = record {
+  closed = subst (All (IsPartAt small)) (sym closed)
+      (All-push (IsPartAt small) old.closed.items old.last h.closed h.last);
+  last = record {
+    begin = subst (λ head. BeginsIn small head new.last.begin) (sym begins)
+        (subst (λ begin. IsHeadAt small head begin) (sym begin) at);
+    rows = subst (λ rows. AllZip (IsRowAt small) rows new.last.sources.items) (sym rows)
+        (subst (λ sources. AllZip (IsRowAt small) [] sources) (sym sources) tt);
+  };
 }

@@ -10,8 +10,8 @@ use Rattle.std.specs.Prelude.{if◌then◌else◌}
 use Rattle.std.specs.Str.Lines.{strip_carriage_return}
 use Rattle.dvg_read.specs.Texts.{is_passed, parts}
 use Rattle.dvg_read.proofs.FirstBytes.{HasNone}
-use Rattle.dvg_named.specs.PlainLines.{is_blank, is_some_byte, plain, uncommented, words}
-use Rattle.dvg_named.proofs.LineCuts.{nothing_cut}
+use Rattle.dvg_rows.specs.PlainLines.{is_blank, is_some_byte, plain, uncommented, words}
+use Rattle.dvg_rows.proofs.LineCuts.{nothing_cut}
 use Rattle.dvg_named.proofs.PlainWords.{told_with_words}
 use Rattle.dvg_named.proofs.SmallWords.{IsHigh, IsTidy, low}
 

@@ -5,16 +5,16 @@ use Rattle.std.proofs.lemmas.List.Elements.{All-append, All-cons, All-nil}
 use Rattle.std.proofs.lemmas.Option.{slice_get_within}
 use Rattle.std.specs.Option.{is_some}
 use mathlib.Core.Bool.{not}
-use Rattle.dvg_named.specs.declared.meaning.Source.{Source}
-use Rattle.dvg_named.specs.declared.part.Part.{Part}
-use Rattle.dvg_named.specs.declared.row.Head as held_head
-use Rattle.dvg_named.specs.declared.row.Row as held_row
+use Rattle.dvg_rows.specs.declared.source.Source.{Source}
+use Rattle.dvg_rows.specs.declared.part.Part.{Part}
+use Rattle.dvg_rows.specs.declared.row.Head as held_head
+use Rattle.dvg_rows.specs.declared.row.Row as held_row
 use Rattle.dvg_named.specs.FirstUnknown.{FirstOf, IsFirstOf, WantsIn, WantsNone, WantsRow, section_held}
-use Rattle.dvg_named.specs.HeldRows.{rows_of}
+use Rattle.dvg_rows.specs.HeldRows.{rows_of}
 use Rattle.dvg_named.specs.LineNumbers.{Entry, entries_last, entries_of, entry_of}
 use Rattle.dvg_named.specs.Places.{Laid}
-use Rattle.dvg_named.specs.RowValues.{row_of}
-use Rattle.dvg_named.specs.Rows.{Row}
+use Rattle.dvg_rows.specs.RowValues.{row_of}
+use Rattle.dvg_rows.specs.Rows.{Row}
 use Rattle.dvg_named.specs.Sections.{Section}
 use Rattle.dvg_named.specs.SketchReading.{section_in}
 use Rattle.dvg_named.specs.Ungiven.{IsFirstUngiven, WantsAt}

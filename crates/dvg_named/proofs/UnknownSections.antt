@@ -1,8 +1,8 @@
 -- The first row that wants a name which isn't given, section after section.
-use Rattle.std.proofs.Common.{◌≡◌, ◌<◌, ◌≤◌, ℕ, ◌+◌, List, [], ◌∷◌, ◌++◌, length, map, take, get_or, refl, sym, ap, subst, ◌∙◌, arith, suc, zero, Option, Some, IfNone, slice_get, All}
+use Rattle.std.proofs.Common.{◌≡◌, ◌<◌, ◌≤◌, ℕ, ◌+◌, List, [], ◌∷◌, ◌++◌, length, map, take, get_or, refl, sym, ap, subst, ◌∙◌, arith, suc, zero, Option, Some, None, IfNone, is_some, true, false, slice_get, All}
 use Rattle.std.proofs.lemmas.List.{length-take-le, map_more, take_all, take_more}
 use Rattle.std.proofs.lemmas.List.Elements.{All-append, All-contains, All-contains_itself, All-push, Contains-append_left, Contains-append_right}
-use Rattle.dvg_named.specs.declared.part.Part.{Part}
+use Rattle.dvg_rows.specs.declared.part.Part.{Part}
 use Rattle.dvg_named.specs.FirstUnknown.{FirstOf, IsFirstOf, WantsNone, all_sections, entries_held}
 use Rattle.dvg_named.specs.LineNumbers.{Entry, entries_from, entries_last}
 use Rattle.dvg_named.specs.Places.{Laid}
@@ -73,6 +73,12 @@ module _ {A : Type 0} (P : Entry → Type 0) where
       first_left P (entries_from 0 closed) (entries_last (length closed) last) n
       (found_from 0 closed i part n low is none (subst (λ m. IsFirstOf P (entries_last m part) n) (omega arith) h))
 
+  pub some_here : (closed : List (Part A)) (last : Part A) (i : ℕ) (part : Part A) (found : Option ℕ) → i < length closed
+      → part ≡ get_or closed i part → NoneIn P (entries_from 0 (take i closed)) → is_some found ≡ true
+      → FirstOf P (entries_last i part) found → FirstOf P (entries_held closed last) found
+  some_here closed last i part None low is none some h = absurd cc
+  some_here closed last i part (Some n) low is none some h = found_here closed last i part n low is none h
+
   -- none in all sections before the last one
   pub found_last : (closed : List (Part A)) (last : Part A) (i : ℕ) (found : Option ℕ) → length closed ≤ i
       → NoneIn P (entries_from 0 (take i closed)) → FirstOf P (entries_last (length closed) last) found
@@ -80,6 +86,16 @@ module _ {A : Type 0} (P : Entry → Type 0) where
   found_last closed last i found all none h =
       first_right P (entries_from 0 closed) (entries_last (length closed) last) found
       (subst (λ l. NoneIn P (entries_from 0 l)) (take_all i closed all) none) h
+
+-- ---- whether a row was found
+
+pub some_known : (P : Type 0) (found : Option ℕ) → is_some found ≡ true → IfNone found P
+some_known P None some = absurd cc
+some_known P (Some n) some = tt
+
+pub none_found : (found : Option ℕ) → is_some found ≡ false → found ≡ None
+none_found None none = refl
+none_found (Some n) none = absurd cc
 
 -- ---- sections of which no row wants it
 

@@ -7,12 +7,12 @@ use Rattle.std.specs.List.{AllPairs, AllZip}
 use Rattle.dvg_read.specs.RomTexts.{RomText}
 use Rattle.dvg_read.specs.Texts.{lines, told}
 use Rattle.dvg_named.specs.declared.fault.NamedFault.TheVariants.{Unknown}
-use Rattle.dvg_named.specs.declared.part.Part.{Part}
+use Rattle.dvg_rows.specs.declared.part.Part.{Part}
 use Rattle.dvg_named.specs.declared.reading.Reading.{Reading}
 use Rattle.dvg_named.specs.FirstUnknown.{FirstOf, HasLines, IsFirstOf, WantsIn, all_sections}
 use Rattle.dvg_named.specs.LineNumbers.{Entry, IsEntryOf, entries_in, first_head}
 use Rattle.dvg_named.specs.NamedFaults.{HasNamedFault, IsUngiven, WantsUngiven, laid_of}
-use Rattle.dvg_named.specs.PlainLines.{plain, plain_lines}
+use Rattle.dvg_rows.specs.PlainLines.{plain, plain_lines}
 use Rattle.dvg_named.specs.ReadParts.{sketch_of}
 use Rattle.dvg_named.specs.Sections.{Section, Spelled, SpellsSketch, sections}
 use Rattle.dvg_named.specs.SketchReading.{head_in, section_in, spelled_in}
@@ -164,6 +164,11 @@ has_lines small part h = zip_lengths _ part.rows.items part.sources.items h.rows
 
 pub have_lines : {A : Type 0} (small : List ℕ) (parts : List (Part A)) → All (IsPartAt small) parts → All HasLines parts
 have_lines small parts all = λ k d low. has_lines small (get_or parts k d) (all k d low)
+
+-- what is so of a number that was found
+pub of_some : (P : ℕ → Type 0) (found : Option ℕ) (n : ℕ) → found ≡ Some n → IfSome found P → P n
+of_some P None n e h = absurd cc
+of_some P (Some m) n e h = subst P (let same : m ≡ n = cc in same) h
 
 -- what follows from a row that was found first
 pub if_found : (P : Entry → Type 0) (entries : List Entry) (Q : ℕ → Type 0) (found : Option ℕ) → FirstOf P entries found

@@ -11,12 +11,15 @@ use Rattle.dvg_read.specs.OpLines as ops
 use Rattle.dvg_read.specs.RomReading.{untold}
 use Rattle.dvg_read.specs.RomTexts.{unmapped}
 use Rattle.dvg_read.specs.Texts.{IsHex}
-use Rattle.dvg_named.specs.Rows.{Doing, Row, plainly, jumps, calls_rom, frame, rom, top, does, both, plain, jump}
-use Rattle.dvg_named.specs.Rows.{callrom, named_frame, at}
+use Rattle.dvg_rows.specs.Rows.{Doing, Row, plainly, jumps, calls_rom, frame, rom, top, does, both, plain, jump}
+use Rattle.dvg_rows.specs.Rows.{callrom, named_frame, at}
 use Rattle.dvg_named.specs.Sections.{FrameRows, MayStand, Section, Spelled, SpellsSection, SpellsSketch}
-use Rattle.dvg_named.specs.Places.{IsAddress, IsNamedAfter, IsNumber, Laid, doings, laid_end}
-use Rattle.dvg_named.specs.NamedFaults.{AreDistinct, GivesOnce, IsFineSketch, KeepsLimits, LiesOn, RomFits}
-use Rattle.dvg_named.specs.NamedFaults.{WantsUngiven, names_of}
+use Rattle.dvg_named.specs.Places.{IsAddress, Laid, laid_end}
+use Rattle.dvg_rows.specs.RowPlaces.{IsNamedAfter, IsNumber, doings}
+use Rattle.dvg_named.specs.NamedFaults.{GivesOnce, IsFineSketch, KeepsLimits, LiesOn, RomFits}
+use Rattle.dvg_rows.specs.RowPlaces.{AreDistinct}
+use Rattle.dvg_named.specs.NamedFaults.{WantsUngiven}
+use Rattle.dvg_rows.specs.RowPlaces.{names_of}
 use Rattle.dvg_named.specs.TextExamples.{CallsTheRom, JumpsBack, OutOfRomAtOne, OverlapAtFour, TwiceAtTwo, UnknownAtOne}
 use Rattle.dvg_named.proofs.ExampleNames.{a, address, rock, ship, title}
 

@@ -3,10 +3,11 @@ use Rattle.std.specs.Prelude.{◌≡◌, pos, [], ◌∷◌, ◌++◌, Some, Non
 use Rattle.dvg_code.specs.declared.instr.Instr.TheVariants.{Labs, Svec}
 use Rattle.dvg_frame.specs.declared.op.OpKind.TheVariants.{Draw, Halt}
 use Rattle.dvg_read.specs.Texts.{told}
-use Rattle.dvg_named.specs.PlainLines.{plain, plain_lines, words}
-use Rattle.dvg_named.specs.Rows.{IsHeadLine, IsName, IsRowLine, Row, calls, frame, plainly, rom}
+use Rattle.dvg_rows.specs.PlainLines.{plain, plain_lines, words}
+use Rattle.dvg_rows.specs.Rows.{IsHeadLine, IsName, IsRowLine, Row, calls, frame, plainly, rom}
 use Rattle.dvg_named.specs.Sections.{frames}
-use Rattle.dvg_named.specs.Places.{IsAddress, IsNumber, free_after, laid}
+use Rattle.dvg_named.specs.Places.{IsAddress, free_after, laid}
+use Rattle.dvg_rows.specs.RowPlaces.{IsNumber}
 
 -- blanks and tabs part words, freely, and a comment and a CR are none: 9 is a tab, and 13 is CR
 abbrev pub WordsAreParted : Type 0

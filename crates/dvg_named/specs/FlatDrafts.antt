@@ -4,7 +4,7 @@ use Rattle.dvg_frame.specs.declared.op.OpKind.{OpKind}
 use Rattle.dvg_named.specs.declared.flat_draft.DraftFault.{DraftFault}
 use Rattle.dvg_named.specs.declared.flat_draft.DraftFault.TheVariants.{Memory, Ungiven}
 use Rattle.dvg_named.specs.declared.laid.LaidRows as held_laid
-use Rattle.dvg_named.specs.declared.row.Row as held
+use Rattle.dvg_rows.specs.declared.row.Row as held
 use Rattle.dvg_named.specs.Ungiven.{Drafts, IsFirstInFrame}
 
 -- the draft of a frame stands after what was there

@@ -1,13 +1,16 @@
 -- Frames whose operations stand in one list.
-use Rattle.std.specs.Prelude.{◌≡◌, ◌≤◌, ◌-◌, ℕ, List, length, take, drop}
+use Rattle.std.specs.Prelude.{◌≡◌, ◌≤◌, ◌-◌, ℕ, List, All, length, take, drop}
 use Rattle.dvg_frame.specs.declared.op.OpKind.{OpKind}
+use Rattle.dvg_named.specs.declared.flat_draft.DraftFault.{DraftFault}
+use Rattle.dvg_named.specs.declared.flat_draft.DraftFault.TheVariants.{Memory, Ungiven}
 use Rattle.dvg_named.specs.declared.joining.FrameSpan.{FrameSpan}
 use Rattle.dvg_named.specs.declared.frame_rows.FrameRows as held
 use Rattle.dvg_named.specs.FrameValues.{frame_held}
-use Rattle.dvg_named.specs.HeldRows.{rows_of}
+use Rattle.dvg_rows.specs.HeldRows.{rows_of}
 use Rattle.dvg_named.specs.Meanings.{Frame, IsFrameOf}
-use Rattle.dvg_named.specs.Places.{Laid, doings}
-use Rattle.dvg_named.specs.RowValues.{name_of}
+use Rattle.dvg_named.specs.Places.{Laid}
+use Rattle.dvg_rows.specs.RowPlaces.{doings}
+use Rattle.dvg_rows.specs.RowValues.{name_of}
 use Rattle.dvg_named.specs.Ungiven.{WantsAt, framed}
 
 -- a draft can hold what the frame does
@@ -28,3 +31,13 @@ pub record IsSpanOf (laid : List Laid) (ops : List OpKind) (frame : held.FrameRo
   pub to : span.end ≤ length ops
   pub begin : span.begin ≡ frame.begin
   pub is : IsFrameOf laid (frame_held frame) (frame_at ops span)
+
+-- why its draft isn't made: a name that it wants isn't given, or want of memory
+abbrev pub StopsFrame : List Laid → held.FrameRows → DraftFault → Type 0
+StopsFrame laid frame (Ungiven place) = ¬ KnowsNames laid frame
+StopsFrame laid frame Memory = Unit {0}
+
+-- why those of frames aren't
+abbrev pub StopsFrames : List Laid → List held.FrameRows → DraftFault → Type 0
+StopsFrames laid frames (Ungiven place) = ¬ All (KnowsNames laid) frames
+StopsFrames laid frames Memory = Unit {0}

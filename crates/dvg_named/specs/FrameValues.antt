@@ -2,9 +2,9 @@
 use Rattle.std.specs.Prelude.{ℕ, List, [], ◌∷◌, Option, None, map}
 use Rattle.std.specs.List.{AllZip}
 use Rattle.dvg_named.specs.declared.frame_rows.FrameRows as held
-use Rattle.dvg_named.specs.HeldRows.{rows_of}
-use Rattle.dvg_named.specs.RowValues.{name_of}
-use Rattle.dvg_named.specs.Rows.{Head, Row, frame, rom, top}
+use Rattle.dvg_rows.specs.HeldRows.{rows_of}
+use Rattle.dvg_rows.specs.RowValues.{name_of}
+use Rattle.dvg_rows.specs.Rows.{Head, Row, frame, rom, top}
 use Rattle.dvg_named.specs.Sections.{FrameRows, Section, frame_of}
 use Rattle.dvg_named.specs.SourcedRows.{IsRowAt}
 

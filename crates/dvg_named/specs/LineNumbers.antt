@@ -1,13 +1,13 @@
 -- The rows that the reader of a sketch holds, and the number of the line of each (for private contracts).
 use Rattle.std.specs.Prelude.{◌≡◌, ◌<◌, ℕ, ◌+◌, List, [], ◌∷◌, ◌++◌, AllPairs, Contains, None, Option, length}
 use Rattle.dvg_read.specs.Texts.{told}
-use Rattle.dvg_named.specs.declared.meaning.Source.{Source}
-use Rattle.dvg_named.specs.declared.part.Part.{Part}
+use Rattle.dvg_rows.specs.declared.source.Source.{Source}
+use Rattle.dvg_rows.specs.declared.part.Part.{Part}
 use Rattle.dvg_named.specs.declared.reading.Reading.{Reading}
-use Rattle.dvg_named.specs.declared.row.Head as held_head
-use Rattle.dvg_named.specs.declared.row.Row as held_row
-use Rattle.dvg_named.specs.RowValues.{row_of}
-use Rattle.dvg_named.specs.Rows.{IsRowLine, Row}
+use Rattle.dvg_rows.specs.declared.row.Head as held_head
+use Rattle.dvg_rows.specs.declared.row.Row as held_row
+use Rattle.dvg_rows.specs.RowValues.{row_of}
+use Rattle.dvg_rows.specs.Rows.{IsRowLine, Row}
 use Rattle.dvg_named.specs.Sections.{Spelled, SpellsSketch}
 
 -- a row, the number of its section, counted from 0, and that of its line, counted from 1

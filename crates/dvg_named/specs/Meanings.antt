@@ -7,9 +7,10 @@ use Rattle.dvg_code.specs.declared.instr.Instr.TheVariants as instrs
 use Rattle.dvg_frame.specs.declared.op.OpKind.{OpKind}
 use Rattle.dvg_frame.specs.declared.op.OpKind.TheVariants as kinds
 use Rattle.dvg_read.specs.RomTexts.{RomLine, RomText}
-use Rattle.dvg_named.specs.Rows.{Doing, Row, plainly, calls, jumps, calls_rom, jumps_rom}
+use Rattle.dvg_rows.specs.Rows.{Doing, Row, plainly, calls, jumps, calls_rom, jumps_rom}
 use Rattle.dvg_named.specs.Sections.{FrameRows, Spelled, frames, rom_sections}
-use Rattle.dvg_named.specs.Places.{IsAddress, IsNumber, Laid, doings, laid}
+use Rattle.dvg_named.specs.Places.{IsAddress, Laid, laid}
+use Rattle.dvg_rows.specs.RowPlaces.{IsNumber, doings}
 
 -- a frame: its name, if it has one, and its draft
 pub record Frame : Type 0 where

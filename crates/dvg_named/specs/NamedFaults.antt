@@ -1,5 +1,5 @@
 -- The limits of a sketch, and its one fault.
-use Rattle.std.specs.Prelude.{◌≡◌, ◌≢◌, ℕ, ◌+◌, ◌<◌, ◌≤◌, List, [], ◌∷◌, ◌++◌, length, All, AllPairs, Some, slice_get}
+use Rattle.std.specs.Prelude.{◌≡◌, ℕ, ◌+◌, ◌<◌, ◌≤◌, List, [], ◌∷◌, ◌++◌, length, All, AllPairs, Some, slice_get}
 use Rattle.std.specs.Prelude.{false}
 use Rattle.std.specs.List.{filter_map, flat_map}
 use Rattle.dvg_read.specs.FirstFaults.{IsShort}
@@ -8,20 +8,13 @@ use Rattle.dvg_read.specs.Texts.{is_passed, told}
 use Rattle.dvg_named.specs.declared.fault.NamedFault.{NamedFault}
 use Rattle.dvg_named.specs.declared.fault.NamedFault.TheVariants.{TooLong, Syntax, Twice, Full, OutOfRom, Overlap}
 use Rattle.dvg_named.specs.declared.fault.NamedFault.TheVariants.{Unknown}
-use Rattle.dvg_named.specs.PlainLines.{plain_lines}
-use Rattle.dvg_named.specs.Rows.{Doing, Head, IsRowLine, Row, plainly, calls, jumps, calls_rom, jumps_rom, rom}
+use Rattle.dvg_rows.specs.PlainLines.{plain_lines}
+use Rattle.dvg_rows.specs.RowPlaces.{AreDistinct, IsNumber, doings, names_of}
+use Rattle.dvg_rows.specs.Rows.{Doing, Head, IsRowLine, Row, plainly, calls, jumps, calls_rom, jumps_rom, rom}
 use Rattle.dvg_named.specs.Sections.{Section, Spelled, SpellsSketch, frames, rom_sections, sections}
-use Rattle.dvg_named.specs.Places.{IsAddress, IsNumber, Laid, doings, laid, laid_end}
+use Rattle.dvg_named.specs.Places.{IsAddress, Laid, laid, laid_end}
 use Rattle.dvg_named.specs.Meanings.{Frame, IsMeant}
 use Rattle.dvg_read.specs.RomTexts.{RomText}
-
--- no two of these names are the same
-abbrev pub AreDistinct : List (List ℕ) → Type 0
-AreDistinct = AllPairs (λ name other. name ≢ other)
-
--- the names that rows give
-abbrev pub names_of : List Row → List (List ℕ)
-names_of = filter_map (λ row. row.name)
 
 -- each name is given once: in a frame, in the ROM, and among the names of frames
 pub record GivesOnce (sketch : Spelled) : Type 0 where

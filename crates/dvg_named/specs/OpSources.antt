@@ -2,11 +2,11 @@
 use Rattle.std.specs.Prelude.{◌≡◌, ◌≤◌, ◌-◌, ℕ, List, [], ◌∷◌, ◌++◌, Option, None, Some, drop, length, take}
 use Rattle.dvg_named.specs.declared.frame_rows.FrameRows as held_frame
 use Rattle.dvg_named.specs.declared.joining.FrameSpan.{FrameSpan}
-use Rattle.dvg_named.specs.declared.meaning.Source.{Source}
-use Rattle.dvg_named.specs.declared.row.Doing as held_doing
-use Rattle.dvg_named.specs.declared.row.Row as held
-use Rattle.dvg_named.specs.PlainLines.{plain}
-use Rattle.dvg_named.specs.Rows.{Doing, IsRowLine, Row}
+use Rattle.dvg_rows.specs.declared.source.Source.{Source}
+use Rattle.dvg_rows.specs.declared.row.Doing as held_doing
+use Rattle.dvg_rows.specs.declared.row.Row as held
+use Rattle.dvg_rows.specs.PlainLines.{plain}
+use Rattle.dvg_rows.specs.Rows.{Doing, IsRowLine, Row}
 use Rattle.dvg_named.specs.SourcedRows.{IsLineAt}
 
 -- the line, where the row does something

@@ -3,10 +3,12 @@ use Rattle.std.specs.Prelude.{◌≡◌, ◌≢◌, ℕ, ◌+◌, max, List, [],
 use Rattle.std.specs.Prelude.{length, false, true, unwrap_or}
 use Rattle.std.specs.List.{filter_map, flat_map}
 use Rattle.dvg_read.specs.RomTexts.{RomText, first_told}
-use Rattle.dvg_named.specs.declared.rom_area.RomArea.{RomArea}
-use Rattle.dvg_named.specs.NamedFaults.{LiesOn, names_of}
-use Rattle.dvg_named.specs.Places.{doings, free_after, laid, size}
-use Rattle.dvg_named.specs.Rows.{Head, Row, frame, rom, top}
+use Rattle.dvg_rows.specs.declared.rom_area.RomArea.{RomArea}
+use Rattle.dvg_named.specs.NamedFaults.{LiesOn}
+use Rattle.dvg_rows.specs.RowPlaces.{names_of}
+use Rattle.dvg_named.specs.Places.{free_after, laid}
+use Rattle.dvg_rows.specs.RowPlaces.{doings, size}
+use Rattle.dvg_rows.specs.Rows.{Head, Row, frame, rom, top}
 use Rattle.dvg_named.specs.Sections.{RomRows, Section, Spelled, frames, rom_of, rom_sections}
 use Rattle.dvg_named.specs.SketchSteps.{so_far}
 

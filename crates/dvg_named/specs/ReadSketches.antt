@@ -7,15 +7,15 @@ use Rattle.dvg_read.specs.RomTexts.{IsRomOf, RomText}
 use Rattle.dvg_named.specs.declared.joining.FrameSpan.{FrameSpan}
 use Rattle.dvg_named.specs.declared.meaning.NamedFrame.{NamedFrame}
 use Rattle.dvg_named.specs.declared.meaning.RomName.{RomName}
-use Rattle.dvg_named.specs.declared.meaning.Source.{Source}
+use Rattle.dvg_rows.specs.declared.source.Source.{Source}
 use Rattle.dvg_named.specs.declared.sketch.Sketch.{Sketch}
 use Rattle.dvg_named.specs.Meanings.{Frame}
 use Rattle.dvg_named.specs.NamedFaults.{DenotesFrames, laid_of}
 use Rattle.dvg_named.specs.OpSources.{IsDoneAt, lines_at}
-use Rattle.dvg_named.specs.Places.{doings}
+use Rattle.dvg_rows.specs.RowPlaces.{doings}
 use Rattle.dvg_named.specs.ReadParts.{rom_names}
 use Rattle.dvg_named.specs.RomNames.{IsNamedIn, names_listed}
-use Rattle.dvg_named.specs.RowValues.{name_of}
+use Rattle.dvg_rows.specs.RowValues.{name_of}
 use Rattle.dvg_named.specs.Sections.{FrameRows, Spelled, frames}
 
 -- a frame: its name, if it has one, the line that begins it, and its operations with their lines

@@ -11,7 +11,7 @@ use Rattle.dvg_named.specs.declared.rom_words.RomRow.{RomRow}
 use Rattle.dvg_named.specs.LaidValues.{laid_section, laid_sections}
 use Rattle.dvg_named.specs.Meanings.{IsGiven}
 use Rattle.dvg_named.specs.Places.{Laid, laid_end}
-use Rattle.dvg_named.specs.Rows.{Doing, Row, plainly, rom}
+use Rattle.dvg_rows.specs.Rows.{Doing, Row, plainly, rom}
 use Rattle.dvg_named.specs.Sections.{MayStand}
 use Rattle.dvg_named.specs.Ungiven.{IsFirstUngiven, WantsAt, in_rom}
 

@@ -1,6 +1,6 @@
 -- Sections as those of the ROM (for private contracts).
 use Rattle.std.specs.Prelude.{List, [], ◌∷◌, Option}
-use Rattle.dvg_named.specs.Rows.{Head, Row, frame, rom, top}
+use Rattle.dvg_rows.specs.Rows.{Head, Row, frame, rom, top}
 use Rattle.dvg_named.specs.Sections.{RomRows, Section, rom_of}
 
 -- a section as one of the ROM, if it is one

@@ -1,6 +1,6 @@
 -- What one row more does to the section that it stands in (for private contracts).
 use Rattle.std.specs.Prelude.{◌≡◌, ◌+◌, ◌<◌, ◌≤◌, ℕ, Option, None, Some}
-use Rattle.dvg_named.specs.Rows.{Doing, Head, frame, rom, top}
+use Rattle.dvg_rows.specs.Rows.{Doing, Head, frame, rom, top}
 
 -- a frame begins so, or the text does
 abbrev pub IsFrameHead : Head → Type 0

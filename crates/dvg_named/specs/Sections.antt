@@ -3,7 +3,7 @@ use Rattle.std.specs.Prelude.{◌≡◌, ◌≢◌, ℕ, List, [], ◌∷◌, �
 use Rattle.std.specs.List.{AllZip, filter_map, flat_map}
 use Rattle.dvg_frame.specs.declared.op.OpKind.TheVariants.{Call, Jump}
 use Rattle.dvg_read.specs.RomTexts.{RomText, SpellsRom}
-use Rattle.dvg_named.specs.Rows.{Head, IsHeadLine, IsRowLine, Row, frame, plainly, rom, top}
+use Rattle.dvg_rows.specs.Rows.{Head, IsHeadLine, IsRowLine, Row, frame, plainly, rom, top}
 
 -- a section: how it begins, and its rows
 pub record Section : Type 0 where

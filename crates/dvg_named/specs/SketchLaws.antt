@@ -7,7 +7,7 @@ use Rattle.dvg_read.specs.Texts.{parts}
 use Rattle.dvg_named.specs.declared.fault.NamedFault.{NamedFault}
 use Rattle.dvg_named.specs.Meanings.{Frame}
 use Rattle.dvg_named.specs.NamedFaults.{DenotesFrames, HasNamedFault}
-use Rattle.dvg_named.specs.PlainLines.{plain, words}
+use Rattle.dvg_rows.specs.PlainLines.{plain, words}
 use Rattle.dvg_named.specs.Sections.{Spelled, SpellsSketch}
 
 -- where a line has a word, its words are the parts of the line as a plain draft has it

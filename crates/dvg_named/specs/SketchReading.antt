@@ -2,17 +2,17 @@
 use Rattle.std.specs.Prelude.{◌≡◌, ℕ, List, [], ◌∷◌, ◌++◌, Option, None, Some, map}
 use Rattle.dvg_read.specs.LineParts.{bytes_of}
 use Rattle.dvg_read.specs.RomTexts.{RomText}
-use Rattle.dvg_named.specs.declared.line_fault.LineFault.{LineFault}
-use Rattle.dvg_named.specs.declared.line_fault.LineFault.TheVariants.{Full, Memory, OutOfRom, Overlap, Syntax, Twice}
-use Rattle.dvg_named.specs.declared.rom_area.RomArea.{RomArea}
-use Rattle.dvg_named.specs.declared.part.Part.{Part}
+use Rattle.dvg_rows.specs.declared.line_fault.LineFault.{LineFault}
+use Rattle.dvg_rows.specs.declared.line_fault.LineFault.TheVariants.{Full, Memory, OutOfRom, Overlap, Syntax, Twice}
+use Rattle.dvg_rows.specs.declared.rom_area.RomArea.{RomArea}
+use Rattle.dvg_rows.specs.declared.part.Part.{Part}
 use Rattle.dvg_named.specs.declared.reading.Reading.{Reading}
-use Rattle.dvg_named.specs.declared.row.Head as held_head
-use Rattle.dvg_named.specs.HeldRows.{rows_of}
+use Rattle.dvg_rows.specs.declared.row.Head as held_head
+use Rattle.dvg_rows.specs.HeldRows.{rows_of}
 use Rattle.dvg_named.specs.NamedFaults.{DraftsFit, GivesOnce, KeepsLimits, LieApart, RomFits}
 use Rattle.dvg_named.specs.ReadParts.{KeepsArea, KeepsFrame, KeepsNext, StartsAtTop, frame_names, rom_names, sketch_of}
-use Rattle.dvg_named.specs.RowValues.{head_of}
-use Rattle.dvg_named.specs.Rows.{Head, top}
+use Rattle.dvg_rows.specs.RowValues.{head_of}
+use Rattle.dvg_rows.specs.Rows.{Head, top}
 use Rattle.dvg_named.specs.Sections.{Section, Spelled, rom_sections}
 use Rattle.dvg_named.specs.SketchSteps.{Goes, begun}
 use Rattle.dvg_named.specs.ToldRoms.{HoldsTold}
@@ -48,8 +48,8 @@ spelled_in told reading = sketch_of told (closed_in reading) (section_in reading
 -- the reader holds what lines spell, within the limits
 pub record Reads {A : Type 0} (told : RomText) (reading : Reading A) : Type 0 where
   pub rom : HoldsTold told reading.rom
-  pub keeps : Keeps told (closed_in reading) (section_in reading.last) (bytes_of reading.frame_names.given.items)
-      (bytes_of reading.rom_names.given.items) (bytes_of reading.names.given.items) reading.count reading.area
+  pub keeps : Keeps told (closed_in reading) (section_in reading.last) (bytes_of reading.frame_names.given.keys)
+      (bytes_of reading.rom_names.given.keys) (bytes_of reading.names.given.keys) reading.count reading.area
 
 -- a line more was read: what is spelled goes on, within the limits
 pub record ReadsMore {A : Type 0} (told : RomText) (old : Reading A) (line : List ℕ) (new : Reading A) : Type 0 where
@@ -84,6 +84,6 @@ pub record Opens {A : Type 0} (old : Reading A) (head : Head) (new : Reading A) 
   pub opened : section_in new.last ≡ begun head
   pub frame_names : new.frame_names ≡ old.frame_names
   pub rom_names : new.rom_names ≡ old.rom_names
-  pub names : bytes_of new.names.given.items ≡ []
+  pub names : bytes_of new.names.given.keys ≡ []
   pub count : new.count ≡ 0
   pub area : new.area ≡ old.area

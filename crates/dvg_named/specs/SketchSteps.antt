@@ -4,7 +4,7 @@ use Rattle.std.specs.List.{join_with_byte}
 use Rattle.dvg_read.specs.RomReading.{TellsRom}
 use Rattle.dvg_read.specs.RomTexts.{RomText}
 use Rattle.dvg_read.specs.Texts.{parts}
-use Rattle.dvg_named.specs.Rows.{Head, IsHeadLine, IsRowLine, Row}
+use Rattle.dvg_rows.specs.Rows.{Head, IsHeadLine, IsRowLine, Row}
 use Rattle.dvg_named.specs.Sections.{MayStand, Section, Spelled}
 
 -- what lines spell so far

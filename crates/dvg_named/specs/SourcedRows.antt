@@ -2,14 +2,14 @@
 use Rattle.std.specs.Prelude.{◌≡◌, ℕ, ◌+◌, List, [], ◌∷◌, ◌++◌, All, Option, None, Some, length}
 use Rattle.std.specs.List.{AllZip}
 use Rattle.dvg_read.specs.Texts.{lines}
-use Rattle.dvg_named.specs.declared.meaning.Source.{Source}
-use Rattle.dvg_named.specs.declared.part.Part.{Part}
+use Rattle.dvg_rows.specs.declared.source.Source.{Source}
+use Rattle.dvg_rows.specs.declared.part.Part.{Part}
 use Rattle.dvg_named.specs.declared.reading.Reading.{Reading}
-use Rattle.dvg_named.specs.declared.row.Head as held_head
-use Rattle.dvg_named.specs.declared.row.Row as held_row
-use Rattle.dvg_named.specs.PlainLines.{plain}
-use Rattle.dvg_named.specs.RowValues.{head_of, row_of}
-use Rattle.dvg_named.specs.Rows.{IsHeadLine, IsRowLine}
+use Rattle.dvg_rows.specs.declared.row.Head as held_head
+use Rattle.dvg_rows.specs.declared.row.Row as held_row
+use Rattle.dvg_rows.specs.PlainLines.{plain}
+use Rattle.dvg_rows.specs.RowValues.{head_of, row_of}
+use Rattle.dvg_rows.specs.Rows.{IsHeadLine, IsRowLine}
 
 -- a line of a text in small letters, and its number, counted from 1
 pub record IsLineAt (small : List ℕ) (source : Source) : Type 0 where

@@ -5,12 +5,12 @@ use Rattle.dvg_read.specs.Texts.{lines, told}
 use Rattle.dvg_named.specs.declared.fault.NamedFault.TheVariants.{Full, OutOfRom, Overlap, Syntax, Twice}
 use Rattle.dvg_named.specs.declared.fault.SketchFault.{SketchFault}
 use Rattle.dvg_named.specs.declared.fault.SketchFault.TheVariants.{Memory, Text}
-use Rattle.dvg_named.specs.declared.line_fault.LineFault.{LineFault}
-use Rattle.dvg_named.specs.declared.line_fault.LineFault.TheVariants as line_fault
+use Rattle.dvg_rows.specs.declared.line_fault.LineFault.{LineFault}
+use Rattle.dvg_rows.specs.declared.line_fault.LineFault.TheVariants as line_fault
 use Rattle.dvg_named.specs.declared.reading.Reading.{Reading}
 use Rattle.dvg_named.specs.LineNumbers.{AreNumbered}
 use Rattle.dvg_named.specs.NamedFaults.{HasNamedFault}
-use Rattle.dvg_named.specs.PlainLines.{plain}
+use Rattle.dvg_rows.specs.PlainLines.{plain}
 use Rattle.dvg_named.specs.Sections.{SpellsSketch}
 use Rattle.dvg_named.specs.SketchReading.{Reads, spelled_in}
 use Rattle.dvg_named.specs.SourcedRows.{AreSourced}

@@ -3,15 +3,16 @@ use Rattle.std.specs.Prelude.{◌≡◌, ◌<◌, ℕ, List, [], Some, None, sli
 use Rattle.std.specs.List.{AllZip}
 use Rattle.dvg_frame.specs.declared.op.OpKind.{OpKind}
 use Rattle.dvg_named.specs.declared.laid.LaidRows as held_laid
-use Rattle.dvg_named.specs.declared.row.Doing as held_doing
-use Rattle.dvg_named.specs.declared.row.Row as held
-use Rattle.dvg_named.specs.HeldRows.{rows_of}
+use Rattle.dvg_rows.specs.declared.row.Doing as held_doing
+use Rattle.dvg_rows.specs.declared.row.Row as held
+use Rattle.dvg_rows.specs.HeldRows.{rows_of}
 use Rattle.dvg_named.specs.LaidValues.{laid_sections}
 use Rattle.dvg_named.specs.Meanings.{IsDrafted}
 use Rattle.dvg_named.specs.NamedFaults.{IsUngiven}
-use Rattle.dvg_named.specs.Places.{Laid, doings}
-use Rattle.dvg_named.specs.RowValues.{doing_of}
-use Rattle.dvg_named.specs.Rows.{Doing, Row, rom, top}
+use Rattle.dvg_named.specs.Places.{Laid}
+use Rattle.dvg_rows.specs.RowPlaces.{doings}
+use Rattle.dvg_rows.specs.RowValues.{doing_of}
+use Rattle.dvg_rows.specs.Rows.{Doing, Row, rom, top}
 use Rattle.dvg_named.specs.Sections.{Section}
 
 -- rows as those of a frame

@@ -1,17 +1,17 @@
 //! The names of the ROM, and their word addresses.
 ghost use Rattle.std.specs.Prelude.{◌≡◌, ◌≤◌, ◌++◌, All, IfOk, IfSome, List, OnOk};
 ghost use Rattle.std.specs.Option.{option_to_list};
-ghost use Rattle.dvg_named.specs.HeldRows.{rows_of};
+ghost use Rattle.dvg_rows.specs.HeldRows.{rows_of};
 ghost use Rattle.dvg_named.specs.LaidValues.{AreLow, laid_section, laid_sections, rows_laid};
-ghost use Rattle.dvg_named.specs.NamedFaults.{names_of};
+ghost use Rattle.dvg_rows.specs.RowPlaces.{names_of};
 ghost use Rattle.dvg_named.specs.Places.{IsAddress, Laid, laid_end};
 ghost use Rattle.dvg_named.specs.RomNames.{IsNamedIn, StandsIn, names_listed};
-ghost use Rattle.dvg_named.specs.RowValues.{name_of};
+ghost use Rattle.dvg_rows.specs.RowValues.{name_of};
 
 use crate::laid::LaidRows;
 use crate::meaning::RomName;
-use crate::sizes::words_of_row;
 use dvg_code::OutOfMemory;
+use dvg_rows::words_of_row;
 use std::alloc::Allocator;
 
 /// All names that laid sections give, in the order of the text, each with its word address. A

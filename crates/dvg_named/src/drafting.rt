@@ -1,30 +1,33 @@
 //! The draft of a frame.
 ghost use Rattle.std.specs.Prelude.{◌≡◌, ◌≤◌, length, IfErr, IfNone, IfOk, IfSome};
-ghost use Rattle.dvg_named.specs.HeldRows.{rows_of};
+ghost use Rattle.dvg_rows.specs.HeldRows.{rows_of};
 ghost use Rattle.dvg_named.specs.LaidValues.{AreLow, laid_sections};
 ghost use Rattle.dvg_named.specs.Meanings.{IsDrafted};
 ghost use Rattle.dvg_named.specs.NamedFaults.{IsUngiven};
-ghost use Rattle.dvg_named.specs.Places.{doings};
-ghost use Rattle.dvg_named.specs.RowValues.{doing_of};
+ghost use Rattle.dvg_rows.specs.RowPlaces.{doings};
+ghost use Rattle.dvg_rows.specs.RowValues.{doing_of};
 ghost use Rattle.dvg_named.specs.Ungiven.{Drafts, IsFirstInFrame, framed};
 
-use crate::laid::{LaidRows, address_of};
-use crate::number::number_of;
-use crate::row::{Doing, Row};
+use crate::laid::{LaidNames, address_of};
 use dvg_frame::{Draft, Op, OpKind};
+use dvg_rows::{Doing, NamedRows, number_of};
+use std::alloc::Allocator;
 
 /// The draft of a frame: what its rows do, in order, where each name is that of an operation of the
 /// frame, and after `callrom` and `jumprom` that of a word of the ROM. Or else the place, counted
 /// from 0, of the first row that wants a name which isn't given. No memory is taken. The time grows
-/// with the number of rows times that of the rows that want a name, of the frame and of the ROM.
-pub fn draft_of(rows: &[Row], rom: &[LaidRows]) -> Result<Draft, usize>
+/// with the number of rows of the frame.
+pub fn draft_of<A: Allocator + Copy>(
+    rows: &NamedRows<'_, '_, A>,
+    rom: &LaidNames<'_, '_, '_, A>,
+) -> Result<Draft, usize>
     requires few { length (doings (rows_of rows.now)) ≤ 511 }
     requires low { AreLow (laid_sections rom.now) }
     ensures draft { IfOk result (Drafts rom.now rows.now) }
     ensures ungiven { IfErr result (IsFirstInFrame rom.now rows.now) }
 {
     let mut draft = Draft::new();
-    for (place, row) in rows.iter().enumerate() {
+    for (place, row) in rows.rows().iter().enumerate() {
         if let Some(doing) = &row.doing {
             let Some(op) = op_of(rows, rom, doing) else {
                 return Err(place);
@@ -36,7 +39,11 @@ pub fn draft_of(rows: &[Row], rom: &[LaidRows]) -> Result<Draft, usize>
 }
 
 // The operation of a row of a frame. None where it wants a name that isn't given.
-fn op_of(rows: &[Row], rom: &[LaidRows], doing: &Doing) -> Option<Op>
+fn op_of<A: Allocator + Copy>(
+    rows: &NamedRows<'_, '_, A>,
+    rom: &LaidNames<'_, '_, '_, A>,
+    doing: &Doing,
+) -> Option<Op>
     requires few { length (doings (rows_of rows.now)) ≤ 511 }
     requires low { AreLow (laid_sections rom.now) }
     ensures drafted { let laid = laid_sections rom.now in

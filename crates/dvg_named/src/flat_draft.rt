@@ -1,14 +1,14 @@
 //! The operations of frames in one list.
 ghost use Rattle.std.specs.Prelude.{◌≡◌, ◌≤◌, length, IfErr, OnErr, OnOk};
 ghost use Rattle.dvg_named.specs.FlatDrafts.{PushesDraft, StopsDraft};
-ghost use Rattle.dvg_named.specs.HeldRows.{rows_of};
+ghost use Rattle.dvg_rows.specs.HeldRows.{rows_of};
 ghost use Rattle.dvg_named.specs.LaidValues.{AreLow, laid_sections};
-ghost use Rattle.dvg_named.specs.Places.{doings};
+ghost use Rattle.dvg_rows.specs.RowPlaces.{doings};
 
 use crate::drafting::draft_of;
-use crate::laid::LaidRows;
-use crate::row::Row;
+use crate::laid::LaidNames;
 use dvg_frame::Op;
+use dvg_rows::{NamedRows, Row};
 use std::alloc::Allocator;
 
 /// Why the operations of a frame are not added.
@@ -21,10 +21,11 @@ pub enum DraftFault {
 }
 
 /// Adds the operations of a frame of these rows to a list, in order. Or else the list stays.
-pub fn push_draft<A: Allocator>(
+pub fn push_draft<A: Allocator + Copy>(
+    alloc: A,
     ops: &mut Vec<Op, A>,
     rows: &[Row],
-    rom: &[LaidRows],
+    rom: &LaidNames<'_, '_, '_, A>,
 ) -> Result<(), DraftFault>
     requires few { length (doings (rows_of rows.now)) ≤ 511 }
     requires low { AreLow (laid_sections rom.now) }
@@ -32,7 +33,10 @@ pub fn push_draft<A: Allocator>(
     ensures kept { OnErr result (ops.new.items ≡ ops.old.items) }
     ensures fault { IfErr result (StopsDraft rom.now rows.now) }
 {
-    let draft = match draft_of(rows, rom) {
+    let Ok(named) = NamedRows::new(alloc, rows) else {
+        return Err(DraftFault::Memory);
+    };
+    let draft = match draft_of(&named, rom) {
         Ok(draft) => draft,
         Err(place) => return Err(DraftFault::Ungiven(place)),
     };

@@ -4,16 +4,14 @@ ghost use Rattle.std.specs.List.{filter_map};
 ghost use Rattle.dvg_read.specs.RomTexts.{RomText};
 ghost use Rattle.dvg_named.specs.FrameValues.{IsFrameAt, frame_in, frame_list, frames_of};
 ghost use Rattle.dvg_named.specs.FrameValues.{rows_at_top};
-ghost use Rattle.dvg_named.specs.HeldRows.{rows_of};
+ghost use Rattle.dvg_rows.specs.HeldRows.{rows_of};
 ghost use Rattle.dvg_named.specs.ReadParts.{sketch_of};
 ghost use Rattle.dvg_named.specs.Sections.{frames};
 ghost use Rattle.dvg_named.specs.SketchReading.{head_in, section_in};
 ghost use Rattle.dvg_named.specs.SourcedRows.{IsPartAt};
 
-use crate::meaning::Source;
-use crate::part::Part;
-use crate::row::{Head, Row};
 use dvg_code::OutOfMemory;
+use dvg_rows::{Head, Part, Row, Source};
 use std::alloc::Allocator;
 
 /// The rows of a frame, and the lines that they stand in.

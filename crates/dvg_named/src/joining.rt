@@ -1,19 +1,18 @@
 //! The drafts of all frames, with their operations in one list.
-ghost use Rattle.std.specs.Prelude.{◌≡◌, ◌≤◌, ◌++◌, All, IfOk, List, OnOk, length};
+ghost use Rattle.std.specs.Prelude.{◌≡◌, ◌≤◌, ◌++◌, All, IfErr, IfOk, List, OnOk, length};
 ghost use Rattle.std.specs.List.{AllZip};
 ghost use Rattle.dvg_frame.specs.declared.op.OpKind.{OpKind as Kind};
-ghost use Rattle.dvg_named.specs.FlatFrames.{HasFewOps, IsSpanOf, KnowsNames};
+ghost use Rattle.dvg_named.specs.FlatFrames.{HasFewOps, IsSpanOf, StopsFrame, StopsFrames};
 ghost use Rattle.dvg_named.specs.LaidValues.{AreLow, laid_sections};
 ghost use Rattle.dvg_named.specs.OpSources.{AreLinesOf, HasRowLines, line_kept};
 ghost use Rattle.dvg_named.specs.OpSources.{op_sources};
 
 use crate::flat_draft::{DraftFault, push_draft};
 use crate::frame_rows::FrameRows;
-use crate::laid::LaidRows;
-use crate::meaning::Source;
-use crate::row::Row;
+use crate::laid::LaidNames;
 use dvg_code::OutOfMemory;
 use dvg_frame::Op;
+use dvg_rows::{Row, Source};
 use std::alloc::Allocator;
 
 /// Where the operations of a frame stand in a list of those of all frames.
@@ -40,28 +39,35 @@ pub struct JoinedFrames<'a, A: Allocator> {
     pub spans: Vec<FrameSpan<'a>, A>,
 }
 
-/// The drafts of frames, where each name that they want is given. A growth may be refused.
+/// The drafts of frames. Or else a name that they want isn't given, or a growth was refused.
 pub fn join_frames<'a, A: Allocator + Copy>(
     alloc: A,
     frames: &[FrameRows<'_, 'a>],
-    rom: &[LaidRows],
-) -> Result<JoinedFrames<'a, A>, OutOfMemory>
+    rom: &LaidNames<'_, '_, '_, A>,
+) -> Result<JoinedFrames<'a, A>, DraftFault>
     requires few { All HasFewOps frames.now }
     requires lines { All HasRowLines frames.now }
     requires low { AreLow (laid_sections rom.now) }
-    requires known { All (KnowsNames (laid_sections rom.now)) frames.now }
     ensures spans { IfOk result (λ joined.
         AllZip (IsSpanOf (laid_sections rom.now) joined.ops.items) frames.now joined.spans.items) }
     ensures lines { IfOk result (λ joined.
         AllZip (AreLinesOf joined.sources.items) frames.now joined.spans.items) }
+    ensures fault { IfErr result (StopsFrames (laid_sections rom.now) frames.now) }
 {
     let mut ops = Vec::new(alloc);
     let mut sources = Vec::new(alloc);
     let mut spans = Vec::new(alloc);
     for frame in frames {
-        push_sources(&mut sources, frame)?;
-        let span = push_frame(&mut ops, frame, rom)?;
-        spans.push(span)?;
+        if push_sources(&mut sources, frame).is_err() {
+            return Err(DraftFault::Memory);
+        }
+        let span = match push_frame(alloc, &mut ops, frame, rom) {
+            Ok(span) => span,
+            Err(fault) => return Err(fault),
+        };
+        if spans.push(span).is_err() {
+            return Err(DraftFault::Memory);
+        }
     }
     Ok(JoinedFrames {
         ops,
@@ -102,27 +108,27 @@ fn push_line<'a, A: Allocator + Copy>(
 
 // Adds the operations of a frame, and answers where they stand.
 fn push_frame<'a, A: Allocator + Copy>(
+    alloc: A,
     ops: &mut Vec<Op, A>,
     frame: &FrameRows<'_, 'a>,
-    rom: &[LaidRows],
-) -> Result<FrameSpan<'a>, OutOfMemory>
+    rom: &LaidNames<'_, '_, '_, A>,
+) -> Result<FrameSpan<'a>, DraftFault>
     requires few { HasFewOps frame.now }
     requires low { AreLow (laid_sections rom.now) }
-    requires known { KnowsNames (laid_sections rom.now) frame.now }
     ensures span { IfOk result (IsSpanOf (laid_sections rom.now) ops.new.items frame.now) }
     ensures place { IfOk result (λ span.
         (span.start ≡ length ops.old.items) × (span.end ≡ length ops.new.items)) }
     ensures grown { OnOk result ((more : List Kind) × (ops.new.items ≡ ops.old.items ++ more)) }
+    ensures fault { IfErr result (StopsFrame (laid_sections rom.now) frame.now) }
 {
     let start = ops.len();
-    match push_draft(ops, frame.rows, rom) {
+    match push_draft(alloc, ops, frame.rows, rom) {
         Ok(()) => Ok(FrameSpan {
             name: frame.name,
             begin: frame.begin,
             start,
             end: ops.len(),
         }),
-        Err(DraftFault::Memory) => Err(OutOfMemory),
-        Err(DraftFault::Ungiven(_)) => unreachable!(),
+        Err(fault) => Err(fault),
     }
 }

@@ -2,16 +2,19 @@
 ghost use Rattle.std.specs.Prelude.{◌≡◌, ◌≤◌, ◌<◌, ◌+◌, ◌^◌, ℕ, List, [], ◌∷◌, ◌++◌, length, max};
 ghost use Rattle.std.specs.Prelude.{unwrap_or, IfNone, IfOk, IfSome, Some};
 ghost use Rattle.dvg_read.specs.RomTexts.{RomLine};
+ghost use Rattle.dvg_rows.specs.NameTables.{Tells};
+ghost use Rattle.dvg_named.specs.RomNames.{IsListed};
 ghost use Rattle.dvg_named.specs.LaidValues.{AreLaid, AreLow, NoneNames, laid_sections, rows_in};
 ghost use Rattle.dvg_named.specs.LaidValues.{rows_laid, sections_of};
-ghost use Rattle.dvg_named.specs.NamedFaults.{AreDistinct, names_of};
-ghost use Rattle.dvg_named.specs.Places.{IsAddress, free_after, size as words_of_rows};
+ghost use Rattle.dvg_rows.specs.RowPlaces.{AreDistinct, names_of};
+ghost use Rattle.dvg_named.specs.Places.{IsAddress, free_after};
+ghost use Rattle.dvg_rows.specs.RowPlaces.{size as words_of_rows};
 
-use crate::number::place_of;
-use crate::row::Row;
-use crate::sizes::size;
+use crate::meaning::RomName;
 use dvg_code::OutOfMemory;
+use dvg_rows::{NameTable, Row, size};
 use std::alloc::Allocator;
+use std::marker::Model;
 
 /// The rows of a section of the ROM, and the word address that its line `.rom` gives, if it gives
 /// one.
@@ -30,6 +33,74 @@ pub struct LaidRows<'r, 'a> {
     pub start: usize,
     /// The rows, in order.
     pub rows: &'r [Row<'a>],
+}
+
+/// Laid sections, of which each name is known that they give.
+#[derive(Drop)]
+pub struct LaidNames<'s, 'r, 'a, A: Allocator + Copy> {
+    sections: &'s [LaidRows<'r, 'a>],
+    addresses: NameTable<'a, A>,
+}
+
+impl<'s, 'r, 'a, A: Allocator + Copy> Model for LaidNames<'s, 'r, 'a, A> {
+    ghost use Rattle.std.specs.Prelude.{List};
+    ghost use Rattle.dvg_rows.specs.NameTables.{Tells};
+    ghost use Rattle.dvg_named.specs.declared.laid.LaidRows.{LaidRows as HeldLaid};
+    ghost use Rattle.dvg_named.specs.LaidValues.{laid_sections};
+    ghost use Rattle.dvg_named.specs.Places.{IsAddress};
+
+    ghost Value = { List HeldLaid };
+
+    ghost view = { λ named. named.sections.now };
+
+    ghost invariant = { λ named. Tells (IsAddress (laid_sections named.sections.now)) named.addresses };
+}
+
+impl<'s, 'r, 'a, A: Allocator + Copy> LaidNames<'s, 'r, 'a, A> {
+    ghost use Rattle.std.specs.Prelude.{◌≡◌, All, IfOk};
+    ghost use Rattle.dvg_named.specs.LaidValues.{laid_sections, rows_laid};
+    ghost use Rattle.dvg_named.specs.RomNames.{IsNamedIn, names_listed};
+    ghost use Rattle.dvg_rows.specs.RowPlaces.{names_of};
+
+    /// Makes the names known that sections give, which are these. A growth may be refused. The time
+    /// grows with the number of names.
+    pub fn new(
+        alloc: A,
+        sections: &'s [LaidRows<'r, 'a>],
+        names: &[RomName<'a>],
+    ) -> Result<LaidNames<'s, 'r, 'a, A>, OutOfMemory>
+        requires listed { names_listed names.now
+            ≡ names_of (rows_laid (laid_sections sections.now)) }
+        requires addresses { All (IsNamedIn (laid_sections sections.now)) names.now }
+        ensures { IfOk result (λ named. named ≡ sections.now) }
+    {
+        let addresses = table_of(alloc, names)?;
+        Ok(LaidNames {
+            sections,
+            addresses,
+        })
+    }
+
+    /// The sections, in order.
+    pub fn sections(&self) -> &'s [LaidRows<'r, 'a>]
+        ensures { result.now ≡ self.now }
+    {
+        self.sections
+    }
+}
+
+// The address of each name of a list.
+fn table_of<'a, A: Allocator + Copy>(
+    alloc: A,
+    names: &[RomName<'a>],
+) -> Result<NameTable<'a, A>, OutOfMemory>
+    ensures { IfOk result (Tells (IsListed names.now)) }
+{
+    let mut addresses = NameTable::new(alloc);
+    for named in names {
+        addresses.put(Some(named.name), usize::from(named.address))?;
+    }
+    Ok(addresses)
 }
 
 /// The sections as they are laid, in order: each from its address on, or else from the first word
@@ -78,13 +149,15 @@ fn start_of(address: Option<u16>, next: usize) -> usize
     }
 }
 
-/// The word address that a name names in the ROM: that of the first section that gives it, and in
-/// it of the first row. None exactly where no row of these sections gives it. The time grows with
-/// the number of rows.
+/// The word address that a name names in the ROM. None exactly where no row of these sections gives
+/// it. The time doesn't grow with the number of rows.
 ///
 /// Where each name is given once, no other address is that of the name. A name after the last
 /// operation of its section is the address after the section (this project's own choice).
-pub fn address_of(sections: &[LaidRows], name: &[u8]) -> Option<u16>
+pub fn address_of<A: Allocator + Copy>(
+    sections: &LaidNames<'_, '_, '_, A>,
+    name: &[u8],
+) -> Option<u16>
     requires { AreLow (laid_sections sections.now) }
     ensures found { IfSome result (IsAddress (laid_sections sections.now) name.now) }
     ensures low { IfSome result (λ address. address ≤ 0xC00) }
@@ -92,11 +165,8 @@ pub fn address_of(sections: &[LaidRows], name: &[u8]) -> Option<u16>
     ensures only { AreDistinct (names_of (rows_laid (laid_sections sections.now))) → (address : ℕ)
         → IsAddress (laid_sections sections.now) name.now address → result ≡ Some address }
 {
-    for section in sections {
-        if let Some(place) = place_of(section.rows, name) {
-            let address = section.start + size(&section.rows[..place]);
-            return Some(address as u16);
-        }
+    match sections.addresses.get(name) {
+        Some(address) => Some(address as u16),
+        None => None,
     }
-    None
 }

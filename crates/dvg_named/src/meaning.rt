@@ -1,14 +1,6 @@
 //! What the text of a sketch denotes, with the lines that it comes from.
 use dvg_frame::Op;
-
-/// A line of a sketch.
-#[derive(Clone, Copy)]
-pub struct Source<'a> {
-    /// Its number, counted from 1.
-    pub number: usize,
-    /// Its bytes, in small letters, without its line end.
-    pub line: &'a [u8],
-}
+use dvg_rows::Source;
 
 /// A frame of a sketch.
 #[derive(Clone, Copy)]

@@ -2,28 +2,26 @@
 ghost use Rattle.std.specs.Prelude.{◌↔◌, IfNone, IfSome, IsTrue};
 ghost use Rattle.dvg_named.specs.RowMoves.{IsCounted, IsFull};
 ghost use Rattle.dvg_named.specs.RomBytes.{MayBeEncoded};
-ghost use Rattle.dvg_named.specs.RowValues.{doing_of, row_of};
-ghost use Rattle.dvg_named.specs.Rows.{plainly, rom};
+ghost use Rattle.dvg_rows.specs.RowValues.{doing_of, row_of};
+ghost use Rattle.dvg_rows.specs.Rows.{plainly, rom};
 ghost use Rattle.dvg_named.specs.Sections.{MayStand};
 
+use crate::flat_draft::DraftFault;
 use crate::frame_rows::{FrameRows, frame_rows};
-use crate::given_names::GivenNames;
 use crate::joining::{JoinedFrames, join_frames};
-use crate::laid::{LaidRows, lay};
-use crate::line_fault::LineFault;
-use crate::meaning::Source;
-use crate::part::Part;
-use crate::rom_area::RomArea;
+use crate::laid::{LaidNames, LaidRows, lay};
 use crate::rom_sections::rom_rows;
 use crate::rom_words::{RomRow, put_sections};
-use crate::row::{Doing, Head, Row, read_head, read_row};
-use crate::sizes::words_of_row;
 use crate::told_rom::ToldRom;
 use crate::unknown::first_unknown;
 use arrayvec::ArrayVec;
 use dvg_code::OutOfMemory;
 use dvg_frame::OpKind;
 use dvg_mem::LARGE_ROM_BYTES;
+use dvg_rows::{
+    Doing, GivenNames, Head, LineFault, Part, RomArea, Row, Source, read_head, read_row,
+    words_of_row,
+};
 use std::alloc::Allocator;
 use std::mem;
 
@@ -56,8 +54,8 @@ impl<'a, A: Allocator + Copy> Reading<'a, A> {
     ghost use Rattle.dvg_read.specs.RomReading.{untold};
     ghost use Rattle.dvg_read.specs.RomTexts.{RomText};
     ghost use Rattle.dvg_read.specs.RomReading.{TellsRom};
-    ghost use Rattle.dvg_named.specs.RowValues.{head_of, name_of, row_of};
-    ghost use Rattle.dvg_named.specs.Rows.{IsHeadLine, IsRowLine, Row as SpelledRow, frame, rom};
+    ghost use Rattle.dvg_rows.specs.RowValues.{head_of, name_of, row_of};
+    ghost use Rattle.dvg_rows.specs.Rows.{IsHeadLine, IsRowLine, Row as SpelledRow, frame, rom};
     ghost use Rattle.dvg_named.specs.RowMoves.{IsFrameHead, IsRomHead};
     ghost use Rattle.dvg_named.specs.SketchReading.{IsBare, Opens, Reads, ReadsMore, StopsSketch};
     ghost use Rattle.dvg_named.specs.SketchReading.{head_in, spelled_in};
@@ -65,7 +63,7 @@ impl<'a, A: Allocator + Copy> Reading<'a, A> {
     ghost use Rattle.dvg_named.specs.RomBytes.{IsFirstInRom};
     ghost use Rattle.dvg_named.specs.LaidValues.{laid_sections};
     ghost use Rattle.dvg_named.specs.NamedFaults.{laid_of};
-    ghost use Rattle.dvg_named.specs.PlainLines.{plain};
+    ghost use Rattle.dvg_rows.specs.PlainLines.{plain};
     ghost use Rattle.dvg_named.specs.TextReading.{ReadsText};
     ghost use Rattle.dvg_named.specs.SketchSteps.{AreParts, line_of};
     ghost use Rattle.dvg_named.specs.SourcedRows.{AreSourced, BeginsIn, IsHeadAt, IsLineAt};
@@ -75,7 +73,7 @@ impl<'a, A: Allocator + Copy> Reading<'a, A> {
     ghost use Rattle.std.specs.Prelude.{None, IfNone, IfSome, map};
     ghost use Rattle.std.specs.Char.{to_ascii_lowercase};
     ghost use Rattle.dvg_named.specs.declared.fault.NamedFault.TheVariants.{Unknown};
-    ghost use Rattle.dvg_named.specs.FirstUnknown.{WantsNone, sections_in};
+    ghost use Rattle.dvg_named.specs.FirstUnknown.{StopsDrafts, WantsNone, sections_in};
     ghost use Rattle.dvg_named.specs.FlatFrames.{frame_at};
     ghost use Rattle.dvg_named.specs.Meanings.{IsFrameOf};
     ghost use Rattle.std.specs.List.{AllZip};
@@ -228,7 +226,7 @@ impl<'a, A: Allocator + Copy> Reading<'a, A> {
         if self.closed.push(closed).is_err() {
             return Err(LineFault::Memory);
         }
-        self.names.clear();
+        self.names = GivenNames::new(self.alloc);
         self.count = 0;
         Ok(())
     }
@@ -320,7 +318,10 @@ impl<'a, A: Allocator + Copy> Reading<'a, A> {
     /// The bytes of the ROM, with the words of its sections as they are laid, after all lines of a
     /// text. Or else the first row of the ROM that wants a name which isn't given. No memory is
     /// taken.
-    pub fn rom(&self, laid: &[LaidRows]) -> Result<ArrayVec<u8, LARGE_ROM_BYTES>, RomRow>
+    pub fn rom(
+        &self,
+        laid: &LaidNames<'_, '_, '_, A>,
+    ) -> Result<ArrayVec<u8, LARGE_ROM_BYTES>, RomRow>
         requires { IsLaidText self.now laid.now }
         ensures rom { IfOk result (λ bytes. (told : RomText) → Reads told self.now
             → laid_sections laid.now ≡ laid_of (spelled_in told self.now)
@@ -337,18 +338,20 @@ impl<'a, A: Allocator + Copy> Reading<'a, A> {
     }
 
     /// The number of the first line that wants a name which isn't given, after all lines of a text.
-    /// No memory is taken. The time grows with the number of rows times that of the rows that want
-    /// a name.
-    pub fn first_unknown(&self, laid: &[LaidRows]) -> Option<usize>
+    /// A growth may be refused. The time grows with the number of rows.
+    pub fn first_unknown(
+        &self,
+        laid: &LaidNames<'_, '_, '_, A>,
+    ) -> Result<Option<usize>, OutOfMemory>
         requires { IsLaidText self.now laid.now }
-        ensures unknown { IfSome result (λ number. (small text : List ℕ)
+        ensures unknown { IfOk result (λ found. IfSome found (λ number. (small text : List ℕ)
             → (read : ReadsText small self.now)
             → laid_sections laid.now ≡ laid_of (spelled_in read.rom self.now)
-            → map to_ascii_lowercase text ≡ small → HasNamedFault text (Unknown number)) }
-        ensures known { IfNone result
-            (All (WantsNone (laid_sections laid.now)) (sections_in self.now)) }
+            → map to_ascii_lowercase text ≡ small → HasNamedFault text (Unknown number))) }
+        ensures known { IfOk result (λ found. IfNone found
+            (All (WantsNone (laid_sections laid.now)) (sections_in self.now))) }
     {
-        first_unknown(self.closed.as_slice(), &self.last, laid)
+        first_unknown(self.alloc, self.closed.as_slice(), &self.last, laid)
     }
 
     /// The frames, in order, after the lines that were read. A growth may be refused.
@@ -361,11 +364,10 @@ impl<'a, A: Allocator + Copy> Reading<'a, A> {
         frame_rows(self.alloc, self.closed.as_slice(), &self.last)
     }
 
-    /// The drafts of the frames, in order, after all lines of a text, where each name is given. A
-    /// growth may be refused.
-    pub fn drafts(&self, laid: &[LaidRows]) -> Result<JoinedFrames<'a, A>, OutOfMemory>
+    /// The drafts of the frames, in order, after all lines of a text. Or else a name that a frame
+    /// wants isn't given, or a growth was refused.
+    pub fn drafts(&self, laid: &LaidNames<'_, '_, '_, A>) -> Result<JoinedFrames<'a, A>, DraftFault>
         requires text { IsLaidText self.now laid.now }
-        requires known { All (WantsNone (laid_sections laid.now)) (sections_in self.now) }
         ensures drafts { IfOk result (λ joined. (told : RomText)
             → AllZip (IsFrameOf (laid_sections laid.now)) (frames (spelled_in told self.now))
             (map (frame_at joined.ops.items) joined.spans.items)) }
@@ -375,8 +377,11 @@ impl<'a, A: Allocator + Copy> Reading<'a, A> {
             (map (joined_at joined.ops.items joined.sources.items) joined.spans.items)) }
         ensures inside { IfOk result (λ joined.
             All (IsInside joined.ops.items joined.sources.items) joined.spans.items) }
+        ensures fault { IfErr result (StopsDrafts (laid_sections laid.now) self.now) }
     {
-        let found = self.frames()?;
+        let Ok(found) = self.frames() else {
+            return Err(DraftFault::Memory);
+        };
         join_frames(self.alloc, found.as_slice(), laid)
     }
 }

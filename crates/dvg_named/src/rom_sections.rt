@@ -1,16 +1,15 @@
 //! The sections of the ROM among those of a sketch.
 ghost use Rattle.std.specs.Prelude.{◌≡◌, ◌++◌, ◌<◌, ◌^◌, IfOk, List, OnOk, map};
 ghost use Rattle.std.specs.List.{filter_map};
-ghost use Rattle.dvg_named.specs.HeldRows.{rows_of};
+ghost use Rattle.dvg_rows.specs.HeldRows.{rows_of};
 ghost use Rattle.dvg_named.specs.LaidValues.{sections_of};
 ghost use Rattle.dvg_named.specs.ReadParts.{front_roms};
 ghost use Rattle.dvg_named.specs.RomParts.{rom_in, rom_list};
 ghost use Rattle.dvg_named.specs.SketchReading.{head_in, section_in};
 
 use crate::laid::RomRows;
-use crate::part::Part;
-use crate::row::Head;
 use dvg_code::OutOfMemory;
+use dvg_rows::{Head, Part};
 use std::alloc::Allocator;
 
 /// The sections of the ROM, in order: those before the last section, and that one.

@@ -7,7 +7,7 @@ ghost use Rattle.dvg_code.specs.Words.{word_in};
 ghost use Rattle.dvg_frame.specs.declared.op.OpKind.TheVariants.{Call, Jump};
 ghost use Rattle.dvg_frame.specs.Ops.{IsOp};
 ghost use Rattle.dvg_read.specs.RomTexts.{IsRomOf, RomText};
-ghost use Rattle.dvg_named.specs.HeldRows.{rows_of};
+ghost use Rattle.dvg_rows.specs.HeldRows.{rows_of};
 ghost use Rattle.dvg_named.specs.LaidValues.{AreLow, IsAddressIn, NoneNames, laid_section};
 ghost use Rattle.dvg_named.specs.LaidValues.{laid_sections};
 ghost use Rattle.dvg_named.specs.Meanings.{IsEncoded};
@@ -15,17 +15,15 @@ ghost use Rattle.dvg_named.specs.NamedFaults.{IsUngiven};
 ghost use Rattle.dvg_named.specs.Places.{IsAddress, Laid, laid_end};
 ghost use Rattle.dvg_named.specs.RomBytes.{ArePut, IsFirstInRom, LieInRom, MayBeEncoded};
 ghost use Rattle.dvg_named.specs.RomBytes.{MayStandInRom, PutsSection, TellsSections};
-ghost use Rattle.dvg_named.specs.RowValues.{doing_of};
-ghost use Rattle.dvg_named.specs.Rows.{plainly};
+ghost use Rattle.dvg_rows.specs.RowValues.{doing_of};
+ghost use Rattle.dvg_rows.specs.Rows.{plainly};
 ghost use Rattle.dvg_named.specs.Ungiven.{IsFirstInSection, WantsAt, WantsInRom, in_rom};
 
-use crate::laid::{LaidRows, address_of};
-use crate::row::Doing;
+use crate::laid::{LaidNames, LaidRows, address_of};
 use dvg_code::{Code, Instr, encode};
 use dvg_frame::OpKind;
-
-/// The word address after the ROM's last word.
-pub(crate) const ROM_END: usize = 0xC00;
+use dvg_rows::{Doing, ROM_END};
+use std::alloc::Allocator;
 
 /// A row of a section of the ROM, by the numbers of both, counted from 0.
 #[derive(Clone, Copy, Debug, PartialEq, Eq)]
@@ -40,8 +38,11 @@ pub struct RomRow {
 /// at its address, the low byte of a word first. So bytes of which lines `rom` gave the words
 /// become those that the same words would have made of them, given by further lines. Or else the
 /// first row that wants a name which isn't given; what was put before it stays. No memory is taken.
-/// The time grows with the number of rows times that of the rows that want a name.
-pub fn put_sections(rom: &mut [u8], sections: &[LaidRows]) -> Result<(), RomRow>
+/// The time grows with the number of rows.
+pub fn put_sections<A: Allocator + Copy>(
+    rom: &mut [u8],
+    sections: &LaidNames<'_, '_, '_, A>,
+) -> Result<(), RomRow>
     requires size { (length rom.old ≡ 2048) ⊎ (length rom.old ≡ 4096) }
     requires lie { LieInRom (0xC00 - length rom.old / 2) (laid_sections sections.now) }
     requires may { All (λ section. MayStandInRom section.rows) (laid_sections sections.now) }
@@ -50,7 +51,7 @@ pub fn put_sections(rom: &mut [u8], sections: &[LaidRows]) -> Result<(), RomRow>
     ensures ungiven { IfErr result (IsFirstInRom (laid_sections sections.now)) }
 {
     let first = ROM_END - rom.len() / 2;
-    for (number, section) in sections.iter().enumerate() {
+    for (number, section) in sections.sections().iter().enumerate() {
         if let Err(row) = put_section(rom, first, sections, section) {
             return Err(RomRow {
                 section: number,
@@ -63,10 +64,10 @@ pub fn put_sections(rom: &mut [u8], sections: &[LaidRows]) -> Result<(), RomRow>
 
 // Puts the words of one section into the bytes of a ROM, of which the first word is at this word
 // address. Or else the place of the first row that wants a name which isn't given.
-fn put_section(
+fn put_section<A: Allocator + Copy>(
     rom: &mut [u8],
     first: usize,
-    sections: &[LaidRows],
+    sections: &LaidNames<'_, '_, '_, A>,
     section: &LaidRows,
 ) -> Result<(), usize>
     requires low { AreLow (laid_sections sections.now) }
@@ -120,7 +121,7 @@ fn put_word(rom: &mut [u8], place: usize, word: u16)
 }
 
 // The instruction of a row of the ROM. None where it wants a name that isn't given.
-fn code_of(sections: &[LaidRows], doing: &Doing) -> Option<Code>
+fn code_of<A: Allocator + Copy>(sections: &LaidNames<'_, '_, '_, A>, doing: &Doing) -> Option<Code>
     requires low { AreLow (laid_sections sections.now) }
     requires may { MayBeEncoded (doing_of doing.now) }
     ensures encoded { IfSome result (IsEncoded (laid_sections sections.now) (doing_of doing.now)) }
@@ -152,7 +153,7 @@ fn plain_code(kind: OpKind) -> Code
 }
 
 // The call of a name of the ROM. None where it isn't given.
-fn call_of(sections: &[LaidRows], name: &[u8]) -> Option<Code>
+fn call_of<A: Allocator + Copy>(sections: &LaidNames<'_, '_, '_, A>, name: &[u8]) -> Option<Code>
     requires { AreLow (laid_sections sections.now) }
     ensures call { IfSome result (λ code. (address : ℕ) × IsAddressIn sections.now name.now address
         × (code ≡ Jsrl address)) }
@@ -165,7 +166,7 @@ fn call_of(sections: &[LaidRows], name: &[u8]) -> Option<Code>
 }
 
 // The jump to a name of the ROM. None where it isn't given.
-fn jump_of(sections: &[LaidRows], name: &[u8]) -> Option<Code>
+fn jump_of<A: Allocator + Copy>(sections: &LaidNames<'_, '_, '_, A>, name: &[u8]) -> Option<Code>
     requires { AreLow (laid_sections sections.now) }
     ensures jump { IfSome result (λ code. (address : ℕ) × IsAddressIn sections.now name.now address
         × (code ≡ Jmpl address)) }

@@ -1,12 +1,20 @@
 //! Sketches that were read.
-ghost use Rattle.std.specs.Prelude.{◌≡◌, ℕ, List, IfErr, IfOk, map};
+ghost use Rattle.std.specs.Prelude.{◌≡◌, ℕ, All, List, IfErr, IfOk, map};
 ghost use Rattle.std.specs.Char.{to_ascii_lowercase};
+ghost use Rattle.dvg_named.specs.FirstUnknown.{WantsNone, sections_in};
+ghost use Rattle.dvg_named.specs.GivenRoms.{IsLaidText};
+ghost use Rattle.dvg_named.specs.LaidValues.{laid_sections};
+ghost use Rattle.dvg_named.specs.NamedFaults.{laid_of};
+ghost use Rattle.dvg_named.specs.SketchReading.{Reads, spelled_in};
+ghost use Rattle.dvg_read.specs.RomTexts.{RomText};
 ghost use Rattle.dvg_named.specs.ReadSketches.{AreInside, IsReadOf};
 ghost use Rattle.dvg_named.specs.TextReading.{ReadsText, StopsText};
 
 use crate::addresses::rom_names;
 use crate::fault::{NamedFault, SketchFault};
+use crate::flat_draft::DraftFault;
 use crate::joining::{FrameSpan, JoinedFrames};
+use crate::laid::LaidNames;
 use crate::meaning::{NamedFrame, RomName};
 use crate::reading::Reading;
 use crate::text_reading::read_lines;
@@ -65,7 +73,7 @@ impl<'a, A: Allocator + Copy> Sketch<'a, A> {
 ///   than 1,048,576 bytes, comes before all others, and `Unknown` after them.
 /// - `Memory`: a growth was refused.
 ///
-/// The time grows with the number of rows times that of the rows that want a name.
+/// The time grows with the length of the text.
 pub fn read_sketch<'a, A: Allocator + Copy>(
     alloc: A,
     small: &'a [u8],
@@ -98,18 +106,38 @@ fn sketch_of<'a, A: Allocator + Copy>(
     let Ok(rows) = reading.lay() else {
         return Err(SketchFault::Memory);
     };
-    let laid = rows.as_slice();
-    if let Some(number) = reading.first_unknown(laid) {
-        return Err(SketchFault::Text(NamedFault::Unknown(number)));
+    let sections = rows.as_slice();
+    let Ok(names) = rom_names(alloc, sections) else {
+        return Err(SketchFault::Memory);
+    };
+    let Ok(laid) = LaidNames::new(alloc, sections, names.as_slice()) else {
+        return Err(SketchFault::Memory);
+    };
+    let Ok(rom) = reading.rom(&laid) else {
+        return Err(unknown(reading, &laid));
+    };
+    match reading.drafts(&laid) {
+        Ok(frames) => Ok(Sketch { rom, names, frames }),
+        Err(DraftFault::Memory) => Err(SketchFault::Memory),
+        Err(DraftFault::Ungiven(_)) => Err(unknown(reading, &laid)),
     }
-    let Ok(rom) = reading.rom(laid) else {
-        unreachable!();
-    };
-    let Ok(names) = rom_names(alloc, laid) else {
-        return Err(SketchFault::Memory);
-    };
-    let Ok(frames) = reading.drafts(laid) else {
-        return Err(SketchFault::Memory);
-    };
-    Ok(Sketch { rom, names, frames })
+}
+
+// The first line that wants a name which isn't given, where there is one.
+fn unknown<A: Allocator + Copy>(
+    reading: &Reading<'_, A>,
+    laid: &LaidNames<'_, '_, '_, A>,
+) -> SketchFault
+    requires text { IsLaidText reading.now laid.now }
+    requires laid { (told : RomText) → Reads told reading.now
+        → laid_sections laid.now ≡ laid_of (spelled_in told reading.now) }
+    requires wants { ¬ All (WantsNone (laid_sections laid.now)) (sections_in reading.now) }
+    ensures { (text : List ℕ) → ReadsText (map to_ascii_lowercase text) reading.now
+        → StopsText result text }
+{
+    match reading.first_unknown(laid) {
+        Ok(Some(number)) => SketchFault::Text(NamedFault::Unknown(number)),
+        Ok(None) => unreachable!(),
+        Err(_) => SketchFault::Memory,
+    }
 }

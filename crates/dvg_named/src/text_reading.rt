@@ -6,11 +6,9 @@ ghost use Rattle.dvg_named.specs.SourcedRows.{first_of};
 ghost use Rattle.dvg_named.specs.TextReading.{ReadsText, StopsText, fault_at};
 
 use crate::fault::{NamedFault, SketchFault};
-use crate::line_fault::LineFault;
-use crate::line_words::words_of;
-use crate::meaning::Source;
 use crate::reading::Reading;
 use dvg_read::{MOST_TEXT_BYTES, TextLines};
+use dvg_rows::{LineFault, Source, words_of};
 use std::alloc::Allocator;
 
 /// Reads all lines of a text in small letters, in one pass. Or else the text has a fault: it is too

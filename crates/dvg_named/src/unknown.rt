@@ -1,66 +1,96 @@
 //! The first row of a sketch that wants a name which isn't given.
-ghost use Rattle.std.specs.Prelude.{◌≡◌, ◌↔◌, ◌<◌, ℕ, All, IfNone, IfSome, IsTrue, Some};
+ghost use Rattle.std.specs.Prelude.{◌≡◌, ◌↔◌, ◌<◌, ℕ, All, IfNone, IfOk, IfSome, IsTrue, Some};
 ghost use Rattle.std.specs.Prelude.{length, slice_get, List};
 ghost use Rattle.dvg_named.specs.FirstUnknown.{FirstOf, HasLines, WantsIn, WantsNone, WantsRow};
 ghost use Rattle.dvg_named.specs.FirstUnknown.{all_sections, entries_held, section_held};
-ghost use Rattle.dvg_named.specs.HeldRows.{rows_of};
+ghost use Rattle.dvg_rows.specs.HeldRows.{rows_of};
 ghost use Rattle.dvg_named.specs.LaidValues.{AreLow, NoneNames, laid_sections};
 ghost use Rattle.dvg_named.specs.LineNumbers.{entries_last};
 ghost use Rattle.dvg_named.specs.NamedFaults.{IsLost, IsUngiven};
-ghost use Rattle.dvg_named.specs.Places.{IsNumber};
-ghost use Rattle.dvg_named.specs.RowValues.{doing_of, head_of, row_of};
+ghost use Rattle.dvg_rows.specs.RowPlaces.{IsNumber};
+ghost use Rattle.dvg_rows.specs.RowValues.{doing_of, head_of, row_of};
 ghost use Rattle.dvg_named.specs.Sections.{Section};
 ghost use Rattle.dvg_named.specs.SketchReading.{head_in, section_in};
 ghost use Rattle.dvg_named.specs.Ungiven.{IsFirstUngiven, WantsAt};
 
-use crate::laid::{LaidRows, address_of};
-use crate::number::number_of;
-use crate::part::Part;
-use crate::row::{Doing, Head, Row};
+use crate::laid::{LaidNames, address_of};
+use dvg_code::OutOfMemory;
+use dvg_rows::{Doing, Head, NamedRows, Part, Row, number_of};
 use std::alloc::Allocator;
 
 /// The number of the line of the first row that wants a name which isn't given, in the order of the
-/// text: of the sections before the last one, and of that one. The time grows with the number of
-/// rows times that of the rows that want a name.
+/// text: of the sections before the last one, and of that one. A growth may be refused. The time
+/// grows with the number of rows.
 pub(crate) fn first_unknown<A: Allocator + Copy>(
+    alloc: A,
     closed: &[Part<'_, A>],
     last: &Part<'_, A>,
-    laid: &[LaidRows],
-) -> Option<usize>
+    laid: &LaidNames<'_, '_, '_, A>,
+) -> Result<Option<usize>, OutOfMemory>
     requires low { AreLow (laid_sections laid.now) }
     requires closed { All HasLines closed.now }
     requires last { HasLines last.now }
-    ensures first { FirstOf (WantsIn (laid_sections laid.now) (all_sections closed.now last.now))
-        (entries_held closed.now last.now) result }
-    ensures known { IfNone result
-        (All (WantsNone (laid_sections laid.now)) (all_sections closed.now last.now)) }
+    ensures first { IfOk result
+        (FirstOf (WantsIn (laid_sections laid.now) (all_sections closed.now last.now))
+        (entries_held closed.now last.now)) }
+    ensures known { IfOk result (λ found. IfNone found
+        (All (WantsNone (laid_sections laid.now)) (all_sections closed.now last.now))) }
 {
     for part in closed {
-        if let Some(number) = unknown_in(part, laid) {
-            return Some(number);
+        let found = unknown_in(alloc, part, laid)?;
+        if found.is_some() {
+            return Ok(found);
         }
     }
-    unknown_in(last, laid)
+    unknown_in(alloc, last, laid)
 }
 
 // The number of the line of the first such row of a section.
-fn unknown_in<A: Allocator + Copy>(part: &Part<'_, A>, laid: &[LaidRows]) -> Option<usize>
+fn unknown_in<A: Allocator + Copy>(
+    alloc: A,
+    part: &Part<'_, A>,
+    laid: &LaidNames<'_, '_, '_, A>,
+) -> Result<Option<usize>, OutOfMemory>
     requires low { AreLow (laid_sections laid.now) }
     requires lines { HasLines part.now }
+    ensures first { IfOk result (λ found. (sections : List Section) (number : ℕ)
+        → slice_get sections number ≡ Some (section_in part.now)
+        → FirstOf (WantsIn (laid_sections laid.now) sections) (entries_last number part.now)
+        found) }
+    ensures known { IfOk result (λ found.
+        IfNone found (WantsNone (laid_sections laid.now) (section_in part.now))) }
+{
+    let rows = NamedRows::new(alloc, part.rows.as_slice())?;
+    Ok(number_in(part, &rows, laid))
+}
+
+// The same of a section of these rows.
+fn number_in<A: Allocator + Copy>(
+    part: &Part<'_, A>,
+    rows: &NamedRows<'_, '_, A>,
+    laid: &LaidNames<'_, '_, '_, A>,
+) -> Option<usize>
+    requires low { AreLow (laid_sections laid.now) }
+    requires lines { HasLines part.now }
+    requires rows { rows.now ≡ part.now.rows.items }
     ensures first { (sections : List Section) (number : ℕ)
         → slice_get sections number ≡ Some (section_in part.now)
         → FirstOf (WantsIn (laid_sections laid.now) sections) (entries_last number part.now)
         result }
     ensures known { IfNone result (WantsNone (laid_sections laid.now) (section_in part.now)) }
 {
-    match first_in(part.head, part.rows.as_slice(), laid) {
+    match first_in(part.head, rows, laid) {
         Some(place) => Some(part.sources[place].number),
         None => None,
     }
 }
 
 // The place of the first such row of a section, counted from 0.
-fn first_in(head: Option<Head>, rows: &[Row], laid: &[LaidRows]) -> Option<usize>
+fn first_in<A: Allocator + Copy>(
+    head: Option<Head>,
+    rows: &NamedRows<'_, '_, A>,
+    laid: &LaidNames<'_, '_, '_, A>,
+) -> Option<usize>
     requires low { AreLow (laid_sections laid.now) }
     ensures low { IfSome result (λ place. place < length rows.now) }
     ensures found { IfSome result
@@ -68,7 +98,7 @@ fn first_in(head: Option<Head>, rows: &[Row], laid: &[LaidRows]) -> Option<usize
     ensures known { IfNone result
         (WantsNone (laid_sections laid.now) (section_held head.entry rows.now)) }
 {
-    for (place, row) in rows.iter().enumerate() {
+    for (place, row) in rows.rows().iter().enumerate() {
         if wants(head, rows, laid, row) {
             return Some(place);
         }
@@ -77,7 +107,12 @@ fn first_in(head: Option<Head>, rows: &[Row], laid: &[LaidRows]) -> Option<usize
 }
 
 // Whether a row of a section wants a name that isn't given.
-fn wants(head: Option<Head>, rows: &[Row], laid: &[LaidRows], row: &Row) -> bool
+fn wants<A: Allocator + Copy>(
+    head: Option<Head>,
+    rows: &NamedRows<'_, '_, A>,
+    laid: &LaidNames<'_, '_, '_, A>,
+    row: &Row,
+) -> bool
     requires low { AreLow (laid_sections laid.now) }
     ensures { IsTrue result ↔ WantsRow (laid_sections laid.now) (section_held head.entry rows.now)
         (row_of row.now) }
@@ -89,7 +124,12 @@ fn wants(head: Option<Head>, rows: &[Row], laid: &[LaidRows], row: &Row) -> bool
 }
 
 // Whether what a row of a section does wants a name that isn't given.
-fn is_ungiven(head: Option<Head>, rows: &[Row], laid: &[LaidRows], doing: &Doing) -> bool
+fn is_ungiven<A: Allocator + Copy>(
+    head: Option<Head>,
+    rows: &NamedRows<'_, '_, A>,
+    laid: &LaidNames<'_, '_, '_, A>,
+    doing: &Doing,
+) -> bool
     requires low { AreLow (laid_sections laid.now) }
     ensures { IsTrue result ↔ IsUngiven (laid_sections laid.now)
         (section_held head.entry rows.now) (doing_of doing.now) }
@@ -104,7 +144,12 @@ fn is_ungiven(head: Option<Head>, rows: &[Row], laid: &[LaidRows], doing: &Doing
 }
 
 // Whether a name isn't given where a section looks for it.
-fn is_lost(head: Option<Head>, rows: &[Row], laid: &[LaidRows], name: &[u8]) -> bool
+fn is_lost<A: Allocator + Copy>(
+    head: Option<Head>,
+    rows: &NamedRows<'_, '_, A>,
+    laid: &LaidNames<'_, '_, '_, A>,
+    name: &[u8],
+) -> bool
     requires low { AreLow (laid_sections laid.now) }
     ensures { IsTrue result
         ↔ IsLost (laid_sections laid.now) (head_in head.entry) (rows_of rows.now) name.now }
@@ -116,7 +161,12 @@ fn is_lost(head: Option<Head>, rows: &[Row], laid: &[LaidRows], name: &[u8]) -> 
 }
 
 // Whether a name isn't given where a section that a line begins looks for it.
-fn is_lost_after(head: Head, rows: &[Row], laid: &[LaidRows], name: &[u8]) -> bool
+fn is_lost_after<A: Allocator + Copy>(
+    head: Head,
+    rows: &NamedRows<'_, '_, A>,
+    laid: &LaidNames<'_, '_, '_, A>,
+    name: &[u8],
+) -> bool
     requires low { AreLow (laid_sections laid.now) }
     ensures { IsTrue result
         ↔ IsLost (laid_sections laid.now) (head_of head.entry) (rows_of rows.now) name.now }
@@ -128,7 +178,7 @@ fn is_lost_after(head: Head, rows: &[Row], laid: &[LaidRows], name: &[u8]) -> bo
 }
 
 // Whether no section of the ROM gives a name.
-fn has_no_address(laid: &[LaidRows], name: &[u8]) -> bool
+fn has_no_address<A: Allocator + Copy>(laid: &LaidNames<'_, '_, '_, A>, name: &[u8]) -> bool
     requires low { AreLow (laid_sections laid.now) }
     ensures { IsTrue result ↔ NoneNames laid.now name.now }
 {
@@ -136,7 +186,7 @@ fn has_no_address(laid: &[LaidRows], name: &[u8]) -> bool
 }
 
 // Whether no row of a frame gives a name.
-fn has_no_number(rows: &[Row], name: &[u8]) -> bool
+fn has_no_number<A: Allocator + Copy>(rows: &NamedRows<'_, '_, A>, name: &[u8]) -> bool
     ensures { IsTrue result ↔ ((number : ℕ) → ¬ IsNumber (rows_of rows.now) name.now number) }
 {
     number_of(rows, name).is_none()

@@ -3,7 +3,7 @@ use std::prelude::*;
 
 use crate::said::put_said;
 use crate::text::{put, put_decimal, put_words};
-use dvg_code::{Code, Instr, OutOfMemory};
+use dvg_code::OutOfMemory;
 use dvg_frame::{Cursor, Frame, Op, OpKind};
 use dvg_io::collect_words;
 use dvg_mem::Half;
@@ -29,18 +29,10 @@ fn laid_words<A: Allocator + Copy>(alloc: A, frame: Frame) -> Result<Vec<u16, A>
     collect_words(alloc, bytes.as_slice())
 }
 
-// How many words an instruction has.
-fn word_count(code: Code) -> usize {
-    match code.instr() {
-        Instr::Vctr { .. } | Instr::Labs { .. } => 2,
-        Instr::Halt | Instr::Jsrl(_) | Instr::Rtsl | Instr::Jmpl(_) | Instr::Svec { .. } => 1,
-    }
-}
-
 // How many words an operation has.
 fn op_words(op: &Op) -> usize {
     match op.kind() {
-        OpKind::Draw(code) => word_count(code),
+        OpKind::Draw(code) => usize::from(code.word_count()),
         _ => 1,
     }
 }

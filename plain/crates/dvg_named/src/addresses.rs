@@ -3,8 +3,8 @@ use std::prelude::*;
 
 use crate::laid::LaidRows;
 use crate::meaning::RomName;
-use crate::sizes::words_of_row;
 use dvg_code::OutOfMemory;
+use dvg_rows::words_of_row;
 use std::alloc::Allocator;
 
 /// All names that laid sections give, in the order of the text, each with its word address. A

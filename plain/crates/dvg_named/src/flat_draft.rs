@@ -2,9 +2,9 @@
 use std::prelude::*;
 
 use crate::drafting::draft_of;
-use crate::laid::LaidRows;
-use crate::row::Row;
+use crate::laid::LaidNames;
 use dvg_frame::Op;
+use dvg_rows::{NamedRows, Row};
 use std::alloc::Allocator;
 
 /// Why the operations of a frame are not added.
@@ -17,12 +17,16 @@ pub enum DraftFault {
 }
 
 /// Adds the operations of a frame of these rows to a list, in order. Or else the list stays.
-pub fn push_draft<A: Allocator>(
+pub fn push_draft<A: Allocator + Copy>(
+    alloc: A,
     ops: &mut Vec<Op, A>,
     rows: &[Row],
-    rom: &[LaidRows],
+    rom: &LaidNames<'_, '_, '_, A>,
 ) -> Result<(), DraftFault> {
-    let draft = match draft_of(rows, rom) {
+    let Ok(named) = NamedRows::new(alloc, rows) else {
+        return Err(DraftFault::Memory);
+    };
+    let draft = match draft_of(&named, rom) {
         Ok(draft) => draft,
         Err(place) => return Err(DraftFault::Ungiven(place)),
     };

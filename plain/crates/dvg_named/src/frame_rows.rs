@@ -1,10 +1,8 @@
 //! The frames among the sections of a sketch.
 use std::prelude::*;
 
-use crate::meaning::Source;
-use crate::part::Part;
-use crate::row::{Head, Row};
 use dvg_code::OutOfMemory;
+use dvg_rows::{Head, Part, Row, Source};
 use std::alloc::Allocator;
 
 /// The rows of a frame, and the lines that they stand in.

@@ -3,11 +3,10 @@ use std::prelude::*;
 
 use crate::flat_draft::{DraftFault, push_draft};
 use crate::frame_rows::FrameRows;
-use crate::laid::LaidRows;
-use crate::meaning::Source;
-use crate::row::Row;
+use crate::laid::LaidNames;
 use dvg_code::OutOfMemory;
 use dvg_frame::Op;
+use dvg_rows::{Row, Source};
 use std::alloc::Allocator;
 
 /// Where the operations of a frame stand in a list of those of all frames.
@@ -33,19 +32,26 @@ pub struct JoinedFrames<'a, A: Allocator> {
     pub spans: Vec<FrameSpan<'a>, A>,
 }
 
-/// The drafts of frames, where each name that they want is given. A growth may be refused.
+/// The drafts of frames. Or else a name that they want isn't given, or a growth was refused.
 pub fn join_frames<'a, A: Allocator + Copy>(
     alloc: A,
     frames: &[FrameRows<'_, 'a>],
-    rom: &[LaidRows],
-) -> Result<JoinedFrames<'a, A>, OutOfMemory> {
+    rom: &LaidNames<'_, '_, '_, A>,
+) -> Result<JoinedFrames<'a, A>, DraftFault> {
     let mut ops = Vec::new(alloc);
     let mut sources = Vec::new(alloc);
     let mut spans = Vec::new(alloc);
     for frame in frames {
-        push_sources(&mut sources, frame)?;
-        let span = push_frame(&mut ops, frame, rom)?;
-        spans.push(span)?;
+        if push_sources(&mut sources, frame).is_err() {
+            return Err(DraftFault::Memory);
+        }
+        let span = match push_frame(alloc, &mut ops, frame, rom) {
+            Ok(span) => span,
+            Err(fault) => return Err(fault),
+        };
+        if spans.push(span).is_err() {
+            return Err(DraftFault::Memory);
+        }
     }
     Ok(JoinedFrames {
         ops,
@@ -79,19 +85,19 @@ fn push_line<'a, A: Allocator + Copy>(
 
 // Adds the operations of a frame, and answers where they stand.
 fn push_frame<'a, A: Allocator + Copy>(
+    alloc: A,
     ops: &mut Vec<Op, A>,
     frame: &FrameRows<'_, 'a>,
-    rom: &[LaidRows],
-) -> Result<FrameSpan<'a>, OutOfMemory> {
+    rom: &LaidNames<'_, '_, '_, A>,
+) -> Result<FrameSpan<'a>, DraftFault> {
     let start = ops.len();
-    match push_draft(ops, frame.rows, rom) {
+    match push_draft(alloc, ops, frame.rows, rom) {
         Ok(()) => Ok(FrameSpan {
             name: frame.name,
             begin: frame.begin,
             start,
             end: ops.len(),
         }),
-        Err(DraftFault::Memory) => Err(OutOfMemory),
-        Err(DraftFault::Ungiven(_)) => unreachable!(),
+        Err(fault) => Err(fault),
     }
 }

@@ -1,10 +1,9 @@
 //! Where sections of the ROM are laid.
 use std::prelude::*;
 
-use crate::number::place_of;
-use crate::row::Row;
-use crate::sizes::size;
+use crate::meaning::RomName;
 use dvg_code::OutOfMemory;
+use dvg_rows::{NameTable, Row, size};
 use std::alloc::Allocator;
 
 /// The rows of a section of the ROM, and the word address that its line `.rom` gives, if it gives
@@ -24,6 +23,45 @@ pub struct LaidRows<'r, 'a> {
     pub start: usize,
     /// The rows, in order.
     pub rows: &'r [Row<'a>],
+}
+
+/// Laid sections, of which each name is known that they give.
+pub struct LaidNames<'s, 'r, 'a, A: Allocator + Copy> {
+    sections: &'s [LaidRows<'r, 'a>],
+    addresses: NameTable<'a, A>,
+}
+
+impl<'s, 'r, 'a, A: Allocator + Copy> LaidNames<'s, 'r, 'a, A> {
+    /// Makes the names known that sections give, which are these. A growth may be refused. The time
+    /// grows with the number of names.
+    pub fn new(
+        alloc: A,
+        sections: &'s [LaidRows<'r, 'a>],
+        names: &[RomName<'a>],
+    ) -> Result<LaidNames<'s, 'r, 'a, A>, OutOfMemory> {
+        let addresses = table_of(alloc, names)?;
+        Ok(LaidNames {
+            sections,
+            addresses,
+        })
+    }
+
+    /// The sections, in order.
+    pub fn sections(&self) -> &'s [LaidRows<'r, 'a>] {
+        self.sections
+    }
+}
+
+// The address of each name of a list.
+fn table_of<'a, A: Allocator + Copy>(
+    alloc: A,
+    names: &[RomName<'a>],
+) -> Result<NameTable<'a, A>, OutOfMemory> {
+    let mut addresses = NameTable::new(alloc);
+    for named in names {
+        addresses.put(Some(named.name), usize::from(named.address))?;
+    }
+    Ok(addresses)
 }
 
 /// The sections as they are laid, in order: each from its address on, or else from the first word
@@ -62,18 +100,17 @@ fn start_of(address: Option<u16>, next: usize) -> usize {
     }
 }
 
-/// The word address that a name names in the ROM: that of the first section that gives it, and in
-/// it of the first row. None exactly where no row of these sections gives it. The time grows with
-/// the number of rows.
+/// The word address that a name names in the ROM. None exactly where no row of these sections gives
+/// it. The time doesn't grow with the number of rows.
 ///
 /// Where each name is given once, no other address is that of the name. A name after the last
 /// operation of its section is the address after the section (this project's own choice).
-pub fn address_of(sections: &[LaidRows], name: &[u8]) -> Option<u16> {
-    for section in sections {
-        if let Some(place) = place_of(section.rows, name) {
-            let address = section.start + size(&section.rows[..place]);
-            return Some(address as u16);
-        }
+pub fn address_of<A: Allocator + Copy>(
+    sections: &LaidNames<'_, '_, '_, A>,
+    name: &[u8],
+) -> Option<u16> {
+    match sections.addresses.get(name) {
+        Some(address) => Some(address as u16),
+        None => None,
     }
-    None
 }

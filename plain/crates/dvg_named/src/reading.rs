@@ -1,24 +1,22 @@
 //! What the lines of a sketch spell that were read.
 use std::prelude::*;
 
+use crate::flat_draft::DraftFault;
 use crate::frame_rows::{FrameRows, frame_rows};
-use crate::given_names::GivenNames;
 use crate::joining::{JoinedFrames, join_frames};
-use crate::laid::{LaidRows, lay};
-use crate::line_fault::LineFault;
-use crate::meaning::Source;
-use crate::part::Part;
-use crate::rom_area::RomArea;
+use crate::laid::{LaidNames, LaidRows, lay};
 use crate::rom_sections::rom_rows;
 use crate::rom_words::{RomRow, put_sections};
-use crate::row::{Doing, Head, Row, read_head, read_row};
-use crate::sizes::words_of_row;
 use crate::told_rom::ToldRom;
 use crate::unknown::first_unknown;
 use arrayvec::ArrayVec;
 use dvg_code::OutOfMemory;
 use dvg_frame::OpKind;
 use dvg_mem::LARGE_ROM_BYTES;
+use dvg_rows::{
+    Doing, GivenNames, Head, LineFault, Part, RomArea, Row, Source, read_head, read_row,
+    words_of_row,
+};
 use std::alloc::Allocator;
 use std::mem;
 
@@ -117,7 +115,7 @@ impl<'a, A: Allocator + Copy> Reading<'a, A> {
         if self.closed.push(closed).is_err() {
             return Err(LineFault::Memory);
         }
-        self.names.clear();
+        self.names = GivenNames::new(self.alloc);
         self.count = 0;
         Ok(())
     }
@@ -170,7 +168,10 @@ impl<'a, A: Allocator + Copy> Reading<'a, A> {
     /// The bytes of the ROM, with the words of its sections as they are laid, after all lines of a
     /// text. Or else the first row of the ROM that wants a name which isn't given. No memory is
     /// taken.
-    pub fn rom(&self, laid: &[LaidRows]) -> Result<ArrayVec<u8, LARGE_ROM_BYTES>, RomRow> {
+    pub fn rom(
+        &self,
+        laid: &LaidNames<'_, '_, '_, A>,
+    ) -> Result<ArrayVec<u8, LARGE_ROM_BYTES>, RomRow> {
         let mut bytes = self.rom.bytes();
         match put_sections(bytes.as_mut_slice(), laid) {
             Ok(()) => Ok(bytes),
@@ -179,10 +180,12 @@ impl<'a, A: Allocator + Copy> Reading<'a, A> {
     }
 
     /// The number of the first line that wants a name which isn't given, after all lines of a text.
-    /// No memory is taken. The time grows with the number of rows times that of the rows that want
-    /// a name.
-    pub fn first_unknown(&self, laid: &[LaidRows]) -> Option<usize> {
-        first_unknown(self.closed.as_slice(), &self.last, laid)
+    /// A growth may be refused. The time grows with the number of rows.
+    pub fn first_unknown(
+        &self,
+        laid: &LaidNames<'_, '_, '_, A>,
+    ) -> Result<Option<usize>, OutOfMemory> {
+        first_unknown(self.alloc, self.closed.as_slice(), &self.last, laid)
     }
 
     /// The frames, in order, after the lines that were read. A growth may be refused.
@@ -190,10 +193,12 @@ impl<'a, A: Allocator + Copy> Reading<'a, A> {
         frame_rows(self.alloc, self.closed.as_slice(), &self.last)
     }
 
-    /// The drafts of the frames, in order, after all lines of a text, where each name is given. A
-    /// growth may be refused.
-    pub fn drafts(&self, laid: &[LaidRows]) -> Result<JoinedFrames<'a, A>, OutOfMemory> {
-        let found = self.frames()?;
+    /// The drafts of the frames, in order, after all lines of a text. Or else a name that a frame
+    /// wants isn't given, or a growth was refused.
+    pub fn drafts(&self, laid: &LaidNames<'_, '_, '_, A>) -> Result<JoinedFrames<'a, A>, DraftFault> {
+        let Ok(found) = self.frames() else {
+            return Err(DraftFault::Memory);
+        };
         join_frames(self.alloc, found.as_slice(), laid)
     }
 }

@@ -2,9 +2,8 @@
 use std::prelude::*;
 
 use crate::laid::RomRows;
-use crate::part::Part;
-use crate::row::Head;
 use dvg_code::OutOfMemory;
+use dvg_rows::{Head, Part};
 use std::alloc::Allocator;
 
 /// The sections of the ROM, in order: those before the last section, and that one.

@@ -1,11 +1,9 @@
 //! The words of the ROM's sections, in the bytes of a ROM.
-use crate::laid::{LaidRows, address_of};
-use crate::row::Doing;
+use crate::laid::{LaidNames, LaidRows, address_of};
 use dvg_code::{Code, Instr, encode};
 use dvg_frame::OpKind;
-
-/// The word address after the ROM's last word.
-pub(crate) const ROM_END: usize = 0xC00;
+use dvg_rows::{Doing, ROM_END};
+use std::alloc::Allocator;
 
 /// A row of a section of the ROM, by the numbers of both, counted from 0.
 #[derive(Clone, Copy, Debug, PartialEq, Eq)]
@@ -20,10 +18,13 @@ pub struct RomRow {
 /// at its address, the low byte of a word first. So bytes of which lines `rom` gave the words
 /// become those that the same words would have made of them, given by further lines. Or else the
 /// first row that wants a name which isn't given; what was put before it stays. No memory is taken.
-/// The time grows with the number of rows times that of the rows that want a name.
-pub fn put_sections(rom: &mut [u8], sections: &[LaidRows]) -> Result<(), RomRow> {
+/// The time grows with the number of rows.
+pub fn put_sections<A: Allocator + Copy>(
+    rom: &mut [u8],
+    sections: &LaidNames<'_, '_, '_, A>,
+) -> Result<(), RomRow> {
     let first = ROM_END - rom.len() / 2;
-    for (number, section) in sections.iter().enumerate() {
+    for (number, section) in sections.sections().iter().enumerate() {
         if let Err(row) = put_section(rom, first, sections, section) {
             return Err(RomRow {
                 section: number,
@@ -36,10 +37,10 @@ pub fn put_sections(rom: &mut [u8], sections: &[LaidRows]) -> Result<(), RomRow>
 
 // Puts the words of one section into the bytes of a ROM, of which the first word is at this word
 // address. Or else the place of the first row that wants a name which isn't given.
-fn put_section(
+fn put_section<A: Allocator + Copy>(
     rom: &mut [u8],
     first: usize,
-    sections: &[LaidRows],
+    sections: &LaidNames<'_, '_, '_, A>,
     section: &LaidRows,
 ) -> Result<(), usize> {
     let mut next = section.start - first;
@@ -73,7 +74,7 @@ fn put_word(rom: &mut [u8], place: usize, word: u16) {
 }
 
 // The instruction of a row of the ROM. None where it wants a name that isn't given.
-fn code_of(sections: &[LaidRows], doing: &Doing) -> Option<Code> {
+fn code_of<A: Allocator + Copy>(sections: &LaidNames<'_, '_, '_, A>, doing: &Doing) -> Option<Code> {
     match doing {
         Doing::Plainly(op) => Some(plain_code(op.kind())),
         Doing::Calls(name) => call_of(sections, name),
@@ -96,7 +97,7 @@ fn plain_code(kind: OpKind) -> Code {
 }
 
 // The call of a name of the ROM. None where it isn't given.
-fn call_of(sections: &[LaidRows], name: &[u8]) -> Option<Code> {
+fn call_of<A: Allocator + Copy>(sections: &LaidNames<'_, '_, '_, A>, name: &[u8]) -> Option<Code> {
     match address_of(sections, name) {
         Some(address) => Some(Code::within(Instr::Jsrl(address))),
         None => None,
@@ -104,7 +105,7 @@ fn call_of(sections: &[LaidRows], name: &[u8]) -> Option<Code> {
 }
 
 // The jump to a name of the ROM. None where it isn't given.
-fn jump_of(sections: &[LaidRows], name: &[u8]) -> Option<Code> {
+fn jump_of<A: Allocator + Copy>(sections: &LaidNames<'_, '_, '_, A>, name: &[u8]) -> Option<Code> {
     match address_of(sections, name) {
         Some(address) => Some(Code::within(Instr::Jmpl(address))),
         None => None,

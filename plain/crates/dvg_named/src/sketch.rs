@@ -3,7 +3,9 @@ use std::prelude::*;
 
 use crate::addresses::rom_names;
 use crate::fault::{NamedFault, SketchFault};
+use crate::flat_draft::DraftFault;
 use crate::joining::{FrameSpan, JoinedFrames};
+use crate::laid::LaidNames;
 use crate::meaning::{NamedFrame, RomName};
 use crate::reading::Reading;
 use crate::text_reading::read_lines;
@@ -50,7 +52,7 @@ impl<'a, A: Allocator + Copy> Sketch<'a, A> {
 ///   than 1,048,576 bytes, comes before all others, and `Unknown` after them.
 /// - `Memory`: a growth was refused.
 ///
-/// The time grows with the number of rows times that of the rows that want a name.
+/// The time grows with the length of the text.
 pub fn read_sketch<'a, A: Allocator + Copy>(
     alloc: A,
     small: &'a [u8],
@@ -70,18 +72,31 @@ fn sketch_of<'a, A: Allocator + Copy>(
     let Ok(rows) = reading.lay() else {
         return Err(SketchFault::Memory);
     };
-    let laid = rows.as_slice();
-    if let Some(number) = reading.first_unknown(laid) {
-        return Err(SketchFault::Text(NamedFault::Unknown(number)));
+    let sections = rows.as_slice();
+    let Ok(names) = rom_names(alloc, sections) else {
+        return Err(SketchFault::Memory);
+    };
+    let Ok(laid) = LaidNames::new(alloc, sections, names.as_slice()) else {
+        return Err(SketchFault::Memory);
+    };
+    let Ok(rom) = reading.rom(&laid) else {
+        return Err(unknown(reading, &laid));
+    };
+    match reading.drafts(&laid) {
+        Ok(frames) => Ok(Sketch { rom, names, frames }),
+        Err(DraftFault::Memory) => Err(SketchFault::Memory),
+        Err(DraftFault::Ungiven(_)) => Err(unknown(reading, &laid)),
     }
-    let Ok(rom) = reading.rom(laid) else {
-        unreachable!();
-    };
-    let Ok(names) = rom_names(alloc, laid) else {
-        return Err(SketchFault::Memory);
-    };
-    let Ok(frames) = reading.drafts(laid) else {
-        return Err(SketchFault::Memory);
-    };
-    Ok(Sketch { rom, names, frames })
+}
+
+// The first line that wants a name which isn't given, where there is one.
+fn unknown<A: Allocator + Copy>(
+    reading: &Reading<'_, A>,
+    laid: &LaidNames<'_, '_, '_, A>,
+) -> SketchFault {
+    match reading.first_unknown(laid) {
+        Ok(Some(number)) => SketchFault::Text(NamedFault::Unknown(number)),
+        Ok(None) => unreachable!(),
+        Err(_) => SketchFault::Memory,
+    }
 }

@@ -1,10 +1,8 @@
 //! What all lines of a sketch spell.
 use crate::fault::{NamedFault, SketchFault};
-use crate::line_fault::LineFault;
-use crate::line_words::words_of;
-use crate::meaning::Source;
 use crate::reading::Reading;
 use dvg_read::{MOST_TEXT_BYTES, TextLines};
+use dvg_rows::{LineFault, Source, words_of};
 use std::alloc::Allocator;
 
 /// Reads all lines of a text in small letters, in one pass. Or else the text has a fault: it is too

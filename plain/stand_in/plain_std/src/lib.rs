@@ -11,6 +11,7 @@ extern crate alloc as heap;
 extern crate std as host;
 
 pub mod alloc;
+pub mod hash;
 #[cfg(all(feature = "c", not(feature = "io")))]
 mod c;
 #[cfg(feature = "io")]

@@ -1,11 +1,11 @@
 use Rattle.std.proofs.Common.{◌∙◌, ◌+◌, ◌++◌, append_assoc, ap, arith, sym, take}
 use Rattle.std.specs.Option.{option_to_list}
-use Rattle.dvg_named.specs.HeldRows.{rows_of}
-use Rattle.dvg_named.specs.NamedFaults.{names_of}
+use Rattle.dvg_rows.specs.HeldRows.{rows_of}
+use Rattle.dvg_rows.specs.RowPlaces.{names_of}
 use Rattle.dvg_named.specs.RomNames.{names_listed}
-use Rattle.dvg_named.specs.RowValues.{name_of}
+use Rattle.dvg_rows.specs.RowValues.{name_of}
 use Rattle.dvg_named.proofs.NamesLaid.{row_address, row_names}
-use Rattle.dvg_named.proofs.RowSizes.{size_front, size_more}
+use Rattle.dvg_rows.proofs.RowSizes.{size_front, size_more}
 use Rattle.dvg_named.proofs.addresses.push_names.Goals as goal
 
 pub overflow_cast-next : goal.overflow_cast-next

@@ -1,8 +1,9 @@
 use Rattle.std.proofs.Common.{◌≡◌, ◌++◌, ◌+◌, All, List, take}
-use Rattle.dvg_named.specs.HeldRows.{rows_of}
+use Rattle.dvg_rows.specs.HeldRows.{rows_of}
 use Rattle.dvg_named.specs.LaidValues.{laid_section}
-use Rattle.dvg_named.specs.NamedFaults.{names_of}
-use Rattle.dvg_named.specs.Places.{Laid, size}
+use Rattle.dvg_rows.specs.RowPlaces.{names_of}
+use Rattle.dvg_named.specs.Places.{Laid}
+use Rattle.dvg_rows.specs.RowPlaces.{size}
 use Rattle.dvg_named.specs.RomNames.{IsNamedIn, StandsIn, names_listed}
 use Rattle.dvg_named.proofs.addresses.push_names.Given as goal
 

@@ -1,7 +1,7 @@
 use Rattle.std.proofs.Common.{◌∙◌, ◌++◌, ap, sym}
-use Rattle.dvg_named.specs.HeldRows.{rows_of}
+use Rattle.dvg_rows.specs.HeldRows.{rows_of}
 use Rattle.dvg_named.specs.LaidValues.{laid_sections}
-use Rattle.dvg_named.specs.NamedFaults.{names_of}
+use Rattle.dvg_rows.specs.RowPlaces.{names_of}
 use Rattle.dvg_named.proofs.NamedSections.{low_at}
 use Rattle.dvg_named.proofs.NamesLaid.{section_names, section_stands}
 use Rattle.dvg_named.proofs.addresses.rom_names.Goals as goal

@@ -1,6 +1,6 @@
 use Rattle.std.proofs.Common.{◌≡◌, All, take}
 use Rattle.dvg_named.specs.LaidValues.{laid_sections, rows_laid}
-use Rattle.dvg_named.specs.NamedFaults.{names_of}
+use Rattle.dvg_rows.specs.RowPlaces.{names_of}
 use Rattle.dvg_named.specs.RomNames.{IsNamedIn, names_listed}
 use Rattle.dvg_named.proofs.addresses.rom_names.Given as goal
 

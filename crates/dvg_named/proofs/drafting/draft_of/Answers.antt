@@ -1,37 +1,37 @@
 use Rattle.std.proofs.Common.{◌≡◌, ◌+◌, ◌∙◌, ◌++◌, [], ◌∷◌, ap, arith, below_more, length, length-append, refl, rules, sym, subst, take}
 use Rattle.std.specs.List.{AllZip}
-use Rattle.dvg_named.specs.HeldRows.{rows_of}
+use Rattle.dvg_rows.specs.HeldRows.{rows_of}
 use Rattle.dvg_named.specs.LaidValues.{laid_sections}
 use Rattle.dvg_named.specs.Meanings.{IsDrafted}
-use Rattle.dvg_named.specs.Places.{doings}
-use Rattle.dvg_named.specs.RowValues.{doing_of}
+use Rattle.dvg_rows.specs.RowPlaces.{doings}
+use Rattle.dvg_rows.specs.RowValues.{doing_of}
 use Rattle.dvg_named.specs.Ungiven.{framed}
-use Rattle.dvg_named.proofs.DraftRows.{does_known, does_nothing, drafted_known, first_ungiven, front_doings, no_doing, nothing_left}
+use Rattle.dvg_named.proofs.DraftRows.{at_in, does_known, does_nothing, drafted_known, first_ungiven, front_doings, low_in, no_doing, nothing_left}
 use Rattle.dvg_named.proofs.DraftRows.{one_doing, zip_more}
 use Rattle.dvg_named.proofs.drafting.draft_of.Goals as goal
 use Rattle.dvg_named.proofs.drafting.draft_of.Goals.{in-Some+in-Some-op_of, in_default}
 
 pub returns-in_default-op_of-clause-ungiven : goal.returns-in_default-op_of-clause-ungiven
-returns-in_default-op_of-clause-ungiven c =
-    first_ungiven c.args.rows.now c.loop-place.place c.index-rows-place.result c.loop-place-test.true
-    c.index-rows-place.is (laid_sections c.args.rom.now) (framed (rows_of c.args.rows.now)) refl c.in-Some.doing
+returns-in_default-op_of-clause-ungiven g c =
+    first_ungiven c.args.rows.now c.loop-place.place c.row-item.result (low_in c.loop-place.place c.rows-row-items.ensures c.loop-place-test.true)
+    (at_in c.loop-place.place c.row-item.result c.rows-row-items.ensures c.row-item.is) (laid_sections c.args.rom.now) (framed (rows_of c.args.rows.now)) refl c.in-Some.doing
     c.in-Some.is c.in_default-op_of.ensures.ungiven c.loop-place.invariant.known
 
 pub unwrap-requires : goal.unwrap-requires
-unwrap-requires c =
-    let more = ap length (one_doing c.args.rows.now c.loop-place.place c.index-rows-place.result c.loop-place-test.true
-    c.index-rows-place.is c.in-Some.doing c.in-Some.is) in
+unwrap-requires g c =
+    let more = ap length (one_doing c.args.rows.now c.loop-place.place c.row-item.result (low_in c.loop-place.place c.rows-row-items.ensures c.loop-place-test.true)
+    (at_in c.loop-place.place c.row-item.result c.rows-row-items.ensures c.row-item.is) c.in-Some.doing c.in-Some.is) in
     let size = length-append (doings (rows_of (take c.loop-place.place c.args.rows.now))) (doing_of c.in-Some.doing ∷ []) in
     let front = front_doings c.args.rows.now (c.loop-place.place + 1) in
     c.push.ensures.room.1 (omega (arith, more, size, front, c.loop-place.invariant.count, c.requires.few))
 
 pub loop-place-preserved : goal.loop-place-preserved
-loop-place-preserved c =
+loop-place-preserved g c =
     let rows = c.args.rows.now in
     let place = c.loop-place.place in
-    let row = c.index-rows-place.result in
-    let low = c.loop-place-test.true in
-    let is = c.index-rows-place.is in
+    let row = c.row-item.result in
+    let low = (low_in c.loop-place.place c.rows-row-items.ensures c.loop-place-test.true) in
+    let is = (at_in c.loop-place.place c.row-item.result c.rows-row-items.ensures c.row-item.is) in
     let laid = laid_sections c.args.rom.now in
     let before = c.loop-place.invariant in
     elim c.match-row.branch [

@@ -1,5 +1,5 @@
 use Rattle.dvg_read.specs.OpLines as ops
-use Rattle.dvg_named.specs.Rows as rows
+use Rattle.dvg_rows.specs.Rows as rows
 use Rattle.dvg_named.proofs.ExampleNames.{address, bad, begins_with_digit, empty, halt, rock, rock_2, title, too_long}
 use Rattle.dvg_named.proofs.examples.rows.Goals as goal
 

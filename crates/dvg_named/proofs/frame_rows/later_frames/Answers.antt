@@ -1,7 +1,7 @@
 use Rattle.std.proofs.Common.{subst, ◌∙◌, ap, sym, ◌++◌, append_assoc, map, take}
 use Rattle.std.specs.List.{filter_map}
 use Rattle.dvg_named.specs.FrameValues.{frame_in, frame_list, rows_at_top}
-use Rattle.dvg_named.specs.HeldRows.{rows_of}
+use Rattle.dvg_rows.specs.HeldRows.{rows_of}
 use Rattle.dvg_named.specs.SketchReading.{head_in, section_in}
 use Rattle.dvg_named.specs.SourcedRows.{IsPartAt}
 use Rattle.dvg_named.proofs.FrameLists.{frames_more}

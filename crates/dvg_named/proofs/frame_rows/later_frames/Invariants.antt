@@ -1,7 +1,7 @@
 use Rattle.std.proofs.Common.{◌≡◌, ◌++◌, All, List, map, ℕ, take}
 use Rattle.std.specs.List.{filter_map}
 use Rattle.dvg_named.specs.FrameValues.{IsFrameAt, frame_in, frames_of, rows_at_top}
-use Rattle.dvg_named.specs.HeldRows.{rows_of}
+use Rattle.dvg_rows.specs.HeldRows.{rows_of}
 use Rattle.dvg_named.specs.SketchReading.{section_in}
 use Rattle.dvg_named.specs.SourcedRows.{IsPartAt}
 use Rattle.dvg_named.proofs.frame_rows.later_frames.Given as goal

@@ -1,7 +1,7 @@
 use Rattle.std.proofs.Common.{◌≡◌, ◌≤◌, ◌+◌, ◌∙◌, ◌++◌, [], ℕ, ap, arith, length, max, rules, sym, take}
 use Rattle.std.proofs.lemmas.List.{append-nil, take_all}
 use Rattle.dvg_named.specs.declared.laid.LaidRows as held_laid
-use Rattle.dvg_named.specs.HeldRows.{rows_of}
+use Rattle.dvg_rows.specs.HeldRows.{rows_of}
 use Rattle.dvg_named.specs.LaidValues.{laid_sections, section_of, sections_of}
 use Rattle.dvg_named.specs.Places.{Laid, laid_from}
 use Rattle.dvg_named.proofs.LaidOrder.{laid_more, sections_more, size_in_front, size_in_more}

@@ -1,6 +1,7 @@
 use Rattle.std.proofs.Common.{◌≡◌, ◌≤◌, ◌+◌, ◌^◌, ◌++◌, List, take}
 use Rattle.dvg_named.specs.LaidValues.{laid_sections, rows_in, sections_of}
-use Rattle.dvg_named.specs.Places.{laid_from, size}
+use Rattle.dvg_named.specs.Places.{laid_from}
+use Rattle.dvg_rows.specs.RowPlaces.{size}
 use Rattle.dvg_named.specs.Sections.{RomRows}
 use Rattle.dvg_named.proofs.laid.lay.Given as goal
 

@@ -1,7 +1,7 @@
 use Rattle.std.proofs.Common.{◌≡◌, ◌⊎◌, inl, inr, Bool, true, false, not, ℕ, ap}
 use Rattle.dvg_frame.specs.declared.op.OpKind.{OpKind}
 use Rattle.dvg_frame.specs.declared.op.OpKind.TheVariants.{Call, Jump}
-use Rattle.dvg_named.specs.Rows.{plainly}
+use Rattle.dvg_rows.specs.Rows.{plainly}
 use Rattle.dvg_named.proofs.reading.is_without_number.Goals as goal
 use Rattle.dvg_named.proofs.reading.is_without_number.Goals.{in-Call, in_default}
 

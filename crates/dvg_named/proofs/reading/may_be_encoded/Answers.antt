@@ -1,8 +1,8 @@
 use Rattle.std.proofs.Common.{subst, sym}
 use Rattle.std.specs.Prelude.{◌↔◌, IsTrue}
 use Rattle.dvg_named.specs.RomBytes.{MayBeEncoded}
-use Rattle.dvg_named.specs.RowValues.{doing_of}
-use Rattle.dvg_named.specs.Rows.{plainly}
+use Rattle.dvg_rows.specs.RowValues.{doing_of}
+use Rattle.dvg_rows.specs.Rows.{plainly}
 use Rattle.dvg_named.proofs.reading.may_be_encoded.Goals as goal
 
 pub returns-in-Plainly : goal.returns-in-Plainly

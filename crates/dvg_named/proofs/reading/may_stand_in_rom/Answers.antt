@@ -1,7 +1,7 @@
 use Rattle.std.proofs.Common.{subst, sym}
 use Rattle.std.specs.Prelude.{◌↔◌, IfSome, IsTrue}
 use Rattle.dvg_named.specs.RomBytes.{MayBeEncoded}
-use Rattle.dvg_named.specs.RowValues.{doing_of_some}
+use Rattle.dvg_rows.specs.RowValues.{doing_of_some}
 use Rattle.dvg_named.proofs.reading.may_stand_in_rom.Goals as goal
 
 pub returns-in-Some : goal.returns-in-Some

@@ -1,5 +1,5 @@
 use Rattle.std.proofs.Common.{◌∙◌, ap, sym, ◌++◌}
-use Rattle.dvg_named.specs.HeldRows.{rows_of}
+use Rattle.dvg_rows.specs.HeldRows.{rows_of}
 use Rattle.dvg_named.specs.RomParts.{rom_list}
 use Rattle.dvg_named.specs.SketchReading.{head_in}
 use Rattle.dvg_named.proofs.RomFew.{part_more}

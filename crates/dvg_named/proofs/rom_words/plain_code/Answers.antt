@@ -1,7 +1,7 @@
 use Rattle.std.proofs.Common.{◌≡◌, ℕ, ap, ◌⊎◌, inl, inr}
 use Rattle.dvg_frame.specs.declared.op.OpKind.{OpKind}
 use Rattle.dvg_frame.specs.declared.op.OpKind.TheVariants.{Call, Jump}
-use Rattle.dvg_named.specs.Rows.{plainly}
+use Rattle.dvg_rows.specs.Rows.{plainly}
 use Rattle.dvg_named.proofs.rom_words.plain_code.Goals as goal
 
 no_number : (kind : OpKind)

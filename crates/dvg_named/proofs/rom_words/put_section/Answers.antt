@@ -1,11 +1,11 @@
 use Rattle.std.proofs.Common.{◌≡◌, ◌≤◌, ◌+◌, ◌-◌, ◌∙◌, [], arith, below_more, length, refl, subst, sym, take}
 use Rattle.std.proofs.lemmas.List.{length-map, take_all}
 use Rattle.dvg_code.specs.Spelling.{canon}
-use Rattle.dvg_named.specs.HeldRows.{rows_of}
+use Rattle.dvg_rows.specs.HeldRows.{rows_of}
 use Rattle.dvg_named.specs.LaidValues.{laid_section, laid_sections}
-use Rattle.dvg_named.specs.Places.{doings}
+use Rattle.dvg_rows.specs.RowPlaces.{doings}
 use Rattle.dvg_named.specs.RomBytes.{ArePut}
-use Rattle.dvg_named.specs.RowValues.{doing_of, row_of}
+use Rattle.dvg_rows.specs.RowValues.{doing_of, row_of}
 use Rattle.dvg_named.specs.Ungiven.{in_rom}
 use Rattle.dvg_named.proofs.DraftRows.{does_known, does_nothing, first_ungiven, no_doing, nothing_left, one_doing}
 use Rattle.dvg_named.proofs.RomWritten.{Written, code_room, encoded_known, may_at, none_wants, same_in_rom, section_put}
@@ -14,12 +14,12 @@ use Rattle.dvg_named.proofs.rom_words.put_section.Goals as goal
 use Rattle.dvg_named.proofs.rom_words.put_section.Goals.{in-Some+in-Some-code_of, in_default}
 
 pub code_of-requires-clause-may : goal.code_of-requires-clause-may
-code_of-requires-clause-may c =
+code_of-requires-clause-may g c =
     may_at c.args.section.now.rows.now c.loop-place.place c.row-item.result c.in-Some.doing c.requires.may
     c.loop-place-test.true c.row-item.is c.in-Some.is
 
 pub returns-in_default-code_of-clause-ungiven : goal.returns-in_default-code_of-clause-ungiven
-returns-in_default-code_of-clause-ungiven c =
+returns-in_default-code_of-clause-ungiven g c =
     let rows = c.args.section.now.rows.now in
     let laid = laid_sections c.args.sections.now in
     first_ungiven rows c.loop-place.place c.row-item.result c.loop-place-test.true c.row-item.is laid
@@ -28,7 +28,7 @@ returns-in_default-code_of-clause-ungiven c =
     c.loop-place.invariant.known
 
 pub put_code-next-requires : goal.put_code-next-requires
-put_code-next-requires c =
+put_code-next-requires g c =
     let written = c.loop-place.invariant.written in
     let room = code_room (laid_sections c.args.sections.now) c.args.section.now.rows.now c.loop-place.place
     c.row-item.result c.loop-place-test.true c.row-item.is c.in-Some.doing c.in-Some.is
@@ -38,7 +38,7 @@ put_code-next-requires c =
     omega (arith, room, count, c.requires.end, c.requires.whole, c.requires.start)
 
 pub loop-place-preserved : goal.loop-place-preserved
-loop-place-preserved c =
+loop-place-preserved g c =
     let rows = c.args.section.now.rows.now in
     let place = c.loop-place.place in
     let row = c.row-item.result in
@@ -73,7 +73,7 @@ loop-place-preserved c =
     ]
 
 pub returns-clause-put : goal.returns-clause-put
-returns-clause-put c =
+returns-clause-put g c =
     let rows = c.args.section.now.rows.now in
     let laid = laid_sections c.args.sections.now in
     let first = c.args.section.now.start - c.args.first in
@@ -84,7 +84,7 @@ returns-clause-put c =
     (take_all c.loop-place.place rows all) c.loop-place.invariant.written)
 
 pub returns-clause-known : goal.returns-clause-known
-returns-clause-known c =
+returns-clause-known g c =
     let rows = c.args.section.now.rows.now in
     let all : length rows ≤ c.loop-place.place = omega arith in
     none_wants (laid_sections c.args.sections.now) (in_rom (rows_of rows)) c.loop-place.place

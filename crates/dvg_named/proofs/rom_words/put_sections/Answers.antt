@@ -4,40 +4,41 @@ use Rattle.dvg_named.specs.LaidValues.{laid_section, laid_sections}
 use Rattle.dvg_named.specs.Places.{Laid, laid_end}
 use Rattle.dvg_named.specs.RomBytes.{MayStandInRom}
 use Rattle.dvg_named.specs.Ungiven.{WantsAt, in_rom}
+use Rattle.dvg_named.proofs.DraftRows.{at_in, low_in}
 use Rattle.dvg_named.proofs.RomWritten.{first_is, section_at, section_stands, told_more}
 use Rattle.dvg_named.proofs.rom_words.put_sections.Goals as goal
 
 pub put_section-requires-clause-start : goal.put_section-requires-clause-start
-put_section-requires-clause-start c =
+put_section-requires-clause-start g c =
     (section_at (λ (s : Laid). (0xC00 - length c.args.rom.now / 2 ≤ s.start) × (laid_end s ≤ 0xC00)) c.args.sections.now
-    c.loop-number.number c.index-sections-number.result c.requires.lie c.loop-number-test.true c.index-sections-number.is).0
+    c.loop-number.number c.section-item.result c.requires.lie (low_in c.loop-number.number c.sections-section-items.ensures c.loop-number-test.true) (at_in c.loop-number.number c.section-item.result c.sections-section-items.ensures c.section-item.is)).0
 
 pub put_section-requires-clause-end : goal.put_section-requires-clause-end
-put_section-requires-clause-end c =
+put_section-requires-clause-end g c =
     (section_at (λ (s : Laid). (0xC00 - length c.args.rom.now / 2 ≤ s.start) × (laid_end s ≤ 0xC00)) c.args.sections.now
-    c.loop-number.number c.index-sections-number.result c.requires.lie c.loop-number-test.true c.index-sections-number.is).1
+    c.loop-number.number c.section-item.result c.requires.lie (low_in c.loop-number.number c.sections-section-items.ensures c.loop-number-test.true) (at_in c.loop-number.number c.section-item.result c.sections-section-items.ensures c.section-item.is)).1
 
 pub put_section-requires-clause-may : goal.put_section-requires-clause-may
-put_section-requires-clause-may c =
+put_section-requires-clause-may g c =
     section_at (λ (s : Laid). MayStandInRom s.rows) c.args.sections.now c.loop-number.number
-    c.index-sections-number.result c.requires.may c.loop-number-test.true c.index-sections-number.is
+    c.section-item.result c.requires.may (low_in c.loop-number.number c.sections-section-items.ensures c.loop-number-test.true) (at_in c.loop-number.number c.section-item.result c.sections-section-items.ensures c.section-item.is)
 
 pub returns-in-Err-clause-ungiven : goal.returns-in-Err-clause-ungiven
-returns-in-Err-clause-ungiven c = record {
-  section = laid_section c.index-sections-number.result;
-  stands = section_stands c.args.sections.now c.loop-number.number c.index-sections-number.result
-      c.loop-number-test.true c.index-sections-number.is;
+returns-in-Err-clause-ungiven g c = record {
+  section = laid_section c.section-item.result;
+  stands = section_stands c.args.sections.now c.loop-number.number c.section-item.result
+      (low_in c.loop-number.number c.sections-section-items.ensures c.loop-number-test.true) (at_in c.loop-number.number c.section-item.result c.sections-section-items.ensures c.section-item.is);
   row = c.in-Err.ensures.ungiven;
   first = c.loop-number.invariant.known;
 }
 
 pub loop-number-preserved : goal.loop-number-preserved
-loop-number-preserved c =
+loop-number-preserved g c =
     let sections = c.args.sections.now in
     let i = c.loop-number.number in
-    let section = c.index-sections-number.result in
-    let low = c.loop-number-test.true in
-    let is = c.index-sections-number.is in
+    let section = c.section-item.result in
+    let low = (low_in c.loop-number.number c.sections-section-items.ensures c.loop-number-test.true) in
+    let is = (at_in c.loop-number.number c.section-item.result c.sections-section-items.ensures c.section-item.is) in
     let laid = laid_sections sections in
     let before = c.loop-number.invariant in
     let more : laid_sections (take (i + 1) sections) ≡ laid_sections (take i sections) ++ laid_section section ∷ [] =

@@ -5,7 +5,7 @@ use Rattle.dvg_named.specs.RomBytes.{TellsSections, WantsNothing}
 use Rattle.dvg_named.proofs.rom_words.put_sections.Given as goal
 
 abbrev pub invariant-loop-number : goal.invariant-loop-number
-invariant-loop-number l = record {
+invariant-loop-number g l = record {
   told : (told : RomText) → IsRomOf told l.initial.rom
       → TellsSections (laid_sections l.sections) (laid_sections (take l.number l.sections)) told l.rom;
   count : length l.rom ≡ length l.initial.rom;

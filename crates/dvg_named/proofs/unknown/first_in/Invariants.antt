@@ -5,4 +5,4 @@ use Rattle.dvg_named.specs.Ungiven.{WantsAt}
 use Rattle.dvg_named.proofs.unknown.first_in.Given as goal
 
 abbrev pub invariant-loop-place : goal.invariant-loop-place
-invariant-loop-place l = (k : ℕ) → k < l.place → ¬ WantsAt (laid_sections l.laid) (section_held l.head l.rows) k
+invariant-loop-place g l = (k : ℕ) → k < l.place → ¬ WantsAt (laid_sections l.laid) (section_held l.head l.rows) k

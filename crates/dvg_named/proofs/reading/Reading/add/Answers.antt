@@ -1,13 +1,13 @@
 use Rattle.dvg_named.specs.LineNumbers.{AddsEntry, KeepsEntries, adds, keeps}
 use Rattle.dvg_named.specs.SourcedRows.{AreSourced}
-use Rattle.dvg_named.specs.RowValues.{row_of}
+use Rattle.dvg_rows.specs.RowValues.{row_of}
 use Rattle.dvg_named.proofs.OneSketch.{head_is_no_row}
 use Rattle.dvg_named.proofs.ReadRows.{on_ok}
 use Rattle.std.proofs.Common.{◌≡◌, Bool, true, false, subst, sym, ◌∙◌}
 use Rattle.dvg_read.specs.LineParts.{bytes_of}
 use Rattle.dvg_read.specs.RomReading.{TellsRom}
 use Rattle.dvg_read.specs.RomTexts.{RomText}
-use Rattle.dvg_named.specs.Rows.{HeadParts, RowParts}
+use Rattle.dvg_rows.specs.Rows.{HeadParts, RowParts}
 use Rattle.dvg_named.specs.SketchReading.{IsBare, closed_in, section_in}
 use Rattle.dvg_named.specs.SketchSteps.{line_of}
 use Rattle.dvg_named.proofs.ReadCuts.{nothing_goes}

@@ -4,7 +4,7 @@ use Rattle.std.proofs.Common.{refl, subst}
 use Rattle.dvg_named.proofs.SourcedMore.{both_ok, part_more}
 use Rattle.dvg_named.proofs.ReadRows.{on_ok, rom_added, rom_given, rom_refused, rom_stops, section_pushed}
 use Rattle.dvg_named.specs.SketchReading.{head_in}
-use Rattle.dvg_named.specs.RomAreas.{StopsArea, Takes}
+use Rattle.dvg_rows.specs.RomAreas.{StopsArea, Takes}
 use Rattle.dvg_named.proofs.reading.Reading.add_rom_row.Goals as goal
 
 pub returns-then-not-may_stand_in_rom-clause-fault : goal.returns-then-not-may_stand_in_rom-clause-fault

@@ -1,4 +1,4 @@
-use Rattle.dvg_named.specs.RowValues.{name_of}
+use Rattle.dvg_rows.specs.RowValues.{name_of}
 use Rattle.dvg_named.proofs.ReadBegins.{frame_opened, frame_refused}
 use Rattle.dvg_named.proofs.ReadRows.{on_ok}
 use Rattle.dvg_named.proofs.reading.Reading.begin_frame.Goals as goal

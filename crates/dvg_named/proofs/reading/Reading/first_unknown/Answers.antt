@@ -1,6 +1,7 @@
 use Rattle.std.proofs.Common.{subst, sym, All}
 use Rattle.dvg_named.specs.FirstUnknown.{HasLines, IsFirstOf, WantsIn, WantsNone, all_sections, entries_held}
 use Rattle.dvg_named.specs.LaidValues.{laid_sections}
+use Rattle.dvg_named.proofs.RomFew.{if_ok}
 use Rattle.dvg_named.proofs.UnknownRows.{none_kept}
 use Rattle.dvg_named.proofs.UnknownText.{first_is_fault, has_lines, have_lines, if_found}
 use Rattle.dvg_named.proofs.reading.Reading.first_unknown.Goals as goal
@@ -17,14 +18,16 @@ pub returns-clause-unknown : goal.returns-clause-unknown
 returns-clause-unknown g c =
     let last = c.args.self.now.last in
     let closed = c.args.self.now.closed.items in
-    if_found _ _ _ c.first_unknown.result c.first_unknown.ensures.first (λ n first small text read laid is.
+    if_ok c.first_unknown.result c.first_unknown.ensures.first (λ found firsts.
+    if_found _ _ _ found firsts (λ n first small text read laid is.
     first_is_fault c.args.self.now small text read is n
     (subst (λ laid. IsFirstOf (WantsIn laid (all_sections closed last)) (entries_held closed last) n) laid
     (subst (λ parts. IsFirstOf (WantsIn (laid_sections c.args.laid.now) (all_sections parts last)) (entries_held parts last) n)
-    c.as_slice.ensures.value first)))
+    c.as_slice.ensures.value first))))
 
 pub returns-clause-known : goal.returns-clause-known
 returns-clause-known g c =
     let last = c.args.self.now.last in
-    none_kept c.first_unknown.result c.first_unknown.ensures.known
-    (subst (λ parts. All (WantsNone (laid_sections c.args.laid.now)) (all_sections parts last)) c.as_slice.ensures.value)
+    if_ok c.first_unknown.result c.first_unknown.ensures.known (λ found known.
+    none_kept found known
+    (subst (λ parts. All (WantsNone (laid_sections c.args.laid.now)) (all_sections parts last)) c.as_slice.ensures.value))

@@ -1,6 +1,7 @@
 use Rattle.std.proofs.Common.{◌≡◌, ◌∙◌, ap, arith, rules}
 use Rattle.dvg_named.specs.LaidValues.{rows_in, sections_of}
-use Rattle.dvg_named.specs.Places.{laid_from, size}
+use Rattle.dvg_named.specs.Places.{laid_from}
+use Rattle.dvg_rows.specs.RowPlaces.{size}
 use Rattle.dvg_named.proofs.RomFew.{held_few, laid_held, if_ok}
 use Rattle.dvg_named.proofs.reading.Reading.lay.Goals as goal
 

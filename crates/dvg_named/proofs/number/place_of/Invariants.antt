@@ -1,5 +1,0 @@
-use Rattle.dvg_named.proofs.NamedRows.{NoneGives}
-use Rattle.dvg_named.proofs.number.place_of.Given as goal
-
-abbrev pub invariant-loop-place : goal.invariant-loop-place
-invariant-loop-place l = NoneGives l.name l.rows l.place

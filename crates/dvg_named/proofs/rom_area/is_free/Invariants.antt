@@ -1,5 +1,0 @@
-use Rattle.dvg_named.specs.RomAreas.{IsFree}
-use Rattle.dvg_named.proofs.rom_area.is_free.Given as goal
-
-abbrev pub invariant-loop-place : goal.invariant-loop-place
-invariant-loop-place l = IsFree l.taken l.first l.place

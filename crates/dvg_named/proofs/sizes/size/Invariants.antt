@@ -1,7 +1,0 @@
-use Rattle.std.proofs.Common.{◌≡◌, take}
-use Rattle.dvg_named.specs.HeldRows.{rows_of}
-use Rattle.dvg_named.specs.Places.{size}
-use Rattle.dvg_named.proofs.sizes.size.Given as goal
-
-abbrev pub invariant-loop-row : goal.invariant-loop-row
-invariant-loop-row l = l.words ≡ size (rows_of (take l.row-index l.rows))

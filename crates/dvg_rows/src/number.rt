@@ -1,0 +1,95 @@
+//! Which operation of a frame a name names.
+ghost use Rattle.std.specs.Prelude.{◌≡◌, ◌≤◌, ◌∷◌, [], ℕ, length, IfNone, IfOk, IfSome, Some};
+ghost use Rattle.dvg_rows.specs.HeldRows.{rows_of};
+ghost use Rattle.dvg_rows.specs.NameTables.{Tells};
+ghost use Rattle.dvg_rows.specs.RowPlaces.{AreDistinct, IsNumber, doings, names_of};
+ghost use Rattle.dvg_rows.specs.RowValues.{row_of};
+
+use crate::name_table::NameTable;
+use crate::row::Row;
+use dvg_code::OutOfMemory;
+use std::alloc::Allocator;
+use std::marker::Model;
+
+/// Rows of a section, of which each name is known that they give.
+#[derive(Drop)]
+pub struct NamedRows<'r, 'a, A: Allocator + Copy> {
+    rows: &'r [Row<'a>],
+    numbers: NameTable<'a, A>,
+}
+
+impl<'r, 'a, A: Allocator + Copy> Model for NamedRows<'r, 'a, A> {
+    ghost use Rattle.std.specs.Prelude.{List};
+    ghost use Rattle.dvg_rows.specs.declared.row.Row.{Row as HeldRow};
+    ghost use Rattle.dvg_rows.specs.HeldRows.{rows_of};
+    ghost use Rattle.dvg_rows.specs.NameTables.{Tells};
+    ghost use Rattle.dvg_rows.specs.RowPlaces.{IsNumber};
+
+    ghost Value = { List HeldRow };
+
+    ghost view = { λ named. named.rows.now };
+
+    ghost invariant = { λ named. Tells (IsNumber (rows_of named.rows.now)) named.numbers };
+}
+
+impl<'r, 'a, A: Allocator + Copy> NamedRows<'r, 'a, A> {
+    ghost use Rattle.std.specs.Prelude.{◌≡◌, IfOk};
+
+    /// Makes the names known that rows give. A growth may be refused. The time grows with the
+    /// number of rows.
+    pub fn new(alloc: A, rows: &'r [Row<'a>]) -> Result<NamedRows<'r, 'a, A>, OutOfMemory>
+        ensures { IfOk result (λ named. named ≡ rows.now) }
+    {
+        let numbers = numbers_of(alloc, rows)?;
+        Ok(NamedRows { rows, numbers })
+    }
+
+    /// The rows, in order.
+    pub fn rows(&self) -> &'r [Row<'a>]
+        ensures { result.now ≡ self.now }
+    {
+        self.rows
+    }
+}
+
+/// The number of the operation that a name names in a frame, counted from 0: as many operations
+/// stand before the row that gives it. None exactly where no row gives it. The time doesn't grow
+/// with the number of rows.
+///
+/// Where each name is given once, no other number is that of the name. A name after the last
+/// operation has the number of one that isn't there (this project's own choice).
+pub fn number_of<A: Allocator + Copy>(rows: &NamedRows<'_, '_, A>, name: &[u8]) -> Option<usize>
+    ensures found { IfSome result (IsNumber (rows_of rows.now) name.now) }
+    ensures none { IfNone result ((number : ℕ) → ¬ IsNumber (rows_of rows.now) name.now number) }
+    ensures only { AreDistinct (names_of (rows_of rows.now)) → (number : ℕ)
+        → IsNumber (rows_of rows.now) name.now number → result ≡ Some number }
+{
+    rows.numbers.get(name)
+}
+
+// The number of each name that rows give.
+fn numbers_of<'a, A: Allocator + Copy>(
+    alloc: A,
+    rows: &[Row<'a>],
+) -> Result<NameTable<'a, A>, OutOfMemory>
+    ensures { IfOk result (Tells (IsNumber (rows_of rows.now))) }
+{
+    let mut numbers = NameTable::new(alloc);
+    let mut count = 0;
+    for row in rows {
+        numbers.put(row.name, count)?;
+        count += op_count(row);
+    }
+    Ok(numbers)
+}
+
+// How many operations a row has.
+fn op_count(row: &Row) -> usize
+    ensures value { result ≡ length (doings (row_of row.now ∷ [])) }
+    ensures most { result ≤ 1 }
+{
+    match row.doing {
+        Some(_) => 1,
+        None => 0,
+    }
+}

@@ -1,0 +1,112 @@
+//! Which words of the ROM the sections take that were laid.
+ghost use Rattle.std.specs.Prelude.{◌≡◌, ◌+◌, ◌≤◌, ◌<◌, ◌⊎◌, ◌↔◌, ℕ, length, max, unwrap_or};
+ghost use Rattle.std.specs.Prelude.{get_or, true, false, IfErr, IsTrue, OnOk};
+ghost use Rattle.dvg_rows.specs.RomAreas.{BeginsAt, IsFree, StopsArea, StopsBegin, Takes};
+
+use crate::line_fault::LineFault;
+use dvg_mem::FIRST_ROM_WORD;
+
+/// The word address after the ROM's last word.
+pub const ROM_END: usize = 0xC00;
+
+/// The words that sections take which were laid, and where the next word is laid.
+#[derive(Drop)]
+pub struct RomArea {
+    /// The address after the last word of the last section.
+    pub next: u16,
+    /// The first word address after all that were given before.
+    pub free: u16,
+    /// For each word address whether a section lies on it.
+    pub is_taken: [bool; ROM_END],
+}
+
+impl RomArea {
+    ghost use Rattle.std.specs.Prelude.{◌≡◌, ◌+◌, ◌≤◌, ◌<◌, ◌⊎◌, ◌↔◌, ℕ, length, max, unwrap_or};
+    ghost use Rattle.std.specs.Prelude.{get_or, true, false, IfErr, IsTrue, OnOk};
+    ghost use Rattle.dvg_rows.specs.RomAreas.{BeginsAt, IsFree, StopsArea, StopsBegin, Takes};
+
+    /// No word is taken.
+    pub fn new() -> RomArea
+        ensures free { result.free ≡ 0x800 }
+        ensures taken { (a : ℕ) → get_or result.is_taken a false ≡ false }
+    {
+        RomArea {
+            next: 0,
+            free: FIRST_ROM_WORD,
+            is_taken: [false; ROM_END],
+        }
+    }
+
+    /// Before the first section, the first free word is this one.
+    pub fn set_free(&mut self, free: u16)
+        ensures free { self.new.free ≡ free }
+        ensures taken { self.new.is_taken ≡ self.old.is_taken }
+        ensures next { self.new.next ≡ self.old.next }
+    {
+        self.free = free;
+    }
+
+    /// Begins a section at this address, or else at the first free word.
+    pub fn begin(&mut self, first: u16, address: Option<u16>) -> Result<(), LineFault>
+        ensures begun { OnOk result (BeginsAt first address self.old self.new) }
+        ensures fault { IfErr result (StopsBegin first address self.old) }
+    {
+        let start = match address {
+            Some(given) => given,
+            None => self.free,
+        };
+        if start < first || usize::from(start) > ROM_END {
+            return Err(LineFault::OutOfRom);
+        }
+        self.next = start;
+        self.free = self.free.max(start);
+        Ok(())
+    }
+
+    /// Takes so many words more for the last section.
+    pub fn take(&mut self, words: usize) -> Result<(), LineFault>
+        requires { words ≤ 2 }
+        ensures taken { OnOk result (Takes words self.old self.new) }
+        ensures fault { IfErr result (StopsArea words self.old) }
+    {
+        let first = usize::from(self.next);
+        let end = first + words;
+        if end > ROM_END {
+            return Err(LineFault::OutOfRom);
+        }
+        if !is_free(&self.is_taken, first, end) {
+            return Err(LineFault::Overlap);
+        }
+        mark(&mut self.is_taken, first, end);
+        self.next = end as u16;
+        self.free = self.free.max(self.next);
+        Ok(())
+    }
+}
+
+// Whether none of these words is taken.
+fn is_free(taken: &[bool], first: usize, end: usize) -> bool
+    requires ordered { first ≤ end }
+    requires inside { end ≤ length taken.now }
+    ensures { IsTrue result ↔ IsFree taken.now first end }
+{
+    for place in first..end {
+        if taken[place] {
+            return false;
+        }
+    }
+    true
+}
+
+// Takes these words.
+fn mark(taken: &mut [bool], first: usize, end: usize)
+    requires ordered { first ≤ end }
+    requires inside { end ≤ length taken.old }
+    ensures marked { (a : ℕ) → first ≤ a → a < end → get_or taken.new a false ≡ true }
+    ensures others { (a : ℕ) → (a < first) ⊎ (end ≤ a)
+        → get_or taken.new a false ≡ get_or taken.old a false }
+{
+    for place in first..end {
+        taken[place] = true;
+    }
+}

@@ -1,0 +1,220 @@
+//! What a line of a sketch spells. Names are slices of the text.
+ghost use Rattle.std.specs.Prelude.{◌≡◌, ◌↔◌, ◌∷◌, ◌++◌, [], ℕ, List, IfSome, IsSomeAnd, IsTrue};
+ghost use Rattle.dvg_read.specs.LineParts.{bytes_of};
+ghost use Rattle.dvg_rows.specs.Rows.{Doing as SpelledDoing, Head as SpelledHead};
+ghost use Rattle.dvg_rows.specs.Rows.{Row as SpelledRow};
+ghost use Rattle.dvg_rows.specs.Rows.{DoingParts, HeadParts, IsName, RowParts};
+ghost use Rattle.dvg_rows.specs.Rows.{BeginsWithLetter, frame, is_name_byte};
+ghost use Rattle.std.specs.List.{list_all};
+ghost use Rattle.dvg_rows.specs.RowValues.{doing_of, head_of, row_of};
+
+use dvg_frame::Op;
+use dvg_read::{hex, read_op_parts};
+
+/// The most bytes of a name (this project's own choice).
+const MOST_NAME_BYTES: usize = 32;
+
+/// What a row does: an operation as a plain draft has it, or one whose target has a name.
+#[derive(Clone, Copy)]
+pub enum Doing<'a> {
+    /// An operation without a name.
+    Plainly(Op),
+    /// A call of the operation, or in the ROM of the word, that has this name.
+    Calls(&'a [u8]),
+    /// A jump to the operation, or in the ROM to the word, that has this name.
+    Jumps(&'a [u8]),
+    /// A call of the word of the ROM that has this name.
+    CallsRom(&'a [u8]),
+    /// A jump to the word of the ROM that has this name.
+    JumpsRom(&'a [u8]),
+}
+
+/// A row of a section: perhaps a name, and perhaps what it does.
+#[derive(Clone, Copy)]
+pub struct Row<'a> {
+    /// The name that it gives to the operation at its place.
+    pub name: Option<&'a [u8]>,
+    /// What it does.
+    pub doing: Option<Doing<'a>>,
+}
+
+/// The line that begins a section.
+#[derive(Clone, Copy)]
+pub enum Head<'a> {
+    /// A line `.frame`, perhaps with a name.
+    Frame(Option<&'a [u8]>),
+    /// A line `.rom`, perhaps with a word address.
+    Rom(Option<u16>),
+}
+
+/// The row that a line of these words spells. None exactly where it spells none.
+pub fn read_row<'a>(words: &[&'a [u8]]) -> Option<Row<'a>>
+    ensures found { IfSome result (λ row. RowParts (row_of row) (bytes_of words.now)) }
+    ensures only { (row : SpelledRow) → RowParts row (bytes_of words.now)
+        → IsSomeAnd result (λ found. row_of found ≡ row) }
+{
+    let [first, rest @ ..] = words else {
+        return None;
+    };
+    let Some(name) = name_given(first) else {
+        let Some(doing) = read_doing(words) else {
+            return None;
+        };
+        return Some(Row {
+            name: None,
+            doing: Some(doing),
+        });
+    };
+    if rest.is_empty() {
+        return Some(Row {
+            name: Some(name),
+            doing: None,
+        });
+    }
+    let Some(doing) = read_doing(rest) else {
+        return None;
+    };
+    Some(Row {
+        name: Some(name),
+        doing: Some(doing),
+    })
+}
+
+/// The beginning of a section that a line of these words spells. None exactly where it spells none.
+pub fn read_head<'a>(words: &[&'a [u8]]) -> Option<Head<'a>>
+    ensures found { IfSome result (λ head. HeadParts (head_of head) (bytes_of words.now)) }
+    ensures only { (head : SpelledHead) → HeadParts head (bytes_of words.now)
+        → IsSomeAnd result (λ found. head_of found ≡ head) }
+{
+    match words {
+        [begin] => bare_head(begin),
+        [begin, operand] => head_with(begin, operand),
+        _ => None,
+    }
+}
+
+// A section that begins without a name and without an address.
+fn bare_head<'a>(begin: &[u8]) -> Option<Head<'a>>
+    ensures found { IfSome result (λ head. HeadParts (head_of head) (begin.now ∷ [])) }
+    ensures only { (head : SpelledHead) → HeadParts head (begin.now ∷ [])
+        → IsSomeAnd result (λ found. head_of found ≡ head) }
+{
+    match begin {
+        b".frame" => Some(Head::Frame(None)),
+        b".rom" => Some(Head::Rom(None)),
+        _ => None,
+    }
+}
+
+// A frame with this name, or a section of the ROM at this address.
+fn head_with<'a>(begin: &[u8], operand: &'a [u8]) -> Option<Head<'a>>
+    ensures found { IfSome result (λ head. HeadParts (head_of head)
+        (begin.now ∷ operand.now ∷ [])) }
+    ensures only { (head : SpelledHead) → HeadParts head (begin.now ∷ operand.now ∷ [])
+        → IsSomeAnd result (λ found. head_of found ≡ head) }
+{
+    match begin {
+        b".frame" => frame_named(operand),
+        b".rom" => Some(Head::Rom(Some(hex(operand, 3)?))),
+        _ => None,
+    }
+}
+
+// The beginning of a frame with this name.
+fn frame_named<'a>(name: &'a [u8]) -> Option<Head<'a>>
+    ensures found { IfSome result (λ head. (head_of head ≡ frame (Some name.now))
+        × IsName name.now) }
+    ensures only { IsName name.now
+        → IsSomeAnd result (λ found. head_of found ≡ frame (Some name.now)) }
+{
+    if is_name(name) {
+        Some(Head::Frame(Some(name)))
+    } else {
+        None
+    }
+}
+
+// What a row of these words does. None exactly where they spell nothing.
+fn read_doing<'a>(words: &[&'a [u8]]) -> Option<Doing<'a>>
+    ensures found { IfSome result (λ doing. DoingParts (doing_of doing) (bytes_of words.now)) }
+    ensures only { (doing : SpelledDoing) → DoingParts doing (bytes_of words.now)
+        → IsSomeAnd result (λ found. doing_of found ≡ doing) }
+{
+    if let [command, target] = words {
+        if is_name(target) {
+            return wanting(command, target);
+        }
+    }
+    let op = read_op_parts(words)?;
+    Some(Doing::Plainly(op))
+}
+
+// The operation of this name whose target has that name.
+fn wanting<'a>(command: &[u8], name: &'a [u8]) -> Option<Doing<'a>>
+    requires { IsName name.now }
+    ensures found { IfSome result (λ doing. DoingParts (doing_of doing)
+        (command.now ∷ name.now ∷ [])) }
+    ensures only { (doing : SpelledDoing) → DoingParts doing (command.now ∷ name.now ∷ [])
+        → IsSomeAnd result (λ found. doing_of found ≡ doing) }
+{
+    match command {
+        b"call" => Some(Doing::Calls(name)),
+        b"jump" => Some(Doing::Jumps(name)),
+        b"callrom" => Some(Doing::CallsRom(name)),
+        b"jumprom" => Some(Doing::JumpsRom(name)),
+        _ => None,
+    }
+}
+
+// The name that a word gives, which ends with a colon. None exactly where it gives none.
+fn name_given<'a>(word: &'a [u8]) -> Option<&'a [u8]>
+    ensures found { IfSome result (λ name. IsName name.now × (word.now ≡ name.now ++ 58 ∷ [])) }
+    ensures only { (name : List ℕ) → IsName name → word.now ≡ name ++ 58 ∷ []
+        → IsSomeAnd result (λ found. found.now ≡ name) }
+{
+    let (last, name) = word.split_last()?;
+    if *last == b':' && is_name(name) {
+        Some(name)
+    } else {
+        None
+    }
+}
+
+// Whether it is a name: a letter, then letters, digits and `_`, no more than 32 bytes, and no three
+// hexadecimal digits.
+fn is_name(name: &[u8]) -> bool
+    ensures { IsTrue result ↔ IsName name.now }
+{
+    begins_with_letter(name)
+        && has_name_bytes(name)
+        && name.len() <= MOST_NAME_BYTES
+        && hex(name, 3).is_none()
+}
+
+// Whether it begins with a letter.
+fn begins_with_letter(name: &[u8]) -> bool
+    ensures { IsTrue result ↔ BeginsWithLetter name.now }
+{
+    match name {
+        [first, ..] => first.is_ascii_lowercase(),
+        [] => false,
+    }
+}
+
+// Whether each byte is a letter, a digit or `_`.
+fn has_name_bytes(name: &[u8]) -> bool
+    ensures { result ≡ list_all is_name_byte name.now }
+{
+    name.iter().all(
+        |byte|
+            ensures { result ≡ is_name_byte byte.now }
+        { is_name_byte(*byte) },
+    )
+}
+
+// Whether it is a letter, a digit or `_`.
+fn is_name_byte(byte: u8) -> bool
+    ensures { result ≡ is_name_byte byte }
+{
+    byte.is_ascii_lowercase() || byte.is_ascii_digit() || byte == b'_'
+}

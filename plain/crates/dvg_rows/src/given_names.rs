@@ -1,0 +1,32 @@
+//! Names that were given.
+use crate::line_fault::LineFault;
+use indexmap::IndexSet;
+use std::alloc::Allocator;
+use std::hash::{BuildHasherDefault, FoldHasher};
+
+/// The names that were given, in order, each once.
+pub struct GivenNames<'a, A: Allocator + Copy> {
+    /// The names.
+    pub given: IndexSet<&'a [u8], BuildHasherDefault<FoldHasher>, A>,
+}
+
+impl<'a, A: Allocator + Copy> GivenNames<'a, A> {
+    /// No names.
+    pub fn new(alloc: A) -> GivenNames<'a, A> {
+        GivenNames {
+            given: IndexSet::new(alloc),
+        }
+    }
+
+    /// Gives one name more, if there is one.
+    pub fn give(&mut self, name: Option<&'a [u8]>) -> Result<(), LineFault> {
+        let Some(name) = name else {
+            return Ok(());
+        };
+        match self.given.insert(name) {
+            Ok(true) => Ok(()),
+            Ok(false) => Err(LineFault::Twice),
+            Err(_) => Err(LineFault::Memory),
+        }
+    }
+}

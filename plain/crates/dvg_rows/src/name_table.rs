@@ -1,0 +1,33 @@
+//! Names with numbers.
+use dvg_code::OutOfMemory;
+use indexmap::IndexMap;
+use std::alloc::Allocator;
+use std::hash::{BuildHasherDefault, FoldHasher};
+
+/// Names, each with a number. The time to find one doesn't grow with how many there are.
+pub struct NameTable<'a, A: Allocator + Copy> {
+    numbers: IndexMap<&'a [u8], usize, BuildHasherDefault<FoldHasher>, A>,
+}
+
+impl<'a, A: Allocator + Copy> NameTable<'a, A> {
+    /// No names.
+    pub fn new(alloc: A) -> NameTable<'a, A> {
+        NameTable {
+            numbers: IndexMap::new(alloc),
+        }
+    }
+
+    /// Gives a name this number, if there is a name, in place of one that it had. A growth may be
+    /// refused.
+    pub fn put(&mut self, name: Option<&'a [u8]>, number: usize) -> Result<(), OutOfMemory> {
+        if let Some(name) = name {
+            self.numbers.insert(name, number)?;
+        }
+        Ok(())
+    }
+
+    /// The number of a name, if it has one.
+    pub fn get(&self, name: &[u8]) -> Option<usize> {
+        self.numbers.get(name).copied()
+    }
+}

@@ -1,0 +1,79 @@
+//! Which words of the ROM the sections take that were laid.
+use crate::line_fault::LineFault;
+use dvg_mem::FIRST_ROM_WORD;
+
+/// The word address after the ROM's last word.
+pub const ROM_END: usize = 0xC00;
+
+/// The words that sections take which were laid, and where the next word is laid.
+pub struct RomArea {
+    /// The address after the last word of the last section.
+    pub next: u16,
+    /// The first word address after all that were given before.
+    pub free: u16,
+    /// For each word address whether a section lies on it.
+    pub is_taken: [bool; ROM_END],
+}
+
+impl RomArea {
+    /// No word is taken.
+    pub fn new() -> RomArea {
+        RomArea {
+            next: 0,
+            free: FIRST_ROM_WORD,
+            is_taken: [false; ROM_END],
+        }
+    }
+
+    /// Before the first section, the first free word is this one.
+    pub fn set_free(&mut self, free: u16) {
+        self.free = free;
+    }
+
+    /// Begins a section at this address, or else at the first free word.
+    pub fn begin(&mut self, first: u16, address: Option<u16>) -> Result<(), LineFault> {
+        let start = match address {
+            Some(given) => given,
+            None => self.free,
+        };
+        if start < first || usize::from(start) > ROM_END {
+            return Err(LineFault::OutOfRom);
+        }
+        self.next = start;
+        self.free = self.free.max(start);
+        Ok(())
+    }
+
+    /// Takes so many words more for the last section.
+    pub fn take(&mut self, words: usize) -> Result<(), LineFault> {
+        let first = usize::from(self.next);
+        let end = first + words;
+        if end > ROM_END {
+            return Err(LineFault::OutOfRom);
+        }
+        if !is_free(&self.is_taken, first, end) {
+            return Err(LineFault::Overlap);
+        }
+        mark(&mut self.is_taken, first, end);
+        self.next = end as u16;
+        self.free = self.free.max(self.next);
+        Ok(())
+    }
+}
+
+// Whether none of these words is taken.
+fn is_free(taken: &[bool], first: usize, end: usize) -> bool {
+    for place in first..end {
+        if taken[place] {
+            return false;
+        }
+    }
+    true
+}
+
+// Takes these words.
+fn mark(taken: &mut [bool], first: usize, end: usize) {
+    for place in first..end {
+        taken[place] = true;
+    }
+}
