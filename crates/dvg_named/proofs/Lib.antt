@@ -1,7 +1,7 @@
 mod DraftRows
 mod ExampleNames
 mod LaidOrder
-mod PlainWords
+mod PlainTokens
 mod OneSketch
 mod NamedSections
 mod RomWritten
@@ -12,9 +12,9 @@ mod LaidMore
 mod ReadLimits
 mod ReadMoves
 mod ReadRows
-mod ToldLines
+mod StatedLines
 mod ReadBegins
-mod FewWords
+mod FewTokens
 mod SourcedMore
 mod RomFew
 mod FrameLists
@@ -39,7 +39,7 @@ mod OneFault
 mod RowsStay
 mod MeantNames
 mod NoFaultBeside
-mod SmallWords
+mod SmallTokens
 mod TidyLines
 mod PlainDrafts
 mod RowsCome

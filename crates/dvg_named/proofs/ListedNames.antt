@@ -68,11 +68,11 @@ listed_here names i last low is name same = record {
 }
 
 -- with a name more a table tells of it, too
-pub told_more : {A : Type 0} (names : List RomName) (i : ℕ) (d : RomName) (number : ℕ) (old new : NameTable A)
+pub unpassed_more : {A : Type 0} (names : List RomName) (i : ℕ) (d : RomName) (number : ℕ) (old new : NameTable A)
     → i < length names → number ≡ (get_or names i d).address
     → ((other : Bor (List ℕ)) → number_in new other ≡ number_with old (Some (get_or names i d).name) number other)
     → Tells (IsListedBefore names i) old → Tells (IsListedBefore names (i + 1)) new
-told_more names i d number old new low address is tells =
+unpassed_more names i d number old new low address is tells =
     let last = get_or names i d in
     let same : last ≡ get_or names i last = sym (get_or_default names i last d low) in
     tells_more (IsListedBefore names i) (IsListedBefore names (i + 1)) (Some last.name) number old new is
@@ -134,5 +134,5 @@ module _ (laid : List Laid) (names : List RomName) (all : names_listed names ≡
   addresses_found name None h = λ address is. let listed = is_listed name address is in h listed.0 listed.1
   addresses_found name (Some address) h = is_address name address h
 
-  pub addresses_told : {A : Type 0} (table : NameTable A) → Tells (IsListed names) table → Tells (IsAddress laid) table
-  addresses_told table tells name = addresses_found name.now (number_in table name) (tells name)
+  pub addresses_described : {A : Type 0} (table : NameTable A) → Tells (IsListed names) table → Tells (IsAddress laid) table
+  addresses_described table tells name = addresses_found name.now (number_in table name) (tells name)

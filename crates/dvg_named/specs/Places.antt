@@ -1,6 +1,6 @@
 -- Where the sections of the ROM are laid, and which of their words a name names.
 use Rattle.std.specs.Prelude.{◌≡◌, ℕ, ◌+◌, max, List, [], ◌∷◌, ◌++◌, length, unwrap_or}
-use Rattle.dvg_read.specs.RomTexts.{RomLine, RomText, first_told}
+use Rattle.dvg_read.specs.RomTexts.{RomLine, RomText, first_stated}
 use Rattle.dvg_rows.specs.RowPlaces.{IsNamedAfter, size}
 use Rattle.dvg_rows.specs.Rows.{Row}
 use Rattle.dvg_named.specs.Sections.{RomRows}
@@ -28,7 +28,7 @@ free_after first (given ∷ others) = max (given.address + length given.words) (
 
 -- the sections of the ROM, laid
 abbrev pub laid : RomText → List RomRows → List Laid
-laid rom sections = laid_from (free_after (first_told rom.map) rom.given) sections
+laid rom sections = laid_from (free_after (first_stated rom.map) rom.given) sections
 
 -- the name is that of this word address of the ROM
 pub record IsAddress (sections : List Laid) (name : List ℕ) (address : ℕ) : Type 0 where

@@ -129,8 +129,8 @@ fn unknown<A: Allocator + Copy>(
     laid: &LaidNames<'_, '_, '_, A>,
 ) -> SketchFault
     requires text { IsLaidText reading.now laid.now }
-    requires laid { (told : RomText) → Reads told reading.now
-        → laid_sections laid.now ≡ laid_of (spelled_in told reading.now) }
+    requires laid { (stated : RomText) → Reads stated reading.now
+        → laid_sections laid.now ≡ laid_of (spelled_in stated reading.now) }
     requires wants { ¬ All (WantsNone (laid_sections laid.now)) (sections_in reading.now) }
     ensures { (text : List ℕ) → ReadsText (map to_ascii_lowercase text) reading.now
         → StopsText result text }

@@ -29,7 +29,7 @@ pub not_among : (names : List (Bor (List ℕ))) (name : Bor (List ℕ)) → list
 not_among names name h is =
     false≢true (sym h ∙ sym (any_bytes names name) ∙ list_any-from_Contains nat_list_eq_equiv name.now (bytes_of names) is)
 
--- what is told of a name that is added
+-- what is stated of a name that is added
 pub lacked : (added has : Bool) → added ≡ true → added ≡ not has → has ≡ false
 lacked added true e f = absurd cc
 lacked added false e f = refl

@@ -1,7 +1,7 @@
 use Rattle.std.proofs.Common.{◌≤◌, arith, length}
 use Rattle.dvg_named.specs.RomNames.{IsListedBefore}
 use Rattle.dvg_rows.proofs.NameTables.{tells_none}
-use Rattle.dvg_named.proofs.ListedNames.{all_listed, none_listed, told_more}
+use Rattle.dvg_named.proofs.ListedNames.{all_listed, none_listed, unpassed_more}
 use Rattle.dvg_named.proofs.laid.table_of.Goals as goal
 
 pub loop-named-init : goal.loop-named-init
@@ -11,7 +11,7 @@ loop-named-init g c =
 
 pub loop-named-preserved : goal.loop-named-preserved
 loop-named-preserved g c =
-    told_more c.args.names.now c.loop-named.named-index _ c.from.result c.loop-named.addresses c.put.new.self
+    unpassed_more c.args.names.now c.loop-named.named-index _ c.from.result c.loop-named.addresses c.put.new.self
     c.loop-named-test.true c.from.ensures c.in_ok-put.ensures c.loop-named.invariant
 
 pub returns : goal.returns
