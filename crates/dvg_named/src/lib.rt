@@ -26,7 +26,8 @@ mod unknown;
 pub use addresses::rom_names;
 pub use drafting::draft_of;
 pub use dvg_rows::{
-    Doing, Head, MAX_TOKENS, NamedRows, Row, Source, number_of, read_head, read_row, size, words_of,
+    Doing, Head, MAX_TOKENS, NamedRows, Row, Source, number_of, read_head, read_row, size,
+    tokens_of,
 };
 pub use fault::{NamedFault, SketchFault};
 pub use flat_draft::{DraftFault, push_draft};

@@ -8,7 +8,7 @@ ghost use Rattle.dvg_named.specs.TextReading.{ReadsText, StopsText, fault_at};
 use crate::fault::{NamedFault, SketchFault};
 use crate::reading::Reading;
 use dvg_read::{MOST_TEXT_BYTES, TextLines};
-use dvg_rows::{LineFault, Source, words_of};
+use dvg_rows::{LineFault, Source, tokens_of};
 use std::alloc::Allocator;
 
 /// Reads all lines of a text in small letters, in one pass. Or else the text has a fault: it is too
@@ -28,13 +28,13 @@ pub(crate) fn read_lines<'a, A: Allocator + Copy>(
     let mut number = 0;
     for line in TextLines::new(small) {
         number += 1;
-        let Some(words) = words_of(line) else {
+        let Some(tokens) = tokens_of(line) else {
             return Err(at_line(LineFault::Syntax, number));
         };
-        if words.is_empty() {
+        if tokens.is_empty() {
             continue;
         }
-        if let Err(fault) = reading.add(Source { number, line }, words.as_slice()) {
+        if let Err(fault) = reading.add(Source { number, line }, tokens.as_slice()) {
             return Err(at_line(fault, number));
         }
     }

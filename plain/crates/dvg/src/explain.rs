@@ -6,7 +6,7 @@ use crate::forms::{
 };
 use crate::places::{Place, Rows, first_frame, first_given, head_of, line_at, place_of, row_of};
 use arrayvec::ArrayVec;
-use dvg_named::{Doing, Head, MAX_WORDS, read_head, words_of};
+use dvg_named::{Doing, Head, MAX_TOKENS, read_head, tokens_of};
 use dvg_read::hex;
 use dvg_tool::TextFault;
 
@@ -28,19 +28,19 @@ fn in_frames(text: &[u8], name: &[u8], frame: &'static str) -> Found {
     }
 }
 
-/// What is expected of a line that wants a name of its frame. This word goes to one of the ROM.
-fn of_frame<'a>(text: &[u8], name: &'a [u8], word: &'static str) -> Expected<'a> {
+/// What is expected of a line that wants a name of its frame. This token goes to one of the ROM.
+fn of_frame<'a>(text: &[u8], name: &'a [u8], token: &'static str) -> Expected<'a> {
     let found = match first_given(text, name, Rows::OfRom) {
-        Some(_) => Found::InRom(word),
+        Some(_) => Found::InRom(token),
         None => in_frames(text, name, "another frame"),
     };
     Expected::Known("a name of this frame", name, found)
 }
 
-/// What is expected of a line that wants a name of the ROM. This word goes to one of its frame.
-fn of_rom<'a>(text: &[u8], place: Place, name: &'a [u8], word: &'static str) -> Expected<'a> {
+/// What is expected of a line that wants a name of the ROM. This token goes to one of its frame.
+fn of_rom<'a>(text: &[u8], place: Place, name: &'a [u8], token: &'static str) -> Expected<'a> {
     let found = match first_given(text, name, place.rows()) {
-        Some(_) => Found::InFrame(word),
+        Some(_) => Found::InFrame(token),
         None => in_frames(text, name, "a frame"),
     };
     Expected::Known("a name of the ROM", name, found)
@@ -67,49 +67,49 @@ fn in_rom<'a>(line: &[u8]) -> Expected<'a> {
     }
 }
 
-/// Whether a word is a name.
-fn is_name(word: &[u8]) -> bool {
+/// Whether a token is a name.
+fn is_name(token: &[u8]) -> bool {
     matches!(
-        read_head(&[b".frame".as_slice(), word]),
+        read_head(&[b".frame".as_slice(), token]),
         Some(Head::Frame(Some(_)))
     )
 }
 
 /// Whether it has the look of a name, which no number has.
-fn looks_like_name(word: &[u8]) -> bool {
-    match word.first() {
+fn looks_like_name(token: &[u8]) -> bool {
+    match token.first() {
         Some(b'a'..=b'z' | b'_') => true,
-        _ => word
+        _ => token
             .iter()
             .any(|byte| matches!(*byte, b'g'..=b'w' | b'y' | b'z' | b'_')),
     }
 }
 
-/// What is expected in place of a word that is no name.
-fn name_for(word: &[u8]) -> Expected<'_> {
-    match word.first() {
-        Some(b'a'..=b'f') if hex(word, 3).is_some() => Expected::NoAddress(word),
+/// What is expected in place of a token that is no name.
+fn name_for(token: &[u8]) -> Expected<'_> {
+    match token.first() {
+        Some(b'a'..=b'f') if hex(token, 3).is_some() => Expected::NoAddress(token),
         _ => Expected::This(NAME),
     }
 }
 
-/// Whether a colon stands in a word.
-fn has_colon(word: &[u8]) -> bool {
-    word.iter().any(|byte| *byte == b':')
+/// Whether a colon stands in a token.
+fn has_colon(token: &[u8]) -> bool {
+    token.iter().any(|byte| *byte == b':')
 }
 
-/// The words of a line, or the first ones of more than ten.
-fn first_words(line: &[u8]) -> ArrayVec<&[u8], MAX_WORDS> {
-    if let Some(words) = words_of(line) {
-        return words;
+/// The tokens of a line, or the first ones of more than ten.
+fn first_tokens(line: &[u8]) -> ArrayVec<&[u8], MAX_TOKENS> {
+    if let Some(tokens) = tokens_of(line) {
+        return tokens;
     }
-    let mut words = ArrayVec::new();
-    for word in line.split(|byte| *byte == b' ' || *byte == b'\t') {
-        if !word.is_empty() && !words.is_full() {
-            words.push(word);
+    let mut tokens = ArrayVec::new();
+    for token in line.split(|byte| *byte == b' ' || *byte == b'\t') {
+        if !token.is_empty() && !tokens.is_full() {
+            tokens.push(token);
         }
     }
-    words
+    tokens
 }
 
 /// Whether a semicolon stands in a line before its comment.
@@ -129,8 +129,8 @@ fn spelled(is_rom: bool, line: &[u8]) -> Expected<'_> {
     if has_semicolon(line) {
         return Expected::This(SEMICOLON);
     }
-    let words = first_words(line);
-    let [first, rest @ ..] = words.as_slice() else {
+    let tokens = first_tokens(line);
+    let [first, rest @ ..] = tokens.as_slice() else {
         return Expected::Beginning;
     };
     match first {
@@ -141,24 +141,24 @@ fn spelled(is_rom: bool, line: &[u8]) -> Expected<'_> {
     }
 }
 
-/// Whether the first of these words begins with a colon.
-fn begins_with_colon(words: &[&[u8]]) -> bool {
-    match words {
-        [word, ..] => word.starts_with(b":"),
+/// Whether the first of these tokens begins with a colon.
+fn begins_with_colon(tokens: &[&[u8]]) -> bool {
+    match tokens {
+        [token, ..] => token.starts_with(b":"),
         [] => false,
     }
 }
 
-/// What is expected of these words after a name.
-fn after_name<'a>(is_rom: bool, words: &[&'a [u8]]) -> Expected<'a> {
-    match words {
+/// What is expected of these tokens after a name.
+fn after_name<'a>(is_rom: bool, tokens: &[&'a [u8]]) -> Expected<'a> {
+    match tokens {
         [first, ..] if first.ends_with(b":") => Expected::This(TWO_NAMES),
         [first, rest @ ..] if is_operation(first) => begun(is_rom, first, rest),
         _ => Expected::Operation,
     }
 }
 
-/// What is expected of a line that this word begins, with these words after it.
+/// What is expected of a line that this token begins, with these tokens after it.
 fn begun<'a>(is_rom: bool, first: &[u8], rest: &[&'a [u8]]) -> Expected<'a> {
     match (first, rest) {
         (b".frame", [name]) => return name_for(name),

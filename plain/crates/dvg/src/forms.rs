@@ -1,67 +1,67 @@
-//! The words that may begin a line of a sketch, and what is expected of its line.
+//! The tokens that may begin a line of a sketch, and what is expected of its line.
 use std::fmt;
 
-/// A word that may begin a line, and what is expected of a line that it begins.
+/// A token that may begin a line, and what is expected of a line that it begins.
 pub struct Form {
-    word: &'static str,
+    token: &'static str,
     expected: &'static str,
 }
 
 /// How many of the forms are those of operations: they come first.
 pub const OPERATIONS: usize = 9;
 
-/// All words that may begin a line.
+/// All tokens that may begin a line.
 pub static FORMS: [Form; 13] = [
     Form {
-        word: "labs",
+        token: "labs",
         expected: "labs X Y S: X and Y 0 to 4095, S 0 to 15",
     },
     Form {
-        word: "vctr",
+        token: "vctr",
         expected: "vctr S DX DY Z: S 0 to 9, DX and DY -1023 to 1023, Z 0 to 15",
     },
     Form {
-        word: "svec",
+        token: "svec",
         expected: "svec S DX DY Z: S 2 to 5, DX and DY -3 to 3, Z 0 to 15",
     },
     Form {
-        word: "call",
+        token: "call",
         expected: "call NAME or call N: N 0 to 65535",
     },
     Form {
-        word: "jump",
+        token: "jump",
         expected: "jump NAME or jump N: N 0 to 65535",
     },
     Form {
-        word: "callrom",
+        token: "callrom",
         expected: "callrom NAME or callrom HHH: HHH three hexadecimal digits",
     },
     Form {
-        word: "jumprom",
+        token: "jumprom",
         expected: "jumprom NAME or jumprom HHH: HHH three hexadecimal digits",
     },
     Form {
-        word: "return",
+        token: "return",
         expected: "return and nothing after it",
     },
     Form {
-        word: "halt",
+        token: "halt",
         expected: "halt and nothing after it",
     },
     Form {
-        word: ".frame",
+        token: ".frame",
         expected: ".frame or .frame NAME",
     },
     Form {
-        word: ".rom",
+        token: ".rom",
         expected: ".rom or .rom HHH: HHH 800 to BFF, or 400 to BFF after map 4096",
     },
     Form {
-        word: "map",
+        token: "map",
         expected: "map 2048 or map 4096, before all other lines",
     },
     Form {
-        word: "rom",
+        token: "rom",
         expected: "rom HHH HHHH ..: HHH 800 to BFF, or 400 to BFF after map 4096, \
                    one to eight words up to BFF, before all sections and operations",
     },
@@ -93,31 +93,31 @@ pub const PAST_END: &str = "no operation past BFF, the last word of the ROM";
 pub const OVERLAP: &str =
     "no word of another section: .rom without an address begins after all others";
 
-/// What is expected of a line that this word begins, or nothing where it may not begin one.
-pub fn form_of(word: &[u8]) -> &'static str {
+/// What is expected of a line that this token begins, or nothing where it may not begin one.
+pub fn form_of(token: &[u8]) -> &'static str {
     for form in &FORMS {
-        if form.word.as_bytes() == word {
+        if form.token.as_bytes() == token {
             return form.expected;
         }
     }
     ""
 }
 
-/// Whether it is the word of an operation.
-pub fn is_operation(word: &[u8]) -> bool {
+/// Whether it is the token of an operation.
+pub fn is_operation(token: &[u8]) -> bool {
     for form in FORMS.iter().take(OPERATIONS) {
-        if form.word.as_bytes() == word {
+        if form.token.as_bytes() == token {
             return true;
         }
     }
     false
 }
 
-/// Writes words of the table, each after a comma but the first.
-pub fn write_words(f: &mut fmt::Formatter<'_>, count: usize) -> fmt::Result {
+/// Writes tokens of the table, each after a comma but the first.
+pub fn write_openings(f: &mut fmt::Formatter<'_>, count: usize) -> fmt::Result {
     let mut comma = "";
     for form in FORMS.iter().take(count) {
-        write!(f, "{comma}{}", form.word)?;
+        write!(f, "{comma}{}", form.token)?;
         comma = ", ";
     }
     Ok(())

@@ -20,14 +20,15 @@ mod reading;
 mod rom_sections;
 mod rom_words;
 mod sketch;
+mod stated_rom;
 mod text_reading;
-mod told_rom;
 mod unknown;
 
 pub use addresses::rom_names;
 pub use drafting::draft_of;
 pub use dvg_rows::{
-    Doing, Head, MAX_WORDS, NamedRows, Row, Source, number_of, read_head, read_row, size, words_of,
+    Doing, Head, MAX_TOKENS, NamedRows, Row, Source, number_of, read_head, read_row, size,
+    tokens_of,
 };
 pub use fault::{NamedFault, SketchFault};
 pub use flat_draft::{DraftFault, push_draft};

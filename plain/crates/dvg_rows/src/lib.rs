@@ -1,4 +1,4 @@
-//! The lines of a sketch, one at a time: the words of a line, and the row or the beginning of a
+//! The lines of a sketch, one at a time: the tokens of a line, and the row or the beginning of a
 //! section that they spell. And what is kept from line to line: the rows of a section, with the
 //! lines that they come from, the names that are given, and the words of the ROM that are taken.
 //! Each name that rows give is looked up at once.
@@ -8,7 +8,7 @@ extern crate plain_std as std;
 
 mod given_names;
 mod line_fault;
-mod line_words;
+mod line_tokens;
 mod name_table;
 mod number;
 mod part;
@@ -19,7 +19,7 @@ mod source;
 
 pub use given_names::GivenNames;
 pub use line_fault::LineFault;
-pub use line_words::{MAX_WORDS, words_of};
+pub use line_tokens::{MAX_TOKENS, tokens_of};
 pub use name_table::NameTable;
 pub use number::{NamedRows, number_of};
 pub use part::Part;

@@ -1,20 +1,20 @@
-//! The words of a line.
+//! The tokens of a line.
 use arrayvec::ArrayVec;
 use memchr::memchr;
 
-/// The most words that a line of a sketch has: those of a line `rom` that gives eight words.
-pub const MAX_WORDS: usize = 10;
+/// The most tokens that a line of a sketch has: those of a line `rom` that gives eight words.
+pub const MAX_TOKENS: usize = 10;
 
-/// The words of a line, which spaces and tabs part, without its comment and without one CR at its
+/// The tokens of a line, which spaces and tabs part, without its comment and without one CR at its
 /// end. None exactly where there are more than ten.
-pub fn words_of(line: &[u8]) -> Option<ArrayVec<&[u8], MAX_WORDS>> {
-    let told = without_comment(without_cr(line));
+pub fn tokens_of(line: &[u8]) -> Option<ArrayVec<&[u8], MAX_TOKENS>> {
+    let content = without_comment(without_cr(line));
     let mut found = ArrayVec::new();
-    let parted = told.split(
+    let parted = content.split(
         |byte| { is_blank(*byte) },
     );
     let kept = parted.filter(
-        |word| { has_bytes(word) },
+        |token| { has_bytes(token) },
     );
     match found.extend(kept) {
         Ok(()) => Some(found),
@@ -23,8 +23,8 @@ pub fn words_of(line: &[u8]) -> Option<ArrayVec<&[u8], MAX_WORDS>> {
 }
 
 // Whether there is a byte.
-fn has_bytes(word: &[u8]) -> bool {
-    match word {
+fn has_bytes(token: &[u8]) -> bool {
+    match token {
         [] => false,
         _ => true,
     }

@@ -8,42 +8,42 @@ use dvg_read::read_rom_parts;
 const UNGIVEN: [u8; 2] = [0x00, 0xD0];
 
 /// The ROM that the lines tell which were read.
-pub(crate) struct ToldRom {
-    // Whether a line told something.
-    is_told: bool,
+pub(crate) struct StatedRom {
+    // Whether a line stated something.
+    is_stated: bool,
     bytes: ArrayVec<u8, LARGE_ROM_BYTES>,
     // The first word address after those that lines gave.
     free: u16,
 }
 
-impl ToldRom {
+impl StatedRom {
     /// Before the first line.
-    pub fn new() -> ToldRom {
-        ToldRom {
-            is_told: false,
+    pub fn new() -> StatedRom {
+        StatedRom {
+            is_stated: false,
             bytes: ungiven(FIRST_ROM_WORD),
             free: FIRST_ROM_WORD,
         }
     }
 
-    /// Reads a line of these words. Whether it tells something of the ROM, and may stand here.
-    pub fn take(&mut self, words: &[&[u8]]) -> bool {
-        if let Some(first) = map_of(words) {
-            if self.is_told {
+    /// Reads a line of these tokens. Whether it tells something of the ROM, and may stand here.
+    pub fn take(&mut self, tokens: &[&[u8]]) -> bool {
+        if let Some(first) = map_of(tokens) {
+            if self.is_stated {
                 return false;
             }
-            self.is_told = true;
+            self.is_stated = true;
             self.bytes = ungiven(first);
             self.free = first;
             return true;
         }
         let first = self.first();
-        let Some(given) = read_rom_parts(first, words) else {
+        let Some(given) = read_rom_parts(first, tokens) else {
             return false;
         };
         given.put(first, self.bytes.as_mut_slice());
         self.free = free_with(self.free, given.end());
-        self.is_told = true;
+        self.is_stated = true;
         true
     }
 
@@ -65,16 +65,16 @@ impl ToldRom {
     }
 }
 
-// The word address of the ROM's first word in the memory map that a line of these words tells. None
-// exactly where it tells none.
-fn map_of(words: &[&[u8]]) -> Option<u16> {
-    match words {
+// The word address of the ROM's first word in the memory map that a line of these tokens tells.
+// None exactly where it tells none.
+fn map_of(tokens: &[&[u8]]) -> Option<u16> {
+    match tokens {
         [name, size] => map_named(name, size),
         _ => None,
     }
 }
 
-// The same of a line of these two words.
+// The same of a line of these two tokens.
 fn map_named(name: &[u8], size: &[u8]) -> Option<u16> {
     if name != b"map".as_slice() {
         return None;

@@ -1,4 +1,4 @@
-//! What the words of the program ask for.
+//! What the arguments of the program ask for.
 use crate::command::command;
 use crate::drawing::{draw_job, list_job, picture_job, play_job};
 use crate::laying::lay_job;
@@ -56,19 +56,19 @@ fn entered(matches: &ArgMatches) -> Result<Job, ErrorKind> {
     asked(entered.0, entered.1)
 }
 
-// The matching of words, which enters a subcommand where they are taken.
-fn matched<'a>(alloc: Global, words: &'a [&'a str]) -> Result<ArgMatches<'a>, Error> {
-    command(alloc)?.try_get_matches_from(words)
+// The matching of arguments, which enters a subcommand where they are taken.
+fn matched<'a>(alloc: Global, arguments: &'a [&'a str]) -> Result<ArgMatches<'a>, Error> {
+    command(alloc)?.try_get_matches_from(arguments)
 }
 
-/// What the words ask for: the subcommand and the options that they match. The first word is the
-/// program's name, and may be anything.
+/// What the arguments ask for: the subcommand and the options that they match. The first argument
+/// is the program's name, and may be anything.
 ///
-/// An error is help or the version that the words ask for (`DisplayHelp`, `DisplayVersion`), a
-/// refusal of words that ask for nothing the program can do, or want of memory (`OutOfMemory`). Its
-/// text is its `Display`.
-pub fn job<'a>(alloc: Global, words: &'a [&'a str]) -> Result<Job, Error> {
-    let matches = match matched(alloc, words) {
+/// An error is help or the version that the arguments ask for (`DisplayHelp`, `DisplayVersion`), a
+/// refusal of arguments that ask for nothing the program can do, or want of memory (`OutOfMemory`).
+/// Its text is its `Display`.
+pub fn job<'a>(alloc: Global, arguments: &'a [&'a str]) -> Result<Job, Error> {
+    let matches = match matched(alloc, arguments) {
         Ok(matches) => matches,
         Err(error) => return Err(error),
     };
