@@ -46,19 +46,19 @@ struct Programs<'a> {
 impl Programs<'_> {
     /// Those that a row compares: the proved one, what it is compared with, and the limit.
     fn contenders(&self, row: &Row) -> Vec<Contender> {
-        let (other, words) = match row.against {
-            Against::Itself(words) => (self.proved, words),
-            _ => (self.plain, row.words),
+        let (other, arguments) = match row.against {
+            Against::Itself(arguments) => (self.proved, arguments),
+            _ => (self.plain, row.arguments),
         };
         let limit = match row.against {
             Against::Others => self.limit,
             _ => None,
         };
         let mut contenders = vec![
-            Contender::new(self.proved, row.words, "proved", self.folder),
-            Contender::new(other, words, "other", self.folder),
+            Contender::new(self.proved, row.arguments, "proved", self.folder),
+            Contender::new(other, arguments, "other", self.folder),
         ];
-        contenders.extend(limit.map(|it| Contender::new(it, row.words, "limit", self.folder)));
+        contenders.extend(limit.map(|it| Contender::new(it, row.arguments, "limit", self.folder)));
         contenders
     }
 }
@@ -266,9 +266,9 @@ fn misuse() -> ExitCode {
 }
 
 fn main() -> ExitCode {
-    let words: Vec<String> = std::env::args().skip(1).collect();
-    let words: Vec<&str> = words.iter().map(String::as_str).collect();
-    let [name, proved, plain, folder, others @ ..] = words.as_slice() else {
+    let arguments: Vec<String> = std::env::args().skip(1).collect();
+    let arguments: Vec<&str> = arguments.iter().map(String::as_str).collect();
+    let [name, proved, plain, folder, others @ ..] = arguments.as_slice() else {
         return misuse();
     };
     let rows = match *name {

@@ -9,12 +9,12 @@ use std::path::Path;
 
 /// How many instructions a run takes.
 fn counted(contender: &Contender, folder: &Path) -> io::Result<f64> {
-    let told = folder.join("callgrind.out");
-    let out = format!("--callgrind-out-file={}", told.display());
+    let output = folder.join("callgrind.out");
+    let out = format!("--callgrind-out-file={}", output.display());
     contender
         .command(&["valgrind", "--quiet", "--tool=callgrind", &out])?
         .status()?;
-    let text = fs::read_to_string(&told)?;
+    let text = fs::read_to_string(&output)?;
     text.lines()
         .find_map(|line| line.strip_prefix("summary: ")?.trim().parse().ok())
         .ok_or_else(|| io::Error::other("callgrind tells no sum"))
@@ -25,7 +25,7 @@ fn count_all(row: &Row, input: &[u8], programs: &[&Path], folder: &Path) -> io::
     programs
         .iter()
         .map(|program| {
-            let contender = Contender::new(program, row.words, "counted", folder);
+            let contender = Contender::new(program, row.arguments, "counted", folder);
             contender.write_input(input)?;
             counted(&contender, folder)
         })

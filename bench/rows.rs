@@ -5,8 +5,8 @@ use crate::inputs::*;
 /// One comparison.
 pub struct Row {
     pub name: &'static str,
-    /// The words that the programs are called with.
-    pub words: &'static [&'static str],
+    /// The arguments that the programs are called with.
+    pub arguments: &'static [&'static str],
     /// Makes what they read.
     pub input: fn() -> Vec<u8>,
     /// The exit status that they end with.
@@ -22,11 +22,11 @@ pub struct Row {
 /// What the proved program is compared with.
 #[derive(Clone, Copy)]
 pub enum Against {
-    /// The plain program, and the limit where it has that row, with the same words.
+    /// The plain program, and the limit where it has that row, with the same arguments.
     Others,
     /// The plain program alone: the limit has no such row.
     Plain,
-    /// Itself, with these words.
+    /// Itself, with these arguments.
     Itself(&'static [&'static str]),
 }
 
@@ -39,10 +39,14 @@ pub struct Unit {
     pub input: Option<fn() -> Vec<u8>>,
 }
 
-const fn row(name: &'static str, words: &'static [&'static str], input: fn() -> Vec<u8>) -> Row {
+const fn row(
+    name: &'static str,
+    arguments: &'static [&'static str],
+    input: fn() -> Vec<u8>,
+) -> Row {
     Row {
         name,
-        words,
+        arguments,
         input,
         status: 0,
         against: Against::Others,

@@ -9,10 +9,10 @@ use std::path::{Path, PathBuf};
 use std::process::{Command, ExitStatus};
 use std::time::{Duration, Instant};
 
-/// A program with the words that it is called with, and the files that it reads and writes.
+/// A program with the arguments that it is called with, and the files that it reads and writes.
 pub struct Contender {
     pub program: PathBuf,
-    words: &'static [&'static str],
+    arguments: &'static [&'static str],
     input: PathBuf,
     output: PathBuf,
     error: PathBuf,
@@ -42,13 +42,13 @@ impl Contender {
     /// own for what it writes.
     pub fn new(
         program: &Path,
-        words: &'static [&'static str],
+        arguments: &'static [&'static str],
         name: &str,
         folder: &Path,
     ) -> Contender {
         Contender {
             program: program.to_owned(),
-            words,
+            arguments,
             input: folder.join("input"),
             output: folder.join(format!("{name}.output")),
             error: folder.join(format!("{name}.error")),
@@ -68,17 +68,17 @@ impl Contender {
         fs::write(&self.input, input)
     }
 
-    /// The program, reading its input, with new files for what it writes. The words before it are a
-    /// command that runs it.
+    /// The program, reading its input, with new files for what it writes. The arguments before it
+    /// are a command that runs it.
     pub fn command(&self, before: &[&str]) -> io::Result<Command> {
-        let mut words = before
+        let mut arguments = before
             .iter()
             .map(PathBuf::from)
             .chain([self.program.clone()]);
-        let mut command = Command::new(words.next().expect("the program is the last of them"));
+        let mut command = Command::new(arguments.next().expect("the program is the last of them"));
         command
-            .args(words)
-            .args(self.words)
+            .args(arguments)
+            .args(self.arguments)
             .stdin(File::open(&self.input)?)
             .stdout(new_file(&self.output)?)
             .stderr(new_file(&self.error)?);

@@ -161,13 +161,13 @@ unlock() {
     exec 9>&-
 }
 
-# Builds a crate of the workspace: the words are the profile and the crate.
+# Builds a crate of the workspace: the arguments are the profile and the crate.
 run_cargo() {
     run_guarded env -u CARGO_BUILD_TARGET cargo build --offline --locked --quiet \
         --target-dir "$target" --manifest-path "$workspace/Cargo.toml" --profile "$1" -p "$2" >&2
 }
 
-# Builds the plain form of a crate by cargo, and says once that this is done. The words are the
+# Builds the plain form of a crate by cargo, and says once that this is done. The arguments are the
 # profile, the crate, what it is, and what proves it.
 build_plain() {
     say "building $3 by cargo, in seconds: it is the same code, not proved on this machine"

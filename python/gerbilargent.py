@@ -1028,7 +1028,7 @@ def _first_picture() -> Picture:
         return Picture(6, world.strokes)
 
 
-def main(words: Optional["list[str]"] = None) -> int:
+def main(arguments: Optional["list[str]"] = None) -> int:
     """Runs the script. Status 0 is done, 1 no picture, a torn log or a fault, 70 no library."""
     parser = argparse.ArgumentParser(
         description="Draws a first picture: a world, one frame of one vector, and its strokes.",
@@ -1038,7 +1038,7 @@ def main(words: Optional["list[str]"] = None) -> int:
     parser.add_argument("--dump", metavar="FILE", help="draws this dump of a vector memory instead")
     parser.add_argument("--log", metavar="FILE", help="judges this log instead, as `dvg torn` does")
     parser.add_argument("--svg", action="store_true", help="writes the picture as an SVG")
-    asked = parser.parse_args(words)
+    asked = parser.parse_args(arguments)
     try:
         if asked.log:
             with open(asked.log, encoding="ascii", errors="replace", newline="\n") as log:

@@ -116,7 +116,7 @@ static uint16_t address(cpu *c, enum mode mode, int stores)
     }
 }
 
-static uint8_t told(cpu *c, uint8_t value)
+static uint8_t flagged(cpu *c, uint8_t value)
 {
     c->p = (uint8_t)((c->p & ~(NEGATIVE | ZERO)) | (value & NEGATIVE) | (value ? 0 : ZERO));
     return value;
@@ -136,13 +136,13 @@ static void add_carrying(cpu *c, uint8_t value)
     unsigned sum = (unsigned)c->a + value + (c->p & CARRY);
     set_flag(c, OVERFLOW, ~(c->a ^ value) & (c->a ^ sum) & 0x80);
     set_flag(c, CARRY, sum > 255);
-    c->a = told(c, (uint8_t)sum);
+    c->a = flagged(c, (uint8_t)sum);
 }
 
 static void compare(cpu *c, uint8_t of, uint8_t value)
 {
     set_flag(c, CARRY, of >= value);
-    told(c, (uint8_t)(of - value));
+    flagged(c, (uint8_t)(of - value));
 }
 
 static void branch(cpu *c, int taken)
@@ -158,12 +158,12 @@ static uint8_t changed(cpu *c, enum operation operation, uint8_t value)
 {
     int carry = c->p & CARRY;
     switch (operation) {
-    case ASL: set_flag(c, CARRY, value & 0x80); return told(c, (uint8_t)(value << 1));
-    case ROL: set_flag(c, CARRY, value & 0x80); return told(c, (uint8_t)(value << 1 | carry));
-    case LSR: set_flag(c, CARRY, value & 1); return told(c, value >> 1);
-    case ROR: set_flag(c, CARRY, value & 1); return told(c, (uint8_t)(value >> 1 | carry << 7));
-    case INC: return told(c, (uint8_t)(value + 1));
-    default: return told(c, (uint8_t)(value - 1));
+    case ASL: set_flag(c, CARRY, value & 0x80); return flagged(c, (uint8_t)(value << 1));
+    case ROL: set_flag(c, CARRY, value & 0x80); return flagged(c, (uint8_t)(value << 1 | carry));
+    case LSR: set_flag(c, CARRY, value & 1); return flagged(c, value >> 1);
+    case ROR: set_flag(c, CARRY, value & 1); return flagged(c, (uint8_t)(value >> 1 | carry << 7));
+    case INC: return flagged(c, (uint8_t)(value + 1));
+    default: return flagged(c, (uint8_t)(value - 1));
     }
 }
 
@@ -185,12 +185,12 @@ static void use(cpu *c, enum operation operation, uint8_t value)
     switch (operation) {
     case ADC: add_carrying(c, value); break;
     case SBC: add_carrying(c, (uint8_t)~value); break;
-    case AND: c->a = told(c, c->a & value); break;
-    case ORA: c->a = told(c, c->a | value); break;
-    case EOR: c->a = told(c, c->a ^ value); break;
-    case LDA: c->a = told(c, value); break;
-    case LDX: c->x = told(c, value); break;
-    case LDY: c->y = told(c, value); break;
+    case AND: c->a = flagged(c, c->a & value); break;
+    case ORA: c->a = flagged(c, c->a | value); break;
+    case EOR: c->a = flagged(c, c->a ^ value); break;
+    case LDA: c->a = flagged(c, value); break;
+    case LDX: c->x = flagged(c, value); break;
+    case LDY: c->y = flagged(c, value); break;
     case CMP: compare(c, c->a, value); break;
     case CPX: compare(c, c->x, value); break;
     case CPY: compare(c, c->y, value); break;
@@ -225,19 +225,19 @@ static int step(cpu *c)
     case CLV: set_flag(c, OVERFLOW, 0); break;
     case CLD: set_flag(c, DECIMAL, 0); break;
     case NOP: break;
-    case TAX: c->x = told(c, c->a); break;
-    case TAY: c->y = told(c, c->a); break;
-    case TXA: c->a = told(c, c->x); break;
-    case TYA: c->a = told(c, c->y); break;
-    case TSX: c->x = told(c, c->s); break;
+    case TAX: c->x = flagged(c, c->a); break;
+    case TAY: c->y = flagged(c, c->a); break;
+    case TXA: c->a = flagged(c, c->x); break;
+    case TYA: c->a = flagged(c, c->y); break;
+    case TSX: c->x = flagged(c, c->s); break;
     case TXS: c->s = c->x; break;
-    case INX: c->x = told(c, (uint8_t)(c->x + 1)); break;
-    case INY: c->y = told(c, (uint8_t)(c->y + 1)); break;
-    case DEX: c->x = told(c, (uint8_t)(c->x - 1)); break;
-    case DEY: c->y = told(c, (uint8_t)(c->y - 1)); break;
+    case INX: c->x = flagged(c, (uint8_t)(c->x + 1)); break;
+    case INY: c->y = flagged(c, (uint8_t)(c->y + 1)); break;
+    case DEX: c->x = flagged(c, (uint8_t)(c->x - 1)); break;
+    case DEY: c->y = flagged(c, (uint8_t)(c->y - 1)); break;
     case PHA: push(c, c->a); break;
     case PHP: push(c, c->p | BREAK | UNUSED); break;
-    case PLA: c->a = told(c, pull(c)); break;
+    case PLA: c->a = flagged(c, pull(c)); break;
     case PLP: c->p = (uint8_t)((pull(c) & ~BREAK) | UNUSED); break;
     case JSR:
         at = fetch_word(c);

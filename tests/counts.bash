@@ -34,7 +34,7 @@ give_up() {
     exit 1
 }
 
-# Whether a command does what it must, which is what the first word says.
+# Whether a command does what it must, which is what the first argument says.
 expect() {
     if "${@:2}" >"$work/log" 2>&1; then
         pass
@@ -54,7 +54,7 @@ count() {
         return
     fi
     passed=$((passed + BASH_REMATCH[1]))
-    # The failure that is told is one of them.
+    # The failure that is described is one of them.
     if [ "${BASH_REMATCH[2]}" -ne 0 ]; then
         failed=$((failed + BASH_REMATCH[2] - 1))
         fail "$1" "$work/log"

@@ -33,11 +33,11 @@ static bool write_picture(dvg *device, dvg_drawn drawn, const struct list *list)
     bool same = list->count == drawn.strokes && dvg_strokes(device) == drawn.strokes;
     printf("picture %" PRIu32 " %" PRIu64 "\n", drawn.words, drawn.strokes);
     for (uint64_t i = 0; i < list->count && same; i++) {
-        dvg_stroke stroke = list->strokes[i], told = dvg_stroke_at(device, i);
+        dvg_stroke stroke = list->strokes[i], other = dvg_stroke_at(device, i);
         printf("%" PRIu32 " %" PRIu32 " %" PRIu32 " %" PRIu32 " %d\n", stroke.x0, stroke.y0,
                stroke.x1, stroke.y1, stroke.z);
-        same = stroke.x0 == told.x0 && stroke.y0 == told.y0 && stroke.x1 == told.x1
-               && stroke.y1 == told.y1 && stroke.z == told.z;
+        same = stroke.x0 == other.x0 && stroke.y0 == other.y0 && stroke.x1 == other.x1
+               && stroke.y1 == other.y1 && stroke.z == other.z;
     }
     return same;
 }

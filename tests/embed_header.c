@@ -285,11 +285,11 @@ static void test_other_texts(void)
 
 /* --- A memory, drawn once --- */
 
-static uint64_t told_number = 0;
+static uint64_t noted_number = 0;
 
 static void tell(void *context, dvg_stroke stroke)
 {
-    told_number = told_number * 100 + *(const uint64_t *)context + stroke.z;
+    noted_number = noted_number * 100 + *(const uint64_t *)context + stroke.z;
 }
 
 /* Answers that a generator gives, in their order. */
@@ -370,15 +370,15 @@ static void test_drawing(dvg *none)
     uint64_t context = 1;
     dvg_drawn drawn;
     answer_all(17, done);
-    told_number = 0;
+    noted_number = 0;
     drawn = dvg_draw(none, ram, rom, 2048, 10, tell, &context);
     expect(drawn.last.kind == DVG_DONE && drawn.words == 2 && drawn.strokes == 2
-               && told_number == 809 && count == 17 && memcmp(noted, asked, sizeof asked) == 0,
-           "a run is drawn, and its strokes are told in order");
+               && noted_number == 809 && count == 17 && memcmp(noted, asked, sizeof asked) == 0,
+           "a run is drawn, and its strokes are handed on in order");
     answer_all(17, done);
-    told_number = 0;
+    noted_number = 0;
     drawn = dvg_draw(none, ram, rom, 2048, 2, NULL, NULL);
-    expect(drawn.last.kind == DVG_DONE && drawn.strokes == 2 && told_number == 0 && count == 11,
+    expect(drawn.last.kind == DVG_DONE && drawn.strokes == 2 && noted_number == 0 && count == 11,
            "without a function they are counted");
     answer_all(17, done);
     drawn = dvg_draw(none, ram, rom, 2048, 1, tell, &context);

@@ -148,8 +148,8 @@ def test_freeing():
 
 def test_driver():
     with Driver() as driver:
-        told = [str(driver.tick(True, 0)) for _ in range(3)]
-        expect_same(["peek", "read halted", "idle"], told, "the first ticks of a driver")
+        ticks = [str(driver.tick(True, 0)) for _ in range(3)]
+        expect_same(["peek", "read halted", "idle"], ticks, "the first ticks of a driver")
         expect_same("offered", str(driver.offer(first_frame())), "an offer to a driver")
         expect_same("wrote 402 90", str(driver.tick(True, 0)), "it tells what to write")
         expect_raises(g.Busy, lambda: driver.offer(first_frame()))
@@ -728,15 +728,15 @@ def test_logs(count):
         expect_raises(g.BadLog, lambda: g.judge("started\nwrote 800 00\n")).line,
         "beyond the RAM",
     )
-    told = g.Judge()
-    told.started(), told.fetched(0, 0xE001)
+    judge = g.Judge()
+    judge.started(), judge.fetched(0, 0xE001)
     expect_same(
-        [True, False], [told.wrote(2), told.wrote(0x402)], "a judge is told a line at a time"
+        [True, False], [judge.wrote(2), judge.wrote(0x402)], "a judge is told a line at a time"
     )
-    expect_raises(g.BadByte, lambda: told.wrote(2048))
-    expect_raises(g.BadByte, lambda: told.wrote(0, 256))
-    told.reset()
-    expect_same(False, told.wrote(2), "after a reset nothing is drawn")
+    expect_raises(g.BadByte, lambda: judge.wrote(2048))
+    expect_raises(g.BadByte, lambda: judge.wrote(0, 256))
+    judge.reset()
+    expect_same(False, judge.wrote(2), "after a reset nothing is drawn")
 
 
 def test_svg(count):
@@ -784,14 +784,14 @@ def test_script():
         expect_same(1, script("--dump", str(dump))[2], "a dump of a wrong size")
         expect_same(1, script("--dump", str(bad))[2], "a dump that isn't there")
         log.write_text("started\nfetched 000 E001\nwrote 002 00\n")
-        told = "torn at line 3: wrote 002 00\nso far: 1 runs, 0 halted, 1 writes\n"
-        expect_same((told, "", 1), script("--log", str(log)), "a torn log")
+        printed = "torn at line 3: wrote 002 00\nso far: 1 runs, 0 halted, 1 writes\n"
+        expect_same((printed, "", 1), script("--log", str(log)), "a torn log")
         log.write_text("started\nhalted\n")
-        told = "not torn: 1 runs, 1 halted, 0 writes\n"
-        expect_same((told, "", 0), script("--log", str(log)), "a log that isn't torn")
+        printed = "not torn: 1 runs, 1 halted, 0 writes\n"
+        expect_same((printed, "", 0), script("--log", str(log)), "a log that isn't torn")
         log.write_text("started\n")
-        told = "no run drew: 1 runs, 0 halted, 0 writes\n"
-        expect_same((told, "", 1), script("--log", str(log)), "a log in which no run drew")
+        printed = "no run drew: 1 runs, 0 halted, 0 writes\n"
+        expect_same((printed, "", 1), script("--log", str(log)), "a log in which no run drew")
         log.write_bytes(b"started\r\n\xff")
         out, error, status = script("--log", str(log))
         expect(status == 1 and "syntax at line 1" in error and out == "", "a log at fault")

@@ -27,8 +27,8 @@ function expect(what, wanted, found) {
   }
 }
 
-function runProgram(words, input) {
-  return spawnSync(program, words, { input, maxBuffer: 1 << 28 }).stdout.toString();
+function runProgram(args, input) {
+  return spawnSync(program, args, { input, maxBuffer: 1 << 28 }).stdout.toString();
 }
 
 // What `dvg torn` says of a log that isn't torn, and what it counts besides.
@@ -297,9 +297,9 @@ async function testLink() {
   await tab.click('compare');
   expect('and the same log', new RegExp(`^the same: ${events} events`), await tab.text('compared'));
   await tab.open(`${address}#z=AAAA`);
-  expect('a broken link is told', /holds no state/, await tab.text('told'));
+  expect('a broken link is told', /holds no state/, await tab.text('said'));
   await tab.open(`${address}#trace=tick%20x`);
-  expect('a broken trace is told', /syntax at line 1/, await tab.text('told'));
+  expect('a broken trace is told', /syntax at line 1/, await tab.text('said'));
   expect('the other tab has no fault', '', tab.faults.join());
   await tab.close();
   tab = first;
@@ -338,7 +338,7 @@ async function testFiles() {
   rom.set([0, 0xB0]);
   await tab.drop('rows', put('some.rom', rom));
   expect('a ROM is loaded',
-    true, await comesWith('told', 'some.rom: the ROM'));
+    true, await comesWith('said', 'some.rom: the ROM'));
   await set('textA', 'labs 0 0 0\njumprom 800');
   expect('a draft may use it', 'ok 3 words 5 fetches', await tab.text('saidA'));
   await tab.drop('screen',
@@ -346,14 +346,14 @@ async function testFiles() {
     'map 4096\nrom 400 B000\ntick 2\noffer\nlabs 5 5 0\njumprom 400\nend\n'
       + 'tick 10\nstrobe\nfetch 12\n'));
   expect('a trace happens',
-    true, await comes('told', 'a.trace: 26 events happened.'));
+    true, await comes('said', 'a.trace: 26 events happened.'));
   expect('with its larger ROM', /4096 bytes/, await tab.text('rom-said'));
   await tab.drop('screen', put('a.draft', 'labs 1 2 3 # here\nhalt\n'));
   expect('a draft is taken',
     true, await comes('saidA', 'ok 3 words 4 fetches'));
   await tab.drop('screen', put('other', 'what is this?\n'));
   expect('another file is told',
-    true, await tab.until('/neither a dump/.test(document.getElementById("told").textContent)'));
+    true, await tab.until('/neither a dump/.test(document.getElementById("said").textContent)'));
   await tab.choose('pickB', 'rom_shapes');
   expect('an example with a ROM', /^ok /, await tab.text('saidB'));
 }

@@ -56,10 +56,10 @@ const read = (folder, file) => (existsSync(`${folder}/${file}`) ? readFileSync(`
 
 // The number of the command of a case, or null where the page has none.
 function commandOf(folder) {
-  const words = read(folder, 'arguments').toString().split('\n').slice(0, -1);
-  if (!(words[0] in COMMAND) || read(folder, 'status').toString().trim() === '64') return null;
-  if (words.length === 1) return COMMAND[words[0]];
-  return words.length === 2 && words[1] === OPTIONS[words[0]] ? COMMAND[words[0]] + OPTION : null;
+  const args = read(folder, 'arguments').toString().split('\n').slice(0, -1);
+  if (!(args[0] in COMMAND) || read(folder, 'status').toString().trim() === '64') return null;
+  if (args.length === 1) return COMMAND[args[0]];
+  return args.length === 2 && args[1] === OPTIONS[args[0]] ? COMMAND[args[0]] + OPTION : null;
 }
 
 function testCases() {
@@ -100,8 +100,8 @@ function testTrace(name, text) {
 
 // --- Schedules by seeds, beside the program ---
 
-function runProgram(words, input) {
-  return spawnSync(program, words, { input, maxBuffer: 1 << 28 }).stdout.toString();
+function runProgram(args, input) {
+  return spawnSync(program, args, { input, maxBuffer: 1 << 28 }).stdout.toString();
 }
 
 const example = (name) => readFileSync(`${top}examples/frames/${name}.draft`, 'utf8');
@@ -128,7 +128,7 @@ function testSchedules() {
       const board = runBoard(make(seed), events), trace = traceOf(board), log = board.log();
       expect(`${how}, seed ${seed}: the program's log`, runProgram(['play', '--all'], trace), log);
       expect(`${how}, seed ${seed}: the program's verdict`, 'not torn',
-        runProgram(['torn'], board.told.text).split(':')[0]);
+        runProgram(['torn'], board.tornLog.text).split(':')[0]);
       expect(`${how}, seed ${seed}: no byte is torn`, 0, board.tears);
       expect(`${how}, seed ${seed}: pictures come`, true, board.pictures.length > events / 10000);
       testLog(`${how}, seed ${seed}`, trace, log, board);
@@ -146,7 +146,7 @@ function testLog(what, trace, log, board) {
   const made = spawnSync('awk', ['-v', `trace=${work}/trace`, '-f', `${top}examples/tools/log.awk`],
     { input: log, maxBuffer: 1 << 28 });
   const wanted = made.stdout.toString().replace(/^#.*\n/gm, '');
-  expect(`${what}: the log for torn`, wanted, Buffer.from(board.told.text).toString());
+  expect(`${what}: the log for torn`, wanted, Buffer.from(board.tornLog.text).toString());
 }
 
 const TORN = /^torn at line ([0-9]+): (.*)\nso far: [0-9]+ runs, [0-9]+ halted, [0-9]+ writes\n$/;
@@ -156,10 +156,10 @@ function testCutWire() {
   let torn = 0, pictures = 0;
   for (let seed = 1; seed <= seeds; seed++) {
     const board = runBoard(HOWS['by chance'](seed), events, true);
-    const said = TORN.exec(runProgram(['torn'], board.told.text));
+    const said = TORN.exec(runProgram(['torn'], board.tornLog.text));
     const first = board.entries.findIndex((entry) => entry.torn);
     expect(`wire cut, seed ${seed}: the first torn event`, first,
-      board.told.eventOf[Number(said?.[1]) - 1]);
+      board.tornLog.eventOf[Number(said?.[1]) - 1]);
     expect(`wire cut, seed ${seed}: the first torn byte`, board.entries[first].text,
       said?.[2] ?? '');
     const those = board.pictures.filter(({ tears }) => tears > 0);

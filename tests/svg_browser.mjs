@@ -20,8 +20,8 @@ function expect(what, wanted, found) {
 }
 
 // What the program writes of an input.
-function ask(words, input) {
-  return spawnSync(program, words, { input, encoding: 'utf8', maxBuffer: 1 << 28 }).stdout;
+function ask(args, input) {
+  return spawnSync(program, args, { input, encoding: 'utf8', maxBuffer: 1 << 28 }).stdout;
 }
 
 // Opens an SVG alone.

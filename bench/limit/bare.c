@@ -7,7 +7,7 @@
 #include <sys/types.h>
 #include <unistd.h>
 
-int main(int count, char **words);
+int main(int count, char **arguments);
 
 enum { READ = 0, WRITE = 1, STATUS = 5, SEEK = 8, MAP = 9, EXIT_GROUP = 231 };
 
@@ -94,7 +94,7 @@ void *memmove(void *to, const void *from, size_t count)
     return to;
 }
 
-/* The kernel leaves the count of the words at the top of the stack, and pointers to them above. */
+/* The kernel leaves the count of the arguments at the top of the stack, and pointers to them above. */
 __attribute__((used, noreturn)) static void begin(long *top)
 {
     _exit(main((int)*top, (char **)(top + 1)));

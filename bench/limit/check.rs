@@ -23,21 +23,21 @@ use std::io::{self, Read, Seek, SeekFrom, Write};
 use std::path::{Path, PathBuf};
 use std::process::{Command, ExitCode, Output, Stdio};
 
-/// Words that the programs are called with.
-type Words = &'static [&'static str];
+/// Arguments that the programs are called with.
+type Arguments = &'static [&'static str];
 
-const CHECKS: &[Words] = &[&["check"], &["check", "--bound"]];
-const PLAYS: &[Words] = &[
+const CHECKS: &[Arguments] = &[&["check"], &["check", "--bound"]];
+const PLAYS: &[Arguments] = &[
     &["play"],
     &["play", "--all"],
     &["play", "--banked", "--all"],
 ];
-const LISTS: &[Words] = &[&["list"], &["rom"]];
-const PICTURES: &[Words] = &[&["picture"], &["picture", "--all"]];
-const LOGS: &[Words] = &[&["torn"]];
+const LISTS: &[Arguments] = &[&["list"], &["rom"]];
+const PICTURES: &[Arguments] = &[&["picture"], &["picture", "--all"]];
+const LOGS: &[Arguments] = &[&["torn"]];
 
 /// All of them.
-const ALL: &[&[Words]] = &[CHECKS, PLAYS, LISTS, PICTURES, LOGS];
+const ALL: &[&[Arguments]] = &[CHECKS, PLAYS, LISTS, PICTURES, LOGS];
 
 /// The programs that are compared, and what came of it.
 struct Check {
@@ -50,7 +50,13 @@ struct Check {
 
 impl Check {
     /// Counts a comparison. The input of the first that fail is kept.
-    fn count(&mut self, same: bool, name: &str, words: &[&str], input: &[u8]) -> io::Result<()> {
+    fn count(
+        &mut self,
+        same: bool,
+        name: &str,
+        arguments: &[&str],
+        input: &[u8],
+    ) -> io::Result<()> {
         if same {
             self.passed += 1;
             return Ok(());
@@ -58,53 +64,57 @@ impl Check {
         self.failed += 1;
         if self.failed <= 10 {
             let kept = self.folder.join(format!("failed.{}", self.failed));
-            println!("FAILED: {name}, {}: {}", words.join(" "), kept.display());
+            println!(
+                "FAILED: {name}, {}: {}",
+                arguments.join(" "),
+                kept.display()
+            );
             fs::write(kept, input)?;
         }
         Ok(())
     }
 
     /// Compares what both answer to an input in a file.
-    fn compare(&mut self, name: &str, words: Words, input: &[u8]) -> io::Result<()> {
-        let limit = Contender::new(&self.limit, words, "limit", &self.folder);
-        let program = Contender::new(&self.program, words, "program", &self.folder);
+    fn compare(&mut self, name: &str, arguments: Arguments, input: &[u8]) -> io::Result<()> {
+        let limit = Contender::new(&self.limit, arguments, "limit", &self.folder);
+        let program = Contender::new(&self.program, arguments, "program", &self.folder);
         limit.write_input(input)?;
         let same = limit.timed_run()?.0 == program.timed_run()?.0;
-        self.count(same, name, words, input)
+        self.count(same, name, arguments, input)
     }
 
-    fn compare_all(&mut self, name: &str, commands: &[Words], input: &[u8]) -> io::Result<()> {
-        for words in commands {
-            self.compare(name, words, input)?;
+    fn compare_all(&mut self, name: &str, commands: &[Arguments], input: &[u8]) -> io::Result<()> {
+        for arguments in commands {
+            self.compare(name, arguments, input)?;
         }
         Ok(())
     }
 
     /// Compares what both answer to an input that comes through a pipe.
-    fn compare_piped(&mut self, name: &str, words: Words, input: &[u8]) -> io::Result<()> {
-        let limit = piped(&self.limit, words, input)?;
-        let same = limit == piped(&self.program, words, input)?;
-        self.count(same, &format!("{name}, piped"), words, input)
+    fn compare_piped(&mut self, name: &str, arguments: Arguments, input: &[u8]) -> io::Result<()> {
+        let limit = piped(&self.limit, arguments, input)?;
+        let same = limit == piped(&self.program, arguments, input)?;
+        self.count(same, &format!("{name}, piped"), arguments, input)
     }
 
     /// Compares what both answer to the rest of a file, and how much of it they leave.
-    fn compare_rest(&mut self, name: &str, words: Words, input: &[u8]) -> io::Result<()> {
+    fn compare_rest(&mut self, name: &str, arguments: Arguments, input: &[u8]) -> io::Result<()> {
         let path = self.folder.join("input");
         fs::write(&path, input)?;
         let from = input.iter().position(|byte| *byte == b'\n');
         for start in [0, from.map_or(0, |at| at as u64 + 1)] {
-            let limit = rest_of(&self.limit, words, &path, start)?;
-            let same = limit == rest_of(&self.program, words, &path, start)?;
-            self.count(same, &format!("{name}, from {start} on"), words, input)?;
+            let limit = rest_of(&self.limit, arguments, &path, start)?;
+            let same = limit == rest_of(&self.program, arguments, &path, start)?;
+            self.count(same, &format!("{name}, from {start} on"), arguments, input)?;
         }
         Ok(())
     }
 }
 
 /// Runs a program, to which an input is written through a pipe.
-fn piped(program: &Path, words: Words, input: &[u8]) -> io::Result<Output> {
+fn piped(program: &Path, arguments: Arguments, input: &[u8]) -> io::Result<Output> {
     let mut child = Command::new(program)
-        .args(words)
+        .args(arguments)
         .stdin(Stdio::piped())
         .stdout(Stdio::piped())
         .stderr(Stdio::piped())
@@ -118,11 +128,16 @@ fn piped(program: &Path, words: Words, input: &[u8]) -> io::Result<Output> {
 }
 
 /// Runs a program on a file from a place on, and answers where it leaves it.
-fn rest_of(program: &Path, words: Words, path: &Path, start: u64) -> io::Result<(Output, u64)> {
+fn rest_of(
+    program: &Path,
+    arguments: Arguments,
+    path: &Path,
+    start: u64,
+) -> io::Result<(Output, u64)> {
     let mut file = File::open(path)?;
     file.seek(SeekFrom::Start(start))?;
     let output = Command::new(program)
-        .args(words)
+        .args(arguments)
         .stdin(file.try_clone()?)
         .output()?;
     Ok((output, file.stream_position()?))
@@ -130,8 +145,8 @@ fn rest_of(program: &Path, words: Words, path: &Path, start: u64) -> io::Result<
 
 // --- What is compared ---
 
-/// The cases of tests/program: a folder each, with the words and the input. Words that ask for help
-/// or are refused are left out.
+/// The cases of tests/program: a folder each, with the arguments and the input. Arguments that ask
+/// for help or are refused are left out.
 fn cases(check: &mut Check, folder: &Path) -> io::Result<()> {
     let mut found = 0;
     for case in fs::read_dir(folder)? {
@@ -140,10 +155,10 @@ fn cases(check: &mut Check, folder: &Path) -> io::Result<()> {
             continue;
         };
         let asked: Vec<&str> = asked.lines().collect();
-        let Some(words) = ALL
+        let Some(arguments) = ALL
             .iter()
             .flat_map(|commands| commands.iter())
-            .find(|words| **words == asked)
+            .find(|arguments| **arguments == asked)
         else {
             continue;
         };
@@ -151,7 +166,7 @@ fn cases(check: &mut Check, folder: &Path) -> io::Result<()> {
         if let Ok(mut file) = File::open(case.join("input")) {
             file.read_to_end(&mut input)?;
         }
-        check.compare(&format!("the case {}", case.display()), words, &input)?;
+        check.compare(&format!("the case {}", case.display()), arguments, &input)?;
         found += 1;
     }
     if found == 0 {
@@ -167,10 +182,10 @@ fn bench_inputs(check: &mut Check) -> io::Result<()> {
     let rows = DVG_ROWS.iter().chain(PLAY_ROWS).chain(PICTURE_ROWS);
     for row in rows.filter(|row| !matches!(row.against, Against::Plain)) {
         let input = (row.input)();
-        check.compare(row.name, row.words, &input)?;
+        check.compare(row.name, row.arguments, &input)?;
         if input.len() <= 2_000_000 {
-            check.compare_piped(row.name, row.words, &input)?;
-            check.compare_rest(row.name, row.words, &input)?;
+            check.compare_piped(row.name, row.arguments, &input)?;
+            check.compare_rest(row.name, row.arguments, &input)?;
         }
     }
     Ok(())
@@ -243,8 +258,8 @@ fn random_texts(check: &mut Check, count: u32, seed: u64) -> io::Result<()> {
 }
 
 fn main() -> ExitCode {
-    let words: Vec<String> = std::env::args().skip(1).collect();
-    let [limit, program, folder, own, count, seed] = words.as_slice() else {
+    let arguments: Vec<String> = std::env::args().skip(1).collect();
+    let [limit, program, folder, own, count, seed] = arguments.as_slice() else {
         eprintln!("usage: check LIMIT PROGRAM CASES FOLDER COUNT SEED");
         return ExitCode::from(64);
     };

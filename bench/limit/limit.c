@@ -1,5 +1,5 @@
 /* The program `dvg` once more, made only to be fast: what the machine allows. It has the commands,
- * limits, texts and statuses of `dvg`, but for help and refused words. For Linux on x86-64. */
+ * limits, texts and statuses of `dvg`, but for help and refused arguments. For Linux on x86-64. */
 #include "picture.h"
 #include "play.h"
 #include "torn.h"
@@ -66,23 +66,23 @@ static bool same(const char *a, const char *b)
     return *a == *b;
 }
 
-/* How often an option stands among the words after the command. */
-static int times(int count, char **words, const char *option)
+/* How often an option stands among the arguments after the command. */
+static int times(int count, char **arguments, const char *option)
 {
     int found = 0;
     for (int i = 2; i < count; i++) {
-        found += same(words[i], option);
+        found += same(arguments[i], option);
     }
     return found;
 }
 
-int main(int count, char **words)
+int main(int count, char **arguments)
 {
     enum { MISUSE = 64 };
     int others = count - 2;
-    const char *command = count < 2 ? "" : words[1];
-    int all = times(count, words, "--all"), banked = times(count, words, "--banked");
-    int bound = times(count, words, "--bound");
+    const char *command = count < 2 ? "" : arguments[1];
+    int all = times(count, arguments, "--all"), banked = times(count, arguments, "--banked");
+    int bound = times(count, arguments, "--bound");
     if (same(command, "play") && all <= 1 && banked <= 1 && all + banked == others) {
         play(all);
     }

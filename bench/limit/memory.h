@@ -43,7 +43,7 @@ static void clear_rom(struct memory *memory, u32 first)
 }
 
 /* Whether a line that tells of the ROM has been read: no `map` may follow. */
-static bool rom_was_told;
+static bool rom_was_stated;
 
 /* Reads the line `map 2048` or `map 4096`, and answers the place after it; null where this is none,
  * or may not stand here. */
@@ -51,10 +51,10 @@ static const u8 *read_map(struct memory *memory, const u8 *line)
 {
     u32 number = load32(line + 4);
     bool large = number == FOUR('4', '0', '9', '6');
-    if (rom_was_told || line[8] != '\n' || !(large || number == FOUR('2', '0', '4', '8'))) {
+    if (rom_was_stated || line[8] != '\n' || !(large || number == FOUR('2', '0', '4', '8'))) {
         return NULL;
     }
-    rom_was_told = true;
+    rom_was_stated = true;
     clear_rom(memory, large ? LARGE_ROM : SMALL_ROM);
     return line + 9;
 }
@@ -86,7 +86,7 @@ static const u8 *read_rom_line(struct memory *memory, const u8 *line)
     if (words == 0 || *cursor.at != '\n') {
         return NULL;
     }
-    rom_was_told = true;
+    rom_was_stated = true;
     return cursor.at + 1;
 }
 

@@ -198,9 +198,9 @@ static void run_ticks(void)
     printf("%u frames, %u writes, %u\n", frames, writes, sum);
 }
 
-int main(int count, char **words)
+int main(int count, char **arguments)
 {
-    const char *part = count == 2 ? words[1] : "";
+    const char *part = count == 2 ? arguments[1] : "";
     if (strcmp(part, "generator") == 0) {
         run_generator();
     } else if (strcmp(part, "check") == 0) {

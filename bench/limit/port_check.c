@@ -1,5 +1,5 @@
 /* Compares the limit's port with the library behind include/dvg.h: both get the same random
- * requests, and must answer the same. The words are how many rounds of requests there are, and a
+ * requests, and must answer the same. The arguments are how many rounds of requests there are, and a
  * seed. The last line is 'N passed, M failed', of requests. */
 #include "dvg.h"
 
@@ -169,10 +169,10 @@ static void ask_on(void)
     }
 }
 
-int main(int count, char **words)
+int main(int count, char **arguments)
 {
-    long rounds = count > 1 ? atol(words[1]) : 20000;
-    state = count > 2 ? (uint64_t)atol(words[2]) : 1979;
+    long rounds = count > 1 ? atol(arguments[1]) : 20000;
+    state = count > 2 ? (uint64_t)atol(arguments[2]) : 1979;
     if (dvg_new(&library) != 0 || limit_new(&limit) != 0) {
         printf("FAILED: there is no memory\n0 passed, 1 failed\n");
         return 1;

@@ -42,7 +42,7 @@ export class Board {
     this.rows = new Uint8Array(MOST_EVENTS);
     this.areas = new Uint8Array(MOST_EVENTS);
     this.signs = new Uint8Array(MOST_EVENTS);
-    this.told = new LogForTorn();
+    this.tornLog = new LogForTorn();
     this.wires = [];
     this.wireCut = false;
     if (wireCut) this.setWire(true);
@@ -85,7 +85,7 @@ export class Board {
     this.rows[at] = row;
     this.areas[at] = area;
     this.signs[at] = sign;
-    this.told.add(at, event, text);
+    this.tornLog.add(at, event, text);
     if (this.length % KEPT_EVERY === 0) this.kept.push(this.ram.slice());
     return entry;
   }

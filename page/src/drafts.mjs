@@ -86,7 +86,7 @@ export function splitRom(text) {
 const FAULTS = ['', 'empty', 'no labs', 'too long', 'target', 'runs off', 'out of rom', 'too deep',
   'no caller', 'loops'];
 
-/* The fault of a refused offer, as `dvg check` tells it, of the answer of a device. */
+/* The fault of a refused offer, as `dvg check` says it, of the answer of a device. */
 export function faultText({ address, value }) {
   const number = value & 15;
   const text = `${number} ${FAULTS[number]}`;

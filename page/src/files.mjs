@@ -16,8 +16,8 @@ export function kindOf(bytes) {
     return bytes.length === ROM_BYTES ? 'rom' : 'unknown';
   }
   const lines = new TextDecoder().decode(bytes).split('\n').map((line) => line.trim());
-  const words = lines.filter((line) => line !== '' && !/^(#|map |rom )/.test(line));
-  const first = words[0] ?? '';
+  const unpassed = lines.filter((line) => line !== '' && !/^(#|map |rom )/.test(line));
+  const first = unpassed[0] ?? '';
   if (ENTRY.test(first)) return 'log';
   if (EVENT.test(first)) return 'trace';
   if (OPERATION_OR_NAME.test(first)) return 'draft';

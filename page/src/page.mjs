@@ -164,10 +164,10 @@ function run() {
 /* What `dvg torn` says of the log. */
 function judge() {
   judgedAt = performance.now();
-  const got = engine.run(COMMAND.torn, board.told.text);
+  const got = engine.run(COMMAND.torn, board.tornLog.text);
   const [said, seen] = got.output.trim().split('\n');
   const line = /^torn at line ([0-9]+)/.exec(said);
-  const event = line ? board.told.eventOf[Number(line[1]) - 1] : null;
+  const event = line ? board.tornLog.eventOf[Number(line[1]) - 1] : null;
   byId('judged').textContent = event === null ? said : `${said} (event ${event}), ${seen}`;
   byId('judged').className = event === null ? 'good' : 'bad';
   byId('judged-go').hidden = event === null;
@@ -454,8 +454,8 @@ async function makeLink() {
 }
 
 function tell(text, bad = false) {
-  byId('told').textContent = text;
-  byId('told').className = bad ? 'bad' : '';
+  byId('said').textContent = text;
+  byId('said').className = bad ? 'bad' : '';
 }
 
 function save(name, text) {

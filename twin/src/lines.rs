@@ -68,7 +68,7 @@ impl Line {
         self.decimal(number.unsigned_abs());
     }
 
-    /// Writes the line on a device.
+    /// Writes the line to a stream.
     pub fn write(&self, writer: &mut impl Write) -> io::Result<()> {
         writer.write_all(&self.bytes[..self.length])
     }

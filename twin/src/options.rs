@@ -1,4 +1,4 @@
-//! The options that words give, for the plain twin.
+//! The options that arguments give, for the plain twin.
 
 use std::ops::RangeInclusive;
 
@@ -6,15 +6,16 @@ use std::ops::RangeInclusive;
 pub struct Options<'a>(Vec<(&'a str, &'a str)>);
 
 impl<'a> Options<'a> {
-    /// Reads words that give these options, each at most once: some alone, and some with a value,
-    /// which stands in the next word, or after `=`. None where the words give anything else.
-    pub fn read(words: &'a [String], alone: &[&str], valued: &[&str]) -> Option<Options<'a>> {
+    /// Reads arguments that give these options, each at most once: some alone, and some with a
+    /// value, which stands in the next argument, or after `=`. None where the arguments give
+    /// anything else.
+    pub fn read(arguments: &'a [String], alone: &[&str], valued: &[&str]) -> Option<Options<'a>> {
         let mut read: Vec<(&str, &str)> = Vec::new();
-        let mut words = words.iter().map(String::as_str);
-        while let Some(word) = words.next() {
-            let (name, value) = match word.split_once('=') {
-                _ if alone.contains(&word) => (word, ""),
-                None if valued.contains(&word) => (word, words.next()?),
+        let mut arguments = arguments.iter().map(String::as_str);
+        while let Some(argument) = arguments.next() {
+            let (name, value) = match argument.split_once('=') {
+                _ if alone.contains(&argument) => (argument, ""),
+                None if valued.contains(&argument) => (argument, arguments.next()?),
                 Some((name, value)) if valued.contains(&name) => (name, value),
                 _ => return None,
             };

@@ -95,7 +95,7 @@ fn acted(action: Action) -> u64 {
 
 /// The answer of an entry. The strokes of a run that came to a HALT take the place of those before
 /// them.
-fn told(entry: Entry, picture: &mut Vec<Stroke>) -> u64 {
+fn answered(entry: Entry, picture: &mut Vec<Stroke>) -> u64 {
     match entry {
         Entry::Offered => packed(0, 0, 0),
         Entry::Refused(fault) => refusal(fault),
@@ -197,7 +197,7 @@ impl Lone {
             Taken::Done(strokes) => Entry::Done(address, word, strokes),
             Taken::Broke(fault) => Entry::Broke(address, fault),
         };
-        told(entry, picture)
+        answered(entry, picture)
     }
 
     #[inline]
@@ -276,7 +276,7 @@ fn ask_world(
         },
         _ => return UNKNOWN,
     };
-    told(entry, picture)
+    answered(entry, picture)
 }
 
 impl Device {

@@ -1,6 +1,6 @@
 //! What a line of a sketch spells, in plain Rust, for the plain twin.
 //!
-//! A line's words are what spaces and tabs part, without the comment that `#` begins and without
+//! A line's tokens are what spaces and tabs part, without the comment that `#` begins and without
 //! one CR at the end. Letters are small by now.
 
 use crate::frames::Op;
@@ -45,13 +45,14 @@ pub enum RowLine<'a> {
     Rom(Option<u16>),
 }
 
-/// The words of a line.
-pub fn words_of(line: &[u8]) -> impl Iterator<Item = &[u8]> {
+/// The tokens of a line.
+pub fn tokens_of(line: &[u8]) -> impl Iterator<Item = &[u8]> {
     let line = line.strip_suffix(b"\r").unwrap_or(line);
     let comment = line.iter().position(|byte| *byte == b'#');
-    let told = &line[..comment.unwrap_or(line.len())];
-    told.split(|byte| matches!(byte, b' ' | b'\t'))
-        .filter(|word| !word.is_empty())
+    let content = &line[..comment.unwrap_or(line.len())];
+    content
+        .split(|byte| matches!(byte, b' ' | b'\t'))
+        .filter(|token| !token.is_empty())
 }
 
 /// Whether these bytes are a name.
@@ -63,28 +64,28 @@ pub fn is_name(bytes: &[u8]) -> bool {
         && hex(bytes, 3).is_none()
 }
 
-/// The name that a line's first word gives, if it gives one.
-fn given_name(word: &[u8]) -> Option<&[u8]> {
-    word.strip_suffix(b":").filter(|name| is_name(name))
+/// The name that a line's first token gives, if it gives one.
+fn given_name(token: &[u8]) -> Option<&[u8]> {
+    token.strip_suffix(b":").filter(|name| is_name(name))
 }
 
-/// The words of a line without the name that it gives, with a space between each two.
+/// The tokens of a line without the name that it gives, with a space between each two.
 pub fn said(line: &[u8]) -> String {
-    let mut words = words_of(line).peekable();
-    words.next_if(|word| given_name(word).is_some());
-    let words: Vec<_> = words.map(String::from_utf8_lossy).collect();
-    words.join(" ")
+    let mut tokens = tokens_of(line).peekable();
+    tokens.next_if(|token| given_name(token).is_some());
+    let tokens: Vec<_> = tokens.map(String::from_utf8_lossy).collect();
+    tokens.join(" ")
 }
 
-/// What words do.
-fn read_doing<'a>(words: &[&'a [u8]]) -> Option<Doing<'a>> {
-    if let Some(op) = op_of_parts(words.iter().copied()) {
+/// What tokens do.
+fn read_doing<'a>(tokens: &[&'a [u8]]) -> Option<Doing<'a>> {
+    if let Some(op) = op_of_parts(tokens.iter().copied()) {
         return Some(Doing::Plainly(op));
     }
-    let [word, name] = words else {
+    let [token, name] = tokens else {
         return None;
     };
-    let goes = match *word {
+    let goes = match *token {
         b"call" => Goes::Call,
         b"jump" => Goes::Jump,
         b"callrom" => Goes::CallRom,
@@ -94,15 +95,15 @@ fn read_doing<'a>(words: &[&'a [u8]]) -> Option<Doing<'a>> {
     is_name(name).then_some(Doing::ByName(goes, name))
 }
 
-/// What these words, of which there is one at least, spell.
-pub fn read_row<'a>(words: &[&'a [u8]]) -> Option<RowLine<'a>> {
-    match words {
+/// What these tokens, of which there is one at least, spell.
+pub fn read_row<'a>(tokens: &[&'a [u8]]) -> Option<RowLine<'a>> {
+    match tokens {
         [b".frame"] => Some(RowLine::Frame(None)),
         [b".frame", name] => is_name(name).then_some(RowLine::Frame(Some(name))),
         [b".rom"] => Some(RowLine::Rom(None)),
         [b".rom", digits] => hex(digits, 3).map(|address| RowLine::Rom(Some(address))),
         [first, rest @ ..] => match (given_name(first), rest) {
-            (None, _) => read_doing(words).map(|doing| RowLine::Row(None, Some(doing))),
+            (None, _) => read_doing(tokens).map(|doing| RowLine::Row(None, Some(doing))),
             (name, []) => Some(RowLine::Row(name, None)),
             (name, _) => read_doing(rest).map(|doing| RowLine::Row(name, Some(doing))),
         },

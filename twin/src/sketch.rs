@@ -3,7 +3,7 @@
 
 use crate::driver::encode;
 use crate::frames::{MOST, Op, Rom};
-use crate::rows::{Doing, Goes, RowLine, read_row, said, words_of};
+use crate::rows::{Doing, Goes, RowLine, read_row, said, tokens_of};
 use crate::texts::{MOST_TEXT_BYTES, RomText};
 use std::collections::{HashMap, HashSet};
 use std::fmt;
@@ -45,7 +45,7 @@ pub struct Source<'a> {
 }
 
 impl Source<'_> {
-    /// The line's words without the name that it gives.
+    /// The line's tokens without the name that it gives.
     pub fn said(&self) -> String {
         said(self.line)
     }
@@ -152,14 +152,14 @@ impl<'a> Reader<'a> {
 
     /// Reads one line more.
     fn read(&mut self, source: Source<'a>) -> Result<(), SketchFault> {
-        let words: Vec<_> = words_of(source.line).collect();
-        if words.is_empty() {
+        let tokens: Vec<_> = tokens_of(source.line).collect();
+        if tokens.is_empty() {
             return Ok(());
         }
-        if self.open == Open::Nothing && self.rom.read(&words.join(&b' ')).is_some() {
+        if self.open == Open::Nothing && self.rom.read(&tokens.join(&b' ')).is_some() {
             return Ok(());
         }
-        match read_row(&words).ok_or(SketchFault::Syntax(source.number))? {
+        match read_row(&tokens).ok_or(SketchFault::Syntax(source.number))? {
             RowLine::Row(name, doing) => self.add_row(name, doing, source),
             RowLine::Frame(name) => self.begin_frame(name, source),
             RowLine::Rom(address) => self.begin_rom(address, source),

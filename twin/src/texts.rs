@@ -100,7 +100,7 @@ const UNGIVEN: u16 = 0xD000;
 
 /// The ROM that the lines give which were read.
 pub struct RomText {
-    is_told: bool,
+    is_stated: bool,
     rom: Rom,
     /// The word address after the highest word that was given, or else the ROM's first one.
     free: u16,
@@ -109,7 +109,7 @@ pub struct RomText {
 impl RomText {
     pub fn new() -> RomText {
         RomText {
-            is_told: false,
+            is_stated: false,
             rom: Rom::of(0x800, UNGIVEN),
             free: 0x800,
         }
@@ -136,10 +136,10 @@ impl RomText {
             b"map 4096" => 0x400,
             _ => return self.read_words(line),
         };
-        if self.is_told {
+        if self.is_stated {
             return None;
         }
-        self.is_told = true;
+        self.is_stated = true;
         self.rom = Rom::of(first, UNGIVEN);
         self.free = first;
         Some(())
@@ -160,7 +160,7 @@ impl RomText {
             *self.rom.words.get_mut(place)? = hex(part, 4)?;
             place += 1;
         }
-        self.is_told = true;
+        self.is_stated = true;
         self.free = self.free.max(self.rom.first + place as u16);
         (first < place).then_some(())
     }

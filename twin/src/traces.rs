@@ -27,7 +27,7 @@ fn count<'a>(parts: &mut impl Iterator<Item = &'a [u8]>) -> Option<usize> {
 /// The events that a line spells.
 fn read_event(line: &[u8]) -> Option<EventLine> {
     let mut parts = line.split(|byte| *byte == b' ');
-    let told = match parts.next()? {
+    let repeated = match parts.next()? {
         b"redraw" => EventLine::Times(|| Event::Redraw, 1),
         b"tick" => EventLine::Times(|| Event::Tick, count(&mut parts)?),
         b"strobe" => EventLine::Times(|| Event::Strobe, count(&mut parts)?),
@@ -37,7 +37,7 @@ fn read_event(line: &[u8]) -> Option<EventLine> {
         b"resetall" => EventLine::ResetAll(hex(parts.next()?, 2)? as u8),
         _ => return None,
     };
-    last(parts, told)
+    last(parts, repeated)
 }
 
 /// The events and the ROM that a text denotes.
@@ -68,8 +68,8 @@ pub fn read_trace(text: &[u8]) -> Result<(Trace, Rom), TextFault> {
             opened = None;
         } else if line == b"offer" {
             opened = Some(trace.ops.len());
-        } else if let Some(told) = read_event(line) {
-            add_events(told, &mut resets, &mut trace).ok_or(TextFault::Many(number))?;
+        } else if let Some(repeated) = read_event(line) {
+            add_events(repeated, &mut resets, &mut trace).ok_or(TextFault::Many(number))?;
         } else if !trace.events.is_empty() || rom.read(line).is_none() {
             return Err(TextFault::Syntax(number));
         }
@@ -91,15 +91,19 @@ fn add_op(ops: &mut Vec<Op>, first: usize, line: &[u8], number: usize) -> Result
 }
 
 /// Adds the events of a line. None where there would be too many.
-fn add_events(told: EventLine, resets: &mut [Option<u32>; 256], trace: &mut Trace) -> Option<()> {
-    let count = match told {
+fn add_events(
+    repeated: EventLine,
+    resets: &mut [Option<u32>; 256],
+    trace: &mut Trace,
+) -> Option<()> {
+    let count = match repeated {
         EventLine::Times(_, count) => count,
         EventLine::ResetAll(_) => 1,
     };
     if trace.events.len() + count > MOST_EVENTS {
         return None;
     }
-    match told {
+    match repeated {
         EventLine::Times(event, count) => trace.events.extend((0..count).map(|_| event())),
         EventLine::ResetAll(byte) => {
             let number = *resets[usize::from(byte)].get_or_insert_with(|| {

@@ -1,13 +1,13 @@
 //! The worked examples of the definitions of sketches, by the twin's reader.
 
 use twin::frames::{Instr, Op};
-use twin::rows::{Doing, Goes, RowLine, is_name, read_row, said, words_of};
+use twin::rows::{Doing, Goes, RowLine, is_name, read_row, said, tokens_of};
 use twin::sketch::{SketchFault, read_sketch};
 
-/// The words of a line, as text.
-fn words(line: &str) -> Vec<String> {
-    words_of(line.as_bytes())
-        .map(|word| String::from_utf8_lossy(word).into_owned())
+/// The tokens of a line, as text.
+fn tokens(line: &str) -> Vec<String> {
+    tokens_of(line.as_bytes())
+        .map(|token| String::from_utf8_lossy(token).into_owned())
         .collect()
 }
 
@@ -53,9 +53,9 @@ fn fault(text: &str) -> String {
 
 /// What a line spells, in few words.
 fn spelled(line: &str) -> Option<String> {
-    let words: Vec<&[u8]> = words_of(line.as_bytes()).collect();
+    let tokens: Vec<&[u8]> = tokens_of(line.as_bytes()).collect();
     let text = |name: &[u8]| String::from_utf8_lossy(name).into_owned();
-    Some(match read_row(&words)? {
+    Some(match read_row(&tokens)? {
         RowLine::Frame(name) => format!("frame {:?}", name.map(text)),
         RowLine::Rom(address) => format!("rom {address:X?}"),
         RowLine::Row(name, doing) => {
@@ -77,11 +77,11 @@ fn spelled(line: &str) -> Option<String> {
 
 #[test]
 fn words_are_parted_by_blanks() {
-    assert_eq!(words("rock:\t\thalt  # the end\r"), ["rock:", "halt"]);
-    assert_eq!(words("  call\t rock"), ["call", "rock"]);
-    assert_eq!(words("halt\r\r"), ["halt\r"]);
-    assert_eq!(words("halt\r# the CR isn't the last byte"), ["halt\r"]);
-    assert_eq!(words(" \t# nothing"), [""; 0]);
+    assert_eq!(tokens("rock:\t\thalt  # the end\r"), ["rock:", "halt"]);
+    assert_eq!(tokens("  call\t rock"), ["call", "rock"]);
+    assert_eq!(tokens("halt\r\r"), ["halt\r"]);
+    assert_eq!(tokens("halt\r# the CR isn't the last byte"), ["halt\r"]);
+    assert_eq!(tokens(" \t# nothing"), [""; 0]);
     assert_eq!(said(b"rock:  call\trock # again\r"), "call rock");
     assert_eq!(said(b"rock:"), "");
 }
@@ -211,7 +211,7 @@ fn the_rom_calls_by_names_of_the_rom() {
 }
 
 #[test]
-fn the_first_line_at_fault_is_told() {
+fn the_first_line_at_fault_is_described() {
     let ops = "halt\n".repeat(511);
     let faults = [
         (&*"#".repeat(1_048_577), "too long"),
@@ -254,8 +254,8 @@ fn the_first_line_at_fault_is_told() {
         ),
         ("jump a\nhalf\n", "syntax at line 2"),
     ];
-    for (text, told) in faults {
-        assert_eq!(fault(text), told, "{}", &text[..text.len().min(60)]);
+    for (text, described) in faults {
+        assert_eq!(fault(text), described, "{}", &text[..text.len().min(60)]);
     }
     assert!(meant(&"#".repeat(1_048_576)).is_ok());
     assert!(meant(&format!("{ops}a:\n.frame\na: {ops}")).is_ok());

@@ -1,70 +1,70 @@
-//! The words that may begin a line of a sketch, and what is expected of its line.
+//! The arguments that may begin a line of a sketch, and what is expected of its line.
 
 use std::fmt;
 
-/// A word that may begin a line, and what is expected of a line that it begins.
+/// An argument that may begin a line, and what is expected of a line that it begins.
 pub struct Form {
-    word: &'static str,
+    argument: &'static str,
     expected: &'static str,
 }
 
 /// How many of the forms are those of operations: they come first.
 pub const OPERATIONS: usize = 9;
 
-/// All words that may begin a line.
+/// All arguments that may begin a line.
 pub static FORMS: [Form; 13] = [
     Form {
-        word: "labs",
+        argument: "labs",
         expected: "labs X Y S: X and Y 0 to 4095, S 0 to 15",
     },
     Form {
-        word: "vctr",
+        argument: "vctr",
         expected: "vctr S DX DY Z: S 0 to 9, DX and DY -1023 to 1023, Z 0 to 15",
     },
     Form {
-        word: "svec",
+        argument: "svec",
         expected: "svec S DX DY Z: S 2 to 5, DX and DY -3 to 3, Z 0 to 15",
     },
     Form {
-        word: "call",
+        argument: "call",
         expected: "call NAME or call N: N 0 to 65535",
     },
     Form {
-        word: "jump",
+        argument: "jump",
         expected: "jump NAME or jump N: N 0 to 65535",
     },
     Form {
-        word: "callrom",
+        argument: "callrom",
         expected: "callrom NAME or callrom HHH: HHH three hexadecimal digits",
     },
     Form {
-        word: "jumprom",
+        argument: "jumprom",
         expected: "jumprom NAME or jumprom HHH: HHH three hexadecimal digits",
     },
     Form {
-        word: "return",
+        argument: "return",
         expected: "return and nothing after it",
     },
     Form {
-        word: "halt",
+        argument: "halt",
         expected: "halt and nothing after it",
     },
     Form {
-        word: ".frame",
+        argument: ".frame",
         expected: ".frame or .frame NAME",
     },
     Form {
-        word: ".rom",
+        argument: ".rom",
         expected: ".rom or .rom HHH: HHH 800 to BFF, or 400 to BFF after map 4096",
     },
     Form {
-        word: "map",
+        argument: "map",
         expected: "map 2048 or map 4096, before all other lines",
     },
     Form {
-        word: "rom",
+        argument: "rom",
         expected: "rom HHH HHHH ..: HHH 800 to BFF, or 400 to BFF after map 4096, \
-                   one to eight words up to BFF, before all sections and operations",
+                   one to eight arguments up to BFF, before all sections and operations",
     },
 ];
 
@@ -88,37 +88,37 @@ pub const BY_NUMBER: &str = "a name: operations of the ROM have no numbers";
 pub const FULL: &str = "at most 511 operations in a frame";
 
 /// An operation past the ROM's end.
-pub const PAST_END: &str = "no operation past BFF, the last word of the ROM";
+pub const PAST_END: &str = "no operation past BFF, the last argument of the ROM";
 
-/// An operation on a word of another section.
+/// An operation on an argument of another section.
 pub const OVERLAP: &str =
-    "no word of another section: .rom without an address begins after all others";
+    "no argument of another section: .rom without an address begins after all others";
 
-/// What is expected of a line that this word begins, or nothing where it may not begin one.
-pub fn form_of(word: &[u8]) -> &'static str {
+/// What is expected of a line that this argument begins, or nothing where it may not begin one.
+pub fn form_of(argument: &[u8]) -> &'static str {
     for form in &FORMS {
-        if form.word.as_bytes() == word {
+        if form.argument.as_bytes() == argument {
             return form.expected;
         }
     }
     ""
 }
 
-/// Whether it is the word of an operation.
-pub fn is_operation(word: &[u8]) -> bool {
+/// Whether it is the argument of an operation.
+pub fn is_operation(argument: &[u8]) -> bool {
     for form in FORMS.iter().take(OPERATIONS) {
-        if form.word.as_bytes() == word {
+        if form.argument.as_bytes() == argument {
             return true;
         }
     }
     false
 }
 
-/// Writes words of the table, each after a comma but the first.
+/// Writes arguments of the table, each after a comma but the first.
 pub fn write_words<W: fmt::Write>(f: &mut fmt::Formatter<W>, count: usize) -> fmt::Result {
     let mut comma = "";
     for form in FORMS.iter().take(count) {
-        write!(f, "{comma}{}", form.word)?;
+        write!(f, "{comma}{}", form.argument)?;
         comma = ", ";
     }
     Ok(())

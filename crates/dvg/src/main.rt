@@ -10,8 +10,8 @@ use clap::Error;
 use clap::error::ErrorKind;
 use dvg_io::read_up_to;
 use dvg_tool::{
-    Done, Job, MOST_TEXT_BYTES, TextFault, ToolFault, Watched, finish, job, perform, status,
-    words_status,
+    Done, Job, MOST_TEXT_BYTES, TextFault, ToolFault, Watched, arguments_status, finish, job,
+    perform, status,
 };
 use explain::explain;
 use std::alloc::Global;
@@ -19,19 +19,19 @@ use std::io::{BufWriter, Read, Write};
 use std::process::ExitCode;
 use std::{env, io};
 
-/// The exit status of words that can't be read as text.
+/// The exit status of arguments that can't be read as text.
 const MISUSE: u8 = 64;
 
-/// The program's words. They need not be text, and memory may be refused.
-fn words(rt: &HostRuntime) -> io::Result<Vec<String>> {
+/// The program's arguments. They need not be text, and memory may be refused.
+fn arguments(rt: &HostRuntime) -> io::Result<Vec<String>> {
     Ok(env::args(rt)?.collect(rt.alloc())?)
 }
 
-/// What the words ask for.
-fn asked(rt: &HostRuntime, words: &[String]) -> Result<Job, Error> {
+/// What the arguments ask for.
+fn asked(rt: &HostRuntime, arguments: &[String]) -> Result<Job, Error> {
     let mut texts = Vec::new(rt.alloc());
-    for word in words {
-        texts.push(word.as_str())?;
+    for argument in arguments {
+        texts.push(argument.as_str())?;
     }
     job(rt.alloc(), texts.as_slice())
 }
@@ -48,8 +48,9 @@ fn complain(rt: &HostRuntime, fault: ToolFault) {
     let _ = eprintln!(rt; "dvg: {fault}");
 }
 
-/// Writes the help that was asked for, or why the words ask for nothing. Answers the exit status.
-fn answer_words(rt: &HostRuntime, error: &Error) -> u8 {
+/// Writes the help that was asked for, or why the arguments ask for nothing. Answers the exit
+/// status.
+fn answer_arguments(rt: &HostRuntime, error: &Error) -> u8 {
     match error.kind() {
         ErrorKind::DisplayHelp | ErrorKind::DisplayVersion => {
             if help(rt, error).is_err() {
@@ -62,7 +63,7 @@ fn answer_words(rt: &HostRuntime, error: &Error) -> u8 {
             let _ = eprint!(rt; "{error}");
         }
     }
-    words_status(error)
+    arguments_status(error)
 }
 
 /// Does a job from a reader to standard output.
@@ -128,17 +129,17 @@ fn do_sketch(rt: &HostRuntime, job: Job) -> u8 {
     status(&answer)
 }
 
-/// Does what the words ask for. Answers the exit status.
-fn do_words(rt: &HostRuntime, words: &[String]) -> u8 {
-    match asked(rt, words) {
+/// Does what the arguments ask for. Answers the exit status.
+fn do_arguments(rt: &HostRuntime, arguments: &[String]) -> u8 {
+    match asked(rt, arguments) {
         Ok(job @ (Job::Draw { .. } | Job::DrawCheck | Job::Lay { .. })) => do_sketch(rt, job),
         Ok(job) => do_job(rt, job),
-        Err(error) => answer_words(rt, &error),
+        Err(error) => answer_arguments(rt, &error),
     }
 }
 
-/// Says why the words can't be read. Answers the exit status.
-fn refuse_words(rt: &HostRuntime, error: &io::Error) -> u8 {
+/// Says why the arguments can't be read. Answers the exit status.
+fn refuse_arguments(rt: &HostRuntime, error: &io::Error) -> u8 {
     if error.kind() == io::ErrorKind::OutOfMemory {
         complain(rt, ToolFault::Memory);
         return status::<Global>(&Err(ToolFault::Memory));
@@ -148,8 +149,8 @@ fn refuse_words(rt: &HostRuntime, error: &io::Error) -> u8 {
 }
 
 fn main(rt: HostRuntime) -> ExitCode {
-    ExitCode::from(match words(&rt) {
-        Ok(words) => do_words(&rt, words.as_slice()),
-        Err(error) => refuse_words(&rt, &error),
+    ExitCode::from(match arguments(&rt) {
+        Ok(arguments) => do_arguments(&rt, arguments.as_slice()),
+        Err(error) => refuse_arguments(&rt, &error),
     })
 }

@@ -67,14 +67,14 @@ impl Place {
 
 /// The section that a line begins.
 pub fn head_of(line: &[u8]) -> Option<Head<'_>> {
-    let words = words_of(line)?;
-    read_head(words.as_slice())
+    let arguments = words_of(line)?;
+    read_head(arguments.as_slice())
 }
 
 /// The row that a line spells.
 pub fn row_of(line: &[u8]) -> Option<Row<'_>> {
-    let words = words_of(line)?;
-    read_row(words.as_slice())
+    let arguments = words_of(line)?;
+    read_row(arguments.as_slice())
 }
 
 /// Whether a line is a row that gives this name.

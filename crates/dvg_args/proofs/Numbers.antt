@@ -18,7 +18,7 @@ second_true : (s t : Bool) → (s && t) ≡ true → t ≡ true
 second_true true t e = e
 second_true false t e = cc
 
--- ---- digits, by their test and by std's words
+-- ---- digits, by their test and by std's definitions
 
 pass_test : (radix : ℕ) (ds : Text) → AllDigits radix ds → list_all (λ d. nat_lt (digit_value d) radix) ds ≡ true
 pass_test radix [] h = refl

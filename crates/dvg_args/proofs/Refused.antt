@@ -1,4 +1,4 @@
--- How words are refused.
+-- How arguments are refused.
 use Rattle.std.proofs.Common.{◌≡◌, ◌∙◌, ◌<◌, ◌≤◌, ℕ, Bool, false, inl, inr, [], ◌∷◌, Option, Some, None, cond, ap, option_map, refl}
 use Rattle.std.specs.Prelude.{is_some, nat_lt}
 use Rattle.std.proofs.lemmas.Bool.{lt-ltb, le-ltb}

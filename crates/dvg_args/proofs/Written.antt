@@ -1,12 +1,12 @@
--- Words that are written out, computed.
+-- Arguments that are written out, computed.
 use Rattle.std.proofs.Common.{refl}
 use Rattle.clap.proofs.OnLiterals.{clap_on_literals}
-use Rattle.dvg_args.specs.Words.{dvg_app}
-use Rattle.dvg_args.specs.Laws.{HelpWords, OtherWords, RefusedOptions, SketchJobWords, TextJobWords}
+use Rattle.dvg_args.specs.Arguments.{dvg_app}
+use Rattle.dvg_args.specs.Laws.{HelpArguments, OtherArguments, RefusedOptions, SketchJobArguments, TextJobArguments}
 
-pub text_job_words : TextJobWords
+pub text_job_arguments : TextJobArguments
 unfolding dvg_app clap_on_literals
-text_job_words = (
+text_job_arguments = (
   λ name. ((refl, refl), refl, refl),
   λ name. ((refl, refl), refl, refl),
   λ name. ((refl, refl), refl, refl),
@@ -26,9 +26,9 @@ text_job_words = (
   λ name. ((refl, refl), refl, refl),
 )
 
-pub sketch_job_words : SketchJobWords
+pub sketch_job_arguments : SketchJobArguments
 unfolding dvg_app clap_on_literals
-sketch_job_words = (
+sketch_job_arguments = (
   λ name. ((refl, refl), refl, refl),
   λ name. ((refl, refl), refl, refl),
   λ name. ((refl, refl), refl, refl),
@@ -42,9 +42,9 @@ sketch_job_words = (
   λ name. ((refl, refl), refl, refl),
 )
 
-pub help_words : HelpWords
+pub help_arguments : HelpArguments
 unfolding dvg_app clap_on_literals
-help_words = (
+help_arguments = (
   λ name. refl,
   λ name. refl,
   λ name. refl,
@@ -54,9 +54,9 @@ help_words = (
   λ name. refl,
 )
 
-pub other_words : OtherWords
+pub other_arguments : OtherArguments
 unfolding dvg_app clap_on_literals
-other_words = (
+other_arguments = (
   λ name. refl,
   λ name. refl,
   λ name. refl,

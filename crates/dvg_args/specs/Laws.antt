@@ -1,28 +1,28 @@
--- What some words come to.
+-- What some arguments come to.
 use Rattle.std.specs.Prelude.{◌≡◌, true, false, List, [], ◌∷◌, codes}
 use Rattle.clap.specs.Words.{Kinds, Text, subcommand_of}
 use Rattle.clap.specs.declared.error.kind.ErrorKind.TheVariants.{ArgumentConflict, DisplayHelp, DisplayVersion}
 use Rattle.clap.specs.declared.error.kind.ErrorKind.TheVariants.{InvalidSubcommand, InvalidValue}
 use Rattle.clap.specs.declared.error.kind.ErrorKind.TheVariants.{MissingRequiredArgument, MissingSubcommand}
 use Rattle.clap.specs.declared.error.kind.ErrorKind.TheVariants.{UnknownArgument}
-use Rattle.dvg_args.specs.Words.{IsJob, TakesWords, dvg_app, words_fault}
+use Rattle.dvg_args.specs.Arguments.{IsJob, TakesArguments, arguments_fault, dvg_app}
 use Rattle.dvg_args.specs.declared.task.Job.{Job}
 use Rattle.dvg_args.specs.declared.task.Job.TheVariants.{List as list_job, ListAt, Rom, Picture, PictureSvg, Check}
 use Rattle.dvg_args.specs.declared.task.Job.TheVariants.{Play, PlaySvg, Torn, Draw, DrawCheck, Lay}
 use Rattle.dvg_args.specs.declared.task.LayForm.TheVariants.{Half0, Half1, Table, Rom as RomBytes, Equates}
 
--- after any name of the program, the words are taken and ask for the job
+-- after any name of the program, the arguments are taken and ask for the job
 abbrev pub AskFor : List Text → Job → Type 0
-AskFor words job = (name : Text) → TakesWords (name ∷ words) × (words_fault (name ∷ words) ≡ [])
-    × IsJob job (subcommand_of dvg_app (name ∷ words))
+AskFor arguments job = (name : Text) → TakesArguments (name ∷ arguments) × (arguments_fault (name ∷ arguments) ≡ [])
+    × IsJob job (subcommand_of dvg_app (name ∷ arguments))
 
--- after any name of the program, the words fail by one of the kinds
+-- after any name of the program, the arguments fail by one of the kinds
 abbrev pub FailAs : List Text → Kinds → Type 0
-FailAs words kinds = (name : Text) → words_fault (name ∷ words) ≡ kinds
+FailAs arguments kinds = (name : Text) → arguments_fault (name ∷ arguments) ≡ kinds
 
--- the words of each job that reads no sketch
-abbrev pub TextJobWords : Type 0
-TextJobWords = AskFor (codes "list" ∷ []) list_job
+-- the arguments of each job that reads no sketch
+abbrev pub TextJobArguments : Type 0
+TextJobArguments = AskFor (codes "list" ∷ []) list_job
     × AskFor (codes "list" ∷ codes "--at" ∷ codes "000" ∷ []) (ListAt 0)
     × AskFor (codes "list" ∷ codes "--at" ∷ codes "FfE" ∷ []) (ListAt 4094)
     × AskFor (codes "rom" ∷ []) Rom
@@ -41,9 +41,9 @@ TextJobWords = AskFor (codes "list" ∷ []) list_job
     (PlaySvg true 400 60)
     × AskFor (codes "torn" ∷ []) Torn
 
--- the words of each job that reads a sketch
-abbrev pub SketchJobWords : Type 0
-SketchJobWords = AskFor (codes "draw" ∷ []) (Draw 100 30)
+-- the arguments of each job that reads a sketch
+abbrev pub SketchJobArguments : Type 0
+SketchJobArguments = AskFor (codes "draw" ∷ []) (Draw 100 30)
     × AskFor (codes "draw" ∷ codes "--scale" ∷ codes "33" ∷ codes "--rate" ∷ codes "1" ∷ []) (Draw 33 1)
     × AskFor (codes "draw" ∷ codes "--check" ∷ []) DrawCheck
     × AskFor (codes "draw" ∷ codes "--check" ∷ codes "--scale" ∷ codes "50" ∷ codes "--rate" ∷ codes "3" ∷ []) DrawCheck
@@ -55,9 +55,10 @@ SketchJobWords = AskFor (codes "draw" ∷ []) (Draw 100 30)
     × AskFor (codes "lay" ∷ codes "--rom" ∷ []) (Lay RomBytes)
     × AskFor (codes "lay" ∷ codes "--equates" ∷ []) (Lay Equates)
 
--- words that ask for help, or for the version; the words after `help` may name no subcommand
-abbrev pub HelpWords : Type 0
-HelpWords = FailAs (codes "--help" ∷ []) (DisplayHelp ∷ [])
+-- arguments that ask for help, or for the version; the arguments after `help` may name no
+-- subcommand
+abbrev pub HelpArguments : Type 0
+HelpArguments = FailAs (codes "--help" ∷ []) (DisplayHelp ∷ [])
     × FailAs (codes "-h" ∷ []) (DisplayHelp ∷ [])
     × FailAs (codes "play" ∷ codes "--help" ∷ []) (DisplayHelp ∷ [])
     × FailAs (codes "help" ∷ []) (DisplayHelp ∷ InvalidSubcommand ∷ [])
@@ -65,10 +66,10 @@ HelpWords = FailAs (codes "--help" ∷ []) (DisplayHelp ∷ [])
     × FailAs (codes "--version" ∷ []) (DisplayVersion ∷ [])
     × FailAs (codes "-V" ∷ []) (DisplayVersion ∷ [])
 
--- words that are refused: none, another subcommand, an option of another subcommand, an option
--- twice, and a word too many
-abbrev pub OtherWords : Type 0
-OtherWords = FailAs [] (MissingSubcommand ∷ [])
+-- arguments that are refused: none, another subcommand, an option of another subcommand, an option
+-- twice, and an argument too many
+abbrev pub OtherArguments : Type 0
+OtherArguments = FailAs [] (MissingSubcommand ∷ [])
     × FailAs (codes "lists" ∷ []) (UnknownArgument ∷ InvalidSubcommand ∷ [])
     × FailAs (codes "list" ∷ codes "--all" ∷ []) (UnknownArgument ∷ [])
     × FailAs (codes "check" ∷ codes "--all" ∷ []) (UnknownArgument ∷ [])

@@ -1,3 +1,3 @@
 pub mod Options
-pub mod Words
+pub mod Arguments
 pub mod Laws

@@ -2,8 +2,9 @@
 ghost use Rattle.std.specs.Prelude.{◌≡◌, IfOk, codes, false};
 ghost use Rattle.clap.specs.Words.{app_of, new_app, rule_of, with_rule, with_subcommand};
 ghost use Rattle.clap.specs.declared.builder.command.Command.TheViews.{out-Command as fields_of};
-ghost use Rattle.dvg_args.specs.Words as spec;
-ghost use Rattle.dvg_args.specs.Words.{check_app, draw_app, dvg_app, flag, lay_app, list_app, picture_app, play_app, program_app, valued};
+ghost use Rattle.dvg_args.specs.Arguments as spec;
+ghost use Rattle.dvg_args.specs.Arguments.{check_app, draw_app, dvg_app, flag, lay_app, list_app};
+ghost use Rattle.dvg_args.specs.Arguments.{picture_app, play_app, program_app, valued};
 
 use crate::help;
 use clap::{Arg, ArgAction, Command};

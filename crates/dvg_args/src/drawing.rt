@@ -3,7 +3,7 @@
 ghost use Rattle.std.specs.Prelude.{IfOk, Some, codes};
 ghost use Rattle.clap.specs.Words.{found_of, rows_of};
 ghost use Rattle.dvg_args.specs.Options.{Refuses, Shows, draw_fault, list_fault, svg_fault};
-ghost use Rattle.dvg_args.specs.Words.{IsJob};
+ghost use Rattle.dvg_args.specs.Arguments.{IsJob};
 
 use crate::options::{Shown, address_in, is_given, is_set, read_shown};
 use crate::task::Job;

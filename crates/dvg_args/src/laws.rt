@@ -1,25 +1,27 @@
-//! What some words ask for, written out. Each law is the contract of a function that does nothing.
-ghost use Rattle.dvg_args.specs.Laws.{HelpWords, OtherWords, RefusedOptions, SketchJobWords, TextJobWords};
+//! What some arguments ask for, written out. Each law is the contract of a function that does
+//! nothing.
+ghost use Rattle.dvg_args.specs.Laws.{HelpArguments, OtherArguments, RefusedOptions};
+ghost use Rattle.dvg_args.specs.Laws.{SketchJobArguments, TextJobArguments};
 
-/// The words of each job that reads no sketch, after any name of the program, are taken and ask for
-/// that job.
-pub fn text_job_words()
-    ensures { TextJobWords }
+/// The arguments of each job that reads no sketch, after any name of the program, are taken and ask
+/// for that job.
+pub fn text_job_arguments()
+    ensures { TextJobArguments }
 {}
 
-/// So are the words of each job that reads a sketch.
-pub fn sketch_job_words()
-    ensures { SketchJobWords }
+/// So are the arguments of each job that reads a sketch.
+pub fn sketch_job_arguments()
+    ensures { SketchJobArguments }
 {}
 
-/// Words that ask for help, or for the version.
-pub fn help_words()
-    ensures { HelpWords }
+/// Arguments that ask for help, or for the version.
+pub fn help_arguments()
+    ensures { HelpArguments }
 {}
 
-/// Words that ask for nothing the program can do.
-pub fn other_words()
-    ensures { OtherWords }
+/// Arguments that ask for nothing the program can do.
+pub fn other_arguments()
+    ensures { OtherArguments }
 {}
 
 /// Options that ask for nothing the program can do.

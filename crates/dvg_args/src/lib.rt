@@ -1,12 +1,14 @@
-//! The words of the program `dvg`: its subcommands and options, their help texts, and what the
-//! words ask for.
+//! The arguments of the program `dvg`: its subcommands and options, their help texts, and what the
+//! arguments ask for.
 //!
-//! The words are read by `clap`, with a command that `specs/Words.antt` shows whole. A job is
-//! answered only where clap's own matching gives it, and an error only of a kind that the words can
-//! come to; help that was asked for is such an error, too. That options exclude each other, which
-//! wants which, and which values they take, are this crate's own rules, after the matching.
+//! The arguments are read by `clap`, with a command that `specs/Arguments.antt` shows whole. A job
+//! is answered only where clap's own matching gives it, and an error only of a kind that the
+//! arguments can come to; help that was asked for is such an error, too. That options exclude each
+//! other, which wants which, and which values they take, are this crate's own rules, after the
+//! matching.
 #![tactic(auto)]
 
+mod arguments;
 mod command;
 mod drawing;
 mod help;
@@ -16,8 +18,7 @@ mod misuse;
 mod options;
 mod refusal;
 mod task;
-mod words;
 
-pub use refusal::words_status;
+pub use arguments::job;
+pub use refusal::arguments_status;
 pub use task::{Job, LayForm};
-pub use words::job;

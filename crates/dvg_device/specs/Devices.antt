@@ -116,4 +116,5 @@ Answered asked old new answer = PartAnswers old.open_part asked old new answer
 
 -- a request as a number, with its answer as one
 abbrev pub Turned : Held → ℕ → Held → ℕ → Type 0
-Turned old number new answer = (told : Reply) × Answered (request_of number) old new told × (answer ≡ number_of told)
+Turned old number new answer = (answered : Reply) × Answered (request_of number) old new answered × (answer
+    ≡ number_of answered)

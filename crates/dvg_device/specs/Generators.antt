@@ -9,7 +9,7 @@ use Rattle.dvg_gen.specs.Machine.{Machine, HasTaken, Answers}
 use Rattle.dvg_gen.specs.Told.{Told, Start, Reset, Newest, wants}
 use Rattle.dvg_log.specs.Entries.{Shown, entry_by}
 use Rattle.dvg_log.specs.declared.entry.Entry.TheVariants.{Started, Cleared, Still}
-use Rattle.dvg_device.specs.Replies.{told_by, picture_by}
+use Rattle.dvg_device.specs.Replies.{answered_by, picture_by}
 use Rattle.dvg_device.specs.declared.reply.Reply.{Reply}
 use Rattle.dvg_device.specs.declared.reply.Reply.TheVariants.{Came, Wants, Unknown, NoMemory}
 use Rattle.dvg_device.specs.declared.request.Request.{Request}
@@ -36,21 +36,21 @@ pub record Fetches (byte : Option ℕ) (machine later : Machine) (drawn left : L
   pub wanted : OfHistories machine (λ history low run. wants run ≡ Some address)
   pub answers : OfHistories machine (λ history low run. Answers history (met low byte) later taken)
   pub shown : OfHistories machine (λ history low run. entry ≡ entry_by address (met low byte) taken)
-  pub told : reply ≡ told_by entry
+  pub answered : reply ≡ answered_by entry
   pub picture : left ≡ picture_by entry drawn
 
 -- there was no memory for the stroke of a vector that the byte completes, and nothing has changed
 pub record LacksRoom (byte : Option ℕ) (machine later : Machine) (drawn left : List Stroke)
     (reply : Reply) : Type 0 where
   pub room : OfHistories machine (λ history low run. ¬ DrawsNothing run.held (met low byte))
-  pub told : reply ≡ NoMemory
+  pub answered : reply ≡ NoMemory
   pub same : later ≡ machine
   pub kept : left ≡ drawn
 
 -- a fetch where no run is open changes nothing
 pub record StaysStill (machine later : Machine) (drawn left : List Stroke) (reply : Reply) : Type 0 where
   pub halted : OfHistories machine (λ history low run. run.is_open ≡ false)
-  pub told : reply ≡ Came Still
+  pub answered : reply ≡ Came Still
   pub same : later ≡ machine
   pub kept : left ≡ drawn
 

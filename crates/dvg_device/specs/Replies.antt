@@ -77,8 +77,8 @@ number_of Unknown = packed 254 0 0
 number_of NoMemory = packed 255 0 0
 
 -- the reply to an event, by what the log shows of it
-abbrev pub told_by : Shown → Reply
-told_by entry = Came (map_entry (λ strokes. tt) entry)
+abbrev pub answered_by : Shown → Reply
+answered_by entry = Came (map_entry (λ strokes. tt) entry)
 
 -- the strokes of the newest run that came to a HALT, after this entry
 abbrev pub picture_by : Shown → List Stroke → List Stroke

@@ -6,7 +6,7 @@ use Rattle.dvg_log.specs.Entries.{Shown}
 use Rattle.dvg_log.specs.declared.event.Event.TheVariants as events
 use Rattle.dvg_log.specs.Events.{Happening}
 use Rattle.dvg_world.specs.Standing.{State, AddsLine, DrawsNow, KeepsHeadlineAfter}
-use Rattle.dvg_device.specs.Replies.{told_by, picture_by}
+use Rattle.dvg_device.specs.Replies.{answered_by, picture_by}
 use Rattle.dvg_device.specs.declared.reply.Reply.{Reply}
 use Rattle.dvg_device.specs.declared.reply.Reply.TheVariants.{NoMemory, Unknown, WrongSize}
 use Rattle.dvg_device.specs.declared.request.Request.{Request}
@@ -31,7 +31,7 @@ pub record Happens (event : Happening) (world later : State) (drawn left : List 
   pub entry : Shown
   pub stands : AddsLine world event entry later
   pub headline : KeepsHeadlineAfter world event entry
-  pub told : reply ≡ told_by entry
+  pub answered : reply ≡ answered_by entry
   pub picture : left ≡ picture_by entry drawn
 
 -- an event that there may be no memory for: a fetch that completes a vector that is seen
@@ -42,7 +42,7 @@ TakesRoom event world = ⊥
 -- there was no memory for the event, and nothing has changed
 pub record Lacks (event : Happening) (world later : State) (drawn left : List Stroke) (reply : Reply) : Type 0 where
   pub room : TakesRoom event world
-  pub told : reply ≡ NoMemory
+  pub answered : reply ≡ NoMemory
   pub same : later ≡ world
   pub kept : left ≡ drawn
 

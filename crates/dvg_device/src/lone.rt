@@ -4,7 +4,7 @@ ghost use Rattle.dvg_gen.specs.Told.{wants};
 ghost use Rattle.dvg_device.specs.Generators.{Fetches, GeneratorAnswers, LacksRoom, OfHistories};
 ghost use Rattle.dvg_device.specs.Generators.{StaysStill, wanting};
 
-use crate::reply::{Reply, told};
+use crate::reply::{Reply, answered};
 use crate::request::Request;
 use dvg_gen::{Generator, Stroke};
 use dvg_log::Entry;
@@ -57,7 +57,7 @@ fn fetch(generator: &mut Generator<Global>, byte: Option<u8>, picture: &mut Vec<
     };
     let low = generator.low_byte();
     match generator.take_byte(byte) {
-        Ok(taken) => told(Entry::of_fetch(address, low, byte, taken), picture),
+        Ok(taken) => answered(Entry::of_fetch(address, low, byte, taken), picture),
         Err(_) => Reply::NoMemory,
     }
 }

@@ -2,7 +2,7 @@
 ghost use Rattle.std.specs.Prelude.{◌≡◌};
 ghost use Rattle.dvg_log.specs.Entries.{shown_of};
 ghost use Rattle.dvg_device.specs.Replies.{acted, came, number_of, packed, picture_by, placed};
-ghost use Rattle.dvg_device.specs.Replies.{refusal, told_by};
+ghost use Rattle.dvg_device.specs.Replies.{answered_by, refusal};
 
 use dvg_driver::Action;
 use dvg_frame::{FrameFault, Place};
@@ -160,8 +160,8 @@ fn acted(action: Action) -> u64
 // The reply to an event, by its entry. The strokes of a run that came to a HALT take the place of
 // those before them.
 #[inline(always)]
-pub(crate) fn told(entry: Entry, picture: &mut Vec<Stroke>) -> Reply
-    ensures told { result ≡ told_by (shown_of entry) }
+pub(crate) fn answered(entry: Entry, picture: &mut Vec<Stroke>) -> Reply
+    ensures answered { result ≡ answered_by (shown_of entry) }
     ensures picture { picture.new.items ≡ picture_by (shown_of entry) picture.old.items }
 {
     Reply::Came(match entry {

@@ -10,7 +10,7 @@ use Rattle.dvg_named.specs.declared.meaning.RomName.{RomName}
 use Rattle.dvg_lay.specs.declared.refusal.Unlaid.{Unlaid}
 use Rattle.dvg_lay.specs.Refusals.{IsUnlaid}
 use Rattle.dvg_lay.proofs.Lists.{first_at}
-use Rattle.dvg_lay.proofs.Told.{unlaid_weaker}
+use Rattle.dvg_lay.proofs.Described.{unlaid_weaker}
 use Rattle.dvg_svg.specs.Svg.{strokes_of}
 use Rattle.dvg_draw.specs.Drawings.{CanBeDrawn, IsDrawnFrame, IsUndrawn, TellsUndrawn}
 
@@ -29,8 +29,8 @@ pub undrawn_at : {A : Type 0} (R : List ℕ) (names : List RomName) (frames : Li
     → AllZip (IsDrawnFrame R) (take i frames) pictures → (unlaid : Unlaid A)
     → IsUnlaid (λ refusal. TellsUndrawn R names refusal frame) unlaid → IsUnlaid (IsUndrawn R names frames) unlaid
 undrawn_at R names frames i frame pictures low is drawn =
-    unlaid_weaker _ _ (λ refusal told. first_at (CanBeDrawn R) (TellsUndrawn R names refusal) frames i frame low is
-    (can_all R (take i frames) pictures drawn) told)
+    unlaid_weaker _ _ (λ refusal described. first_at (CanBeDrawn R) (TellsUndrawn R names refusal) frames i frame low is
+    (can_all R (take i frames) pictures drawn) described)
 
 -- a frame more was drawn
 pub drawn_more : {A : Type 0} (R : List ℕ) (frames : List NamedFrame) (i : ℕ) (frame : NamedFrame) (old new : List (Vec Stroke A))

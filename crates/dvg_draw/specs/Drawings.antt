@@ -21,14 +21,15 @@ abbrev pub CanBeDrawn : (R : List ℕ) → NamedFrame → Type 0
 CanBeDrawn R frame = (strokes : List Stroke) × IsDrawnFrame R frame strokes
 
 -- the check accepts the frame, and the refusal tells how many words its picture has, more than 65,536
-pub record TellsLong {A : Type 0} (R : List ℕ) (names : List RomName) (told : Refusal A) (frame : NamedFrame) : Type 0
+pub record TellsLong {A : Type 0} (R : List ℕ) (names : List RomName)
+    (described : Refusal A) (frame : NamedFrame) : Type 0
   where
     pub good : IsGood R frame
     pub words : ℕ
     pub bound : IsBound frame.ops.now R words
     pub many : 65536 < words
-    pub reason : told.reason ≡ ManyWords words
-    pub blames : Blames names frame (InFrame 0) told.blamed
+    pub reason : described.reason ≡ ManyWords words
+    pub blames : Blames names frame (InFrame 0) described.blamed
 
 -- the refusal tells why a frame isn't drawn: the fault that the check picks, or how long its picture is
 abbrev pub TellsUndrawn : {A : Type 0} → (R : List ℕ) → List RomName → Refusal A → NamedFrame → Type 0

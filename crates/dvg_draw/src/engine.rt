@@ -9,7 +9,7 @@ ghost use Rattle.dvg_draw.specs.Sketches.{Draws, DrawsOut, shown};
 
 use crate::drawn::Drawn;
 use crate::frames::draw_frames;
-use dvg_io::{DeviceFailed, Engine, ToolFault, Watched, serve};
+use dvg_io::{Engine, StreamFailed, ToolFault, Watched, serve};
 use dvg_lay::{Unlaid, tool_fault};
 use dvg_named::{Sketch, read_sketch};
 use dvg_read::MOST_TEXT_BYTES;
@@ -73,7 +73,7 @@ impl<A: Allocator + Copy> Engine<A> for DrawEngine {
         &self,
         drawn: &Drawn<A>,
         writer: &mut Watched<W>,
-    ) -> Result<(), DeviceFailed> {
+    ) -> Result<(), StreamFailed> {
         match drawn {
             Drawn::Pictures(pictures) => write_svgs(self.show, pictures.as_slice(), writer),
             Drawn::Refused(_) => Ok(()),
@@ -89,7 +89,7 @@ impl<A: Allocator + Copy> Engine<A> for DrawEngine {
 /// - A fault of the text: that of the first line at fault. `TooLong`, the text has more than
 ///   1,048,576 bytes, of which no more than 1,048,577 are taken, comes before all others, and
 ///   `UnknownName` after them.
-/// - `Reader`, `Writer`: that device failed. After `Writer` a beginning of the text went out.
+/// - `Reader`, `Writer`: that stream failed. After `Writer` a beginning of the text went out.
 /// - `Memory`: a growth was refused.
 ///
 /// Where it stops before it writes, which is at any fault but `Writer`, the writer is as it was.

@@ -32,14 +32,14 @@ one_drawn beam Rtsl = refl
 one_drawn beam (Jmpl address) = refl
 one_drawn beam (Svec scale dx dy z) = one_line beam (moved beam (Svec scale dx dy z)) z
 
-abbrev strokes_told : List Ran → List Stroke
-strokes_told = flat_map (λ ran. option_to_list ran.stroke)
+abbrev strokes_recorded : List Ran → List Stroke
+strokes_recorded = flat_map (λ ran. option_to_list ran.stroke)
 
--- the strokes that are told are those of the run
-pub strokes_of_trace : (memory : ℕ → Option ℕ) (visits : List Visit) → drawn_by visits ≡ strokes_told (trace memory visits)
+-- the strokes that are recorded are those of the run
+pub strokes_of_trace : (memory : ℕ → Option ℕ) (visits : List Visit) → drawn_by visits ≡ strokes_recorded (trace memory visits)
 strokes_of_trace memory [] = refl
 strokes_of_trace memory (visit ∷ older) =
     let before = beam_after nothing.first older in
     ap (λ l. l ++ drawn before visit.code) (strokes_of_trace memory older)
-    ∙ ap (λ l. strokes_told (trace memory older) ++ l) (sym (append-nil _ ∙ one_drawn before visit.code))
+    ∙ ap (λ l. strokes_recorded (trace memory older) ++ l) (sym (append-nil _ ∙ one_drawn before visit.code))
     ∙ sym (flat_map-append (λ ran. option_to_list ran.stroke) (trace memory older) (ran_of memory before visit ∷ []))

@@ -1,4 +1,4 @@
--- Worked examples of how runs end, and of what is told of an instruction.
+-- Worked examples of how runs end, and of what is recorded of an instruction.
 use Rattle.std.proofs.Common.{◌≡◌, ℕ, [], ◌∷◌, Option, Some, None, true, false, pos, refl, lit<, lit≤}
 use Rattle.dvg_code.specs.declared.instr.Instr.{Instr}
 use Rattle.dvg_code.specs.declared.instr.Instr.TheVariants.{Halt, Jsrl, Rtsl, Svec}
@@ -41,13 +41,13 @@ of_calls =
     refl
 
 -- F01A is the canonical word of an SVEC, and F41A spells it too, with the sign of a zero
-pub told_of_a_short_vector : ran_of (full_of 0xF01A) nothing.first (visit 513 (Svec 4 (pos 2) (pos 0) 1))
+pub recorded_of_a_short_vector : ran_of (full_of 0xF01A) nothing.first (visit 513 (Svec 4 (pos 2) (pos 0) 1))
     ≡ record { address = 513; code = Svec 4 (pos 2) (pos 0) 1; canonical = true; beam = record { x = 8192; y = 0; scale = 0 }; stroke = Some (record { x0 = 0; y0 = 0; x1 = 8192; y1 = 0; z = 1 }) }
-told_of_a_short_vector = refl
+recorded_of_a_short_vector = refl
 
-pub told_with_a_star : (ran_of (full_of 0xF41A) nothing.first (visit 513 (Svec 4 (pos 2) (pos 0) 1))).canonical ≡ false
-told_with_a_star = refl
+pub recorded_with_a_star : (ran_of (full_of 0xF41A) nothing.first (visit 513 (Svec 4 (pos 2) (pos 0) 1))).canonical ≡ false
+recorded_with_a_star = refl
 
 -- a blank one has no stroke
-pub told_without_a_stroke : (ran_of (full_of 0xF00A) nothing.first (visit 513 (Svec 4 (pos 2) (pos 0) 0))).stroke ≡ None
-told_without_a_stroke = refl
+pub recorded_without_a_stroke : (ran_of (full_of 0xF00A) nothing.first (visit 513 (Svec 4 (pos 2) (pos 0) 0))).stroke ≡ None
+recorded_without_a_stroke = refl

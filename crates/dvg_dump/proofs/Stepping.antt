@@ -28,11 +28,11 @@ pub wanted_is : {memory : ℕ → Option ℕ} {machine : Machine} {words : ℕ} 
     → Some address ≡ wants f.after.run → address ≡ wanted visits held
 wanted_is address f e = some_is (e ∙ ap wants f.run)
 
--- what was told of a run that is over
-pub told_of : (traces : Bool) {memory : ℕ → Option ℕ} {visits : List Visit} {held : Option ℕ} {trail : Trail} → Traces traces memory visits held trail
+-- what was recorded of a run that is over
+pub recorded_of : (traces : Bool) {memory : ℕ → Option ℕ} {visits : List Visit} {held : Option ℕ} {trail : Trail} → Traces traces memory visits held trail
     → trail.ran ≡ trace_if traces memory visits
-told_of true t = (t.beside refl).ran_is
-told_of false t = t.silent refl
+recorded_of true t = (t.beside refl).ran_is
+recorded_of false t = t.silent refl
 
 -- the answer says which reply it is
 never_low : {X : Type 0} (A : Type 0) (r : Reply) → IsReply {A = A} Low r → X
@@ -64,7 +64,7 @@ at_hole traces machine trail Word r g low at none t h = absurd h
 at_hole traces machine trail (Done list) r g low at none t h = absurd h
 at_hole {memory = memory} {visits = visits} {address = address} traces machine trail (Broke fault) r g low at none t h =
     let broke : Ends memory visits (Broken _ Hole) = meets_hole r low g (ap memory (sym at) ∙ none) in
-    (visits, subst (λ x. Ends memory visits (Broken address x)) (sym h) (subst (λ x. Ends memory visits (Broken x Hole)) (sym at) broke), told_of traces t)
+    (visits, subst (λ x. Ends memory visits (Broken address x)) (sym h) (subst (λ x. Ends memory visits (Broken x Hole)) (sym at) broke), recorded_of traces t)
 
 -- an instruction of two words breaks no run
 two_goes : {A : Type 0} {code : Instr} {held word : ℕ} {fault : GenFault} (place : ℕ) (older : List Visit) → Spells code (held ∷ word ∷ []) → fate (record { place = place; code = code } ∷ older) ≡ Breaks fault → A
@@ -108,11 +108,11 @@ at_word {memory = memory} {visits = visits} {visits' = visits'} {held = held} {h
     let counted = subst (λ n. Runs memory n visits' held') (sym (add-one words)) runs in
     let whole = subst (λ k. Runs memory (words + 1) visits' k) end.0 counted in
     let few : words + 1 ≤ 65536 = omega arith in
-    (visits', subst (λ l. Ends memory visits' (Complete (words + 1) l)) end.2 (halts whole few end.1), told_of traces t)
+    (visits', subst (λ l. Ends memory visits' (Complete (words + 1) l)) end.2 (halts whole few end.1), recorded_of traces t)
 at_word {A = A} {memory = memory} {visits = visits} {visits' = visits'} {held = held} {held' = held'} {words = words} {word = word} traces machine trail (Broke fault) r g low at there a t after run h =
     let fails = sym (ap (reply (Some word)) run) ∙ is_fails A fault (reply (Some word) after.run) h in
     let broke = fails_breaks held' (fate visits') (drawn_by visits') fault fails in
-    (visits', broke_at r g (ap memory (sym at) ∙ there) at (omega arith) a broke, told_of traces t)
+    (visits', broke_at r g (ap memory (sym at) ∙ there) at (omega arith) a broke, recorded_of traces t)
 
 -- a word or a hole
 pub stepped : {A : Type 0} {memory : ℕ → Option ℕ} {visits : List Visit} {held : Option ℕ} {words address : ℕ} {old : Machine} (traces : Bool) (word : Option ℕ) (machine : Machine)
@@ -205,4 +205,4 @@ goes_further {memory = memory} {traces = traces} {machine = machine} {trail = tr
 -- so many words were followed
 pub no_end : {traces : Bool} {memory : ℕ → Option ℕ} {words : ℕ} {machine : Machine} {trail : Trail} → words ≡ 65536 → Followed traces memory words machine trail
     → TellsRun traces memory trail.ran Endless
-no_end {traces = traces} {memory = memory} all f = (f.visits, goes_on (subst (λ n. Runs memory n f.visits f.held) all f.follows.runs) f.follows.goes, told_of traces f.tells)
+no_end {traces = traces} {memory = memory} all f = (f.visits, goes_on (subst (λ n. Runs memory n f.visits f.held) all f.follows.runs) f.follows.goes, recorded_of traces f.tells)

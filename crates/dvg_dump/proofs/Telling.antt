@@ -11,7 +11,7 @@ use Rattle.dvg_gen.specs.Run.{Visit, on, next, wanted, beam_after, Adds, first, 
 use Rattle.dvg_gen.specs.Told.{nothing}
 use Rattle.dvg_dump.specs.declared.tracer.Spelled.{Spelled}
 use Rattle.dvg_dump.specs.Traces.{is_word, stand_at, run_at, trace}
-use Rattle.dvg_dump.specs.Tracing.{Trail, IsBeside, TracesWord, began, ran_by, taken_by, told, words_by}
+use Rattle.dvg_dump.specs.Tracing.{Trail, IsBeside, TracesWord, began, ran_by, taken_by, recorded, words_by}
 
 -- the first word that a run holds stands at the next instruction's address
 held_stands : {memory : ℕ → Option ℕ} {words first_word : ℕ} {visits : List Visit} {held : Option ℕ} → Runs memory words visits held → held ≡ Some first_word → memory (next visits) ≡ Some first_word
@@ -46,12 +46,12 @@ began_is : {memory : ℕ → Option ℕ} {visits : List Visit} {held : Option �
 began_is {held = None} {trail = trail} address b at = ap (λ h. began h address trail.address) b.held_is ∙ at
 began_is {held = Some first_word} {trail = trail} address b at = ap (λ h. began h address trail.address) b.held_is ∙ b.address_is first_word refl
 
--- an instruction more is told
-told_more : {memory : ℕ → Option ℕ} {words word address : ℕ} {visits : List Visit} {held : Option ℕ} {code : Instr} (old new : Trail) → Runs memory words visits held
+-- an instruction more is recorded
+recorded_more : {memory : ℕ → Option ℕ} {words word address : ℕ} {visits : List Visit} {held : Option ℕ} {code : Instr} (old new : Trail) → Runs memory words visits held
     → address ≡ wanted visits held → memory address ≡ Some word → IsBeside memory visits held old → Completes held word code
     → new ≡ taken_by (Some (record { code = code; canonical = pointwise nat_eq (canon code) (words_by old.held word) })) word (record old { address = began old.held address old.address })
     → IsBeside memory (record { place = next visits; code = code } ∷ visits) None new
-told_more {memory = memory} {word = word} {address = address} {visits = visits} {held = held} {code = code} old new r at there b completes same =
+recorded_more {memory = memory} {word = word} {address = address} {visits = visits} {held = held} {code = code} old new r at there b completes same =
     let before = beam_after nothing.first visits in
     let place = began_is address b at in
     let canonical = ap (λ h. pointwise nat_eq (canon code) (words_by h word)) b.held_is
@@ -69,7 +69,7 @@ told_more {memory = memory} {word = word} {address = address} {visits = visits} 
     no_word : {A : Type 0} {w : ℕ} → ◌≡◌ {A = Option ℕ} None (Some w) → A
     no_word e = absurd (cc)
 
--- a word more is told
+-- a word more is recorded
 module _ (found : Option Spelled) (address word : ℕ) (old new : Trail)
     (completed : (code : Instr) → Completes old.held word code → found ≡ Some (record { code = code; canonical = pointwise nat_eq (canon code) (words_by old.held word) }))
     (held_first : IsFirst word → old.held ≡ None → found ≡ None) (same : new ≡ taken_by found word (record old { address = began old.held address old.address })) where
@@ -85,10 +85,10 @@ module _ (found : Option Spelled) (address word : ℕ) (old new : Trail)
       }
   now_beside r at there (one {code = code} s) b =
       let completes = subst (λ h. Completes h word code) (sym b.held_is) s in
-      told_more old new r at there b s (same ∙ ap (λ f. taken_by f word (record old { address = began old.held address old.address })) (completed code completes))
+      recorded_more old new r at there b s (same ∙ ap (λ f. taken_by f word (record old { address = began old.held address old.address })) (completed code completes))
   now_beside r at there (two {code = code} s) b =
       let completes = subst (λ h. Completes h word code) (sym b.held_is) s in
-      told_more old new r at there b s (same ∙ ap (λ f. taken_by f word (record old { address = began old.held address old.address })) (completed code completes))
+      recorded_more old new r at there b s (same ∙ ap (λ f. taken_by f word (record old { address = began old.held address old.address })) (completed code completes))
 
   same_flag : new.traces ≡ old.traces
   same_flag = ap (λ trail. trail.traces) same ∙ flag_of found
@@ -107,7 +107,7 @@ module _ (found : Option Spelled) (address word : ℕ) (old new : Trail)
       clash : {A : Type 0} → true ≡ false → A
       clash e = absurd (cc)
 
--- nothing is told where nothing is asked for
+-- nothing is recorded where nothing is asked for
 pub traces_nothing : (address word : ℕ) (old : Trail) → old.traces ≡ false → TracesWord address (Some word) old old
 traces_nothing address word old silent = λ traces memory visits visits' held held' f t. record {
   flag = t.flag;
@@ -133,18 +133,18 @@ read_as {E} words written found equal only canon_is equal_is code fronts =
     found_is : {read : Instr × ℕ} → ◌≡◌ {A = Result (Instr × ℕ) E} (Ok found) (Ok read) → found.0 ≡ read.0
     found_is e = ap (λ p. p.0) (ok_is e)
 
--- an instruction that a word completes is told
-pub told_word : {T E : Type 0} (result : Result T E) (read : Spelled) (found : Option Spelled) (address word : ℕ) (held : Option ℕ) (old middle new : Trail) → old.traces ≡ true → found ≡ Some read
+-- an instruction that a word completes is recorded
+pub recorded_word : {T E : Type 0} (result : Result T E) (read : Spelled) (found : Option Spelled) (address word : ℕ) (held : Option ℕ) (old middle new : Trail) → old.traces ≡ true → found ≡ Some read
     → middle ≡ record old { address = began old.held address old.address } → old.held ≡ held
     → ((code : Instr) → Completes held word code → found ≡ Some (record { code = code; canonical = pointwise nat_eq (canon code) (words_by held word) })) → (IsFirst word → held ≡ None → found ≡ None)
-    → IfOk result (λ _. new ≡ told middle (ran_by middle read)) → IfOk result (λ _. TracesWord address (Some word) old new)
-told_word (Ok done) read found address word held old middle new traced found_is middle_is held_is completed held_first tells =
+    → IfOk result (λ _. new ≡ recorded middle (ran_by middle read)) → IfOk result (λ _. TracesWord address (Some word) old new)
+recorded_word (Ok done) read found address word held old middle new traced found_is middle_is held_is completed held_first tells =
     traces_word found address word old new
     (subst (λ h. (code : Instr) → Completes h word code → found ≡ Some (record { code = code; canonical = pointwise nat_eq (canon code) (words_by h word) })) (sym held_is) completed)
     (subst (λ h. IsFirst word → h ≡ None → found ≡ None) (sym held_is) held_first)
-    (tells ∙ ap (λ t. told t (ran_by t read)) middle_is ∙ ap (λ f. taken_by f word (record old { address = began old.held address old.address })) (sym found_is))
+    (tells ∙ ap (λ t. recorded t (ran_by t read)) middle_is ∙ ap (λ f. taken_by f word (record old { address = began old.held address old.address })) (sym found_is))
     traced
-told_word (Err refused) read found address word held old middle new traced found_is middle_is held_is completed held_first tells = tt
+recorded_word (Err refused) read found address word held old middle new traced found_is middle_is held_is completed held_first tells = tt
 
 -- a word that wants a second one is held
 pub held_word : (found : Option Spelled) (address word : ℕ) (held : Option ℕ) (old middle new : Trail) → old.traces ≡ true → found ≡ None

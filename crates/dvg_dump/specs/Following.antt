@@ -27,6 +27,6 @@ abbrev pub TakesWord : {A : Type 0} → Machine → Option ℕ → Machine → T
 TakesWord old word new taken = (history : List Told) → HasTaken old history None
     → Answers history (Whole word) new taken
 
--- a run over a memory, of which these instructions are told, ends so
+-- a run over a memory, of which these instructions are recorded, ends so
 abbrev pub TellsRun : Bool → (ℕ → Option ℕ) → List Ran → End → Type 0
 TellsRun traces memory ran end = (visits : List Visit) × Ends memory visits end × (ran ≡ trace_if traces memory visits)

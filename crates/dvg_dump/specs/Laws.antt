@@ -14,7 +14,7 @@ OneEnd = ((memory : ℕ → Option ℕ) → ((address : ℕ) → IfSome (memory 
     → Ends memory visits' end'
     → (visits ≡ visits') × (end ≡ end'))
 
--- the strokes of a run are those that are told of its instructions, in order
+-- the strokes of a run are those that are recorded of its instructions, in order
 abbrev pub StrokesOfTrace : Type 0
 StrokesOfTrace = (memory : ℕ → Option ℕ) (visits : List Visit)
     → drawn_by visits ≡ flat_map (λ ran. option_to_list ran.stroke) (trace memory visits)

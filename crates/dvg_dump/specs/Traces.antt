@@ -1,4 +1,4 @@
--- What is told of the instructions of a run.
+-- What is recorded of the instructions of a run.
 use Rattle.std.specs.Prelude.{ℕ, List, [], ◌∷◌, ◌++◌, Option, Some, None, Bool, true, false, ◌&&◌, nat_eq, slice_get}
 use Rattle.dvg_code.specs.declared.instr.Instr.{Instr}
 use Rattle.dvg_code.specs.Spelling.{canon}

@@ -13,7 +13,7 @@ use Rattle.dvg_dump.specs.Following.{Follows}
 use Rattle.dvg_dump.specs.Traces.{run_at, trace, trace_if}
 
 -- what a tracer keeps: whether it traces, the first word that it holds, the address where an instruction began, the
--- beam, and what was told
+-- beam, and what was recorded
 pub record Trail : Type 0 where
   pub traces : Bool
   pub held : Option ℕ
@@ -31,13 +31,13 @@ abbrev pub began : Option ℕ → ℕ → ℕ → ℕ
 began None address newest = address
 began (Some first) address newest = newest
 
--- what is told of an instruction that was read
+-- what is recorded of an instruction that was read
 abbrev pub ran_by : Trail → Spelled → Ran
 ran_by trail read = run_at trail.address read.code read.canonical trail.beam
 
 -- with an instruction more
-abbrev pub told : Trail → Ran → Trail
-told trail ran = record {
+abbrev pub recorded : Trail → Ran → Trail
+recorded trail ran = record {
   traces = trail.traces;
   held = None;
   address = trail.address;
@@ -49,21 +49,22 @@ told trail ran = record {
 -- after a word that completes an instruction, or is held
 abbrev pub taken_by : Option Spelled → ℕ → Trail → Trail
 taken_by None word trail = record trail { held = Some word }
-taken_by (Some read) word trail = told trail (ran_by trail read)
+taken_by (Some read) word trail = recorded trail (ran_by trail read)
 
 -- the words that were fetched of an instruction
 abbrev pub words_by : Option ℕ → ℕ → List ℕ
 words_by None word = word ∷ []
 words_by (Some first) word = first ∷ word ∷ []
 
--- the tracer is where the run is: it holds the same first word, has the same beam, and has told its instructions
+-- the tracer is where the run is: it holds the same first word, has the same beam, and has recorded
+-- its instructions
 pub record IsBeside (memory : ℕ → Option ℕ) (visits : List Visit) (held : Option ℕ) (trail : Trail) : Type 0 where
   pub held_is : trail.held ≡ held
   pub address_is : (first : ℕ) → held ≡ Some first → trail.address ≡ next visits
   pub beam_is : trail.beam ≡ beam_after nothing.first visits
   pub ran_is : trail.ran ≡ trace memory visits
 
--- it is, if it traces; else it has told nothing
+-- it is, if it traces; else it has recorded nothing
 pub record Traces (traces : Bool) (memory : ℕ → Option ℕ) (visits : List Visit) (held : Option ℕ)
     (trail : Trail) : Type 0 where
   pub flag : trail.traces ≡ traces
@@ -87,7 +88,8 @@ TracesWord address (Some word) old new = (traces : Bool) (memory : ℕ → Optio
     → Fetches memory address word visits held visits' held' → Traces traces memory visits held old
     → Traces traces memory visits' held' new
 
--- the run over a memory after a word more, by the answer: it goes on, or that was how it ends; and what was told then
+-- the run over a memory after a word more, by the answer: it goes on, or that was how it ends; and
+-- what was recorded then
 abbrev pub Stepped : {A : Type 0} → (memory : ℕ → Option ℕ) → Bool → (words address : ℕ) → Machine → Trail → Taken A
     → Type 0
 Stepped memory traces words address machine trail Low = ⊥

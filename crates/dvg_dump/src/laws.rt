@@ -7,7 +7,7 @@ pub fn one_end()
     ensures { OneEnd }
 {}
 
-/// The strokes of a run are those that are told of its instructions, in order.
+/// The strokes of a run are those that are recorded of its instructions, in order.
 pub fn strokes_of_trace()
     ensures { StrokesOfTrace }
 {}

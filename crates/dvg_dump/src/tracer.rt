@@ -5,7 +5,7 @@ ghost use Rattle.dvg_code.specs.Cutting.{Fronts, IsCut};
 ghost use Rattle.dvg_code.specs.Spelling.{IsFirst, canon};
 ghost use Rattle.dvg_code.specs.declared.instr.Instr.{Instr};
 ghost use Rattle.dvg_gen.specs.Completing.{Completes};
-ghost use Rattle.dvg_dump.specs.Tracing.{TracesWord, began, fresh, ran_by, told, words_by};
+ghost use Rattle.dvg_dump.specs.Tracing.{TracesWord, began, fresh, ran_by, recorded, words_by};
 
 use crate::ran::Ran;
 use dvg_code::{Code, OutOfMemory, decode, encode};
@@ -13,8 +13,8 @@ use dvg_gen::Beam;
 use std::alloc::Allocator;
 use std::marker::Model;
 
-/// Follows a run beside its generator, and keeps what is told of its instructions, if that is asked
-/// for.
+/// Follows a run beside its generator, and keeps what is recorded of its instructions, if that is
+/// asked for.
 #[derive(Drop)]
 pub(crate) struct Tracer<A: Allocator> {
     traces: bool,
@@ -97,7 +97,7 @@ impl<A: Allocator> Tracer<A> {
         }
     }
 
-    /// What was told.
+    /// What was recorded.
     pub(crate) fn into_ran(self) -> Vec<Ran, A>
         ensures { result.items ≡ self.ran }
     {
@@ -147,7 +147,7 @@ impl<A: Allocator> Tracer<A> {
     // The instruction that was read was run.
     #[inline(always)]
     fn tell(&mut self, read: Spelled) -> Result<(), OutOfMemory>
-        ensures { IfOk result (λ _. self.new ≡ told self.old (ran_by self.old read)) }
+        ensures { IfOk result (λ _. self.new ≡ recorded self.old (ran_by self.old read)) }
     {
         let stroke = self.beam.step(&read.code);
         self.held = None;

@@ -1,7 +1,7 @@
--- What was served, told in an engine's own words.
+-- What was served, described in an engine's own terms.
 use Rattle.std.proofs.Common.{◌≡◌, ℕ, List, Option, None, Some, IfSome, Result, Ok, Err, IsErrOf, ◌⊎◌, ⊎_elim, inl, inr, refl, sym, ap, subst}
 use Rattle.dvg_io.specs.Serving.{Meaning, Serves}
-use Rattle.dvg_io.specs.Watching.{device_of}
+use Rattle.dvg_io.specs.Watching.{stream_of}
 use Rattle.dvg_io.specs.declared.fault.ToolFault.{ToolFault}
 use Rattle.dvg_io.specs.declared.fault.ToolFault.TheVariants.{Reader, Writer, Memory}
 use Rattle.dvg_io.specs.declared.watched.Watched.{Watched}
@@ -24,17 +24,17 @@ module _ {R W F V : Type 0} (remaining : R → Option (List ℕ)) (contents : W 
   abbrev IsServed : Result F ToolFault → Type 0
   IsServed answer = Serves remaining contents most IsEarly Means answer old_reader new_reader old_writer new_writer
 
-  abbrev IsTold : Result V ToolFault → Type 0
-  IsTold answer = Serves remaining contents most IsEarlier Tells answer old_reader new_reader old_writer new_writer
+  abbrev IsDescribed : Result V ToolFault → Type 0
+  IsDescribed answer = Serves remaining contents most IsEarlier Tells answer old_reader new_reader old_writer new_writer
 
   abbrev Follows : Result F ToolFault → Result V ToolFault → Type 0
-  Follows answer told = (input : List ℕ) → Means answer input (contents (device_of old_writer)) (contents (device_of new_writer))
-      → Tells told input (contents (device_of old_writer)) (contents (device_of new_writer))
+  Follows answer described = (input : List ℕ) → Means answer input (contents (stream_of old_writer)) (contents (stream_of new_writer))
+      → Tells described input (contents (stream_of old_writer)) (contents (stream_of new_writer))
 
   -- where it is done
-  pub served : (found : F) (value : V) → Follows (Ok found) (Ok value) → IsServed (Ok found) → IsTold (Ok value)
+  pub served : (found : F) (value : V) → Follows (Ok found) (Ok value) → IsServed (Ok found) → IsDescribed (Ok value)
   served found value follows s = record {
-    means = each _ _ (remaining (device_of old_reader)) follows s.means;
+    means = each _ _ (remaining (stream_of old_reader)) follows s.means;
     took = s.took;
     unwritten = tt;
     reader = (λ is. absurd (not_err value Reader is), λ one. absurd (not_err found Reader (s.reader.1 one)));
@@ -43,9 +43,9 @@ module _ {R W F V : Type 0} (remaining : R → Option (List ℕ)) (contents : W 
   }
 
   -- where it is done, and wants memory all the same
-  pub served_wanting : (found : F) → (IsEarlier Memory → ⊥) → Follows (Ok found) (Err Memory) → IsServed (Ok found) → IsTold (Err Memory)
+  pub served_wanting : (found : F) → (IsEarlier Memory → ⊥) → Follows (Ok found) (Err Memory) → IsServed (Ok found) → IsDescribed (Err Memory)
   served_wanting found late follows s = record {
-    means = each _ _ (remaining (device_of old_reader)) follows s.means;
+    means = each _ _ (remaining (stream_of old_reader)) follows s.means;
     took = s.took;
     unwritten = λ early. absurd (late early);
     reader = (λ is. absurd (not_memory (inl is)), λ one. absurd (not_err found Reader (s.reader.1 one)));
@@ -53,9 +53,9 @@ module _ {R W F V : Type 0} (remaining : R → Option (List ℕ)) (contents : W 
     stops = s.stops;
   }
 
-  told_fault : (fault : ToolFault) → (IsEarlier fault → IsEarly fault) → Follows (Err fault) (Err fault) → IsServed (Err fault) → IsTold (Err fault)
-  told_fault fault early follows s = record {
-    means = each _ _ (remaining (device_of old_reader)) follows s.means;
+  described_fault : (fault : ToolFault) → (IsEarlier fault → IsEarly fault) → Follows (Err fault) (Err fault) → IsServed (Err fault) → IsDescribed (Err fault)
+  described_fault fault early follows s = record {
+    means = each _ _ (remaining (stream_of old_reader)) follows s.means;
     took = s.took;
     unwritten = λ is. s.unwritten (early is);
     reader = (λ is. s.reader.0 (ap Err (same_err {T = V} fault Reader is)), λ one. ap Err (same_err {T = F} fault Reader (s.reader.1 one)));
@@ -65,5 +65,5 @@ module _ {R W F V : Type 0} (remaining : R → Option (List ℕ)) (contents : W 
 
   -- where it stops
   pub unserved : (answer : Result V ToolFault) (fault : ToolFault) → answer ≡ Err fault → (IsEarlier fault → IsEarly fault)
-      → Follows (Err fault) (Err fault) → IsServed (Err fault) → IsTold answer
-  unserved answer fault is early follows s = subst IsTold (sym is) (told_fault fault early follows s)
+      → Follows (Err fault) (Err fault) → IsServed (Err fault) → IsDescribed answer
+  unserved answer fault is early follows s = subst IsDescribed (sym is) (described_fault fault early follows s)

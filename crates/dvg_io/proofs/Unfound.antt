@@ -3,7 +3,7 @@ use Rattle.std.proofs.Common.{◌≡◌, ℕ, ◌+◌, ◌≤◌, ◌↔◌, Lis
 use Rattle.dvg_read.specs.declared.fault.TextFault.{TextFault}
 use Rattle.dvg_io.specs.Faults.{ComesBeforeText}
 use Rattle.dvg_io.specs.Serving.{Answers, IsFinding, OfInput, Serves}
-use Rattle.dvg_io.specs.Watching.{TakesAtMost, device_of, failures_of}
+use Rattle.dvg_io.specs.Watching.{TakesAtMost, failures_of, stream_of}
 use Rattle.dvg_io.specs.declared.fault.ToolFault.{ToolFault}
 use Rattle.dvg_io.specs.declared.fault.ToolFault.TheVariants.{Text, Reader, Writer, Memory}
 use Rattle.dvg_io.specs.declared.watched.Watched.{Watched}
@@ -35,12 +35,12 @@ module _ {F : Type 0} (most : ℕ) (Finds : List ℕ → F → Type 0) (HasFault
 
   module _ {R W : Type 0} (remaining : R → Option (List ℕ)) (contents : W → Option (List ℕ)) where
     serves : (fault : ToolFault) (read : List ℕ) (old_reader new_reader : Watched R) (writer : Watched W)
-        → Read most (remaining (device_of old_reader)) read → length read ≤ most + 1
-        → TakesAtMost (most + 1) (remaining (device_of old_reader)) (remaining (device_of new_reader))
+        → Read most (remaining (stream_of old_reader)) read → length read ≤ most + 1
+        → TakesAtMost (most + 1) (remaining (stream_of old_reader)) (remaining (stream_of new_reader))
         → failures_of new_reader ≡ 0 → failures_of writer ≡ 0 → IsUnfound read fault
         → Serves {V = F} remaining contents (most + 1) ComesBeforeText (Answers Finds HasFault text) (Err fault) old_reader new_reader writer writer
     serves fault read old_reader new_reader writer e short took reader writes h = record {
-      means = answers fault (remaining (device_of old_reader)) (contents (device_of writer)) read e h;
+      means = answers fault (remaining (stream_of old_reader)) (contents (stream_of writer)) read e h;
       took = took;
       unwritten = λ early. refl;
       reader = (λ is. absurd (no_reader read short (subst (IsUnfound read) (same_err {T = F} fault Reader is) h)), λ one. absurd (omega arith));
@@ -49,8 +49,8 @@ module _ {F : Type 0} (most : ℕ) (Finds : List ℕ → F → Type 0) (HasFault
     }
 
     pub unfound : (answer : Result F ToolFault) (fault : ToolFault) (read : List ℕ) (old_reader new_reader : Watched R) (writer : Watched W)
-        → answer ≡ Err fault → Read most (remaining (device_of old_reader)) read → length read ≤ most + 1
-        → TakesAtMost (most + 1) (remaining (device_of old_reader)) (remaining (device_of new_reader))
+        → answer ≡ Err fault → Read most (remaining (stream_of old_reader)) read → length read ≤ most + 1
+        → TakesAtMost (most + 1) (remaining (stream_of old_reader)) (remaining (stream_of new_reader))
         → failures_of new_reader ≡ 0 → failures_of writer ≡ 0 → IsUnfound read fault
         → Serves remaining contents (most + 1) ComesBeforeText (Answers Finds HasFault text) answer old_reader new_reader writer writer
     unfound answer fault read old_reader new_reader writer is e short took reader writes h =

@@ -2,7 +2,7 @@
 use Rattle.std.proofs.Common.{◌≡◌, ℕ, List, [], ◌++◌, Option, OnErr, Result, Ok, Err, refl, sym, ap, ◌∙◌, subst, append_assoc, append-nil}
 use Rattle.std.specs.Io.KnownBytes.{Appends}
 use Rattle.dvg_io.specs.declared.watched.Watched.{Watched}
-use Rattle.dvg_io.specs.Watching.{BeginsToWrite, Writes, device_of, failures_of, one_more}
+use Rattle.dvg_io.specs.Watching.{BeginsToWrite, Writes, failures_of, one_more, stream_of}
 use Rattle.dvg_io.proofs.Known.{Appends-nil, Appends-trans}
 
 -- the text went out but for this rest
@@ -56,12 +56,12 @@ or_second_begun first second old now new (Err fault) wrote begun = second_begun 
 -- a text that went out whole, and nothing failed
 abbrev pub Wrote : {W : Type 0} → (contents : W → Option (List ℕ)) → (text : List ℕ) → (old new : Watched W) → Type 0
 Wrote contents text old new =
-    Appends (contents (device_of old)) (contents (device_of new)) text × (failures_of new ≡ failures_of old)
+    Appends (contents (stream_of old)) (contents (stream_of new)) text × (failures_of new ≡ failures_of old)
 
 -- a text of which a beginning went out, with one more failure
 abbrev pub BrokeOff : {W : Type 0} → (contents : W → Option (List ℕ)) → (text : List ℕ) → (old new : Watched W) → Type 0
 BrokeOff contents text old new =
-    BeginsToWrite text (contents (device_of old)) (contents (device_of new)) × (failures_of new ≡ one_more (failures_of old))
+    BeginsToWrite text (contents (stream_of old)) (contents (stream_of new)) × (failures_of new ≡ one_more (failures_of old))
 
 module _ {W : Type 0} (contents : W → Option (List ℕ)) (first second : List ℕ) where
   -- the first of two texts broke off

@@ -5,7 +5,7 @@ use Rattle.dvg_read.specs.declared.fault.TextFault.{TextFault}
 use Rattle.dvg_io.specs.declared.fault.ToolFault.{ToolFault}
 use Rattle.dvg_io.specs.declared.fault.ToolFault.TheVariants.{Text, Reader, Writer, Memory}
 use Rattle.dvg_io.specs.declared.watched.Watched.{Watched}
-use Rattle.dvg_io.specs.Watching.{BeginsToWrite, TakesAtMost, device_of, failures_of}
+use Rattle.dvg_io.specs.Watching.{BeginsToWrite, TakesAtMost, failures_of, stream_of}
 
 -- this holds of each input of which these bytes are read: the whole input, or one byte more than
 -- the most
@@ -36,21 +36,21 @@ Answers {F} Finds HasFault text (Err Writer) input old new =
     (found : F) × Finds input found × BeginsToWrite (text found) old new
 Answers Finds HasFault text (Err _) input old new = Unit {0}
 
--- neither of the two devices has failed
+-- neither of the two streams has failed
 abbrev pub AreFresh : {R W : Type 0} → Watched R → Watched W → Type 0
 AreFresh reader writer = (failures_of reader ≡ 0) × (failures_of writer ≡ 0)
 
 -- what an engine keeps: where a reader's bytes are known, this is answered and went out; no more
--- than this many bytes are taken; at an early fault the writer is as it was; and a device's failure
+-- than this many bytes are taken; at an early fault the writer is as it was; and a stream's failure
 -- is counted and answered
 pub record Serves {R W V : Type 0}
     (remaining : R → Option (List ℕ)) (contents : W → Option (List ℕ)) (most : ℕ)
     (IsEarly : ToolFault → Type 0) (Means : Meaning V) (answer : Result V ToolFault)
     (old_reader new_reader : Watched R) (old_writer new_writer : Watched W) : Type 0 where
-  pub means : IfSome (remaining (device_of old_reader)) (λ input.
-      Means answer input (contents (device_of old_writer)) (contents (device_of new_writer)))
+  pub means : IfSome (remaining (stream_of old_reader)) (λ input.
+      Means answer input (contents (stream_of old_writer)) (contents (stream_of new_writer)))
   pub took : TakesAtMost most
-      (remaining (device_of old_reader)) (remaining (device_of new_reader))
+      (remaining (stream_of old_reader)) (remaining (stream_of new_reader))
   pub unwritten : IfErr answer (λ fault. IsEarly fault → new_writer ≡ old_writer)
   pub reader : IsErrOf answer Reader ↔ (failures_of new_reader ≡ 1)
   pub writer : IsErrOf answer Writer ↔ (failures_of new_writer ≡ 1)

@@ -4,8 +4,8 @@ use Rattle.std.specs.Io.KnownBytes.{Appends, Consumes}
 use Rattle.dvg_io.specs.declared.watched.Watched.{Watched}
 
 -- the reader or writer that is watched
-abbrev pub device_of : {T : Type 0} → Watched T → T
-device_of watched = watched.device
+abbrev pub stream_of : {T : Type 0} → Watched T → T
+stream_of watched = watched.stream
 
 -- the number of its failures so far
 abbrev pub failures_of : {T : Type 0} → Watched T → ℕ
@@ -35,7 +35,7 @@ pub record BeginsToWrite (text : List ℕ) (old new : Option (List ℕ)) : Type 
 abbrev pub Writes : {W V E : Type 0} → (contents : W → Option (List ℕ)) → (text : List ℕ)
     → Result V E → (old new : Watched W) → Type 0
 Writes contents text answer old new = MatchResult answer
-    (λ _. Appends (contents (device_of old)) (contents (device_of new)) text
+    (λ _. Appends (contents (stream_of old)) (contents (stream_of new)) text
     × (failures_of new ≡ failures_of old))
-    (λ _. BeginsToWrite text (contents (device_of old)) (contents (device_of new))
+    (λ _. BeginsToWrite text (contents (stream_of old)) (contents (stream_of new))
     × (failures_of new ≡ one_more (failures_of old)))

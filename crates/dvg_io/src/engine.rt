@@ -7,12 +7,12 @@ ghost use Rattle.dvg_io.specs.Watching.{Writes};
 
 use crate::fault::ToolFault;
 use crate::transfer::read_up_to;
-use crate::watched::{DeviceFailed, Watched};
+use crate::watched::{StreamFailed, Watched};
 use std::alloc::Allocator;
 use std::io::{Read, Write};
 
 /// What one engine does and the others don't: what it finds of an input, and the text that it
-/// writes of that. `serve` reads the input, and sees to the failures of devices.
+/// writes of that. `serve` reads the input, and sees to the failures of streams.
 pub trait Engine<A: Allocator> {
     /// What is found of an input.
     type Found: Drop;
@@ -41,7 +41,7 @@ pub trait Engine<A: Allocator> {
         &self,
         found: &Self::Found,
         writer: &mut Watched<W>,
-    ) -> Result<(), DeviceFailed>
+    ) -> Result<(), StreamFailed>
         ensures { Writes W.contents (text self.now found.now) result writer.old writer.new };
 }
 
@@ -49,7 +49,7 @@ pub trait Engine<A: Allocator> {
 /// that. It answers what was found.
 ///
 /// - A fault of the text: the engine's. No more than `MOST + 1` bytes are taken.
-/// - `Reader`, `Writer`: that device failed. After `Writer` a beginning of the text went out.
+/// - `Reader`, `Writer`: that stream failed. After `Writer` a beginning of the text went out.
 /// - `Memory`: a growth was refused.
 ///
 /// At any fault but `Writer` nothing is written.
@@ -70,6 +70,6 @@ pub fn serve<E: Engine<A>, A: Allocator + Copy, R: Read, W: Write>(
     };
     match engine.write(&found, writer) {
         Ok(()) => Ok(found),
-        Err(DeviceFailed) => Err(ToolFault::Writer),
+        Err(StreamFailed) => Err(ToolFault::Writer),
     }
 }

@@ -12,4 +12,4 @@ pub use engine::{Engine, serve};
 pub use fault::ToolFault;
 pub use strokes::write_strokes;
 pub use transfer::{collect_words, read_up_to, write_whole};
-pub use watched::{DeviceFailed, Watched};
+pub use watched::{StreamFailed, Watched};

@@ -4,7 +4,7 @@ ghost use Rattle.dvg_print.specs.Shows.{stroke_line};
 ghost use Rattle.dvg_io.specs.Watching.{Writes};
 
 use crate::transfer::write_whole;
-use crate::watched::{DeviceFailed, Watched};
+use crate::watched::{StreamFailed, Watched};
 use dvg_gen::Stroke;
 use dvg_print::Line;
 use std::io::Write;
@@ -14,7 +14,7 @@ pub fn write_strokes<W: Write>(
     line: &mut Line,
     strokes: &[Stroke],
     writer: &mut Watched<W>,
-) -> Result<(), DeviceFailed>
+) -> Result<(), StreamFailed>
     ensures { Writes W.contents (flat_map stroke_line strokes.now) result writer.old writer.new }
 {
     for stroke in strokes {

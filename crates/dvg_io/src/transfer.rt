@@ -1,11 +1,11 @@
-//! Whole reads and writes through watched devices.
+//! Whole reads and writes through watched streams.
 ghost use Rattle.std.specs.Prelude.{◌≡◌, ◌⊎◌, ◌↔◌, ◌+◌, ◌^◌, ◌<◌, ◌≤◌, ◌%◌, length, take, vec_len};
 ghost use Rattle.std.specs.Prelude.{IfOk, IfErr, IfSome, IsErrOf};
 ghost use Rattle.dvg_code.specs.Words.{words_of};
-ghost use Rattle.dvg_io.specs.Watching.{TakesAtMost, Writes, device_of, failures_of};
+ghost use Rattle.dvg_io.specs.Watching.{TakesAtMost, Writes, failures_of, stream_of};
 
 use crate::fault::ToolFault;
-use crate::watched::{DeviceFailed, Watched};
+use crate::watched::{StreamFailed, Watched};
 use dvg_code::{OutOfMemory, word_at};
 use std::alloc::Allocator;
 use std::io::{Read, Write};
@@ -21,11 +21,11 @@ pub fn read_up_to<A: Allocator, R: Read>(
 ) -> Result<Vec<u8, A>, ToolFault>
     requires most { most < 2 ^ 32 }
     requires fresh { failures_of reader.old ≡ 0 }
-    ensures bytes { IfOk result (λ read. IfSome (R.remaining (device_of reader.old)) (λ input.
+    ensures bytes { IfOk result (λ read. IfSome (R.remaining (stream_of reader.old)) (λ input.
         read.items ≡ take (most + 1) input)) }
     ensures short { IfOk result (λ read. vec_len read ≤ most + 1) }
     ensures took { TakesAtMost (most + 1)
-        (R.remaining (device_of reader.old)) (R.remaining (device_of reader.new)) }
+        (R.remaining (stream_of reader.old)) (R.remaining (stream_of reader.new)) }
     ensures fault { IfErr result (λ fault. (fault ≡ ToolFault.Reader)
         ⊎ (fault ≡ ToolFault.Memory)) }
     ensures reader { IsErrOf result ToolFault.Reader ↔ (failures_of reader.new ≡ 1) }
@@ -63,13 +63,13 @@ pub fn collect_words<A: Allocator>(alloc: A, bytes: &[u8]) -> Result<Vec<u16, A>
 /// Writes the whole of a text, by as many writes as it takes. After a failure a beginning of it
 /// went out.
 #[inline(always)]
-pub fn write_whole<W: Write>(writer: &mut Watched<W>, text: &[u8]) -> Result<(), DeviceFailed>
+pub fn write_whole<W: Write>(writer: &mut Watched<W>, text: &[u8]) -> Result<(), StreamFailed>
     ensures { Writes W.contents text.now result writer.old writer.new }
 {
     let mut rest = text;
     while !rest.is_empty() {
         let Ok(count) = writer.write(rest) else {
-            return Err(DeviceFailed);
+            return Err(StreamFailed);
         };
         rest = &rest[count..];
     }

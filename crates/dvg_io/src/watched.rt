@@ -2,7 +2,7 @@
 ghost use Rattle.std.specs.Prelude.{◌≡◌, ◌<◌, IfOk, length};
 ghost use Rattle.std.specs.Io.{ReadsAtMost, WritesAtMost};
 ghost use Rattle.std.specs.Io.KnownBytes.{Keeps, ReadConsumes, WriteAppends};
-ghost use Rattle.dvg_io.specs.Watching.{CountsErrors, device_of, failures_of, one_more};
+ghost use Rattle.dvg_io.specs.Watching.{CountsErrors, failures_of, one_more, stream_of};
 
 use std::io::{Read, Write};
 use thiserror::Error;
@@ -10,25 +10,25 @@ use thiserror::Error;
 /// A reader or writer failed, which was counted.
 #[derive(Clone, Copy, Debug, PartialEq, Eq, Error)]
 #[error("a reader or writer failed")]
-pub struct DeviceFailed;
+pub struct StreamFailed;
 
 /// A reader or writer whose failures are counted. A failure is an error that it answers, and a
 /// write that takes nothing of a part that isn't empty; an interrupted call is an error like any
 /// other. It isn't a `Read` or `Write` itself, so that no call goes past the count.
 #[derive(Drop)]
 pub struct Watched<T> {
-    device: T,
+    stream: T,
     failures: u32,
 }
 
 impl<T> Watched<T> {
     /// Watches a reader or writer, with the count 0.
-    pub fn new(device: T) -> Watched<T>
-        ensures device { device_of result ≡ device }
+    pub fn new(stream: T) -> Watched<T>
+        ensures stream { stream_of result ≡ stream }
         ensures failures { failures_of result ≡ 0 }
     {
         Watched {
-            device,
+            stream,
             failures: 0,
         }
     }
@@ -42,32 +42,32 @@ impl<T> Watched<T> {
 
     /// Gives back what was watched.
     pub fn into_inner(self) -> T
-        ensures { result ≡ device_of self }
+        ensures { result ≡ stream_of self }
     {
-        self.device
+        self.stream
     }
 
     // Counts a failure.
-    fn failed(&mut self) -> DeviceFailed
-        ensures device { device_of self.new ≡ device_of self.old }
+    fn failed(&mut self) -> StreamFailed
+        ensures stream { stream_of self.new ≡ stream_of self.old }
         ensures counts { failures_of self.new ≡ one_more (failures_of self.old) }
     {
         self.failures = self.failures.saturating_add(1);
-        DeviceFailed
+        StreamFailed
     }
 }
 
 impl<R: Read> Watched<R> {
     /// One read into `buf`, which answers how many bytes it gave. At an error no byte was taken,
     /// and the failure is counted.
-    pub fn read(&mut self, buf: &mut [u8]) -> Result<usize, DeviceFailed>
+    pub fn read(&mut self, buf: &mut [u8]) -> Result<usize, StreamFailed>
         ensures bound { ReadsAtMost result buf.new }
-        ensures bytes { ReadConsumes (R.remaining (device_of self.old))
-            (R.remaining (device_of self.new))
+        ensures bytes { ReadConsumes (R.remaining (stream_of self.old))
+            (R.remaining (stream_of self.new))
             result buf.new }
         ensures counts { CountsErrors result (failures_of self.old) (failures_of self.new) }
     {
-        match self.device.read(buf) {
+        match self.stream.read(buf) {
             Ok(count) => Ok(count),
             Err(_) => Err(self.failed()),
         }
@@ -77,15 +77,15 @@ impl<R: Read> Watched<R> {
 impl<W: Write> Watched<W> {
     /// One write of a part of a text, which answers how many bytes were taken. At an error no byte
     /// went out, and the failure is counted.
-    pub fn write(&mut self, part: &[u8]) -> Result<usize, DeviceFailed>
+    pub fn write(&mut self, part: &[u8]) -> Result<usize, StreamFailed>
         ensures bound { WritesAtMost result part.now }
-        ensures bytes { WriteAppends (W.contents (device_of self.old))
-            (W.contents (device_of self.new))
+        ensures bytes { WriteAppends (W.contents (stream_of self.old))
+            (W.contents (stream_of self.new))
             result part.now }
         ensures some { IfOk result (λ count. 0 < length part.now → 0 < count) }
         ensures counts { CountsErrors result (failures_of self.old) (failures_of self.new) }
     {
-        match self.device.write(part) {
+        match self.stream.write(part) {
             Ok(0) if !part.is_empty() => Err(self.failed()),
             Ok(count) => Ok(count),
             Err(_) => Err(self.failed()),
@@ -93,11 +93,11 @@ impl<W: Write> Watched<W> {
     }
 
     /// One flush. At an error the failure is counted.
-    pub fn flush(&mut self) -> Result<(), DeviceFailed>
-        ensures bytes { Keeps (W.contents (device_of self.old)) (W.contents (device_of self.new)) }
+    pub fn flush(&mut self) -> Result<(), StreamFailed>
+        ensures bytes { Keeps (W.contents (stream_of self.old)) (W.contents (stream_of self.new)) }
         ensures counts { CountsErrors result (failures_of self.old) (failures_of self.new) }
     {
-        match self.device.flush() {
+        match self.stream.flush() {
             Ok(()) => Ok(()),
             Err(_) => Err(self.failed()),
         }

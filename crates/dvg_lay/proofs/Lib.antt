@@ -4,7 +4,7 @@ mod LaidCuttings
 pub mod Lists
 mod NearNames
 mod RomBytes
-mod SaidWords
+mod SaidTokens
 mod TableLines
-pub mod Told
+pub mod Described
 pub mod SketchesLaid

@@ -61,7 +61,7 @@ faulted : (fault : NamedFault) (read input : List ℕ) → read ≡ take (104857
     → HasSketchFault input (text_fault fault)
 faulted fault read input e has = record {
   named = fault;
-  told = refl;
+  described = refl;
   has = ⊎_elim
       (λ whole. subst (λ text. HasNamedFault text fault) whole has)
       (λ long. long_fault fault read input long.0 long.1 has)
@@ -74,10 +74,10 @@ unread_by : {F : Type 0} (Finds : F → Type 0) (fault : SketchFault) (read inpu
 unread_by Finds (sketches.Text fault) read input e stops = faulted fault read input e stops
 unread_by Finds sketches.Memory read input e stops = tt
 
-pub unread : {F : Type 0} (Out : List ℕ → F → Type 0) (answer : Result F ToolFault) (told : ToolFault) (fault : SketchFault) (read input : List ℕ)
-    → read ≡ take (1048576 + 1) input → told ≡ tool_fault fault → StopsText fault read → answer ≡ Err told
+pub unread : {F : Type 0} (Out : List ℕ → F → Type 0) (answer : Result F ToolFault) (described : ToolFault) (fault : SketchFault) (read input : List ℕ)
+    → read ≡ take (1048576 + 1) input → described ≡ tool_fault fault → StopsText fault read → answer ≡ Err described
     → IsFinding (Out input) (HasSketchFault input) answer
-unread Out answer told fault read input e is stops err =
+unread Out answer described fault read input e is stops err =
     subst (IsFinding (Out input) (HasSketchFault input)) (sym (err ∙ ap Err is)) (unread_by (Out input) fault read input e stops)
 
 -- so an answer of what was read is one of the input, where it comes of short texts alone

@@ -32,10 +32,10 @@ abbrev pub tool_fault : SketchFault → ToolFault
 tool_fault (sketches.Text fault) = Text (text_fault fault)
 tool_fault sketches.Memory = Memory
 
--- the text has the fault of a sketch that is told so
+-- the text has the fault of a sketch that is described so
 pub record HasSketchFault (text : List ℕ) (fault : TextFault) : Type 0 where
   pub named : NamedFault
-  pub told : fault ≡ text_fault named
+  pub described : fault ≡ text_fault named
   pub has : HasNamedFault text named
 
 -- the text denotes frames over a ROM with names, and this came of laying these out

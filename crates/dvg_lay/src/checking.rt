@@ -1,4 +1,4 @@
-//! The check of frames, and what is told of a refused one.
+//! The check of frames, and what is said of a refused one.
 ghost use Rattle.std.specs.Prelude.{◌≡◌, ◌<◌, ◌↔◌, All, IfErr, IfOk, IsTrue, MatchOption, OnOk};
 ghost use Rattle.std.specs.Prelude.{option_map};
 ghost use Rattle.dvg_frame.specs.Picture.{IsBound};
@@ -121,8 +121,8 @@ fn tell<A: Allocator + Copy>(
     }
 }
 
-/// The refusal of a frame whose picture has so many words, told by the line of operation 0. Or else
-/// a growth was refused.
+/// The refusal of a frame whose picture has so many words, named by the line of operation 0. Or
+/// else a growth was refused.
 pub fn tell_long<A: Allocator + Copy>(
     alloc: A,
     names: &[RomName],
@@ -208,13 +208,13 @@ fn first_low(ops: &[Op]) -> Option<usize>
 }
 
 /// Tells of the first frame with an operation that names a word of the ROM below 400.
-pub(crate) fn check_told<A: Allocator + Copy>(
+pub(crate) fn check_tellable<A: Allocator + Copy>(
     alloc: A,
     names: &[RomName],
     frames: &[NamedFrame],
 ) -> Result<(), Unlaid<A>>
     requires { All IsLent frames.now }
-    ensures told { OnOk result (All IsTellable frames.now) }
+    ensures tellable { OnOk result (All IsTellable frames.now) }
     ensures refused { IfErr result (IsUnlaid (λ refusal.
         IsFirst IsTellable (TellsLow names.now refusal) frames.now)) }
 {

@@ -1,6 +1,6 @@
 //! What is laid out of a sketch: the bytes of its frames as they lie in a half of the vector RAM,
 //! tables of them for an assembler, the bytes of its ROM, and the names of the ROM (all formats are
-//! this project's own choice). Each frame is checked first. A refused one is told by its line of
+//! this project's own choice). Each frame is checked first. A refused one is named by its line of
 //! the sketch, or by a word of the ROM.
 //!
 //! Everything is made in memory, so that it can be written whole. The engine reads the text of a

@@ -5,38 +5,38 @@ ghost use Rattle.dvg_read.specs.LineParts.{bytes_of};
 ghost use Rattle.dvg_lay.specs.Said.{after_name, gives_name, said};
 
 use crate::text::put;
-use dvg_named::words_of;
+use dvg_named::tokens_of;
 use std::alloc::{AllocError, Allocator};
 
-// Whether a word gives a name.
-fn gives_name(word: &[u8]) -> bool
-    ensures { result ≡ gives_name word.now }
+// Whether a token gives a name.
+fn gives_name(token: &[u8]) -> bool
+    ensures { result ≡ gives_name token.now }
 {
-    word.ends_with(b":")
+    token.ends_with(b":")
 }
 
-// The words after the name that the first one gives.
-fn after_name<'a, 'b>(words: &'b [&'a [u8]]) -> &'b [&'a [u8]]
-    ensures { bytes_of result.now ≡ after_name (bytes_of words.now) }
+// The tokens after the name that the first one gives.
+fn after_name<'a, 'b>(tokens: &'b [&'a [u8]]) -> &'b [&'a [u8]]
+    ensures { bytes_of result.now ≡ after_name (bytes_of tokens.now) }
 {
-    match words {
+    match tokens {
         [first, rest @ ..] if gives_name(first) => rest,
-        _ => words,
+        _ => tokens,
     }
 }
 
-// Appends words, with a space between each two.
-fn put_joined<A: Allocator>(text: &mut Vec<u8, A>, words: &[&[u8]]) -> Result<(), AllocError>
+// Appends tokens, with a space between each two.
+fn put_joined<A: Allocator>(text: &mut Vec<u8, A>, tokens: &[&[u8]]) -> Result<(), AllocError>
     ensures { OnOk result (text.new.items
-        ≡ text.old.items ++ join_with_byte 32 (bytes_of words.now)) }
+        ≡ text.old.items ++ join_with_byte 32 (bytes_of tokens.now)) }
 {
-    let [first, rest @ ..] = words else {
+    let [first, rest @ ..] = tokens else {
         return Ok(());
     };
     put(text, first)?;
-    for word in rest {
+    for token in rest {
         put(text, b" ")?;
-        put(text, word)?;
+        put(text, token)?;
     }
     Ok(())
 }
@@ -45,7 +45,7 @@ fn put_joined<A: Allocator>(text: &mut Vec<u8, A>, words: &[&[u8]]) -> Result<()
 pub(crate) fn put_said<A: Allocator>(text: &mut Vec<u8, A>, line: &[u8]) -> Result<(), AllocError>
     ensures { OnOk result (text.new.items ≡ text.old.items ++ said line.now) }
 {
-    match words_of(line) {
+    match tokens_of(line) {
         Some(found) => put_joined(text, after_name(found.as_slice())),
         None => Ok(()),
     }

@@ -15,7 +15,7 @@ use Rattle.dvg_read.specs.Texts.{lines}
 use Rattle.dvg_read.proofs.LineEnds.{line_at, line_last}
 use Rattle.dvg_read.proofs.FirstBytes.{IsCutAt, behind}
 use Rattle.dvg_read.proofs.Zips.{zip_length, zip_push}
-use Rattle.dvg_logs.specs.LogLines.{IsLogOf, Tells, passed, told}
+use Rattle.dvg_logs.specs.LogLines.{IsLogOf, Tells, logged, passed}
 use Rattle.dvg_logs.specs.LogCounts.{counts_of}
 use Rattle.dvg_logs.specs.LogTexts.{IsTornAt, IsUntornLog, IsWhole}
 use Rattle.dvg_logs.specs.declared.log_reading.JudgedLines.{JudgedLines}
@@ -87,7 +87,7 @@ begins_of (byte ∷ bytes) more unended some = begins byte bytes more unended
 -- a line that is too long tells nothing
 pub too_long : (text : List ℕ) → 64 < length text → (line : Line) → ¬ Tells line text
 too_long text over line (passed short is) = absurd (omega arith)
-too_long text over line (told short is row) = absurd (omega arith)
+too_long text over line (logged short is row) = absurd (omega arith)
 
 -- ---- bytes more
 
@@ -136,7 +136,7 @@ module _ {judged : JudgedLines} {unfinished text : List ℕ} (bytes : List ℕ) 
   }
 
   -- it is too long
-  pub overlong_stops : (P : List (List ℕ) → Type 0) → 64 < length (unfinished ++ bytes) → ((line : List ℕ) (after : List (List ℕ)) → ((told : Line) → ¬ Tells told line) → P (read.texts ++ line ∷ after))
+  pub overlong_stops : (P : List (List ℕ) → Type 0) → 64 < length (unfinished ++ bytes) → ((line : List ℕ) (after : List (List ℕ)) → ((logged : Line) → ¬ Tells logged line) → P (read.texts ++ line ∷ after))
       → (more : List ℕ) → P (lines (text ++ (bytes ++ more)))
   overlong_stops P over stops more =
       let starts = begins_of (unfinished ++ bytes) more both_open (omega arith) in

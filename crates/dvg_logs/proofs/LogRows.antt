@@ -17,7 +17,7 @@ use Rattle.dvg_read.specs.Texts.{IsHex, parts, is_passed}
 use Rattle.dvg_read.proofs.FirstBytes.{HasNone}
 use Rattle.dvg_read.proofs.Spaces.{no_space}
 use Rattle.dvg_logs.specs.declared.log_line.LogLine.{LogLine}
-use Rattle.dvg_logs.specs.LogLines.{LogRow, Tells, started, fetched, low, wrote, halted, reset, passed, told}
+use Rattle.dvg_logs.specs.LogLines.{LogRow, Tells, started, fetched, low, wrote, halted, reset, passed, logged}
 use Rattle.dvg_logs.specs.LogLineTells.{AreNumbers, line_of}
 
 -- a line is its parts, with a space between each two
@@ -124,17 +124,17 @@ low_numbers text rest is row = numbers_in rest (low_row (subst (LogRow _) (ap pa
 
 -- ---- what is read of a whole line
 
-pub told_by : (text : List ℕ) (answer : Option LogLine) → length text ≤ 64 → is_passed text ≡ false → IfSome answer (λ found. LogRow (line_of found) (parts text)) → IfSome answer (λ found. Tells (line_of found) text)
-told_by text None short not row = tt
-told_by text (Some found) short not row = told short not row
+pub logged_by : (text : List ℕ) (answer : Option LogLine) → length text ≤ 64 → is_passed text ≡ false → IfSome answer (λ found. LogRow (line_of found) (parts text)) → IfSome answer (λ found. Tells (line_of found) text)
+logged_by text None short not row = tt
+logged_by text (Some found) short not row = logged short not row
 
 pub row_of : {line : Line} (text : List ℕ) → is_passed text ≡ false → Tells line text → LogRow line (parts text)
 row_of text not (passed short is) = absurd (true≢false (sym is ∙ not))
-row_of text not (told short is row) = row
+row_of text not (logged short is row) = row
 
 pub passed_alone : {line : Line} (text : List ℕ) → is_passed text ≡ true → Tells line text → Tick ⟼ Acted Idle ≡ line
 passed_alone text is (passed short also) = refl
-passed_alone text is (told short not row) = absurd (true≢false (sym is ∙ not))
+passed_alone text is (logged short not row) = absurd (true≢false (sym is ∙ not))
 
 pub bare_parts : (text : List ℕ) (answer : Option LogLine) → IfSome answer (λ found. LogRow (line_of found) (text ∷ [])) → IfSome answer (λ found. LogRow (line_of found) (parts text))
 bare_parts text None row = tt

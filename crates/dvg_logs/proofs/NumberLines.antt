@@ -9,7 +9,7 @@ use Rattle.std.proofs.lemmas.List.{drop_more, take_rest}
 use Rattle.std.proofs.lemmas.List.Elements.{All-cons}
 use Rattle.dvg_log.specs.Log.{Line}
 use Rattle.dvg_read.specs.Texts.{IsHex, is_passed, parts}
-use Rattle.dvg_logs.specs.LogLines.{LogRow, Tells, told}
+use Rattle.dvg_logs.specs.LogLines.{LogRow, Tells, logged}
 use Rattle.dvg_logs.specs.LogLineTells.{AreNumbers}
 use Rattle.dvg_logs.specs.declared.log_reading.JudgedLines.{JudgedLines}
 use Rattle.dvg_logs.specs.LogReading.{HasJudged, HeadLine, IsOpen, IsRead, TakesLine, TakesLines}
@@ -85,14 +85,14 @@ no_ends [] other none h = h
 no_ends (byte ∷ bytes) other (none, more) h = (none, no_ends bytes other more h)
 
 -- so a name with its space, numbers and an end are a line at a text's head
-number_head : {count a n : ℕ} (told : Line) (name front back text rest : List ℕ) → text ≡ (name ++ (front ++ 32 ∷ back)) ++ 10 ∷ rest
+number_head : {count a n : ℕ} (logged : Line) (name front back text rest : List ℕ) → text ≡ (name ++ (front ++ 32 ∷ back)) ++ 10 ∷ rest
     → NoEnds name → IsHex 3 a front → IsHex count n back → length name + count ≤ 60 → is_passed (name ++ (front ++ 32 ∷ back)) ≡ false
-    → LogRow told (parts (name ++ (front ++ 32 ∷ back))) → HeadLine told text rest
+    → LogRow logged (parts (name ++ (front ++ 32 ∷ back))) → HeadLine logged text rest
 number_head line name front back text rest is none address number few not row = record {
   line = name ++ (front ++ 32 ∷ back);
   split = is;
   unended = open_of (name ++ (front ++ 32 ∷ back)) (no_ends name (front ++ 32 ∷ back) none (no_ends front (32 ∷ back) (no_end front address.digits) (refl, no_end back number.digits)));
-  tells = told (omega (arith, length-append name (front ++ 32 ∷ back), length-append front (32 ∷ back), address.size, number.size, few)) not row;
+  tells = logged (omega (arith, length-append name (front ++ 32 ∷ back), length-append front (32 ∷ back), address.size, number.size, few)) not row;
 }
 
 numbers : {count a n : ℕ} {front back : List ℕ} → IsHex 3 a front → IsHex count n back → AreNumbers count a n (front ++ 32 ∷ back)
@@ -115,8 +115,8 @@ fetched_head {a} {n} text rest front back is address number =
 
 -- ---- lines that are taken
 
-pub line_taken : {old new : JudgedLines} {told : Line} {text rest : List ℕ} → HeadLine told text rest
-    → ((before : List (List ℕ)) (line : List ℕ) → HasJudged old before → Tells told line → HasJudged new (before ++ line ∷ [])) → TakesLine old new text rest
+pub line_taken : {old new : JudgedLines} {logged : Line} {text rest : List ℕ} → HeadLine logged text rest
+    → ((before : List (List ℕ)) (line : List ℕ) → HasJudged old before → Tells logged line → HasJudged new (before ++ line ∷ [])) → TakesLine old new text rest
 line_taken head takes = record { line = head.line; split = head.split; unended = head.unended; judged = λ before judged. takes before head.line judged head.tells }
 
 pub none_taken : (judged : JudgedLines) (text : List ℕ) → TakesLines judged judged text text

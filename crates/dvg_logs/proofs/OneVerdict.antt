@@ -16,7 +16,7 @@ use Rattle.dvg_print.specs.declared.log_verdict.LogFinding.{LogFinding}
 use Rattle.dvg_print.specs.declared.log_verdict.LogFinding.TheVariants.{NotTorn, NoRunDrew, Torn}
 use Rattle.dvg_print.specs.declared.log_verdict.LogVerdict.{LogVerdict}
 use Rattle.dvg_read.proofs.Zips.{zip_same}
-use Rattle.dvg_logs.specs.LogLines.{IsLogOf, LogRow, Tells, started, fetched, low, wrote, halted, reset, passed, told}
+use Rattle.dvg_logs.specs.LogLines.{IsLogOf, LogRow, Tells, started, fetched, low, wrote, halted, reset, passed, logged}
 use Rattle.dvg_logs.specs.declared.log_reading.LogStop.{LogStop}
 use Rattle.dvg_logs.specs.declared.log_reading.LogStop.TheVariants as stop
 use Rattle.dvg_logs.specs.LogLaws.{IsJudged}
@@ -58,7 +58,7 @@ row_once (low h k) row = numbers_once low_line h k (low_row row)
 
 tells_once : (line other : Line) (text : List ℕ) → Tells line text → Tells other text → line ≡ other
 tells_once line other text (passed short is) also = passed_alone text is also
-tells_once line other text (told short not row) also = row_once row (row_of text not also)
+tells_once line other text (logged short not row) also = row_once row (row_of text not also)
 
 -- lines tell one log at most
 log_once : (log other : Log) (texts : List (List ℕ)) → IsLogOf log texts → IsLogOf other texts → log ≡ other
@@ -118,7 +118,7 @@ record StopsAt (texts : List (List ℕ)) (k : ℕ) : Type 0 where
   pub at : length before ≡ k
   pub log : Log
   pub fine : IsUntornLog log before
-  pub stops : (told : Line) → Tells told line → IsTornLine log told
+  pub stops : (logged : Line) → Tells logged line → IsTornLine log logged
 
 -- what holds throughout a log holds throughout an older part of it
 behind_all : (P : Log → _ → _ → Type 0) (later log : Log) → Throughout P (later ++ log) → Throughout P log
@@ -153,7 +153,7 @@ one_stop {texts} {k} {j} one two =
     ⊎_elim (λ less. absurd (stops_sooner one two less)) (λ not_less. ⊎_elim (λ less. absurd (stops_sooner two one less)) (λ also. omega arith) (cases_lt j k)) (cases_lt k j)
 
 syntax_stops : {texts : List (List ℕ)} {n : ℕ} (at_fault : MeetsSyntax texts n) → StopsAt texts (length at_fault.before)
-syntax_stops at_fault = record { before = at_fault.before; line = at_fault.line; after = at_fault.after; cut = at_fault.cut; at = refl; log = at_fault.log; fine = at_fault.fine; stops = λ told tells. absurd (at_fault.wrong told tells) }
+syntax_stops at_fault = record { before = at_fault.before; line = at_fault.line; after = at_fault.after; cut = at_fault.cut; at = refl; log = at_fault.log; fine = at_fault.fine; stops = λ logged tells. absurd (at_fault.wrong logged tells) }
 
 torn_stops : {texts : List (List ℕ)} {log : Log} {n address byte : ℕ} (torn : IsTornAt texts log n address byte) → StopsAt texts (length torn.before)
 torn_stops {log = log} torn =
@@ -179,7 +179,7 @@ torn_stops {log = log} torn =
       at = refl;
       log = front.older;
       fine = record { tells = front.tells_older; untorn = subst (Throughout IsUntorn) log first.untorn };
-      stops = λ told tells. subst (IsTornLine front.older) (tells_once front.line told torn.line front.tells tells) is_torn;
+      stops = λ logged tells. subst (IsTornLine front.older) (tells_once front.line logged torn.line front.tells tells) is_torn;
     }
 
 never_stops : {texts : List (List ℕ)} {k : ℕ} (log : Log) → IsUntornLog log texts → StopsAt texts k → ⊥

@@ -23,7 +23,7 @@ pub data LogRow : Line → List (List ℕ) → Type 0 where
 -- a line of at most 64 bytes says what its parts say, or is passed over, which counts as an idle tick
 pub data Tells : Line → List ℕ → Type 0 where
   passed : {text : List ℕ} → length text ≤ 64 → is_passed text ≡ true → Tells (Tick ⟼ Acted Idle) text
-  told : {line : Line} {text : List ℕ} → length text ≤ 64 → is_passed text ≡ false → LogRow line (parts text)
+  logged : {line : Line} {text : List ℕ} → length text ≤ 64 → is_passed text ≡ false → LogRow line (parts text)
       → Tells line text
 
 -- these lines of text give this log, a line each

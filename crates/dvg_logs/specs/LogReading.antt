@@ -60,11 +60,11 @@ abbrev pub place_of : LogReading → ℕ
 place_of reading = 65 * reading.judged.count + length reading.unfinished.items
 
 -- at the head of a text stands a line that ends and says this, and then comes the rest; 10 is LF
-pub record HeadLine (told : Line) (text rest : List ℕ) : Type 0 where
+pub record HeadLine (logged : Line) (text rest : List ℕ) : Type 0 where
   pub line : List ℕ
   pub split : text ≡ line ++ 10 ∷ rest
   pub unended : IsOpen line
-  pub tells : Tells told line
+  pub tells : Tells logged line
 
 -- a line at the head of a text was judged, and this is the rest
 pub record TakesLine (old new : JudgedLines) (text rest : List ℕ) : Type 0 where

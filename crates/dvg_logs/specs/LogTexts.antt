@@ -39,7 +39,7 @@ pub record MeetsSyntax (texts : List (List ℕ)) (n : ℕ) : Type 0 where
   pub number : n ≡ length before + 1
   pub log : Log
   pub fine : IsUntornLog log before
-  pub wrong : (told : Line) → ¬ Tells told line
+  pub wrong : (logged : Line) → ¬ Tells logged line
 
 -- there are more than 2 ^ 64 - 1 lines, and none of the first 2 ^ 64 - 1 is torn or at fault
 pub record MeetsTooMany (texts : List (List ℕ)) : Type 0 where

@@ -38,9 +38,9 @@ pub enum LogLine {
 /// space between the parts; or it is passed over, as it is empty or begins with `#`. An address has
 /// three hexadecimal digits, a word four and a byte two, of either case. It has at most 64 bytes.
 pub fn read_log_line(line: &[u8]) -> Option<LogLine>
-    ensures found { IfSome result (λ told. Tells (line_of told) line.now) }
-    ensures only { (told : Line) → Tells told line.now
-        → IsSomeAnd result (λ found. line_of found ≡ told) }
+    ensures found { IfSome result (λ logged. Tells (line_of logged) line.now) }
+    ensures only { (logged : Line) → Tells logged line.now
+        → IsSomeAnd result (λ found. line_of found ≡ logged) }
 {
     if line.len() > MOST_LINE_BYTES {
         return None;
@@ -53,9 +53,9 @@ pub fn read_log_line(line: &[u8]) -> Option<LogLine>
 
 // What a line says that isn't passed over.
 fn row(line: &[u8]) -> Option<LogLine>
-    ensures found { IfSome result (λ told. LogRow (line_of told) (parts line.now)) }
-    ensures only { (told : Line) → LogRow told (parts line.now)
-        → IsSomeAnd result (λ found. line_of found ≡ told) }
+    ensures found { IfSome result (λ logged. LogRow (line_of logged) (parts line.now)) }
+    ensures only { (logged : Line) → LogRow logged (parts line.now)
+        → IsSomeAnd result (λ found. line_of found ≡ logged) }
 {
     if let Some(rest) = line.strip_prefix(b"wrote ") {
         let (address, byte) = numbers(rest, 2)?;
@@ -91,9 +91,9 @@ fn numbers(bytes: &[u8], digits: usize) -> Option<(u16, u16)>
 
 // What a name alone says.
 fn bare(name: &[u8]) -> Option<LogLine>
-    ensures found { IfSome result (λ told. LogRow (line_of told) (name.now ∷ [])) }
-    ensures only { (told : Line) → LogRow told (name.now ∷ [])
-        → IsSomeAnd result (λ found. line_of found ≡ told) }
+    ensures found { IfSome result (λ logged. LogRow (line_of logged) (name.now ∷ [])) }
+    ensures only { (logged : Line) → LogRow logged (name.now ∷ [])
+        → IsSomeAnd result (λ found. line_of found ≡ logged) }
 {
     match name {
         b"started" => Some(LogLine::Started),

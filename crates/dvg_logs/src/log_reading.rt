@@ -40,16 +40,16 @@ pub enum LogStop {
 // Tells the judge what a line says. Answers the byte address and the byte of the write that tears a
 // picture, if it does.
 #[inline(always)]
-fn tell(judge: &mut Judge, told: LogLine) -> Option<(u16, u8)>
+fn tell(judge: &mut Judge, logged: LogLine) -> Option<(u16, u8)>
     ensures stands { (log : Log) → StandsAfter judge.old log
-        → StandsAfter judge.new (line_of told ∷ log) }
+        → StandsAfter judge.new (line_of logged ∷ log) }
     ensures torn { (log : Log) → StandsAfter judge.old log
-        → IfSome result (λ wrote. (line_of told ≡ Tick ⟼ Acted (Wrote wrote.0 wrote.1))
-        × IsTornLine log (line_of told)) }
+        → IfSome result (λ wrote. (line_of logged ≡ Tick ⟼ Acted (Wrote wrote.0 wrote.1))
+        × IsTornLine log (line_of logged)) }
     ensures untorn { (log : Log) → StandsAfter judge.old log → IsNone result
-        → ¬ IsTornLine log (line_of told) }
+        → ¬ IsTornLine log (line_of logged) }
 {
-    match told {
+    match logged {
         LogLine::Started => judge.started(),
         LogLine::Fetched(address, word) => judge.fetched(address, word),
         LogLine::Wrote(address, byte) => {
@@ -67,12 +67,12 @@ fn tell(judge: &mut Judge, told: LogLine) -> Option<(u16, u8)>
 // What was counted in some lines, and in one more. None of the numbers passes that of the lines, so
 // none wraps.
 #[inline(always)]
-fn counted(counts: LogCounts, told: LogLine) -> LogCounts
+fn counted(counts: LogCounts, logged: LogLine) -> LogCounts
     ensures { (log : Log) → counts ≡ counts_of log → length log < 2 ^ 64 - 1
-        → result ≡ counts_of (line_of told ∷ log) }
+        → result ≡ counts_of (line_of logged ∷ log) }
 {
     let mut counts = counts;
-    match told {
+    match logged {
         LogLine::Started => counts.runs = counts.runs.wrapping_add(1),
         LogLine::Wrote(..) => counts.writes = counts.writes.wrapping_add(1),
         LogLine::Fetched(..) => counts.words = counts.words.wrapping_add(1),
@@ -98,7 +98,7 @@ impl JudgedLines {
     // Why the next line stops the reading, where it says nothing that a line may say.
     fn wrong(&self) -> LogStop
         ensures stop { (before : List (List ℕ)) (line : List ℕ) (after : List (List ℕ))
-            → HasJudged self.now before → ((told : Line) → ¬ Tells told line)
+            → HasJudged self.now before → ((logged : Line) → ¬ Tells logged line)
             → StopsAt result (before ++ line ∷ after) }
         ensures next { number_of result ≡ self.now.count + 1 }
     {
@@ -121,11 +121,11 @@ impl JudgedLines {
             return Err(LogStop::TooLong);
         }
         let number = self.count + 1;
-        let Some(told) = read_log_line(line) else {
+        let Some(logged) = read_log_line(line) else {
             return Err(LogStop::Syntax(number));
         };
-        let counts = counted(self.counts, told);
-        match tell(&mut self.judge, told) {
+        let counts = counted(self.counts, logged);
+        match tell(&mut self.judge, logged) {
             Some((address, byte)) => Err(LogStop::Torn {
                 line: number,
                 address,
@@ -142,21 +142,21 @@ impl JudgedLines {
 
     /// Takes a line that says this, where that isn't torn. Answers whether it is taken.
     #[inline(always)]
-    pub fn take_told(&mut self, told: LogLine) -> bool
+    pub fn take_logged(&mut self, logged: LogLine) -> bool
         requires room { self.old.count < 2 ^ 64 - 1 }
         ensures taken { IsTrue result → (before : List (List ℕ)) (line : List ℕ)
-            → HasJudged self.old before → Tells (line_of told) line
+            → HasJudged self.old before → Tells (line_of logged) line
             → HasJudged self.new (before ++ line ∷ []) }
         ensures count { IsTrue result → self.new.count ≡ self.old.count + 1 }
         ensures torn { ¬ IsTrue result → self.new ≡ self.old }
     {
         let mut judge = self.judge;
-        if tell(&mut judge, told).is_some() {
+        if tell(&mut judge, logged).is_some() {
             return false;
         }
         self.judge = judge;
         self.count += 1;
-        self.counts = counted(self.counts, told);
+        self.counts = counted(self.counts, logged);
         true
     }
 }

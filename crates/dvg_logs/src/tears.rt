@@ -2,13 +2,13 @@
 ghost use Rattle.std.specs.Prelude.{◌≡◌, ◌⊎◌, ◌↔◌, ◌≤◌, IfErr, IfSome, IsErrOf, OnErr, OnOk};
 ghost use Rattle.std.specs.Io.KnownBytes.{Appends};
 ghost use Rattle.dvg_io.specs.Faults.{StopsBeforeWriting};
-ghost use Rattle.dvg_io.specs.Watching.{BeginsToWrite, CountsErrors, device_of, failures_of};
+ghost use Rattle.dvg_io.specs.Watching.{BeginsToWrite, CountsErrors, failures_of, stream_of};
 ghost use Rattle.dvg_print.specs.LogVerdicts.{log_verdict_text};
 ghost use Rattle.dvg_logs.specs.Tears.{Takes, Tears};
 ghost use Rattle.dvg_logs.specs.Judging.{IsReadingFault, JudgesInput, answer_of, found_in};
 
 use crate::log_reading::{LogReading, LogStop};
-use dvg_io::{DeviceFailed, ToolFault, Watched, write_whole};
+use dvg_io::{StreamFailed, ToolFault, Watched, write_whole};
 use dvg_print::{Line, LogCounts, LogFinding, LogVerdict};
 use dvg_read::TextFault;
 use std::io::{Read, Write};
@@ -58,9 +58,9 @@ fn found(counts: LogCounts) -> LogFinding
 // What is said of the text of a log.
 fn judge_text<R: Read>(reader: &mut Watched<R>) -> Result<LogVerdict, ToolFault>
     requires fresh { failures_of reader.old ≡ 0 }
-    ensures judges { IfSome (R.remaining (device_of reader.old))
-        (λ input. JudgesInput result input (R.remaining (device_of reader.old))
-        (R.remaining (device_of reader.new))) }
+    ensures judges { IfSome (R.remaining (stream_of reader.old))
+        (λ input. JudgesInput result input (R.remaining (stream_of reader.old))
+        (R.remaining (stream_of reader.new))) }
     ensures fault { IfErr result IsReadingFault }
     ensures reader { IsErrOf result ToolFault.Reader ↔ (failures_of reader.new ≡ 1) }
     ensures stops { failures_of reader.new ≤ 1 }
@@ -89,11 +89,11 @@ fn judge_text<R: Read>(reader: &mut Watched<R>) -> Result<LogVerdict, ToolFault>
 }
 
 // Writes what is said of a log.
-fn write_verdict<W: Write>(writer: &mut Watched<W>, verdict: LogVerdict) -> Result<(), DeviceFailed>
-    ensures ok { OnOk result (Appends (W.contents (device_of writer.old))
-        (W.contents (device_of writer.new)) (log_verdict_text verdict)) }
+fn write_verdict<W: Write>(writer: &mut Watched<W>, verdict: LogVerdict) -> Result<(), StreamFailed>
+    ensures ok { OnOk result (Appends (W.contents (stream_of writer.old))
+        (W.contents (stream_of writer.new)) (log_verdict_text verdict)) }
     ensures err { OnErr result (BeginsToWrite (log_verdict_text verdict)
-        (W.contents (device_of writer.old)) (W.contents (device_of writer.new))) }
+        (W.contents (stream_of writer.old)) (W.contents (stream_of writer.new))) }
     ensures counts { CountsErrors result (failures_of writer.old) (failures_of writer.new) }
 {
     let mut line = Line::new();
@@ -121,7 +121,7 @@ fn write_verdict<W: Write>(writer: &mut Watched<W>, verdict: LogVerdict) -> Resu
 ///   and none before it is torn.
 /// - `TooLong`: none of the first 18,446,744,073,709,551,615 lines is torn or at fault, and there
 ///   are more.
-/// - `Reader`, `Writer`: that device failed. After `Writer` a beginning of the text went out.
+/// - `Reader`, `Writer`: that stream failed. After `Writer` a beginning of the text went out.
 ///
 /// `Memory` never comes. Where it stops before it writes, which is at any fault but `Writer`, the
 /// writer is as it was.
@@ -135,12 +135,12 @@ pub fn torn<R: Read, W: Write>(
 
     // Where the reader's bytes are known: what is said, what went out, when each fault of the text
     // comes, what was taken.
-    ensures tears { IfSome (R.remaining (device_of reader.old)) (λ input.
-        Tears result input (W.contents (device_of writer.old))
-        (W.contents (device_of writer.new))) }
-    ensures took { IfSome (R.remaining (device_of reader.old)) (λ input.
-        Takes result input (R.remaining (device_of reader.old))
-        (R.remaining (device_of reader.new))) }
+    ensures tears { IfSome (R.remaining (stream_of reader.old)) (λ input.
+        Tears result input (W.contents (stream_of writer.old))
+        (W.contents (stream_of writer.new))) }
+    ensures took { IfSome (R.remaining (stream_of reader.old)) (λ input.
+        Takes result input (R.remaining (stream_of reader.old))
+        (R.remaining (stream_of reader.new))) }
 
     // Whatever the reader and the writer are.
     ensures no_memory { ¬ IsErrOf result ToolFault.Memory }

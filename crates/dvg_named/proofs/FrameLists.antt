@@ -42,10 +42,10 @@ top_before [] (first ∷ others) last = refl
 top_before (row ∷ rows) others last = refl
 
 -- the top, others and a last section
-pub frames_all : (told : RomText) (first : Section) (others : List Section) (last : Section)
-    → frames (sketch_of told (first ∷ others) last)
+pub frames_all : (stated : RomText) (first : Section) (others : List Section) (last : Section)
+    → frames (sketch_of stated (first ∷ others) last)
     ≡ (rows_at_top first.rows ++ filter_map frame_in others) ++ frame_list last.head last.rows
-frames_all told first others last =
+frames_all stated first others last =
     ap (λ l. l ++ filter_map frame_in (others ++ last ∷ [])) (top_before first.rows others last)
     ∙ ap (λ l. rows_at_top first.rows ++ l)
     (filter_map-append frame_in others (last ∷ [])
@@ -86,26 +86,26 @@ rest_is : {X : Type 0} (xs : List X) → take (length xs - 1) (drop 1 xs) ≡ dr
 rest_is [] = refl
 rest_is (x ∷ xs) = take_all (length (x ∷ xs) - 1) xs (omega arith)
 
-cut_first : {A : Type 0} (closed : List (Part A)) (last first : Part A) (found now : List FrameRows) (told : RomText)
+cut_first : {A : Type 0} (closed : List (Part A)) (last first : Part A) (found now : List FrameRows) (stated : RomText)
     → 1 ≤ length closed → first ≡ get_or closed 0 first
     → found ≡ rows_at_top (rows_of first.rows.items) ++ filter_map frame_in (map section_in (drop 1 closed))
     → now ≡ found ++ frame_list (head_in last.head) (rows_of last.rows.items)
-    → now ≡ frames (sketch_of told (map section_in closed) (section_in last))
-cut_first [] last first found now told low is were are = absurd (omega arith)
-cut_first (one ∷ others) last first found now told low is were are =
+    → now ≡ frames (sketch_of stated (map section_in closed) (section_in last))
+cut_first [] last first found now stated low is were are = absurd (omega arith)
+cut_first (one ∷ others) last first found now stated low is were are =
     are ∙ ap (λ l. l ++ frame_list (head_in last.head) (rows_of last.rows.items))
     (were ∙ ap (λ rows. rows_at_top rows ++ filter_map frame_in (map section_in others))
     (ap (λ part. rows_of part.rows.items) is))
-    ∙ sym (frames_all told (section_in one) (map section_in others) (section_in last))
+    ∙ sym (frames_all stated (section_in one) (map section_in others) (section_in last))
 
-pub frames_joined : {A : Type 0} (closed : List (Part A)) (last first : Part A) (found now : List FrameRows) (told : RomText)
+pub frames_joined : {A : Type 0} (closed : List (Part A)) (last first : Part A) (found now : List FrameRows) (stated : RomText)
     → 1 ≤ length closed → first ≡ get_or closed 0 first
     → found ≡ rows_at_top (rows_of first.rows.items)
     ++ filter_map frame_in (map section_in (take (length closed - 1) (drop 1 closed)))
     → now ≡ found ++ frame_list (head_in last.head) (rows_of last.rows.items)
-    → now ≡ frames (sketch_of told (map section_in closed) (section_in last))
-frames_joined closed last first found now told low is were are =
-    cut_first closed last first found now told low is
+    → now ≡ frames (sketch_of stated (map section_in closed) (section_in last))
+frames_joined closed last first found now stated low is were are =
+    cut_first closed last first found now stated low is
     (were ∙ ap (λ l. rows_at_top (rows_of first.rows.items) ++ filter_map frame_in (map section_in l)) (rest_is closed)) are
 
 pub first_has : {X : Type 0} (P : X → Type 0) (xs : List X) (x : X) → 1 ≤ length xs → x ≡ get_or xs 0 x → All P xs → P x

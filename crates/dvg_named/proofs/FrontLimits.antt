@@ -8,7 +8,7 @@ use Rattle.dvg_read.specs.RomTexts.{RomText}
 use Rattle.dvg_read.proofs.Steps.{Leads, here, on}
 use Rattle.dvg_named.specs.NamedFaults.{AreDistinct, KeepsLimits, LiesOn, names_of}
 use Rattle.dvg_named.specs.Places.{Laid, doings, size}
-use Rattle.dvg_named.specs.ReadParts.{free_told}
+use Rattle.dvg_named.specs.ReadParts.{free_stated}
 use Rattle.dvg_named.specs.RomParts.{rom_in}
 use Rattle.dvg_named.specs.Rows.{Head, Row, frame, rom, top}
 use Rattle.dvg_named.specs.Sections.{FrameRows, RomRows, Section, Spelled, frame_of, frames, rom_sections, top_frame}
@@ -108,38 +108,38 @@ lies_on_longer : (start : ℕ) (rows : List Row) (row : Row) (a : ℕ) → LiesO
     → LiesOn (laid_at start (rows ++ row ∷ [])) a
 lies_on_longer start rows row a (low, high) = (low, omega (arith, high, size-append rows (row ∷ [])))
 
-module _ (told : RomText) where
-  fits_back : (few many : List RomRows) → Extends few many → All (IsInRom told) (laid_all told many)
-      → All (IsInRom told) (laid_all told few)
-  fits_back few many (same e) h = subst (λ l. All (IsInRom told) (laid_all told l)) e h
+module _ (stated : RomText) where
+  fits_back : (few many : List RomRows) → Extends few many → All (IsInRom stated) (laid_all stated many)
+      → All (IsInRom stated) (laid_all stated few)
+  fits_back few many (same e) h = subst (λ l. All (IsInRom stated) (laid_all stated l)) e h
   fits_back few many (another next e) h =
-      all_front (IsInRom told) (laid_all told few) _
-      (subst (All (IsInRom told)) (ap (laid_all told) e ∙ laid_push few next (free_told told)) h)
+      all_front (IsInRom stated) (laid_all stated few) _
+      (subst (All (IsInRom stated)) (ap (laid_all stated) e ∙ laid_push few next (free_stated stated)) h)
   fits_back few many (longer front address rows row e f) h =
-      let start = start_at told front address in
-      let all = subst (All (IsInRom told)) (ap (laid_all told) f ∙ laid_last told front address (rows ++ row ∷ [])) h in
-      let last = all_last (IsInRom told) (laid_all told front) (laid_at start (rows ++ row ∷ [])) all in
-      subst (All (IsInRom told)) (sym (ap (laid_all told) e ∙ laid_last told front address rows))
-      (All-push (IsInRom told) (laid_all told front) (laid_at start rows)
-      (all_front (IsInRom told) (laid_all told front) (laid_at start (rows ++ row ∷ []) ∷ []) all)
+      let start = start_at stated front address in
+      let all = subst (All (IsInRom stated)) (ap (laid_all stated) f ∙ laid_last stated front address (rows ++ row ∷ [])) h in
+      let last = all_last (IsInRom stated) (laid_all stated front) (laid_at start (rows ++ row ∷ [])) all in
+      subst (All (IsInRom stated)) (sym (ap (laid_all stated) e ∙ laid_last stated front address rows))
+      (All-push (IsInRom stated) (laid_all stated front) (laid_at start rows)
+      (all_front (IsInRom stated) (laid_all stated front) (laid_at start (rows ++ row ∷ []) ∷ []) all)
       (last.0, ends_before start rows row 0xC00 last.1))
 
-  apart_back : (few many : List RomRows) → Extends few many → Apart (laid_all told many) → Apart (laid_all told few)
-  apart_back few many (same e) h = subst (λ l. Apart (laid_all told l)) e h
+  apart_back : (few many : List RomRows) → Extends few many → Apart (laid_all stated many) → Apart (laid_all stated few)
+  apart_back few many (same e) h = subst (λ l. Apart (laid_all stated l)) e h
   apart_back few many (another next e) h =
-      pairs_front (λ section next. (a : ℕ) → LiesOn section a → ¬ LiesOn next a) (laid_all told few) _
-      (subst Apart (ap (laid_all told) e ∙ laid_push few next (free_told told)) h)
+      pairs_front (λ section next. (a : ℕ) → LiesOn section a → ¬ LiesOn next a) (laid_all stated few) _
+      (subst Apart (ap (laid_all stated) e ∙ laid_push few next (free_stated stated)) h)
   apart_back few many (longer front address rows row e f) h =
-      let start = start_at told front address in
-      let all = subst Apart (ap (laid_all told) f ∙ laid_last told front address (rows ++ row ∷ [])) h in
-      subst Apart (sym (ap (laid_all told) e ∙ laid_last told front address rows))
-      (apart_push (laid_all told front) (laid_at start rows)
-      (pairs_front (λ section next. (a : ℕ) → LiesOn section a → ¬ LiesOn next a) (laid_all told front)
+      let start = start_at stated front address in
+      let all = subst Apart (ap (laid_all stated) f ∙ laid_last stated front address (rows ++ row ∷ [])) h in
+      subst Apart (sym (ap (laid_all stated) e ∙ laid_last stated front address rows))
+      (apart_push (laid_all stated front) (laid_at start rows)
+      (pairs_front (λ section next. (a : ℕ) → LiesOn section a → ¬ LiesOn next a) (laid_all stated front)
       (laid_at start (rows ++ row ∷ []) ∷ []) all)
-      (λ a on. apart_from (laid_all told front) (laid_at start (rows ++ row ∷ [])) a all (lies_on_longer start rows row a on)))
+      (λ a on. apart_from (laid_all stated front) (laid_at start (rows ++ row ∷ [])) a all (lies_on_longer start rows row a on)))
 
-  within_back : (few many : List FrameRows) (R S : List RomRows) → Grows few many → Extends R S → Within told many S
-      → Within told few R
+  within_back : (few many : List FrameRows) (R S : List RomRows) → Grows few many → Extends R S → Within stated many S
+      → Within stated few R
   within_back few many R S grows extends h = record {
     once = record {
       in_frames = all_back IsOnce no_names once_fewer few many grows h.once.in_frames;
@@ -207,22 +207,22 @@ frames_begun front others head =
     ∙ sym (append_assoc front (filter_map frame_in others) (filter_map frame_in (begun head ∷ [])))))
     (frame_begun (front ++ filter_map frame_in others) head)
 
-section_begun : (told : RomText) (first : List Row) (others : List Section) (head : Head)
-    → Grows (frames (so_far told first others)) (frames (so_far told first (others ++ begun head ∷ [])))
-section_begun told [] [] head = bare refl
-section_begun told (row ∷ rows) [] head = frames_begun (framed None (row ∷ rows) ∷ []) [] head
-section_begun told [] (section ∷ others) head = frames_begun [] (section ∷ others) head
-section_begun told (row ∷ rows) (section ∷ others) head = frames_begun (framed None (row ∷ rows) ∷ []) (section ∷ others) head
+section_begun : (stated : RomText) (first : List Row) (others : List Section) (head : Head)
+    → Grows (frames (so_far stated first others)) (frames (so_far stated first (others ++ begun head ∷ [])))
+section_begun stated [] [] head = bare refl
+section_begun stated (row ∷ rows) [] head = frames_begun (framed None (row ∷ rows) ∷ []) [] head
+section_begun stated [] (section ∷ others) head = frames_begun [] (section ∷ others) head
+section_begun stated (row ∷ rows) (section ∷ others) head = frames_begun (framed None (row ∷ rows) ∷ []) (section ∷ others) head
 
 frames_grow : (s t : Spelled) (l : List ℕ) → Goes s l t → Grows (frames s) (frames t)
 frames_grow s t l (tells g) = same refl
 frames_grow s t l (tops {first = first} row is) = longer [] None first row (top_alone first) (top_alone (first ++ row ∷ []))
-frames_grow s t l (adds {rom = told} {first = first} before section row e may is) =
-    subst (λ others. Grows (frames (so_far told first others)) (frames (so_far told first (before ++ with_row section row ∷ []))))
+frames_grow s t l (adds {rom = stated} {first = first} before section row e may is) =
+    subst (λ others. Grows (frames (so_far stated first others)) (frames (so_far stated first (before ++ with_row section row ∷ []))))
     (sym e)
     (grows_as _ _ _ _ (frames_with first before section) (frames_with first before (with_row section row))
     (frame_longer (top_list first ++ filter_map frame_in before) section.head section.rows row))
-frames_grow s t l (begins {rom = told} {first = first} {others = others} head is) = section_begun told first others head
+frames_grow s t l (begins {rom = stated} {first = first} {others = others} head is) = section_begun stated first others head
 
 roms_extend : (s t : Spelled) (l : List ℕ) → Goes s l t → Extends (rom_sections s) (rom_sections t)
 roms_extend s t l (tells g) = same refl
@@ -240,18 +240,18 @@ roms_extend s t l (begins {others = others} head is) =
 
 kept_as : (s t : Spelled) → s.rom ≡ t.rom → Grows (frames s) (frames t) → Extends (rom_sections s) (rom_sections t)
     → KeepsLimits t → KeepsLimits s
-kept_as s t told grows extends h =
+kept_as s t stated grows extends h =
     within_out s (frames s) (rom_sections s) refl refl
-    (subst (λ rom. Within rom (frames s) (rom_sections s)) (sym told)
+    (subst (λ rom. Within rom (frames s) (rom_sections s)) (sym stated)
     (within_back t.rom (frames s) (frames t) (rom_sections s) (rom_sections t) grows extends
     (within_in t (frames t) (rom_sections t) refl refl h)))
 
 -- without its last line
 kept_before : (s t : Spelled) (l : List ℕ) → Goes s l t → KeepsLimits t → KeepsLimits s
-kept_before s t l (tells {rom = told} {now = now} g) h = record {
+kept_before s t l (tells {rom = stated} {now = now} g) h = record {
   once = record { in_frames = h.once.in_frames; in_rom = h.once.in_rom; of_frames = h.once.of_frames };
   drafts = h.drafts;
-  rom = All-nil (IsInRom told);
+  rom = All-nil (IsInRom stated);
   apart = λ i j d low inside. absurd (omega (arith, low, inside));
 }
 kept_before s t l (tops row is) h = kept_as s t refl (frames_grow s t l (tops row is)) (roms_extend s t l (tops row is)) h

@@ -136,7 +136,7 @@ module _ (laid : List Laid) where
 
 pub meaning_found : (sketch : Spelled) (ls : List (List ℕ)) → SpellsSketch sketch ls
     → All (WantsNone (laid_of sketch)) (sections sketch)
-    → ((told_rom : RomText) (result : List Frame) → ¬ IsMeant sketch result told_rom) → ⊥
+    → ((stated_rom : RomText) (result : List Frame) → ¬ IsMeant sketch result stated_rom) → ⊥
 meaning_found sketch ls spelled known none =
     let laid = laid_of sketch in
     let may = laid_may (rom_sections sketch) _ (sections_may sketch.others spelled.rest spelled.others) in

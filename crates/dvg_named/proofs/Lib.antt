@@ -2,7 +2,7 @@ mod DraftRows
 mod ExampleNames
 mod LaidOrder
 mod LineCuts
-mod PlainWords
+mod PlainTokens
 mod RowSpelling
 mod OneSketch
 mod NamedRows
@@ -16,9 +16,9 @@ mod LaidMore
 mod ReadLimits
 mod ReadMoves
 mod ReadRows
-mod ToldLines
+mod StatedLines
 mod ReadBegins
-mod FewWords
+mod FewTokens
 mod SourcedMore
 mod RomFew
 mod FrameLists
@@ -42,7 +42,7 @@ mod OneFault
 mod RowsStay
 mod MeantNames
 mod NoFaultBeside
-mod SmallWords
+mod SmallTokens
 mod TidyLines
 mod PlainDrafts
 mod RowsCome

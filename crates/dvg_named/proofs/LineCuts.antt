@@ -5,7 +5,7 @@ use Rattle.std.proofs.lemmas.List.Sums.{take_while-cons}
 use Rattle.dvg_read.proofs.FirstBytes.{HasNone}
 use Rattle.std.specs.List.{filter, slice_split}
 use Rattle.std.specs.Str.Lines.{strip_carriage_return}
-use Rattle.dvg_named.specs.PlainLines.{is_blank, is_some_byte, uncommented, words}
+use Rattle.dvg_named.specs.PlainLines.{is_blank, is_some_byte, tokens, uncommented}
 
 -- a byte that is no `#` stays
 pub byte_kept : (byte : ℕ) (bytes : List ℕ) → eqb byte 35 ≡ false
@@ -43,7 +43,7 @@ nothing_cut (byte ∷ line) h =
     byte_kept byte line (All-head (λ b. eqb b 35 ≡ false) byte line h)
     ∙ ap (λ l. byte ∷ l) (nothing_cut line (All-tail (λ b. eqb b 35 ≡ false) byte line h))
 
--- the words of a line are those of what is left of it
-pub words_are : (line told : List ℕ) {cut : List ℕ} → told ≡ uncommented cut → cut ≡ strip_carriage_return line
-    → filter is_some_byte (slice_split is_blank told) ≡ words line
-words_are line told t e = ap (λ bytes. filter is_some_byte (slice_split is_blank bytes)) (t ∙ ap uncommented e)
+-- the tokens of a line are those of what is left of it
+pub tokens_are : (line content : List ℕ) {cut : List ℕ} → content ≡ uncommented cut → cut ≡ strip_carriage_return line
+    → filter is_some_byte (slice_split is_blank content) ≡ tokens line
+tokens_are line content t e = ap (λ bytes. filter is_some_byte (slice_split is_blank bytes)) (t ∙ ap uncommented e)

@@ -1,7 +1,7 @@
 -- A text has one first line at fault at most, and none where all its lines spell a sketch within the limits.
 use Rattle.std.proofs.Common.{◌≡◌, ◌∙◌, ℕ, List, [], ◌∷◌, ◌++◌, length, ap, append_assoc, arith, false, not, refl, subst, sym}
 use Rattle.std.proofs.lemmas.List.Elements.{filter-append}
-use Rattle.dvg_read.specs.Texts.{is_passed, told}
+use Rattle.dvg_read.specs.Texts.{is_passed, unpassed}
 use Rattle.dvg_named.specs.NamedFaults.{DraftsFit, GivesOnce, IsFineSketch, KeepsLimits, LieApart, Meets, MeetsNothing, ReachesLine, RomFits}
 use Rattle.dvg_named.specs.PlainLines.{plain_lines}
 use Rattle.dvg_named.specs.Sections.{Spelled, SpellsSketch}
@@ -83,7 +83,7 @@ pub record StandsAt (text : List ℕ) (n : ℕ) (kind : Kind) : Type 0 where
   pub before : List (List ℕ)
   pub line : List ℕ
   pub reaches : ReachesLine text n before line
-  pub wrong : Wrong (told before ++ line ∷ []) kind
+  pub wrong : Wrong (unpassed before ++ line ∷ []) kind
 
 pub nothing_stands : {text : List ℕ} {n : ℕ} → MeetsNothing text n → StandsAt text n nothing
 nothing_stands h = record { before = h.before; line = h.line; reaches = h.reaches; wrong = none_spelled h.wrong }
@@ -118,31 +118,31 @@ places (w ∷ before) (z ∷ other) after rest x y e =
     let others : before ++ x ∷ after ≡ other ++ y ∷ rest = cc in
     subst (λ a. Places (w ∷ before) (a ∷ other) x y) first (one_more w (places before other after rest x y others))
 
--- the lines up to one that has words, and those after it
-pub told_past : (before more : List (List ℕ)) (line : List ℕ) → is_passed line ≡ false
-    → told (before ++ line ∷ more) ≡ (told before ++ line ∷ []) ++ told more
-told_past before more line is =
+-- the lines up to one that has tokens, and those after it
+pub unpassed_past : (before more : List (List ℕ)) (line : List ℕ) → is_passed line ≡ false
+    → unpassed (before ++ line ∷ more) ≡ (unpassed before ++ line ∷ []) ++ unpassed more
+unpassed_past before more line is =
     filter-append (λ line. not (is_passed line)) before (line ∷ more)
-    ∙ rw is (sym (append_assoc (told before) (line ∷ []) (told more)))
+    ∙ rw is (sym (append_assoc (unpassed before) (line ∷ []) (unpassed more)))
 
 -- lines without fault have no line at fault
 no_sooner : (before all more : List (List ℕ)) (line : List ℕ) (kind : Kind) → all ≡ before ++ line ∷ more
-    → is_passed line ≡ false → Wrong (told before ++ line ∷ []) kind → ¬ IsFineSketch (told all)
+    → is_passed line ≡ false → Wrong (unpassed before ++ line ∷ []) kind → ¬ IsFineSketch (unpassed all)
 no_sooner before all more line kind e is wrong fine =
-    no_front (told before ++ line ∷ []) (told more) kind wrong
-    (subst IsFineSketch (ap told e ∙ told_past before more line is) fine)
+    no_front (unpassed before ++ line ∷ []) (unpassed more) kind wrong
+    (subst IsFineSketch (ap unpassed e ∙ unpassed_past before more line is) fine)
 
-pub never_stands : {text : List ℕ} {n : ℕ} {kind : Kind} → StandsAt text n kind → ¬ IsFineSketch (told (plain_lines text))
+pub never_stands : {text : List ℕ} {n : ℕ} {kind : Kind} → StandsAt text n kind → ¬ IsFineSketch (unpassed (plain_lines text))
 never_stands {text = text} {kind = kind} h =
-    no_sooner h.before (plain_lines text) h.reaches.after h.line kind h.reaches.cut h.reaches.is_told h.wrong
+    no_sooner h.before (plain_lines text) h.reaches.after h.line kind h.reaches.cut h.reaches.is_unpassed h.wrong
 
 module _ {text : List ℕ} {m n : ℕ} {kind other : Kind} (a : StandsAt text m kind) (b : StandsAt text n other) where
   one_place : Places a.before b.before a.line b.line → (b.before ≡ a.before) × (b.line ≡ a.line)
   one_place (same e f) = (sym e, sym f)
   one_place (sooner more e) =
-      absurd (no_sooner a.before b.before more a.line kind e a.reaches.is_told a.wrong b.reaches.fine)
+      absurd (no_sooner a.before b.before more a.line kind e a.reaches.is_unpassed a.wrong b.reaches.fine)
   one_place (later more e) =
-      absurd (no_sooner b.before a.before more b.line other e b.reaches.is_told b.wrong a.reaches.fine)
+      absurd (no_sooner b.before a.before more b.line other e b.reaches.is_unpassed b.wrong a.reaches.fine)
 
   -- two lines at fault are one, and so are their faults
   pub one_stand : (n ≡ m) × (other ≡ kind)
@@ -153,7 +153,7 @@ module _ {text : List ℕ} {m n : ℕ} {kind other : Kind} (a : StandsAt text m 
       let q = b.reaches.number in
       let count = ap length e in (
         omega (arith, p, q, count),
-        one_wrong (told a.before ++ a.line ∷ []) kind other a.wrong
-            (subst (λ line. Wrong (told a.before ++ line ∷ []) other) f
-            (subst (λ before. Wrong (told before ++ b.line ∷ []) other) e b.wrong)),
+        one_wrong (unpassed a.before ++ a.line ∷ []) kind other a.wrong
+            (subst (λ line. Wrong (unpassed a.before ++ line ∷ []) other) f
+            (subst (λ before. Wrong (unpassed before ++ b.line ∷ []) other) e b.wrong)),
       )

@@ -4,10 +4,10 @@ use Rattle.std.proofs.lemmas.Bool.{cases_lt}
 use Rattle.std.proofs.lemmas.List.Elements.{All-cons, All-nil}
 use Rattle.std.proofs.lemmas.Option.{slice_get-get_or}
 use Rattle.dvg_read.specs.FirstFaults.{IsShort}
-use Rattle.dvg_read.specs.RomReading.{untold}
+use Rattle.dvg_read.specs.RomReading.{unstated}
 use Rattle.dvg_read.specs.RomTexts.{RomText}
-use Rattle.dvg_read.specs.Texts.{is_passed, told}
-use Rattle.dvg_read.proofs.ReadTo.{told_more, told_one}
+use Rattle.dvg_read.specs.Texts.{is_passed, unpassed}
+use Rattle.dvg_read.proofs.ReadTo.{unpassed_more, unpassed_one}
 use Rattle.dvg_named.specs.declared.fault.NamedFault.{NamedFault}
 use Rattle.dvg_named.specs.declared.fault.NamedFault.TheVariants.{Full, OutOfRom, Overlap, Syntax, TooLong, Twice, Unknown}
 use Rattle.dvg_named.specs.FirstUnknown.{WantsNone}
@@ -28,14 +28,14 @@ use Rattle.dvg_named.proofs.RowsStay.{HasAt, HasRow, at_top}
 -- lines without fault, and the line of each row
 record IsRead (ls : List (List ℕ)) : Type 0 where
   sketch : Spelled
-  spelled : SpellsSketch sketch (told ls)
+  spelled : SpellsSketch sketch (unpassed ls)
   limits : KeepsLimits sketch
   lines : (place : ℕ) (row : Row) → HasAt (sections sketch) place row → StandsInLine ls place row
 
 -- ---- before the first line
 
 abbrev bare : Spelled
-bare = so_far untold [] []
+bare = so_far unstated [] []
 
 bare_kept : KeepsLimits bare
 bare_kept = record {
@@ -45,7 +45,7 @@ bare_kept = record {
     of_frames = no_names;
   };
   drafts = All-cons IsSmall (framed None []) [] (omega arith) (All-nil IsSmall);
-  rom = All-nil (IsInRom untold);
+  rom = All-nil (IsInRom unstated);
   apart = λ i j d low inside. absurd (omega (arith, low, inside));
 }
 
@@ -73,7 +73,7 @@ module _ (text : List ℕ) (none : (fault : NamedFault) → ¬ HasNamedFault tex
     passes : is_passed line ≡ true → IsRead (before ++ line ∷ [])
     passes is = record {
       sketch = read.sketch;
-      spelled = subst (SpellsSketch read.sketch) (sym (told_more before line is)) read.spelled;
+      spelled = subst (SpellsSketch read.sketch) (sym (unpassed_more before line is)) read.spelled;
       limits = read.limits;
       lines = λ place row h. line_stays before line place row (read.lines place row h);
     }
@@ -86,18 +86,18 @@ module _ (text : List ℕ) (none : (fault : NamedFault) → ¬ HasNamedFault tex
         cut = cut;
         number = refl;
         fine = record { sketch = read.sketch; spelled = read.spelled; limits = read.limits };
-        is_told = is;
+        is_unpassed = is;
       }
 
-      module _ (next : Spelled) (spelled : SpellsSketch next (told before ++ line ∷ [])) where
+      module _ (next : Spelled) (spelled : SpellsSketch next (unpassed before ++ line ∷ [])) where
         reads : KeepsLimits next → IsRead (before ++ line ∷ [])
         reads limits = record {
           sketch = next;
-          spelled = subst (SpellsSketch next) (sym (told_one before line is)) spelled;
+          spelled = subst (SpellsSketch next) (sym (unpassed_one before line is)) spelled;
           limits = limits;
           lines = λ place row h.
               line_comes before line read.sketch next place row spelled (read.lines place row)
-              (comes read.sketch next line place row (goes_on read.sketch next (told before) line read.spelled spelled) h);
+              (comes read.sketch next line place row (goes_on read.sketch next (unpassed before) line read.spelled spelled) h);
         }
 
         meets : (kind : Kind) → Breaks kind next → Meets (Breaks kind) text (length before + 1)
@@ -190,7 +190,7 @@ module _ (text : List ℕ) (none : (fault : NamedFault) → ¬ HasNamedFault tex
 
     denotes : ((rom : RomText) (result : List Frame) → ¬ DenotesFrames text rom result) → ⊥
     denotes nothing =
-        meaning_found read.sketch (told (plain_lines text)) read.spelled all_known
+        meaning_found read.sketch (unpassed (plain_lines text)) read.spelled all_known
         (λ rom result meant. nothing rom result (record {
           short = short;
           sketch = read.sketch;

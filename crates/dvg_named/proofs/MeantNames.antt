@@ -8,24 +8,24 @@ use Rattle.std.specs.List.{AllZip, cons_option, filter_map, join_with_byte}
 use Rattle.dvg_code.specs.declared.instr.Instr.{Instr}
 use Rattle.dvg_frame.specs.declared.op.OpKind.{OpKind}
 use Rattle.dvg_read.specs.RomTexts.{RomLine, RomText}
-use Rattle.dvg_read.specs.Texts.{is_passed, lines, told}
+use Rattle.dvg_read.specs.Texts.{is_passed, lines, unpassed}
 use Rattle.dvg_read.proofs.Steps.{Leads}
 use Rattle.dvg_named.specs.FrameValues.{frame_in}
 use Rattle.dvg_named.specs.Meanings.{Frame, IsDrafted, IsEncoded, IsFrameOf, IsGiven, IsMeant}
 use Rattle.dvg_named.specs.NamedFaults.{DenotesFrames, IsUngiven, WantsUngiven, laid_of}
 use Rattle.dvg_named.specs.Places.{Laid, doings, laid_from, size}
-use Rattle.dvg_named.specs.PlainLines.{plain, plain_lines, words}
+use Rattle.dvg_named.specs.PlainLines.{plain, plain_lines, tokens}
 use Rattle.dvg_named.specs.RomParts.{rom_in}
 use Rattle.dvg_named.specs.Rows.{Doing, Head, IsHeadLine, IsRowLine, Row, calls, calls_rom, frame, jumps, jumps_rom, plainly, rom, top}
 use Rattle.dvg_named.specs.Sections.{FrameRows, RomRows, Section, Spelled, SpellsSection, SpellsSketch, frames, rom_sections, sections, top_frame}
 use Rattle.dvg_named.specs.SketchSteps.{Goes}
 use Rattle.dvg_named.specs.Ungiven.{framed, in_rom}
 use Rattle.dvg_named.proofs.DraftRows.{drafted_known}
-use Rattle.dvg_named.proofs.LineFaults.{told_past}
+use Rattle.dvg_named.proofs.LineFaults.{unpassed_past}
 use Rattle.dvg_named.proofs.NamedSections.{item_cut}
 use Rattle.dvg_named.proofs.NumberSteps.{no_empty_row}
 use Rattle.dvg_named.proofs.OneSketch.{front_spells, one_sketch}
-use Rattle.dvg_named.proofs.PlainWords.{told_with_words}
+use Rattle.dvg_named.proofs.PlainTokens.{unpassed_with_tokens}
 use Rattle.dvg_named.proofs.RomWritten.{encoded_known}
 use Rattle.dvg_named.proofs.RowsStay.{HasRow, stands_after, stands_in}
 
@@ -165,9 +165,9 @@ at_place : {X : Type 0} (P : X → Type 0) (xs : List X) (i : ℕ) (x : X) → s
 at_place P xs i x is all = subst P (get_or_from_slice_get xs i x x is) (all i x (slice_get_within xs i x is))
 
 -- where a sketch denotes something, each name that is wanted is given
-meant_known : (sketch : Spelled) (ls : List (List ℕ)) (result : List Frame) (told_rom : RomText) → SpellsSketch sketch ls
-    → IsMeant sketch result told_rom → All (Known (laid_of sketch)) (sections sketch)
-meant_known sketch ls result told_rom spelled meant =
+meant_known : (sketch : Spelled) (ls : List (List ℕ)) (result : List Frame) (stated_rom : RomText) → SpellsSketch sketch ls
+    → IsMeant sketch result stated_rom → All (Known (laid_of sketch)) (sections sketch)
+meant_known sketch ls result stated_rom spelled meant =
     let laid = laid_of sketch in
     let f = frames_known laid (frames sketch) result meant.frames in
     let r = laid_known laid (rom_sections sketch) _
@@ -177,34 +177,34 @@ meant_known sketch ls result told_rom spelled meant =
     (others_known laid sketch.others spelled.rest spelled.others
     (rest_known laid sketch.first sketch.others (filter_map frame_in sketch.others) f) r)
 
-row_told : (source line : List ℕ) (row : Row) (ws : List (List ℕ)) → words source ≡ ws → plain source ≡ line
+row_unpassed : (source line : List ℕ) (row : Row) (ws : List (List ℕ)) → tokens source ≡ ws → plain source ≡ line
     → IsRowLine row line → is_passed line ≡ false
-row_told source line row [] none same is = absurd (no_empty_row line (sym same ∙ ap (join_with_byte 32) none) row is)
-row_told source line row (first ∷ ws) some same is =
+row_unpassed source line row [] none same is = absurd (no_empty_row line (sym same ∙ ap (join_with_byte 32) none) row is)
+row_unpassed source line row (first ∷ ws) some same is =
     subst (λ line. is_passed line ≡ false) same
-    (told_with_words source (subst (λ ws. 0 < length ws) (sym some) (omega arith)))
+    (unpassed_with_tokens source (subst (λ ws. 0 < length ws) (sym some) (omega arith)))
 
--- a line that spells a row is told
-line_told : (text : List ℕ) (before after : List (List ℕ)) (line : List ℕ) (row : Row)
+-- a line that spells a row is unpassed
+line_unpassed : (text : List ℕ) (before after : List (List ℕ)) (line : List ℕ) (row : Row)
     → plain_lines text ≡ before ++ line ∷ after → IsRowLine row line → is_passed line ≡ false
-line_told text before after line row cut is =
+line_unpassed text before after line row cut is =
     let source = item_cut plain (lines (map to_ascii_lowercase text)) before after line cut in
-    row_told source.item line row (words source.item) refl source.same is
+    row_unpassed source.item line row (tokens source.item) refl source.same is
 
-pub none_unknown : (text : List ℕ) (told_rom : RomText) (result : List Frame) (n : ℕ)
-    → DenotesFrames text told_rom result → ¬ WantsUngiven text n
-none_unknown text told_rom result n d w =
+pub none_unknown : (text : List ℕ) (stated_rom : RomText) (result : List Frame) (n : ℕ)
+    → DenotesFrames text stated_rom result → ¬ WantsUngiven text n
+none_unknown text stated_rom result n d w =
     let fine = w.fine.sketch in
-    let same = one_sketch d.sketch fine (told (plain_lines text)) d.spelled w.fine.spelled in
-    let known = meant_known fine (told (plain_lines text)) result told_rom w.fine.spelled
-    (subst (λ sketch. IsMeant sketch result told_rom) (sym same) d.meant) in
-    let front = told w.before ++ w.line ∷ [] in
-    let lines = ap told w.cut ∙ told_past w.before w.after w.line (line_told text w.before w.after w.line w.row w.cut w.spelled) in
-    let (part, up_to, leads) = front_spells fine front (told w.after) (subst (SpellsSketch fine) lines w.fine.spelled) in
+    let same = one_sketch d.sketch fine (unpassed (plain_lines text)) d.spelled w.fine.spelled in
+    let known = meant_known fine (unpassed (plain_lines text)) result stated_rom w.fine.spelled
+    (subst (λ sketch. IsMeant sketch result stated_rom) (sym same) d.meant) in
+    let front = unpassed w.before ++ w.line ∷ [] in
+    let lines = ap unpassed w.cut ∙ unpassed_past w.before w.after w.line (line_unpassed text w.before w.after w.line w.row w.cut w.spelled) in
+    let (part, up_to, leads) = front_spells fine front (unpassed w.after) (subst (SpellsSketch fine) lines w.fine.spelled) in
     let also = one_sketch part w.part front up_to w.up_to in
-    let held = stands_after w.part fine (told w.after) (length w.part.others) w.row
-    (subst (λ part. Leads Goes part (told w.after) fine) (sym also) leads)
-    (stands_in w.part (told w.before) w.line w.row w.up_to w.spelled) in
+    let held = stands_after w.part fine (unpassed w.after) (length w.part.others) w.row
+    (subst (λ part. Leads Goes part (unpassed w.after) fine) (sym also) leads)
+    (stands_in w.part (unpassed w.before) w.line w.row w.up_to w.spelled) in
     let both : Some held.section ≡ Some w.section = sym held.stands ∙ w.inside in
     let here : held.section ≡ w.section = cc in
     row_known (laid_of fine) w.section w.row w.doing

@@ -3,7 +3,7 @@ use Rattle.std.proofs.Common.{◌≡◌, ◌<◌, ℕ, ◌+◌, ◌⊎◌, inl, 
 use Rattle.std.proofs.lemmas.List.Elements.{All-contains_itself, Contains-append_left, Contains-push, Contains-push_cases}
 use Rattle.std.proofs.lemmas.List.Quantifiers.{all_pairs_push}
 use Rattle.std.specs.List.{AllPairs}
-use Rattle.dvg_read.specs.Texts.{parts, told}
+use Rattle.dvg_read.specs.Texts.{parts, unpassed}
 use Rattle.dvg_named.specs.declared.reading.Reading.{Reading}
 use Rattle.dvg_named.specs.LineNumbers.{AreNumbered, Entry, IsEntryOf, KeepsEntries, entries_in, head_at_top}
 use Rattle.dvg_frame.specs.declared.op.OpKind.{OpKind}
@@ -121,7 +121,7 @@ entry_at section row number = record { section = section; row = row; number = nu
 
 -- a row more
 module _ (ls : List (List ℕ)) (line : List ℕ) (row : Row) (spelled : IsRowLine row line) (part : Spelled)
-    (up_to : SpellsSketch part (told ls ++ line ∷ [])) (last : Entry) (is_row : last.row ≡ row)
+    (up_to : SpellsSketch part (unpassed ls ++ line ∷ [])) (last : Entry) (is_row : last.row ≡ row)
     (number : last.number ≡ length ls + 1) (inside : last.section ≡ length part.others) where
   last_is : IsEntryOf (ls ++ line ∷ []) last
   last_is = record {
@@ -145,9 +145,9 @@ module _ (ls : List (List ℕ)) (line : List ℕ) (row : Row) (spelled : IsRowLi
   is_last : (entry : Entry) → (h : IsEntryOf (ls ++ line ∷ []) entry) → h.before ≡ ls → h.line ≡ line → last ≡ entry
   is_last entry h same is =
       let part_is : h.part ≡ part =
-      one_sketch part h.part (told ls ++ line ∷ []) up_to
-      (subst (λ l. SpellsSketch h.part (told ls ++ l ∷ [])) is
-      (subst (λ before. SpellsSketch h.part (told before ++ h.line ∷ [])) same h.up_to)) in
+      one_sketch part h.part (unpassed ls ++ line ∷ []) up_to
+      (subst (λ l. SpellsSketch h.part (unpassed ls ++ l ∷ [])) is
+      (subst (λ before. SpellsSketch h.part (unpassed before ++ h.line ∷ [])) same h.up_to)) in
       same_entry entry.section entry.row entry.number
       (inside ∙ sym (h.inside ∙ ap (λ (s : Spelled). length s.others) part_is))
       (is_row ∙ one_row (parts line) (subst (IsRowLine entry.row) is h.spelled) spelled)

@@ -7,8 +7,8 @@ use Rattle.dvg_code.specs.declared.instr.Instr.{Instr}
 use Rattle.dvg_code.specs.declared.instr.Instr.TheVariants.{Jmpl, Jsrl}
 use Rattle.dvg_frame.specs.declared.op.OpKind.{OpKind}
 use Rattle.dvg_frame.specs.declared.op.OpKind.TheVariants as kinds
-use Rattle.dvg_read.specs.RomTexts.{RomLine, RomText, first_told}
-use Rattle.dvg_read.specs.Texts.{told}
+use Rattle.dvg_read.specs.RomTexts.{RomLine, RomText, first_stated}
+use Rattle.dvg_read.specs.Texts.{unpassed}
 use Rattle.dvg_named.specs.LaidValues.{rows_laid}
 use Rattle.dvg_named.specs.Meanings.{Frame, IsDrafted, IsEncoded, IsFrameOf, IsGiven, IsMeant, IsRomText}
 use Rattle.dvg_named.specs.NamedFaults.{AreDistinct, DenotesFrames, GivesOnce, laid_of, names_of}
@@ -104,7 +104,7 @@ module _ (sketch : Spelled) (once : GivesOnce sketch) where
   distinct : AreDistinct (names_of (rows_laid (laid_of sketch)))
   distinct =
       subst (λ rows. AreDistinct (names_of rows))
-      (sym (rows_are (free_after (first_told sketch.rom.map) sketch.rom.given) (rom_sections sketch))) once.in_rom
+      (sym (rows_are (free_after (first_stated sketch.rom.map) sketch.rom.given) (rom_sections sketch))) once.in_rom
 
   one_rom : (rom other : RomText) → IsRomText sketch rom → IsRomText sketch other → other ≡ rom
   one_rom rom other h k =
@@ -125,6 +125,6 @@ module _ (sketch : Spelled) (once : GivesOnce sketch) where
 pub one_meaning : (text : List ℕ) (rom other : RomText) (result others : List Frame) → DenotesFrames text rom result
     → DenotesFrames text other others → (other ≡ rom) × (others ≡ result)
 one_meaning text rom other result others h k =
-    let same = one_sketch h.sketch k.sketch (told (plain_lines text)) h.spelled k.spelled in
+    let same = one_sketch h.sketch k.sketch (unpassed (plain_lines text)) h.spelled k.spelled in
     one_meant h.sketch h.limits.once rom other result others h.meant
     (subst (λ sketch. IsMeant sketch others other) same k.meant)

@@ -9,19 +9,19 @@ use Rattle.dvg_read.specs.OpLines as ops
 use Rattle.dvg_frame.specs.declared.op.OpKind.{OpKind}
 use Rattle.dvg_read.specs.Texts.{IsHex, parts}
 use Rattle.dvg_read.specs.RomTexts.{RomText, unmapped}
-use Rattle.dvg_read.specs.RomReading.{TellsRom, untold}
+use Rattle.dvg_read.specs.RomReading.{TellsRom, unstated}
 use Rattle.dvg_read.proofs.OneOperation.{one_operation}
-use Rattle.dvg_read.proofs.RomSteps.{one_told, rom_leads, tells_more, told_by_name}
+use Rattle.dvg_read.proofs.RomSteps.{one_stated, rom_leads, stated_by_name, tells_more}
 use Rattle.dvg_read.proofs.Steps.{Leads, front_says, further, here, last_line, on, one_saying}
 use Rattle.dvg_read.proofs.Zips.{zip_push}
 use Rattle.dvg_named.specs.Rows.{Doing, DoingParts, Head, HeadParts, IsHeadLine, IsName, IsRowLine, Row, RowParts, plain}
 use Rattle.dvg_named.specs.Rows as rows
 use Rattle.dvg_named.specs.Sections.{MayStand, Section, Spelled, SpellsSection, SpellsSketch}
 use Rattle.dvg_named.specs.SketchSteps.{Goes, adds, begins, begun, so_far, tells, tops, with_row}
-use Rattle.dvg_named.proofs.RowSpelling.{RowCase, alone, before, colon_at_end, does_not_name, last_byte, no_words_no_doing, no_words_no_row, not_plain}
+use Rattle.dvg_named.proofs.RowSpelling.{RowCase, alone, before, colon_at_end, does_not_name, last_byte, no_tokens_no_doing, no_tokens_no_row, not_plain}
 use Rattle.dvg_named.proofs.RowSpelling.{one_call, one_callrom, one_jump, one_jumprom, row_case, unnamed}
 
--- ---- words spell one row at most
+-- ---- tokens spell one row at most
 
 pub one_doing : {doing other : Doing} {ps : List (List ℕ)} → DoingParts doing ps → DoingParts other ps → other ≡ doing
 one_doing (plain p) (plain q) = ap rows.plainly (one_operation p q)
@@ -45,15 +45,15 @@ one_case (unnamed doing is p) (before name does h e q also) = absurd (does_not_n
 one_case (alone name h e none is) (unnamed does also q) = absurd (does_not_name name q e)
 one_case {first = first} (alone name h e none is) (alone other k f left also) = let same = same_name name other first e f in cc
 one_case (alone name h e none is) (before other does k f q also) =
-    absurd (no_words_no_doing (subst (DoingParts does) none q))
+    absurd (no_tokens_no_doing (subst (DoingParts does) none q))
 one_case (before name doing h e p is) (unnamed does also q) = absurd (does_not_name name q e)
 one_case (before name doing h e p is) (alone other k f left also) =
-    absurd (no_words_no_doing (subst (DoingParts doing) left p))
+    absurd (no_tokens_no_doing (subst (DoingParts doing) left p))
 one_case {first = first} (before name doing h e p is) (before other does k f q also) =
     let same = same_name name other first e f in let done = one_doing p q in cc
 
 pub one_row : {row other : Row} (ps : List (List ℕ)) → RowParts row ps → RowParts other ps → other ≡ row
-one_row [] p q = absurd (no_words_no_row p)
+one_row [] p q = absurd (no_tokens_no_row p)
 one_row (first ∷ rest) p q = one_case (row_case p) (row_case q)
 
 one_at : (a b : ℕ) (digits : List ℕ) → IsHex 3 a digits → IsHex 3 b digits → b ≡ a
@@ -65,7 +65,7 @@ one_head (rows.named_frame h) (rows.named_frame k) = refl
 one_head rows.anywhere rows.anywhere = refl
 one_head (rows.at {a = a} {digits = d} h) (rows.at {a = b} k) = ap (λ a. rows.rom (Some a)) (one_at a b d h k)
 
--- ---- no line spells two of a row, a section's beginning and what is told of the ROM
+-- ---- no line spells two of a row, a section's beginning and what is stated of the ROM
 
 -- `.`, with which a section begins, is 46
 abbrev first_byte : List ℕ → ℕ
@@ -88,7 +88,7 @@ no_dot (rows.jump h) e = omega (arith, e)
 no_dot (rows.callrom h) e = omega (arith, e)
 no_dot (rows.jumprom h) e = omega (arith, e)
 
--- a row that begins with a word which neither names an operation nor gives a name
+-- a row that begins with a token which neither names an operation nor gives a name
 no_case : {row : Row} {first : List ℕ} {rest : List (List ℕ)} → ((doing : Doing) → DoingParts doing (first ∷ rest) → ⊥)
     → (last_byte first ≡ 58 → ⊥) → RowCase row first rest → ⊥
 no_case {first = first} none other (unnamed doing is p) = none doing p
@@ -126,10 +126,10 @@ no_rom_head : {head : Head} (rest : List (List ℕ)) → HeadParts head (codes "
 no_rom_head rest h = elim h [ ]
 
 pub tells_no_row : {rom now : RomText} {row : Row} {l : List ℕ} → TellsRom rom l now → IsRowLine row l → ⊥
-tells_no_row {row = row} t q = told_by_name (RowParts row) q no_map_row no_rom_row t
+tells_no_row {row = row} t q = stated_by_name (RowParts row) q no_map_row no_rom_row t
 
 pub tells_no_head : {rom now : RomText} {head : Head} {l : List ℕ} → TellsRom rom l now → IsHeadLine head l → ⊥
-tells_no_head {head = head} t q = told_by_name (HeadParts head) q no_map_head no_rom_head t
+tells_no_head {head = head} t q = stated_by_name (HeadParts head) q no_map_head no_rom_head t
 
 -- ---- no line goes on in two ways
 
@@ -143,7 +143,7 @@ none_ends front section e = omega (arith, ap length e, length-append front (sect
 
 one_way : (s t u : Spelled) (l : List ℕ) → Goes s l t → Goes s l u → u ≡ t
 one_way s t u l (tells {rom = rom} {now = now} g) (tells {now = also} h) =
-    ap (λ rom. so_far rom [] []) (one_told rom now also l g h)
+    ap (λ rom. so_far rom [] []) (one_stated rom now also l g h)
 one_way s t u l (tells g) (tops row h) = absurd (tells_no_row g h)
 one_way s t u l (tells g) (adds front section row e may h) = absurd (tells_no_row g h)
 one_way s t u l (tells g) (begins head h) = absurd (tells_no_head g h)
@@ -170,7 +170,7 @@ abbrev flat : List (List (List ℕ)) → List (List ℕ)
 flat = flat_map (λ lines. lines)
 
 abbrev nothing : Spelled
-nothing = so_far untold [] []
+nothing = so_far unstated [] []
 
 pub says_nothing : SpellsSketch nothing []
 says_nothing = record {
@@ -178,7 +178,7 @@ says_nothing = record {
   rows = [];
   rest = [];
   cut = refl;
-  told = unmapped tt;
+  stated = unmapped tt;
   first = tt;
   others = tt;
 }
@@ -236,7 +236,7 @@ says_more s t l ls p (tells h) =
       rest = [];
       cut = ap (λ k. k ++ l ∷ []) all
           ∙ sym (append-nil ((p.front ++ l ∷ []) ++ []) ∙ append-nil (p.front ++ l ∷ []));
-      told = tells_more p.told h;
+      stated = tells_more p.stated h;
       first = tt;
       others = tt;
     }
@@ -250,7 +250,7 @@ says_more s t l ls p (tops {first = first} row h) =
       rest = [];
       cut = ap (λ k. k ++ l ∷ []) all ∙ append_assoc p.front p.rows (l ∷ [])
           ∙ sym (append-nil (p.front ++ (p.rows ++ l ∷ [])));
-      told = p.told;
+      stated = p.stated;
       first = zip_push IsRowLine first p.rows row l p.first h;
       others = tt;
     }
@@ -262,7 +262,7 @@ says_more s t l ls p (adds front section row e may h) =
       rest = z.front ++ (z.last ++ l ∷ []) ∷ [];
       cut = ap (λ k. k ++ l ∷ []) (p.cut ∙ ap (λ rest. p.front ++ p.rows ++ flat rest) z.cut)
           ∙ flat_last (p.front ++ p.rows) z.front z.last l;
-      told = p.told;
+      stated = p.stated;
       first = p.first;
       others = zip_push SpellsSection front z.front (with_row section row) (z.last ++ l ∷ []) z.zip
           (section_more section row z.last l z.goes may h);
@@ -272,7 +272,7 @@ says_more s t l ls p (begins {others = others} head h) = record {
   rows = p.rows;
   rest = p.rest ++ (l ∷ []) ∷ [];
   cut = ap (λ k. k ++ l ∷ []) p.cut ∙ flat_map_more (λ lines. lines) (p.front ++ p.rows) p.rest (l ∷ []);
-  told = p.told;
+  stated = p.stated;
   first = p.first;
   others = zip_push SpellsSection others p.rest (begun head) (l ∷ []) p.others
       (record { begin = l; rest = []; cut = refl; head = h; rows = tt; may = All-nil (MayStand head) });
@@ -345,7 +345,7 @@ leads_to s ls p =
     subst (λ k. Leads Goes nothing k s) (sym p.cut)
     (further Goes nothing (so_far s.rom s.first []) s (p.front ++ p.rows) (flat p.rest)
     (further Goes nothing (so_far s.rom [] []) (so_far s.rom s.first []) p.front p.rows
-    (rom_lines_lead untold s.rom p.front (rom_leads p.told)) (rows_lead s.rom [] s.first p.rows p.first))
+    (rom_lines_lead unstated s.rom p.front (rom_leads p.stated)) (rows_lead s.rom [] s.first p.rows p.first))
     (sections_lead s.rom s.first [] s.others p.rest p.others))
 
 -- ---- what follows

@@ -11,21 +11,21 @@ use Rattle.dvg_frame.specs.declared.op.OpKind.{OpKind}
 use Rattle.dvg_read.specs.DraftTexts.{Denotes}
 use Rattle.dvg_read.specs.OpLines.{IsOpLine}
 use Rattle.dvg_read.specs.RomTexts.{IsMapLine, IsRomLine, RomLine, RomText, SpellsRom, large, mapped, small, unmapped}
-use Rattle.dvg_read.specs.Texts.{IsHex, is_passed, lines, parts, told}
+use Rattle.dvg_read.specs.Texts.{IsHex, is_passed, lines, parts, unpassed}
 use Rattle.dvg_named.specs.Meanings.{IsDrafted, IsFrameOf}
 use Rattle.dvg_named.specs.NamedFaults.{AreDistinct, DenotesFrames, KeepsLimits, laid_of, names_of}
 use Rattle.dvg_named.specs.Places.{Laid, doings}
-use Rattle.dvg_named.specs.PlainLines.{is_blank, is_some_byte, plain, plain_lines, uncommented, words}
+use Rattle.dvg_named.specs.PlainLines.{is_blank, is_some_byte, plain, plain_lines, tokens, uncommented}
 use Rattle.dvg_named.specs.Rows.{IsRowLine, Row, RowParts, does, plainly}
 use Rattle.dvg_named.specs.Rows as rows
 use Rattle.dvg_named.specs.Sections.{Spelled, SpellsSketch}
 use Rattle.dvg_named.specs.SketchSteps.{so_far}
 use Rattle.dvg_named.proofs.FrontLimits.{no_names}
 use Rattle.dvg_named.proofs.LineCuts.{cut_at_comment}
-use Rattle.dvg_named.proofs.PlainWords.{passed_without_words}
+use Rattle.dvg_named.proofs.PlainTokens.{passed_without_tokens}
 use Rattle.dvg_named.proofs.ReadCuts.{top_alone}
 use Rattle.dvg_named.proofs.ReadLimits.{IsInRom, IsOnce, IsSmall, framed, within_out}
-use Rattle.dvg_named.proofs.SmallWords.{IsTidy, low, low_hex, op_lowered, tidy_hex, tidy_name}
+use Rattle.dvg_named.proofs.SmallTokens.{IsTidy, low, low_hex, op_lowered, tidy_hex, tidy_name}
 use Rattle.dvg_named.proofs.TidyLines.{IsPlain, line_is_plain, low_parts}
 
 -- ---- the lines of a text in small letters
@@ -60,9 +60,9 @@ lines_low (byte ∷ bytes) =
     ∙ ap (λ rest. if eqb byte 10 then [] ∷ rest else onto_first first rest) (lines_low bytes)
     ∙ lines_by (eqb byte 10) byte (lines bytes)
 
--- ---- lines that are passed over, and those that are told
+-- ---- lines that are passed over, and those that are unpassed
 
--- a comment has no words
+-- a comment has no tokens
 nothing_left : (byte n : ℕ) (bytes : List ℕ) → eqb byte 35 ≡ true → uncommented (take n (byte ∷ bytes)) ≡ []
 nothing_left byte zero bytes is = refl
 nothing_left byte (suc n) bytes is =
@@ -73,39 +73,39 @@ comment_by : (ends : Bool) (byte n : ℕ) (bytes : List ℕ) → eqb byte 35 ≡
 comment_by true byte n bytes is = nothing_left byte n bytes is
 comment_by false byte n bytes is = cut_at_comment [] byte bytes (All-nil (λ b. eqb b 35 ≡ false)) is
 
-no_words : (byte : ℕ) (bytes : List ℕ) → eqb byte 35 ≡ true → words (byte ∷ bytes) ≡ []
-no_words byte bytes is =
+no_tokens : (byte : ℕ) (bytes : List ℕ) → eqb byte 35 ≡ true → tokens (byte ∷ bytes) ≡ []
+no_tokens byte bytes is =
     ap (λ l. filter is_some_byte (slice_split is_blank l)) (comment_by _ byte _ bytes is)
 
 passed_low : (line : List ℕ) → is_passed line ≡ true → is_passed (plain (low line)) ≡ true
 passed_low [] is = refl
 passed_low (byte ∷ bytes) is =
-    passed_without_words (low (byte ∷ bytes))
-    (no_words (to_ascii_lowercase byte) (low bytes) (same_test 35 byte (omega arith) ∙ is))
+    passed_without_tokens (low (byte ∷ bytes))
+    (no_tokens (to_ascii_lowercase byte) (low bytes) (same_test 35 byte (omega arith) ∙ is))
 
-told_yes : (line : List ℕ) (ls : List (List ℕ)) → is_passed line ≡ false → told (line ∷ ls) ≡ line ∷ told ls
-told_yes line ls e = rw e refl
+unpassed_yes : (line : List ℕ) (ls : List (List ℕ)) → is_passed line ≡ false → unpassed (line ∷ ls) ≡ line ∷ unpassed ls
+unpassed_yes line ls e = rw e refl
 
-told_no : (line : List ℕ) (ls : List (List ℕ)) → is_passed line ≡ true → told (line ∷ ls) ≡ told ls
-told_no line ls e = rw e refl
+unpassed_no : (line : List ℕ) (ls : List (List ℕ)) → is_passed line ≡ true → unpassed (line ∷ ls) ≡ unpassed ls
+unpassed_no line ls e = rw e refl
 
-told_by : (passed : Bool) (line : List ℕ) (ls : List (List ℕ)) → is_passed line ≡ passed
-    → All IsPlain (told (line ∷ ls)) → (All IsPlain (told ls) → told (map plain (map low ls)) ≡ map low (told ls))
-    → told (map plain (map low (line ∷ ls))) ≡ map low (told (line ∷ ls))
-told_by true line ls e h rest =
-    told_no (plain (low line)) (map plain (map low ls)) (passed_low line e)
-    ∙ rest (subst (All IsPlain) (told_no line ls e) h) ∙ ap (map low) (sym (told_no line ls e))
-told_by false line ls e h rest =
-    let all = subst (All IsPlain) (told_yes line ls e) h in
-    let first = All-head IsPlain line (told ls) all in
-    ap (λ l. told (l ∷ map plain (map low ls))) first.plain_is
-    ∙ told_yes (low line) (map plain (map low ls)) first.is_told
-    ∙ ap (λ l. low line ∷ l) (rest (All-tail IsPlain line (told ls) all))
-    ∙ ap (map low) (sym (told_yes line ls e))
+unpassed_by : (passed : Bool) (line : List ℕ) (ls : List (List ℕ)) → is_passed line ≡ passed
+    → All IsPlain (unpassed (line ∷ ls)) → (All IsPlain (unpassed ls) → unpassed (map plain (map low ls)) ≡ map low (unpassed ls))
+    → unpassed (map plain (map low (line ∷ ls))) ≡ map low (unpassed (line ∷ ls))
+unpassed_by true line ls e h rest =
+    unpassed_no (plain (low line)) (map plain (map low ls)) (passed_low line e)
+    ∙ rest (subst (All IsPlain) (unpassed_no line ls e) h) ∙ ap (map low) (sym (unpassed_no line ls e))
+unpassed_by false line ls e h rest =
+    let all = subst (All IsPlain) (unpassed_yes line ls e) h in
+    let first = All-head IsPlain line (unpassed ls) all in
+    ap (λ l. unpassed (l ∷ map plain (map low ls))) first.plain_is
+    ∙ unpassed_yes (low line) (map plain (map low ls)) first.is_unpassed
+    ∙ ap (λ l. low line ∷ l) (rest (All-tail IsPlain line (unpassed ls) all))
+    ∙ ap (map low) (sym (unpassed_yes line ls e))
 
-told_plain : (ls : List (List ℕ)) → All IsPlain (told ls) → told (map plain (map low ls)) ≡ map low (told ls)
-told_plain [] h = refl
-told_plain (line ∷ ls) h = told_by (is_passed line) line ls refl h (told_plain ls)
+unpassed_plain : (ls : List (List ℕ)) → All IsPlain (unpassed ls) → unpassed (map plain (map low ls)) ≡ map low (unpassed ls)
+unpassed_plain [] h = refl
+unpassed_plain (line ∷ ls) h = unpassed_by (is_passed line) line ls refl h (unpassed_plain ls)
 
 -- ---- lines of operations
 
@@ -185,21 +185,21 @@ given_low first (words ∷ given) [] h = absurd h
 given_low first (words ∷ given) (line ∷ ls) h = (rom_low first words line h.0, given_low first given ls h.1)
 
 map_plain : {first : ℕ} {line : List ℕ} → IsMapLine first line → IsPlain line
-map_plain small = record { plain_is = refl; is_told = refl }
-map_plain large = record { plain_is = refl; is_told = refl }
+map_plain small = record { plain_is = refl; is_unpassed = refl }
+map_plain large = record { plain_is = refl; is_unpassed = refl }
 
 map_low : {first : ℕ} {line : List ℕ} → IsMapLine first line → IsMapLine first (low line)
 map_low small = small
 map_low large = large
 
-told_rom_plain : {rom : RomText} {ls : List (List ℕ)} → SpellsRom rom ls → All IsPlain ls
-told_rom_plain (unmapped {given = given} {ls = ls} h) = given_plain 0x800 given ls h
-told_rom_plain (mapped {first = first} {given = given} {line = line} {ls = ls} m h) =
+stated_rom_plain : {rom : RomText} {ls : List (List ℕ)} → SpellsRom rom ls → All IsPlain ls
+stated_rom_plain (unmapped {given = given} {ls = ls} h) = given_plain 0x800 given ls h
+stated_rom_plain (mapped {first = first} {given = given} {line = line} {ls = ls} m h) =
     All-cons IsPlain line ls (map_plain m) (given_plain first given ls h)
 
-told_rom_low : {rom : RomText} {ls : List (List ℕ)} → SpellsRom rom ls → SpellsRom rom (map low ls)
-told_rom_low (unmapped {given = given} {ls = ls} h) = unmapped (given_low 0x800 given ls h)
-told_rom_low (mapped {first = first} {given = given} {ls = ls} m h) = mapped (map_low m) (given_low first given ls h)
+stated_rom_low : {rom : RomText} {ls : List (List ℕ)} → SpellsRom rom ls → SpellsRom rom (map low ls)
+stated_rom_low (unmapped {given = given} {ls = ls} h) = unmapped (given_low 0x800 given ls h)
+stated_rom_low (mapped {first = first} {given = given} {ls = ls} m h) = mapped (map_low m) (given_low first given ls h)
 
 -- ---- the sketch of a draft
 
@@ -222,23 +222,23 @@ module _ (text : List ℕ) (rom : RomText) (ops : List OpKind) (h : Denotes text
   abbrev sketch : Spelled
   sketch = so_far rom all_rows []
 
-  all_plain : All IsPlain (told (lines text))
+  all_plain : All IsPlain (unpassed (lines text))
   all_plain =
       subst (All IsPlain) (sym h.spelled.cut)
-      (All-append IsPlain h.spelled.front h.spelled.rest (told_rom_plain h.spelled.head) (ops_plain ops h.spelled.rest h.spelled.draft))
+      (All-append IsPlain h.spelled.front h.spelled.rest (stated_rom_plain h.spelled.head) (ops_plain ops h.spelled.rest h.spelled.draft))
 
-  told_lines : told (plain_lines text) ≡ map low h.spelled.front ++ map low h.spelled.rest
-  told_lines =
-      ap (λ ls. told (map plain ls)) (lines_low text) ∙ told_plain (lines text) all_plain ∙ ap (map low) h.spelled.cut
+  unpassed_lines : unpassed (plain_lines text) ≡ map low h.spelled.front ++ map low h.spelled.rest
+  unpassed_lines =
+      ap (λ ls. unpassed (map plain ls)) (lines_low text) ∙ unpassed_plain (lines text) all_plain ∙ ap (map low) h.spelled.cut
       ∙ map-append low h.spelled.front h.spelled.rest
 
-  spelled : SpellsSketch sketch (told (plain_lines text))
+  spelled : SpellsSketch sketch (unpassed (plain_lines text))
   spelled = record {
     front = map low h.spelled.front;
     rows = map low h.spelled.rest;
     rest = [];
-    cut = told_lines ∙ sym (append-nil (map low h.spelled.front ++ map low h.spelled.rest));
-    told = told_rom_low h.spelled.head;
+    cut = unpassed_lines ∙ sym (append-nil (map low h.spelled.front ++ map low h.spelled.rest));
+    stated = stated_rom_low h.spelled.head;
     first = rows_low ops h.spelled.rest h.spelled.draft;
     others = tt;
   }

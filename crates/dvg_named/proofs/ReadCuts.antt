@@ -15,56 +15,56 @@ use Rattle.dvg_named.specs.SketchSteps.{Goes, adds, begins, begun, so_far, tells
 -- ---- a line more
 
 -- a row in the last section
-pub goes_row : (told : RomText) (closed : List Section) (last : Section) (row : Row) (line : List ℕ) → MayStand last.head row
-    → IsRowLine row line → Goes (sketch_of told closed last) line (sketch_of told closed (with_row last row))
-goes_row told [] last row line may is = tops row is
-goes_row told (first ∷ others) last row line may is = adds others last row refl may is
+pub goes_row : (stated : RomText) (closed : List Section) (last : Section) (row : Row) (line : List ℕ) → MayStand last.head row
+    → IsRowLine row line → Goes (sketch_of stated closed last) line (sketch_of stated closed (with_row last row))
+goes_row stated [] last row line may is = tops row is
+goes_row stated (first ∷ others) last row line may is = adds others last row refl may is
 
 -- a section more
-pub goes_begin : (told : RomText) (closed : List Section) (last : Section) (head : Head) (line : List ℕ) → IsHeadLine head line
-    → Goes (sketch_of told closed last) line (sketch_of told (closed ++ last ∷ []) (begun head))
-goes_begin told [] last head line is = begins head is
-goes_begin told (first ∷ others) last head line is = begins head is
+pub goes_begin : (stated : RomText) (closed : List Section) (last : Section) (head : Head) (line : List ℕ) → IsHeadLine head line
+    → Goes (sketch_of stated closed last) line (sketch_of stated (closed ++ last ∷ []) (begun head))
+goes_begin stated [] last head line is = begins head is
+goes_begin stated (first ∷ others) last head line is = begins head is
 
 none_ends : {X : Type 0} (front : List X) (x : X) → [] ≡ front ++ x ∷ [] → ⊥
 none_ends front x e = omega (arith, ap length e, length-append front (x ∷ []))
 
-top_stops : (told : RomText) (last : Section) (line : List ℕ) (s t : Spelled) → last.head ≡ top
-    → s ≡ so_far told last.rows [] → (last.rows ≡ [] → (now : RomText) → ¬ TellsRom told line now)
+top_stops : (stated : RomText) (last : Section) (line : List ℕ) (s t : Spelled) → last.head ≡ top
+    → s ≡ so_far stated last.rows [] → (last.rows ≡ [] → (now : RomText) → ¬ TellsRom stated line now)
     → ((head : Head) → ¬ IsHeadLine head line) → ((row : Row) → IsRowLine row line → ¬ MayStand last.head row)
     → Goes s line t → ⊥
-top_stops told last line s t at e no_rom no_head no_row (tells {rom = old} {now = now} g) =
+top_stops stated last line s t at e no_rom no_head no_row (tells {rom = old} {now = now} g) =
     let rows : last.rows ≡ [] = ap (λ s. s.first) (sym e) in
-    let same : old ≡ told = ap (λ s. s.rom) e in
+    let same : old ≡ stated = ap (λ s. s.rom) e in
     no_rom rows now (subst (λ old. TellsRom old line now) same g)
-top_stops told last line s t at e no_rom no_head no_row (tops row is) =
+top_stops stated last line s t at e no_rom no_head no_row (tops row is) =
     no_row row is (subst (λ head. MayStand head row) (sym at) tt)
-top_stops told last line s t at e no_rom no_head no_row (adds front section row is_last may is) =
+top_stops stated last line s t at e no_rom no_head no_row (adds front section row is_last may is) =
     let none : [] ≡ front ++ section ∷ [] = sym (ap (λ s. s.others) e) ∙ is_last in
     none_ends front section none
-top_stops told last line s t at e no_rom no_head no_row (begins head is) = no_head head is
+top_stops stated last line s t at e no_rom no_head no_row (begins head is) = no_head head is
 
-later_stops : (told : RomText) (first : Section) (others : List Section) (last : Section) (line : List ℕ) (s t : Spelled)
-    → s ≡ so_far told first.rows (others ++ last ∷ [])
+later_stops : (stated : RomText) (first : Section) (others : List Section) (last : Section) (line : List ℕ) (s t : Spelled)
+    → s ≡ so_far stated first.rows (others ++ last ∷ [])
     → ((head : Head) → ¬ IsHeadLine head line) → ((row : Row) → IsRowLine row line → ¬ MayStand last.head row)
     → Goes s line t → ⊥
-later_stops told first others last line s t e no_head no_row (tells g) = none_ends others last (ap (λ s. s.others) e)
-later_stops told first others last line s t e no_head no_row (tops row is) = none_ends others last (ap (λ s. s.others) e)
-later_stops told first others last line s t e no_head no_row (adds front section row is_last may is) =
+later_stops stated first others last line s t e no_head no_row (tells g) = none_ends others last (ap (λ s. s.others) e)
+later_stops stated first others last line s t e no_head no_row (tops row is) = none_ends others last (ap (λ s. s.others) e)
+later_stops stated first others last line s t e no_head no_row (adds front section row is_last may is) =
     let ends : front ++ section ∷ [] ≡ others ++ last ∷ [] = sym is_last ∙ ap (λ s. s.others) e in
     let same = same_from_push front others section last ends in
     no_row row is (subst (λ (section : Section). MayStand section.head row) same.1 may)
-later_stops told first others last line s t e no_head no_row (begins head is) = no_head head is
+later_stops stated first others last line s t e no_head no_row (begins head is) = no_head head is
 
 -- a line with which nothing is spelled
-pub nothing_goes : (told : RomText) (closed : List Section) (last : Section) (line : List ℕ) (t : Spelled) → StartsAtTop closed last
-    → (closed ≡ [] → last.rows ≡ [] → (now : RomText) → ¬ TellsRom told line now)
+pub nothing_goes : (stated : RomText) (closed : List Section) (last : Section) (line : List ℕ) (t : Spelled) → StartsAtTop closed last
+    → (closed ≡ [] → last.rows ≡ [] → (now : RomText) → ¬ TellsRom stated line now)
     → ((head : Head) → ¬ IsHeadLine head line) → ((row : Row) → IsRowLine row line → ¬ MayStand last.head row)
-    → ¬ Goes (sketch_of told closed last) line t
-nothing_goes told [] last line t at no_rom no_head no_row g =
-    top_stops told last line (so_far told last.rows []) t at refl (no_rom refl) no_head no_row g
-nothing_goes told (first ∷ others) last line t at no_rom no_head no_row g =
-    later_stops told first others last line (so_far told first.rows (others ++ last ∷ [])) t refl no_head no_row g
+    → ¬ Goes (sketch_of stated closed last) line t
+nothing_goes stated [] last line t at no_rom no_head no_row g =
+    top_stops stated last line (so_far stated last.rows []) t at refl (no_rom refl) no_head no_row g
+nothing_goes stated (first ∷ others) last line t at no_rom no_head no_row g =
+    later_stops stated first others last line (so_far stated first.rows (others ++ last ∷ [])) t refl no_head no_row g
 
 -- ---- frames
 
@@ -113,10 +113,10 @@ frames_end others last none =
     filter_map-append frame_in others (last ∷ [])
     ∙ ap (λ l. filter_map frame_in others ++ l) (last_frame last.head last.rows none)
 
-pub frames_cut : (told : RomText) (closed : List Section) (last : Section) → StartsAtTop closed last
-    → frames (sketch_of told closed last) ≡ front_frames closed ++ frame_list last.head last.rows
-frames_cut told [] last at = top_is_list last.head last.rows at
-frames_cut told (first ∷ others) last at =
+pub frames_cut : (stated : RomText) (closed : List Section) (last : Section) → StartsAtTop closed last
+    → frames (sketch_of stated closed last) ≡ front_frames closed ++ frame_list last.head last.rows
+frames_cut stated [] last at = top_is_list last.head last.rows at
+frames_cut stated (first ∷ others) last at =
     ap (λ l. l ++ filter_map frame_in (others ++ last ∷ [])) (top_before first.rows others last)
     ∙ ap (λ l. top_list first.rows ++ l) (frames_end others last at)
     ∙ sym (append_assoc (top_list first.rows) (filter_map frame_in others) (frame_list last.head last.rows))
@@ -138,10 +138,10 @@ roms_end : (others : List Section) (last : Section)
 roms_end others last =
     filter_map-append rom_in others (last ∷ []) ∙ ap (λ l. filter_map rom_in others ++ l) (last_rom last.head last.rows)
 
-pub roms_cut : (told : RomText) (closed : List Section) (last : Section) → StartsAtTop closed last
-    → rom_sections (sketch_of told closed last) ≡ front_roms closed ++ rom_list last.head last.rows
-roms_cut told [] last at = top_no_rom last.head last.rows at
-roms_cut told (first ∷ others) last at = roms_end others last
+pub roms_cut : (stated : RomText) (closed : List Section) (last : Section) → StartsAtTop closed last
+    → rom_sections (sketch_of stated closed last) ≡ front_roms closed ++ rom_list last.head last.rows
+roms_cut stated [] last at = top_no_rom last.head last.rows at
+roms_cut stated (first ∷ others) last at = roms_end others last
 
 -- ---- one section more is closed
 

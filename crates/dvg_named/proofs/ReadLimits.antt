@@ -5,11 +5,11 @@ use Rattle.std.proofs.lemmas.Grind.{flat_map-append}
 use Rattle.std.proofs.lemmas.List.Elements.{All-nil, All-push, filter_map-append}
 use Rattle.std.specs.List.{cons_option, filter_map, flat_map}
 use Rattle.std.specs.Option.{option_to_list}
-use Rattle.dvg_read.specs.RomTexts.{RomText, first_told}
+use Rattle.dvg_read.specs.RomTexts.{RomText, first_stated}
 use Rattle.dvg_named.specs.GivenNames.{IsAgain, IsFresh}
 use Rattle.dvg_named.specs.NamedFaults.{AreDistinct, DraftsFit, GivesOnce, KeepsLimits, LieApart, RomFits, names_of}
 use Rattle.dvg_named.specs.Places.{Laid, doings, laid_end, laid_from, size}
-use Rattle.dvg_named.specs.ReadParts.{free_from, free_told}
+use Rattle.dvg_named.specs.ReadParts.{free_from, free_stated}
 use Rattle.dvg_named.specs.RowMoves.{IsCounted, IsFull}
 use Rattle.dvg_named.specs.Rows.{Doing, Row}
 use Rattle.dvg_named.specs.Sections.{FrameRows, RomRows, Spelled, frames, rom_sections}
@@ -35,11 +35,11 @@ IsSmall frame = length (doings frame.rows) ≤ 511
 
 -- the section is laid on words of the ROM
 abbrev pub IsInRom : RomText → Laid → Type 0
-IsInRom told section = (first_told told.map ≤ section.start) × (laid_end section ≤ 0xC00)
+IsInRom stated section = (first_stated stated.map ≤ section.start) × (laid_end section ≤ 0xC00)
 
 -- sections as they are laid
 abbrev pub laid_all : RomText → List RomRows → List Laid
-laid_all told R = laid_from (free_told told) R
+laid_all stated R = laid_from (free_stated stated) R
 
 -- each name is given once
 pub record Once (F : List FrameRows) (R : List RomRows) : Type 0 where
@@ -48,11 +48,11 @@ pub record Once (F : List FrameRows) (R : List RomRows) : Type 0 where
   pub of_frames : AreDistinct (filter_map name_in F)
 
 -- all limits are kept
-pub record Within (told : RomText) (F : List FrameRows) (R : List RomRows) : Type 0 where
+pub record Within (stated : RomText) (F : List FrameRows) (R : List RomRows) : Type 0 where
   pub once : Once F R
   pub drafts : All IsSmall F
-  pub rom : All (IsInRom told) (laid_all told R)
-  pub apart : Apart (laid_all told R)
+  pub rom : All (IsInRom stated) (laid_all stated R)
+  pub apart : Apart (laid_all stated R)
 
 module _ (s : Spelled) (F : List FrameRows) (R : List RomRows) (e : frames s ≡ F) (f : rom_sections s ≡ R) where
   pub once_in : GivesOnce s → Once F R
@@ -267,29 +267,29 @@ rom_begun_once F R address h = record {
 
 -- ---- where they are laid
 
-module _ (told : RomText) (front : List RomRows) (address : Option ℕ) where
+module _ (stated : RomText) (front : List RomRows) (address : Option ℕ) where
   -- the address of its first word
   abbrev pub start_at : ℕ
-  start_at = unwrap_or address (free_from (free_told told) front)
+  start_at = unwrap_or address (free_from (free_stated stated) front)
 
-  pub laid_last : (rows : List Row) → laid_all told (front ++ of_rom address rows ∷ [])
-      ≡ laid_all told front ++ record { start = start_at; rows = rows } ∷ []
-  laid_last rows = laid_push front (of_rom address rows) (free_told told)
+  pub laid_last : (rows : List Row) → laid_all stated (front ++ of_rom address rows ∷ [])
+      ≡ laid_all stated front ++ record { start = start_at; rows = rows } ∷ []
+  laid_last rows = laid_push front (of_rom address rows) (free_stated stated)
 
-  pub fits_last : (rows : List Row) → All (IsInRom told) (laid_all told front) → first_told told.map ≤ start_at
-      → start_at + size rows ≤ 0xC00 → All (IsInRom told) (laid_all told (front ++ of_rom address rows ∷ []))
+  pub fits_last : (rows : List Row) → All (IsInRom stated) (laid_all stated front) → first_stated stated.map ≤ start_at
+      → start_at + size rows ≤ 0xC00 → All (IsInRom stated) (laid_all stated (front ++ of_rom address rows ∷ []))
   fits_last rows h low high =
-      subst (All (IsInRom told)) (sym (laid_last rows))
-      (All-push (IsInRom told) (laid_all told front) (record { start = start_at; rows = rows }) h (low, high))
+      subst (All (IsInRom stated)) (sym (laid_last rows))
+      (All-push (IsInRom stated) (laid_all stated front) (record { start = start_at; rows = rows }) h (low, high))
 
-  pub fits_front : (rows : List Row) → All (IsInRom told) (laid_all told (front ++ of_rom address rows ∷ []))
-      → All (IsInRom told) (laid_all told front)
+  pub fits_front : (rows : List Row) → All (IsInRom stated) (laid_all stated (front ++ of_rom address rows ∷ []))
+      → All (IsInRom stated) (laid_all stated front)
   fits_front rows h =
-      all_front (IsInRom told) (laid_all told front) (record { start = start_at; rows = rows } ∷ [])
-      (subst (All (IsInRom told)) (laid_last rows) h)
+      all_front (IsInRom stated) (laid_all stated front) (record { start = start_at; rows = rows } ∷ [])
+      (subst (All (IsInRom stated)) (laid_last rows) h)
 
-  pub last_fits : (rows : List Row) → All (IsInRom told) (laid_all told (front ++ of_rom address rows ∷ []))
-      → (first_told told.map ≤ start_at) × (start_at + size rows ≤ 0xC00)
+  pub last_fits : (rows : List Row) → All (IsInRom stated) (laid_all stated (front ++ of_rom address rows ∷ []))
+      → (first_stated stated.map ≤ start_at) × (start_at + size rows ≤ 0xC00)
   last_fits rows h =
-      all_last (IsInRom told) (laid_all told front) (record { start = start_at; rows = rows })
-      (subst (All (IsInRom told)) (laid_last rows) h)
+      all_last (IsInRom stated) (laid_all stated front) (record { start = start_at; rows = rows })
+      (subst (All (IsInRom stated)) (laid_last rows) h)

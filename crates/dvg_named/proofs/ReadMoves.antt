@@ -3,12 +3,12 @@ use Rattle.std.proofs.Common.{◌≡◌, ◌<◌, ◌≤◌, ◌+◌, ◌⊎◌,
 use Rattle.std.proofs.Common.{append-nil, unwrap_or, All, true, false, Option, None}
 use Rattle.std.specs.List.{filter_map, flat_map}
 use Rattle.std.specs.Option.{option_to_list}
-use Rattle.dvg_read.specs.RomTexts.{RomText, first_told}
+use Rattle.dvg_read.specs.RomTexts.{RomText, first_stated}
 use Rattle.dvg_named.specs.declared.rom_area.RomArea.{RomArea}
 use Rattle.dvg_named.specs.GivenNames.{IsAgain, IsFresh}
 use Rattle.dvg_named.specs.NamedFaults.{DraftsFit, GivesOnce, LieApart, RomFits, names_of}
 use Rattle.dvg_named.specs.Places.{Laid, doings, size}
-use Rattle.dvg_named.specs.ReadParts.{KeepsArea, KeepsFrame, KeepsNext, StartsAtTop, free_from, free_told, front_roms, sketch_of}
+use Rattle.dvg_named.specs.ReadParts.{KeepsArea, KeepsFrame, KeepsNext, StartsAtTop, free_from, free_stated, front_roms, sketch_of}
 use Rattle.dvg_named.specs.RomAreas.{BeginsAt, IsFree, Takes}
 use Rattle.dvg_named.specs.RomParts.{rom_list}
 use Rattle.dvg_named.specs.RowMoves.{IsCounted, IsFrameHead, IsFull}
@@ -34,12 +34,12 @@ all_names sections = names_of (flat_map (λ section. section.rows) sections)
 
 -- ---- a row more in a frame
 
-module _ (told : RomText) (closed : List Section) (head : Head) (name : Option (List ℕ)) (rows : List Row) (row : Row)
+module _ (stated : RomText) (closed : List Section) (head : Head) (name : Option (List ℕ)) (rows : List Row) (row : Row)
     (of_frames of_rom_names names : List (List ℕ)) (count : ℕ) (held : RomArea)
     (in_list : (rows : List Row) → frame_list head rows ≡ framed name rows ∷ [])
     (no_rom : (rows : List Row) → rom_list head rows ≡ [])
     (may : MayStand head row)
-    (h : Keeps told closed (part head rows) of_frames of_rom_names names count held)
+    (h : Keeps stated closed (part head rows) of_frames of_rom_names names count held)
     (kept : (names ≡ names_of rows) × (count ≡ length (doings rows))) where
   abbrev old_frames : List FrameRows
   old_frames = front_frames closed ++ framed name rows ∷ []
@@ -51,33 +51,33 @@ module _ (told : RomText) (closed : List Section) (head : Head) (name : Option (
   same_roms = front_roms closed ++ []
 
   abbrev was : Spelled
-  was = sketch_of told closed (part head rows)
+  was = sketch_of stated closed (part head rows)
 
   abbrev is : Spelled
-  is = sketch_of told closed (part head (rows ++ row ∷ []))
+  is = sketch_of stated closed (part head (rows ++ row ∷ []))
 
   starts : StartsAtTop closed (part head (rows ++ row ∷ []))
   starts = starts_with closed (part head rows) (part head (rows ++ row ∷ [])) refl h.starts
 
   was_frames : frames was ≡ old_frames
-  was_frames = frames_cut told closed (part head rows) h.starts ∙ ap (λ l. front_frames closed ++ l) (in_list rows)
+  was_frames = frames_cut stated closed (part head rows) h.starts ∙ ap (λ l. front_frames closed ++ l) (in_list rows)
 
   is_frames : frames is ≡ new_frames
   is_frames =
-      frames_cut told closed (part head (rows ++ row ∷ [])) starts
+      frames_cut stated closed (part head (rows ++ row ∷ [])) starts
       ∙ ap (λ l. front_frames closed ++ l) (in_list (rows ++ row ∷ []))
 
   was_roms : rom_sections was ≡ same_roms
-  was_roms = roms_cut told closed (part head rows) h.starts ∙ ap (λ l. front_roms closed ++ l) (no_rom rows)
+  was_roms = roms_cut stated closed (part head rows) h.starts ∙ ap (λ l. front_roms closed ++ l) (no_rom rows)
 
   is_roms : rom_sections is ≡ same_roms
   is_roms =
-      roms_cut told closed (part head (rows ++ row ∷ [])) starts ∙ ap (λ l. front_roms closed ++ l) (no_rom (rows ++ row ∷ []))
+      roms_cut stated closed (part head (rows ++ row ∷ [])) starts ∙ ap (λ l. front_roms closed ++ l) (no_rom (rows ++ row ∷ []))
 
   unchanged : rom_sections was ≡ rom_sections is
   unchanged = was_roms ∙ sym is_roms
 
-  within : Within told old_frames same_roms
+  within : Within stated old_frames same_roms
   within = within_in was old_frames same_roms was_frames was_roms h.limits
 
   module _ (fresh : IsFresh names row.name) where
@@ -91,8 +91,8 @@ module _ (told : RomText) (closed : List Section) (head : Head) (name : Option (
       small = frame_row_small (front_frames closed) name rows row same_roms count kept.1 now within.drafts counted
 
       by_frame_row : KeepsFrame head (rows ++ row ∷ []) (names ++ option_to_list row.name) now
-          → KeepsNext told closed head (rows ++ row ∷ []) held.next
-          → Keeps told closed (part head (rows ++ row ∷ [])) of_frames of_rom_names (names ++ option_to_list row.name) now held
+          → KeepsNext stated closed head (rows ++ row ∷ []) held.next
+          → Keeps stated closed (part head (rows ++ row ∷ [])) of_frames of_rom_names (names ++ option_to_list row.name) now held
       by_frame_row in_frame placed = record {
         starts = starts;
         limits = within_out is new_frames same_roms is_frames is_roms
@@ -102,14 +102,14 @@ module _ (told : RomText) (closed : List Section) (head : Head) (name : Option (
         roms = h.roms ∙ ap all_names unchanged;
         frame = in_frame;
         next = placed;
-        area = subst (λ sections. KeepsArea told sections held) unchanged h.area;
+        area = subst (λ sections. KeepsArea stated sections held) unchanged h.area;
       }
 
     frame_row_fills : (line : List ℕ) → IsRowLine row line → IsFull count row.doing
         → Breaks (λ now. GivesOnce now × (¬ DraftsFit now)) was line
     frame_row_fills line spelled full = record {
       now = is;
-      goes = goes_row told closed (part head rows) row line may spelled;
+      goes = goes_row stated closed (part head rows) row line may spelled;
       breaks = (
         once_out is new_frames same_roms is_frames is_roms once,
         λ fits.
@@ -121,7 +121,7 @@ module _ (told : RomText) (closed : List Section) (head : Head) (name : Option (
   frame_row_twice : (line : List ℕ) → IsRowLine row line → IsAgain names row.name → Breaks (λ now. ¬ GivesOnce now) was line
   frame_row_twice line spelled again = record {
     now = is;
-    goes = goes_row told closed (part head rows) row line may spelled;
+    goes = goes_row stated closed (part head rows) row line may spelled;
     breaks = λ once. frame_row_again (front_frames closed) name rows row same_roms
         (subst (λ names. IsAgain names row.name) kept.0 again) (once_in is new_frames same_roms is_frames is_roms once);
   }
@@ -133,55 +133,55 @@ more_kept : (rows : List Row) (row : Row) (names : List (List ℕ)) (count now :
 more_kept rows row names count now e f counted =
     (ap (λ l. l ++ option_to_list row.name) e ∙ sym (names_more rows row), counted_more rows row count now f counted)
 
-module _ (told : RomText) (closed : List Section) (rows : List Row) (row : Row) (of_frames of_rom_names names : List (List ℕ))
+module _ (stated : RomText) (closed : List Section) (rows : List Row) (row : Row) (of_frames of_rom_names names : List (List ℕ))
     (count : ℕ) (held : RomArea) where
   pub frame_row : (head : Head) → IsFrameHead head
-      → Keeps told closed (part head rows) of_frames of_rom_names names count held → IsFresh names row.name
+      → Keeps stated closed (part head rows) of_frames of_rom_names names count held → IsFresh names row.name
       → (now : ℕ) → IsCounted count row.doing now
-      → Keeps told closed (part head (rows ++ row ∷ [])) of_frames of_rom_names (names ++ option_to_list row.name) now held
+      → Keeps stated closed (part head (rows ++ row ∷ [])) of_frames of_rom_names (names ++ option_to_list row.name) now held
   frame_row top head h fresh now counted =
-      by_frame_row told closed top None rows row of_frames of_rom_names names count held (λ rows. refl) (λ rows. refl) tt h
+      by_frame_row stated closed top None rows row of_frames of_rom_names names count held (λ rows. refl) (λ rows. refl) tt h
       h.frame fresh now counted (more_kept rows row names count now h.frame.0 h.frame.1 counted) tt
   frame_row (frame name) head h fresh now counted =
-      by_frame_row told closed (frame name) name rows row of_frames of_rom_names names count held (λ rows. refl) (λ rows. refl)
+      by_frame_row stated closed (frame name) name rows row of_frames of_rom_names names count held (λ rows. refl) (λ rows. refl)
       tt h h.frame fresh now counted (more_kept rows row names count now h.frame.0 h.frame.1 counted) tt
   frame_row (rom address) head h fresh now counted = absurd head
 
   pub frame_full : (head : Head) → IsFrameHead head
-      → Keeps told closed (part head rows) of_frames of_rom_names names count held → IsFresh names row.name
+      → Keeps stated closed (part head rows) of_frames of_rom_names names count held → IsFresh names row.name
       → (line : List ℕ) → IsRowLine row line → IsFull count row.doing
-      → Breaks (λ now. GivesOnce now × (¬ DraftsFit now)) (sketch_of told closed (part head rows)) line
+      → Breaks (λ now. GivesOnce now × (¬ DraftsFit now)) (sketch_of stated closed (part head rows)) line
   frame_full top head h fresh line spelled full =
-      frame_row_fills told closed top None rows row of_frames of_rom_names names count held (λ rows. refl) (λ rows. refl) tt h
+      frame_row_fills stated closed top None rows row of_frames of_rom_names names count held (λ rows. refl) (λ rows. refl) tt h
       h.frame fresh line spelled full
   frame_full (frame name) head h fresh line spelled full =
-      frame_row_fills told closed (frame name) name rows row of_frames of_rom_names names count held (λ rows. refl)
+      frame_row_fills stated closed (frame name) name rows row of_frames of_rom_names names count held (λ rows. refl)
       (λ rows. refl) tt h h.frame fresh line spelled full
   frame_full (rom address) head h fresh line spelled full = absurd head
 
   pub frame_twice : (head : Head) → IsFrameHead head
-      → Keeps told closed (part head rows) of_frames of_rom_names names count held → IsAgain names row.name
+      → Keeps stated closed (part head rows) of_frames of_rom_names names count held → IsAgain names row.name
       → (line : List ℕ) → IsRowLine row line
-      → Breaks (λ now. ¬ GivesOnce now) (sketch_of told closed (part head rows)) line
+      → Breaks (λ now. ¬ GivesOnce now) (sketch_of stated closed (part head rows)) line
   frame_twice top head h again line spelled =
-      frame_row_twice told closed top None rows row of_frames of_rom_names names count held (λ rows. refl) (λ rows. refl) tt h
+      frame_row_twice stated closed top None rows row of_frames of_rom_names names count held (λ rows. refl) (λ rows. refl) tt h
       h.frame line spelled again
   frame_twice (frame name) head h again line spelled =
-      frame_row_twice told closed (frame name) name rows row of_frames of_rom_names names count held (λ rows. refl)
+      frame_row_twice stated closed (frame name) name rows row of_frames of_rom_names names count held (λ rows. refl)
       (λ rows. refl) tt h h.frame line spelled again
   frame_twice (rom address) head h again line spelled = absurd head
 
 -- ---- a row more in the ROM
 
-module _ (told : RomText) (closed : List Section) (address : Option ℕ) (rows : List Row) (row : Row)
+module _ (stated : RomText) (closed : List Section) (address : Option ℕ) (rows : List Row) (row : Row)
     (of_frames of_rom_names names : List (List ℕ)) (count : ℕ) (held : RomArea)
-    (h : Keeps told closed (part (rom address) rows) of_frames of_rom_names names count held)
+    (h : Keeps stated closed (part (rom address) rows) of_frames of_rom_names names count held)
     (may : MayStand (rom address) row) where
   abbrev before : Spelled
-  before = sketch_of told closed (part (rom address) rows)
+  before = sketch_of stated closed (part (rom address) rows)
 
   abbrev after : Spelled
-  after = sketch_of told closed (part (rom address) (rows ++ row ∷ []))
+  after = sketch_of stated closed (part (rom address) (rows ++ row ∷ []))
 
   abbrev fs : List FrameRows
   fs = front_frames closed ++ []
@@ -193,31 +193,31 @@ module _ (told : RomText) (closed : List Section) (address : Option ℕ) (rows :
   new_roms = front_roms closed ++ of_rom address (rows ++ row ∷ []) ∷ []
 
   abbrev from : ℕ
-  from = start_at told (front_roms closed) address
+  from = start_at stated (front_roms closed) address
 
   still : StartsAtTop closed (part (rom address) (rows ++ row ∷ []))
   still = starts_with closed (part (rom address) rows) (part (rom address) (rows ++ row ∷ [])) refl h.starts
 
   before_frames : frames before ≡ fs
-  before_frames = frames_cut told closed (part (rom address) rows) h.starts
+  before_frames = frames_cut stated closed (part (rom address) rows) h.starts
 
   after_frames : frames after ≡ fs
-  after_frames = frames_cut told closed (part (rom address) (rows ++ row ∷ [])) still
+  after_frames = frames_cut stated closed (part (rom address) (rows ++ row ∷ [])) still
 
   before_roms : rom_sections before ≡ old_roms
-  before_roms = roms_cut told closed (part (rom address) rows) h.starts
+  before_roms = roms_cut stated closed (part (rom address) rows) h.starts
 
   after_roms : rom_sections after ≡ new_roms
-  after_roms = roms_cut told closed (part (rom address) (rows ++ row ∷ [])) still
+  after_roms = roms_cut stated closed (part (rom address) (rows ++ row ∷ [])) still
 
-  was_within : Within told fs old_roms
+  was_within : Within stated fs old_roms
   was_within = within_in before fs old_roms before_frames before_roms h.limits
 
   names_are : of_rom_names ≡ all_names old_roms
   names_are = h.roms ∙ ap all_names before_roms
 
   goes_on : (line : List ℕ) → IsRowLine row line → Goes before line after
-  goes_on line spelled = goes_row told closed (part (rom address) rows) row line may spelled
+  goes_on line spelled = goes_row stated closed (part (rom address) rows) row line may spelled
 
   pub rom_twice : (line : List ℕ) → IsRowLine row line → IsAgain of_rom_names row.name
       → Breaks (λ now. ¬ GivesOnce now) before line
@@ -252,19 +252,19 @@ module _ (told : RomText) (closed : List Section) (address : Option ℕ) (rows :
         gives_once,
         drafts_fit,
         λ fits.
-            let high = (last_fits told (front_roms closed) address (rows ++ row ∷ []) (rom_in after fs new_roms after_frames after_roms fits)).1 in
+            let high = (last_fits stated (front_roms closed) address (rows ++ row ∷ []) (rom_in after fs new_roms after_frames after_roms fits)).1 in
             let at = h.next in
             omega (arith, longer, over, high, at),
       );
     }
 
     module _ (high : held.next + size (row ∷ []) ≤ 0xC00) where
-      all_fit : All (IsInRom told) (laid_all told new_roms)
+      all_fit : All (IsInRom stated) (laid_all stated new_roms)
       all_fit =
-          let low = (last_fits told (front_roms closed) address rows was_within.rom).0 in
+          let low = (last_fits stated (front_roms closed) address rows was_within.rom).0 in
           let at = h.next in
-          fits_last told (front_roms closed) address (rows ++ row ∷ [])
-          (fits_front told (front_roms closed) address rows was_within.rom) low (omega (arith, longer, high, at))
+          fits_last stated (front_roms closed) address (rows ++ row ∷ [])
+          (fits_front stated (front_roms closed) address rows was_within.rom) low (omega (arith, longer, high, at))
 
       ends : (now : ℕ) → now ≡ held.next + size (row ∷ []) → now ≡ from + size (rows ++ row ∷ [])
       ends now e = let at = h.next in omega (arith, e, longer, at)
@@ -273,13 +273,13 @@ module _ (told : RomText) (closed : List Section) (address : Option ℕ) (rows :
       grows now e = let at = h.next in omega (arith, e, at)
 
       abbrev lower : List Laid
-      lower = laid_all told (front_roms closed)
+      lower = laid_all stated (front_roms closed)
 
-      laid_before : laid_all told (rom_sections before) ≡ lower ++ record { start = from; rows = rows } ∷ []
-      laid_before = ap (laid_all told) before_roms ∙ laid_last told (front_roms closed) address rows
+      laid_before : laid_all stated (rom_sections before) ≡ lower ++ record { start = from; rows = rows } ∷ []
+      laid_before = ap (laid_all stated) before_roms ∙ laid_last stated (front_roms closed) address rows
 
-      laid_now : laid_all told (rom_sections after) ≡ lower ++ record { start = from; rows = rows ++ row ∷ [] } ∷ []
-      laid_now = ap (laid_all told) after_roms ∙ laid_last told (front_roms closed) address (rows ++ row ∷ [])
+      laid_now : laid_all stated (rom_sections after) ≡ lower ++ record { start = from; rows = rows ++ row ∷ [] } ∷ []
+      laid_now = ap (laid_all stated) after_roms ∙ laid_last stated (front_roms closed) address (rows ++ row ∷ [])
 
       on : (a : ℕ) → Covers (lower ++ record { start = from; rows = rows } ∷ []) a → get_or held.is_taken a false ≡ true
       on a covered = h.area.on a (subst (λ l. Covers l a) (sym laid_before) covered)
@@ -300,7 +300,7 @@ module _ (told : RomText) (closed : List Section) (address : Option ℕ) (rows :
           λ apart.
               let end = held.next + size (row ∷ []) in
               let free = apart_free lower from rows (rows ++ row ∷ []) held.is_taken end (ends end refl) (grows end refl) on only
-              (subst Apart (laid_last told (front_roms closed) address (rows ++ row ∷ []))
+              (subst Apart (laid_last stated (front_roms closed) address (rows ++ row ∷ []))
               (apart_in after fs new_roms after_frames after_roms apart)) in
               let at = h.next in
               taken (λ a low below. free a (omega (arith, low, at)) below),
@@ -308,7 +308,7 @@ module _ (told : RomText) (closed : List Section) (address : Option ℕ) (rows :
       }
 
     pub rom_row : (new : RomArea) → Takes (size (row ∷ [])) held new
-        → Keeps told closed (part (rom address) (rows ++ row ∷ [])) of_frames (of_rom_names ++ option_to_list row.name) names count new
+        → Keeps stated closed (part (rom address) (rows ++ row ∷ [])) of_frames (of_rom_names ++ option_to_list row.name) names count new
     rom_row new takes =
         let next = takes.next in
         let top = takes.high in
@@ -329,9 +329,9 @@ module _ (told : RomText) (closed : List Section) (address : Option ℕ) (rows :
             once = rom_once;
             drafts = was_within.drafts;
             rom = all_fit high;
-            apart = subst Apart (sym (laid_last told (front_roms closed) address (rows ++ row ∷ [])))
+            apart = subst Apart (sym (laid_last stated (front_roms closed) address (rows ++ row ∷ [])))
                 (apart_longer low from rows (rows ++ row ∷ []) held.is_taken new.next end grown (on high)
-                (subst Apart (laid_last told (front_roms closed) address rows) was_within.apart) free);
+                (subst Apart (laid_last stated (front_roms closed) address rows) was_within.apart) free);
           });
           frames = h.frames ∙ ap (filter_map name_in) (before_frames ∙ sym after_frames);
           roms = ap (λ l. l ++ option_to_list row.name) names_are
@@ -340,10 +340,10 @@ module _ (told : RomText) (closed : List Section) (address : Option ℕ) (rows :
           next = end;
           area = record {
             free =
-                let was = h.area.free ∙ ap (free_from (free_told told)) before_roms
-                ∙ free_push (front_roms closed) (of_rom address rows) (free_told told) in
-                let is = ap (free_from (free_told told)) after_roms
-                ∙ free_push (front_roms closed) (of_rom address (rows ++ row ∷ [])) (free_told told) in
+                let was = h.area.free ∙ ap (free_from (free_stated stated)) before_roms
+                ∙ free_push (front_roms closed) (of_rom address rows) (free_stated stated) in
+                let is = ap (free_from (free_stated stated)) after_roms
+                ∙ free_push (front_roms closed) (of_rom address (rows ++ row ∷ [])) (free_stated stated) in
                 let so = takes.free in
                 omega (arith, was, is, so, end, grown);
             on = λ a covered. on_longer low from rows (rows ++ row ∷ []) held.is_taken new.next end grown (on high) (only high)
@@ -356,10 +356,10 @@ module _ (told : RomText) (closed : List Section) (address : Option ℕ) (rows :
 
 -- ---- a section begins
 
-module _ (told : RomText) (closed : List Section) (last : Section) (of_frames of_rom_names names : List (List ℕ))
-    (count : ℕ) (held : RomArea) (h : Keeps told closed last of_frames of_rom_names names count held) where
+module _ (stated : RomText) (closed : List Section) (last : Section) (of_frames of_rom_names names : List (List ℕ))
+    (count : ℕ) (held : RomArea) (h : Keeps stated closed last of_frames of_rom_names names count held) where
   abbrev all : Spelled
-  all = sketch_of told closed last
+  all = sketch_of stated closed last
 
   abbrev all_frames : List FrameRows
   all_frames = front_frames closed ++ frame_list last.head last.rows
@@ -371,12 +371,12 @@ module _ (told : RomText) (closed : List Section) (last : Section) (of_frames of
   front = front_frames (closed ++ last ∷ [])
 
   all_frames_are : frames all ≡ all_frames
-  all_frames_are = frames_cut told closed last h.starts
+  all_frames_are = frames_cut stated closed last h.starts
 
   all_roms_are : rom_sections all ≡ all_roms
-  all_roms_are = roms_cut told closed last h.starts
+  all_roms_are = roms_cut stated closed last h.starts
 
-  all_within : Within told all_frames all_roms
+  all_within : Within stated all_frames all_roms
   all_within = within_in all all_frames all_roms all_frames_are all_roms_are h.limits
 
   front_names : filter_map name_in front ≡ filter_map name_in all_frames
@@ -395,7 +395,7 @@ module _ (told : RomText) (closed : List Section) (last : Section) (of_frames of
 
   module _ (name : Option (List ℕ)) where
     abbrev with_frame : Spelled
-    with_frame = sketch_of told (closed ++ last ∷ []) (begun (frame name))
+    with_frame = sketch_of stated (closed ++ last ∷ []) (begun (frame name))
 
     abbrev grown_frames : List FrameRows
     grown_frames = front ++ framed name [] ∷ []
@@ -404,24 +404,24 @@ module _ (told : RomText) (closed : List Section) (last : Section) (of_frames of
     frame_starts = starts_later closed last (begun (frame name)) (λ e. absurd cc)
 
     frames_now : frames with_frame ≡ grown_frames
-    frames_now = frames_cut told (closed ++ last ∷ []) (begun (frame name)) frame_starts
+    frames_now = frames_cut stated (closed ++ last ∷ []) (begun (frame name)) frame_starts
 
     roms_now : rom_sections with_frame ≡ all_roms
     roms_now =
-        roms_cut told (closed ++ last ∷ []) (begun (frame name)) frame_starts
+        roms_cut stated (closed ++ last ∷ []) (begun (frame name)) frame_starts
         ∙ append-nil (front_roms (closed ++ last ∷ [])) ∙ roms_close closed last h.starts
 
     pub begun_twice : (line : List ℕ) → IsHeadLine (frame name) line → IsAgain of_frames name
         → Breaks (λ now. ¬ GivesOnce now) all line
     begun_twice line spelled again = record {
       now = with_frame;
-      goes = goes_begin told closed last (frame name) line spelled;
+      goes = goes_begin stated closed last (frame name) line spelled;
       breaks = λ once. begun_again front name all_roms (subst (λ names. IsAgain names name) frame_names_are again)
           (once_in with_frame grown_frames all_roms frames_now roms_now once);
     }
 
     pub begun_frame : IsFresh of_frames name
-        → Keeps told (closed ++ last ∷ []) (begun (frame name)) (of_frames ++ option_to_list name) of_rom_names [] 0 held
+        → Keeps stated (closed ++ last ∷ []) (begun (frame name)) (of_frames ++ option_to_list name) of_rom_names [] 0 held
     begun_frame fresh = record {
       starts = frame_starts;
       limits = within_out with_frame grown_frames all_roms frames_now roms_now (record {
@@ -435,14 +435,14 @@ module _ (told : RomText) (closed : List Section) (last : Section) (of_frames of
       roms = h.roms ∙ ap all_names (all_roms_are ∙ sym roms_now);
       frame = (refl, refl);
       next = tt;
-      area = subst (λ sections. KeepsArea told sections held) (all_roms_are ∙ sym roms_now) h.area;
+      area = subst (λ sections. KeepsArea stated sections held) (all_roms_are ∙ sym roms_now) h.area;
     }
 
   -- ---- a section of the ROM
 
   module _ (address : Option ℕ) where
     abbrev with_rom : Spelled
-    with_rom = sketch_of told (closed ++ last ∷ []) (begun (rom address))
+    with_rom = sketch_of stated (closed ++ last ∷ []) (begun (rom address))
 
     abbrev grown_roms : List RomRows
     grown_roms = all_roms ++ of_rom address [] ∷ []
@@ -452,15 +452,15 @@ module _ (told : RomText) (closed : List Section) (last : Section) (of_frames of
 
     frames_with : frames with_rom ≡ front
     frames_with =
-        frames_cut told (closed ++ last ∷ []) (begun (rom address)) rom_starts ∙ append-nil front
+        frames_cut stated (closed ++ last ∷ []) (begun (rom address)) rom_starts ∙ append-nil front
 
     roms_with : rom_sections with_rom ≡ grown_roms
     roms_with =
-        roms_cut told (closed ++ last ∷ []) (begun (rom address)) rom_starts
+        roms_cut stated (closed ++ last ∷ []) (begun (rom address)) rom_starts
         ∙ ap (λ l. l ++ of_rom address [] ∷ []) (roms_close closed last h.starts)
 
-    is_start : unwrap_or address held.free ≡ start_at told all_roms address
-    is_start = ap (unwrap_or address) (h.area.free ∙ ap (free_from (free_told told)) all_roms_are)
+    is_start : unwrap_or address held.free ≡ start_at stated all_roms address
+    is_start = ap (unwrap_or address) (h.area.free ∙ ap (free_from (free_stated stated)) all_roms_are)
 
     rom_gives_once : GivesOnce with_rom
     rom_gives_once =
@@ -469,17 +469,17 @@ module _ (told : RomText) (closed : List Section) (last : Section) (of_frames of
     rom_drafts_fit : DraftsFit with_rom
     rom_drafts_fit = drafts_out with_rom front grown_roms frames_with roms_with front_small
 
-    pub begun_out : (line : List ℕ) → IsHeadLine (rom address) line → (first : ℕ) → first ≡ first_told told.map
+    pub begun_out : (line : List ℕ) → IsHeadLine (rom address) line → (first : ℕ) → first ≡ first_stated stated.map
         → (unwrap_or address held.free < first) ⊎ (0xC00 < unwrap_or address held.free)
         → Breaks (λ now. GivesOnce now × DraftsFit now × (¬ RomFits now)) all line
     begun_out line spelled first e out = record {
       now = with_rom;
-      goes = goes_begin told closed last (rom address) line spelled;
+      goes = goes_begin stated closed last (rom address) line spelled;
       breaks = (
         rom_gives_once,
         rom_drafts_fit,
         λ fits.
-            let last = last_fits told all_roms address [] (rom_in with_rom front grown_roms frames_with roms_with fits) in
+            let last = last_fits stated all_roms address [] (rom_in with_rom front grown_roms frames_with roms_with fits) in
             let low = last.0 in
             let high = last.1 in
             let at = is_start in
@@ -487,43 +487,43 @@ module _ (told : RomText) (closed : List Section) (last : Section) (of_frames of
       );
     }
 
-    pub begun_rom : (first : ℕ) → first ≡ first_told told.map → (new : RomArea) → BeginsAt first address held new
-        → Keeps told (closed ++ last ∷ []) (begun (rom address)) of_frames of_rom_names [] 0 new
+    pub begun_rom : (first : ℕ) → first ≡ first_stated stated.map → (new : RomArea) → BeginsAt first address held new
+        → Keeps stated (closed ++ last ∷ []) (begun (rom address)) of_frames of_rom_names [] 0 new
     begun_rom first e new begins =
-        let at : new.next ≡ start_at told all_roms address = begins.next ∙ is_start in
+        let at : new.next ≡ start_at stated all_roms address = begins.next ∙ is_start in
         let low = begins.low in
         let high = begins.high in
-        let laid = ap (laid_all told) roms_with ∙ laid_last told all_roms address [] in
-        let was = ap (laid_all told) all_roms_are in
+        let laid = ap (laid_all stated) roms_with ∙ laid_last stated all_roms address [] in
+        let was = ap (laid_all stated) all_roms_are in
         record {
           starts = rom_starts;
           limits = within_out with_rom front grown_roms frames_with roms_with (record {
             once = rom_begun_once front all_roms address front_once;
             drafts = front_small;
-            rom = fits_last told all_roms address [] all_within.rom (omega (arith, low, at, e)) (omega (arith, high, at));
-            apart = subst Apart (sym (laid_last told all_roms address []))
-                (apart_begun (laid_all told all_roms) (start_at told all_roms address) all_within.apart);
+            rom = fits_last stated all_roms address [] all_within.rom (omega (arith, low, at, e)) (omega (arith, high, at));
+            apart = subst Apart (sym (laid_last stated all_roms address []))
+                (apart_begun (laid_all stated all_roms) (start_at stated all_roms address) all_within.apart);
           });
           frames = frame_names_are ∙ sym (ap (filter_map name_in) frames_with);
           roms = h.roms ∙ ap all_names all_roms_are ∙ sym (rom_names_begun all_roms address) ∙ sym (ap all_names roms_with);
           frame = tt;
           next =
-              let place : start_at told (front_roms (closed ++ last ∷ [])) address ≡ start_at told all_roms address =
-              ap (λ l. start_at told l address) (roms_close closed last h.starts) in
+              let place : start_at stated (front_roms (closed ++ last ∷ [])) address ≡ start_at stated all_roms address =
+              ap (λ l. start_at stated l address) (roms_close closed last h.starts) in
               omega (arith, at, place);
           area = record {
             free =
                 let so = begins.free in
-                let is = ap (free_from (free_told told)) roms_with ∙ free_push all_roms (of_rom address []) (free_told told) in
-                let free = h.area.free ∙ ap (free_from (free_told told)) all_roms_are in
+                let is = ap (free_from (free_stated stated)) roms_with ∙ free_push all_roms (of_rom address []) (free_stated stated) in
+                let free = h.area.free ∙ ap (free_from (free_stated stated)) all_roms_are in
                 omega (arith, so, is, free, at);
             on = λ a covered.
                 ap (λ l. get_or l a false) begins.taken
                 ∙ h.area.on a (subst (λ l. Covers l a) (sym was)
-                (covers_begun (laid_all told all_roms) (start_at told all_roms address) a (subst (λ l. Covers l a) laid covered)));
+                (covers_begun (laid_all stated all_roms) (start_at stated all_roms address) a (subst (λ l. Covers l a) laid covered)));
             only = λ a is.
                 subst (λ l. Covers l a) (sym laid)
-                (covers_front (laid_all told all_roms) (record { start = start_at told all_roms address; rows = [] }) a
+                (covers_front (laid_all stated all_roms) (record { start = start_at stated all_roms address; rows = [] }) a
                 (subst (λ l. Covers l a) was (h.area.only a (sym (ap (λ l. get_or l a false) begins.taken) ∙ is))));
           };
         }

@@ -59,45 +59,45 @@ frame_may top row h = tt
 frame_may (frame name) row h = tt
 frame_may (rom address) row h = absurd h
 
-module _ {A : Type 0} (old : Reading A) (row : held_row.Row) (told : RomText) (line : List ℕ) (reads : Reads told old)
+module _ {A : Type 0} (old : Reading A) (row : held_row.Row) (stated : RomText) (line : List ℕ) (reads : Reads stated old)
     (spelled : IsRowLine (row_of row) line) where
   pub frame_added : (last : Part A) (names : GivenNames A) (count : ℕ) → IsFrameHead (head_in old.last.head)
       → section_in last ≡ with_row (section_in old.last) (row_of row)
       → bytes_of names.given.items ≡ bytes_of old.names.given.items ++ option_to_list (row_of row).name
       → IsFresh (bytes_of old.names.given.items) (row_of row).name → IsCounted old.count (row_of row).doing count
-      → ReadsMore told old line (record old { last = last; names = names; count = count })
+      → ReadsMore stated old line (record old { last = last; names = names; count = count })
   frame_added last names count head pushed given fresh counted =
       let closed = closed_in old in
-      let kept = frame_row told closed (rows_of old.last.rows.items) (row_of row) (bytes_of old.frame_names.given.items)
+      let kept = frame_row stated closed (rows_of old.last.rows.items) (row_of row) (bytes_of old.frame_names.given.items)
       (bytes_of old.rom_names.given.items) (bytes_of old.names.given.items) old.count old.area (head_in old.last.head) head
       reads.keeps fresh count counted in
       record {
-        now = told;
-        goes = subst (λ s. Goes (spelled_in told old) line (sketch_of told closed s)) (sym pushed)
-            (goes_row told closed (section_in old.last) (row_of row) line (frame_may (head_in old.last.head) (row_of row) head) spelled);
+        now = stated;
+        goes = subst (λ s. Goes (spelled_in stated old) line (sketch_of stated closed s)) (sym pushed)
+            (goes_row stated closed (section_in old.last) (row_of row) line (frame_may (head_in old.last.head) (row_of row) head) spelled);
         reads = record {
           rom = reads.rom;
           keeps =
-              subst (λ s. Keeps told closed s (bytes_of old.frame_names.given.items) (bytes_of old.rom_names.given.items) (bytes_of names.given.items) count old.area)
+              subst (λ s. Keeps stated closed s (bytes_of old.frame_names.given.items) (bytes_of old.rom_names.given.items) (bytes_of names.given.items) count old.area)
               (sym pushed)
-              (subst (λ l. Keeps told closed (with_row (section_in old.last) (row_of row)) (bytes_of old.frame_names.given.items) (bytes_of old.rom_names.given.items) l count old.area)
+              (subst (λ l. Keeps stated closed (with_row (section_in old.last) (row_of row)) (bytes_of old.frame_names.given.items) (bytes_of old.rom_names.given.items) l count old.area)
               (sym given) kept);
         };
       }
 
   pub frame_given : (fault : LineFault) → IsFrameHead (head_in old.last.head)
-      → StopsNames (bytes_of old.names.given.items) (row_of row).name fault → StopsSketch fault (spelled_in told old) line
+      → StopsNames (bytes_of old.names.given.items) (row_of row).name fault → StopsSketch fault (spelled_in stated old) line
   frame_given fault head stops =
-      names_stop fault (bytes_of old.names.given.items) (row_of row).name (spelled_in told old) line stops
-      (λ again. frame_twice told (closed_in old) (rows_of old.last.rows.items) (row_of row)
+      names_stop fault (bytes_of old.names.given.items) (row_of row).name (spelled_in stated old) line stops
+      (λ again. frame_twice stated (closed_in old) (rows_of old.last.rows.items) (row_of row)
       (bytes_of old.frame_names.given.items) (bytes_of old.rom_names.given.items) (bytes_of old.names.given.items) old.count
       old.area (head_in old.last.head) head reads.keeps again line spelled)
 
   pub frame_filled : IsFrameHead (head_in old.last.head) → IsFresh (bytes_of old.names.given.items) (row_of row).name
       → IsFull old.count (row_of row).doing
-      → Breaks (λ now. GivesOnce now × (¬ DraftsFit now)) (spelled_in told old) line
+      → Breaks (λ now. GivesOnce now × (¬ DraftsFit now)) (spelled_in stated old) line
   frame_filled head fresh full =
-      frame_full told (closed_in old) (rows_of old.last.rows.items) (row_of row) (bytes_of old.frame_names.given.items)
+      frame_full stated (closed_in old) (rows_of old.last.rows.items) (row_of row) (bytes_of old.frame_names.given.items)
       (bytes_of old.rom_names.given.items) (bytes_of old.names.given.items) old.count old.area (head_in old.last.head) head
       reads.keeps fresh line spelled full
 
@@ -108,28 +108,28 @@ module _ {A : Type 0} (old : Reading A) (row : held_row.Row) (told : RomText) (l
       → section_in last ≡ with_row (section_in old.last) (row_of row)
       → bytes_of names.given.items ≡ bytes_of old.rom_names.given.items ++ option_to_list (row_of row).name
       → IsFresh (bytes_of old.rom_names.given.items) (row_of row).name → Takes (size (row_of row ∷ [])) old.area area
-      → ReadsMore told old line (record old { last = last; rom_names = names; area = area })
+      → ReadsMore stated old line (record old { last = last; rom_names = names; area = area })
   rom_added top e head may last names area pushed given fresh takes = absurd head
   rom_added (frame name) e head may last names area pushed given fresh takes = absurd head
   rom_added (rom address) e head may last names area pushed given fresh takes =
       let closed = closed_in old in
       let rows = rows_of old.last.rows.items in
-      let kept = rom_row told closed address rows (row_of row) (bytes_of old.frame_names.given.items)
+      let kept = rom_row stated closed address rows (row_of row) (bytes_of old.frame_names.given.items)
       (bytes_of old.rom_names.given.items) (bytes_of old.names.given.items) old.count old.area
-      (subst (λ head. Keeps told closed (record { head = head; rows = rows }) (bytes_of old.frame_names.given.items) (bytes_of old.rom_names.given.items) (bytes_of old.names.given.items) old.count old.area) (sym e) reads.keeps)
+      (subst (λ head. Keeps stated closed (record { head = head; rows = rows }) (bytes_of old.frame_names.given.items) (bytes_of old.rom_names.given.items) (bytes_of old.names.given.items) old.count old.area) (sym e) reads.keeps)
       may fresh area takes in
       let is : section_in last ≡ record { head = rom address; rows = rows ++ row_of row ∷ [] } =
       pushed ∙ ap (λ head. with_row (record { head = head; rows = rows }) (row_of row)) (sym e) in
       record {
-        now = told;
-        goes = subst (λ s. Goes (spelled_in told old) line (sketch_of told closed s)) (sym pushed)
-            (goes_row told closed (section_in old.last) (row_of row) line (subst (λ head. MayStand head (row_of row)) e may) spelled);
+        now = stated;
+        goes = subst (λ s. Goes (spelled_in stated old) line (sketch_of stated closed s)) (sym pushed)
+            (goes_row stated closed (section_in old.last) (row_of row) line (subst (λ head. MayStand head (row_of row)) e may) spelled);
         reads = record {
           rom = reads.rom;
           keeps =
-              subst (λ s. Keeps told closed s (bytes_of old.frame_names.given.items) (bytes_of names.given.items) (bytes_of old.names.given.items) old.count area)
+              subst (λ s. Keeps stated closed s (bytes_of old.frame_names.given.items) (bytes_of names.given.items) (bytes_of old.names.given.items) old.count area)
               (sym is)
-              (subst (λ l. Keeps told closed (record { head = rom address; rows = rows ++ row_of row ∷ [] }) (bytes_of old.frame_names.given.items) l (bytes_of old.names.given.items) old.count area)
+              (subst (λ l. Keeps stated closed (record { head = rom address; rows = rows ++ row_of row ∷ [] }) (bytes_of old.frame_names.given.items) l (bytes_of old.names.given.items) old.count area)
               (sym given) kept);
         };
       }
@@ -138,35 +138,35 @@ module _ {A : Type 0} (old : Reading A) (row : held_row.Row) (told : RomText) (l
     abbrev rows : List Row
     rows = rows_of old.last.rows.items
 
-    keeps : Keeps told (closed_in old) (record { head = rom address; rows = rows }) (bytes_of old.frame_names.given.items)
+    keeps : Keeps stated (closed_in old) (record { head = rom address; rows = rows }) (bytes_of old.frame_names.given.items)
         (bytes_of old.rom_names.given.items) (bytes_of old.names.given.items) old.count old.area
     keeps =
-        subst (λ head. Keeps told (closed_in old) (record { head = head; rows = rows }) (bytes_of old.frame_names.given.items) (bytes_of old.rom_names.given.items) (bytes_of old.names.given.items) old.count old.area)
+        subst (λ head. Keeps stated (closed_in old) (record { head = head; rows = rows }) (bytes_of old.frame_names.given.items) (bytes_of old.rom_names.given.items) (bytes_of old.names.given.items) old.count old.area)
         (sym e) reads.keeps
 
     abbrev as_rom : Spelled
-    as_rom = sketch_of told (closed_in old) (record { head = rom address; rows = rows })
+    as_rom = sketch_of stated (closed_in old) (record { head = rom address; rows = rows })
 
-    is_as : as_rom ≡ spelled_in told old
-    is_as = ap (λ head. sketch_of told (closed_in old) (record { head = head; rows = rows })) e
+    is_as : as_rom ≡ spelled_in stated old
+    is_as = ap (λ head. sketch_of stated (closed_in old) (record { head = head; rows = rows })) e
 
     given_by : (fault : LineFault) → StopsNames (bytes_of old.rom_names.given.items) (row_of row).name fault
-        → StopsSketch fault (spelled_in told old) line
+        → StopsSketch fault (spelled_in stated old) line
     given_by fault stops =
-        names_stop fault (bytes_of old.rom_names.given.items) (row_of row).name (spelled_in told old) line stops
+        names_stop fault (bytes_of old.rom_names.given.items) (row_of row).name (spelled_in stated old) line stops
         (λ again. subst (λ s. Breaks (λ now. ¬ GivesOnce now) s line) is_as
-        (rom_twice told (closed_in old) address rows (row_of row) (bytes_of old.frame_names.given.items)
+        (rom_twice stated (closed_in old) address rows (row_of row) (bytes_of old.frame_names.given.items)
         (bytes_of old.rom_names.given.items) (bytes_of old.names.given.items) old.count old.area keeps may line spelled again))
 
     area_by : (fault : LineFault) → IsFresh (bytes_of old.rom_names.given.items) (row_of row).name
-        → StopsArea (size (row_of row ∷ [])) old.area fault → StopsSketch fault (spelled_in told old) line
+        → StopsArea (size (row_of row ∷ [])) old.area fault → StopsSketch fault (spelled_in stated old) line
     area_by OutOfRom fresh over =
         subst (λ s. Breaks (λ now. GivesOnce now × DraftsFit now × (¬ RomFits now)) s line) is_as
-        (rom_out_of told (closed_in old) address rows (row_of row) (bytes_of old.frame_names.given.items)
+        (rom_out_of stated (closed_in old) address rows (row_of row) (bytes_of old.frame_names.given.items)
         (bytes_of old.rom_names.given.items) (bytes_of old.names.given.items) old.count old.area keeps may fresh line spelled over)
     area_by Overlap fresh h =
         subst (λ s. Breaks (λ now. GivesOnce now × DraftsFit now × RomFits now × (¬ LieApart now)) s line) is_as
-        (rom_overlaps told (closed_in old) address rows (row_of row) (bytes_of old.frame_names.given.items)
+        (rom_overlaps stated (closed_in old) address rows (row_of row) (bytes_of old.frame_names.given.items)
         (bytes_of old.rom_names.given.items) (bytes_of old.names.given.items) old.count old.area keeps may fresh h.0 line spelled h.1)
     area_by Twice fresh h = absurd h
     area_by Memory fresh h = absurd h
@@ -175,14 +175,14 @@ module _ {A : Type 0} (old : Reading A) (row : held_row.Row) (told : RomText) (l
 
   pub rom_given : (head : Head) → head ≡ head_in old.last.head → IsRomHead head → MayStand (rom None) (row_of row)
       → (fault : LineFault) → StopsNames (bytes_of old.rom_names.given.items) (row_of row).name fault
-      → StopsSketch fault (spelled_in told old) line
+      → StopsSketch fault (spelled_in stated old) line
   rom_given top e head may fault stops = absurd head
   rom_given (frame name) e head may fault stops = absurd head
   rom_given (rom address) e head may fault stops = given_by address e may fault stops
 
   pub rom_stops : (head : Head) → head ≡ head_in old.last.head → IsRomHead head → MayStand (rom None) (row_of row)
       → (fault : LineFault) → IsFresh (bytes_of old.rom_names.given.items) (row_of row).name
-      → StopsArea (size (row_of row ∷ [])) old.area fault → StopsSketch fault (spelled_in told old) line
+      → StopsArea (size (row_of row ∷ [])) old.area fault → StopsSketch fault (spelled_in stated old) line
   rom_stops top e head may fault fresh stops = absurd head
   rom_stops (frame name) e head may fault fresh stops = absurd head
   rom_stops (rom address) e head may fault fresh stops = area_by address e may fault fresh stops
@@ -194,9 +194,9 @@ module _ {A : Type 0} (old : Reading A) (row : held_row.Row) (told : RomText) (l
 
   -- a row that may not stand in the ROM
   pub rom_refused : IsRomHead (head_in old.last.head) → ¬ MayStand (rom None) (row_of row) → (now : Spelled)
-      → ¬ Goes (spelled_in told old) line now
+      → ¬ Goes (spelled_in stated old) line now
   rom_refused head none now =
-      nothing_goes told (closed_in old) (section_in old.last) line now reads.keeps.starts
+      nothing_goes stated (closed_in old) (section_in old.last) line now reads.keeps.starts
       (λ bare empty rom tells. tells_no_row tells spelled)
       (λ head is. head_is_no_row is spelled)
       (λ other is. subst (λ row. ¬ MayStand (head_in old.last.head) row) (sym (one_row (parts line) spelled is))

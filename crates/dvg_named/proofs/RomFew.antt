@@ -11,7 +11,7 @@ use Rattle.dvg_code.specs.declared.instr.Instr.TheVariants as instrs
 use Rattle.dvg_frame.specs.declared.op.OpKind.TheVariants as kinds
 use Rattle.dvg_read.proofs.ReadTo.{lines_length}
 use Rattle.dvg_read.specs.RomTexts.{RomText}
-use Rattle.dvg_read.specs.Texts.{is_passed, lines, told}
+use Rattle.dvg_read.specs.Texts.{is_passed, lines, unpassed}
 use Rattle.dvg_named.specs.declared.laid.LaidRows as held_laid
 use Rattle.dvg_named.specs.declared.laid.RomRows as held_rom
 use Rattle.dvg_named.specs.declared.part.Part.{Part}
@@ -122,7 +122,7 @@ filter_few p (x ∷ xs) = by (p x) (filter_few p xs)
     by false h = omega arith
 
 -- a text's sections of the ROM take no more than two words for each byte
-pub rom_few : (sketch : Spelled) (small : List ℕ) → SpellsSketch sketch (told (map plain (lines small)))
+pub rom_few : (sketch : Spelled) (small : List ℕ) → SpellsSketch sketch (unpassed (map plain (lines small)))
     → size (rows_in (rom_sections sketch)) ≤ 2 * length small
 rom_few sketch small h =
     let words = few_words_of (rows_in (rom_sections sketch)) in

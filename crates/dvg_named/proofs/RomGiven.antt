@@ -61,8 +61,8 @@ module _ {A : Type 0} (reading : Reading A) (laid : List held_laid.LaidRows) (h 
   pub lie_in_rom : (bytes : List ℕ) → bytes ≡ reading.rom.bytes.items
       → LieInRom (0xC00 - length bytes / 2) (laid_sections laid)
   lie_in_rom bytes same =
-      let told = h.reads.rom in
-      let is_rom = subst (IsRomOf told) (sym same) h.reads.reads.rom.holds.is_rom in
-      let first = first_is told bytes (0xC00 - length bytes / 2) is_rom (rom_size bytes same) refl in
+      let stated = h.reads.rom in
+      let is_rom = subst (IsRomOf stated) (sym same) h.reads.reads.rom.holds.is_rom in
+      let first = first_is stated bytes (0xC00 - length bytes / 2) is_rom (rom_size bytes same) refl in
       subst (LieInRom (0xC00 - length bytes / 2)) (sym h.are)
-      (subst (λ n. LieInRom n (laid_of (spelled_in told reading))) (sym first) h.reads.reads.keeps.limits.rom)
+      (subst (λ n. LieInRom n (laid_of (spelled_in stated reading))) (sym first) h.reads.reads.keeps.limits.rom)

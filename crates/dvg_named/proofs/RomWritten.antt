@@ -13,7 +13,7 @@ use Rattle.dvg_code.specs.declared.instr.Instr.TheVariants.{Vctr, Labs, Halt, Js
 use Rattle.dvg_code.specs.Spelling.{canon, word_count}
 use Rattle.dvg_code.specs.Words.{word_in}
 use Rattle.dvg_frame.specs.declared.op.OpKind.TheVariants as kinds
-use Rattle.dvg_read.specs.RomTexts.{IsRomOf, RomText, first_told}
+use Rattle.dvg_read.specs.RomTexts.{IsRomOf, RomText, first_stated}
 use Rattle.dvg_read.proofs.GivenWords.{all_put}
 use Rattle.dvg_read.proofs.HeldRom.{all_fit, words_held}
 use Rattle.dvg_read.proofs.Zips.{zip_push}
@@ -251,33 +251,33 @@ section_stands sections i section low is =
     (sym (get_or-map laid_section sections i section (laid_section section) low ∙ ap laid_section (sym is)))
 
 -- the address of the first word
-pub first_is : (told : RomText) (R : List ℕ) (first : ℕ) → IsRomOf told R → (length R ≡ 2048) ⊎ (length R ≡ 4096)
-    → first ≡ 0xC00 - length R / 2 → first ≡ first_told told.map
-first_is told R first h (inl size) is =
+pub first_is : (stated : RomText) (R : List ℕ) (first : ℕ) → IsRomOf stated R → (length R ≡ 2048) ⊎ (length R ≡ 4096)
+    → first ≡ 0xC00 - length R / 2 → first ≡ first_stated stated.map
+first_is stated R first h (inl size) is =
     let at : first ≡ 0x800 = omega (arith, is, size) in
     at ∙ sym (ap (λ n. if n == 2048 then 0x800 else 0x400) size) ∙ h.first
-first_is told R first h (inr size) is =
+first_is stated R first h (inr size) is =
     let at : first ≡ 0x400 = omega (arith, is, size) in
     at ∙ sym (ap (λ n. if n == 2048 then 0x800 else 0x400) size) ∙ h.first
 
--- ---- the ROM that is told
+-- ---- the ROM that is stated
 
-pub nothing_told : (laid : List Laid) (told : RomText) (R : List ℕ) → IsRomOf told R → TellsSections laid [] told R
-nothing_told laid told R h = record {
+pub nothing_stated : (laid : List Laid) (stated : RomText) (R : List ℕ) → IsRomOf stated R → TellsSections laid [] stated R
+nothing_stated laid stated R h = record {
   lines = [];
   given = tt;
-  is_rom = subst (λ given. IsRomOf (record { map = told.map; given = given }) R) (sym (append-nil told.given)) h;
+  is_rom = subst (λ given. IsRomOf (record { map = stated.map; given = given }) R) (sym (append-nil stated.given)) h;
 }
 
-pub told_more : (laid done all : List Laid) (section : Laid) (told : RomText) (first : ℕ) (mid new : List ℕ)
-    → first ≡ first_told told.map → TellsSections laid done told mid → IsPut laid section first mid new
-    → all ≡ done ++ section ∷ [] → TellsSections laid all told new
-told_more laid done all section told first mid new is h put more = record {
+pub stated_more : (laid done all : List Laid) (section : Laid) (stated : RomText) (first : ℕ) (mid new : List ℕ)
+    → first ≡ first_stated stated.map → TellsSections laid done stated mid → IsPut laid section first mid new
+    → all ≡ done ++ section ∷ [] → TellsSections laid all stated new
+stated_more laid done all section stated first mid new is h put more = record {
   lines = h.lines ++ put.given ∷ [];
   given = subst (λ l. AllZip (IsGiven laid) l (h.lines ++ put.given ∷ [])) (sym more)
       (zip_push (IsGiven laid) done h.lines section put.given h.given put.is);
-  is_rom = subst (λ given. IsRomOf (record { map = told.map; given = given }) new)
-      (append_assoc told.given h.lines (put.given ∷ []))
-      (words_held told.map (told.given ++ h.lines) put.given mid new first is h.is_rom put.put
+  is_rom = subst (λ given. IsRomOf (record { map = stated.map; given = given }) new)
+      (append_assoc stated.given h.lines (put.given ∷ []))
+      (words_held stated.map (stated.given ++ h.lines) put.given mid new first is h.is_rom put.put
       (all_fit new put.fits));
 }

@@ -1,4 +1,4 @@
--- What the words of a row or of a section's beginning can't spell besides.
+-- What the tokens of a row or of a section's beginning can't spell besides.
 use Rattle.std.proofs.Common.{◌≡◌, ◌<◌, ◌^◌, ◌≤◌, ℕ, List, [], ◌∷◌, ◌++◌, length, refl, sym, ap, subst, ◌∙◌, arith}
 use Rattle.std.proofs.Common.{codes, decimal, get_or, Option, Some, None, ◌-◌, take, drop}
 use Rattle.std.proofs.lemmas.List.{take_all}
@@ -66,9 +66,9 @@ no_colon (rows.jump h) e = omega (arith, e)
 no_colon (rows.callrom h) e = omega (arith, e)
 no_colon (rows.jumprom h) e = omega (arith, e)
 
--- a word that gives a name ends with a colon
-pub colon_at_end : (word name : List ℕ) → word ≡ name ++ 58 ∷ [] → last_byte word ≡ 58
-colon_at_end word name e = ap last_byte e ∙ last_is name 58
+-- a token that gives a name ends with a colon
+pub colon_at_end : (token name : List ℕ) → token ≡ name ++ 58 ∷ [] → last_byte token ≡ 58
+colon_at_end token name e = ap last_byte e ∙ last_is name 58
 
 pub does_not_name : {doing : Doing} {first : List ℕ} {rest : List (List ℕ)} (name : List ℕ) → DoingParts doing (first ∷ rest)
     → first ≡ name ++ 58 ∷ [] → ⊥
@@ -89,11 +89,11 @@ row_case (named {name = name} h) = alone name h refl refl refl
 row_case (does {doing = doing} h) = unnamed doing refl h
 row_case (both {name = name} {doing = doing} h k) = before name doing h refl k refl
 
-pub no_words_no_doing : {doing : Doing} → DoingParts doing [] → ⊥
-no_words_no_doing (plain h) = elim h [ ]
+pub no_tokens_no_doing : {doing : Doing} → DoingParts doing [] → ⊥
+no_tokens_no_doing (plain h) = elim h [ ]
 
-pub no_words_no_row : {row : Row} → RowParts row [] → ⊥
-no_words_no_row (does h) = no_words_no_doing h
+pub no_tokens_no_row : {row : Row} → RowParts row [] → ⊥
+no_tokens_no_row (does h) = no_tokens_no_doing h
 
 -- ---- an operation whose target has a name
 
@@ -146,91 +146,91 @@ pub frame_only : (answer : Option held.Head) (name : List ℕ)
     → HeadParts head (codes ".frame" ∷ name ∷ []) → IsSomeAnd answer (λ found. head_of found ≡ head)
 frame_only answer name f head (named_frame k) = f k
 
--- ---- rows, by what the reader holds of their words
+-- ---- rows, by what the reader holds of their tokens
 
 abbrev pub blank : Bor (List ℕ)
 blank = record { ref_ptr = (0, 0); now = [] }
 
-pub no_row : {row : Row} (words : List (Bor (List ℕ))) → length words < 1 → RowParts row (bytes_of words) → ⊥
-no_row [] low h = no_words_no_row h
-no_row (word ∷ words) low h = absurd (omega arith)
+pub no_row : {row : Row} (tokens : List (Bor (List ℕ))) → length tokens < 1 → RowParts row (bytes_of tokens) → ⊥
+no_row [] low h = no_tokens_no_row h
+no_row (token ∷ tokens) low h = absurd (omega arith)
 
--- the second of two words
-pub second_is : (words : List (Bor (List ℕ))) (command target : List ℕ) → bytes_of words ≡ command ∷ target ∷ []
-    → (get_or words 1 blank).now ≡ target
+-- the second of two tokens
+pub second_is : (tokens : List (Bor (List ℕ))) (command target : List ℕ) → bytes_of tokens ≡ command ∷ target ∷ []
+    → (get_or tokens 1 blank).now ≡ target
 second_is [] command target e = cc
-second_is (word ∷ []) command target e = cc
-second_is (word ∷ other ∷ words) command target e = cc
+second_is (token ∷ []) command target e = cc
+second_is (token ∷ other ∷ tokens) command target e = cc
 
--- the words after the first one
+-- the tokens after the first one
 abbrev pub rest_of : List (Bor (List ℕ)) → List (Bor (List ℕ))
-rest_of words = take (length words - 1) (drop 1 words)
+rest_of tokens = take (length tokens - 1) (drop 1 tokens)
 
-split_words : (words : List (Bor (List ℕ))) → 1 ≤ length words
-    → bytes_of words ≡ (get_or words 0 blank).now ∷ bytes_of (rest_of words)
-split_words [] some = absurd (omega arith)
-split_words (word ∷ words) some =
-    ap (λ rest. word.now ∷ bytes_of rest) (sym (take_all (length (word ∷ words) - 1) words (omega arith)))
+split_tokens : (tokens : List (Bor (List ℕ))) → 1 ≤ length tokens
+    → bytes_of tokens ≡ (get_or tokens 0 blank).now ∷ bytes_of (rest_of tokens)
+split_tokens [] some = absurd (omega arith)
+split_tokens (token ∷ tokens) some =
+    ap (λ rest. token.now ∷ bytes_of rest) (sym (take_all (length (token ∷ tokens) - 1) tokens (omega arith)))
 
-none_left : (words : List (Bor (List ℕ))) → length words ≡ 0 → bytes_of words ≡ []
+none_left : (tokens : List (Bor (List ℕ))) → length tokens ≡ 0 → bytes_of tokens ≡ []
 none_left [] none = refl
-none_left (word ∷ words) none = absurd (omega arith)
+none_left (token ∷ tokens) none = absurd (omega arith)
 
-some_left : (words : List (Bor (List ℕ))) → 0 < length words → bytes_of words ≡ [] → ⊥
+some_left : (tokens : List (Bor (List ℕ))) → 0 < length tokens → bytes_of tokens ≡ [] → ⊥
 some_left [] some e = omega arith
-some_left (word ∷ words) some e = cc
+some_left (token ∷ tokens) some e = cc
 
--- the first word gives this name
-module _ (words : List (Bor (List ℕ))) (name : List ℕ) (some : 1 ≤ length words) (h : IsName name)
-    (gives : (get_or words 0 blank).now ≡ name ++ 58 ∷ [])
-    (unique : (other : List ℕ) → IsName other → (get_or words 0 blank).now ≡ other ++ 58 ∷ [] → name ≡ other) where
-  split : bytes_of words ≡ (name ++ 58 ∷ []) ∷ bytes_of (rest_of words)
-  split = split_words words some ∙ ap (λ first. first ∷ bytes_of (rest_of words)) gives
+-- the first token gives this name
+module _ (tokens : List (Bor (List ℕ))) (name : List ℕ) (some : 1 ≤ length tokens) (h : IsName name)
+    (gives : (get_or tokens 0 blank).now ≡ name ++ 58 ∷ [])
+    (unique : (other : List ℕ) → IsName other → (get_or tokens 0 blank).now ≡ other ++ 58 ∷ [] → name ≡ other) where
+  split : bytes_of tokens ≡ (name ++ 58 ∷ []) ∷ bytes_of (rest_of tokens)
+  split = split_tokens tokens some ∙ ap (λ first. first ∷ bytes_of (rest_of tokens)) gives
 
-  case_of : {row : Row} → RowParts row (bytes_of words) → RowCase row (get_or words 0 blank).now (bytes_of (rest_of words))
-  case_of {row} p = row_case (subst (RowParts row) (split_words words some) p)
+  case_of : {row : Row} → RowParts row (bytes_of tokens) → RowCase row (get_or tokens 0 blank).now (bytes_of (rest_of tokens))
+  case_of {row} p = row_case (subst (RowParts row) (split_tokens tokens some) p)
 
-  pub alone_found : length (rest_of words) ≡ 0 → RowParts (record { name = Some name; doing = None }) (bytes_of words)
+  pub alone_found : length (rest_of tokens) ≡ 0 → RowParts (record { name = Some name; doing = None }) (bytes_of tokens)
   alone_found none =
       subst (RowParts (record { name = Some name; doing = None }))
-      (sym (split ∙ ap (λ rest. (name ++ 58 ∷ []) ∷ rest) (none_left (rest_of words) none))) (named h)
+      (sym (split ∙ ap (λ rest. (name ++ 58 ∷ []) ∷ rest) (none_left (rest_of tokens) none))) (named h)
 
-  alone_by : {row : Row} → length (rest_of words) ≡ 0 → RowCase row (get_or words 0 blank).now (bytes_of (rest_of words))
+  alone_by : {row : Row} → length (rest_of tokens) ≡ 0 → RowCase row (get_or tokens 0 blank).now (bytes_of (rest_of tokens))
       → (let alone : Row = record { name = Some name; doing = None } in alone) ≡ row
   alone_by none (unnamed doing is p) = absurd (does_not_name name p gives)
   alone_by none (alone other k e left is) = ap (λ name. record { name = Some name; doing = None }) (unique other k e) ∙ sym is
   alone_by none (before other doing k e p is) =
-      absurd (no_words_no_doing (subst (DoingParts doing) (none_left (rest_of words) none) p))
+      absurd (no_tokens_no_doing (subst (DoingParts doing) (none_left (rest_of tokens) none) p))
 
-  pub alone_only : {row : Row} → length (rest_of words) ≡ 0 → RowParts row (bytes_of words)
+  pub alone_only : {row : Row} → length (rest_of tokens) ≡ 0 → RowParts row (bytes_of tokens)
       → (let alone : Row = record { name = Some name; doing = None } in alone) ≡ row
   alone_only none p = alone_by none (case_of p)
 
-  pub before_found : (doing : Doing) → DoingParts doing (bytes_of (rest_of words))
-      → RowParts (record { name = Some name; doing = Some doing }) (bytes_of words)
+  pub before_found : (doing : Doing) → DoingParts doing (bytes_of (rest_of tokens))
+      → RowParts (record { name = Some name; doing = Some doing }) (bytes_of tokens)
   before_found doing p = subst (RowParts (record { name = Some name; doing = Some doing })) (sym split) (both h p)
 
-  before_by : {row : Row} (doing : Doing) → 0 < length (rest_of words)
-      → ((other : Doing) → DoingParts other (bytes_of (rest_of words)) → doing ≡ other)
-      → RowCase row (get_or words 0 blank).now (bytes_of (rest_of words))
+  before_by : {row : Row} (doing : Doing) → 0 < length (rest_of tokens)
+      → ((other : Doing) → DoingParts other (bytes_of (rest_of tokens)) → doing ≡ other)
+      → RowCase row (get_or tokens 0 blank).now (bytes_of (rest_of tokens))
       → (let before : Row = record { name = Some name; doing = Some doing } in before) ≡ row
   before_by doing more one (unnamed other is p) = absurd (does_not_name name p gives)
-  before_by doing more one (alone other k e left is) = absurd (some_left (rest_of words) more left)
+  before_by doing more one (alone other k e left is) = absurd (some_left (rest_of tokens) more left)
   before_by doing more one (before other what k e p is) =
       let same = unique other k e in let also = one what p in cc
 
-  pub before_only : {row : Row} (doing : Doing) → 0 < length (rest_of words)
-      → ((other : Doing) → DoingParts other (bytes_of (rest_of words)) → doing ≡ other) → RowParts row (bytes_of words)
+  pub before_only : {row : Row} (doing : Doing) → 0 < length (rest_of tokens)
+      → ((other : Doing) → DoingParts other (bytes_of (rest_of tokens)) → doing ≡ other) → RowParts row (bytes_of tokens)
       → (let before : Row = record { name = Some name; doing = Some doing } in before) ≡ row
   before_only doing more one p = before_by doing more one (case_of p)
 
-  nothing_by : {row : Row} → 0 < length (rest_of words)
-      → ((other : Doing) → ¬ DoingParts other (bytes_of (rest_of words)))
-      → RowCase row (get_or words 0 blank).now (bytes_of (rest_of words)) → ⊥
+  nothing_by : {row : Row} → 0 < length (rest_of tokens)
+      → ((other : Doing) → ¬ DoingParts other (bytes_of (rest_of tokens)))
+      → RowCase row (get_or tokens 0 blank).now (bytes_of (rest_of tokens)) → ⊥
   nothing_by more none (unnamed other is p) = does_not_name name p gives
-  nothing_by more none (alone other k e left is) = some_left (rest_of words) more left
+  nothing_by more none (alone other k e left is) = some_left (rest_of tokens) more left
   nothing_by more none (before other what k e p is) = none what p
 
-  pub nothing_after : {row : Row} → 0 < length (rest_of words)
-      → ((other : Doing) → ¬ DoingParts other (bytes_of (rest_of words))) → RowParts row (bytes_of words) → ⊥
+  pub nothing_after : {row : Row} → 0 < length (rest_of tokens)
+      → ((other : Doing) → ¬ DoingParts other (bytes_of (rest_of tokens))) → RowParts row (bytes_of tokens) → ⊥
   nothing_after more none p = nothing_by more none (case_of p)

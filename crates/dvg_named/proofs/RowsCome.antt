@@ -1,6 +1,6 @@
 -- Each row of a sketch stands in one of its lines.
 use Rattle.std.proofs.Common.{◌≡◌, ◌⊎◌, ◌∙◌, ℕ, zero, suc, inl, inr, List, [], ◌∷◌, ◌++◌, Some, length, ap, append_assoc, arith, refl, slice_get, subst, sym, length-append}
-use Rattle.dvg_read.specs.Texts.{told}
+use Rattle.dvg_read.specs.Texts.{unpassed}
 use Rattle.dvg_named.specs.Rows.{IsRowLine, Row}
 use Rattle.dvg_named.specs.Sections.{Section, Spelled, SpellsSketch, sections}
 use Rattle.dvg_named.specs.SketchSteps.{Goes, adds, begins, begun, tells, tops, with_row}
@@ -110,7 +110,7 @@ pub record StandsInLine (ls : List (List ℕ)) (place : ℕ) (row : Row) : Type 
   pub after : List (List ℕ)
   pub cut : ls ≡ before ++ line ∷ after
   pub part : Spelled
-  pub up_to : SpellsSketch part (told before ++ line ∷ [])
+  pub up_to : SpellsSketch part (unpassed before ++ line ∷ [])
   pub inside : place ≡ length part.others
   pub spelled : IsRowLine row line
 
@@ -129,7 +129,7 @@ line_stays ls next place row h = record {
 }
 
 pub line_comes : (ls : List (List ℕ)) (next : List ℕ) (s t : Spelled) (place : ℕ) (row : Row)
-    → SpellsSketch t (told ls ++ next ∷ [])
+    → SpellsSketch t (unpassed ls ++ next ∷ [])
     → (HasAt (sections s) place row → StandsInLine ls place row) → Comes s t next place row
     → StandsInLine (ls ++ next ∷ []) place row
 line_comes ls next s t place row spelled old (inl h) = line_stays ls next place row (old h)

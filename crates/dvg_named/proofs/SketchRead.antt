@@ -7,14 +7,14 @@ use Rattle.std.specs.Prelude.{◌==◌}
 use Rattle.dvg_read.specs.FirstFaults.{IsShort}
 use Rattle.dvg_read.specs.LineParts.{bytes_of}
 use Rattle.dvg_read.specs.RomTexts.{RomText}
-use Rattle.dvg_read.specs.RomReading.{untold}
-use Rattle.dvg_read.specs.Texts.{lines, told}
-use Rattle.dvg_read.proofs.ReadTo.{count_on, lines_length, told_more, told_one}
+use Rattle.dvg_read.specs.RomReading.{unstated}
+use Rattle.dvg_read.specs.Texts.{lines, unpassed}
+use Rattle.dvg_read.proofs.ReadTo.{count_on, lines_length, unpassed_more, unpassed_one}
 use Rattle.dvg_named.specs.declared.line_fault.LineFault.{LineFault}
 use Rattle.dvg_named.specs.declared.line_fault.LineFault.TheVariants as line_fault
 use Rattle.dvg_named.specs.declared.reading.Reading.{Reading}
 use Rattle.dvg_named.specs.NamedFaults.{Meets, MeetsNothing, ReachesLine}
-use Rattle.dvg_named.specs.PlainLines.{plain, words}
+use Rattle.dvg_named.specs.PlainLines.{plain, tokens}
 use Rattle.dvg_named.specs.ReadParts.{sketch_of}
 use Rattle.dvg_named.specs.Sections.{Section, Spelled, SpellsSketch}
 use Rattle.dvg_named.specs.SketchReading.{Breaks, IsBare, Reads, ReadsMore, StopsSketch, closed_in, section_in, spelled_in}
@@ -25,9 +25,9 @@ use Rattle.dvg_named.specs.LineNumbers.{AreNumbered, Numbers, adds, entries_in, 
 use Rattle.std.specs.List.{join_with_byte}
 use Rattle.dvg_named.specs.TextReading.{StopsText, ReadsText, fault_at}
 use Rattle.dvg_named.proofs.NumberSteps.{later_length, no_empty_row, numbered_added, numbered_kept, numbered_none}
-use Rattle.dvg_named.proofs.FewWords.{few_words}
+use Rattle.dvg_named.proofs.FewTokens.{few_tokens}
 use Rattle.dvg_named.proofs.OneSketch.{goes_on, says_more, says_nothing}
-use Rattle.dvg_named.proofs.PlainWords.{parts_of_plain, passed_without_words, told_with_words}
+use Rattle.dvg_named.proofs.PlainTokens.{parts_of_plain, passed_without_tokens, unpassed_with_tokens}
 
 -- n lines were read of a text in small letters, which spell what the reader holds; those are left
 pub record ReadTo {A : Type 0} (text : List ℕ) (left : List (List ℕ)) (n : ℕ) (reading : Reading A) : Type 0 where
@@ -35,13 +35,13 @@ pub record ReadTo {A : Type 0} (text : List ℕ) (left : List (List ℕ)) (n : �
   pub cut : lines text ≡ before ++ left
   pub number : n ≡ length before
   pub rom : RomText
-  pub spelled : SpellsSketch (spelled_in rom reading) (told (map plain before))
+  pub spelled : SpellsSketch (spelled_in rom reading) (unpassed (map plain before))
   pub reads : Reads rom reading
   pub numbered : AreNumbered (map plain before) reading
 
 -- before the first line
 pub begins : {A : Type 0} (text : List ℕ) (left : List (List ℕ)) (reading : Reading A) → left ≡ lines text → IsBare reading
-    → Reads untold reading → head_at_top reading ≡ None → entries_in reading ≡ [] → ReadTo text left 0 reading
+    → Reads unstated reading → head_at_top reading ≡ None → entries_in reading ≡ [] → ReadTo text left 0 reading
 begins text left reading all bare reads top none =
     let is : (let s : Section = section_in reading.last in s) ≡ record { head = (section_in reading.last).head; rows = [] } =
     ap (λ rows. record { head = (section_in reading.last).head; rows = rows }) bare.1 in
@@ -49,9 +49,9 @@ begins text left reading all bare reads top none =
       before = [];
       cut = sym all;
       number = refl;
-      rom = untold;
-      spelled = subst (λ closed. SpellsSketch (sketch_of untold closed (section_in reading.last)) []) (sym bare.0)
-          (subst (λ last. SpellsSketch (sketch_of untold [] last) []) (sym is) says_nothing);
+      rom = unstated;
+      spelled = subst (λ closed. SpellsSketch (sketch_of unstated closed (section_in reading.last)) []) (sym bare.0)
+          (subst (λ last. SpellsSketch (sketch_of unstated [] last) []) (sym is) says_nothing);
       reads = reads;
       numbered = numbered_none reading top none;
     }
@@ -73,15 +73,15 @@ module _ {A : Type 0} (text : List ℕ) (left rest : List (List ℕ)) (n : ℕ) 
   plain_on : map plain (r.before ++ line ∷ []) ≡ map plain r.before ++ plain line ∷ []
   plain_on = map-append plain r.before (line ∷ [])
 
-  -- a line without words
-  pub passes : words line ≡ [] → ReadTo text rest (n + 1) reading
+  -- a line without tokens
+  pub passes : tokens line ≡ [] → ReadTo text rest (n + 1) reading
   passes none = record {
     before = r.before ++ line ∷ [];
     cut = cut_on;
     number = count_on n r.before line r.number;
     rom = r.rom;
     spelled = subst (SpellsSketch (spelled_in r.rom reading))
-        (sym (ap told plain_on ∙ told_more (map plain r.before) (plain line) (passed_without_words line none))) r.spelled;
+        (sym (ap unpassed plain_on ∙ unpassed_more (map plain r.before) (plain line) (passed_without_tokens line none))) r.spelled;
     reads = r.reads;
     numbered = subst (λ ls. AreNumbered ls reading) (sym plain_on)
         (numbered_kept reading reading (map plain r.before) (plain line)
@@ -89,14 +89,14 @@ module _ {A : Type 0} (text : List ℕ) (left rest : List (List ℕ)) (n : ℕ) 
         (record { top = refl; entries = refl }) r.numbered);
   }
 
-  module _ (some : 0 < length (words line)) where
+  module _ (some : 0 < length (tokens line)) where
     numbers_on : (new : Reading A) → ReadsMore r.rom reading (plain line) new → Numbers reading (plain line) (n + 1) new
         → AreNumbered (map plain r.before ++ plain line ∷ []) new
     numbers_on new m (keeps same none) = numbered_kept reading new (map plain r.before) (plain line) none same r.numbered
     numbers_on new m (adds row is h) =
         let count = r.number in
         numbered_added (map plain r.before) (plain line) row is (spelled_in m.now new)
-        (says_more (spelled_in r.rom reading) (spelled_in m.now new) (plain line) (told (map plain r.before)) r.spelled m.goes)
+        (says_more (spelled_in r.rom reading) (spelled_in m.now new) (plain line) (unpassed (map plain r.before)) r.spelled m.goes)
         (record { section = length new.closed.items; row = row; number = n + 1 }) refl
         (omega (arith, count, length-map r.before plain))
         (sym (length-map new.closed.items section_in) ∙ later_length (closed_in new) (section_in new.last))
@@ -113,8 +113,8 @@ module _ {A : Type 0} (text : List ℕ) (left rest : List (List ℕ)) (n : ℕ) 
           number = count_on n r.before line r.number;
           rom = m.now;
           spelled = subst (SpellsSketch (spelled_in m.now new))
-              (sym (ap told plain_on ∙ told_one (map plain r.before) (plain line) (told_with_words line some)))
-              (says_more (spelled_in r.rom reading) (spelled_in m.now new) (plain line) (told (map plain r.before)) r.spelled m.goes);
+              (sym (ap unpassed plain_on ∙ unpassed_one (map plain r.before) (plain line) (unpassed_with_tokens line some)))
+              (says_more (spelled_in r.rom reading) (spelled_in m.now new) (plain line) (unpassed (map plain r.before)) r.spelled m.goes);
           reads = m.reads;
           numbered = subst (λ ls. AreNumbered ls new) (sym plain_on) (numbers_on new m (numbers r.rom r.reads));
         }
@@ -128,7 +128,7 @@ module _ {A : Type 0} (text : List ℕ) (left rest : List (List ℕ)) (n : ℕ) 
             ∙ map-append plain r.before (line ∷ rest);
         number = let count = r.number in omega (arith, count, length-map r.before plain);
         fine = record { sketch = spelled_in r.rom reading; spelled = r.spelled; limits = r.reads.keeps.limits };
-        is_told = told_with_words line some;
+        is_unpassed = unpassed_with_tokens line some;
       }
 
       breaks_at : (limit : Spelled → Type 0) → Breaks limit (spelled_in r.rom reading) (plain line) → Meets limit whole (n + 1)
@@ -137,7 +137,7 @@ module _ {A : Type 0} (text : List ℕ) (left rest : List (List ℕ)) (n : ℕ) 
         line = plain line;
         reaches = reaches;
         sketch = b.now;
-        spelled = says_more (spelled_in r.rom reading) b.now (plain line) (told (map plain r.before)) r.spelled b.goes;
+        spelled = says_more (spelled_in r.rom reading) b.now (plain line) (unpassed (map plain r.before)) r.spelled b.goes;
         breaks = b.breaks;
       }
 
@@ -147,7 +147,7 @@ module _ {A : Type 0} (text : List ℕ) (left rest : List (List ℕ)) (n : ℕ) 
         line = plain line;
         reaches = reaches;
         wrong = λ sketch spelled.
-            none sketch (goes_on (spelled_in r.rom reading) sketch (told (map plain r.before)) (plain line) r.spelled spelled);
+            none sketch (goes_on (spelled_in r.rom reading) sketch (unpassed (map plain r.before)) (plain line) r.spelled spelled);
       }
 
       stops_by : (fault : LineFault) → StopsSketch fault (spelled_in r.rom reading) (plain line)
@@ -167,19 +167,19 @@ module _ {A : Type 0} (text : List ℕ) (left rest : List (List ℕ)) (n : ℕ) 
         let size = ap length is in
         stops_by whole is (omega (arith, short, size, length-map whole to_ascii_lowercase)) fault (h r.rom r.reads)
 
-  -- a line of too many words
-  pub many : 10 < length (words line) → length text ≤ 1048576 → (whole : List ℕ) → map to_ascii_lowercase whole ≡ text
+  -- a line of too many tokens
+  pub many : 10 < length (tokens line) → length text ≤ 1048576 → (whole : List ℕ) → map to_ascii_lowercase whole ≡ text
       → StopsText (fault_at line_fault.Syntax (n + 1)) whole
   many over short whole is =
       stops (omega arith) line_fault.Syntax
       (λ rom reads now goes.
-      let few = few_words (spelled_in rom reading) now (plain line) goes in
+      let few = few_tokens (spelled_in rom reading) now (plain line) goes in
       let same = ap length (parts_of_plain line (omega arith)) in
       absurd (omega (arith, over, few, same)))
       short whole is
 
-  -- the same, of words as the reader holds them
-  module _ (cut : List (List ℕ)) (e : cut ≡ words line) (some : 0 < length (words line)) where
+  -- the same, of tokens as the reader holds them
+  module _ (cut : List (List ℕ)) (e : cut ≡ tokens line) (some : 0 < length (tokens line)) where
     pub are_parts : AreParts cut
     are_parts = subst AreParts (sym e) (parts_of_plain line some)
 
@@ -193,22 +193,22 @@ module _ {A : Type 0} (text : List ℕ) (left rest : List (List ℕ)) (n : ℕ) 
         (λ rom reads. subst (λ ws. ReadsMore rom reading (line_of ws) new) e (more rom reads))
         (λ rom reads. subst (λ ws. Numbers reading (line_of ws) (n + 1) new) e (numbers rom reads))
 
-    pub stops_words : (fault : LineFault)
+    pub stops_tokens : (fault : LineFault)
         → ((rom : RomText) → Reads rom reading → StopsSketch fault (spelled_in rom reading) (line_of cut))
         → length text ≤ 1048576 → (whole : List ℕ) → map to_ascii_lowercase whole ≡ text
         → StopsText (fault_at fault (n + 1)) whole
-    stops_words fault h short whole is =
+    stops_tokens fault h short whole is =
         stops some fault (λ rom reads. subst (λ ws. StopsSketch fault (spelled_in rom reading) (line_of ws)) e (h rom reads))
         short whole is
 
--- whether there are words
+-- whether there are tokens
 not_zero : (n : ℕ) → (n == 0) ≡ false → 0 < n
 not_zero zero e = absurd cc
 not_zero (suc n) e = omega arith
 
-pub some_words : (held : List (Bor (List ℕ))) (line : List ℕ) (r : Bool) → r ≡ (length held == 0) → r ≡ false
-    → bytes_of held ≡ words line → 0 < length (words line)
-some_words held line r e none is =
+pub some_tokens : (held : List (Bor (List ℕ))) (line : List ℕ) (r : Bool) → r ≡ (length held == 0) → r ≡ false
+    → bytes_of held ≡ tokens line → 0 < length (tokens line)
+some_tokens held line r e none is =
     let some = not_zero (length held) (sym e ∙ none) in
     let count = length-map held (λ (part : Bor (List ℕ)). part.now) in
     let same = ap length is in
@@ -221,9 +221,9 @@ none_held : (held : List (Bor (List ℕ))) → (length held == 0) ≡ true → b
 none_held [] e = refl
 none_held (part ∷ held) e = absurd (let none = is_zero (length (part ∷ held)) e in omega (arith, none))
 
-pub no_words : (held : List (Bor (List ℕ))) (line : List ℕ) (r : Bool) → r ≡ (length held == 0) → r ≡ true
-    → bytes_of held ≡ words line → words line ≡ []
-no_words held line r e all is = sym is ∙ none_held held (sym e ∙ all)
+pub no_tokens : (held : List (Bor (List ℕ))) (line : List ℕ) (r : Bool) → r ≡ (length held == 0) → r ≡ true
+    → bytes_of held ≡ tokens line → tokens line ≡ []
+no_tokens held line r e all is = sym is ∙ none_held held (sym e ∙ all)
 
 -- at the text's end
 pub reads_all : {A : Type 0} (text : List ℕ) (left : List (List ℕ)) (n : ℕ) (reading : Reading A) → left ≡ []
@@ -231,7 +231,7 @@ pub reads_all : {A : Type 0} (text : List ℕ) (left : List (List ℕ)) (n : ℕ
 reads_all text left n reading none r short sourced = record {
   short = short;
   rom = r.rom;
-  spelled = subst (λ ls. SpellsSketch (spelled_in r.rom reading) (told (map plain ls)))
+  spelled = subst (λ ls. SpellsSketch (spelled_in r.rom reading) (unpassed (map plain ls)))
       (sym (r.cut ∙ ap (λ l. r.before ++ l) none ∙ append-nil r.before)) r.spelled;
   reads = r.reads;
   sourced = sourced;

@@ -4,7 +4,7 @@ use Rattle.std.specs.Char.{to_ascii_lowercase}
 use Rattle.std.specs.List.{AllZip, flat_map}
 use Rattle.std.proofs.lemmas.List.{length-map}
 use Rattle.dvg_frame.specs.declared.op.OpKind.{OpKind}
-use Rattle.dvg_read.specs.RomTexts.{first_told}
+use Rattle.dvg_read.specs.RomTexts.{first_stated}
 use Rattle.dvg_named.specs.declared.joining.FrameSpan.{FrameSpan}
 use Rattle.dvg_named.specs.declared.laid.LaidRows as held_laid
 use Rattle.dvg_named.specs.declared.meaning.RomName.{RomName}
@@ -47,7 +47,7 @@ is_read reading text read laid rom names ops sources spans are gives listed name
     let sketch = spelled_in read.rom reading in
     let short = read.short in
     record {
-      rom_text = gives.told;
+      rom_text = gives.stated;
       denotes = record {
         short = omega (arith, short, length-map text to_ascii_lowercase);
         sketch = sketch;
@@ -61,7 +61,7 @@ is_read reading text read laid rom names ops sources spans are gives listed name
       };
       is_rom = gives.is_rom;
       lists = record {
-        listed = listed ∙ ap (λ laid. names_of (rows_laid laid)) are ∙ ap names_of (rows_are (free_after (first_told sketch.rom.map) sketch.rom.given) (rom_sections sketch));
+        listed = listed ∙ ap (λ laid. names_of (rows_laid laid)) are ∙ ap names_of (rows_are (free_after (first_stated sketch.rom.map) sketch.rom.given) (rom_sections sketch));
         addresses = subst (λ laid. All (IsNamedIn laid) names) are named;
       };
       lines = lines;

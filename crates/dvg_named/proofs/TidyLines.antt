@@ -1,4 +1,4 @@
--- A line whose words a sketch keeps whole is the line as a plain draft has it.
+-- A line whose tokens a sketch keeps whole is the line as a plain draft has it.
 use Rattle.std.proofs.Common.{◌≡◌, ◌∙◌, ◌<◌, ◌≤◌, ◌-◌, ℕ, List, [], ◌∷◌, ◌++◌, All, Bool, ap, arith, eqb, false, length, map, refl, subst, sym, take, true, get_or}
 use Rattle.std.proofs.lemmas.Bool.{eqb-true, false_from_ne_true}
 use Rattle.std.proofs.lemmas.List.{length-map, map-append}
@@ -10,12 +10,12 @@ use Rattle.std.specs.Prelude.{if◌then◌else◌}
 use Rattle.std.specs.Str.Lines.{strip_carriage_return}
 use Rattle.dvg_read.specs.Texts.{is_passed, parts}
 use Rattle.dvg_read.proofs.FirstBytes.{HasNone}
-use Rattle.dvg_named.specs.PlainLines.{is_blank, is_some_byte, plain, uncommented, words}
+use Rattle.dvg_named.specs.PlainLines.{is_blank, is_some_byte, plain, tokens, uncommented}
 use Rattle.dvg_named.proofs.LineCuts.{nothing_cut}
-use Rattle.dvg_named.proofs.PlainWords.{told_with_words}
-use Rattle.dvg_named.proofs.SmallWords.{IsHigh, IsTidy, low}
+use Rattle.dvg_named.proofs.PlainTokens.{unpassed_with_tokens}
+use Rattle.dvg_named.proofs.SmallTokens.{IsHigh, IsTidy, low}
 
--- ---- words with a space between each two
+-- ---- tokens with a space between each two
 
 low_join : (ws : List (List ℕ)) → low (join_with_byte 32 ws) ≡ join_with_byte 32 (map low ws)
 low_join [] = refl
@@ -39,7 +39,7 @@ split_join p space (w ∷ v ∷ ws) some h =
     slice_split_at p w 32 (join_with_byte 32 (v ∷ ws)) (All-head (All (λ byte. p byte ≡ false)) w (v ∷ ws) h) space
     ∙ ap (λ l. w ∷ l) (split_join p space (v ∷ ws) (omega arith) (All-tail (All (λ byte. p byte ≡ false)) w (v ∷ ws) h))
 
--- ---- bytes of words
+-- ---- bytes of tokens
 
 other_byte : (c byte : ℕ) → c ≤ 35 → IsHigh byte → eqb byte c ≡ false
 other_byte c byte most high = false_from_ne_true (eqb byte c) (λ is. absurd (omega (arith, most, high, eqb-true byte c is)))
@@ -75,9 +75,9 @@ none_of c most space ws h =
     join_all (λ byte. eqb byte c ≡ false) space ws
     (all_high (λ byte. eqb byte c ≡ false) (λ byte high. other_byte c byte most high) ws h)
 
--- the words of words that are kept whole
-words_join : (ws : List (List ℕ)) → 0 < length ws → All IsTidy ws → words (join_with_byte 32 ws) ≡ ws
-words_join ws some h =
+-- the tokens of tokens that are kept whole
+tokens_join : (ws : List (List ℕ)) → 0 < length ws → All IsTidy ws → tokens (join_with_byte 32 ws) ≡ ws
+tokens_join ws some h =
     let line = join_with_byte 32 ws in
     ap (λ l. filter is_some_byte (slice_split is_blank (uncommented l))) (stripped line (none_of 13 (omega arith) refl ws h))
     ∙ ap (λ l. filter is_some_byte (slice_split is_blank l)) (nothing_cut line (none_of 35 (omega arith) refl ws h))
@@ -86,17 +86,17 @@ words_join ws some h =
 
 -- ---- a line in small letters
 
--- the line in small letters is plain, and is told
+-- the line in small letters is plain, and is stated
 pub record IsPlain (line : List ℕ) : Type 0 where
   pub plain_is : plain (low line) ≡ low line
-  pub is_told : is_passed (low line) ≡ false
+  pub is_unpassed : is_passed (low line) ≡ false
 
 module _ (line : List ℕ) (tidy : All IsTidy (map low (parts line))) where
   abbrev ws : List (List ℕ)
   ws = map low (parts line)
 
-  some_words : 0 < length ws
-  some_words =
+  some_tokens : 0 < length ws
+  some_tokens =
       omega (arith, length-map (parts line) low, length-slice_split (λ byte. eqb byte 32) line)
 
   joined : low line ≡ join_with_byte 32 ws
@@ -105,18 +105,18 @@ module _ (line : List ℕ) (tidy : All IsTidy (map low (parts line))) where
   pub low_parts : parts (low line) ≡ map low (parts line)
   low_parts =
       ap parts joined
-      ∙ split_join (λ byte. eqb byte 32) refl ws some_words
+      ∙ split_join (λ byte. eqb byte 32) refl ws some_tokens
       (all_high (λ byte. eqb byte 32 ≡ false) (λ byte high. other_byte 32 byte (omega arith) high) ws tidy)
 
-  low_words : words (low line) ≡ ws
-  low_words = ap words joined ∙ words_join ws some_words tidy
+  low_tokens : tokens (low line) ≡ ws
+  low_tokens = ap tokens joined ∙ tokens_join ws some_tokens tidy
 
   same_plain : plain (low line) ≡ low line
-  same_plain = ap (join_with_byte 32) low_words ∙ sym joined
+  same_plain = ap (join_with_byte 32) low_tokens ∙ sym joined
 
   pub line_is_plain : IsPlain line
   line_is_plain = record {
     plain_is = same_plain;
-    is_told = subst (λ l. is_passed l ≡ false) same_plain
-        (told_with_words (low line) (subst (λ ws. 0 < length ws) (sym low_words) some_words));
+    is_unpassed = subst (λ l. is_passed l ≡ false) same_plain
+        (unpassed_with_tokens (low line) (subst (λ ws. 0 < length ws) (sym low_tokens) some_tokens));
   }

@@ -5,7 +5,7 @@ use Rattle.std.proofs.lemmas.List.Elements.{All-contains, Contains-append_cases,
 use Rattle.std.specs.Char.{to_ascii_lowercase}
 use Rattle.std.specs.List.{AllPairs, AllZip}
 use Rattle.dvg_read.specs.RomTexts.{RomText}
-use Rattle.dvg_read.specs.Texts.{lines, told}
+use Rattle.dvg_read.specs.Texts.{lines, unpassed}
 use Rattle.dvg_named.specs.declared.fault.NamedFault.TheVariants.{Unknown}
 use Rattle.dvg_named.specs.declared.part.Part.{Part}
 use Rattle.dvg_named.specs.declared.reading.Reading.{Reading}
@@ -65,7 +65,7 @@ module _ {A : Type 0} (reading : Reading A) (small text : List ℕ) (read : Read
     short = let short = read.short in let size = ap length is in omega (arith, short, size, length-map text to_ascii_lowercase);
     fine = record {
       sketch = sketch;
-      spelled = subst (λ ls. SpellsSketch sketch (told ls)) (sym same_lines) read.spelled;
+      spelled = subst (λ ls. SpellsSketch sketch (unpassed ls)) (sym same_lines) read.spelled;
       limits = read.reads.keeps.limits;
     };
     before = h.before;
@@ -90,8 +90,8 @@ module _ {A : Type 0} (reading : Reading A) (small text : List ℕ) (read : Read
 
     same_sketch : h.fine.sketch ≡ sketch
     same_sketch =
-        one_sketch sketch h.fine.sketch (told ls) read.spelled
-        (subst (λ ls. SpellsSketch h.fine.sketch (told ls)) same_lines h.fine.spelled)
+        one_sketch sketch h.fine.sketch (unpassed ls) read.spelled
+        (subst (λ ls. SpellsSketch h.fine.sketch (unpassed ls)) same_lines h.fine.spelled)
 
     is_entry : IsEntryOf ls wanting
     is_entry = record {

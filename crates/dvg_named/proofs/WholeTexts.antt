@@ -8,7 +8,7 @@ use Rattle.std.proofs.lemmas.List.Kept.{AllPairs-cons}
 use Rattle.dvg_code.specs.declared.instr.Instr.TheVariants.{Rtsl}
 use Rattle.dvg_frame.specs.declared.op.OpKind.TheVariants.{Call, Halt, Jump, Return}
 use Rattle.dvg_read.specs.OpLines as ops
-use Rattle.dvg_read.specs.RomReading.{untold}
+use Rattle.dvg_read.specs.RomReading.{unstated}
 use Rattle.dvg_read.specs.RomTexts.{unmapped}
 use Rattle.dvg_read.specs.Texts.{IsHex}
 use Rattle.dvg_named.specs.Rows.{Doing, Row, plainly, jumps, calls_rom, frame, rom, top, does, both, plain, jump}
@@ -69,7 +69,7 @@ abbrev jump_row : Row
 jump_row = record { name = None; doing = Some (jumps (codes "rock")) }
 
 abbrev jumping : Spelled
-jumping = record { rom = untold; first = rock_row ∷ jump_row ∷ []; others = [] }
+jumping = record { rom = unstated; first = rock_row ∷ jump_row ∷ []; others = [] }
 
 jumping_spelled : SpellsSketch jumping (codes "rock: halt" ∷ codes "jump rock" ∷ [])
 jumping_spelled = record {
@@ -77,7 +77,7 @@ jumping_spelled = record {
   rows = codes "rock: halt" ∷ codes "jump rock" ∷ [];
   rest = [];
   cut = refl;
-  told = unmapped tt;
+  stated = unmapped tt;
   first = (both rock (plain ops.halt), (does (jump rock), tt));
   others = tt;
 }
@@ -129,7 +129,7 @@ abbrev titled : Section
 titled = record { head = frame (Some (codes "title")); rows = call_row ∷ [] }
 
 abbrev calling : Spelled
-calling = record { rom = untold; first = []; others = shape ∷ titled ∷ [] }
+calling = record { rom = unstated; first = []; others = shape ∷ titled ∷ [] }
 
 shape_spelled : SpellsSection shape (codes ".rom 8a0" ∷ codes "ship: return" ∷ [])
 shape_spelled = record {
@@ -158,7 +158,7 @@ calling_spelled = record {
   rows = [];
   rest = (codes ".rom 8a0" ∷ codes "ship: return" ∷ []) ∷ (codes ".frame title" ∷ codes "callrom ship" ∷ []) ∷ [];
   cut = refl;
-  told = unmapped tt;
+  stated = unmapped tt;
   first = tt;
   others = (shape_spelled, (titled_spelled, tt));
 }
@@ -213,7 +213,7 @@ abbrev a_row : Row
 a_row = record { name = Some (codes "a"); doing = Some (plainly Halt) }
 
 abbrev rows_alone : List Row → Spelled
-rows_alone rows = record { rom = untold; first = rows; others = [] }
+rows_alone rows = record { rom = unstated; first = rows; others = [] }
 
 a_kept : KeepsLimits (rows_alone (a_row ∷ []))
 a_kept = record {
@@ -237,7 +237,7 @@ a_fine = record {
     rows = codes "a: halt" ∷ [];
     rest = [];
     cut = refl;
-    told = unmapped tt;
+    stated = unmapped tt;
     first = (both a (plain ops.halt), tt);
     others = tt;
   };
@@ -247,14 +247,14 @@ pub twice_at_two : TwiceAtTwo
 twice_at_two = record {
   before = codes "a: halt" ∷ [];
   line = codes "a: halt";
-  reaches = record { short = omega arith; after = []; cut = refl; number = refl; fine = a_fine; is_told = refl };
+  reaches = record { short = omega arith; after = []; cut = refl; number = refl; fine = a_fine; is_unpassed = refl };
   sketch = rows_alone (a_row ∷ a_row ∷ []);
   spelled = record {
     front = [];
     rows = codes "a: halt" ∷ codes "a: halt" ∷ [];
     rest = [];
     cut = refl;
-    told = unmapped tt;
+    stated = unmapped tt;
     first = (both a (plain ops.halt), (both a (plain ops.halt), tt));
     others = tt;
   };
@@ -265,7 +265,7 @@ twice_at_two = record {
 -- ---- a section outside the ROM
 
 abbrev sections_alone : List Section → Spelled
-sections_alone others = record { rom = untold; first = []; others = others }
+sections_alone others = record { rom = unstated; first = []; others = others }
 
 nothing_kept : KeepsLimits (sections_alone [])
 nothing_kept = record {
@@ -283,7 +283,7 @@ nothing_fine : IsFineSketch []
 nothing_fine = record {
   sketch = sections_alone [];
   limits = nothing_kept;
-  spelled = record { front = []; rows = []; rest = []; cut = refl; told = unmapped tt; first = tt; others = tt };
+  spelled = record { front = []; rows = []; rest = []; cut = refl; stated = unmapped tt; first = tt; others = tt };
 }
 
 abbrev low_section : Section
@@ -309,14 +309,14 @@ pub out_of_rom_at_one : OutOfRomAtOne
 out_of_rom_at_one = record {
   before = [];
   line = codes ".rom 400";
-  reaches = record { short = omega arith; after = []; cut = refl; number = refl; fine = nothing_fine; is_told = refl };
+  reaches = record { short = omega arith; after = []; cut = refl; number = refl; fine = nothing_fine; is_unpassed = refl };
   sketch = sections_alone (low_section ∷ []);
   spelled = record {
     front = [];
     rows = [];
     rest = (codes ".rom 400" ∷ []) ∷ [];
     cut = refl;
-    told = unmapped tt;
+    stated = unmapped tt;
     first = tt;
     others = (low_spelled, tt);
   };
@@ -384,7 +384,7 @@ one_fine = record {
     rows = [];
     rest = (codes ".rom 800" ∷ codes "halt" ∷ []) ∷ (codes ".rom 800" ∷ []) ∷ [];
     cut = refl;
-    told = unmapped tt;
+    stated = unmapped tt;
     first = tt;
     others = (halt_at_800, (none_at_800, tt));
   };
@@ -394,14 +394,14 @@ pub overlap_at_four : OverlapAtFour
 overlap_at_four = record {
   before = codes ".rom 800" ∷ codes "halt" ∷ codes ".rom 800" ∷ [];
   line = codes "halt";
-  reaches = record { short = omega arith; after = []; cut = refl; number = refl; fine = one_fine; is_told = refl };
+  reaches = record { short = omega arith; after = []; cut = refl; number = refl; fine = one_fine; is_unpassed = refl };
   sketch = two_at_800 (halt_row ∷ []);
   spelled = record {
     front = [];
     rows = [];
     rest = (codes ".rom 800" ∷ codes "halt" ∷ []) ∷ (codes ".rom 800" ∷ codes "halt" ∷ []) ∷ [];
     cut = refl;
-    told = unmapped tt;
+    stated = unmapped tt;
     first = tt;
     others = (halt_at_800, (halt_at_800, tt));
   };
@@ -438,7 +438,7 @@ lost_spelled = record {
   rows = codes "jump a" ∷ [];
   rest = [];
   cut = refl;
-  told = unmapped tt;
+  stated = unmapped tt;
   first = (does (jump a), tt);
   others = tt;
 }

@@ -2,15 +2,16 @@
 use Rattle.std.specs.Prelude.{◌≡◌, pos, [], ◌∷◌, ◌++◌, Some, None, codes}
 use Rattle.dvg_code.specs.declared.instr.Instr.TheVariants.{Labs, Svec}
 use Rattle.dvg_frame.specs.declared.op.OpKind.TheVariants.{Draw, Halt}
-use Rattle.dvg_read.specs.Texts.{told}
-use Rattle.dvg_named.specs.PlainLines.{plain, plain_lines, words}
+use Rattle.dvg_read.specs.Texts.{unpassed}
+use Rattle.dvg_named.specs.PlainLines.{plain, plain_lines, tokens}
 use Rattle.dvg_named.specs.Rows.{IsHeadLine, IsName, IsRowLine, Row, calls, frame, plainly, rom}
 use Rattle.dvg_named.specs.Sections.{frames}
 use Rattle.dvg_named.specs.Places.{IsAddress, IsNumber, free_after, laid}
 
--- blanks and tabs part words, freely, and a comment and a CR are none: 9 is a tab, and 13 is CR
-abbrev pub WordsAreParted : Type 0
-WordsAreParted = words (codes "rock:" ++ 9 ∷ 9 ∷ codes "halt  # the end" ++ 13 ∷ []) ≡ codes "rock:" ∷ codes "halt" ∷ []
+-- blanks and tabs part tokens, freely, and a comment and a CR are none: 9 is a tab, and 13 is CR
+abbrev pub TokensAreParted : Type 0
+TokensAreParted = tokens (codes "rock:" ++ 9 ∷ 9 ∷ codes "halt  # the end" ++ 13 ∷ [])
+    ≡ codes "rock:" ∷ codes "halt" ∷ []
 
 -- so a plain draft has it with one space
 abbrev pub OneSpaceIsPlain : Type 0
@@ -18,16 +19,17 @@ OneSpaceIsPlain = plain (codes "  call" ++ 9 ∷ codes " rock") ≡ codes "call 
 
 -- only the CR before the end is passed over
 abbrev pub OneCrIsPassed : Type 0
-OneCrIsPassed = words (codes "halt" ++ 13 ∷ 13 ∷ []) ≡ (codes "halt" ++ 13 ∷ []) ∷ []
+OneCrIsPassed = tokens (codes "halt" ++ 13 ∷ 13 ∷ []) ≡ (codes "halt" ++ 13 ∷ []) ∷ []
 
--- capitals are small letters, and lines without words count, but tell nothing: 10 is LF
+-- capitals are small letters, and lines without tokens count, but tell nothing: 10 is LF
 abbrev pub LinesArePlain : Type 0
 LinesArePlain = plain_lines (codes "# Stars" ++ 10 ∷ codes "Rock: HALT" ++ 13 ∷ 10 ∷ 10 ∷ []) ≡ []
     ∷ codes "rock: halt" ∷ [] ∷ []
 
--- these are told
-abbrev pub LinesAreTold : Type 0
-LinesAreTold = told (plain_lines (codes "# Stars" ++ 10 ∷ codes "  " ++ 10 ∷ codes "Rock: HALT")) ≡ codes "rock: halt"
+-- these are unpassed
+abbrev pub LinesAreUnpassed : Type 0
+LinesAreUnpassed = unpassed (plain_lines (codes "# Stars" ++ 10 ∷ codes "  " ++ 10 ∷ codes "Rock: HALT"))
+    ≡ codes "rock: halt"
     ∷ []
 
 -- a name alone, before an operation, and wanted

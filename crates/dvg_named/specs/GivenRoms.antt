@@ -12,9 +12,9 @@ use Rattle.dvg_named.specs.TextReading.{ReadsText}
 
 -- the bytes are those of the ROM that the sketch tells
 pub record GivesRom (sketch : Spelled) (bytes : List ℕ) : Type 0 where
-  pub told : RomText
-  pub text : IsRomText sketch told
-  pub is_rom : IsRomOf told bytes
+  pub stated : RomText
+  pub text : IsRomText sketch stated
+  pub is_rom : IsRomOf stated bytes
 
 -- the lines of a text were read, and these are the sections of its ROM as they are laid
 pub record IsLaidText {A : Type 0} (reading : Reading A) (laid : List held_laid.LaidRows) : Type 0 where

@@ -29,5 +29,5 @@ pub mod SketchSteps
 pub mod SourcedRows
 pub mod TextExamples
 pub mod TextReading
-pub mod ToldRoms
+pub mod StatedRoms
 pub mod Ungiven

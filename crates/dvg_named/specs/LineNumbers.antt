@@ -1,6 +1,6 @@
 -- The rows that the reader of a sketch holds, and the number of the line of each (for private contracts).
 use Rattle.std.specs.Prelude.{◌≡◌, ◌<◌, ℕ, ◌+◌, List, [], ◌∷◌, ◌++◌, AllPairs, Contains, None, Option, length}
-use Rattle.dvg_read.specs.Texts.{told}
+use Rattle.dvg_read.specs.Texts.{unpassed}
 use Rattle.dvg_named.specs.declared.meaning.Source.{Source}
 use Rattle.dvg_named.specs.declared.part.Part.{Part}
 use Rattle.dvg_named.specs.declared.reading.Reading.{Reading}
@@ -73,7 +73,7 @@ pub record IsEntryOf (ls : List (List ℕ)) (entry : Entry) : Type 0 where
   pub cut : ls ≡ before ++ line ∷ after
   pub number : entry.number ≡ length before + 1
   pub part : Spelled
-  pub up_to : SpellsSketch part (told before ++ line ∷ [])
+  pub up_to : SpellsSketch part (unpassed before ++ line ∷ [])
   pub inside : entry.section ≡ length part.others
   pub spelled : IsRowLine entry.row line
 

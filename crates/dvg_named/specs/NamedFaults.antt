@@ -3,8 +3,8 @@ use Rattle.std.specs.Prelude.{◌≡◌, ◌≢◌, ℕ, ◌+◌, ◌<◌, ◌�
 use Rattle.std.specs.Prelude.{false}
 use Rattle.std.specs.List.{filter_map, flat_map}
 use Rattle.dvg_read.specs.FirstFaults.{IsShort}
-use Rattle.dvg_read.specs.RomTexts.{first_told}
-use Rattle.dvg_read.specs.Texts.{is_passed, told}
+use Rattle.dvg_read.specs.RomTexts.{first_stated}
+use Rattle.dvg_read.specs.Texts.{is_passed, unpassed}
 use Rattle.dvg_named.specs.declared.fault.NamedFault.{NamedFault}
 use Rattle.dvg_named.specs.declared.fault.NamedFault.TheVariants.{TooLong, Syntax, Twice, Full, OutOfRom, Overlap}
 use Rattle.dvg_named.specs.declared.fault.NamedFault.TheVariants.{Unknown}
@@ -39,7 +39,7 @@ laid_of sketch = laid sketch.rom (rom_sections sketch)
 
 -- each section of the ROM is laid on words of the ROM
 abbrev pub RomFits : Spelled → Type 0
-RomFits sketch = All (λ section. (first_told sketch.rom.map ≤ section.start) × (laid_end section ≤ 0xC00))
+RomFits sketch = All (λ section. (first_stated sketch.rom.map ≤ section.start) × (laid_end section ≤ 0xC00))
     (laid_of sketch)
 
 -- a section of the ROM is laid on the word at this address
@@ -61,14 +61,14 @@ pub record KeepsLimits (sketch : Spelled) : Type 0 where
 pub record DenotesFrames (text : List ℕ) (rom : RomText) (result : List Frame) : Type 0 where
   pub short : IsShort text
   pub sketch : Spelled
-  pub spelled : SpellsSketch sketch (told (plain_lines text))
+  pub spelled : SpellsSketch sketch (unpassed (plain_lines text))
   pub limits : KeepsLimits sketch
   pub meant : IsMeant sketch result rom
 
 -- in the ROM of the text the name is that of this word address
 pub record NamesAddress (text name : List ℕ) (address : ℕ) : Type 0 where
   pub sketch : Spelled
-  pub spelled : SpellsSketch sketch (told (plain_lines text))
+  pub spelled : SpellsSketch sketch (unpassed (plain_lines text))
   pub limits : KeepsLimits sketch
   pub is : IsAddress (laid_of sketch) name address
 
@@ -78,21 +78,21 @@ pub record IsFineSketch (ls : List (List ℕ)) : Type 0 where
   pub spelled : SpellsSketch sketch ls
   pub limits : KeepsLimits sketch
 
--- line n has words, and the lines before it are without fault
+-- line n has tokens, and the lines before it are without fault
 pub record ReachesLine (text : List ℕ) (n : ℕ) (before : List (List ℕ)) (line : List ℕ) : Type 0 where
   pub short : IsShort text
   pub after : List (List ℕ)
   pub cut : plain_lines text ≡ before ++ line ∷ after
   pub number : n ≡ length before + 1
-  pub fine : IsFineSketch (told before)
-  pub is_told : is_passed line ≡ false
+  pub fine : IsFineSketch (unpassed before)
+  pub is_unpassed : is_passed line ≡ false
 
 -- line n is the first with which the lines spell nothing
 pub record MeetsNothing (text : List ℕ) (n : ℕ) : Type 0 where
   pub before : List (List ℕ)
   pub line : List ℕ
   pub reaches : ReachesLine text n before line
-  pub wrong : (sketch : Spelled) → ¬ SpellsSketch sketch (told before ++ line ∷ [])
+  pub wrong : (sketch : Spelled) → ¬ SpellsSketch sketch (unpassed before ++ line ∷ [])
 
 -- line n is the first with which the lines spell a sketch that isn't within the limits, in this way
 pub record Meets (Breaks : Spelled → Type 0) (text : List ℕ) (n : ℕ) : Type 0 where
@@ -100,7 +100,7 @@ pub record Meets (Breaks : Spelled → Type 0) (text : List ℕ) (n : ℕ) : Typ
   pub line : List ℕ
   pub reaches : ReachesLine text n before line
   pub sketch : Spelled
-  pub spelled : SpellsSketch sketch (told before ++ line ∷ [])
+  pub spelled : SpellsSketch sketch (unpassed before ++ line ∷ [])
   pub breaks : Breaks sketch
 
 -- no row of a frame gives the name; of a section of the ROM none of all these
@@ -119,14 +119,14 @@ IsUngiven sections section (jumps name) = IsLost sections section.head section.r
 -- line n wants a name that isn't given; as many sections begin up to it as part of the lines spells
 pub record WantsUngiven (text : List ℕ) (n : ℕ) : Type 0 where
   pub short : IsShort text
-  pub fine : IsFineSketch (told (plain_lines text))
+  pub fine : IsFineSketch (unpassed (plain_lines text))
   pub before : List (List ℕ)
   pub line : List ℕ
   pub after : List (List ℕ)
   pub cut : plain_lines text ≡ before ++ line ∷ after
   pub number : n ≡ length before + 1
   pub part : Spelled
-  pub up_to : SpellsSketch part (told before ++ line ∷ [])
+  pub up_to : SpellsSketch part (unpassed before ++ line ∷ [])
   pub section : Section
   pub inside : slice_get (sections fine.sketch) (length part.others) ≡ Some section
   pub row : Row

@@ -3,7 +3,7 @@ use Rattle.std.specs.Prelude.{◌≡◌, ℕ, ◌+◌, max, List, [], ◌∷◌,
 use Rattle.std.specs.List.{filter_map, sum_by}
 use Rattle.dvg_code.specs.Spelling.{word_count}
 use Rattle.dvg_frame.specs.declared.op.OpKind.TheVariants.{Draw}
-use Rattle.dvg_read.specs.RomTexts.{RomLine, RomText, first_told}
+use Rattle.dvg_read.specs.RomTexts.{RomLine, RomText, first_stated}
 use Rattle.dvg_named.specs.Rows.{Doing, Row, plainly}
 use Rattle.dvg_named.specs.Sections.{RomRows}
 
@@ -56,7 +56,7 @@ free_after first (given ∷ others) = max (given.address + length given.words) (
 
 -- the sections of the ROM, laid
 abbrev pub laid : RomText → List RomRows → List Laid
-laid rom sections = laid_from (free_after (first_told rom.map) rom.given) sections
+laid rom sections = laid_from (free_after (first_stated rom.map) rom.given) sections
 
 -- the name is that of this word address of the ROM
 pub record IsAddress (sections : List Laid) (name : List ℕ) (address : ℕ) : Type 0 where

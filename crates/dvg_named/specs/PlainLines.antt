@@ -18,14 +18,15 @@ abbrev pub is_some_byte : List ℕ → Bool
 is_some_byte [] = false
 is_some_byte (byte ∷ bytes) = true
 
--- the words of a line: what its blanks part, without its comment and without one CR at its end
-abbrev pub words : List ℕ → List (List ℕ)
-words line = filter is_some_byte (slice_split is_blank (uncommented (strip_carriage_return line)))
+-- the tokens of a line: what its blanks part, without its comment and without one CR at its end
+abbrev pub tokens : List ℕ → List (List ℕ)
+tokens line = filter is_some_byte (slice_split is_blank (uncommented (strip_carriage_return line)))
 
--- the line as a plain draft has it: its words, with a space between each two
+-- the line as a plain draft has it: its tokens, with a space between each two
 abbrev pub plain : List ℕ → List ℕ
-plain line = join_with_byte 32 (words line)
+plain line = join_with_byte 32 (tokens line)
 
--- the lines of a text in small letters, each as a plain draft has it; a line without words is empty
+-- the lines of a text in small letters, each as a plain draft has it; a line without tokens is
+-- empty
 abbrev pub plain_lines : List ℕ → List (List ℕ)
 plain_lines text = map plain (lines (map to_ascii_lowercase text))

@@ -2,7 +2,7 @@
 use Rattle.std.specs.Prelude.{◌≡◌, ◌≢◌, ℕ, ◌+◌, max, List, [], ◌∷◌, ◌++◌, Any, get_or}
 use Rattle.std.specs.Prelude.{length, false, true, unwrap_or}
 use Rattle.std.specs.List.{filter_map, flat_map}
-use Rattle.dvg_read.specs.RomTexts.{RomText, first_told}
+use Rattle.dvg_read.specs.RomTexts.{RomText, first_stated}
 use Rattle.dvg_named.specs.declared.rom_area.RomArea.{RomArea}
 use Rattle.dvg_named.specs.NamedFaults.{LiesOn, names_of}
 use Rattle.dvg_named.specs.Places.{doings, free_after, laid, size}
@@ -22,7 +22,7 @@ later (first ∷ others) last = others ++ last ∷ []
 
 -- what was spelled
 abbrev pub sketch_of : RomText → (closed : List Section) → (last : Section) → Spelled
-sketch_of told closed last = so_far told (first_rows closed last) (later closed last)
+sketch_of stated closed last = so_far stated (first_rows closed last) (later closed last)
 
 -- the last section is that at the top exactly where no other is closed
 abbrev pub StartsAtTop : (closed : List Section) → (last : Section) → Type 0
@@ -50,8 +50,8 @@ free_from free (section ∷ others) =
     free_from (max free (unwrap_or section.address free + size section.rows)) others
 
 -- the first free word before all sections
-abbrev pub free_told : RomText → ℕ
-free_told told = free_after (first_told told.map) told.given
+abbrev pub free_stated : RomText → ℕ
+free_stated stated = free_after (first_stated stated.map) stated.given
 
 -- the sections of the ROM among those after the top
 abbrev pub front_roms : (closed : List Section) → List RomRows
@@ -60,17 +60,17 @@ front_roms (first ∷ others) = filter_map (λ section. rom_of section.head sect
 
 -- where the last section is of the ROM, its next word is laid here
 abbrev pub KeepsNext : RomText → (closed : List Section) → Head → List Row → (next : ℕ) → Type 0
-KeepsNext told closed (rom address) rows next =
-    next ≡ unwrap_or address (free_from (free_told told) (front_roms closed)) + size rows
-KeepsNext told closed top rows next = Unit {0}
-KeepsNext told closed (frame name) rows next = Unit {0}
+KeepsNext stated closed (rom address) rows next =
+    next ≡ unwrap_or address (free_from (free_stated stated) (front_roms closed)) + size rows
+KeepsNext stated closed top rows next = Unit {0}
+KeepsNext stated closed (frame name) rows next = Unit {0}
 
 -- a section is laid on the word
 abbrev pub IsLaidOn : RomText → List RomRows → ℕ → Type 0
-IsLaidOn told sections a = Any (λ section. LiesOn section a) (laid told sections)
+IsLaidOn stated sections a = Any (λ section. LiesOn section a) (laid stated sections)
 
 -- those words are taken on which a section is laid
-pub record KeepsArea (told : RomText) (sections : List RomRows) (area : RomArea) : Type 0 where
-  pub free : area.free ≡ free_from (free_told told) sections
-  pub on : (a : ℕ) → IsLaidOn told sections a → get_or area.is_taken a false ≡ true
-  pub only : (a : ℕ) → get_or area.is_taken a false ≡ true → IsLaidOn told sections a
+pub record KeepsArea (stated : RomText) (sections : List RomRows) (area : RomArea) : Type 0 where
+  pub free : area.free ≡ free_from (free_stated stated) sections
+  pub on : (a : ℕ) → IsLaidOn stated sections a → get_or area.is_taken a false ≡ true
+  pub only : (a : ℕ) → get_or area.is_taken a false ≡ true → IsLaidOn stated sections a

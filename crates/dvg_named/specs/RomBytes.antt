@@ -46,11 +46,12 @@ pub record IsPut (laid : List Laid) (section : Laid) (first : ℕ) (old new : Li
 abbrev pub PutsSection : List held_laid.LaidRows → held_laid.LaidRows → (first : ℕ) → (old new : List ℕ) → Type 0
 PutsSection sections section = IsPut (laid_sections sections) (laid_section section)
 
--- the bytes are those of the ROM that is told, where these sections give their words after its lines
-pub record TellsSections (laid sections : List Laid) (told : RomText) (bytes : List ℕ) : Type 0 where
+-- the bytes are those of the ROM that is stated, where these sections give their words after its
+-- lines
+pub record TellsSections (laid sections : List Laid) (stated : RomText) (bytes : List ℕ) : Type 0 where
   pub lines : List RomLine
   pub given : AllZip (IsGiven laid) sections lines
-  pub is_rom : IsRomOf (record { map = told.map; given = told.given ++ lines }) bytes
+  pub is_rom : IsRomOf (record { map = stated.map; given = stated.given ++ lines }) bytes
 
 -- no row of the section of this number wants a name that isn't given
 abbrev pub WantsNothing : List Laid → ℕ → Type 0

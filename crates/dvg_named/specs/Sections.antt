@@ -37,7 +37,7 @@ pub record SpellsSketch (sketch : Spelled) (ls : List (List ℕ)) : Type 0 where
   pub rows : List (List ℕ)
   pub rest : List (List (List ℕ))
   pub cut : ls ≡ front ++ rows ++ flat_map (λ lines. lines) rest
-  pub told : SpellsRom sketch.rom front
+  pub stated : SpellsRom sketch.rom front
   pub first : AllZip IsRowLine sketch.first rows
   pub others : AllZip SpellsSection sketch.others rest
 

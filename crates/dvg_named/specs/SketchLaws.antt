@@ -7,12 +7,12 @@ use Rattle.dvg_read.specs.Texts.{parts}
 use Rattle.dvg_named.specs.declared.fault.NamedFault.{NamedFault}
 use Rattle.dvg_named.specs.Meanings.{Frame}
 use Rattle.dvg_named.specs.NamedFaults.{DenotesFrames, HasNamedFault}
-use Rattle.dvg_named.specs.PlainLines.{plain, words}
+use Rattle.dvg_named.specs.PlainLines.{plain, tokens}
 use Rattle.dvg_named.specs.Sections.{Spelled, SpellsSketch}
 
--- where a line has a word, its words are the parts of the line as a plain draft has it
-abbrev pub WordsAreParts : Type 0
-WordsAreParts = (line : List ℕ) → 0 < length (words line) → parts (plain line) ≡ words line
+-- where a line has a token, its tokens are the parts of the line as a plain draft has it
+abbrev pub TokensAreParts : Type 0
+TokensAreParts = (line : List ℕ) → 0 < length (tokens line) → parts (plain line) ≡ tokens line
 
 -- lines spell one sketch at most
 abbrev pub OneSketch : Type 0

@@ -15,7 +15,7 @@ use Rattle.dvg_named.specs.RowValues.{head_of}
 use Rattle.dvg_named.specs.Rows.{Head, top}
 use Rattle.dvg_named.specs.Sections.{Section, Spelled, rom_sections}
 use Rattle.dvg_named.specs.SketchSteps.{Goes, begun}
-use Rattle.dvg_named.specs.ToldRoms.{HoldsTold}
+use Rattle.dvg_named.specs.StatedRoms.{HoldsStated}
 
 -- how a section begins: that at the top has no line that begins it
 abbrev pub head_in : Option held_head.Head → Head
@@ -27,15 +27,15 @@ abbrev pub section_in : {A : Type 0} → Part A → Section
 section_in part = record { head = head_in part.head; rows = rows_of part.rows.items }
 
 -- a sketch within the limits, cut so, and what is kept of it
-pub record Keeps (told : RomText) (closed : List Section) (last : Section) (of_frames of_rom names : List (List ℕ))
+pub record Keeps (stated : RomText) (closed : List Section) (last : Section) (of_frames of_rom names : List (List ℕ))
     (count : ℕ) (held : RomArea) : Type 0 where
   pub starts : StartsAtTop closed last
-  pub limits : KeepsLimits (sketch_of told closed last)
-  pub frames : of_frames ≡ frame_names (sketch_of told closed last)
-  pub roms : of_rom ≡ rom_names (sketch_of told closed last)
+  pub limits : KeepsLimits (sketch_of stated closed last)
+  pub frames : of_frames ≡ frame_names (sketch_of stated closed last)
+  pub roms : of_rom ≡ rom_names (sketch_of stated closed last)
   pub frame : KeepsFrame last.head last.rows names count
-  pub next : KeepsNext told closed last.head last.rows held.next
-  pub area : KeepsArea told (rom_sections (sketch_of told closed last)) held
+  pub next : KeepsNext stated closed last.head last.rows held.next
+  pub area : KeepsArea stated (rom_sections (sketch_of stated closed last)) held
 
 -- the sections before the last one
 abbrev pub closed_in : {A : Type 0} → Reading A → List Section
@@ -43,18 +43,18 @@ closed_in reading = map section_in reading.closed.items
 
 -- what the lines spell that were read, after lines that tell this of the ROM
 abbrev pub spelled_in : {A : Type 0} → RomText → Reading A → Spelled
-spelled_in told reading = sketch_of told (closed_in reading) (section_in reading.last)
+spelled_in stated reading = sketch_of stated (closed_in reading) (section_in reading.last)
 
 -- the reader holds what lines spell, within the limits
-pub record Reads {A : Type 0} (told : RomText) (reading : Reading A) : Type 0 where
-  pub rom : HoldsTold told reading.rom
-  pub keeps : Keeps told (closed_in reading) (section_in reading.last) (bytes_of reading.frame_names.given.items)
+pub record Reads {A : Type 0} (stated : RomText) (reading : Reading A) : Type 0 where
+  pub rom : HoldsStated stated reading.rom
+  pub keeps : Keeps stated (closed_in reading) (section_in reading.last) (bytes_of reading.frame_names.given.items)
       (bytes_of reading.rom_names.given.items) (bytes_of reading.names.given.items) reading.count reading.area
 
 -- a line more was read: what is spelled goes on, within the limits
-pub record ReadsMore {A : Type 0} (told : RomText) (old : Reading A) (line : List ℕ) (new : Reading A) : Type 0 where
+pub record ReadsMore {A : Type 0} (stated : RomText) (old : Reading A) (line : List ℕ) (new : Reading A) : Type 0 where
   pub now : RomText
-  pub goes : Goes (spelled_in told old) line (spelled_in now new)
+  pub goes : Goes (spelled_in stated old) line (spelled_in now new)
   pub reads : Reads now new
 
 -- with the line more a sketch is spelled that breaks a limit in this way

@@ -32,10 +32,10 @@ pub data Goes : Spelled → List ℕ → Spelled → Type 0 where
       → IsHeadLine head line
       → Goes (so_far rom first others) line (so_far rom first (others ++ begun head ∷ []))
 
--- the line of these words, as a plain draft has it
+-- the line of these tokens, as a plain draft has it
 abbrev pub line_of : List (List ℕ) → List ℕ
 line_of = join_with_byte 32
 
--- the words are the parts of their line
+-- the tokens are the parts of their line
 abbrev pub AreParts : List (List ℕ) → Type 0
 AreParts ws = parts (line_of ws) ≡ ws

@@ -1,7 +1,7 @@
 -- Worked examples of whole texts: what they denote, and which fault they have.
 use Rattle.std.specs.Prelude.{ℕ, List, [], ◌∷◌, ◌++◌, Some, None, codes}
 use Rattle.dvg_frame.specs.declared.op.OpKind.TheVariants.{CallRom, Halt, Jump}
-use Rattle.dvg_read.specs.RomReading.{untold}
+use Rattle.dvg_read.specs.RomReading.{unstated}
 use Rattle.dvg_named.specs.declared.fault.NamedFault.TheVariants.{OutOfRom, Overlap, Twice, Unknown}
 use Rattle.dvg_named.specs.NamedFaults.{DenotesFrames, HasNamedFault}
 
@@ -12,7 +12,7 @@ text_of (line ∷ others) = line ++ 10 ∷ text_of others
 
 -- a frame of two operations, whose second one jumps to the first
 abbrev pub JumpsBack : Type 0
-JumpsBack = DenotesFrames (text_of (codes "Rock: HALT" ∷ codes "jump  rock # again" ∷ [])) untold
+JumpsBack = DenotesFrames (text_of (codes "Rock: HALT" ∷ codes "jump  rock # again" ∷ [])) unstated
     (record { name = None; draft = Halt ∷ Jump 0 ∷ [] } ∷ [])
 
 -- a shape in the ROM, whose word is a return, D000, and a frame that calls it

@@ -1,7 +1,7 @@
 -- What the reader of all lines of a sketch answers.
 use Rattle.std.specs.Prelude.{ℕ, ◌≤◌, List, length, map}
 use Rattle.dvg_read.specs.RomTexts.{RomText}
-use Rattle.dvg_read.specs.Texts.{lines, told}
+use Rattle.dvg_read.specs.Texts.{lines, unpassed}
 use Rattle.dvg_named.specs.declared.fault.NamedFault.TheVariants.{Full, OutOfRom, Overlap, Syntax, Twice}
 use Rattle.dvg_named.specs.declared.fault.SketchFault.{SketchFault}
 use Rattle.dvg_named.specs.declared.fault.SketchFault.TheVariants.{Memory, Text}
@@ -19,7 +19,7 @@ use Rattle.dvg_named.specs.SourcedRows.{AreSourced}
 pub record ReadsText {A : Type 0} (small : List ℕ) (reading : Reading A) : Type 0 where
   pub short : length small ≤ 1048576
   pub rom : RomText
-  pub spelled : SpellsSketch (spelled_in rom reading) (told (map plain (lines small)))
+  pub spelled : SpellsSketch (spelled_in rom reading) (unpassed (map plain (lines small)))
   pub reads : Reads rom reading
   pub sourced : AreSourced small reading
   pub numbered : AreNumbered (map plain (lines small)) reading

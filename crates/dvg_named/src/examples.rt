@@ -1,20 +1,21 @@
 //! Worked examples of the definitions. Each is the contract of a function that does nothing.
 ghost use Rattle.dvg_named.specs.Examples.{AddressIsAfterTwoWords, HeadsAreSpelled};
-ghost use Rattle.dvg_named.specs.Examples.{LargerRomIsFree, LinesArePlain, LinesAreTold, NoNames};
+ghost use Rattle.dvg_named.specs.Examples.{LargerRomIsFree, LinesArePlain, LinesAreUnpassed};
+ghost use Rattle.dvg_named.specs.Examples.{NoNames};
 ghost use Rattle.dvg_named.specs.Examples.{NothingIsAFrame, NumberIsThatOfTheNext, OneCrIsPassed};
 ghost use Rattle.dvg_named.specs.Examples.{OneSpaceIsPlain, RomAloneIsNoFrame};
 ghost use Rattle.dvg_named.specs.TextExamples.{CallsTheRom, JumpsBack, OutOfRomAtOne};
 ghost use Rattle.dvg_named.specs.TextExamples.{OverlapAtFour, TwiceAtTwo, UnknownAtOne};
 ghost use Rattle.dvg_named.specs.Examples.{RowsAreSpelled, SectionsAreLaid, TopIsAFrame};
-ghost use Rattle.dvg_named.specs.Examples.{WordsAreParted};
+ghost use Rattle.dvg_named.specs.Examples.{TokensAreParted};
 
-/// How a line becomes words.
+/// How a line becomes tokens.
 pub fn lines()
-    ensures parted { WordsAreParted }
+    ensures parted { TokensAreParted }
     ensures plain { OneSpaceIsPlain }
     ensures cr { OneCrIsPassed }
     ensures small { LinesArePlain }
-    ensures told { LinesAreTold }
+    ensures unpassed { LinesAreUnpassed }
 {}
 
 /// What a line spells.

@@ -36,8 +36,8 @@ pub(crate) fn frame_rows<'r, 'a, A: Allocator + Copy>(
     closed: &'r [Part<'a, A>],
     last: &'r Part<'a, A>,
 ) -> Result<Vec<FrameRows<'r, 'a>, A>, OutOfMemory>
-    ensures frames { IfOk result (λ found. (told : RomText) → frames_of found.items
-        ≡ frames (sketch_of told (map section_in closed.now) (section_in last.now))) }
+    ensures frames { IfOk result (λ found. (stated : RomText) → frames_of found.items
+        ≡ frames (sketch_of stated (map section_in closed.now) (section_in last.now))) }
     ensures sources { IfOk result (λ found. (small : List ℕ) → All (IsPartAt small) closed.now
         → IsPartAt small last.now → All (IsFrameAt small) found.items) }
 {

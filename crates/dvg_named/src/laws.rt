@@ -1,10 +1,10 @@
 //! Laws of sketches. Each is the contract of a function that does nothing.
 ghost use Rattle.dvg_named.specs.SketchLaws.{NoFaultBeside, NoneLacksBoth, OneFault, OneMeaning};
-ghost use Rattle.dvg_named.specs.SketchLaws.{OneSketch, PlainDrafts, WordsAreParts};
+ghost use Rattle.dvg_named.specs.SketchLaws.{OneSketch, PlainDrafts, TokensAreParts};
 
-/// The words of a line are the parts of the line as a plain draft has it, where there is a word.
-pub fn words_are_parts()
-    ensures { WordsAreParts }
+/// The tokens of a line are the parts of the line as a plain draft has it, where there is a token.
+pub fn tokens_are_parts()
+    ensures { TokensAreParts }
 {}
 
 /// A list of lines spells one sketch at most.

@@ -18,7 +18,7 @@ use crate::rom_sections::rom_rows;
 use crate::rom_words::{RomRow, put_sections};
 use crate::row::{Doing, Head, Row, read_head, read_row};
 use crate::sizes::words_of_row;
-use crate::told_rom::ToldRom;
+use crate::stated_rom::StatedRom;
 use crate::unknown::first_unknown;
 use arrayvec::ArrayVec;
 use dvg_code::OutOfMemory;
@@ -34,7 +34,7 @@ const MAX_OPS: usize = 511;
 #[derive(Drop)]
 pub(crate) struct Reading<'a, A: Allocator + Copy> {
     alloc: A,
-    rom: ToldRom,
+    rom: StatedRom,
     // The sections before the last one.
     closed: Vec<Part<'a, A>, A>,
     // The last section.
@@ -53,7 +53,7 @@ impl<'a, A: Allocator + Copy> Reading<'a, A> {
     ghost use Rattle.dvg_named.specs.FrameValues.{IsFrameAt, frames_of};
     ghost use Rattle.dvg_named.specs.Sections.{frames};
     ghost use Rattle.dvg_read.specs.LineParts.{bytes_of};
-    ghost use Rattle.dvg_read.specs.RomReading.{untold};
+    ghost use Rattle.dvg_read.specs.RomReading.{unstated};
     ghost use Rattle.dvg_read.specs.RomTexts.{RomText};
     ghost use Rattle.dvg_read.specs.RomReading.{TellsRom};
     ghost use Rattle.dvg_named.specs.RowValues.{head_of, name_of, row_of};
@@ -84,7 +84,7 @@ impl<'a, A: Allocator + Copy> Reading<'a, A> {
 
     /// Before the first line, which is this one.
     pub fn new(alloc: A, first: Source<'a>) -> Reading<'a, A>
-        ensures reads { Reads untold result }
+        ensures reads { Reads unstated result }
         ensures bare { IsBare result }
         ensures sources { (small : List ℕ) → BeginsIn small None first.entry
             → AreSourced small result }
@@ -93,7 +93,7 @@ impl<'a, A: Allocator + Copy> Reading<'a, A> {
     {
         Reading {
             alloc,
-            rom: ToldRom::new(),
+            rom: StatedRom::new(),
             closed: Vec::new(alloc),
             last: Part::new(alloc, None, first),
             frame_names: GivenNames::new(alloc),
@@ -104,55 +104,56 @@ impl<'a, A: Allocator + Copy> Reading<'a, A> {
         }
     }
 
-    /// Reads a line of these words.
-    pub fn add(&mut self, source: Source<'a>, words: &[&'a [u8]]) -> Result<(), LineFault>
-        requires { AreParts (bytes_of words.now) }
-        ensures added { OnOk result ((told : RomText) → Reads told self.old
-            → ReadsMore told self.old (line_of (bytes_of words.now)) self.new) }
-        ensures fault { IfErr result (λ fault. (told : RomText) → Reads told self.old
-            → StopsSketch fault (spelled_in told self.old) (line_of (bytes_of words.now))) }
+    /// Reads a line of these tokens.
+    pub fn add(&mut self, source: Source<'a>, tokens: &[&'a [u8]]) -> Result<(), LineFault>
+        requires { AreParts (bytes_of tokens.now) }
+        ensures added { OnOk result ((stated : RomText) → Reads stated self.old
+            → ReadsMore stated self.old (line_of (bytes_of tokens.now)) self.new) }
+        ensures fault { IfErr result (λ fault. (stated : RomText) → Reads stated self.old
+            → StopsSketch fault (spelled_in stated self.old) (line_of (bytes_of tokens.now))) }
         ensures sources { OnOk result ((small : List ℕ) → AreSourced small self.old
             → IsLineAt small source.entry
-            → plain source.entry.line.now ≡ line_of (bytes_of words.now)
+            → plain source.entry.line.now ≡ line_of (bytes_of tokens.now)
             → AreSourced small self.new) }
-        ensures numbers { OnOk result ((told : RomText) (small : List ℕ) → Reads told self.old
+        ensures numbers { OnOk result ((stated : RomText) (small : List ℕ) → Reads stated self.old
             → AreSourced small self.old
-            → Numbers self.old (line_of (bytes_of words.now)) source.entry.number self.new) }
+            → Numbers self.old (line_of (bytes_of tokens.now)) source.entry.number self.new) }
     {
-        if self.is_bare() && self.tell(words) {
+        if self.is_bare() && self.tell(tokens) {
             return Ok(());
         }
-        if let Some(head) = read_head(words) {
+        if let Some(head) = read_head(tokens) {
             return self.begin_section(head, source);
         }
-        let Some(row) = read_row(words) else {
+        let Some(row) = read_row(tokens) else {
             return Err(LineFault::Syntax);
         };
         self.add_row(&row, source)
     }
 
-    // Whether no line has told a row and no section has begun.
+    // Whether no line has stated a row and no section has begun.
     fn is_bare(&self) -> bool
         ensures { IsTrue result ↔ IsBare self.now }
     {
         self.closed.is_empty() && self.last.rows.is_empty()
     }
 
-    // Reads a line of these words that tells of the ROM. Whether it does.
-    fn tell(&mut self, words: &[&[u8]]) -> bool
-        requires { AreParts (bytes_of words.now) }
-        ensures told { IsTrue result → IsBare self.old → (told : RomText) → Reads told self.old
-            → ReadsMore told self.old (line_of (bytes_of words.now)) self.new }
-        ensures refused { IsFalse result → (told now : RomText) → Reads told self.old
-            → ¬ TellsRom told (line_of (bytes_of words.now)) now }
+    // Reads a line of these tokens that tells of the ROM. Whether it does.
+    fn tell(&mut self, tokens: &[&[u8]]) -> bool
+        requires { AreParts (bytes_of tokens.now) }
+        ensures stated { IsTrue result → IsBare self.old → (stated : RomText)
+            → Reads stated self.old
+            → ReadsMore stated self.old (line_of (bytes_of tokens.now)) self.new }
+        ensures refused { IsFalse result → (stated now : RomText) → Reads stated self.old
+            → ¬ TellsRom stated (line_of (bytes_of tokens.now)) now }
         ensures kept { IsFalse result → self.new ≡ self.old }
         ensures sources { IsTrue result → (small : List ℕ) → AreSourced small self.old
             → AreSourced small self.new }
         ensures entries { IsTrue result → KeepsEntries self.old self.new }
-        ensures no_row { IsTrue result → (told : RomText) → Reads told self.old
-            → (row : SpelledRow) → ¬ IsRowLine row (line_of (bytes_of words.now)) }
+        ensures no_row { IsTrue result → (stated : RomText) → Reads stated self.old
+            → (row : SpelledRow) → ¬ IsRowLine row (line_of (bytes_of tokens.now)) }
     {
-        if !self.rom.take(words) {
+        if !self.rom.take(tokens) {
             return false;
         }
         self.area.set_free(self.rom.free());
@@ -161,12 +162,12 @@ impl<'a, A: Allocator + Copy> Reading<'a, A> {
 
     // Begins a section.
     fn begin_section(&mut self, head: Head<'a>, source: Source<'a>) -> Result<(), LineFault>
-        ensures added { OnOk result ((told : RomText) (line : List ℕ) → Reads told self.old
-            → IsHeadLine (head_of head.entry) line → ReadsMore told self.old line self.new) }
-        ensures fault { IfErr result (λ fault. (told : RomText) (line : List ℕ)
-            → Reads told self.old
+        ensures added { OnOk result ((stated : RomText) (line : List ℕ) → Reads stated self.old
+            → IsHeadLine (head_of head.entry) line → ReadsMore stated self.old line self.new) }
+        ensures fault { IfErr result (λ fault. (stated : RomText) (line : List ℕ)
+            → Reads stated self.old
             → IsHeadLine (head_of head.entry) line
-            → StopsSketch fault (spelled_in told self.old) line) }
+            → StopsSketch fault (spelled_in stated self.old) line) }
         ensures sources { OnOk result ((small : List ℕ) → AreSourced small self.old
             → IsHeadAt small head.entry source.entry → AreSourced small self.new) }
         ensures entries { OnOk result (KeepsEntries self.old self.new) }
@@ -179,13 +180,13 @@ impl<'a, A: Allocator + Copy> Reading<'a, A> {
 
     // Begins a frame.
     fn begin_frame(&mut self, name: Option<&'a [u8]>, source: Source<'a>) -> Result<(), LineFault>
-        ensures added { OnOk result ((told : RomText) (line : List ℕ) → Reads told self.old
+        ensures added { OnOk result ((stated : RomText) (line : List ℕ) → Reads stated self.old
             → IsHeadLine (frame (name_of name.entry)) line
-            → ReadsMore told self.old line self.new) }
-        ensures fault { IfErr result (λ fault. (told : RomText) (line : List ℕ)
-            → Reads told self.old
+            → ReadsMore stated self.old line self.new) }
+        ensures fault { IfErr result (λ fault. (stated : RomText) (line : List ℕ)
+            → Reads stated self.old
             → IsHeadLine (frame (name_of name.entry)) line
-            → StopsSketch fault (spelled_in told self.old) line) }
+            → StopsSketch fault (spelled_in stated self.old) line) }
         ensures sources { OnOk result ((small : List ℕ) → AreSourced small self.old
             → IsHeadAt small (Head.Frame name.entry) source.entry → AreSourced small self.new) }
         ensures entries { OnOk result (KeepsEntries self.old self.new) }
@@ -198,12 +199,12 @@ impl<'a, A: Allocator + Copy> Reading<'a, A> {
 
     // Begins a section of the ROM.
     fn begin_rom(&mut self, address: Option<u16>, source: Source<'a>) -> Result<(), LineFault>
-        ensures added { OnOk result ((told : RomText) (line : List ℕ) → Reads told self.old
-            → IsHeadLine (rom address) line → ReadsMore told self.old line self.new) }
-        ensures fault { IfErr result (λ fault. (told : RomText) (line : List ℕ)
-            → Reads told self.old
+        ensures added { OnOk result ((stated : RomText) (line : List ℕ) → Reads stated self.old
+            → IsHeadLine (rom address) line → ReadsMore stated self.old line self.new) }
+        ensures fault { IfErr result (λ fault. (stated : RomText) (line : List ℕ)
+            → Reads stated self.old
             → IsHeadLine (rom address) line
-            → StopsSketch fault (spelled_in told self.old) line) }
+            → StopsSketch fault (spelled_in stated self.old) line) }
         ensures sources { OnOk result ((small : List ℕ) → AreSourced small self.old
             → IsHeadAt small (Head.Rom address) source.entry → AreSourced small self.new) }
         ensures entries { OnOk result (KeepsEntries self.old self.new) }
@@ -235,12 +236,12 @@ impl<'a, A: Allocator + Copy> Reading<'a, A> {
 
     // Adds a row to the last section.
     fn add_row(&mut self, row: &Row<'a>, source: Source<'a>) -> Result<(), LineFault>
-        ensures added { OnOk result ((told : RomText) (line : List ℕ) → Reads told self.old
-            → IsRowLine (row_of row.now) line → ReadsMore told self.old line self.new) }
-        ensures fault { IfErr result (λ fault. (told : RomText) (line : List ℕ)
-            → Reads told self.old
+        ensures added { OnOk result ((stated : RomText) (line : List ℕ) → Reads stated self.old
+            → IsRowLine (row_of row.now) line → ReadsMore stated self.old line self.new) }
+        ensures fault { IfErr result (λ fault. (stated : RomText) (line : List ℕ)
+            → Reads stated self.old
             → IsRowLine (row_of row.now) line
-            → StopsSketch fault (spelled_in told self.old) line) }
+            → StopsSketch fault (spelled_in stated self.old) line) }
         ensures sources { OnOk result ((small : List ℕ) → AreSourced small self.old
             → IsRowAt small row.now source.entry → AreSourced small self.new) }
         ensures entries { OnOk result ((small : List ℕ) → AreSourced small self.old
@@ -255,12 +256,12 @@ impl<'a, A: Allocator + Copy> Reading<'a, A> {
     // Adds a row to the last section, which is a frame.
     fn add_frame_row(&mut self, row: &Row<'a>, source: Source<'a>) -> Result<(), LineFault>
         requires { IsFrameHead (head_in self.old.last.head) }
-        ensures added { OnOk result ((told : RomText) (line : List ℕ) → Reads told self.old
-            → IsRowLine (row_of row.now) line → ReadsMore told self.old line self.new) }
-        ensures fault { IfErr result (λ fault. (told : RomText) (line : List ℕ)
-            → Reads told self.old
+        ensures added { OnOk result ((stated : RomText) (line : List ℕ) → Reads stated self.old
+            → IsRowLine (row_of row.now) line → ReadsMore stated self.old line self.new) }
+        ensures fault { IfErr result (λ fault. (stated : RomText) (line : List ℕ)
+            → Reads stated self.old
             → IsRowLine (row_of row.now) line
-            → StopsSketch fault (spelled_in told self.old) line) }
+            → StopsSketch fault (spelled_in stated self.old) line) }
         ensures sources { OnOk result ((small : List ℕ) → AreSourced small self.old
             → IsRowAt small row.now source.entry → AreSourced small self.new) }
         ensures entries { OnOk result ((small : List ℕ) → AreSourced small self.old
@@ -279,12 +280,12 @@ impl<'a, A: Allocator + Copy> Reading<'a, A> {
     // Adds a row to the last section, which is of the ROM.
     fn add_rom_row(&mut self, row: &Row<'a>, source: Source<'a>) -> Result<(), LineFault>
         requires { IsRomHead (head_in self.old.last.head) }
-        ensures added { OnOk result ((told : RomText) (line : List ℕ) → Reads told self.old
-            → IsRowLine (row_of row.now) line → ReadsMore told self.old line self.new) }
-        ensures fault { IfErr result (λ fault. (told : RomText) (line : List ℕ)
-            → Reads told self.old
+        ensures added { OnOk result ((stated : RomText) (line : List ℕ) → Reads stated self.old
+            → IsRowLine (row_of row.now) line → ReadsMore stated self.old line self.new) }
+        ensures fault { IfErr result (λ fault. (stated : RomText) (line : List ℕ)
+            → Reads stated self.old
             → IsRowLine (row_of row.now) line
-            → StopsSketch fault (spelled_in told self.old) line) }
+            → StopsSketch fault (spelled_in stated self.old) line) }
         ensures sources { OnOk result ((small : List ℕ) → AreSourced small self.old
             → IsRowAt small row.now source.entry → AreSourced small self.new) }
         ensures entries { OnOk result ((small : List ℕ) → AreSourced small self.old
@@ -306,8 +307,8 @@ impl<'a, A: Allocator + Copy> Reading<'a, A> {
     /// refused.
     pub fn lay(&self) -> Result<Vec<LaidRows<'_, 'a>, A>, OutOfMemory>
         requires { (small : List ℕ) × ReadsText small self.now }
-        ensures { IfOk result (λ laid_rows. (told : RomText) → Reads told self.now
-            → laid_sections laid_rows.items ≡ laid_of (spelled_in told self.now)) }
+        ensures { IfOk result (λ laid_rows. (stated : RomText) → Reads stated self.now
+            → laid_sections laid_rows.items ≡ laid_of (spelled_in stated self.now)) }
     {
         let sections = rom_rows(self.alloc, self.closed.as_slice(), &self.last)?;
         lay(
@@ -322,9 +323,9 @@ impl<'a, A: Allocator + Copy> Reading<'a, A> {
     /// taken.
     pub fn rom(&self, laid: &[LaidRows]) -> Result<ArrayVec<u8, LARGE_ROM_BYTES>, RomRow>
         requires { IsLaidText self.now laid.now }
-        ensures rom { IfOk result (λ bytes. (told : RomText) → Reads told self.now
-            → laid_sections laid.now ≡ laid_of (spelled_in told self.now)
-            → GivesRom (spelled_in told self.now) bytes.items) }
+        ensures rom { IfOk result (λ bytes. (stated : RomText) → Reads stated self.now
+            → laid_sections laid.now ≡ laid_of (spelled_in stated self.now)
+            → GivesRom (spelled_in stated self.now) bytes.items) }
         ensures ungiven { IfErr result (IsFirstInRom (laid_sections laid.now)) }
         ensures known { IfErr result (λ row.
             ¬ All (WantsNone (laid_sections laid.now)) (sections_in self.now)) }
@@ -353,8 +354,8 @@ impl<'a, A: Allocator + Copy> Reading<'a, A> {
 
     /// The frames, in order, after the lines that were read. A growth may be refused.
     pub fn frames(&self) -> Result<Vec<FrameRows<'_, 'a>, A>, OutOfMemory>
-        ensures frames { IfOk result (λ found. (told : RomText)
-            → frames_of found.items ≡ frames (spelled_in told self.now)) }
+        ensures frames { IfOk result (λ found. (stated : RomText)
+            → frames_of found.items ≡ frames (spelled_in stated self.now)) }
         ensures sources { IfOk result (λ found. (small : List ℕ) → AreSourced small self.now
             → All (IsFrameAt small) found.items) }
     {
@@ -366,12 +367,12 @@ impl<'a, A: Allocator + Copy> Reading<'a, A> {
     pub fn drafts(&self, laid: &[LaidRows]) -> Result<JoinedFrames<'a, A>, OutOfMemory>
         requires text { IsLaidText self.now laid.now }
         requires known { All (WantsNone (laid_sections laid.now)) (sections_in self.now) }
-        ensures drafts { IfOk result (λ joined. (told : RomText)
-            → AllZip (IsFrameOf (laid_sections laid.now)) (frames (spelled_in told self.now))
+        ensures drafts { IfOk result (λ joined. (stated : RomText)
+            → AllZip (IsFrameOf (laid_sections laid.now)) (frames (spelled_in stated self.now))
             (map (frame_at joined.ops.items) joined.spans.items)) }
-        ensures lines { IfOk result (λ joined. (told : RomText) (small : List ℕ)
+        ensures lines { IfOk result (λ joined. (stated : RomText) (small : List ℕ)
             → AreSourced small self.now
-            → AllZip (StandsIn small) (frames (spelled_in told self.now))
+            → AllZip (StandsIn small) (frames (spelled_in stated self.now))
             (map (joined_at joined.ops.items joined.sources.items) joined.spans.items)) }
         ensures inside { IfOk result (λ joined.
             All (IsInside joined.ops.items joined.sources.items) joined.spans.items) }

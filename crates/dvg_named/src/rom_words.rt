@@ -45,8 +45,8 @@ pub fn put_sections(rom: &mut [u8], sections: &[LaidRows]) -> Result<(), RomRow>
     requires size { (length rom.old ≡ 2048) ⊎ (length rom.old ≡ 4096) }
     requires lie { LieInRom (0xC00 - length rom.old / 2) (laid_sections sections.now) }
     requires may { All (λ section. MayStandInRom section.rows) (laid_sections sections.now) }
-    ensures told { OnOk result ((told : RomText) → IsRomOf told rom.old
-        → TellsSections (laid_sections sections.now) (laid_sections sections.now) told rom.new) }
+    ensures stated { OnOk result ((stated : RomText) → IsRomOf stated rom.old
+        → TellsSections (laid_sections sections.now) (laid_sections sections.now) stated rom.new) }
     ensures ungiven { IfErr result (IsFirstInRom (laid_sections sections.now)) }
 {
     let first = ROM_END - rom.len() / 2;

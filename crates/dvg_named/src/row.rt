@@ -47,17 +47,17 @@ pub enum Head<'a> {
     Rom(Option<u16>),
 }
 
-/// The row that a line of these words spells. None exactly where it spells none.
-pub fn read_row<'a>(words: &[&'a [u8]]) -> Option<Row<'a>>
-    ensures found { IfSome result (λ row. RowParts (row_of row) (bytes_of words.now)) }
-    ensures only { (row : SpelledRow) → RowParts row (bytes_of words.now)
+/// The row that a line of these tokens spells. None exactly where it spells none.
+pub fn read_row<'a>(tokens: &[&'a [u8]]) -> Option<Row<'a>>
+    ensures found { IfSome result (λ row. RowParts (row_of row) (bytes_of tokens.now)) }
+    ensures only { (row : SpelledRow) → RowParts row (bytes_of tokens.now)
         → IsSomeAnd result (λ found. row_of found ≡ row) }
 {
-    let [first, rest @ ..] = words else {
+    let [first, rest @ ..] = tokens else {
         return None;
     };
     let Some(name) = name_given(first) else {
-        let Some(doing) = read_doing(words) else {
+        let Some(doing) = read_doing(tokens) else {
             return None;
         };
         return Some(Row {
@@ -80,13 +80,14 @@ pub fn read_row<'a>(words: &[&'a [u8]]) -> Option<Row<'a>>
     })
 }
 
-/// The beginning of a section that a line of these words spells. None exactly where it spells none.
-pub fn read_head<'a>(words: &[&'a [u8]]) -> Option<Head<'a>>
-    ensures found { IfSome result (λ head. HeadParts (head_of head) (bytes_of words.now)) }
-    ensures only { (head : SpelledHead) → HeadParts head (bytes_of words.now)
+/// The beginning of a section that a line of these tokens spells. None exactly where it spells
+/// none.
+pub fn read_head<'a>(tokens: &[&'a [u8]]) -> Option<Head<'a>>
+    ensures found { IfSome result (λ head. HeadParts (head_of head) (bytes_of tokens.now)) }
+    ensures only { (head : SpelledHead) → HeadParts head (bytes_of tokens.now)
         → IsSomeAnd result (λ found. head_of found ≡ head) }
 {
-    match words {
+    match tokens {
         [begin] => bare_head(begin),
         [begin, operand] => head_with(begin, operand),
         _ => None,
@@ -134,18 +135,18 @@ fn frame_named<'a>(name: &'a [u8]) -> Option<Head<'a>>
     }
 }
 
-// What a row of these words does. None exactly where they spell nothing.
-fn read_doing<'a>(words: &[&'a [u8]]) -> Option<Doing<'a>>
-    ensures found { IfSome result (λ doing. DoingParts (doing_of doing) (bytes_of words.now)) }
-    ensures only { (doing : SpelledDoing) → DoingParts doing (bytes_of words.now)
+// What a row of these tokens does. None exactly where they spell nothing.
+fn read_doing<'a>(tokens: &[&'a [u8]]) -> Option<Doing<'a>>
+    ensures found { IfSome result (λ doing. DoingParts (doing_of doing) (bytes_of tokens.now)) }
+    ensures only { (doing : SpelledDoing) → DoingParts doing (bytes_of tokens.now)
         → IsSomeAnd result (λ found. doing_of found ≡ doing) }
 {
-    if let [command, target] = words {
+    if let [command, target] = tokens {
         if is_name(target) {
             return wanting(command, target);
         }
     }
-    let op = read_op_parts(words)?;
+    let op = read_op_parts(tokens)?;
     Some(Doing::Plainly(op))
 }
 
@@ -166,13 +167,13 @@ fn wanting<'a>(command: &[u8], name: &'a [u8]) -> Option<Doing<'a>>
     }
 }
 
-// The name that a word gives, which ends with a colon. None exactly where it gives none.
-fn name_given<'a>(word: &'a [u8]) -> Option<&'a [u8]>
-    ensures found { IfSome result (λ name. IsName name.now × (word.now ≡ name.now ++ 58 ∷ [])) }
-    ensures only { (name : List ℕ) → IsName name → word.now ≡ name ++ 58 ∷ []
+// The name that a token gives, which ends with a colon. None exactly where it gives none.
+fn name_given<'a>(token: &'a [u8]) -> Option<&'a [u8]>
+    ensures found { IfSome result (λ name. IsName name.now × (token.now ≡ name.now ++ 58 ∷ [])) }
+    ensures only { (name : List ℕ) → IsName name → token.now ≡ name ++ 58 ∷ []
         → IsSomeAnd result (λ found. found.now ≡ name) }
 {
-    let (last, name) = word.split_last()?;
+    let (last, name) = token.split_last()?;
     if *last == b':' && is_name(name) {
         Some(name)
     } else {

@@ -7,7 +7,7 @@ ghost use Rattle.dvg_named.specs.TextReading.{ReadsText, StopsText, fault_at};
 
 use crate::fault::{NamedFault, SketchFault};
 use crate::line_fault::LineFault;
-use crate::line_words::words_of;
+use crate::line_tokens::tokens_of;
 use crate::meaning::Source;
 use crate::reading::Reading;
 use dvg_read::{MOST_TEXT_BYTES, TextLines};
@@ -30,13 +30,13 @@ pub(crate) fn read_lines<'a, A: Allocator + Copy>(
     let mut number = 0;
     for line in TextLines::new(small) {
         number += 1;
-        let Some(words) = words_of(line) else {
+        let Some(tokens) = tokens_of(line) else {
             return Err(at_line(LineFault::Syntax, number));
         };
-        if words.is_empty() {
+        if tokens.is_empty() {
             continue;
         }
-        if let Err(fault) = reading.add(Source { number, line }, words.as_slice()) {
+        if let Err(fault) = reading.add(Source { number, line }, tokens.as_slice()) {
             return Err(at_line(fault, number));
         }
     }

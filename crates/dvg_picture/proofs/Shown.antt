@@ -1,4 +1,4 @@
--- From the run that is told to what is shown of the input.
+-- From the run that is recorded to what is shown of the input.
 use Rattle.std.proofs.Common.{◌≡◌, ℕ, ◌+◌, ◌<◌, ◌≤◌, List, ◌++◌, inl, inr, Bool, Option, Result, Ok, Err, IfOk, IfErr, length, take, take_all, drop, get_or, flat_map, ap, sym, ◌∙◌, subst, arith}
 use Rattle.std.proofs.lemmas.List.{drop_more, length-take}
 use Rattle.std.specs.Io.KnownBytes.{Appends}
@@ -57,7 +57,7 @@ shows all input ran end Holds run holds = record {
   visits = run.1.0;
   end = end;
   ends = run.1.1;
-  holds = subst (λ told. Holds end (run_text told end)) run.1.2 holds;
+  holds = subst (λ recorded. Holds end (run_text recorded end)) run.1.2 holds;
 }
 
 pub drew : (all : Bool) (outcome : Outcome) (ran : List Ran) (end : End) (old new : Option (List ℕ)) (input : List ℕ) → outcome ≡ outcome_of end

@@ -1,4 +1,4 @@
--- From the run that is told to what it draws.
+-- From the run that is recorded to what it draws.
 use Rattle.std.proofs.Common.{◌≡◌, ℕ, List, true, Option, Result, Ok, Err, IfOk, IfErr, ap, sym, ◌∙◌, subst}
 use Rattle.dvg_gen.specs.declared.stroke.Stroke.{Stroke}
 use Rattle.dvg_io.specs.declared.fault.ToolFault.{ToolFault}
@@ -16,15 +16,15 @@ use Rattle.dvg_picture.specs.Svgs.{DrawsSvg, IsDrawn, run_svg, strokes_of}
 use Rattle.dvg_picture.specs.Undrawn.{undrawn_by}
 use Rattle.dvg_picture.proofs.Shown.{faulted, short}
 
--- what a run that is told draws
+-- what a run that is recorded draws
 pub draws : (dump : List ℕ) (ran : List Ran) (end : End) (drew : List Stroke) (undrawn : Option Undrawn) → IsRunOf true dump ran end → drew ≡ strokes_of ran
     → undrawn ≡ undrawn_by end → IsDrawn dump drew undrawn
-draws dump ran end drew undrawn run told called = record {
+draws dump ran end drew undrawn run recorded called = record {
   size = run.0;
   visits = run.1.0;
   end = end;
   ends = run.1.1;
-  strokes = told ∙ ap strokes_of run.1.2 ∙ sym (strokes_of_trace (memory_of (parts_of dump)) run.1.0);
+  strokes = recorded ∙ ap strokes_of run.1.2 ∙ sym (strokes_of_trace (memory_of (parts_of dump)) run.1.0);
   called = called;
 }
 

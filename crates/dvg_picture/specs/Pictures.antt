@@ -39,12 +39,12 @@ Pictures all (Err (Text fault)) input old new = HasDumpFault input fault
 Pictures all (Err Writer) input old new = ShowsRun all input (λ end text. BeginsToWrite text old new)
 Pictures all _ input old new = Unit {0}
 
--- a dump of a good size, whose run is told so (for a private contract)
+-- a dump of a good size, whose run is recorded so (for a private contract)
 abbrev pub IsRunOf : Bool → List ℕ → List Ran → End → Type 0
 IsRunOf traces dump ran end = HasDumpSize dump × TellsRun traces (memory_of (parts_of dump)) ran end
 
--- a fault at which no run is told: that of the size, or want of memory for a dump of a right size
--- (for a private contract)
+-- a fault at which no run is recorded: that of the size, or want of memory for a dump of a right
+-- size (for a private contract)
 abbrev pub IsDumpFault : List ℕ → ToolFault → Type 0
 IsDumpFault dump (Text fault) = HasDumpFault dump fault
 IsDumpFault dump Memory = HasDumpSize dump

@@ -39,6 +39,6 @@ DrawsSvg percent (Err Writer) input old new = (drew : List Stroke) × (undrawn :
     × IsDrawn input drew undrawn × BeginsToWrite (run_svg percent undrawn drew) old new
 DrawsSvg percent _ input old new = Unit {0}
 
--- the strokes that are told of instructions (for a private contract)
+-- the strokes that are recorded of instructions (for a private contract)
 abbrev pub strokes_of : List Ran → List Stroke
 strokes_of = flat_map (λ ran. option_to_list ran.stroke)

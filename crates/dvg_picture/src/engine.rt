@@ -9,7 +9,7 @@ ghost use Rattle.dvg_picture.specs.Texts.{run_text};
 
 use crate::writes::write_run;
 use dvg_dump::{Dump, DumpFault, LARGE_DUMP_BYTES, Outcome, Traced};
-use dvg_io::{DeviceFailed, Engine, ToolFault, Watched, serve};
+use dvg_io::{Engine, StreamFailed, ToolFault, Watched, serve};
 use dvg_read::TextFault;
 use std::alloc::Allocator;
 use std::io::{Read, Write};
@@ -75,7 +75,7 @@ impl<A: Allocator + Copy> Engine<A> for PictureEngine {
         &self,
         run: &Traced<A>,
         writer: &mut Watched<W>,
-    ) -> Result<(), DeviceFailed> {
+    ) -> Result<(), StreamFailed> {
         write_run(run, writer)
     }
 }
@@ -94,7 +94,7 @@ impl<A: Allocator + Copy> Engine<A> for PictureEngine {
 ///
 /// - `DumpSize`: the input has so many bytes, up to 6,144, and neither 4,096 nor 6,144.
 /// - `LongDump`: it has more than 6,144, of which no more than 6,145 are taken.
-/// - `Reader`, `Writer`: that device failed. After `Writer` a beginning of the text went out.
+/// - `Reader`, `Writer`: that stream failed. After `Writer` a beginning of the text went out.
 /// - `Memory`: a growth was refused.
 ///
 /// Where it stops before it writes, which is at any fault but `Writer`, the writer is as it was.

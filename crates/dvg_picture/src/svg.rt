@@ -11,7 +11,7 @@ use crate::undrawn::{Undrawn, reason_line, undrawn_by};
 use dvg_code::OutOfMemory;
 use dvg_dump::{LARGE_DUMP_BYTES, Ran};
 use dvg_gen::Stroke;
-use dvg_io::{DeviceFailed, Engine, ToolFault, Watched, serve};
+use dvg_io::{Engine, StreamFailed, ToolFault, Watched, serve};
 use dvg_svg::write_svg;
 use std::alloc::Allocator;
 use std::io::{Read, Write};
@@ -57,7 +57,7 @@ fn write_drawn<W: Write>(
     strokes: &[Stroke],
     undrawn: Option<Undrawn>,
     writer: &mut Watched<W>,
-) -> Result<(), DeviceFailed>
+) -> Result<(), StreamFailed>
     ensures { Writes W.contents (run_svg percent undrawn strokes.now)
         result writer.old writer.new }
 {
@@ -98,7 +98,7 @@ impl<A: Allocator + Copy> Engine<A> for SvgEngine {
         &self,
         drawn: &Drawn<A>,
         writer: &mut Watched<W>,
-    ) -> Result<(), DeviceFailed> {
+    ) -> Result<(), StreamFailed> {
         write_drawn(
             self.percent,
             drawn.strokes.as_slice(),
@@ -115,7 +115,7 @@ impl<A: Allocator + Copy> Engine<A> for SvgEngine {
 ///
 /// - `DumpSize`: the input has so many bytes, up to 6,144, and neither 4,096 nor 6,144.
 /// - `LongDump`: it has more than 6,144, of which no more than 6,145 are taken.
-/// - `Reader`, `Writer`: that device failed. After `Writer` a beginning of the text went out.
+/// - `Reader`, `Writer`: that stream failed. After `Writer` a beginning of the text went out.
 /// - `Memory`: a growth was refused.
 ///
 /// Where it stops before it writes, which is at any fault but `Writer`, the writer is as it was.

@@ -7,7 +7,7 @@ ghost use Rattle.dvg_picture.specs.Texts.{end_text, ran_text, run_text};
 
 use dvg_dump::{Ending, Ran, Traced};
 use dvg_gen::Stroke;
-use dvg_io::{DeviceFailed, Watched, write_strokes, write_whole};
+use dvg_io::{StreamFailed, Watched, write_strokes, write_whole};
 use dvg_print::Line;
 use std::alloc::Allocator;
 use std::io::Write;
@@ -17,7 +17,7 @@ fn write_with_strokes<W: Write>(
     line: &mut Line,
     strokes: &[Stroke],
     writer: &mut Watched<W>,
-) -> Result<(), DeviceFailed>
+) -> Result<(), StreamFailed>
     ensures { Writes W.contents (line.old ++ flat_map stroke_line strokes.now)
         result writer.old writer.new }
 {
@@ -30,7 +30,7 @@ fn write_ran<W: Write>(
     line: &mut Line,
     ran: &Ran,
     writer: &mut Watched<W>,
-) -> Result<(), DeviceFailed>
+) -> Result<(), StreamFailed>
     ensures { Writes W.contents (ran_text ran.now) result writer.old writer.new }
 {
     line.become_instruction(ran.address, &ran.code, ran.canonical, &ran.beam);
@@ -42,7 +42,7 @@ fn write_trace<W: Write>(
     line: &mut Line,
     trace: &[Ran],
     writer: &mut Watched<W>,
-) -> Result<(), DeviceFailed>
+) -> Result<(), StreamFailed>
     ensures { Writes W.contents (flat_map ran_text trace.now) result writer.old writer.new }
 {
     for ran in trace {
@@ -56,7 +56,7 @@ fn write_end<A: Allocator, W: Write>(
     line: &mut Line,
     ending: &Ending<A>,
     writer: &mut Watched<W>,
-) -> Result<(), DeviceFailed>
+) -> Result<(), StreamFailed>
     ensures { Writes W.contents (end_text (end_of ending.now)) result writer.old writer.new }
 {
     match ending {
@@ -79,7 +79,7 @@ fn write_end<A: Allocator, W: Write>(
 pub(crate) fn write_run<A: Allocator, W: Write>(
     run: &Traced<A>,
     writer: &mut Watched<W>,
-) -> Result<(), DeviceFailed>
+) -> Result<(), StreamFailed>
     ensures { Writes W.contents (run_text run.now.ran.items (end_of run.now.ending))
         result writer.old writer.new }
 {

@@ -4,10 +4,10 @@ use Rattle.std.specs.List.{AllZip}
 use Rattle.dvg_frame.specs.declared.op.OpKind.{OpKind}
 use Rattle.dvg_read.specs.OpLines.{IsOpLine, OpParts}
 use Rattle.dvg_read.specs.RomTexts.{RomText, unmapped}
-use Rattle.dvg_read.specs.RomReading.{TellsRom, untold}
+use Rattle.dvg_read.specs.RomReading.{TellsRom, unstated}
 use Rattle.dvg_read.specs.DraftTexts.{Denotes, IsFineDraft, SpellsDraft}
 use Rattle.dvg_read.proofs.OneOperation.{one_operation}
-use Rattle.dvg_read.proofs.RomSteps.{one_told, rom_leads, tells_more, told_by_name}
+use Rattle.dvg_read.proofs.RomSteps.{one_stated, rom_leads, stated_by_name, tells_more}
 use Rattle.dvg_read.proofs.Steps.{Leads, front_says, further, here, last_line, on, one_saying}
 use Rattle.dvg_read.proofs.Zips.{zip_push}
 
@@ -28,7 +28,7 @@ abbrev pub Says : SoFar → List (List ℕ) → Type 0
 Says s ls = SpellsDraft s.rom s.ops ls
 
 abbrev start : SoFar
-start = so_far untold []
+start = so_far unstated []
 
 says_nothing : Says start []
 says_nothing = record { front = []; rest = []; cut = refl; head = unmapped tt; draft = tt }
@@ -73,7 +73,7 @@ ops_lead rom F (op ∷ G) (l ∷ ls) h =
 
 leads_to : (s : SoFar) (ls : List (List ℕ)) → Says s ls → Leads Goes start ls s
 leads_to s ls p =
-    let head = head_leads untold s.rom p.front (rom_leads p.head) in
+    let head = head_leads unstated s.rom p.front (rom_leads p.head) in
     subst (λ k. Leads Goes start k s) (sym p.cut) (further Goes start (so_far s.rom []) s p.front p.rest head (ops_lead s.rom [] s.ops p.rest p.draft))
 
 no_op_map : {op : OpKind} (rest : List (List ℕ)) → OpParts op (codes "map" ∷ rest) → ⊥
@@ -83,10 +83,10 @@ no_op_rom : {op : OpKind} (rest : List (List ℕ)) → OpParts op (codes "rom" �
 no_op_rom rest h = elim h [ ]
 
 not_both : {rom now : RomText} {op : OpKind} {l : List ℕ} → TellsRom rom l now → IsOpLine op l → ⊥
-not_both {op = op} t h = told_by_name (OpParts op) h no_op_map no_op_rom t
+not_both {op = op} t h = stated_by_name (OpParts op) h no_op_map no_op_rom t
 
 one_way : (s t u : SoFar) (l : List ℕ) → Goes s l t → Goes s l u → u ≡ t
-one_way s t u l (tells {rom = rom} {now = now} g) (tells {now = also} h) = ap (λ rom. so_far rom []) (one_told rom now also l g h)
+one_way s t u l (tells {rom = rom} {now = now} g) (tells {now = also} h) = ap (λ rom. so_far rom []) (one_stated rom now also l g h)
 one_way s t u l (tells g) (does op h) = absurd (not_both g h)
 one_way s t u l (does op h) (tells g) = absurd (not_both g h)
 one_way s t u l (does {rom = rom} {F = F} op h) (does other k) = ap (λ op. so_far rom (F ++ op ∷ [])) (one_operation h k)

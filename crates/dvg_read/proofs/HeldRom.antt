@@ -9,9 +9,9 @@ use Rattle.dvg_mem.specs.Grown.{AreReturns}
 use Rattle.dvg_mem.specs.Memory.{IsRom, first_word, rom_word}
 use Rattle.dvg_mem.proofs.Roms.{large_first, rom_there, small_first, words_from_first}
 use Rattle.dvg_read.specs.declared.rom_text.RomReading.{RomReading}
-use Rattle.dvg_read.specs.RomReading.{HoldsRom, IsBehind, TellsMore, TellsRom, gives_words, tells_map, untold}
-use Rattle.dvg_read.specs.RomTexts.{IsMapLine, IsRomLine, IsRomOf, RomLine, RomText, first_told, large, small, word_after, word_behind}
-use Rattle.dvg_read.proofs.RomSteps.{told_rom}
+use Rattle.dvg_read.specs.RomReading.{HoldsRom, IsBehind, TellsMore, TellsRom, gives_words, tells_map, unstated}
+use Rattle.dvg_read.specs.RomTexts.{IsMapLine, IsRomLine, IsRomOf, RomLine, RomText, first_stated, large, small, word_after, word_behind}
+use Rattle.dvg_read.proofs.RomSteps.{stated_rom}
 
 -- the address of a first word
 pub first_of_map : {first : ℕ} {l : List ℕ} → IsMapLine first l → (first ≡ 0x800) ⊎ (first ≡ 0x400)
@@ -23,10 +23,10 @@ returns_rom : (R : List ℕ) (first : ℕ) → (first ≡ 0x800) ⊎ (first ≡ 
 returns_rom R first (inl e) are = let size = are.count in let small : length R ≡ 2048 = omega arith in (record { count = inl small; bytes = are.bytes }, small_first R small ∙ sym e)
 returns_rom R first (inr e) are = let size = are.count in let large : length R ≡ 4096 = omega arith in (record { count = inr large; bytes = are.bytes }, large_first R large ∙ sym e)
 
-pub returns_held : (R : List ℕ) (first : ℕ) (map : Option ℕ) → first ≡ first_told map → (first ≡ 0x800) ⊎ (first ≡ 0x400) → AreReturns R (0xC00 - first) → IsRomOf (told_rom map []) R
-returns_held R first map told one are =
+pub returns_held : (R : List ℕ) (first : ℕ) (map : Option ℕ) → first ≡ first_stated map → (first ≡ 0x800) ⊎ (first ≡ 0x400) → AreReturns R (0xC00 - first) → IsRomOf (stated_rom map []) R
+returns_held R first map stated one are =
     let (whole, is) = returns_rom R first one are in
-    record { whole = whole; first = is ∙ told; words = λ a low high. rom_there R a low high ∙ ap Some (are.words (a - first_word R) (omega arith)) }
+    record { whole = whole; first = is ∙ stated; words = λ a low high. rom_there R a low high ∙ ap Some (are.words (a - first_word R) (omega arith)) }
 
 -- the words after one more line
 after_more : (roms : List RomLine) (given : RomLine) (a word : ℕ) → word_after (roms ++ given ∷ []) a word ≡ word_behind given a (word_after roms a word)
@@ -46,11 +46,11 @@ behind_at before given R S a whole behind low high old =
     behind.words (a - first_word R) (omega arith) ∙ ap (λ b. word_behind given b (word_in R (a - first_word R))) place ∙ ap (word_behind given a) was ∙ sym (after_more before given a 0xD000)
 
 -- a line that gives words
-pub words_held : (map : Option ℕ) (before : List RomLine) (given : RomLine) (R S : List ℕ) (first : ℕ) → first ≡ first_told map → IsRomOf (told_rom map before) R → IsBehind given first R S → All (λ byte. byte < 256) S → IsRomOf (told_rom map (before ++ given ∷ [])) S
-words_held map before given R S first told held behind bytes =
+pub words_held : (map : Option ℕ) (before : List RomLine) (given : RomLine) (R S : List ℕ) (first : ℕ) → first ≡ first_stated map → IsRomOf (stated_rom map before) R → IsBehind given first R S → All (λ byte. byte < 256) S → IsRomOf (stated_rom map (before ++ given ∷ [])) S
+words_held map before given R S first stated held behind bytes =
     let count = behind.count in
     let same = same_size R S count in
-    let put : IsBehind given (first_word R) R S = subst (λ first. IsBehind given first R S) (told ∙ sym held.first) behind in
+    let put : IsBehind given (first_word R) R S = subst (λ first. IsBehind given first R S) (stated ∙ sym held.first) behind in
     record {
       whole = record { count = subst (λ n. (n ≡ 2048) ⊎ (n ≡ 4096)) (sym count) held.whole.count; bytes = bytes };
       first = same ∙ held.first;
@@ -63,25 +63,25 @@ words_held map before given R S first told held behind bytes =
 pub all_fit : (R : List ℕ) → ((i : ℕ) → get_or R i 0 < 256) → All (λ byte. byte < 256) R
 all_fit R fits = λ k d low. subst (λ b. b < 256) (sym (get_or_default R k d 0 low)) (fits k)
 
--- what is held, and that something was told
-told_now : (rom : RomText) (held : RomReading) → held.is_told ≡ true → (rom ≡ untold → ⊥) → IsFalse held.is_told ↔ (rom ≡ untold)
-told_now rom held is other = (λ none. absurd cc, λ none. absurd (other none))
+-- what is held, and that something was stated
+stated_now : (rom : RomText) (held : RomReading) → held.is_stated ≡ true → (rom ≡ unstated → ⊥) → IsFalse held.is_stated ↔ (rom ≡ unstated)
+stated_now rom held is other = (λ none. absurd cc, λ none. absurd (other none))
 
-map_is_told : (first : ℕ) → told_rom (Some first) [] ≡ untold → ⊥
-map_is_told first e = let is = ap (λ rom. rom.map) e in absurd (none-some first (sym is))
+map_is_stated : (first : ℕ) → stated_rom (Some first) [] ≡ unstated → ⊥
+map_is_stated first e = let is = ap (λ rom. rom.map) e in absurd (none-some first (sym is))
 
-words_are_told : (map : Option ℕ) (before : List RomLine) (given : RomLine) → told_rom map (before ++ given ∷ []) ≡ untold → ⊥
-words_are_told map before given e = let count = ap length (ap (λ rom. rom.given) e) in absurd (omega (arith, length-append before (given ∷ [])))
+words_are_stated : (map : Option ℕ) (before : List RomLine) (given : RomLine) → stated_rom map (before ++ given ∷ []) ≡ unstated → ⊥
+words_are_stated map before given e = let count = ap length (ap (λ rom. rom.given) e) in absurd (omega (arith, length-append before (given ∷ [])))
 
 -- the line of a map was read
-pub map_told : (rom : RomText) (line : List ℕ) (old new : RomReading) (first : ℕ) → HoldsRom rom old → IsFalse old.is_told → IsMapLine first line → new.is_told ≡ true → AreReturns new.bytes.items (0xC00 - first) → TellsMore rom line new
-map_told rom line old new first holds none is told returns = record {
-  now = told_rom (Some first) [];
-  tells = rw (holds.told.0 none) (tells_map is);
-  holds = record { is_rom = returns_held new.bytes.items first (Some first) refl (first_of_map is) returns; told = told_now (told_rom (Some first) []) new told (map_is_told first) };
+pub map_stated : (rom : RomText) (line : List ℕ) (old new : RomReading) (first : ℕ) → HoldsRom rom old → IsFalse old.is_stated → IsMapLine first line → new.is_stated ≡ true → AreReturns new.bytes.items (0xC00 - first) → TellsMore rom line new
+map_stated rom line old new first holds none is stated returns = record {
+  now = stated_rom (Some first) [];
+  tells = rw (holds.stated.0 none) (tells_map is);
+  holds = record { is_rom = returns_held new.bytes.items first (Some first) refl (first_of_map is) returns; stated = stated_now (stated_rom (Some first) []) new stated (map_is_stated first) };
 }
 
-first_is : (rom : RomText) (held : RomReading) (first : ℕ) → HoldsRom rom held → first + length held.bytes.items / 2 ≡ 0xC00 → first ≡ first_told rom.map
+first_is : (rom : RomText) (held : RomReading) (first : ℕ) → HoldsRom rom held → first + length held.bytes.items / 2 ≡ 0xC00 → first ≡ first_stated rom.map
 first_is rom held first holds e = let all = words_from_first held.bytes.items holds.is_rom.whole in let is = holds.is_rom.first in omega (arith, all, is, e)
 
 -- bytes of which each was written
@@ -90,22 +90,22 @@ refilled xs ws size =
     ap (λ rest. take (length xs) (ws ++ rest)) (drop_all (length ws) xs (omega (arith, size))) ∙ ap (take (length xs)) (append-nil ws) ∙ take_all (length xs) ws (omega (arith, size))
 
 -- a line that gives words was read
-pub words_told : (rom : RomText) (line : List ℕ) (old new : RomReading) (given : RomLine) (first : ℕ) (lent bytes : List ℕ) → HoldsRom rom old → first + length old.bytes.items / 2 ≡ 0xC00 → IsRomLine first given line
-    → lent ≡ old.bytes.items → IsBehind given first lent bytes → ((i : ℕ) → get_or bytes i 0 < 256) → new.bytes.items ≡ refill (length old.bytes.items) old.bytes.items bytes → new.is_told ≡ true → TellsMore rom line new
-words_told rom line old new given first lent bytes holds e is lends put fits written told =
+pub words_stated : (rom : RomText) (line : List ℕ) (old new : RomReading) (given : RomLine) (first : ℕ) (lent bytes : List ℕ) → HoldsRom rom old → first + length old.bytes.items / 2 ≡ 0xC00 → IsRomLine first given line
+    → lent ≡ old.bytes.items → IsBehind given first lent bytes → ((i : ℕ) → get_or bytes i 0 < 256) → new.bytes.items ≡ refill (length old.bytes.items) old.bytes.items bytes → new.is_stated ≡ true → TellsMore rom line new
+words_stated rom line old new given first lent bytes holds e is lends put fits written stated =
     let behind = subst (λ lent. IsBehind given first lent bytes) lends put in
     let whole : new.bytes.items ≡ bytes = written ∙ refilled old.bytes.items bytes behind.count in
     let at = first_is rom old first holds e in
     record {
-      now = told_rom rom.map (rom.given ++ given ∷ []);
+      now = stated_rom rom.map (rom.given ++ given ∷ []);
       tells = gives_words given (subst (λ first. IsRomLine first given line) at is);
       holds = record {
-        is_rom = subst (IsRomOf (told_rom rom.map (rom.given ++ given ∷ []))) (sym whole) (words_held rom.map rom.given given old.bytes.items bytes first at holds.is_rom behind (all_fit bytes fits));
-        told = told_now (told_rom rom.map (rom.given ++ given ∷ [])) new told (words_are_told rom.map rom.given given);
+        is_rom = subst (IsRomOf (stated_rom rom.map (rom.given ++ given ∷ []))) (sym whole) (words_held rom.map rom.given given old.bytes.items bytes first at holds.is_rom behind (all_fit bytes fits));
+        stated = stated_now (stated_rom rom.map (rom.given ++ given ∷ [])) new stated (words_are_stated rom.map rom.given given);
       };
     }
 
 -- a line that tells nothing
-pub nothing_told : (rom now : RomText) (line : List ℕ) (held : RomReading) (first : ℕ) → HoldsRom rom held → first + length held.bytes.items / 2 ≡ 0xC00 → ((first : ℕ) → ¬ IsMapLine first line) → ((given : RomLine) → ¬ IsRomLine first given line) → ¬ TellsRom rom line now
-nothing_told rom now line held first holds e no_map no_rom (tells_map {first = other} m) = no_map other m
-nothing_told rom now line held first holds e no_map no_rom (gives_words g h) = no_rom g (subst (λ first. IsRomLine first g line) (sym (first_is rom held first holds e)) h)
+pub nothing_stated : (rom now : RomText) (line : List ℕ) (held : RomReading) (first : ℕ) → HoldsRom rom held → first + length held.bytes.items / 2 ≡ 0xC00 → ((first : ℕ) → ¬ IsMapLine first line) → ((given : RomLine) → ¬ IsRomLine first given line) → ¬ TellsRom rom line now
+nothing_stated rom now line held first holds e no_map no_rom (tells_map {first = other} m) = no_map other m
+nothing_stated rom now line held first holds e no_map no_rom (gives_words g h) = no_rom g (subst (λ first. IsRomLine first g line) (sym (first_is rom held first holds e)) h)

@@ -1,4 +1,4 @@
--- What is told of a ROM gives one ROM at most.
+-- What is stated of a ROM gives one ROM at most.
 use Rattle.std.proofs.Common.{◌≡◌, ◌<◌, ◌+◌, ◌-◌, ◌*◌, ◌/◌, ℕ, List, get_or, length, Some, ⊎_elim, sym, ap, ◌∙◌, arith, refl}
 use Rattle.std.proofs.lemmas.Bool.{cases_lt}
 use Rattle.std.proofs.lemmas.List.{ext_get_or}

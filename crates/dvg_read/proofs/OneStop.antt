@@ -3,7 +3,7 @@ use Rattle.std.proofs.Common.{◌≡◌, ◌<◌, ℕ, List, [], ◌∷◌, ◌+
 use Rattle.dvg_frame.specs.declared.op.OpKind.{OpKind}
 use Rattle.dvg_read.specs.declared.fault.TextFault.{TextFault}
 use Rattle.dvg_read.specs.declared.fault.TextFault.TheVariants.{TooLong, Syntax, Full}
-use Rattle.dvg_read.specs.Texts.{told}
+use Rattle.dvg_read.specs.Texts.{unpassed}
 use Rattle.dvg_read.specs.RomTexts.{RomText}
 use Rattle.dvg_read.specs.DraftTexts.{Denotes, HasDraftFault, IsFineDraft, DraftMeetsFull, DraftMeetsSyntax, SpellsDraft}
 use Rattle.dvg_read.proofs.FirstStop.{StopsAt, never_stops, one_stop, too_short}
@@ -24,7 +24,7 @@ same_stop a b = one_stop IsFineDraft fine_front a b
 not_both : {text : List ℕ} {m n : ℕ} → DraftMeetsSyntax text m → DraftMeetsFull text n → ⊥
 not_both s f =
     let same = same_stop (syntax_stops s) (full_stops f) in
-    s.wrong f.rom f.ops (subst (λ line. SpellsDraft f.rom f.ops (told s.before ++ line ∷ [])) (sym same.1) (subst (λ before. SpellsDraft f.rom f.ops (told before ++ f.line ∷ [])) (sym same.0) f.right))
+    s.wrong f.rom f.ops (subst (λ line. SpellsDraft f.rom f.ops (unpassed s.before ++ line ∷ [])) (sym same.1) (subst (λ before. SpellsDraft f.rom f.ops (unpassed before ++ f.line ∷ [])) (sym same.0) f.right))
 
 -- a text has one fault at most
 pub one_text_fault : (text : List ℕ) (one other : TextFault) → HasDraftFault text one → HasDraftFault text other → other ≡ one

@@ -4,7 +4,7 @@ use Rattle.dvg_frame.specs.declared.op.OpKind.{OpKind}
 use Rattle.dvg_log.specs.Events.{Happening}
 use Rattle.dvg_read.specs.declared.fault.TextFault.{TextFault}
 use Rattle.dvg_read.specs.declared.fault.TextFault.TheVariants.{TooLong, Syntax, Full, Many, Unended}
-use Rattle.dvg_read.specs.Texts.{lines, told}
+use Rattle.dvg_read.specs.Texts.{lines, unpassed}
 use Rattle.dvg_read.specs.RomTexts.{RomText}
 use Rattle.dvg_read.specs.TraceTexts.{DenotesTrace, EndsInside, HasTraceFault, IsFineTrace, TraceMeetsFull, MeetsMany, TraceMeetsSyntax, SpellsTrace}
 use Rattle.dvg_read.proofs.FirstStop.{StopsAt, never_stops, one_stop, too_short}
@@ -37,10 +37,10 @@ same_stop a b = one_stop IsFineTrace fine_front a b
 
 -- what is spelled up to one line that stops the text is spelled up to another
 moved : {text : List ℕ} {m n : ℕ} {rom : RomText} {events : List Happening} {opened : Option (List OpKind)} (a : StopsAt IsFineTrace text m) (b : StopsAt IsFineTrace text n)
-    → SpellsTrace rom events opened (told b.before ++ b.line ∷ []) → SpellsTrace rom events opened (told a.before ++ a.line ∷ [])
+    → SpellsTrace rom events opened (unpassed b.before ++ b.line ∷ []) → SpellsTrace rom events opened (unpassed a.before ++ a.line ∷ [])
 moved {rom = rom} {events = events} {opened = opened} a b right =
     let same = same_stop a b in
-    subst (λ line. SpellsTrace rom events opened (told a.before ++ line ∷ [])) (sym same.1) (subst (λ before. SpellsTrace rom events opened (told before ++ b.line ∷ [])) (sym same.0) right)
+    subst (λ line. SpellsTrace rom events opened (unpassed a.before ++ line ∷ [])) (sym same.1) (subst (λ before. SpellsTrace rom events opened (unpassed before ++ b.line ∷ [])) (sym same.0) right)
 
 not_full : {text : List ℕ} {m n : ℕ} → TraceMeetsSyntax text m → TraceMeetsFull text n → ⊥
 not_full s f = s.wrong f.rom f.events (Some f.F) (moved (syntax_stops s) (full_stops f) f.right)
@@ -52,10 +52,10 @@ full_or_many : {text : List ℕ} {m n : ℕ} → TraceMeetsFull text m → Meets
 full_or_many a b = let same = (one_spelled_trace a.right (moved (full_stops a) (many_stops b) b.right)).2 in absurd cc
 
 -- no line stops a text whose lines are without fault
-never_at_fault : {text : List ℕ} {n : ℕ} → IsFineTrace (told (lines text)) → StopsAt IsFineTrace text n → ⊥
+never_at_fault : {text : List ℕ} {n : ℕ} → IsFineTrace (unpassed (lines text)) → StopsAt IsFineTrace text n → ⊥
 never_at_fault fine s = never_stops IsFineTrace fine_front fine s
 
-ends_fine : {text : List ℕ} → EndsInside text → IsFineTrace (told (lines text))
+ends_fine : {text : List ℕ} → EndsInside text → IsFineTrace (unpassed (lines text))
 ends_fine e = record { rom = e.rom; events = e.events; opened = Some e.F; spelled = e.spelled; fits = e.fits }
 
 -- a text of a trace has one fault at most
@@ -92,7 +92,7 @@ one_trace_fault text (Many m) _ a b = absurd b
 one_trace_fault text Unended _ a b = absurd b
 one_trace_fault text _ _ a b = absurd a
 
-denotes_fine : {text : List ℕ} {rom : RomText} {events : List Happening} → DenotesTrace text rom events → IsFineTrace (told (lines text))
+denotes_fine : {text : List ℕ} {rom : RomText} {events : List Happening} → DenotesTrace text rom events → IsFineTrace (unpassed (lines text))
 denotes_fine {rom = rom} {events = events} d = record { rom = rom; events = events; opened = None; spelled = d.spelled; fits = d.fits }
 
 -- a text that denotes events has no fault

@@ -6,10 +6,10 @@ use Rattle.std.proofs.lemmas.List.Elements.{filter-append}
 use Rattle.std.proofs.lemmas.Bool.{cases_lt}
 use Rattle.dvg_read.specs.DraftReading.{Gives}
 use Rattle.dvg_frame.specs.declared.op.OpKind.{OpKind}
-use Rattle.dvg_read.specs.Texts.{is_passed, lines, told}
+use Rattle.dvg_read.specs.Texts.{is_passed, lines, unpassed}
 use Rattle.dvg_read.specs.OpLines.{IsOpLine}
 use Rattle.dvg_read.specs.RomTexts.{RomText, unmapped}
-use Rattle.dvg_read.specs.RomReading.{HoldsRom, TellsMore, TellsRom, untold}
+use Rattle.dvg_read.specs.RomReading.{HoldsRom, TellsMore, TellsRom, unstated}
 use Rattle.dvg_read.specs.declared.rom_text.RomReading.{RomReading}
 use Rattle.dvg_read.specs.FirstFaults.{IsShort, Reaches}
 use Rattle.dvg_read.specs.DraftTexts.{IsFineDraft, DraftMeetsFull, DraftMeetsSyntax, SpellsDraft}
@@ -17,11 +17,11 @@ use Rattle.dvg_read.proofs.DraftSteps.{Goes, does, goes_on, says_more, so_far, t
 
 -- ---- the lines of a text, up to some line
 
-pub told_more : (ls : List (List ℕ)) (line : List ℕ) → is_passed line ≡ true → told (ls ++ line ∷ []) ≡ told ls
-told_more ls line e = filter-append _ ls (line ∷ []) ∙ rw e (append-nil _)
+pub unpassed_more : (ls : List (List ℕ)) (line : List ℕ) → is_passed line ≡ true → unpassed (ls ++ line ∷ []) ≡ unpassed ls
+unpassed_more ls line e = filter-append _ ls (line ∷ []) ∙ rw e (append-nil _)
 
-pub told_one : (ls : List (List ℕ)) (line : List ℕ) → is_passed line ≡ false → told (ls ++ line ∷ []) ≡ told ls ++ line ∷ []
-told_one ls line e = filter-append _ ls (line ∷ []) ∙ rw e
+pub unpassed_one : (ls : List (List ℕ)) (line : List ℕ) → is_passed line ≡ false → unpassed (ls ++ line ∷ []) ≡ unpassed ls ++ line ∷ []
+unpassed_one ls line e = filter-append _ ls (line ∷ []) ∙ rw e
 
 -- n lines were read, which spell these operations and a ROM that the reader holds; those are left
 pub record ReadTo (text : List ℕ) (left : List (List ℕ)) (n : ℕ) (ops : List OpKind) (held : RomReading) : Type 0 where
@@ -29,7 +29,7 @@ pub record ReadTo (text : List ℕ) (left : List (List ℕ)) (n : ℕ) (ops : Li
   pub cut : lines text ≡ before ++ left
   pub number : n ≡ length before
   pub rom : RomText
-  pub spelled : SpellsDraft rom ops (told before)
+  pub spelled : SpellsDraft rom ops (unpassed before)
   pub holds : HoldsRom rom held
 
 pub cut_on : (text : List ℕ) (before left rest : List (List ℕ)) (line : List ℕ) → lines text ≡ before ++ left → left ≡ line ∷ rest → lines text ≡ (before ++ line ∷ []) ++ rest
@@ -51,7 +51,7 @@ module _ (text : List ℕ) (left rest : List (List ℕ)) (n : ℕ) (ops : List O
     cut = cut_on text r.before left rest line r.cut next;
     number = count_on n r.before line r.number;
     rom = r.rom;
-    spelled = subst (SpellsDraft r.rom ops) (sym (told_more r.before line e)) r.spelled;
+    spelled = subst (SpellsDraft r.rom ops) (sym (unpassed_more r.before line e)) r.spelled;
     holds = r.holds;
   }
 
@@ -62,7 +62,7 @@ module _ (text : List ℕ) (left rest : List (List ℕ)) (n : ℕ) (ops : List O
     cut = cut_on text r.before left rest line r.cut next;
     number = count_on n r.before line r.number;
     rom = rom;
-    spelled = subst (SpellsDraft rom F) (sym (told_one r.before line e)) (says_more (so_far r.rom ops) (so_far rom F) line (told r.before) r.spelled step);
+    spelled = subst (SpellsDraft rom F) (sym (unpassed_one r.before line e)) (says_more (so_far r.rom ops) (so_far rom F) line (unpassed r.before) r.spelled step);
     holds = holds;
   }
 
@@ -84,7 +84,7 @@ module _ (text : List ℕ) (left rest : List (List ℕ)) (n : ℕ) (ops : List O
       cut = r.cut ∙ ap (λ l. r.before ++ l) next;
       number = ap (λ k. k + 1) r.number;
       fine = record { rom = r.rom; ops = ops; spelled = r.spelled; count = count };
-      is_told = e;
+      is_unpassed = e;
     }
 
     -- a line that doesn't go on
@@ -93,7 +93,7 @@ module _ (text : List ℕ) (left rest : List (List ℕ)) (n : ℕ) (ops : List O
       before = r.before;
       line = line;
       reaches = reaches;
-      wrong = λ rom F s. no_way (λ now none. no_rom none r.rom now r.holds) no_op (goes_on (so_far r.rom ops) (so_far rom F) (told r.before) line r.spelled s);
+      wrong = λ rom F s. no_way (λ now none. no_rom none r.rom now r.holds) no_op (goes_on (so_far r.rom ops) (so_far rom F) (unpassed r.before) line r.spelled s);
     }
 
     -- a line of an operation too many
@@ -104,16 +104,16 @@ module _ (text : List ℕ) (left rest : List (List ℕ)) (n : ℕ) (ops : List O
       reaches = reaches;
       rom = r.rom;
       ops = ops ++ op ∷ [];
-      right = says_more (so_far r.rom ops) (so_far r.rom (ops ++ op ∷ [])) line (told r.before) r.spelled (does op h);
+      right = says_more (so_far r.rom ops) (so_far r.rom (ops ++ op ∷ [])) line (unpassed r.before) r.spelled (does op h);
       over = omega (arith, full, length-append ops (op ∷ []));
     }
 
-pub begins : (text : List ℕ) (left : List (List ℕ)) (ops : List OpKind) (held : RomReading) → left ≡ lines text → ops ≡ [] → HoldsRom untold held → ReadTo text left 0 ops held
+pub begins : (text : List ℕ) (left : List (List ℕ)) (ops : List OpKind) (held : RomReading) → left ≡ lines text → ops ≡ [] → HoldsRom unstated held → ReadTo text left 0 ops held
 begins text left ops held all none holds = record {
   before = [];
   cut = sym all;
   number = refl;
-  rom = untold;
+  rom = unstated;
   spelled = rw none (record { front = []; rest = []; cut = refl; head = unmapped tt; draft = tt });
   holds = holds;
 }
@@ -122,7 +122,7 @@ begins text left ops held all none holds = record {
 pub gives_all : (text : List ℕ) (left : List (List ℕ)) (n : ℕ) (ops : List OpKind) (held : RomReading) (bytes : List ℕ) → left ≡ [] → ReadTo text left n ops held → IsShort text → length ops ≤ 511 → bytes ≡ held.bytes.items → Gives text ops bytes
 gives_all text left n ops held bytes none r short count is = record {
   rom = r.rom;
-  denotes = record { short = short; spelled = subst (λ ls. SpellsDraft r.rom ops (told ls)) (sym (r.cut ∙ ap (λ l. r.before ++ l) none ∙ append-nil r.before)) r.spelled; count = count };
+  denotes = record { short = short; spelled = subst (λ ls. SpellsDraft r.rom ops (unpassed ls)) (sym (r.cut ∙ ap (λ l. r.before ++ l) none ∙ append-nil r.before)) r.spelled; count = count };
   bytes = rw is r.holds.is_rom;
 }
 

@@ -5,14 +5,14 @@ use Rattle.dvg_frame.specs.declared.op.OpKind.{OpKind}
 use Rattle.dvg_log.specs.Events.{Happening}
 use Rattle.dvg_read.specs.declared.trace_text.LineFault.{LineFault}
 use Rattle.dvg_read.specs.declared.trace_text.LineFault.TheVariants.{Syntax, Full, Many, Memory}
-use Rattle.dvg_read.specs.Texts.{is_passed, lines, told}
+use Rattle.dvg_read.specs.Texts.{is_passed, lines, unpassed}
 use Rattle.dvg_read.specs.RomTexts.{RomText}
 use Rattle.dvg_read.specs.declared.rom_text.RomReading.{RomReading}
-use Rattle.dvg_read.specs.RomReading.{HoldsRom, untold}
+use Rattle.dvg_read.specs.RomReading.{HoldsRom, unstated}
 use Rattle.dvg_read.specs.FirstFaults.{IsShort, Reaches}
 use Rattle.dvg_read.specs.TraceTexts.{EndsInside, FitsTrace, IsFineTrace, SpellsTrace}
 use Rattle.dvg_read.specs.TraceGives.{GivesTrace, StopsLine, StopsReading, TakesLine, fault_at}
-use Rattle.dvg_read.proofs.ReadTo.{count_on, cut_on, lines_length, told_more, told_one}
+use Rattle.dvg_read.proofs.ReadTo.{count_on, cut_on, lines_length, unpassed_more, unpassed_one}
 use Rattle.dvg_read.proofs.TraceSteps.{goes_on, says_more, says_nothing, so_far}
 
 -- n lines were read, which spell these events and a ROM that the reader holds; those are left
@@ -21,11 +21,11 @@ pub record ReadTrace (text : List ℕ) (left : List (List ℕ)) (n : ℕ) (event
   pub cut : lines text ≡ before ++ left
   pub number : n ≡ length before
   pub rom : RomText
-  pub spelled : SpellsTrace rom events opened (told before)
+  pub spelled : SpellsTrace rom events opened (unpassed before)
   pub holds : HoldsRom rom held
 
-pub begins : (text : List ℕ) (left : List (List ℕ)) (events : List Happening) (opened : Option (List OpKind)) (held : RomReading) → left ≡ lines text → events ≡ [] → opened ≡ None → HoldsRom untold held → ReadTrace text left 0 events opened held
-begins text left events opened held all none closed holds = record { before = []; cut = sym all; number = refl; rom = untold; spelled = rw (none, closed) says_nothing; holds = holds }
+pub begins : (text : List ℕ) (left : List (List ℕ)) (events : List Happening) (opened : Option (List OpKind)) (held : RomReading) → left ≡ lines text → events ≡ [] → opened ≡ None → HoldsRom unstated held → ReadTrace text left 0 events opened held
+begins text left events opened held all none closed holds = record { before = []; cut = sym all; number = refl; rom = unstated; spelled = rw (none, closed) says_nothing; holds = holds }
 
 module _ (text : List ℕ) (left rest : List (List ℕ)) (n : ℕ) (old : List Happening) (opened : Option (List OpKind)) (held : RomReading) (line : List ℕ) (next : left ≡ line ∷ rest) (r : ReadTrace text left n old opened held) where
   -- a line that is passed over
@@ -35,7 +35,7 @@ module _ (text : List ℕ) (left rest : List (List ℕ)) (n : ℕ) (old : List H
     cut = cut_on text r.before left rest line r.cut next;
     number = count_on n r.before line r.number;
     rom = r.rom;
-    spelled = subst (SpellsTrace r.rom old opened) (sym (told_more r.before line is)) r.spelled;
+    spelled = subst (SpellsTrace r.rom old opened) (sym (unpassed_more r.before line is)) r.spelled;
     holds = r.holds;
   }
 
@@ -46,7 +46,7 @@ module _ (text : List ℕ) (left rest : List (List ℕ)) (n : ℕ) (old : List H
     cut = cut_on text r.before left rest line r.cut next;
     number = count_on n r.before line r.number;
     rom = t.now;
-    spelled = subst (SpellsTrace t.now new kept) (sym (told_one r.before line is)) (says_more r.spelled t.takes);
+    spelled = subst (SpellsTrace t.now new kept) (sym (unpassed_one r.before line is)) (says_more r.spelled t.takes);
     holds = t.holds;
   }
 
@@ -60,7 +60,7 @@ module _ (text : List ℕ) (left rest : List (List ℕ)) (n : ℕ) (old : List H
     cut = r.cut ∙ ap (λ l. r.before ++ l) next;
     number = omega (arith, r.number);
     fine = record { rom = r.rom; events = old; opened = opened; spelled = r.spelled; fits = fits };
-    is_told = is;
+    is_unpassed = is;
   }
 
   -- a line at fault
@@ -69,7 +69,7 @@ module _ (text : List ℕ) (left rest : List (List ℕ)) (n : ℕ) (old : List H
     before = r.before;
     line = line;
     reaches = reaches short fits is;
-    wrong = λ rom events kept s. h r.rom rom events kept r.holds (goes_on (so_far r.rom old opened) (so_far rom events kept) (told r.before) line r.spelled s);
+    wrong = λ rom events kept s. h r.rom rom events kept r.holds (goes_on (so_far r.rom old opened) (so_far rom events kept) (unpassed r.before) line r.spelled s);
   }
   stops Full short fits is h = record {
     before = r.before;
@@ -104,14 +104,14 @@ module _ (text : List ℕ) (left rest : List (List ℕ)) (n : ℕ) (old : List H
 
 -- at the text's end
 
-all_told : (text : List ℕ) (left before : List (List ℕ)) → left ≡ [] → lines text ≡ before ++ left → told before ≡ told (lines text)
-all_told text left before none cut = ap told (sym (cut ∙ ap (λ l. before ++ l) none ∙ append-nil before))
+all_unpassed : (text : List ℕ) (left before : List (List ℕ)) → left ≡ [] → lines text ≡ before ++ left → unpassed before ≡ unpassed (lines text)
+all_unpassed text left before none cut = ap unpassed (sym (cut ∙ ap (λ l. before ++ l) none ∙ append-nil before))
 
 pub gives_all : (text : List ℕ) (left : List (List ℕ)) (n : ℕ) (events : List Happening) (opened : Option (List OpKind)) (held : RomReading) → left ≡ [] → ReadTrace text left n events opened held → IsShort text → FitsTrace events opened → opened ≡ None → (bytes : List ℕ) → bytes ≡ held.bytes.items
     → GivesTrace text events bytes
 gives_all text left n events opened held none r short fits closed bytes is = record {
   rom = r.rom;
-  denotes = record { short = short; spelled = subst (λ kept. SpellsTrace r.rom events kept (told (lines text))) closed (subst (SpellsTrace r.rom events opened) (all_told text left r.before none r.cut) r.spelled); fits = subst (FitsTrace events) closed fits };
+  denotes = record { short = short; spelled = subst (λ kept. SpellsTrace r.rom events kept (unpassed (lines text))) closed (subst (SpellsTrace r.rom events opened) (all_unpassed text left r.before none r.cut) r.spelled); fits = subst (FitsTrace events) closed fits };
   bytes = rw is r.holds.is_rom;
 }
 
@@ -122,7 +122,7 @@ ends_inside text left n events opened held F none r short fits inside = record {
   rom = r.rom;
   events = events;
   F = F;
-  spelled = subst (λ kept. SpellsTrace r.rom events kept (told (lines text))) inside (subst (SpellsTrace r.rom events opened) (all_told text left r.before none r.cut) r.spelled);
+  spelled = subst (λ kept. SpellsTrace r.rom events kept (unpassed (lines text))) inside (subst (SpellsTrace r.rom events opened) (all_unpassed text left r.before none r.cut) r.spelled);
   fits = subst (FitsTrace events) inside fits;
 }
 

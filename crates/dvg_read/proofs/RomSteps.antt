@@ -2,15 +2,15 @@
 use Rattle.std.proofs.Common.{◌≡◌, ℕ, List, [], ◌∷◌, ◌++◌, refl, sym, ap, subst, ◌∙◌, append_assoc, append-nil, arith, codes, Option, Some, None}
 use Rattle.std.specs.List.{AllZip}
 use Rattle.dvg_read.specs.Texts.{IsHex, parts}
-use Rattle.dvg_read.specs.RomTexts.{IsMapLine, IsRomLine, RomLine, RomText, SpellsRom, first_told, large, mapped, small, unmapped}
-use Rattle.dvg_read.specs.RomReading.{SpellsWords, TellsRom, gives_words, tells_map, untold}
+use Rattle.dvg_read.specs.RomTexts.{IsMapLine, IsRomLine, RomLine, RomText, SpellsRom, first_stated, large, mapped, small, unmapped}
+use Rattle.dvg_read.specs.RomReading.{SpellsWords, TellsRom, gives_words, tells_map, unstated}
 use Rattle.dvg_read.proofs.GivenWords.{same_words}
 use Rattle.dvg_read.proofs.Steps.{Leads, here, on}
 use Rattle.dvg_read.proofs.Zips.{zip_push}
 
--- what is told of the ROM
-abbrev pub told_rom : Option ℕ → List RomLine → RomText
-told_rom map given = record { map = map; given = given }
+-- what is stated of the ROM
+abbrev pub stated_rom : Option ℕ → List RomLine → RomText
+stated_rom map given = record { map = map; given = given }
 
 -- one more line
 
@@ -18,7 +18,7 @@ no_lines : (first : ℕ) (ls : List (List ℕ)) → AllZip (IsRomLine first) [] 
 no_lines first [] h = refl
 no_lines first (l ∷ ls) h = absurd h
 
-map_alone : {first : ℕ} {l : List ℕ} (ls : List (List ℕ)) → ls ≡ [] → IsMapLine first l → SpellsRom (told_rom (Some first) []) (ls ++ l ∷ [])
+map_alone : {first : ℕ} {l : List ℕ} (ls : List (List ℕ)) → ls ≡ [] → IsMapLine first l → SpellsRom (stated_rom (Some first) []) (ls ++ l ∷ [])
 map_alone [] none m = mapped m tt
 map_alone (x ∷ ls) none m = absurd cc
 
@@ -29,20 +29,20 @@ tells_more (mapped {first = first} {ls = ls} m h) (gives_words {before = given} 
 
 -- all lines in turn
 
-words_lead : (map : Option ℕ) (old given : List RomLine) (ls : List (List ℕ)) → AllZip (IsRomLine (first_told map)) given ls → Leads TellsRom (told_rom map old) ls (told_rom map (old ++ given))
-words_lead map old [] [] h = subst (λ k. Leads TellsRom (told_rom map old) [] (told_rom map k)) (sym (append-nil old)) here
+words_lead : (map : Option ℕ) (old given : List RomLine) (ls : List (List ℕ)) → AllZip (IsRomLine (first_stated map)) given ls → Leads TellsRom (stated_rom map old) ls (stated_rom map (old ++ given))
+words_lead map old [] [] h = subst (λ k. Leads TellsRom (stated_rom map old) [] (stated_rom map k)) (sym (append-nil old)) here
 words_lead map old [] (l ∷ ls) h = absurd h
 words_lead map old (g ∷ given) [] h = absurd h
 words_lead map old (g ∷ given) (l ∷ ls) h =
-    let first : TellsRom (told_rom map old) l (told_rom map (old ++ g ∷ [])) = gives_words g h.0 in
+    let first : TellsRom (stated_rom map old) l (stated_rom map (old ++ g ∷ [])) = gives_words g h.0 in
     let rest = words_lead map (old ++ g ∷ []) given ls h.1 in
-    on first (subst (λ k. Leads TellsRom (told_rom map (old ++ g ∷ [])) ls (told_rom map k)) (append_assoc old (g ∷ []) given) rest)
+    on first (subst (λ k. Leads TellsRom (stated_rom map (old ++ g ∷ [])) ls (stated_rom map k)) (append_assoc old (g ∷ []) given) rest)
 
-pub rom_leads : {rom : RomText} {ls : List (List ℕ)} → SpellsRom rom ls → Leads TellsRom untold ls rom
+pub rom_leads : {rom : RomText} {ls : List (List ℕ)} → SpellsRom rom ls → Leads TellsRom unstated ls rom
 rom_leads (unmapped {given = given} {ls = ls} h) = words_lead None [] given ls h
 rom_leads (mapped {first = first} {given = given} {line = l} {ls = ls} m h) =
-    let told : TellsRom untold l (told_rom (Some first) []) = tells_map m in
-    on told (words_lead (Some first) [] given ls h)
+    let stated : TellsRom unstated l (stated_rom (Some first) []) = tells_map m in
+    on stated (words_lead (Some first) [] given ls h)
 
 -- no line goes on in two ways
 
@@ -82,13 +82,13 @@ map_is_no_rom rest more e = let is : 109 ≡ 114 = ap letter e in absurd (omega 
 map_gives_no_words : {first low : ℕ} {l : List ℕ} (given : RomLine) → IsMapLine first l → IsRomLine low given l → ⊥
 map_gives_no_words given m h = let (rest, is) = map_parts m in map_is_no_rom rest _ (sym is ∙ h.split)
 
-pub one_told : (rom now also : RomText) (l : List ℕ) → TellsRom rom l now → TellsRom rom l also → also ≡ now
-one_told rom now also l (tells_map m) (tells_map k) = ap (λ first. told_rom (Some first) []) (one_map m k)
-one_told rom now also l (tells_map m) (gives_words g h) = absurd (map_gives_no_words g m h)
-one_told rom now also l (gives_words g h) (tells_map m) = absurd (map_gives_no_words g m h)
-one_told rom now also l (gives_words {map = first} {before = before} g h) (gives_words k m) = ap (λ g. told_rom first (before ++ g ∷ [])) (one_rom_line (first_told first) g k l h m)
+pub one_stated : (rom now also : RomText) (l : List ℕ) → TellsRom rom l now → TellsRom rom l also → also ≡ now
+one_stated rom now also l (tells_map m) (tells_map k) = ap (λ first. stated_rom (Some first) []) (one_map m k)
+one_stated rom now also l (tells_map m) (gives_words g h) = absurd (map_gives_no_words g m h)
+one_stated rom now also l (gives_words g h) (tells_map m) = absurd (map_gives_no_words g m h)
+one_stated rom now also l (gives_words {map = first} {before = before} g h) (gives_words k m) = ap (λ g. stated_rom first (before ++ g ∷ [])) (one_rom_line (first_stated first) g k l h m)
 
 -- a line that tells of the ROM is named so
-pub told_by_name : {rom now : RomText} {l : List ℕ} (P : List (List ℕ) → Type 0) → P (parts l) → ((rest : List (List ℕ)) → P (codes "map" ∷ rest) → ⊥) → ((rest : List (List ℕ)) → P (codes "rom" ∷ rest) → ⊥) → TellsRom rom l now → ⊥
-told_by_name P p no_map no_rom (tells_map m) = let (rest, is) = map_parts m in no_map rest (subst P is p)
-told_by_name P p no_map no_rom (gives_words g h) = no_rom _ (subst P h.split p)
+pub stated_by_name : {rom now : RomText} {l : List ℕ} (P : List (List ℕ) → Type 0) → P (parts l) → ((rest : List (List ℕ)) → P (codes "map" ∷ rest) → ⊥) → ((rest : List (List ℕ)) → P (codes "rom" ∷ rest) → ⊥) → TellsRom rom l now → ⊥
+stated_by_name P p no_map no_rom (tells_map m) = let (rest, is) = map_parts m in no_map rest (subst P is p)
+stated_by_name P p no_map no_rom (gives_words g h) = no_rom _ (subst P h.split p)

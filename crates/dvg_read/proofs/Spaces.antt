@@ -48,6 +48,6 @@ pub one_operand : {events : List Happening} {name operand : List ℕ} → EventP
 one_operand {operand = operand} h = one_operand_of operand (parts operand) refl h
 
 -- so what is read of a name and an operand is what the whole line spells
-pub found_whole : (name operand : List ℕ) (told : Option EventLine) → IfSome told (λ told. EventParts (happenings told) (name ∷ operand ∷ [])) → IfSome told (λ told. EventParts (happenings told) (name ∷ parts operand))
+pub found_whole : (name operand : List ℕ) (repeated : Option EventLine) → IfSome repeated (λ repeated. EventParts (happenings repeated) (name ∷ operand ∷ [])) → IfSome repeated (λ repeated. EventParts (happenings repeated) (name ∷ parts operand))
 found_whole name operand None h = h
-found_whole name operand (Some told) h = subst (λ ps. EventParts (happenings told) (name ∷ ps)) (sym (operand_alone h)) h
+found_whole name operand (Some repeated) h = subst (λ ps. EventParts (happenings repeated) (name ∷ ps)) (sym (operand_alone h)) h

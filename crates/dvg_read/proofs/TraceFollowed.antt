@@ -14,7 +14,7 @@ use Rattle.dvg_read.specs.Texts.{is_passed, lines, parts}
 use Rattle.dvg_read.specs.OpLines.{IsOpLine}
 use Rattle.dvg_read.specs.RomTexts.{RomText}
 use Rattle.dvg_read.specs.declared.rom_text.RomReading.{RomReading}
-use Rattle.dvg_read.specs.RomReading.{HoldsRom, TellsMore, untold}
+use Rattle.dvg_read.specs.RomReading.{HoldsRom, TellsMore, unstated}
 use Rattle.dvg_read.specs.TraceTexts.{EndsInside, EventParts, FitsDraft, FitsTrace}
 use Rattle.dvg_read.specs.TraceReading.{events}
 use Rattle.dvg_read.specs.TraceGives.{StopsLine, StopsOperation, TakesLine, fault_at}
@@ -160,7 +160,7 @@ pub record FollowedTo (text : List ℕ) (left : List (List ℕ)) (n : ℕ) (foll
   pub stands : StandsFor events following
 
 pub starts : (text : List ℕ) (left : List (List ℕ)) (following : Following) → left ≡ lines text
-    → following.count ≡ 0 → following.is_open ≡ false → HoldsRom untold following.rom
+    → following.count ≡ 0 → following.is_open ≡ false → HoldsRom unstated following.rom
     → FollowedTo text left 0 following
 starts text left following all none closed holds =
     let outside = none_opened following.is_open following.draft closed in

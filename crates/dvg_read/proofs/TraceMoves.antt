@@ -76,8 +76,8 @@ pub once_more : (old before now : List Happening) (event : Happening) (times : �
 once_more old before now event times run is = rw (is, run, add-one times) (append_assoc old (replicate times event) (event ∷ []) ∙ ap (λ l. old ++ l) (run_more event times))
 
 -- no number says nothing
-pub no_resets : (numbers : List (Option ℕ)) (told : List Happening) → numbers ≡ replicate 256 None → AreResets numbers told
-no_resets numbers told e = record { found = λ byte n at. absurd (none-some n (sym (ap (λ numbers. get_or numbers byte None) e ∙ none_there 256 byte) ∙ at)) }
+pub no_resets : (numbers : List (Option ℕ)) (happened : List Happening) → numbers ≡ replicate 256 None → AreResets numbers happened
+no_resets numbers happened e = record { found = λ byte n at. absurd (none-some n (sym (ap (λ numbers. get_or numbers byte None) e ∙ none_there 256 byte) ∙ at)) }
 
 -- more events change none before them
 pub resets_stay : (numbers : List (Option ℕ)) (old more new : List Happening) → new ≡ old ++ more → AreResets numbers old → AreResets numbers new

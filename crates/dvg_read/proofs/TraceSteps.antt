@@ -9,11 +9,11 @@ use Rattle.dvg_log.specs.declared.event.Event.TheVariants.{Offer}
 use Rattle.dvg_read.specs.Texts.{parts}
 use Rattle.dvg_read.specs.OpLines.{IsOpLine}
 use Rattle.dvg_read.specs.RomTexts.{RomText, unmapped}
-use Rattle.dvg_read.specs.RomReading.{TellsRom, untold}
+use Rattle.dvg_read.specs.RomReading.{TellsRom, unstated}
 use Rattle.dvg_read.specs.TraceTexts.{Begun, EventParts, FitsTrace, FitsDraft, IsFineTrace, SpellsTrace, Whole, alone, inside, nothing, offer, whole}
 use Rattle.dvg_read.specs.TraceReading.{Goes, SoFar, Takes, does, ends, events, opens, tells}
 use Rattle.dvg_read.proofs.OneOperation.{one_operation}
-use Rattle.dvg_read.proofs.RomSteps.{one_told, rom_leads, tells_more, told_by_name}
+use Rattle.dvg_read.proofs.RomSteps.{one_stated, rom_leads, stated_by_name, tells_more}
 use Rattle.dvg_read.proofs.Steps.{Leads, front_says, further, here, last_line, on, one_saying}
 use Rattle.dvg_read.proofs.Zips.{zip_push}
 use Rattle.dvg_read.proofs.EventRows.{no_map, no_offer, no_rom, one_events, some_events}
@@ -27,7 +27,7 @@ Says s ls = SpellsTrace s.rom s.events s.opened ls
 
 -- before the first line nothing was said
 abbrev pub start : SoFar
-start = record { rom = untold; events = []; opened = None }
+start = record { rom = unstated; events = []; opened = None }
 
 -- one more line
 
@@ -138,7 +138,7 @@ begun_leads rom (inside {events = old} {ls = ls} F ops w all) = further Goes _ _
 -- what lines spell, they lead to
 leads_to : (s : SoFar) (ls : List (List ℕ)) → Says s ls → Leads Goes start ls s
 leads_to s ls p =
-    let head = head_leads untold s.rom p.front (rom_leads p.head) in
+    let head = head_leads unstated s.rom p.front (rom_leads p.head) in
     subst (λ k. Leads Goes start k s) (sym p.cut) (further Goes start (so_far s.rom [] None) s p.front p.rest head (begun_leads s.rom p.begun))
 
 -- no line goes on in two ways
@@ -156,7 +156,7 @@ rom_is_no_offer : (rest : List (List ℕ)) → codes "rom" ∷ rest ≡ codes "o
 rom_is_no_offer rest e = absurd cc
 
 offer_tells_nothing : {rom now : RomText} → TellsRom rom (codes "offer") now → ⊥
-offer_tells_nothing t = told_by_name (λ ps. ps ≡ codes "offer" ∷ []) parts_offer map_is_no_offer rom_is_no_offer t
+offer_tells_nothing t = stated_by_name (λ ps. ps ≡ codes "offer" ∷ []) parts_offer map_is_no_offer rom_is_no_offer t
 
 no_events_map : {more : List Happening} (rest : List (List ℕ)) → EventParts more (codes "map" ∷ rest) → ⊥
 no_events_map rest = no_map
@@ -165,14 +165,14 @@ no_events_rom : {more : List Happening} (rest : List (List ℕ)) → EventParts 
 no_events_rom rest = no_rom
 
 tells_no_events : {rom now : RomText} {more : List Happening} {l : List ℕ} → TellsRom rom l now → EventParts more (parts l) → ⊥
-tells_no_events {more = more} t p = told_by_name (EventParts more) p no_events_map no_events_rom t
+tells_no_events {more = more} t p = stated_by_name (EventParts more) p no_events_map no_events_rom t
 
 end_is_no_op : (op : OpKind) → IsOpLine op (codes "end") → ⊥
 end_is_no_op op h = elim h [ ]
 
 one_way : {rom now also : RomText} {old new next : List Happening} {opened left kept : Option (List OpKind)} {l : List ℕ}
     → Takes rom old opened l now new left → Takes rom old opened l also next kept → so_far also next kept ≡ so_far now new left
-one_way (tells {rom = rom} {now = now} {line = l} g) (tells {now = also} h) = ap (λ rom. so_far rom [] None) (one_told rom now also l g h)
+one_way (tells {rom = rom} {now = now} {line = l} g) (tells {now = also} h) = ap (λ rom. so_far rom [] None) (one_stated rom now also l g h)
 one_way (tells g) (events p) = absurd (tells_no_events g p)
 one_way (tells g) opens = absurd (offer_tells_nothing g)
 one_way (events p) (tells g) = absurd (tells_no_events g p)

@@ -4,7 +4,7 @@ use Rattle.std.specs.List.{AllZip}
 use Rattle.dvg_frame.specs.declared.op.OpKind.{OpKind}
 use Rattle.dvg_read.specs.declared.fault.TextFault.{TextFault}
 use Rattle.dvg_read.specs.declared.fault.TextFault.TheVariants.{TooLong, Syntax, Full}
-use Rattle.dvg_read.specs.Texts.{lines, told}
+use Rattle.dvg_read.specs.Texts.{lines, unpassed}
 use Rattle.dvg_read.specs.FirstFaults.{IsShort, Reaches}
 use Rattle.dvg_read.specs.OpLines.{IsOpLine}
 use Rattle.dvg_read.specs.RomTexts.{RomText, SpellsRom}
@@ -20,7 +20,7 @@ pub record SpellsDraft (rom : RomText) (ops : List OpKind) (ls : List (List ℕ)
 -- the text denotes this ROM and this draft: what those of its lines spell that aren't passed over
 pub record Denotes (text : List ℕ) (rom : RomText) (ops : List OpKind) : Type 0 where
   pub short : IsShort text
-  pub spelled : SpellsDraft rom ops (told (lines text))
+  pub spelled : SpellsDraft rom ops (unpassed (lines text))
   pub count : length ops ≤ 511
 
 -- lines that spell a ROM and no more operations than a draft holds
@@ -35,7 +35,7 @@ pub record DraftMeetsSyntax (text : List ℕ) (n : ℕ) : Type 0 where
   pub before : List (List ℕ)
   pub line : List ℕ
   pub reaches : Reaches IsFineDraft text n before line
-  pub wrong : (rom : RomText) (ops : List OpKind) → ¬ SpellsDraft rom ops (told before ++ line ∷ [])
+  pub wrong : (rom : RomText) (ops : List OpKind) → ¬ SpellsDraft rom ops (unpassed before ++ line ∷ [])
 
 -- line n is that of operation number 511, which no draft can hold
 pub record DraftMeetsFull (text : List ℕ) (n : ℕ) : Type 0 where
@@ -44,7 +44,7 @@ pub record DraftMeetsFull (text : List ℕ) (n : ℕ) : Type 0 where
   pub reaches : Reaches IsFineDraft text n before line
   pub rom : RomText
   pub ops : List OpKind
-  pub right : SpellsDraft rom ops (told before ++ line ∷ [])
+  pub right : SpellsDraft rom ops (unpassed before ++ line ∷ [])
   pub over : 511 < length ops
 
 -- the fault of a draft's text

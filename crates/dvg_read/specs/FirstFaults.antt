@@ -1,6 +1,6 @@
 -- The first line of a text at fault.
 use Rattle.std.specs.Prelude.{◌≡◌, ℕ, ◌+◌, ◌≤◌, List, ◌∷◌, ◌++◌, length, false}
-use Rattle.dvg_read.specs.Texts.{is_passed, lines, told}
+use Rattle.dvg_read.specs.Texts.{is_passed, lines, unpassed}
 
 -- the text is no longer than a text may be
 abbrev pub IsShort : List ℕ → Type 0
@@ -13,5 +13,5 @@ pub record Reaches (Fine : List (List ℕ) → Type 0) (text : List ℕ) (n : �
   pub after : List (List ℕ)
   pub cut : lines text ≡ before ++ line ∷ after
   pub number : n ≡ length before + 1
-  pub fine : Fine (told before)
-  pub is_told : is_passed line ≡ false
+  pub fine : Fine (unpassed before)
+  pub is_unpassed : is_passed line ≡ false

@@ -3,7 +3,7 @@ use Rattle.std.specs.Prelude.{◌≡◌, ◌↔◌, ℕ, ◌+◌, ◌*◌, ◌<�
 use Rattle.std.specs.List.{AllZip}
 use Rattle.dvg_code.specs.Words.{word_in}
 use Rattle.dvg_read.specs.declared.rom_text.RomReading.{RomReading}
-use Rattle.dvg_read.specs.RomTexts.{IsMapLine, IsRomLine, IsRomOf, RomLine, RomText, first_told, word_behind}
+use Rattle.dvg_read.specs.RomTexts.{IsMapLine, IsRomLine, IsRomOf, RomLine, RomText, first_stated, word_behind}
 use Rattle.dvg_read.specs.Texts.{IsHex}
 
 -- each part is a word of four hexadecimal digits
@@ -16,21 +16,21 @@ pub record IsBehind (given : RomLine) (first : ℕ) (old new : List ℕ) : Type 
   pub words : (k : ℕ) → 2 * k < length old → word_in new k ≡ word_behind given (first + k) (word_in old k)
 
 -- nothing is said of the ROM
-abbrev pub untold : RomText
-untold = record { map = None; given = [] }
+abbrev pub unstated : RomText
+unstated = record { map = None; given = [] }
 
 -- what one more line says of the ROM
 pub data TellsRom : RomText → List ℕ → RomText → Type 0 where
   tells_map : {first : ℕ} {line : List ℕ} → IsMapLine first line
-      → TellsRom untold line (record { map = Some first; given = [] })
+      → TellsRom unstated line (record { map = Some first; given = [] })
   gives_words : {map : Option ℕ} {before : List RomLine} {line : List ℕ} (given : RomLine)
-      → IsRomLine (first_told map) given line
+      → IsRomLine (first_stated map) given line
       → TellsRom (record { map = map; given = before }) line (record { map = map; given = before ++ given ∷ [] })
 
 -- the reader holds the ROM that was described, and whether anything was said of it
 pub record HoldsRom (rom : RomText) (held : RomReading) : Type 0 where
   pub is_rom : IsRomOf rom held.bytes.items
-  pub told : IsFalse held.is_told ↔ (rom ≡ untold)
+  pub stated : IsFalse held.is_stated ↔ (rom ≡ unstated)
 
 -- one more line was read, and it says something of the ROM
 pub record TellsMore (rom : RomText) (line : List ℕ) (held : RomReading) : Type 0 where

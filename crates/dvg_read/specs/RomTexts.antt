@@ -34,8 +34,8 @@ pub record RomText : Type 0 where
   pub given : List RomLine
 
 -- the word address of the ROM's first word: 800, where no line gives the map
-abbrev pub first_told : Option ℕ → ℕ
-first_told map = unwrap_or map 0x800
+abbrev pub first_stated : Option ℕ → ℕ
+first_stated map = unwrap_or map 0x800
 
 -- perhaps the line of a map, and then lines that give words
 pub data SpellsRom : RomText → List (List ℕ) → Type 0 where
@@ -58,5 +58,5 @@ word_after (given ∷ roms) a word = word_after roms a (word_behind given a word
 -- the ROM that a text gives; a word that no line gives is D000, an RTSL
 pub record IsRomOf (rom : RomText) (R : List ℕ) : Type 0 where
   pub whole : IsRom R
-  pub first : first_word R ≡ first_told rom.map
+  pub first : first_word R ≡ first_stated rom.map
   pub words : (a : ℕ) → first_word R ≤ a → a < 0xC00 → rom_word R a ≡ Some (word_after rom.given a 0xD000)

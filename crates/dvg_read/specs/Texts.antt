@@ -14,8 +14,8 @@ is_passed [] = true
 is_passed (byte ∷ bytes) = byte == 35
 
 -- the lines that are not passed over
-abbrev pub told : List (List ℕ) → List (List ℕ)
-told = filter (λ line. not (is_passed line))
+abbrev pub unpassed : List (List ℕ) → List (List ℕ)
+unpassed = filter (λ line. not (is_passed line))
 
 -- the parts of a line, which is cut at each space; 32 is the space
 abbrev pub parts : List ℕ → List (List ℕ)

@@ -16,7 +16,7 @@ use Rattle.dvg_read.specs.declared.rom_text.RomReading.{RomReading}
 use Rattle.dvg_read.specs.RomReading.{HoldsRom}
 use Rattle.dvg_read.specs.TraceReading.{Takes}
 use Rattle.dvg_read.specs.FirstFaults.{Reaches}
-use Rattle.dvg_read.specs.Texts.{told}
+use Rattle.dvg_read.specs.Texts.{unpassed}
 use Rattle.dvg_read.specs.TraceTexts.{DenotesTrace, FitsTrace, HasTraceFault, IsFineTrace, SpellsTrace}
 
 -- the text denotes these events and a ROM of these bytes
@@ -34,7 +34,7 @@ pub record BringsEvents (text : List ℕ) : Type 0 where
   pub reaches : Reaches IsFineTrace text n before line
   pub rom : RomText
   pub events : List Happening
-  pub right : SpellsTrace rom events None (told before ++ line ∷ [])
+  pub right : SpellsTrace rom events None (unpassed before ++ line ∷ [])
   pub some : 1 ≤ length events
   pub few : length events ≤ 65536
 

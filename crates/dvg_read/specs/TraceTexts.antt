@@ -8,7 +8,7 @@ use Rattle.dvg_log.specs.declared.event.Event.TheVariants.{Offer, Redraw, Tick, 
 use Rattle.dvg_log.specs.declared.event.Event.TheVariants.{ResetAll}
 use Rattle.dvg_read.specs.declared.fault.TextFault.{TextFault}
 use Rattle.dvg_read.specs.declared.fault.TextFault.TheVariants.{TooLong, Syntax, Full, Many, Unended}
-use Rattle.dvg_read.specs.Texts.{IsHex, lines, parts, told}
+use Rattle.dvg_read.specs.Texts.{IsHex, lines, parts, unpassed}
 use Rattle.dvg_read.specs.OpLines.{IsOpLine}
 use Rattle.dvg_read.specs.RomTexts.{RomText, SpellsRom}
 use Rattle.dvg_read.specs.FirstFaults.{IsShort, Reaches}
@@ -68,7 +68,7 @@ pub record FitsTrace (events : List Happening) (opened : Option (List OpKind)) :
 -- the text denotes this ROM and these events: what those of its lines spell that aren't passed over
 pub record DenotesTrace (text : List ℕ) (rom : RomText) (events : List Happening) : Type 0 where
   pub short : IsShort text
-  pub spelled : SpellsTrace rom events None (told (lines text))
+  pub spelled : SpellsTrace rom events None (unpassed (lines text))
   pub fits : FitsTrace events None
 
 -- lines that spell a ROM and events within the limits, perhaps with an offer that isn't ended
@@ -85,7 +85,7 @@ pub record TraceMeetsSyntax (text : List ℕ) (n : ℕ) : Type 0 where
   pub line : List ℕ
   pub reaches : Reaches IsFineTrace text n before line
   pub wrong : (rom : RomText) (events : List Happening) (opened : Option (List OpKind))
-      → ¬ SpellsTrace rom events opened (told before ++ line ∷ [])
+      → ¬ SpellsTrace rom events opened (unpassed before ++ line ∷ [])
 
 -- line n is that of operation number 511 of an offer, which no draft can hold
 pub record TraceMeetsFull (text : List ℕ) (n : ℕ) : Type 0 where
@@ -95,7 +95,7 @@ pub record TraceMeetsFull (text : List ℕ) (n : ℕ) : Type 0 where
   pub rom : RomText
   pub events : List Happening
   pub F : List OpKind
-  pub right : SpellsTrace rom events (Some F) (told before ++ line ∷ [])
+  pub right : SpellsTrace rom events (Some F) (unpassed before ++ line ∷ [])
   pub over : 511 < length F
 
 -- line n brings the number of events above 65,536
@@ -105,7 +105,7 @@ pub record MeetsMany (text : List ℕ) (n : ℕ) : Type 0 where
   pub reaches : Reaches IsFineTrace text n before line
   pub rom : RomText
   pub events : List Happening
-  pub right : SpellsTrace rom events None (told before ++ line ∷ [])
+  pub right : SpellsTrace rom events None (unpassed before ++ line ∷ [])
   pub over : 65536 < length events
 
 -- no line is at fault, and the text ends inside an offer
@@ -114,7 +114,7 @@ pub record EndsInside (text : List ℕ) : Type 0 where
   pub rom : RomText
   pub events : List Happening
   pub F : List OpKind
-  pub spelled : SpellsTrace rom events (Some F) (told (lines text))
+  pub spelled : SpellsTrace rom events (Some F) (unpassed (lines text))
   pub fits : FitsTrace events (Some F)
 
 -- the fault of a trace's text

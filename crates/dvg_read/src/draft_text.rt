@@ -32,7 +32,7 @@ pub struct DraftText {
 /// - `Syntax`: this line is the first that spells nothing that may stand at its place.
 /// - `Full`: this line spells operation number 511, the lines before it being without fault.
 pub fn read_draft(text: &[u8]) -> Result<DraftText, TextFault>
-    ensures gives { IfOk result (λ told. Gives text.now told.draft told.rom.items) }
+    ensures gives { IfOk result (λ drafted. Gives text.now drafted.draft drafted.rom.items) }
     ensures fault { IfErr result (λ fault. HasDraftFault text.now fault) }
 {
     if text.len() > MOST_TEXT_BYTES {

@@ -28,9 +28,9 @@ pub struct EventLine {
 /// The events that a line spells by itself. None exactly where it spells none.
 #[inline(always)]
 pub fn read_event_line(line: &[u8]) -> Option<EventLine>
-    ensures found { IfSome result (λ told. EventParts (happenings told) (parts line.now)) }
+    ensures found { IfSome result (λ repeated. EventParts (happenings repeated) (parts line.now)) }
     ensures only { (events : List Happening) → EventParts events (parts line.now)
-        → IsSomeAnd result (λ told. happenings told ≡ events) }
+        → IsSomeAnd result (λ repeated. happenings repeated ≡ events) }
 {
     if let Some(event) = event_named(line) {
         return Some(EventLine { event, count: 1 });
@@ -41,10 +41,10 @@ pub fn read_event_line(line: &[u8]) -> Option<EventLine>
 
 // The events of a name and its operand.
 fn with_operand(name: &[u8], operand: &[u8]) -> Option<EventLine>
-    ensures found { IfSome result (λ told. EventParts (happenings told)
+    ensures found { IfSome result (λ repeated. EventParts (happenings repeated)
         (name.now ∷ operand.now ∷ [])) }
     ensures only { (events : List Happening) → EventParts events (name.now ∷ operand.now ∷ [])
-        → IsSomeAnd result (λ told. happenings told ≡ events) }
+        → IsSomeAnd result (λ repeated. happenings repeated ≡ events) }
 {
     if name == b"resetall".as_slice() {
         return Some(EventLine {

@@ -2,7 +2,7 @@
 ghost use Rattle.std.specs.Prelude.{◌≡◌, ◌⊎◌, ◌+◌, ◌-◌, ◌/◌, ℕ, length, IfSome, IsFalse, IsTrue};
 ghost use Rattle.std.specs.Prelude.{Some};
 ghost use Rattle.dvg_mem.specs.Grown.{AreReturns};
-ghost use Rattle.dvg_read.specs.RomReading.{HoldsRom, TellsMore, TellsRom, untold};
+ghost use Rattle.dvg_read.specs.RomReading.{HoldsRom, TellsMore, TellsRom, unstated};
 ghost use Rattle.dvg_read.specs.RomTexts.{IsMapLine, RomText};
 
 use crate::rom_line::read_rom_line;
@@ -16,17 +16,17 @@ const UNGIVEN: [u8; 2] = [0x00, 0xD0];
 #[derive(Drop)]
 pub struct RomReading {
     // Whether a line said something of the ROM.
-    is_told: bool,
+    is_stated: bool,
     bytes: ArrayVec<u8, LARGE_ROM_BYTES>,
 }
 
 impl RomReading {
     /// Before the first line.
     pub fn new() -> RomReading
-        ensures { HoldsRom untold result }
+        ensures { HoldsRom unstated result }
     {
         RomReading {
-            is_told: false,
+            is_stated: false,
             bytes: ungiven(FIRST_ROM_WORD),
         }
     }
@@ -40,10 +40,10 @@ impl RomReading {
         ensures kept { IsFalse result → self.new ≡ self.old }
     {
         if let Some(first) = read_map_line(line) {
-            if self.is_told {
+            if self.is_stated {
                 return false;
             }
-            self.is_told = true;
+            self.is_stated = true;
             self.bytes = ungiven(first);
             return true;
         }
@@ -52,7 +52,7 @@ impl RomReading {
             return false;
         };
         given.put(first, self.bytes.as_mut_slice());
-        self.is_told = true;
+        self.is_stated = true;
         true
     }
 

@@ -85,8 +85,8 @@ impl Following {
             self.is_open = true;
             return Ok(());
         }
-        if let Some(told) = read_event_line(line) {
-            let more = count(&told);
+        if let Some(repeated) = read_event_line(line) {
+            let more = count(&repeated);
             if self.count + more > MOST_EVENTS {
                 return Err(LineFault::Many);
             }

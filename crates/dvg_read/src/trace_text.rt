@@ -43,7 +43,7 @@ pub struct TraceText<A: Allocator = Global> {
 /// - `Unended`: no line is at fault, and the text ends inside an offer.
 /// - `Memory`: a growth was refused, at a line that brings events or ends an offer.
 pub fn read_trace<A: Allocator + Copy>(alloc: A, text: &[u8]) -> Result<TraceText<A>, TraceFault>
-    ensures gives { IfOk result (λ told. GivesTrace text.now told.events told.rom.items) }
+    ensures gives { IfOk result (λ trace. GivesTrace text.now trace.events trace.rom.items) }
     ensures fault { IfErr result (λ fault. StopsReading fault text.now) }
 {
     if text.len() > MOST_TEXT_BYTES {
@@ -148,8 +148,8 @@ impl<A: Allocator + Copy> Reading<A> {
             self.is_open = true;
             return Ok(());
         }
-        if let Some(told) = read_event_line(line) {
-            return add_events(self.alloc, told, &mut self.resets, &mut self.events);
+        if let Some(repeated) = read_event_line(line) {
+            return add_events(self.alloc, repeated, &mut self.resets, &mut self.events);
         }
         if self.events.is_empty() && self.rom.take(line) {
             return Ok(());
@@ -204,32 +204,32 @@ pub(crate) fn add_op(draft: &mut Draft, line: &[u8]) -> Result<(), LineFault>
 // Adds the events of a line.
 fn add_events<A: Allocator>(
     alloc: A,
-    told: EventLine,
+    repeated: EventLine,
     resets: &mut [Option<u32>; 256],
     events: &mut Trace<A>,
 ) -> Result<(), LineFault>
-    requires some { 1 ≤ length (happenings told) }
+    requires some { 1 ≤ length (happenings repeated) }
     requires resets { AreResets resets.old events.old }
-    ensures added { OnOk result (events.new ≡ events.old ++ happenings told) }
+    ensures added { OnOk result (events.new ≡ events.old ++ happenings repeated) }
     ensures room { OnOk result (length events.new ≤ 65536) }
     ensures resets { OnOk result (AreResets resets.new events.new) }
-    ensures fault { IfErr result (λ fault. StopsEvents fault events.old (happenings told)) }
+    ensures fault { IfErr result (λ fault. StopsEvents fault events.old (happenings repeated)) }
 {
-    if events.len() + count(&told) > MOST_EVENTS {
+    if events.len() + count(&repeated) > MOST_EVENTS {
         return Err(LineFault::Many);
     }
-    if add_times(alloc, told.event, told.count, resets, events).is_err() {
+    if add_times(alloc, repeated.event, repeated.count, resets, events).is_err() {
         return Err(LineFault::Memory);
     }
     Ok(())
 }
 
 // How many events a line has.
-pub(crate) fn count(told: &EventLine) -> usize
-    ensures value { result ≡ length (happenings told.now) }
+pub(crate) fn count(repeated: &EventLine) -> usize
+    ensures value { result ≡ length (happenings repeated.now) }
     ensures bound { result < 2 ^ 16 }
 {
-    usize::from(told.count)
+    usize::from(repeated.count)
 }
 
 // Adds an event, this many times in a row: itself, and then the same again.

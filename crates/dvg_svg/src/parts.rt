@@ -2,14 +2,14 @@
 ghost use Rattle.dvg_io.specs.Watching.{Writes};
 ghost use Rattle.dvg_svg.specs.Parts.{joined};
 
-use dvg_io::{DeviceFailed, Watched, write_whole};
+use dvg_io::{StreamFailed, Watched, write_whole};
 use std::io::Write;
 
 /// Writes parts, one after the other.
 pub(crate) fn write_parts<W: Write>(
     parts: &[&[u8]],
     writer: &mut Watched<W>,
-) -> Result<(), DeviceFailed>
+) -> Result<(), StreamFailed>
     ensures { Writes W.contents (joined parts.now) result writer.old writer.new }
 {
     for part in parts {

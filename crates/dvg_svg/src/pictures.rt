@@ -9,7 +9,7 @@ ghost use Rattle.dvg_svg.specs.Svg.{first_turn, later_turn, turn_lines};
 use crate::parts::write_parts;
 use crate::show::Show;
 use dvg_gen::Stroke;
-use dvg_io::{DeviceFailed, Watched, write_whole};
+use dvg_io::{StreamFailed, Watched, write_whole};
 use dvg_print::Line;
 use itoa::Buffer;
 use std::alloc::Allocator;
@@ -34,7 +34,7 @@ fn side(percent: u16) -> u32
 }
 
 // Writes the line that begins a text, of this size in percent.
-fn write_size<W: Write>(percent: u16, writer: &mut Watched<W>) -> Result<(), DeviceFailed>
+fn write_size<W: Write>(percent: u16, writer: &mut Watched<W>) -> Result<(), StreamFailed>
     ensures { Writes W.contents (size_line percent) result writer.old writer.new }
 {
     let mut buffer = Buffer::new();
@@ -52,7 +52,7 @@ fn write_size<W: Write>(percent: u16, writer: &mut Watched<W>) -> Result<(), Dev
 }
 
 // Writes the line of a title, if there is one.
-fn write_title<W: Write>(title: Option<&[u8]>, writer: &mut Watched<W>) -> Result<(), DeviceFailed>
+fn write_title<W: Write>(title: Option<&[u8]>, writer: &mut Watched<W>) -> Result<(), StreamFailed>
     ensures { Writes W.contents (title_line (option_map (λ title. title.now) title.entry))
         result writer.old writer.new }
 {
@@ -67,7 +67,7 @@ fn write_begin<W: Write>(
     percent: u16,
     title: Option<&[u8]>,
     writer: &mut Watched<W>,
-) -> Result<(), DeviceFailed>
+) -> Result<(), StreamFailed>
     ensures { Writes W.contents (begin_lines percent (option_map (λ title. title.now) title.entry))
         result writer.old writer.new }
 {
@@ -77,7 +77,7 @@ fn write_begin<W: Write>(
 }
 
 // Writes the lines of strokes.
-fn write_strokes<W: Write>(strokes: &[Stroke], writer: &mut Watched<W>) -> Result<(), DeviceFailed>
+fn write_strokes<W: Write>(strokes: &[Stroke], writer: &mut Watched<W>) -> Result<(), StreamFailed>
     ensures { Writes W.contents (stroke_lines strokes.now) result writer.old writer.new }
 {
     let mut line = Line::new();
@@ -107,7 +107,7 @@ fn write_first_turn<W: Write>(
     rate: u16,
     last: usize,
     writer: &mut Watched<W>,
-) -> Result<(), DeviceFailed>
+) -> Result<(), StreamFailed>
     ensures { Writes W.contents (first_turn rate last) result writer.old writer.new }
 {
     let mut last_text = Buffer::new();
@@ -133,7 +133,7 @@ fn write_later_turn<W: Write>(
     before: usize,
     number: usize,
     writer: &mut Watched<W>,
-) -> Result<(), DeviceFailed>
+) -> Result<(), StreamFailed>
     requires { number ≡ suc before }
     ensures { Writes W.contents (later_turn rate before) result writer.old writer.new }
 {
@@ -160,7 +160,7 @@ fn write_turn<W: Write>(
     last: usize,
     number: usize,
     writer: &mut Watched<W>,
-) -> Result<(), DeviceFailed>
+) -> Result<(), StreamFailed>
     ensures { Writes W.contents (turn_lines rate last number) result writer.old writer.new }
 {
     if number == 0 {
@@ -177,7 +177,7 @@ fn write_group<W: Write>(
     number: usize,
     strokes: &[Stroke],
     writer: &mut Watched<W>,
-) -> Result<(), DeviceFailed>
+) -> Result<(), StreamFailed>
     ensures { Writes W.contents (group rate last number strokes.now)
         result writer.old writer.new }
 {
@@ -191,7 +191,7 @@ fn write_groups<A: Allocator, W: Write>(
     rate: u16,
     pictures: &[Vec<Stroke, A>],
     writer: &mut Watched<W>,
-) -> Result<(), DeviceFailed>
+) -> Result<(), StreamFailed>
     ensures { Writes W.contents (groups rate (length pictures.now - 1) 0 (strokes_of pictures.now))
         result writer.old writer.new }
 {
@@ -207,7 +207,7 @@ fn write_pictures<A: Allocator, W: Write>(
     rate: u16,
     pictures: &[Vec<Stroke, A>],
     writer: &mut Watched<W>,
-) -> Result<(), DeviceFailed>
+) -> Result<(), StreamFailed>
     ensures { Writes W.contents (pictures_text rate (strokes_of pictures.now))
         result writer.old writer.new }
 {
@@ -225,7 +225,7 @@ pub fn write_svg<W: Write>(
     title: Option<&[u8]>,
     strokes: &[Stroke],
     writer: &mut Watched<W>,
-) -> Result<(), DeviceFailed>
+) -> Result<(), StreamFailed>
     ensures { Writes W.contents
         (svg_text percent (option_map (λ title. title.now) title.entry) strokes.now)
         result writer.old writer.new }
@@ -242,7 +242,7 @@ pub fn write_svgs<A: Allocator, W: Write>(
     show: Show,
     pictures: &[Vec<Stroke, A>],
     writer: &mut Watched<W>,
-) -> Result<(), DeviceFailed>
+) -> Result<(), StreamFailed>
     ensures { Writes W.contents (svgs_text show (strokes_of pictures.now))
         result writer.old writer.new }
 {

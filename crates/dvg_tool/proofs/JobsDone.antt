@@ -1,4 +1,4 @@
--- From what an engine answers to what is told of it.
+-- From what an engine answers to what is answered of it.
 use Rattle.std.proofs.Common.{◌≡◌, List, ℕ, Option, Some, None, Result, Ok, subst}
 use Rattle.std.specs.Prelude.{◌↔◌, All, Bool, IfSome, IsTrue}
 use Rattle.dvg_draw.specs.Checks.{ChecksSketch, IsGoodVerdict}
@@ -11,24 +11,24 @@ use Rattle.dvg_lay.specs.declared.form.Form.{Form}
 use Rattle.dvg_lay.specs.declared.form.Laid.{Laid}
 use Rattle.dvg_args.specs.declared.task.Job.TheVariants.{Draw, DrawCheck, Lay}
 use Rattle.dvg_args.specs.declared.task.LayForm.{LayForm}
-use Rattle.dvg_tool.specs.Jobs.{Performs, form_of, told, told_drawn}
+use Rattle.dvg_tool.specs.Jobs.{Performs, answered, answered_drawn, form_of}
 use Rattle.dvg_tool.specs.declared.outcome.Done.{Done}
 use Rattle.dvg_tool.specs.declared.outcome.Done.TheVariants.{CheckedFrames}
 
--- what is told of a sketch that was laid out, or that is refused
-pub laid_told : {A : Type 0} (form : LayForm) (asked : Form) (laid : Laid A) (done : Done A) (known old new : Option (List ℕ)) → asked ≡ form_of form → done ≡ told laid
+-- what is answered of a sketch that was laid out, or that is refused
+pub laid_answered : {A : Type 0} (form : LayForm) (asked : Form) (laid : Laid A) (done : Done A) (known old new : Option (List ℕ)) → asked ≡ form_of form → done ≡ answered laid
     → IfSome known (λ input. Lays asked (Ok laid) input old new) → IfSome known (λ input. Performs (Lay form) (Ok done) input old new)
-laid_told form asked laid done None old new same is h = tt
-laid_told form asked laid done (Some input) old new same is h = (laid, is, subst (λ f. Lays f (Ok laid) input old new) same h)
+laid_answered form asked laid done None old new same is h = tt
+laid_answered form asked laid done (Some input) old new same is h = (laid, is, subst (λ f. Lays f (Ok laid) input old new) same h)
 
 -- and of one that was drawn
-pub drawn_told : {A : Type 0} (show : Show) (drawn : Drawn A) (done : Done A) (known old new : Option (List ℕ)) → done ≡ told_drawn drawn
+pub drawn_answered : {A : Type 0} (show : Show) (drawn : Drawn A) (done : Done A) (known old new : Option (List ℕ)) → done ≡ answered_drawn drawn
     → IfSome known (λ input. Draws show (Ok drawn) input old new) → IfSome known (λ input. Performs (Draw show.percent show.rate) (Ok done) input old new)
-drawn_told show drawn done None old new is h = tt
-drawn_told show drawn done (Some input) old new is h = (drawn, is, h)
+drawn_answered show drawn done None old new is h = tt
+drawn_answered show drawn done (Some input) old new is h = (drawn, is, h)
 
 -- and of what the check says of its frames
-pub said_told : {A : Type 0} (said : Said A) (good : Bool) (known old new : Option (List ℕ)) → (IsTrue good ↔ All IsGoodVerdict said.verdicts.items)
+pub said_answered : {A : Type 0} (said : Said A) (good : Bool) (known old new : Option (List ℕ)) → (IsTrue good ↔ All IsGoodVerdict said.verdicts.items)
     → IfSome known (λ input. ChecksSketch (Ok said) input old new) → IfSome known (λ input. Performs {A = A} DrawCheck (Ok (CheckedFrames good)) input old new)
-said_told said good None old new is h = tt
-said_told said good (Some input) old new is h = (said, is, h)
+said_answered said good None old new is h = tt
+said_answered said good (Some input) old new is h = (said, is, h)

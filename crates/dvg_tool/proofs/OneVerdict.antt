@@ -34,8 +34,8 @@ one_judged : {V : Type 0} (IsSaid : List OpKind → List ℕ → V → Type 0)
 one_judged IsSaid once text said also a b =
     let one = a.gives in
     let other = b.gives in
-    let (told, ops) = one_meaning text one.rom other.rom a.F b.F one.denotes other.denotes in
-    let rom = one_rom one.rom a.R b.R one.bytes (subst (λ rom. IsRomOf rom b.R) told other.bytes) in
+    let (stated, ops) = one_meaning text one.rom other.rom a.F b.F one.denotes other.denotes in
+    let rom = one_rom one.rom a.R b.R one.bytes (subst (λ rom. IsRomOf rom b.R) stated other.bytes) in
     once a.F a.R said also a.said (subst (λ R. IsSaid a.F R also) rom (subst (λ F. IsSaid F b.R also) ops b.said))
 
 pub one_verdict : (text : List ℕ) (one other : Verdict) → Judges text one → Judges text other → other ≡ one

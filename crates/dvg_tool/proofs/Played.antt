@@ -24,34 +24,34 @@ lines_of events entries = map (λ line. line.0 ⟼ shown_of line.1) (zip events 
 oldest_first : {A : Type 0} (events : List Happening) (entries : List (OwnEntry A)) → reverse (log_of events entries) ≡ lines_of events entries
 oldest_first events entries = reverse-reverse (lines_of events entries)
 
-entries_told : {A : Type 0} (events : List Happening) (entries : List (OwnEntry A)) → length entries ≤ length events → map entry_of (lines_of events entries) ≡ map shown_of entries
-entries_told [] [] h = refl
-entries_told (event ∷ events) [] h = refl
-entries_told [] (entry ∷ entries) h = absurd (not-suc-le-zero h)
-entries_told (event ∷ events) (entry ∷ entries) h = ap (λ l. shown_of entry ∷ l) (entries_told events entries (le_of_suc-le-suc h))
+entries_listed : {A : Type 0} (events : List Happening) (entries : List (OwnEntry A)) → length entries ≤ length events → map entry_of (lines_of events entries) ≡ map shown_of entries
+entries_listed [] [] h = refl
+entries_listed (event ∷ events) [] h = refl
+entries_listed [] (entry ∷ entries) h = absurd (not-suc-le-zero h)
+entries_listed (event ∷ events) (entry ∷ entries) h = ap (λ l. shown_of entry ∷ l) (entries_listed events entries (le_of_suc-le-suc h))
 
 -- those that have an entry, and the later ones
-events_told : {A : Type 0} (events : List Happening) (entries : List (OwnEntry A)) → length entries ≤ length events
+events_listed : {A : Type 0} (events : List Happening) (entries : List (OwnEntry A)) → length entries ≤ length events
     → events ≡ map event_of (lines_of events entries) ++ drop (length entries) events
-events_told [] [] h = refl
-events_told (event ∷ events) [] h = refl
-events_told [] (entry ∷ entries) h = absurd (not-suc-le-zero h)
-events_told (event ∷ events) (entry ∷ entries) h = ap (λ l. event ∷ l) (events_told events entries (le_of_suc-le-suc h))
+events_listed [] [] h = refl
+events_listed (event ∷ events) [] h = refl
+events_listed [] (entry ∷ entries) h = absurd (not-suc-le-zero h)
+events_listed (event ∷ events) (entry ∷ entries) h = ap (λ l. event ∷ l) (events_listed events entries (le_of_suc-le-suc h))
 
 -- the entries of the log are those
 pub log_entries : {A : Type 0} (events : List Happening) (entries : List (OwnEntry A)) → length entries ≤ length events
     → map entry_of (reverse (log_of events entries)) ≡ map shown_of entries
-log_entries events entries h = ap (map entry_of) (oldest_first events entries) ∙ entries_told events entries h
+log_entries events entries h = ap (map entry_of) (oldest_first events entries) ∙ entries_listed events entries h
 
 -- what is shown of the log is what is shown of the entries
 pub log_shown : {A : Type 0} (all : Bool) (events : List Happening) (entries : List (OwnEntry A)) → length entries ≤ length events
     → shown all 0 (map shown_of entries) ≡ log_text all (log_of events entries)
-log_shown all events entries h = sym (ap (λ lines. shown all 0 (map entry_of lines)) (oldest_first events entries) ∙ ap (shown all 0) (entries_told events entries h))
+log_shown all events entries h = sym (ap (λ lines. shown all 0 (map entry_of lines)) (oldest_first events entries) ∙ ap (shown all 0) (entries_listed events entries h))
 
 in_order : {A : Type 0} (events : List Happening) (entries : List (OwnEntry A)) → length entries ≤ length events
     → events ≡ map event_of (reverse (log_of events entries)) ++ drop (length entries) events
 in_order events entries h =
-    events_told events entries h ∙ ap (λ lines. map event_of lines ++ drop (length entries) events) (sym (oldest_first events entries))
+    events_listed events entries h ∙ ap (λ lines. map event_of lines ++ drop (length entries) events) (sym (oldest_first events entries))
 
 -- all events were played
 pub played_whole : {A : Type 0} (text R : List ℕ) (events : List Happening) (entries : List (OwnEntry A)) → GivesTrace text (events) R → IsLegal R zeros (log_of events entries)

@@ -19,7 +19,7 @@ use Rattle.dvg_io.specs.declared.fault.ToolFault.TheVariants.{Text, Reader, Writ
 use Rattle.dvg_io.specs.declared.watched.Watched.{Watched}
 use Rattle.dvg_io.specs.Faults.{ComesBeforeText, called}
 use Rattle.dvg_io.specs.Serving.{Answers, IsFinding, OfInput}
-use Rattle.dvg_io.specs.Watching.{BeginsToWrite, device_of}
+use Rattle.dvg_io.specs.Watching.{BeginsToWrite, stream_of}
 use Rattle.dvg_io.proofs.Inputs.{whole}
 use Rattle.dvg_io.proofs.Known.{Appends-nil}
 use Rattle.dvg_tool.specs.Plays.{IsPlayed, IsRun, IsShown, Plays, StopsBeforeShowing, log_text, zeros}
@@ -76,14 +76,14 @@ misread Finds answer fault read is h =
     subst (λ answer. OfInput 1048576 read (λ input. IsFinding (Finds input) (HasTraceFault input) answer)) (sym is) (misread_by Finds fault read h)
 
 -- a log is played whole, and what is shown of it went out
-pub told_whole : {T : Type 0} (all : Bool) (shown : List ℕ) (done : T) (old new : Option (List ℕ)) (input : List ℕ)
+pub plays_whole : {T : Type 0} (all : Bool) (shown : List ℕ) (done : T) (old new : Option (List ℕ)) (input : List ℕ)
     → IsShown all true input shown × Appends old new shown → Plays all (Ok done) input old new
-told_whole all shown done old new input h = (h.0.log, subst (λ later. IsPlayed input h.0.log later) h.0.ends h.0.played, subst (Appends old new) h.0.holds h.1)
+plays_whole all shown done old new input h = (h.0.log, subst (λ later. IsPlayed input h.0.log later) h.0.ends h.0.played, subst (Appends old new) h.0.holds h.1)
 
 -- or up to where it stopped
-pub told_part : (T : Type 0) (all : Bool) (shown : List ℕ) (old new : Option (List ℕ)) (input : List ℕ)
+pub plays_part : (T : Type 0) (all : Bool) (shown : List ℕ) (old new : Option (List ℕ)) (input : List ℕ)
     → IsShown all false input shown × Appends old new shown → Plays {T = T} all (Err Memory) input old new
-told_part T all shown old new input h =
+plays_part T all shown old new input h =
     let wrote = subst (Appends old new) h.0.holds h.1 in
     ⊎_elim
     (λ none. inl (subst (Appends old new) (ap (log_text all) none) wrote))
@@ -101,12 +101,12 @@ broke_off T all false shown old new input run begun =
 -- where it stops
 pub stops : {F W : Type 0} (T : Type 0) (all : Bool) (Finds : List ℕ → F → Type 0) (is_whole : F → Bool) (text : F → List ℕ) (fault : ToolFault) (contents : W → Option (List ℕ)) (old new : Watched W) (input : List ℕ)
     → ((found : F) → Finds input found → IsShown all (is_whole found) input (text found)) → (ComesBeforeText fault → new ≡ old)
-    → Answers Finds HasTraceFault text (Err fault) input (contents (device_of old)) (contents (device_of new))
-    → Plays {T = T} all (Err fault) input (contents (device_of old)) (contents (device_of new))
+    → Answers Finds HasTraceFault text (Err fault) input (contents (stream_of old)) (contents (stream_of new))
+    → Plays {T = T} all (Err fault) input (contents (stream_of old)) (contents (stream_of new))
 stops T all Finds is_whole text (Text fault) contents old new input shows same h = h
 stops T all Finds is_whole text Reader contents old new input shows same h = tt
 stops T all Finds is_whole text Memory contents old new input shows same h =
-    inl (subst (λ writer. Appends (contents (device_of old)) (contents (device_of writer)) []) (sym (same (λ is. cc))) (Appends-nil (contents (device_of old))))
+    inl (subst (λ writer. Appends (contents (stream_of old)) (contents (stream_of writer)) []) (sym (same (λ is. cc))) (Appends-nil (contents (stream_of old))))
 stops T all Finds is_whole text Writer contents old new input shows same (run, found, begun) =
     broke_off T all (is_whole run) (text run) _ _ input (shows run found) begun
 

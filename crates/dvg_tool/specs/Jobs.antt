@@ -45,14 +45,14 @@ form_of asked.Rom = RomBytes
 form_of asked.Equates = RomNames
 
 -- what is said of a sketch that was laid out: why a frame is refused
-abbrev pub told : {A : Type 0} → Laid A → Done A
-told (laids.Text text) = Written
-told (laids.Refused refusal) = Refused refusal
+abbrev pub answered : {A : Type 0} → Laid A → Done A
+answered (laids.Text text) = Written
+answered (laids.Refused refusal) = Refused refusal
 
 -- and of one that was drawn
-abbrev pub told_drawn : {A : Type 0} → Drawn A → Done A
-told_drawn (drawns.Pictures pictures) = Written
-told_drawn (drawns.Refused refusal) = Refused refusal
+abbrev pub answered_drawn : {A : Type 0} → Drawn A → Done A
+answered_drawn (drawns.Pictures pictures) = Written
+answered_drawn (drawns.Refused refusal) = Refused refusal
 
 -- the answer to an input, and what went out: a check answers its verdict, `picture` what the run
 -- came to, or as SVG why it drew no picture, `torn` what is said of the log, `lay` and `draw` why a
@@ -82,10 +82,10 @@ Performs {A} (PlaySvg banked percent rate) (Err fault) input old new =
 Performs Torn (Ok (Searched verdict)) input old new = Tears (Ok verdict) input old new
 Performs Torn (Err fault) input old new = Tears (Err fault) input old new
 Performs {A} (Lay form) (Ok done) input old new =
-    (laid : Laid A) × (done ≡ told laid) × Lays (form_of form) (Ok laid) input old new
+    (laid : Laid A) × (done ≡ answered laid) × Lays (form_of form) (Ok laid) input old new
 Performs {A} (Lay form) (Err fault) input old new = Lays {A = A} (form_of form) (Err fault) input old new
 Performs {A} (Draw percent rate) (Ok done) input old new =
-    (drawn : Drawn A) × (done ≡ told_drawn drawn) × Draws (show_of percent rate) (Ok drawn) input old new
+    (drawn : Drawn A) × (done ≡ answered_drawn drawn) × Draws (show_of percent rate) (Ok drawn) input old new
 Performs {A} (Draw percent rate) (Err fault) input old new =
     Draws {A = A} (show_of percent rate) (Err fault) input old new
 Performs {A} DrawCheck (Ok (CheckedFrames good)) input old new = (said : Said A)

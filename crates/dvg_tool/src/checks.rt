@@ -7,7 +7,7 @@ ghost use Rattle.dvg_read.specs.DraftTexts.{HasDraftFault};
 ghost use Rattle.dvg_tool.specs.Checks.{Checks, ChecksBound, IsJudgingFault, Judges, JudgesBound};
 
 use dvg_frame::check;
-use dvg_io::{DeviceFailed, Engine, ToolFault, Watched, serve, write_whole};
+use dvg_io::{Engine, StreamFailed, ToolFault, Watched, serve, write_whole};
 use dvg_mem::Rom;
 use dvg_print::{BoundedVerdict, Line, Verdict};
 use dvg_read::{MOST_TEXT_BYTES, read_draft};
@@ -20,14 +20,14 @@ fn judge<A: Allocator>(alloc: A, text: &[u8]) -> Result<BoundedVerdict, ToolFaul
     ensures said { IfOk result (JudgesBound text.now) }
     ensures fault { IfErr result (IsJudgingFault text.now) }
 {
-    let told = match read_draft(text) {
-        Ok(told) => told,
+    let drafted = match read_draft(text) {
+        Ok(drafted) => drafted,
         Err(fault) => return Err(ToolFault::Text(fault)),
     };
-    let Ok(rom) = Rom::new(alloc, told.rom.as_slice()) else {
+    let Ok(rom) = Rom::new(alloc, drafted.rom.as_slice()) else {
         return Err(ToolFault::Memory);
     };
-    match check(&told.draft, &rom) {
+    match check(&drafted.draft, &rom) {
         Ok(frame) => Ok(BoundedVerdict::Good {
             words: frame.len_words(),
             bound: frame.bound(),
@@ -62,7 +62,7 @@ impl<A: Allocator + Copy> Engine<A> for CheckEngine {
         &self,
         verdict: &Verdict,
         writer: &mut Watched<W>,
-    ) -> Result<(), DeviceFailed> {
+    ) -> Result<(), StreamFailed> {
         let mut line = Line::new();
         line.become_verdict(*verdict);
         write_whole(writer, line.as_bytes())
@@ -94,7 +94,7 @@ impl<A: Allocator + Copy> Engine<A> for BoundEngine {
         &self,
         verdict: &BoundedVerdict,
         writer: &mut Watched<W>,
-    ) -> Result<(), DeviceFailed> {
+    ) -> Result<(), StreamFailed> {
         let mut line = Line::new();
         line.become_bounded(*verdict);
         write_whole(writer, line.as_bytes())
@@ -110,7 +110,7 @@ impl<A: Allocator + Copy> Engine<A> for BoundEngine {
 ///   This is decided before all others.
 /// - `Syntax`, `Full`: this line is the first at fault. It spells nothing that may stand at its
 ///   place, or it spells operation number 511.
-/// - `Reader`, `Writer`: that device failed. After `Writer` a beginning of the line went out.
+/// - `Reader`, `Writer`: that stream failed. After `Writer` a beginning of the line went out.
 /// - `Memory`: a growth was refused.
 ///
 /// Where it stops before it writes, which is at any fault but `Writer`, the writer is as it was.

@@ -2,9 +2,10 @@
 ghost use Rattle.std.specs.Prelude.{◌≡◌, ◌↔◌, ◌≤◌, IfErr, IfSome, IsErrOf};
 ghost use Rattle.dvg_io.specs.Faults.{ComesBeforeText};
 ghost use Rattle.dvg_io.specs.Serving.{AreFresh, Serves};
-ghost use Rattle.dvg_tool.specs.Jobs.{Performs, StaysUnwritten, TakesBy, form_of, told, told_drawn};
+ghost use Rattle.dvg_tool.specs.Jobs.{Performs, StaysUnwritten, TakesBy, answered, answered_drawn};
+ghost use Rattle.dvg_tool.specs.Jobs.{form_of};
 ghost use Rattle.dvg_tool.specs.PlaysSvg.{PlaysSvg};
-ghost use Rattle.dvg_io.specs.Watching.{device_of, failures_of};
+ghost use Rattle.dvg_io.specs.Watching.{failures_of, stream_of};
 
 use crate::checks::{check_bound, check_text};
 use crate::lists::list;
@@ -74,8 +75,8 @@ fn form_of(form: LayForm) -> Form
 }
 
 // What is said of a sketch that was laid out.
-fn told<A: Allocator>(laid: Laid<A>) -> Done<A>
-    ensures { result ≡ told laid }
+fn answered<A: Allocator>(laid: Laid<A>) -> Done<A>
+    ensures { result ≡ answered laid }
 {
     match laid {
         Laid::Text(_) => Done::Written,
@@ -84,7 +85,7 @@ fn told<A: Allocator>(laid: Laid<A>) -> Done<A>
 }
 
 // Does the job `lay`.
-fn lay_told<A: Allocator + Copy, R: Read, W: Write>(
+fn lay_answered<A: Allocator + Copy, R: Read, W: Write>(
     alloc: A,
     reader: &mut Watched<R>,
     writer: &mut Watched<W>,
@@ -95,14 +96,14 @@ fn lay_told<A: Allocator + Copy, R: Read, W: Write>(
         result reader.old reader.new writer.old writer.new }
 {
     match lay_sketch(alloc, reader, writer, form_of(form)) {
-        Ok(laid) => Ok(told(laid)),
+        Ok(laid) => Ok(answered(laid)),
         Err(fault) => Err(fault),
     }
 }
 
 // What is said of a sketch that was drawn.
-fn told_drawn<A: Allocator>(drawn: Drawn<A>) -> Done<A>
-    ensures { result ≡ told_drawn drawn }
+fn answered_drawn<A: Allocator>(drawn: Drawn<A>) -> Done<A>
+    ensures { result ≡ answered_drawn drawn }
 {
     match drawn {
         Drawn::Pictures(_) => Done::Written,
@@ -111,7 +112,7 @@ fn told_drawn<A: Allocator>(drawn: Drawn<A>) -> Done<A>
 }
 
 // Does the job `draw`.
-fn draw_told<A: Allocator + Copy, R: Read, W: Write>(
+fn draw_answered<A: Allocator + Copy, R: Read, W: Write>(
     alloc: A,
     reader: &mut Watched<R>,
     writer: &mut Watched<W>,
@@ -123,13 +124,13 @@ fn draw_told<A: Allocator + Copy, R: Read, W: Write>(
         result reader.old reader.new writer.old writer.new }
 {
     match draw_sketch(alloc, reader, writer, show) {
-        Ok(drawn) => Ok(told_drawn(drawn)),
+        Ok(drawn) => Ok(answered_drawn(drawn)),
         Err(fault) => Err(fault),
     }
 }
 
 // Does the job `draw --check`.
-fn check_told<A: Allocator + Copy, R: Read, W: Write>(
+fn check_answered<A: Allocator + Copy, R: Read, W: Write>(
     alloc: A,
     reader: &mut Watched<R>,
     writer: &mut Watched<W>,
@@ -157,11 +158,11 @@ pub fn perform<A: Allocator + Copy, R: Read, W: Write>(
     requires fresh_writer { failures_of writer.old ≡ 0 }
 
     // Where the reader's bytes are known.
-    ensures performs { IfSome (R.remaining (device_of reader.old)) (λ input.
-        Performs job result input (W.contents (device_of writer.old))
-        (W.contents (device_of writer.new))) }
-    ensures took { TakesBy job result (R.remaining (device_of reader.old))
-        (R.remaining (device_of reader.new)) }
+    ensures performs { IfSome (R.remaining (stream_of reader.old)) (λ input.
+        Performs job result input (W.contents (stream_of writer.old))
+        (W.contents (stream_of writer.new))) }
+    ensures took { TakesBy job result (R.remaining (stream_of reader.old))
+        (R.remaining (stream_of reader.new)) }
 
     // Whatever the reader and the writer are.
     ensures unwritten { IfErr result (λ fault. StaysUnwritten job fault → writer.new ≡ writer.old) }
@@ -200,8 +201,10 @@ pub fn perform<A: Allocator + Copy, R: Read, W: Write>(
             play_shown(alloc, reader, writer, banked, show).map(|()| Done::Written)
         }
         Job::Torn => torn(reader, writer).map(|verdict| Done::Searched(verdict)),
-        Job::Draw { percent, rate } => { draw_told(alloc, reader, writer, Show { percent, rate }) }
-        Job::DrawCheck => check_told(alloc, reader, writer),
-        Job::Lay { form } => lay_told(alloc, reader, writer, form),
+        Job::Draw { percent, rate } => {
+            draw_answered(alloc, reader, writer, Show { percent, rate })
+        }
+        Job::DrawCheck => check_answered(alloc, reader, writer),
+        Job::Lay { form } => lay_answered(alloc, reader, writer, form),
     }
 }

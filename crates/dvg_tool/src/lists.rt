@@ -4,10 +4,10 @@ ghost use Rattle.std.specs.Prelude.{◌≡◌, ◌↔◌, ◌≤◌, length, IsE
 ghost use Rattle.dvg_tool.specs.Lists.{Lists, ListsWords, line_at};
 ghost use Rattle.dvg_io.specs.Faults.{StopsBeforeWriting};
 ghost use Rattle.dvg_io.specs.Serving.{AreFresh, Serves};
-ghost use Rattle.dvg_io.specs.Watching.{Writes, device_of, failures_of};
+ghost use Rattle.dvg_io.specs.Watching.{Writes, failures_of, stream_of};
 
 use dvg_code::{Code, Listed, Listing, encode};
-use dvg_io::{DeviceFailed, ToolFault, Watched, collect_words, read_up_to, write_whole};
+use dvg_io::{StreamFailed, ToolFault, Watched, collect_words, read_up_to, write_whole};
 use dvg_print::Line;
 use dvg_read::TextFault;
 use std::alloc::Allocator;
@@ -26,7 +26,7 @@ pub(crate) fn write_item<W: Write>(
     address: usize,
     code: &Code,
     writer: &mut Watched<W>,
-) -> Result<(), DeviceFailed>
+) -> Result<(), StreamFailed>
     requires { place ≤ length words.now }
     ensures { Writes W.contents (line_at words.now place address code.now)
         result writer.old writer.new }
@@ -40,7 +40,7 @@ pub(crate) fn write_item<W: Write>(
 fn list_words<W: Write>(words: &[u16], writer: &mut Watched<W>) -> Result<(), ToolFault>
     requires fresh { failures_of writer.old ≡ 0 }
     ensures lists { ListsWords result words.now
-        (W.contents (device_of writer.old)) (W.contents (device_of writer.new)) }
+        (W.contents (stream_of writer.old)) (W.contents (stream_of writer.new)) }
     ensures writer { IsErrOf result ToolFault.Writer ↔ (failures_of writer.new ≡ 1) }
     ensures stops { failures_of writer.new ≤ 1 }
 {
@@ -66,7 +66,7 @@ fn list_words<W: Write>(words: &[u16], writer: &mut Watched<W>) -> Result<(), To
 /// - `Odd`: it has an odd number of bytes.
 /// - `Cut`: the last word is the first of two, and the second is missing; the lines before it are
 ///   written.
-/// - `Reader`, `Writer`: that device failed. After `Writer` a beginning of the text went out.
+/// - `Reader`, `Writer`: that stream failed. After `Writer` a beginning of the text went out.
 /// - `Memory`: a growth was refused.
 ///
 /// Where it stops before it writes, which is at any fault but `Cut` and `Writer`, the writer is as

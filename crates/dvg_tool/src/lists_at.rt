@@ -4,7 +4,7 @@ ghost use Rattle.dvg_tool.specs.Lists as spec;
 ghost use Rattle.dvg_tool.specs.Lists.{ListsAt, ListsWordsAt};
 ghost use Rattle.dvg_io.specs.Faults.{StopsBeforeWriting};
 ghost use Rattle.dvg_io.specs.Serving.{AreFresh, Serves};
-ghost use Rattle.dvg_io.specs.Watching.{device_of, failures_of};
+ghost use Rattle.dvg_io.specs.Watching.{failures_of, stream_of};
 
 use crate::lists::{MOST_LIST_BYTES, write_item};
 use dvg_code::{Listed, Listing};
@@ -28,7 +28,7 @@ fn address_from(at: u16, place: usize) -> usize
 fn list_words_at<W: Write>(at: u16, words: &[u16], writer: &mut Watched<W>) -> Result<(), ToolFault>
     requires fresh { failures_of writer.old ≡ 0 }
     ensures lists { ListsWordsAt at result words.now
-        (W.contents (device_of writer.old)) (W.contents (device_of writer.new)) }
+        (W.contents (stream_of writer.old)) (W.contents (stream_of writer.new)) }
     ensures writer { IsErrOf result ToolFault.Writer ↔ (failures_of writer.new ≡ 1) }
     ensures stops { failures_of writer.new ≤ 1 }
 {

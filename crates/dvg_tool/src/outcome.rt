@@ -2,7 +2,7 @@
 ghost use Rattle.std.specs.Prelude.{◌≡◌};
 ghost use Rattle.std.specs.Io.KnownBytes.{Keeps};
 ghost use Rattle.dvg_tool.specs.Outcomes.{FinishesAs, status_of};
-ghost use Rattle.dvg_io.specs.Watching.{device_of, failures_of};
+ghost use Rattle.dvg_io.specs.Watching.{failures_of, stream_of};
 
 use dvg_io::{ToolFault, Watched};
 use dvg_lay::Refusal;
@@ -42,7 +42,7 @@ pub fn finish<A: Allocator, W: Write>(
     answer: Result<Done<A>, ToolFault>,
     writer: &mut Watched<W>,
 ) -> Result<Done<A>, ToolFault>
-    ensures bytes { Keeps (W.contents (device_of writer.old)) (W.contents (device_of writer.new)) }
+    ensures bytes { Keeps (W.contents (stream_of writer.old)) (W.contents (stream_of writer.new)) }
     ensures answer { FinishesAs answer result (failures_of writer.old) (failures_of writer.new) }
 {
     match writer.flush() {
@@ -54,8 +54,8 @@ pub fn finish<A: Allocator, W: Write>(
 /// The program's exit status (this project's own choice). It is 0 where the job is done. It is 1
 /// for a fault of the text, and where what was asked about isn't good: a draft that `check`
 /// refuses, also in a sketch, a dump that draws no picture, a log with a torn picture or of which
-/// no run drew. It is 2 for a device that failed or want of memory. Words that ask for no job are
-/// 64, which is not an answer of an engine.
+/// no run drew. It is 2 for a stream that failed or want of memory. Arguments that ask for no job
+/// are 64, which is not an answer of an engine.
 pub fn status<A: Allocator>(answer: &Result<Done<A>, ToolFault>) -> u8
     ensures { result ≡ status_of answer.now }
 {

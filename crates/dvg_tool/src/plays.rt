@@ -11,7 +11,7 @@ ghost use Rattle.dvg_tool.specs.Plays.{IsRun, Plays, StopsBeforeShowing, run_sho
 
 use crate::plays_pictures::play_pictures;
 use crate::shows::write_entries;
-use dvg_io::{DeviceFailed, Engine, ToolFault, Watched, serve};
+use dvg_io::{Engine, StreamFailed, ToolFault, Watched, serve};
 use dvg_log::OwnEntry;
 use dvg_mem::{Flat, Image, MEMORY_BYTES, Rom, Store};
 use dvg_read::{MOST_TEXT_BYTES, TraceText, read_trace};
@@ -34,23 +34,23 @@ fn unstarted<A: Allocator>(alloc: A) -> Stopped<A>
 /// Lets the events of a trace happen over its ROM, from a RAM of zeros.
 pub(crate) fn run_text<S: Store>(
     alloc: S::Alloc,
-    told: &TraceText<S::Alloc>,
+    trace: &TraceText<S::Alloc>,
 ) -> Result<Vec<OwnEntry<S::Alloc>, S::Alloc>, Stopped<S::Alloc>>
-    requires { IsRom told.now.rom.items }
-    ensures legal { IsLegal told.now.rom.items zeros (log_by told.now.events result) }
-    ensures headline { Throughout (KeepsHeadline told.now.rom.items zeros)
-        (log_by told.now.events result) }
-    ensures whole { IfOk result (λ entries. length entries.items ≡ length told.now.events) }
+    requires { IsRom trace.now.rom.items }
+    ensures legal { IsLegal trace.now.rom.items zeros (log_by trace.now.events result) }
+    ensures headline { Throughout (KeepsHeadline trace.now.rom.items zeros)
+        (log_by trace.now.events result) }
+    ensures whole { IfOk result (λ entries. length entries.items ≡ length trace.now.events) }
     ensures stopped { IfErr result (λ stopped. length stopped.entries.items ≡ stopped.event) }
-    ensures early { IfErr result (IsStop told.now.rom.items zeros told.now.events) }
+    ensures early { IfErr result (IsStop trace.now.rom.items zeros trace.now.events) }
 {
-    let Ok(rom) = Rom::new(alloc, told.rom.as_slice()) else {
+    let Ok(rom) = Rom::new(alloc, trace.rom.as_slice()) else {
         return Err(unstarted(alloc));
     };
     let Ok(image) = Image::new(alloc, &[0; MEMORY_BYTES]) else {
         return Err(unstarted(alloc));
     };
-    run_trace::<S>(alloc, rom, &image, &told.events)
+    run_trace::<S>(alloc, rom, &image, &trace.events)
 }
 
 // The engine: of a trace it finds the entries of its events, over a RAM that is kept in a store.
@@ -73,15 +73,15 @@ impl<S: Store> Engine<S::Alloc> for EntriesEngine<S> {
     ghost text = { λ engine. run_shown };
 
     fn find(&self, alloc: S::Alloc, read: &[u8]) -> Result<Self::Found, ToolFault> {
-        let told = read_trace(alloc, read)?;
-        Ok(run_text::<S>(alloc, &told))
+        let trace = read_trace(alloc, read)?;
+        Ok(run_text::<S>(alloc, &trace))
     }
 
     fn write<W: Write>(
         &self,
         run: &Self::Found,
         writer: &mut Watched<W>,
-    ) -> Result<(), DeviceFailed> {
+    ) -> Result<(), StreamFailed> {
         match run {
             Ok(entries) => write_entries(entries.as_slice(), writer),
             Err(stopped) => write_entries(stopped.entries.as_slice(), writer),
@@ -120,7 +120,7 @@ fn play_entries<S: Store, R: Read, W: Write>(
 ///   This is decided before all others.
 /// - `Syntax`, `Full`, `Many`, `Unended`: this is the first fault of the text, as `read_trace`
 ///   says.
-/// - `Reader`, `Writer`: that device failed. After `Writer` a beginning of the text went out.
+/// - `Reader`, `Writer`: that stream failed. After `Writer` a beginning of the text went out.
 /// - `Memory`: a growth was refused. At an event, which is a fetch that completes a vector with an
 ///   intensity of at least 1, the text of the events before it went out first. The contract can't
 ///   say where memory was refused, so by it nothing at all may have gone out; tests show that text.

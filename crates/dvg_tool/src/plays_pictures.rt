@@ -8,7 +8,7 @@ ghost use Rattle.dvg_read.specs.TraceTexts.{HasTraceFault};
 ghost use Rattle.dvg_tool.specs.Plays.{IsDrawn, Plays, StopsBeforeShowing, drawn_shown};
 ghost use Rattle.dvg_tool.specs.Plays.{picture_text, zeros};
 
-use dvg_io::{DeviceFailed, Engine, ToolFault, Watched, serve, write_strokes, write_whole};
+use dvg_io::{Engine, StreamFailed, ToolFault, Watched, serve, write_strokes, write_whole};
 use dvg_mem::{Image, MEMORY_BYTES, Rom, Store};
 use dvg_print::Line;
 use dvg_read::{MOST_TEXT_BYTES, TraceText, read_trace};
@@ -18,17 +18,17 @@ use std::io::{Read, Write};
 use std::marker::PhantomData;
 
 /// Lets the events of a trace happen over its ROM, from a RAM of zeros, and keeps the pictures.
-pub(crate) fn draw_text<S: Store>(alloc: S::Alloc, told: &TraceText<S::Alloc>) -> Drawn<S::Alloc>
-    requires { IsRom told.now.rom.items }
-    ensures { Draws told.now.rom.items zeros told.now.events result }
+pub(crate) fn draw_text<S: Store>(alloc: S::Alloc, trace: &TraceText<S::Alloc>) -> Drawn<S::Alloc>
+    requires { IsRom trace.now.rom.items }
+    ensures { Draws trace.now.rom.items zeros trace.now.events result }
 {
-    let Ok(rom) = Rom::new(alloc, told.rom.as_slice()) else {
+    let Ok(rom) = Rom::new(alloc, trace.rom.as_slice()) else {
         return Drawn::unstarted(alloc);
     };
     let Ok(image) = Image::new(alloc, &[0; MEMORY_BYTES]) else {
         return Drawn::unstarted(alloc);
     };
-    draw_trace::<S>(alloc, rom, &image, &told.events)
+    draw_trace::<S>(alloc, rom, &image, &trace.events)
 }
 
 // Writes a picture: its line, and one for each of its strokes. The lines are made in `line`.
@@ -36,7 +36,7 @@ fn write_picture<A: Allocator, W: Write>(
     line: &mut Line,
     picture: &Picture<A>,
     writer: &mut Watched<W>,
-) -> Result<(), DeviceFailed>
+) -> Result<(), StreamFailed>
     ensures { Writes W.contents (picture_text (picture_seen picture.now))
         result writer.old writer.new }
 {
@@ -49,7 +49,7 @@ fn write_picture<A: Allocator, W: Write>(
 fn write_pictures<A: Allocator, W: Write>(
     pictures: &[Picture<A>],
     writer: &mut Watched<W>,
-) -> Result<(), DeviceFailed>
+) -> Result<(), StreamFailed>
     ensures { Writes W.contents (flat_map picture_text (map picture_seen pictures.now))
         result writer.old writer.new }
 {
@@ -80,15 +80,15 @@ impl<S: Store> Engine<S::Alloc> for PicturesEngine<S> {
     ghost text = { λ engine. drawn_shown };
 
     fn find(&self, alloc: S::Alloc, read: &[u8]) -> Result<Self::Found, ToolFault> {
-        let told = read_trace(alloc, read)?;
-        Ok(draw_text::<S>(alloc, &told))
+        let trace = read_trace(alloc, read)?;
+        Ok(draw_text::<S>(alloc, &trace))
     }
 
     fn write<W: Write>(
         &self,
         drawn: &Self::Found,
         writer: &mut Watched<W>,
-    ) -> Result<(), DeviceFailed> {
+    ) -> Result<(), StreamFailed> {
         write_pictures(drawn.pictures.as_slice(), writer)
     }
 }

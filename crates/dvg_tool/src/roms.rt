@@ -8,7 +8,7 @@ ghost use Rattle.dvg_io.specs.Watching.{Writes};
 ghost use Rattle.dvg_tool.specs.Roms.{HasRomFault, HasRomSize, IsRomFault, IsRomOf, WritesRom};
 ghost use Rattle.dvg_tool.specs.Roms.{words_text};
 
-use dvg_io::{DeviceFailed, Engine, ToolFault, Watched, collect_words, serve, write_whole};
+use dvg_io::{Engine, StreamFailed, ToolFault, Watched, collect_words, serve, write_whole};
 use dvg_mem::{FIRST_LARGE_ROM_WORD, FIRST_ROM_WORD, LARGE_ROM_BYTES, MEMORY_BYTES};
 use dvg_print::Line;
 use dvg_read::TextFault;
@@ -26,7 +26,7 @@ fn write_rows<W: Write>(
     first: u16,
     words: &[u16],
     writer: &mut Watched<W>,
-) -> Result<(), DeviceFailed>
+) -> Result<(), StreamFailed>
     ensures { Writes W.contents (rom_lines first words.now) result writer.old writer.new }
 {
     let mut line = Line::new();
@@ -47,7 +47,7 @@ fn write_rom<W: Write>(
     first: u16,
     words: &[u16],
     writer: &mut Watched<W>,
-) -> Result<(), DeviceFailed>
+) -> Result<(), StreamFailed>
     ensures { Writes W.contents (map.now ++ rom_lines first words.now)
         result writer.old writer.new }
 {
@@ -95,7 +95,7 @@ impl<A: Allocator + Copy> Engine<A> for RomEngine {
         &self,
         words: &Vec<u16, A>,
         writer: &mut Watched<W>,
-    ) -> Result<(), DeviceFailed> {
+    ) -> Result<(), StreamFailed> {
         if words.len() == MEMORY_BYTES / 2 {
             write_rom(b"", FIRST_ROM_WORD, words.as_slice(), writer)
         } else {
@@ -109,7 +109,7 @@ impl<A: Allocator + Copy> Engine<A> for RomEngine {
 /// lines, from word address 400 on (the text is this project's own choice).
 ///
 /// - `RomSize`: the input has another number of bytes; no more than 4,097 are taken.
-/// - `Reader`, `Writer`: that device failed. After `Writer` a beginning of the text went out.
+/// - `Reader`, `Writer`: that stream failed. After `Writer` a beginning of the text went out.
 /// - `Memory`: a growth was refused.
 ///
 /// Where it stops before it writes, which is at any fault but `Writer`, the writer is as it was.

@@ -4,7 +4,7 @@ ghost use Rattle.dvg_log.specs.Entries.{shown_of};
 ghost use Rattle.dvg_print.specs.Shows.{shown, shown_entry, strokes_of};
 ghost use Rattle.dvg_io.specs.Watching.{Writes};
 
-use dvg_io::{DeviceFailed, Watched, write_strokes, write_whole};
+use dvg_io::{StreamFailed, Watched, write_strokes, write_whole};
 use dvg_log::{Entry, OwnEntry};
 use dvg_print::Line;
 use std::alloc::Allocator;
@@ -15,7 +15,7 @@ fn write_drawn<A: Allocator, W: Write>(
     line: &mut Line,
     entry: &OwnEntry<A>,
     writer: &mut Watched<W>,
-) -> Result<(), DeviceFailed>
+) -> Result<(), StreamFailed>
     ensures { Writes W.contents (strokes_of (shown_of entry.now))
         result writer.old writer.new }
 {
@@ -31,7 +31,7 @@ fn write_entry<A: Allocator, W: Write>(
     number: usize,
     entry: &OwnEntry<A>,
     writer: &mut Watched<W>,
-) -> Result<(), DeviceFailed>
+) -> Result<(), StreamFailed>
     ensures { Writes W.contents (shown_entry true number (shown_of entry.now))
         result writer.old writer.new }
 {
@@ -44,7 +44,7 @@ fn write_entry<A: Allocator, W: Write>(
 pub fn write_entries<A: Allocator, W: Write>(
     entries: &[OwnEntry<A>],
     writer: &mut Watched<W>,
-) -> Result<(), DeviceFailed>
+) -> Result<(), StreamFailed>
     ensures { Writes W.contents (shown true 0 (map shown_of entries.now))
         result writer.old writer.new }
 {

@@ -39,11 +39,11 @@ fn events(rt: &HostRuntime, trace: &Trace) -> Option<Vec<Event>> {
 /// Plays the trace of a text, and finds the first entry of its log that tears a picture. None where
 /// the text isn't a trace, or memory is refused.
 fn judge(rt: &HostRuntime, text: &[u8]) -> Option<Option<usize>> {
-    let told = read_trace(rt.alloc(), text).ok()?;
-    let rom = Rom::new(rt.alloc(), told.rom.as_slice()).ok()?;
+    let trace = read_trace(rt.alloc(), text).ok()?;
+    let rom = Rom::new(rt.alloc(), trace.rom.as_slice()).ok()?;
     let image = Image::new(rt.alloc(), &[0; MEMORY_BYTES]).ok()?;
-    let entries = run_trace::<Banked>(rt.alloc(), rom, &image, &told.events).ok()?;
-    let events = events(rt, &told.events)?;
+    let entries = run_trace::<Banked>(rt.alloc(), rom, &image, &trace.events).ok()?;
+    let events = events(rt, &trace.events)?;
     Some(first_torn(events.as_slice(), entries.as_slice()))
 }
 
@@ -51,10 +51,10 @@ fn main(rt: HostRuntime) -> ExitCode {
     let Ok(text) = io::read_to_string(rt.alloc(), rt.stdin()) else {
         return ExitCode::from(2);
     };
-    let (told, status) = match judge(&rt, text.as_bytes()) {
+    let (printed, status) = match judge(&rt, text.as_bytes()) {
         Some(None) => (println!(rt; "not torn"), 0),
         Some(Some(number)) => (println!(rt; "torn at {number}"), 1),
         None => return ExitCode::from(2),
     };
-    ExitCode::from(if told.is_ok() { status } else { 2 })
+    ExitCode::from(if printed.is_ok() { status } else { 2 })
 }

@@ -50,10 +50,10 @@ fn a_memory_has_so_many_bytes(rt: HostRuntime) -> Result<(), Fail> {
 }
 
 #[test]
-fn want_of_memory_is_told(rt: HostRuntime) -> Result<(), Fail> {
+fn want_of_memory_is_answered(rt: HostRuntime) -> Result<(), Fail> {
     let heap = LocalHeap::new(rt.alloc(), 512)?;
-    let told = Some(MemFault::OutOfMemory);
-    assert_eq!(rt; refusals(&heap, &[7; 2048]), (told, told));
+    let answered = Some(MemFault::OutOfMemory);
+    assert_eq!(rt; refusals(&heap, &[7; 2048]), (answered, answered));
     Ok(())
 }
 

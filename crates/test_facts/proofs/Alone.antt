@@ -123,10 +123,10 @@ one_way memory words most some drew one other =
     (cc, cc)
 
 -- so it is with what is answered
-pub told : {A E : Type 0} (memory : ℕ → Option ℕ) (most : ℕ) (drew : List Stroke)
+pub answered : {A E : Type 0} (memory : ℕ → Option ℕ) (most : ℕ) (drew : List Stroke)
     (result : Result (ℕ × Vec Stroke A) E)
     → IfOk result (λ drawn. IsComplete memory drawn.0 drawn.1.items) → IsComplete memory most drew
     → IfOk result (λ drawn. (drawn.0 ≡ most) × (drawn.1.items ≡ drew))
-told memory most drew (Ok drawn) one other =
+answered memory most drew (Ok drawn) one other =
     one_way memory drawn.0 most drawn.1.items drew one other
-told memory most drew (Err refused) one other = tt
+answered memory most drew (Err refused) one other = tt

@@ -17,14 +17,14 @@ use Rattle.dvg_gen.specs.Told.{Fails}
 use Rattle.dvg_gen.specs.Machine.{IsReply}
 use Rattle.dvg_read.specs.declared.fault.TraceFault.{TraceFault}
 use Rattle.dvg_read.specs.declared.fault.TraceFault.TheVariants as of_trace
-use Rattle.dvg_read.specs.Texts.{told, lines}
+use Rattle.dvg_read.specs.Texts.{lines, unpassed}
 use Rattle.dvg_read.specs.RomTexts.{RomText, unmapped}
 use Rattle.dvg_read.specs.TraceTexts.{DenotesTrace, FitsDraft, tick, once, nothing, alone, whole}
 use Rattle.dvg_read.specs.TraceGives.{GivesTrace, StopsReading}
 use Rattle.dvg_tool.specs.Plays.{IsPlayed, log_text, event_of, zeros}
 use Rattle.dvg_read.proofs.OneTrace.{one_trace_meaning, no_fault_beside_trace}
 use Rattle.clap.specs.Words.{Row, Text as WordText}
-use Rattle.dvg_args.specs.Words.{IsJob}
+use Rattle.dvg_args.specs.Arguments.{IsJob}
 use Rattle.dvg_args.specs.declared.task.Job.{Job}
 use Rattle.dvg_args.specs.declared.task.Job.TheVariants.{List as list_job, ListAt, Rom, Picture, PictureSvg, Check, Play, PlaySvg, Torn, Draw, DrawCheck, Lay}
 use Rattle.dvg_driver.specs.declared.action.Action.{Action}
@@ -116,23 +116,23 @@ stack_under Word r = absurd r
 stack_under (Done list) r = absurd r
 stack_under (Broke fault) r = ap Broke r
 
--- nothing is told of the ROM
-abbrev untold : RomText
-untold = record { map = None; given = [] }
+-- nothing is stated of the ROM
+abbrev unstated : RomText
+unstated = record { map = None; given = [] }
 
 -- the text of a tick
-pub denotes : DenotesTrace tick_text untold (Tick ∷ [])
+pub denotes : DenotesTrace tick_text unstated (Tick ∷ [])
 denotes = record {
   short = lit≤ tt;
-  spelled = record { front = []; rest = told (lines tick_text); cut = refl; head = unmapped tt; begun = whole (alone (codes "tick") nothing (tick once)) };
+  spelled = record { front = []; rest = unpassed (lines tick_text); cut = refl; head = unmapped tt; begun = whole (alone (codes "tick") nothing (tick once)) };
   fits = record { count = lit≤ tt; drafts = All-from_recursion FitsDraft (Tick ∷ []) (tt, tt); last = tt };
 }
 
 pub events_are : (events : List Happening) (S : List ℕ) → GivesTrace tick_text events S → events ≡ Tick ∷ []
-events_are events S gives = (one_trace_meaning tick_text untold gives.rom (Tick ∷ []) events denotes gives.denotes).1
+events_are events S gives = (one_trace_meaning tick_text unstated gives.rom (Tick ∷ []) events denotes gives.denotes).1
 
 pub no_fault : (fault : TraceFault) → StopsReading fault tick_text → fault ≡ of_trace.Memory
-no_fault (of_trace.Text fault) stops = absurd (no_fault_beside_trace tick_text untold (Tick ∷ []) denotes fault stops)
+no_fault (of_trace.Text fault) stops = absurd (no_fault_beside_trace tick_text unstated (Tick ∷ []) denotes fault stops)
 no_fault of_trace.Memory stops = refl
 
 first_log : (log : Log) → map event_of (reverse log) ++ [] ≡ Tick ∷ [] → events_of log ≡ Tick ∷ []

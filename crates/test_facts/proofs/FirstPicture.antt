@@ -22,17 +22,17 @@ event_of (event ⟼ entry) = event
 abbrev lines_of : {A : Type 0} → List Happening → List (OwnEntry A) → List Line
 lines_of events entries = map (λ line. line.0 ⟼ shown_of line.1) (zip events entries)
 
-entries_told : {A : Type 0} (events : List Happening) (entries : List (OwnEntry A)) → length entries ≡ length events → map entry_of (lines_of events entries) ≡ map shown_of entries
-entries_told [] [] h = refl
-entries_told (event ∷ events) [] h = absurd (cc)
-entries_told [] (entry ∷ entries) h = absurd (cc)
-entries_told (event ∷ events) (entry ∷ entries) h = ap (λ l. shown_of entry ∷ l) (entries_told events entries (omega (arith, h)))
+entries_listed : {A : Type 0} (events : List Happening) (entries : List (OwnEntry A)) → length entries ≡ length events → map entry_of (lines_of events entries) ≡ map shown_of entries
+entries_listed [] [] h = refl
+entries_listed (event ∷ events) [] h = absurd (cc)
+entries_listed [] (entry ∷ entries) h = absurd (cc)
+entries_listed (event ∷ events) (entry ∷ entries) h = ap (λ l. shown_of entry ∷ l) (entries_listed events entries (omega (arith, h)))
 
-events_told : {A : Type 0} (events : List Happening) (entries : List (OwnEntry A)) → length entries ≡ length events → map event_of (lines_of events entries) ≡ events
-events_told [] [] h = refl
-events_told (event ∷ events) [] h = absurd (cc)
-events_told [] (entry ∷ entries) h = absurd (cc)
-events_told (event ∷ events) (entry ∷ entries) h = ap (λ l. event ∷ l) (events_told events entries (omega (arith, h)))
+events_listed : {A : Type 0} (events : List Happening) (entries : List (OwnEntry A)) → length entries ≡ length events → map event_of (lines_of events entries) ≡ events
+events_listed [] [] h = refl
+events_listed (event ∷ events) [] h = absurd (cc)
+events_listed [] (entry ∷ entries) h = absurd (cc)
+events_listed (event ∷ events) (entry ∷ entries) h = ap (λ l. event ∷ l) (events_listed events entries (omega (arith, h)))
 
 events_mapped : (log : Log) → events_of log ≡ map event_of log
 events_mapped [] = refl
@@ -41,9 +41,9 @@ events_mapped ((event ⟼ entry) ∷ log) = ap (λ l. event ∷ l) (events_mappe
 -- the first picture, as lines in order
 shown_log : {A : Type 0} (R image : List ℕ) (entries : List (OwnEntry A)) (log : Log) → map event_of (reverse log) ≡ first_picture_events → IsLegal R image log
     → length entries ≡ 30 → IsLegal R image (log_of first_picture_events entries) → (events_of (log_of first_picture_events entries) ≡ events_of log) → map shown_of entries ≡ map entry_of (reverse log)
-shown_log R image entries log told legal count legal2 same =
+shown_log R image entries log listed legal count legal2 same =
     let is : log_of first_picture_events entries ≡ log = same_log R image (log_of first_picture_events entries) log legal2 legal same in
-    sym (entries_told first_picture_events entries count) ∙ ap (map entry_of) (sym (reverse-reverse (lines_of first_picture_events entries))) ∙ ap (λ l. map entry_of (reverse l)) is
+    sym (entries_listed first_picture_events entries count) ∙ ap (map entry_of) (sym (reverse-reverse (lines_of first_picture_events entries))) ∙ ap (λ l. map entry_of (reverse l)) is
 
 events_append : (one other : List Line) → map event_of (one ++ other) ≡ map event_of one ++ map event_of other
 events_append [] other = refl
@@ -64,4 +64,4 @@ first_picture_log = reverse (paired first_picture_events first_picture)
 pub first_picture_is : {A : Type 0} (entries : List (OwnEntry A)) → length entries ≡ 30 → IsLegal zeros zeros (log_of first_picture_events entries) → map shown_of entries ≡ first_picture
 first_picture_is entries count legal =
     shown_log zeros zeros entries first_picture_log refl legal_first_picture count legal
-    (events_mapped (log_of first_picture_events entries) ∙ map_reverse_events (lines_of first_picture_events entries) ∙ ap reverse (events_told first_picture_events entries count))
+    (events_mapped (log_of first_picture_events entries) ∙ map_reverse_events (lines_of first_picture_events entries) ∙ ap reverse (events_listed first_picture_events entries count))

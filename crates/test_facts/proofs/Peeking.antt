@@ -3,7 +3,7 @@ use Rattle.std.proofs.Common.{◌≡◌, ℕ, List, [], false, take, drop, refl,
 use Rattle.dvg_driver.specs.declared.action.Action.TheVariants.{Peek}
 use Rattle.dvg_world.specs.Standing.{State, WorldAfter}
 use Rattle.dvg_device.specs.Devices.{Answered, Held, IsNewWorld, Open, PartAnswers, Nothing, World, Driver, Generator}
-use Rattle.dvg_device.specs.Replies.{told_by}
+use Rattle.dvg_device.specs.Replies.{answered_by}
 use Rattle.dvg_device.specs.declared.reply.Reply.{Reply}
 use Rattle.dvg_device.specs.declared.reply.Reply.TheVariants.{Came}
 use Rattle.dvg_log.specs.declared.entry.Entry.TheVariants.{Acted}
@@ -25,6 +25,6 @@ first_peek old new answer staged is answered =
     ⊎_elim
     (λ happens.
     let after = happens.stands (drop 2048 staged) (take 2048 staged) [] opened.2 in
-    happens.told ∙ ap told_by (peeks (drop 2048 staged) (take 2048 staged) opened.2.legal happens.entry after.legal))
+    happens.answered ∙ ap answered_by (peeks (drop 2048 staged) (take 2048 staged) opened.2.legal happens.entry after.legal))
     (λ lacks. absurd lacks.room)
     part.3

@@ -2,14 +2,14 @@
 ghost use Rattle.std.specs.Prelude.{◌≡◌, IfOk, true, false};
 
 use clap::Error;
-use dvg_args::laws::text_job_words;
+use dvg_args::laws::text_job_arguments;
 use dvg_args::{Job, job};
 use std::alloc::Global;
 
-/// The words `dvg play --all` ask for `play` of each entry, over a flat store.
+/// The arguments `dvg play --all` ask for `play` of each entry, over a flat store.
 pub fn asks_for_each_entry(alloc: Global) -> Result<Job, Error>
     ensures { IfOk result (λ job. job ≡ Job.Play true false) }
 {
-    text_job_words();
+    text_job_arguments();
     job(alloc, &["dvg", "play", "--all"])
 }

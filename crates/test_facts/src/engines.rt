@@ -2,7 +2,7 @@
 ghost use Rattle.std.specs.Prelude.{◌≡◌, IsTrue, Some};
 ghost use Rattle.std.specs.Io.KnownBytes.{Appends};
 ghost use Rattle.test_facts.specs.Facts.{peek_line, tick_text};
-ghost use Rattle.dvg_io.specs.Watching.{device_of, failures_of};
+ghost use Rattle.dvg_io.specs.Watching.{failures_of, stream_of};
 
 use dvg_tool::{Watched, play};
 use std::alloc::Global;
@@ -17,9 +17,9 @@ pub fn plays_a_tick<R: Read, W: Write>(
 ) -> bool
     requires fresh_reader { failures_of reader.old ≡ 0 }
     requires fresh_writer { failures_of writer.old ≡ 0 }
-    requires text { R.remaining (device_of reader.old) ≡ Some tick_text }
-    ensures { IsTrue result → Appends (W.contents (device_of writer.old))
-        (W.contents (device_of writer.new)) peek_line }
+    requires text { R.remaining (stream_of reader.old) ≡ Some tick_text }
+    ensures { IsTrue result → Appends (W.contents (stream_of writer.old))
+        (W.contents (stream_of writer.new)) peek_line }
 {
     match play(alloc, reader, writer, true) {
         Ok(()) => true,

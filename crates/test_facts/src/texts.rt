@@ -12,7 +12,7 @@ pub fn reads_a_tick(alloc: Global, text: &[u8]) -> Option<Trace<Global>>
     ensures { IfSome result (λ events. events ≡ one_tick) }
 {
     match read_trace(alloc, text) {
-        Ok(told) => Some(told.events),
+        Ok(trace) => Some(trace.events),
         Err(_) => None,
     }
 }

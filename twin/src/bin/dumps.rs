@@ -252,14 +252,14 @@ fn show(seed: u64) -> ExitCode {
 }
 
 fn main() -> ExitCode {
-    let words: Vec<String> = std::env::args().collect();
-    let numbers: Vec<u64> = words
+    let arguments: Vec<String> = std::env::args().collect();
+    let numbers: Vec<u64> = arguments
         .iter()
         .skip(1)
         .take(2)
-        .filter_map(|word| word.parse().ok())
+        .filter_map(|argument| argument.parse().ok())
         .collect();
-    match (numbers.as_slice(), &words[..]) {
+    match (numbers.as_slice(), &arguments[..]) {
         ([seed], [_, _]) => show(*seed),
         ([images, seed], [_, _, _, program, twin]) => {
             match run(*images, *seed, Path::new(program), Path::new(twin)) {

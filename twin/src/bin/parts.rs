@@ -278,8 +278,8 @@ fn run_judge() {
 }
 
 fn main() {
-    let words: Vec<String> = std::env::args().collect();
-    match words.get(1).map(String::as_str) {
+    let arguments: Vec<String> = std::env::args().collect();
+    match arguments.get(1).map(String::as_str) {
         Some("generator") => run_generator(),
         Some("check") => run_check(1024),
         Some("check-large") => run_check(2048),

@@ -76,13 +76,13 @@ fn twin_answer(made: &Made, text: &[u8]) -> io::Result<Answer> {
 /// Asks the program about a text, and tells where the twin answers otherwise.
 fn compare(program: &Path, text: &[u8], faults: &mut Vec<String>) -> io::Result<()> {
     let soon = is_soon_drawn(text);
-    for (words, made) in &QUESTIONS {
+    for (arguments, made) in &QUESTIONS {
         if matches!(made, Made::Svg(_)) && !soon {
             continue;
         }
-        if ask(program, words, text)? != twin_answer(made, text)? {
-            let words = words.join(" ");
-            faults.push(format!("the program and the twin differ in `{words}`"));
+        if ask(program, arguments, text)? != twin_answer(made, text)? {
+            let arguments = arguments.join(" ");
+            faults.push(format!("the program and the twin differ in `{arguments}`"));
         }
     }
     Ok(())
@@ -124,14 +124,14 @@ fn show(seed: u64, mistaken: bool) -> io::Result<()> {
 }
 
 fn main() -> ExitCode {
-    let words: Vec<String> = std::env::args().skip(1).collect();
-    let words: Vec<&str> = words.iter().map(String::as_str).collect();
-    if let [seed] | [seed, "mistaken"] = words[..]
+    let arguments: Vec<String> = std::env::args().skip(1).collect();
+    let arguments: Vec<&str> = arguments.iter().map(String::as_str).collect();
+    if let [seed] | [seed, "mistaken"] = arguments[..]
         && let Ok(seed) = seed.parse()
     {
-        return ExitCode::from(u8::from(show(seed, words.len() == 2).is_err()));
+        return ExitCode::from(u8::from(show(seed, arguments.len() == 2).is_err()));
     }
-    let (count, seed, program) = match words[..] {
+    let (count, seed, program) = match arguments[..] {
         [count, seed] => (count, seed, None),
         [count, seed, program] => (count, seed, Some(Path::new(program))),
         _ => ("", "", None),

@@ -12,7 +12,7 @@ use twin::storm::recount::{Counts, recount};
 use twin::storm::schedules::Schedule;
 
 /// How many failures are printed with their traces. Of the others the seed is printed.
-const TOLD_WHOLE: u64 = 5;
+const PRINTED_WHOLE: u64 = 5;
 
 /// The programs that play and judge.
 struct Players<'a> {
@@ -112,7 +112,7 @@ fn storm(count: u64, seed: u64, players: &Players) -> io::Result<Report<Counts>>
         let (counts, faults) = players.play(&schedule)?;
         let mut report = report.lock().unwrap_or_else(PoisonError::into_inner);
         report.add(&format!("the schedule of seed {seed}"), counts, &faults);
-        if !faults.is_empty() && report.failed <= TOLD_WHOLE {
+        if !faults.is_empty() && report.failed <= PRINTED_WHOLE {
             println!("its trace:\n{}", schedule.text);
         }
         Ok(())
@@ -146,8 +146,8 @@ fn find_players<'a>(program: &'a Path, twin: &'a Path, judge: &'a Path) -> io::R
 }
 
 fn main() -> ExitCode {
-    let words: Vec<String> = std::env::args().collect();
-    let [_, count, seed, program, twin, judge] = words.as_slice() else {
+    let arguments: Vec<String> = std::env::args().collect();
+    let [_, count, seed, program, twin, judge] = arguments.as_slice() else {
         eprintln!("usage: storm COUNT SEED PROGRAM TWIN JUDGE");
         return ExitCode::from(64);
     };

@@ -3,8 +3,8 @@
 //!
 //! It has the same limits, texts and statuses, as tests/program sees. Only where standard input or
 //! standard output was closed by the caller do the two differ, as Rust's runtime opens /dev/null in
-//! its place, and for words that ask for help or for nothing the program can do: those it answers
-//! with one line and the status 64.
+//! its place, and for arguments that ask for help or for nothing the program can do: those it
+//! answers with one line and the status 64.
 
 use std::ffi::OsString;
 use std::fmt;
@@ -47,7 +47,7 @@ const ROM_END: usize = 0xC00;
 /// How many bytes of a ROM stand in a line.
 const ROM_LINE_BYTES: usize = 16;
 
-/// The exit status of words that ask for nothing the program can do.
+/// The exit status of arguments that ask for nothing the program can do.
 const MISUSE: u8 = 64;
 
 /// Why a job could not be finished.
@@ -99,7 +99,7 @@ impl From<LogFault> for Fault {
 }
 
 impl Fault {
-    /// The exit status: 1 for a fault of the input, 2 for a failing device.
+    /// The exit status: 1 for a fault of the input, 2 for a failing stream.
     fn status(&self) -> u8 {
         match self {
             Fault::Reader | Fault::Writer => 2,
@@ -388,8 +388,8 @@ fn show_of(options: &Options) -> Option<Show> {
 }
 
 /// What `list` is asked for.
-fn list_by(words: &[String]) -> Option<Result<ExitCode, Fault>> {
-    let options = Options::read(words, &[], &["--at"])?;
+fn list_by(arguments: &[String]) -> Option<Result<ExitCode, Fault>> {
+    let options = Options::read(arguments, &[], &["--at"])?;
     let at = match options.value("--at") {
         Some(digits) => hex(digits.as_bytes(), 3)?,
         None => 0,
@@ -397,9 +397,9 @@ fn list_by(words: &[String]) -> Option<Result<ExitCode, Fault>> {
     Some(list(usize::from(at)))
 }
 
-/// What `picture` is asked for. How large it is shown is told of an SVG alone.
-fn picture_by(words: &[String]) -> Option<Result<ExitCode, Fault>> {
-    let options = Options::read(words, &["--all", "--svg"], &["--scale"])?;
+/// What `picture` is asked for. How large it is shown is asked of an SVG alone.
+fn picture_by(arguments: &[String]) -> Option<Result<ExitCode, Fault>> {
+    let options = Options::read(arguments, &["--all", "--svg"], &["--scale"])?;
     let show = show_of(&options)?;
     match (options.has("--svg"), options.has("--all")) {
         (true, false) => Some(picture_svg(show.percent)),
@@ -409,9 +409,9 @@ fn picture_by(words: &[String]) -> Option<Result<ExitCode, Fault>> {
 }
 
 /// What `play` is asked for.
-fn play_by(words: &[String]) -> Option<Result<ExitCode, Fault>> {
+fn play_by(arguments: &[String]) -> Option<Result<ExitCode, Fault>> {
     let alone = ["--all", "--banked", "--svg"];
-    let options = Options::read(words, &alone, &["--scale", "--rate"])?;
+    let options = Options::read(arguments, &alone, &["--scale", "--rate"])?;
     let show = show_of(&options)?;
     let shown = match (options.has("--svg"), options.has("--all")) {
         (true, false) => Shown::Svg(show),
@@ -424,8 +424,8 @@ fn play_by(words: &[String]) -> Option<Result<ExitCode, Fault>> {
 }
 
 /// What `draw` is asked for.
-fn draw_by(words: &[String]) -> Option<Result<ExitCode, Fault>> {
-    let options = Options::read(words, &["--check"], &["--scale", "--rate"])?;
+fn draw_by(arguments: &[String]) -> Option<Result<ExitCode, Fault>> {
+    let options = Options::read(arguments, &["--check"], &["--scale", "--rate"])?;
     let show = show_of(&options)?;
     Some(make(&if options.has("--check") {
         Made::Checks
@@ -435,9 +435,9 @@ fn draw_by(words: &[String]) -> Option<Result<ExitCode, Fault>> {
 }
 
 /// What `lay` is asked for.
-fn lay_by(words: &[String]) -> Option<Result<ExitCode, Fault>> {
+fn lay_by(arguments: &[String]) -> Option<Result<ExitCode, Fault>> {
     let alone = ["--table", "--rom", "--equates"];
-    let options = Options::read(words, &alone, &["--half"])?;
+    let options = Options::read(arguments, &alone, &["--half"])?;
     if options.count(&["--half", "--table", "--rom", "--equates"]) > 1 {
         return None;
     }
@@ -457,9 +457,9 @@ fn lay_by(words: &[String]) -> Option<Result<ExitCode, Fault>> {
     Some(make(&made))
 }
 
-/// Does what the words ask for. None where they ask for nothing the program can do.
-fn do_job(words: &[String]) -> Option<Result<ExitCode, Fault>> {
-    let (command, options) = words.split_first()?;
+/// Does what the arguments ask for. None where they ask for nothing the program can do.
+fn do_job(arguments: &[String]) -> Option<Result<ExitCode, Fault>> {
+    let (command, options) = arguments.split_first()?;
     match command.as_str() {
         "list" => list_by(options),
         "rom" if options.is_empty() => Some(rom().map(|()| ExitCode::SUCCESS)),
@@ -475,15 +475,15 @@ fn do_job(words: &[String]) -> Option<Result<ExitCode, Fault>> {
 }
 
 fn main() -> ExitCode {
-    let words: Result<Vec<String>, _> = std::env::args_os()
+    let arguments: Result<Vec<String>, _> = std::env::args_os()
         .skip(1)
         .map(OsString::into_string)
         .collect();
-    let Ok(words) = words else {
+    let Ok(arguments) = arguments else {
         complain(format_args!("dvg: the words are no text"));
         return ExitCode::from(MISUSE);
     };
-    let Some(done) = do_job(&words) else {
+    let Some(done) = do_job(&arguments) else {
         complain(format_args!(
             "usage: dvg list [--at HHH]|rom|check [--bound]|play [--all] [--banked]|torn|\
              picture [--all]|draw [--check]|lay [--half 0|1]"

@@ -37,7 +37,7 @@ enum Spelled {
     Row(Option<String>, Option<Doing>),
 }
 
-/// A line that says something: its number, its words without its name, and what it spells, if it
+/// A line that says something: its number, its tokens without its name, and what it spells, if it
 /// spells anything.
 struct Line {
     number: usize,
@@ -45,14 +45,14 @@ struct Line {
     spelled: Option<Spelled>,
 }
 
-/// An operation of a frame, with its line's number and words.
+/// An operation of a frame, with its line's number and tokens.
 pub struct Written {
     pub op: Op,
     pub number: usize,
     pub said: String,
 }
 
-/// A frame, with the number and the words of the line that begins it, or of the first line.
+/// A frame, with the number and the tokens of the line that begins it, or of the first line.
 pub struct Frame {
     pub name: Option<String>,
     pub begin: (usize, String),
@@ -79,35 +79,35 @@ impl Denoted {
 }
 
 /// A number as a draft spells it: written anew, it is the same.
-fn number(word: &str, least: i64, most: i64) -> Option<i64> {
-    let number: i64 = word.parse().ok()?;
-    ((least..=most).contains(&number) && number.to_string() == word).then_some(number)
+fn number(token: &str, least: i64, most: i64) -> Option<i64> {
+    let number: i64 = token.parse().ok()?;
+    ((least..=most).contains(&number) && number.to_string() == token).then_some(number)
 }
 
 /// A number of this many hexadecimal digits, in small letters.
-fn digits(word: &str, count: usize) -> Option<usize> {
+fn digits(token: &str, count: usize) -> Option<usize> {
     let is_digit = |digit: char| "0123456789abcdef".contains(digit);
-    (word.len() == count && word.chars().all(is_digit))
-        .then(|| usize::from_str_radix(word, 16).ok())
+    (token.len() == count && token.chars().all(is_digit))
+        .then(|| usize::from_str_radix(token, 16).ok())
         .flatten()
 }
 
-fn is_name(word: &str) -> bool {
+fn is_name(token: &str) -> bool {
     let letters = "abcdefghijklmnopqrstuvwxyz";
     let inner = |letter: char| letters.contains(letter) || "0123456789_".contains(letter);
-    (1..=32).contains(&word.len())
-        && word.starts_with(|first| letters.contains(first))
-        && word.chars().all(inner)
-        && digits(word, 3).is_none()
+    (1..=32).contains(&token.len())
+        && token.starts_with(|first| letters.contains(first))
+        && token.chars().all(inner)
+        && digits(token, 3).is_none()
 }
 
-fn name(word: &str) -> Option<String> {
-    is_name(word).then(|| word.to_owned())
+fn name(token: &str) -> Option<String> {
+    is_name(token).then(|| token.to_owned())
 }
 
-/// The operation that words spell in a plain draft.
-fn plain_op(words: &[&str]) -> Option<Op> {
-    Some(match words {
+/// The operation that tokens spell in a plain draft.
+fn plain_op(tokens: &[&str]) -> Option<Op> {
+    Some(match tokens {
         ["vctr", s, x, y, z] => Op::Vctr {
             scale: number(s, 0, 9)? as u32,
             dx: number(x, -1023, 1023)?,
@@ -135,74 +135,74 @@ fn plain_op(words: &[&str]) -> Option<Op> {
     })
 }
 
-fn doing(words: &[&str]) -> Option<Doing> {
-    match words {
+fn doing(tokens: &[&str]) -> Option<Doing> {
+    match tokens {
         [goes @ ("call" | "jump" | "callrom" | "jumprom"), target] if is_name(target) => {
             Some(Doing::Named((*goes).to_owned(), (*target).to_owned()))
         }
-        _ => plain_op(words).map(Doing::Plain),
+        _ => plain_op(tokens).map(Doing::Plain),
     }
 }
 
-/// The name that the first word gives, and the other words.
-fn cut_name<'a, 'b>(words: &'a [&'b str]) -> (Option<&'b str>, &'a [&'b str]) {
-    match words.split_first() {
+/// The name that the first token gives, and the other tokens.
+fn cut_name<'a, 'b>(tokens: &'a [&'b str]) -> (Option<&'b str>, &'a [&'b str]) {
+    match tokens.split_first() {
         Some((first, rest)) => match first.strip_suffix(':').filter(|name| is_name(name)) {
             Some(name) => (Some(name), rest),
-            None => (None, words),
+            None => (None, tokens),
         },
-        None => (None, words),
+        None => (None, tokens),
     }
 }
 
-fn spell(words: &[&str]) -> Option<Spelled> {
-    match words {
+fn spell(tokens: &[&str]) -> Option<Spelled> {
+    match tokens {
         ["map", "2048"] => Some(Spelled::Map(0x800)),
         ["map", "4096"] => Some(Spelled::Map(0x400)),
         ["rom", at, given @ ..] if (1..=8).contains(&given.len()) => {
             let given: Option<Vec<u16>> = given
                 .iter()
-                .map(|word| digits(word, 4).map(|word| word as u16))
+                .map(|token| digits(token, 4).map(|word| word as u16))
                 .collect();
             Some(Spelled::Words(digits(at, 3)?, given?))
         }
         [".frame"] => Some(Spelled::Frame(None)),
-        [".frame", word] => Some(Spelled::Frame(Some(name(word)?))),
+        [".frame", token] => Some(Spelled::Frame(Some(name(token)?))),
         [".rom"] => Some(Spelled::Rom(None)),
         [".rom", at] => Some(Spelled::Rom(Some(digits(at, 3)?))),
-        _ => match cut_name(words) {
+        _ => match cut_name(tokens) {
             (Some(name), []) => Some(Spelled::Row(Some(name.to_owned()), None)),
             (name, rest) => Some(Spelled::Row(name.map(str::to_owned), Some(doing(rest)?))),
         },
     }
 }
 
-/// The words of a line, where bytes that aren't ASCII stay what spells nothing.
-fn words_of(line: &[u8]) -> Vec<String> {
+/// The tokens of a line, where bytes that aren't ASCII stay what spells nothing.
+fn tokens_of(line: &[u8]) -> Vec<String> {
     let line = match line {
         [before @ .., b'\r'] => before,
         _ => line,
     };
     let text: String = line.iter().map(|byte| char::from(*byte)).collect();
-    let told = text.split('#').next().unwrap_or_default();
-    let words = told.split([' ', '\t']).filter(|word| !word.is_empty());
-    words.map(str::to_owned).collect()
+    let content = text.split('#').next().unwrap_or_default();
+    let tokens = content.split([' ', '\t']).filter(|token| !token.is_empty());
+    tokens.map(str::to_owned).collect()
 }
 
-/// The lines of a text that say something, and the words of its first line.
+/// The lines of a text that say something, and the tokens of its first line.
 fn read_lines(text: &[u8]) -> (Vec<Line>, String) {
     let small = text.to_ascii_lowercase();
     let mut lines = Vec::new();
     let mut first = String::new();
     for (number, line) in (1..).zip(small.split(|byte| *byte == b'\n')) {
-        let words = words_of(line);
-        let words: Vec<&str> = words.iter().map(String::as_str).collect();
-        let said = cut_name(&words).1.join(" ");
+        let tokens = tokens_of(line);
+        let tokens: Vec<&str> = tokens.iter().map(String::as_str).collect();
+        let said = cut_name(&tokens).1.join(" ");
         if number == 1 {
             first.clone_from(&said);
         }
-        if !words.is_empty() {
-            let spelled = spell(&words);
+        if !tokens.is_empty() {
+            let spelled = spell(&tokens);
             lines.push(Line {
                 number,
                 said,

@@ -21,12 +21,12 @@ pub struct Answer {
     pub error: Vec<u8>,
 }
 
-/// Asks a program with these words, and this on standard input.
-pub fn ask(program: &Path, words: &[&str], input: &[u8]) -> io::Result<Answer> {
+/// Asks a program with these arguments, and this on standard input.
+pub fn ask(program: &Path, arguments: &[&str], input: &[u8]) -> io::Result<Answer> {
     let mut child = Command::new("timeout")
         .arg(SECONDS)
         .arg(program)
-        .args(words)
+        .args(arguments)
         .stdin(Stdio::piped())
         .stdout(Stdio::piped())
         .stderr(Stdio::piped())

@@ -50,7 +50,7 @@ impl Shape {
     }
 }
 
-/// Shapes that stand one after the other, perhaps at an address that is told.
+/// Shapes that stand one after the other, perhaps at an address that is given.
 struct RomSection {
     shapes: Vec<usize>,
     address: Option<usize>,

@@ -94,12 +94,12 @@ pub fn judge(text: &[u8]) -> (Counts, Wrong) {
     let mut read = text.to_vec();
     match read_sketch(&mut read) {
         Err(fault) => {
-            let told = fault.to_string();
+            let described = fault.to_string();
             for (name, count) in FAULTS.iter().zip(&mut counts.faults) {
-                *count += u64::from(told.starts_with(name));
+                *count += u64::from(described.starts_with(name));
             }
             if !has_fault(text, fault) {
-                wrong.push(format!("the second reader doesn't find '{told}'"));
+                wrong.push(format!("the second reader doesn't find '{described}'"));
             }
         }
         Ok(sketch) => match denoted(text) {
@@ -175,11 +175,11 @@ fn judge_sketch(sketch: &Sketch, denoted: &Denoted, counts: &mut Counts, wrong: 
         let fault = check.as_ref().err()?;
         Some(refusal(denoted, frame, fault))
     });
-    let told = sketch
+    let described = sketch
         .check()
         .err()
         .map(|refusal: Refusal| refusal.to_string());
-    expect(wrong, "refusals", &told, &refused);
+    expect(wrong, "refusals", &described, &refused);
     if refused.is_some() {
         counts.refused += 1;
         return;
@@ -497,11 +497,11 @@ fn judge_table(sketch: &Sketch, denoted: &Denoted, tables: String, wrong: &mut W
             row.number, row.said
         )
     });
-    let told = sketch
+    let described = sketch
         .check_table()
         .err()
         .map(|refusal| refusal.to_string());
-    expect(wrong, "refusals of tables", &told, &low);
+    expect(wrong, "refusals of tables", &described, &low);
     if low.is_none() {
         let mut found = Vec::new();
         let is_written = sketch.write_table(&mut found).is_ok();

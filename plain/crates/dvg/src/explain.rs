@@ -28,19 +28,19 @@ fn in_frames(text: &[u8], name: &[u8], frame: &'static str) -> Found {
     }
 }
 
-/// What is expected of a line that wants a name of its frame. This word goes to one of the ROM.
-fn of_frame<'a>(text: &[u8], name: &'a [u8], word: &'static str) -> Expected<'a> {
+/// What is expected of a line that wants a name of its frame. This argument goes to one of the ROM.
+fn of_frame<'a>(text: &[u8], name: &'a [u8], argument: &'static str) -> Expected<'a> {
     let found = match first_given(text, name, Rows::OfRom) {
-        Some(_) => Found::InRom(word),
+        Some(_) => Found::InRom(argument),
         None => in_frames(text, name, "another frame"),
     };
     Expected::Known("a name of this frame", name, found)
 }
 
-/// What is expected of a line that wants a name of the ROM. This word goes to one of its frame.
-fn of_rom<'a>(text: &[u8], place: Place, name: &'a [u8], word: &'static str) -> Expected<'a> {
+/// What is expected of a line that wants a name of the ROM. This argument goes to one of its frame.
+fn of_rom<'a>(text: &[u8], place: Place, name: &'a [u8], argument: &'static str) -> Expected<'a> {
     let found = match first_given(text, name, place.rows()) {
-        Some(_) => Found::InFrame(word),
+        Some(_) => Found::InFrame(argument),
         None => in_frames(text, name, "a frame"),
     };
     Expected::Known("a name of the ROM", name, found)
@@ -67,49 +67,49 @@ fn in_rom<'a>(line: &[u8]) -> Expected<'a> {
     }
 }
 
-/// Whether a word is a name.
-fn is_name(word: &[u8]) -> bool {
+/// Whether an argument is a name.
+fn is_name(argument: &[u8]) -> bool {
     matches!(
-        read_head(&[b".frame".as_slice(), word]),
+        read_head(&[b".frame".as_slice(), argument]),
         Some(Head::Frame(Some(_)))
     )
 }
 
 /// Whether it has the look of a name, which no number has.
-fn looks_like_name(word: &[u8]) -> bool {
-    match word.first() {
+fn looks_like_name(argument: &[u8]) -> bool {
+    match argument.first() {
         Some(b'a'..=b'z' | b'_') => true,
-        _ => word
+        _ => argument
             .iter()
             .any(|byte| matches!(*byte, b'g'..=b'w' | b'y' | b'z' | b'_')),
     }
 }
 
-/// What is expected in place of a word that is no name.
-fn name_for(word: &[u8]) -> Expected<'_> {
-    match word.first() {
-        Some(b'a'..=b'f') if hex(word, 3).is_some() => Expected::NoAddress(word),
+/// What is expected in place of an argument that is no name.
+fn name_for(argument: &[u8]) -> Expected<'_> {
+    match argument.first() {
+        Some(b'a'..=b'f') if hex(argument, 3).is_some() => Expected::NoAddress(argument),
         _ => Expected::This(NAME),
     }
 }
 
-/// Whether a colon stands in a word.
-fn has_colon(word: &[u8]) -> bool {
-    word.iter().any(|byte| *byte == b':')
+/// Whether a colon stands in an argument.
+fn has_colon(argument: &[u8]) -> bool {
+    argument.iter().any(|byte| *byte == b':')
 }
 
-/// The words of a line, or the first ones of more than ten.
+/// The arguments of a line, or the first ones of more than ten.
 fn first_words(line: &[u8]) -> ArrayVec<&[u8], MAX_WORDS> {
-    if let Some(words) = words_of(line) {
-        return words;
+    if let Some(arguments) = words_of(line) {
+        return arguments;
     }
-    let mut words = ArrayVec::new();
-    for word in line.split(|byte| *byte == b' ' || *byte == b'\t') {
-        if !word.is_empty() && !words.is_full() {
-            words.push(word);
+    let mut arguments = ArrayVec::new();
+    for argument in line.split(|byte| *byte == b' ' || *byte == b'\t') {
+        if !argument.is_empty() && !arguments.is_full() {
+            arguments.push(argument);
         }
     }
-    words
+    arguments
 }
 
 /// Whether a semicolon stands in a line before its comment.
@@ -129,8 +129,8 @@ fn spelled(is_rom: bool, line: &[u8]) -> Expected<'_> {
     if has_semicolon(line) {
         return Expected::This(SEMICOLON);
     }
-    let words = first_words(line);
-    let [first, rest @ ..] = words.as_slice() else {
+    let arguments = first_words(line);
+    let [first, rest @ ..] = arguments.as_slice() else {
         return Expected::Beginning;
     };
     match first {
@@ -141,24 +141,24 @@ fn spelled(is_rom: bool, line: &[u8]) -> Expected<'_> {
     }
 }
 
-/// Whether the first of these words begins with a colon.
-fn begins_with_colon(words: &[&[u8]]) -> bool {
-    match words {
-        [word, ..] => word.starts_with(b":"),
+/// Whether the first of these arguments begins with a colon.
+fn begins_with_colon(arguments: &[&[u8]]) -> bool {
+    match arguments {
+        [argument, ..] => argument.starts_with(b":"),
         [] => false,
     }
 }
 
-/// What is expected of these words after a name.
-fn after_name<'a>(is_rom: bool, words: &[&'a [u8]]) -> Expected<'a> {
-    match words {
+/// What is expected of these arguments after a name.
+fn after_name<'a>(is_rom: bool, arguments: &[&'a [u8]]) -> Expected<'a> {
+    match arguments {
         [first, ..] if first.ends_with(b":") => Expected::This(TWO_NAMES),
         [first, rest @ ..] if is_operation(first) => begun(is_rom, first, rest),
         _ => Expected::Operation,
     }
 }
 
-/// What is expected of a line that this word begins, with these words after it.
+/// What is expected of a line that this argument begins, with these arguments after it.
 fn begun<'a>(is_rom: bool, first: &[u8], rest: &[&'a [u8]]) -> Expected<'a> {
     match (first, rest) {
         (b".frame", [name]) => return name_for(name),

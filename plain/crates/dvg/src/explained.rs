@@ -11,10 +11,10 @@ const MOST_SHOWN: usize = 60;
 pub enum Found {
     /// No line gives it.
     Nowhere,
-    /// The frame in which it was looked for has no such name, but the ROM has, and this word goes
-    /// there.
+    /// The frame in which it was looked for has no such name, but the ROM has, and this argument
+    /// goes there.
     InRom(&'static str),
-    /// The ROM has no such name, but the frame of the line has, and this word goes there.
+    /// The ROM has no such name, but the frame of the line has, and this argument goes there.
     InFrame(&'static str),
     /// A frame has it, which is told so, in this line.
     In(&'static str, usize),
@@ -25,7 +25,7 @@ pub enum Found {
 pub enum Expected<'a> {
     /// This.
     This(&'static str),
-    /// A word that may begin a line.
+    /// An argument that may begin a line.
     Beginning,
     /// An operation after a name.
     Operation,
@@ -74,12 +74,12 @@ fn write_found(f: &mut fmt::Formatter<'_>, name: &[u8], found: Found) -> fmt::Re
     match found {
         Found::Nowhere => Ok(()),
         Found::In(frame, at) => write!(f, " is in {frame}, at line {at}"),
-        Found::InRom(word) => {
-            write!(f, " is in the ROM: {word} ")?;
+        Found::InRom(argument) => {
+            write!(f, " is in the ROM: {argument} ")?;
             write_name(f, name)
         }
-        Found::InFrame(word) => {
-            write!(f, " is in this frame: {word} ")?;
+        Found::InFrame(argument) => {
+            write!(f, " is in this frame: {argument} ")?;
             write_name(f, name)
         }
     }

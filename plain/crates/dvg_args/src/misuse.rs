@@ -21,8 +21,8 @@ fn usage_of(name: &str) -> &'static str {
     }
 }
 
-// How options are refused, in words.
-fn told(kind: ErrorKind) -> &'static str {
+// How options are refused, as a text.
+fn described(kind: ErrorKind) -> &'static str {
     match kind {
         ErrorKind::ArgumentConflict => "two of the options exclude each other",
         ErrorKind::MissingRequiredArgument => "'--scale' and '--rate' want '--svg'",
@@ -37,7 +37,7 @@ pub(crate) fn misuse(alloc: Global, matches: &ArgMatches, kind: ErrorKind) -> Er
         None => help::USAGE,
     };
     let mut command = Command::new(alloc, "dvg").override_usage(usage);
-    match command.error(kind, told(kind)) {
+    match command.error(kind, described(kind)) {
         Ok(error) => error,
         Err(want) => Error::from(want),
     }

@@ -1,7 +1,7 @@
 //! What happens in a world.
 use std::prelude::*;
 
-use crate::reply::{Reply, told};
+use crate::reply::{Reply, answered};
 use crate::request::Request;
 use dvg_frame::Draft;
 use dvg_gen::Stroke;
@@ -20,16 +20,16 @@ pub(crate) fn ask_world(
     picture: &mut Vec<Stroke>,
 ) -> Reply {
     match request {
-        Request::Offer => told(world.offer(draft), picture),
-        Request::Redraw => told(world.redraw(), picture),
-        Request::Tick { .. } => told(world.tick(), picture),
-        Request::Strobe => told(world.strobe(), picture),
+        Request::Offer => answered(world.offer(draft), picture),
+        Request::Redraw => answered(world.redraw(), picture),
+        Request::Tick { .. } => answered(world.tick(), picture),
+        Request::Strobe => answered(world.strobe(), picture),
         Request::Fetch(_) => match world.fetch() {
-            Ok(entry) => told(entry, picture),
+            Ok(entry) => answered(entry, picture),
             Err(_) => Reply::NoMemory,
         },
-        Request::ResetGenerator => told(world.reset_generator(), picture),
-        Request::ResetProcessor => told(world.reset_processor(), picture),
+        Request::ResetGenerator => answered(world.reset_generator(), picture),
+        Request::ResetProcessor => answered(world.reset_processor(), picture),
         Request::ResetAll => reset_all(world, image, staged, picture),
         _ => Reply::Unknown,
     }
@@ -46,5 +46,5 @@ fn reset_all(
         return Reply::WrongSize;
     }
     image.copy_from(staged);
-    told(world.reset_all(image), picture)
+    answered(world.reset_all(image), picture)
 }

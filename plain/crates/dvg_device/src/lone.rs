@@ -1,7 +1,7 @@
 //! A generator alone.
 use std::prelude::*;
 
-use crate::reply::{Reply, told};
+use crate::reply::{Reply, answered};
 use crate::request::Request;
 use dvg_gen::{Generator, Stroke};
 use dvg_log::Entry;
@@ -45,7 +45,7 @@ fn fetch(generator: &mut Generator<Global>, byte: Option<u8>, picture: &mut Vec<
     };
     let low = generator.low_byte();
     match generator.take_byte(byte) {
-        Ok(taken) => told(Entry::of_fetch(address, low, byte, taken), picture),
+        Ok(taken) => answered(Entry::of_fetch(address, low, byte, taken), picture),
         Err(_) => Reply::NoMemory,
     }
 }

@@ -145,7 +145,7 @@ fn acted(action: Action) -> u64 {
 // The reply to an event, by its entry. The strokes of a run that came to a HALT take the place of
 // those before them.
 #[inline(always)]
-pub(crate) fn told(entry: Entry, picture: &mut Vec<Stroke>) -> Reply {
+pub(crate) fn answered(entry: Entry, picture: &mut Vec<Stroke>) -> Reply {
     Reply::Came(match entry {
         Entry::Offered => Entry::Offered,
         Entry::Refused(fault) => Entry::Refused(fault),

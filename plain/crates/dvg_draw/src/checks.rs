@@ -4,7 +4,7 @@ use std::prelude::*;
 use crate::said::Said;
 use dvg_code::OutOfMemory;
 use dvg_frame::{Checker, Draft};
-use dvg_io::{DeviceFailed, Engine, ToolFault, Watched, serve, write_whole};
+use dvg_io::{Engine, StreamFailed, ToolFault, Watched, serve, write_whole};
 use dvg_lay::tool_fault;
 use dvg_mem::Rom;
 use dvg_named::{NamedFrame, Sketch, read_sketch};
@@ -93,7 +93,7 @@ impl<A: Allocator + Copy> Engine<A> for CheckEngine {
         }
     }
 
-    fn write<W: Write>(&self, said: &Said<A>, writer: &mut Watched<W>) -> Result<(), DeviceFailed> {
+    fn write<W: Write>(&self, said: &Said<A>, writer: &mut Watched<W>) -> Result<(), StreamFailed> {
         write_whole(writer, said.text.as_slice())
     }
 }
@@ -105,7 +105,7 @@ impl<A: Allocator + Copy> Engine<A> for CheckEngine {
 /// - A fault of the text: that of the first line at fault. `TooLong`, the text has more than
 ///   1,048,576 bytes, of which no more than 1,048,577 are taken, comes before all others, and
 ///   `UnknownName` after them.
-/// - `Reader`, `Writer`: that device failed. After `Writer` a beginning of the text went out.
+/// - `Reader`, `Writer`: that stream failed. After `Writer` a beginning of the text went out.
 /// - `Memory`: a growth was refused.
 ///
 /// Where it stops before it writes, which is at any fault but `Writer`, the writer is as it was.

@@ -38,7 +38,7 @@ fn draw_frame<A: Allocator + Copy>(
 /// The pictures of frames over the ROM of these bytes, in order.
 ///
 /// - `Refused`: the check refuses a frame, or its picture has more than 65,536 words (this
-///   project's own choice). The first such frame is told.
+///   project's own choice). The first such frame is described.
 /// - `Memory`: a growth was refused.
 pub fn draw_frames<A: Allocator + Copy>(
     alloc: A,

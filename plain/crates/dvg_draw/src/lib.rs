@@ -1,6 +1,6 @@
 //! Pictures of the frames of a sketch, as SVG, and what the check says of them (all formats are
 //! this project's own choice). Each frame is checked first, and is drawn by a run of the generator
-//! over a memory that has it. A refused one is told by its line of the sketch, or by a word of the
+//! over a memory that has it. A refused one is named by its line of the sketch, or by a word of the
 //! ROM.
 #![no_std]
 

@@ -6,8 +6,8 @@ use dvg_code::{Code, OutOfMemory, decode, encode};
 use dvg_gen::Beam;
 use std::alloc::Allocator;
 
-/// Follows a run beside its generator, and keeps what is told of its instructions, if that is asked
-/// for.
+/// Follows a run beside its generator, and keeps what is recorded of its instructions, if that is
+/// asked for.
 pub(crate) struct Tracer<A: Allocator> {
     traces: bool,
     /// The first word of an instruction that wants a second one.
@@ -58,7 +58,7 @@ impl<A: Allocator> Tracer<A> {
         }
     }
 
-    /// What was told.
+    /// What was recorded.
     pub(crate) fn into_ran(self) -> Vec<Ran, A> {
         self.ran
     }

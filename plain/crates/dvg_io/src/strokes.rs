@@ -1,6 +1,6 @@
 //! Strokes that are written.
 use crate::transfer::write_whole;
-use crate::watched::{DeviceFailed, Watched};
+use crate::watched::{StreamFailed, Watched};
 use dvg_gen::Stroke;
 use dvg_print::Line;
 use std::io::Write;
@@ -10,7 +10,7 @@ pub fn write_strokes<W: Write>(
     line: &mut Line,
     strokes: &[Stroke],
     writer: &mut Watched<W>,
-) -> Result<(), DeviceFailed> {
+) -> Result<(), StreamFailed> {
     for stroke in strokes {
         line.become_stroke(*stroke);
         write_whole(writer, line.as_bytes())?;

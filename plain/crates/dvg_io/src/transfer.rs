@@ -1,8 +1,8 @@
-//! Whole reads and writes through watched devices.
+//! Whole reads and writes through watched streams.
 use std::prelude::*;
 
 use crate::fault::ToolFault;
-use crate::watched::{DeviceFailed, Watched};
+use crate::watched::{StreamFailed, Watched};
 use dvg_code::{OutOfMemory, word_at};
 use std::alloc::Allocator;
 use std::io::{Read, Write};
@@ -45,11 +45,11 @@ pub fn collect_words<A: Allocator>(alloc: A, bytes: &[u8]) -> Result<Vec<u16, A>
 /// Writes the whole of a text, by as many writes as it takes. After a failure a beginning of it
 /// went out.
 #[inline(always)]
-pub fn write_whole<W: Write>(writer: &mut Watched<W>, text: &[u8]) -> Result<(), DeviceFailed> {
+pub fn write_whole<W: Write>(writer: &mut Watched<W>, text: &[u8]) -> Result<(), StreamFailed> {
     let mut rest = text;
     while !rest.is_empty() {
         let Ok(count) = writer.write(rest) else {
-            return Err(DeviceFailed);
+            return Err(StreamFailed);
         };
         rest = &rest[count..];
     }

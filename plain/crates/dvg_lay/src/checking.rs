@@ -1,4 +1,4 @@
-//! The check of frames, and what is told of a refused one.
+//! The check of frames, and what is said of a refused one.
 use std::prelude::*;
 
 use crate::refusal::{Blamed, Reason, Refusal, Unlaid};
@@ -99,8 +99,8 @@ fn tell<A: Allocator + Copy>(
     }
 }
 
-/// The refusal of a frame whose picture has so many words, told by the line of operation 0. Or else
-/// a growth was refused.
+/// The refusal of a frame whose picture has so many words, named by the line of operation 0. Or
+/// else a growth was refused.
 pub fn tell_long<A: Allocator + Copy>(
     alloc: A,
     names: &[RomName],
@@ -168,7 +168,7 @@ fn first_low(ops: &[Op]) -> Option<usize> {
 }
 
 /// Tells of the first frame with an operation that names a word of the ROM below 400.
-pub(crate) fn check_told<A: Allocator + Copy>(
+pub(crate) fn check_tellable<A: Allocator + Copy>(
     alloc: A,
     names: &[RomName],
     frames: &[NamedFrame],

@@ -2,7 +2,7 @@
 use std::prelude::*;
 
 use crate::form::{Form, Laid, lay};
-use dvg_io::{DeviceFailed, Engine, ToolFault, Watched, serve, write_whole};
+use dvg_io::{Engine, StreamFailed, ToolFault, Watched, serve, write_whole};
 use dvg_mem::Rom;
 use dvg_named::{NamedFault, Sketch, SketchFault, read_sketch};
 use dvg_read::{MOST_TEXT_BYTES, TextFault};
@@ -74,7 +74,7 @@ impl<A: Allocator + Copy> Engine<A> for LayEngine {
         }
     }
 
-    fn write<W: Write>(&self, laid: &Laid<A>, writer: &mut Watched<W>) -> Result<(), DeviceFailed> {
+    fn write<W: Write>(&self, laid: &Laid<A>, writer: &mut Watched<W>) -> Result<(), StreamFailed> {
         write_whole(writer, laid.as_bytes())
     }
 }
@@ -86,7 +86,7 @@ impl<A: Allocator + Copy> Engine<A> for LayEngine {
 /// - A fault of the text: that of the first line at fault. `TooLong`, the text has more than
 ///   1,048,576 bytes, of which no more than 1,048,577 are taken, comes before all others, and
 ///   `UnknownName` after them.
-/// - `Reader`, `Writer`: that device failed. After `Writer` a beginning of the text went out.
+/// - `Reader`, `Writer`: that stream failed. After `Writer` a beginning of the text went out.
 /// - `Memory`: a growth was refused.
 ///
 /// Where it stops before it writes, which is at any fault but `Writer`, the writer is as it was.

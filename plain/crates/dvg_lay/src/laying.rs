@@ -1,7 +1,7 @@
 //! What is laid out of a sketch.
 use std::prelude::*;
 
-use crate::checking::{check_all, check_told, good_frame};
+use crate::checking::{check_all, check_tellable, good_frame};
 use crate::names::put_names;
 use crate::refusal::Unlaid;
 use crate::table::{put_laid, put_table};
@@ -68,7 +68,7 @@ fn put_tables<A: Allocator + Copy>(
 ///
 /// - `Refused`: the check refuses a frame over the ROM, as with `lay_bytes`. Or it accepts all, and
 ///   an operation calls or jumps to a word of the ROM below 400, which in a table is one of the
-///   frame. The first such operation of the first such frame is told.
+///   frame. The first such operation of the first such frame is described.
 /// - `Memory`: a growth was refused.
 pub fn lay_tables<A: Allocator + Copy>(
     alloc: A,
@@ -80,7 +80,7 @@ pub fn lay_tables<A: Allocator + Copy>(
         Ok(text) => text,
         Err(unlaid) => return Err(unlaid),
     };
-    match check_told(alloc, names, frames) {
+    match check_tellable(alloc, names, frames) {
         Ok(()) => Ok(text),
         Err(unlaid) => Err(unlaid),
     }

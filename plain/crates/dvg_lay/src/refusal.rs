@@ -13,7 +13,7 @@ pub enum Blamed<A: Allocator = Global> {
     Line {
         /// Its number, counted from 1.
         number: usize,
-        /// Its words after the name that it gives, with a space between each two.
+        /// Its tokens after the name that it gives, with a space between each two.
         said: Vec<u8, A>,
     },
     /// A word of the ROM.

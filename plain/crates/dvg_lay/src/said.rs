@@ -2,38 +2,38 @@
 use std::prelude::*;
 
 use crate::text::put;
-use dvg_named::words_of;
+use dvg_named::tokens_of;
 use std::alloc::{AllocError, Allocator};
 
-// Whether a word gives a name.
-fn gives_name(word: &[u8]) -> bool {
-    word.ends_with(b":")
+// Whether a token gives a name.
+fn gives_name(token: &[u8]) -> bool {
+    token.ends_with(b":")
 }
 
-// The words after the name that the first one gives.
-fn after_name<'a, 'b>(words: &'b [&'a [u8]]) -> &'b [&'a [u8]] {
-    match words {
+// The tokens after the name that the first one gives.
+fn after_name<'a, 'b>(tokens: &'b [&'a [u8]]) -> &'b [&'a [u8]] {
+    match tokens {
         [first, rest @ ..] if gives_name(first) => rest,
-        _ => words,
+        _ => tokens,
     }
 }
 
-// Appends words, with a space between each two.
-fn put_joined<A: Allocator>(text: &mut Vec<u8, A>, words: &[&[u8]]) -> Result<(), AllocError> {
-    let [first, rest @ ..] = words else {
+// Appends tokens, with a space between each two.
+fn put_joined<A: Allocator>(text: &mut Vec<u8, A>, tokens: &[&[u8]]) -> Result<(), AllocError> {
+    let [first, rest @ ..] = tokens else {
         return Ok(());
     };
     put(text, first)?;
-    for word in rest {
+    for token in rest {
         put(text, b" ")?;
-        put(text, word)?;
+        put(text, token)?;
     }
     Ok(())
 }
 
 /// Appends what a line says.
 pub(crate) fn put_said<A: Allocator>(text: &mut Vec<u8, A>, line: &[u8]) -> Result<(), AllocError> {
-    match words_of(line) {
+    match tokens_of(line) {
         Some(found) => put_joined(text, after_name(found.as_slice())),
         None => Ok(()),
     }

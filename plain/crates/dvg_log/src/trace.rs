@@ -65,13 +65,8 @@ impl<A: Allocator> Trace<A> {
         }
     }
 
-<<<<<<< HEAD
     /// Adds an event at the end of a trace of fewer than 65,536. The only error is lack of memory,
     /// and then nothing has changed.
-=======
-    /// Adds an event at the end of fewer than 65,536. The only error is lack of memory, and then
-    /// nothing has changed.
->>>>>>> 73ada6cb7f81b9e18cba7331a01c0ded83599acf
     #[inline(always)]
     pub fn push(&mut self, event: OwnEvent<A>) -> Result<(), OutOfMemory> {
         let step = match event {

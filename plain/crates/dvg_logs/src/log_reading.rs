@@ -25,8 +25,8 @@ pub enum LogStop {
 // Tells the judge what a line says. Answers the byte address and the byte of the write that tears a
 // picture, if it does.
 #[inline(always)]
-fn tell(judge: &mut Judge, told: LogLine) -> Option<(u16, u8)> {
-    match told {
+fn tell(judge: &mut Judge, logged: LogLine) -> Option<(u16, u8)> {
+    match logged {
         LogLine::Started => judge.started(),
         LogLine::Fetched(address, word) => judge.fetched(address, word),
         LogLine::Wrote(address, byte) => {
@@ -44,9 +44,9 @@ fn tell(judge: &mut Judge, told: LogLine) -> Option<(u16, u8)> {
 // What was counted in some lines, and in one more. None of the numbers passes that of the lines, so
 // none wraps.
 #[inline(always)]
-fn counted(counts: LogCounts, told: LogLine) -> LogCounts {
+fn counted(counts: LogCounts, logged: LogLine) -> LogCounts {
     let mut counts = counts;
-    match told {
+    match logged {
         LogLine::Started => counts.runs = counts.runs.wrapping_add(1),
         LogLine::Wrote(..) => counts.writes = counts.writes.wrapping_add(1),
         LogLine::Fetched(..) => counts.words = counts.words.wrapping_add(1),
@@ -83,11 +83,11 @@ impl JudgedLines {
             return Err(LogStop::TooLong);
         }
         let number = self.count + 1;
-        let Some(told) = read_log_line(line) else {
+        let Some(logged) = read_log_line(line) else {
             return Err(LogStop::Syntax(number));
         };
-        let counts = counted(self.counts, told);
-        match tell(&mut self.judge, told) {
+        let counts = counted(self.counts, logged);
+        match tell(&mut self.judge, logged) {
             Some((address, byte)) => Err(LogStop::Torn {
                 line: number,
                 address,
@@ -104,14 +104,14 @@ impl JudgedLines {
 
     /// Takes a line that says this, where that isn't torn. Answers whether it is taken.
     #[inline(always)]
-    pub fn take_told(&mut self, told: LogLine) -> bool {
+    pub fn take_logged(&mut self, logged: LogLine) -> bool {
         let mut judge = self.judge;
-        if tell(&mut judge, told).is_some() {
+        if tell(&mut judge, logged).is_some() {
             return false;
         }
         self.judge = judge;
         self.count += 1;
-        self.counts = counted(self.counts, told);
+        self.counts = counted(self.counts, logged);
         true
     }
 }

@@ -63,7 +63,7 @@ impl JudgedLines {
         };
         let address = of_three(*a, *b, *c)?;
         let byte = of_two(*d, *e)?;
-        if address < RAM_END && self.take_told(LogLine::Wrote(address, byte)) {
+        if address < RAM_END && self.take_logged(LogLine::Wrote(address, byte)) {
             Some(rest)
         } else {
             None
@@ -91,7 +91,7 @@ impl JudgedLines {
         };
         let address = of_three(*a, *b, *c)?;
         let byte = of_two(*d, *e)?;
-        if self.take_told(LogLine::Low(address, byte)) {
+        if self.take_logged(LogLine::Low(address, byte)) {
             Some(rest)
         } else {
             None
@@ -125,7 +125,7 @@ impl JudgedLines {
         };
         let address = of_three(*a, *b, *c)?;
         let word = of_four(*d, *e, *f, *g)?;
-        if self.take_told(LogLine::Fetched(address, word)) {
+        if self.take_logged(LogLine::Fetched(address, word)) {
             Some(rest)
         } else {
             None

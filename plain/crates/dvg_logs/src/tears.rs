@@ -1,6 +1,6 @@
 //! The engine `torn`.
 use crate::log_reading::{LogReading, LogStop};
-use dvg_io::{DeviceFailed, ToolFault, Watched, write_whole};
+use dvg_io::{StreamFailed, ToolFault, Watched, write_whole};
 use dvg_print::{Line, LogCounts, LogFinding, LogVerdict};
 use dvg_read::TextFault;
 use std::io::{Read, Write};
@@ -69,7 +69,7 @@ fn judge_text<R: Read>(reader: &mut Watched<R>) -> Result<LogVerdict, ToolFault>
 }
 
 // Writes what is said of a log.
-fn write_verdict<W: Write>(writer: &mut Watched<W>, verdict: LogVerdict) -> Result<(), DeviceFailed> {
+fn write_verdict<W: Write>(writer: &mut Watched<W>, verdict: LogVerdict) -> Result<(), StreamFailed> {
     let mut line = Line::new();
     line.become_finding(verdict.finding);
     write_whole(writer, line.as_bytes())?;
@@ -95,7 +95,7 @@ fn write_verdict<W: Write>(writer: &mut Watched<W>, verdict: LogVerdict) -> Resu
 ///   and none before it is torn.
 /// - `TooLong`: none of the first 18,446,744,073,709,551,615 lines is torn or at fault, and there
 ///   are more.
-/// - `Reader`, `Writer`: that device failed. After `Writer` a beginning of the text went out.
+/// - `Reader`, `Writer`: that stream failed. After `Writer` a beginning of the text went out.
 ///
 /// `Memory` never comes. Where it stops before it writes, which is at any fault but `Writer`, the
 /// writer is as it was.

@@ -1,5 +1,5 @@
 //! Worked examples of the definitions. Each is the contract of a function that does nothing.
-/// How a line becomes words.
+/// How a line becomes tokens.
 pub fn lines() {}
 
 /// What a line spells.

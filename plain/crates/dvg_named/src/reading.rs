@@ -13,7 +13,7 @@ use crate::rom_sections::rom_rows;
 use crate::rom_words::{RomRow, put_sections};
 use crate::row::{Doing, Head, Row, read_head, read_row};
 use crate::sizes::words_of_row;
-use crate::told_rom::ToldRom;
+use crate::stated_rom::StatedRom;
 use crate::unknown::first_unknown;
 use arrayvec::ArrayVec;
 use dvg_code::OutOfMemory;
@@ -28,7 +28,7 @@ const MAX_OPS: usize = 511;
 /// What the lines spell that were read. After a fault it is read no further.
 pub(crate) struct Reading<'a, A: Allocator + Copy> {
     alloc: A,
-    rom: ToldRom,
+    rom: StatedRom,
     // The sections before the last one.
     closed: Vec<Part<'a, A>, A>,
     // The last section.
@@ -46,7 +46,7 @@ impl<'a, A: Allocator + Copy> Reading<'a, A> {
     pub fn new(alloc: A, first: Source<'a>) -> Reading<'a, A> {
         Reading {
             alloc,
-            rom: ToldRom::new(),
+            rom: StatedRom::new(),
             closed: Vec::new(alloc),
             last: Part::new(alloc, None, first),
             frame_names: GivenNames::new(alloc),
@@ -57,28 +57,28 @@ impl<'a, A: Allocator + Copy> Reading<'a, A> {
         }
     }
 
-    /// Reads a line of these words.
-    pub fn add(&mut self, source: Source<'a>, words: &[&'a [u8]]) -> Result<(), LineFault> {
-        if self.is_bare() && self.tell(words) {
+    /// Reads a line of these tokens.
+    pub fn add(&mut self, source: Source<'a>, tokens: &[&'a [u8]]) -> Result<(), LineFault> {
+        if self.is_bare() && self.tell(tokens) {
             return Ok(());
         }
-        if let Some(head) = read_head(words) {
+        if let Some(head) = read_head(tokens) {
             return self.begin_section(head, source);
         }
-        let Some(row) = read_row(words) else {
+        let Some(row) = read_row(tokens) else {
             return Err(LineFault::Syntax);
         };
         self.add_row(&row, source)
     }
 
-    // Whether no line has told a row and no section has begun.
+    // Whether no line has stated a row and no section has begun.
     fn is_bare(&self) -> bool {
         self.closed.is_empty() && self.last.rows.is_empty()
     }
 
-    // Reads a line of these words that tells of the ROM. Whether it does.
-    fn tell(&mut self, words: &[&[u8]]) -> bool {
-        if !self.rom.take(words) {
+    // Reads a line of these tokens that tells of the ROM. Whether it does.
+    fn tell(&mut self, tokens: &[&[u8]]) -> bool {
+        if !self.rom.take(tokens) {
             return false;
         }
         self.area.set_free(self.rom.free());

@@ -38,13 +38,13 @@ pub enum Head<'a> {
     Rom(Option<u16>),
 }
 
-/// The row that a line of these words spells. None exactly where it spells none.
-pub fn read_row<'a>(words: &[&'a [u8]]) -> Option<Row<'a>> {
-    let [first, rest @ ..] = words else {
+/// The row that a line of these tokens spells. None exactly where it spells none.
+pub fn read_row<'a>(tokens: &[&'a [u8]]) -> Option<Row<'a>> {
+    let [first, rest @ ..] = tokens else {
         return None;
     };
     let Some(name) = name_given(first) else {
-        let Some(doing) = read_doing(words) else {
+        let Some(doing) = read_doing(tokens) else {
             return None;
         };
         return Some(Row {
@@ -67,9 +67,10 @@ pub fn read_row<'a>(words: &[&'a [u8]]) -> Option<Row<'a>> {
     })
 }
 
-/// The beginning of a section that a line of these words spells. None exactly where it spells none.
-pub fn read_head<'a>(words: &[&'a [u8]]) -> Option<Head<'a>> {
-    match words {
+/// The beginning of a section that a line of these tokens spells. None exactly where it spells
+/// none.
+pub fn read_head<'a>(tokens: &[&'a [u8]]) -> Option<Head<'a>> {
+    match tokens {
         [begin] => bare_head(begin),
         [begin, operand] => head_with(begin, operand),
         _ => None,
@@ -103,14 +104,14 @@ fn frame_named<'a>(name: &'a [u8]) -> Option<Head<'a>> {
     }
 }
 
-// What a row of these words does. None exactly where they spell nothing.
-fn read_doing<'a>(words: &[&'a [u8]]) -> Option<Doing<'a>> {
-    if let [command, target] = words {
+// What a row of these tokens does. None exactly where they spell nothing.
+fn read_doing<'a>(tokens: &[&'a [u8]]) -> Option<Doing<'a>> {
+    if let [command, target] = tokens {
         if is_name(target) {
             return wanting(command, target);
         }
     }
-    let op = read_op_parts(words)?;
+    let op = read_op_parts(tokens)?;
     Some(Doing::Plainly(op))
 }
 
@@ -125,9 +126,9 @@ fn wanting<'a>(command: &[u8], name: &'a [u8]) -> Option<Doing<'a>> {
     }
 }
 
-// The name that a word gives, which ends with a colon. None exactly where it gives none.
-fn name_given<'a>(word: &'a [u8]) -> Option<&'a [u8]> {
-    let (last, name) = word.split_last()?;
+// The name that a token gives, which ends with a colon. None exactly where it gives none.
+fn name_given<'a>(token: &'a [u8]) -> Option<&'a [u8]> {
+    let (last, name) = token.split_last()?;
     if *last == b':' && is_name(name) {
         Some(name)
     } else {

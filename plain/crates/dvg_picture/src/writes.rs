@@ -1,7 +1,7 @@
 //! What is written of a run.
 use dvg_dump::{Ending, Ran, Traced};
 use dvg_gen::Stroke;
-use dvg_io::{DeviceFailed, Watched, write_strokes, write_whole};
+use dvg_io::{StreamFailed, Watched, write_strokes, write_whole};
 use dvg_print::Line;
 use std::alloc::Allocator;
 use std::io::Write;
@@ -11,7 +11,7 @@ fn write_with_strokes<W: Write>(
     line: &mut Line,
     strokes: &[Stroke],
     writer: &mut Watched<W>,
-) -> Result<(), DeviceFailed> {
+) -> Result<(), StreamFailed> {
     write_whole(writer, line.as_bytes())?;
     write_strokes(line, strokes, writer)
 }
@@ -21,7 +21,7 @@ fn write_ran<W: Write>(
     line: &mut Line,
     ran: &Ran,
     writer: &mut Watched<W>,
-) -> Result<(), DeviceFailed> {
+) -> Result<(), StreamFailed> {
     line.become_instruction(ran.address, &ran.code, ran.canonical, &ran.beam);
     write_with_strokes(line, ran.stroke.as_slice(), writer)
 }
@@ -31,7 +31,7 @@ fn write_trace<W: Write>(
     line: &mut Line,
     trace: &[Ran],
     writer: &mut Watched<W>,
-) -> Result<(), DeviceFailed> {
+) -> Result<(), StreamFailed> {
     for ran in trace {
         write_ran(line, ran, writer)?;
     }
@@ -43,7 +43,7 @@ fn write_end<A: Allocator, W: Write>(
     line: &mut Line,
     ending: &Ending<A>,
     writer: &mut Watched<W>,
-) -> Result<(), DeviceFailed> {
+) -> Result<(), StreamFailed> {
     match ending {
         Ending::Finished { words, strokes } => {
             line.become_picture(*words as usize, strokes.len());
@@ -64,7 +64,7 @@ fn write_end<A: Allocator, W: Write>(
 pub(crate) fn write_run<A: Allocator, W: Write>(
     run: &Traced<A>,
     writer: &mut Watched<W>,
-) -> Result<(), DeviceFailed> {
+) -> Result<(), StreamFailed> {
     let mut line = Line::new();
     write_trace(&mut line, run.ran.as_slice(), writer)?;
     write_end(&mut line, &run.ending, writer)

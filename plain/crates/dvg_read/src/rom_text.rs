@@ -9,7 +9,7 @@ const UNGIVEN: [u8; 2] = [0x00, 0xD0];
 /// The ROM that the lines describe which were read.
 pub struct RomReading {
     // Whether a line said something of the ROM.
-    is_told: bool,
+    is_stated: bool,
     bytes: ArrayVec<u8, LARGE_ROM_BYTES>,
 }
 
@@ -17,7 +17,7 @@ impl RomReading {
     /// Before the first line.
     pub fn new() -> RomReading {
         RomReading {
-            is_told: false,
+            is_stated: false,
             bytes: ungiven(FIRST_ROM_WORD),
         }
     }
@@ -25,10 +25,10 @@ impl RomReading {
     /// Reads one more line. Answers whether it says something of the ROM, and may stand here.
     pub fn take(&mut self, line: &[u8]) -> bool {
         if let Some(first) = read_map_line(line) {
-            if self.is_told {
+            if self.is_stated {
                 return false;
             }
-            self.is_told = true;
+            self.is_stated = true;
             self.bytes = ungiven(first);
             return true;
         }
@@ -37,7 +37,7 @@ impl RomReading {
             return false;
         };
         given.put(first, self.bytes.as_mut_slice());
-        self.is_told = true;
+        self.is_stated = true;
         true
     }
 

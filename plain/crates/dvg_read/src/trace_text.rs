@@ -118,8 +118,8 @@ impl<A: Allocator + Copy> Reading<A> {
             self.is_open = true;
             return Ok(());
         }
-        if let Some(told) = read_event_line(line) {
-            return add_events(self.alloc, told, &mut self.resets, &mut self.events);
+        if let Some(repeated) = read_event_line(line) {
+            return add_events(self.alloc, repeated, &mut self.resets, &mut self.events);
         }
         if self.events.is_empty() && self.rom.take(line) {
             return Ok(());
@@ -160,22 +160,22 @@ pub(crate) fn add_op(draft: &mut Draft, line: &[u8]) -> Result<(), LineFault> {
 // Adds the events of a line.
 fn add_events<A: Allocator>(
     alloc: A,
-    told: EventLine,
+    repeated: EventLine,
     resets: &mut [Option<u32>; 256],
     events: &mut Trace<A>,
 ) -> Result<(), LineFault> {
-    if events.len() + count(&told) > MOST_EVENTS {
+    if events.len() + count(&repeated) > MOST_EVENTS {
         return Err(LineFault::Many);
     }
-    if add_times(alloc, told.event, told.count, resets, events).is_err() {
+    if add_times(alloc, repeated.event, repeated.count, resets, events).is_err() {
         return Err(LineFault::Memory);
     }
     Ok(())
 }
 
 // How many events a line has.
-pub(crate) fn count(told: &EventLine) -> usize {
-    usize::from(told.count)
+pub(crate) fn count(repeated: &EventLine) -> usize {
+    usize::from(repeated.count)
 }
 
 // Adds an event, this many times in a row: itself, and then the same again.

@@ -4,7 +4,7 @@ use std::prelude::*;
 use crate::parts::write_parts;
 use crate::show::Show;
 use dvg_gen::Stroke;
-use dvg_io::{DeviceFailed, Watched, write_whole};
+use dvg_io::{StreamFailed, Watched, write_whole};
 use dvg_print::Line;
 use itoa::Buffer;
 use std::alloc::Allocator;
@@ -27,7 +27,7 @@ fn side(percent: u16) -> u32 {
 }
 
 // Writes the line that begins a text, of this size in percent.
-fn write_size<W: Write>(percent: u16, writer: &mut Watched<W>) -> Result<(), DeviceFailed> {
+fn write_size<W: Write>(percent: u16, writer: &mut Watched<W>) -> Result<(), StreamFailed> {
     let mut buffer = Buffer::new();
     let side = buffer.format(side(percent)).as_bytes();
     write_parts(
@@ -43,7 +43,7 @@ fn write_size<W: Write>(percent: u16, writer: &mut Watched<W>) -> Result<(), Dev
 }
 
 // Writes the line of a title, if there is one.
-fn write_title<W: Write>(title: Option<&[u8]>, writer: &mut Watched<W>) -> Result<(), DeviceFailed> {
+fn write_title<W: Write>(title: Option<&[u8]>, writer: &mut Watched<W>) -> Result<(), StreamFailed> {
     match title {
         Some(title) => write_parts(&[b"<title>", title, b"</title>\n"], writer),
         None => Ok(()),
@@ -55,14 +55,14 @@ fn write_begin<W: Write>(
     percent: u16,
     title: Option<&[u8]>,
     writer: &mut Watched<W>,
-) -> Result<(), DeviceFailed> {
+) -> Result<(), StreamFailed> {
     write_size(percent, writer)?;
     write_title(title, writer)?;
     write_whole(writer, SCREEN)
 }
 
 // Writes the lines of strokes.
-fn write_strokes<W: Write>(strokes: &[Stroke], writer: &mut Watched<W>) -> Result<(), DeviceFailed> {
+fn write_strokes<W: Write>(strokes: &[Stroke], writer: &mut Watched<W>) -> Result<(), StreamFailed> {
     let mut line = Line::new();
     for stroke in strokes {
         line.become_path(*stroke);
@@ -86,7 +86,7 @@ fn write_first_turn<W: Write>(
     rate: u16,
     last: usize,
     writer: &mut Watched<W>,
-) -> Result<(), DeviceFailed> {
+) -> Result<(), StreamFailed> {
     let mut last_text = Buffer::new();
     let mut seen_text = Buffer::new();
     let mut hidden_text = Buffer::new();
@@ -110,7 +110,7 @@ fn write_later_turn<W: Write>(
     before: usize,
     number: usize,
     writer: &mut Watched<W>,
-) -> Result<(), DeviceFailed> {
+) -> Result<(), StreamFailed> {
     let mut number_text = Buffer::new();
     let mut before_text = Buffer::new();
     let mut seen_text = Buffer::new();
@@ -134,7 +134,7 @@ fn write_turn<W: Write>(
     last: usize,
     number: usize,
     writer: &mut Watched<W>,
-) -> Result<(), DeviceFailed> {
+) -> Result<(), StreamFailed> {
     if number == 0 {
         write_first_turn(rate, last, writer)
     } else {
@@ -149,7 +149,7 @@ fn write_group<W: Write>(
     number: usize,
     strokes: &[Stroke],
     writer: &mut Watched<W>,
-) -> Result<(), DeviceFailed> {
+) -> Result<(), StreamFailed> {
     write_turn(rate, last, number, writer)?;
     write_strokes(strokes, writer)?;
     write_whole(writer, GROUP_END)
@@ -160,7 +160,7 @@ fn write_groups<A: Allocator, W: Write>(
     rate: u16,
     pictures: &[Vec<Stroke, A>],
     writer: &mut Watched<W>,
-) -> Result<(), DeviceFailed> {
+) -> Result<(), StreamFailed> {
     let last = pictures.len().saturating_sub(1);
     for (number, picture) in pictures.iter().enumerate() {
         write_group(rate, last, number, picture.as_slice(), writer)?;
@@ -173,7 +173,7 @@ fn write_pictures<A: Allocator, W: Write>(
     rate: u16,
     pictures: &[Vec<Stroke, A>],
     writer: &mut Watched<W>,
-) -> Result<(), DeviceFailed> {
+) -> Result<(), StreamFailed> {
     if pictures.len() == 1 {
         write_strokes(pictures[0].as_slice(), writer)
     } else {
@@ -188,7 +188,7 @@ pub fn write_svg<W: Write>(
     title: Option<&[u8]>,
     strokes: &[Stroke],
     writer: &mut Watched<W>,
-) -> Result<(), DeviceFailed> {
+) -> Result<(), StreamFailed> {
     write_begin(percent, title, writer)?;
     write_strokes(strokes, writer)?;
     write_whole(writer, END)
@@ -201,7 +201,7 @@ pub fn write_svgs<A: Allocator, W: Write>(
     show: Show,
     pictures: &[Vec<Stroke, A>],
     writer: &mut Watched<W>,
-) -> Result<(), DeviceFailed> {
+) -> Result<(), StreamFailed> {
     write_begin(show.percent, None, writer)?;
     write_pictures(show.rate, pictures, writer)?;
     write_whole(writer, END)

@@ -57,7 +57,7 @@ fn form_of(form: LayForm) -> Form {
 }
 
 // What is said of a sketch that was laid out.
-fn told<A: Allocator>(laid: Laid<A>) -> Done<A> {
+fn answered<A: Allocator>(laid: Laid<A>) -> Done<A> {
     match laid {
         Laid::Text(_) => Done::Written,
         Laid::Refused(refusal) => Done::Refused(refusal),
@@ -65,20 +65,20 @@ fn told<A: Allocator>(laid: Laid<A>) -> Done<A> {
 }
 
 // Does the job `lay`.
-fn lay_told<A: Allocator + Copy, R: Read, W: Write>(
+fn lay_answered<A: Allocator + Copy, R: Read, W: Write>(
     alloc: A,
     reader: &mut Watched<R>,
     writer: &mut Watched<W>,
     form: LayForm,
 ) -> Result<Done<A>, ToolFault> {
     match lay_sketch(alloc, reader, writer, form_of(form)) {
-        Ok(laid) => Ok(told(laid)),
+        Ok(laid) => Ok(answered(laid)),
         Err(fault) => Err(fault),
     }
 }
 
 // What is said of a sketch that was drawn.
-fn told_drawn<A: Allocator>(drawn: Drawn<A>) -> Done<A> {
+fn answered_drawn<A: Allocator>(drawn: Drawn<A>) -> Done<A> {
     match drawn {
         Drawn::Pictures(_) => Done::Written,
         Drawn::Refused(refusal) => Done::Refused(refusal),
@@ -86,20 +86,20 @@ fn told_drawn<A: Allocator>(drawn: Drawn<A>) -> Done<A> {
 }
 
 // Does the job `draw`.
-fn draw_told<A: Allocator + Copy, R: Read, W: Write>(
+fn draw_answered<A: Allocator + Copy, R: Read, W: Write>(
     alloc: A,
     reader: &mut Watched<R>,
     writer: &mut Watched<W>,
     show: Show,
 ) -> Result<Done<A>, ToolFault> {
     match draw_sketch(alloc, reader, writer, show) {
-        Ok(drawn) => Ok(told_drawn(drawn)),
+        Ok(drawn) => Ok(answered_drawn(drawn)),
         Err(fault) => Err(fault),
     }
 }
 
 // Does the job `draw --check`.
-fn check_told<A: Allocator + Copy, R: Read, W: Write>(
+fn check_answered<A: Allocator + Copy, R: Read, W: Write>(
     alloc: A,
     reader: &mut Watched<R>,
     writer: &mut Watched<W>,
@@ -150,8 +150,10 @@ pub fn perform<A: Allocator + Copy, R: Read, W: Write>(
             play_shown(alloc, reader, writer, banked, show).map(|()| Done::Written)
         }
         Job::Torn => torn(reader, writer).map(|verdict| Done::Searched(verdict)),
-        Job::Draw { percent, rate } => { draw_told(alloc, reader, writer, Show { percent, rate }) }
-        Job::DrawCheck => check_told(alloc, reader, writer),
-        Job::Lay { form } => lay_told(alloc, reader, writer, form),
+        Job::Draw { percent, rate } => {
+            draw_answered(alloc, reader, writer, Show { percent, rate })
+        }
+        Job::DrawCheck => check_answered(alloc, reader, writer),
+        Job::Lay { form } => lay_answered(alloc, reader, writer, form),
     }
 }

@@ -1,6 +1,6 @@
 //! The engines of the program `dvg` but `picture`, `torn`, `draw` and `lay`, over any watched
-//! reader and writer; and the jobs that its words ask for, which are those of `dvg_args`. What it
-//! reads are the texts of `dvg_read`, and what it writes the lines of `dvg_print`.
+//! reader and writer; and the jobs that its arguments ask for, which are those of `dvg_args`. What
+//! it reads are the texts of `dvg_read`, and what it writes the lines of `dvg_print`.
 //!
 //! An engine reads its whole input before it writes, and takes no memory after its first write: its
 //! lines are made in an array of fixed size. That no allocator reaches what writes is seen by
@@ -21,8 +21,8 @@ mod roms;
 mod shows;
 
 pub use checks::{check_bound, check_text};
-pub use dvg_args::{Job, LayForm, job, words_status};
-pub use dvg_io::{DeviceFailed, ToolFault, Watched};
+pub use dvg_args::{Job, LayForm, arguments_status, job};
+pub use dvg_io::{StreamFailed, ToolFault, Watched};
 pub use dvg_logs::{LogCounts, LogFinding, LogVerdict, torn};
 pub use dvg_picture::{Outcome, Undrawn, picture, picture_svg};
 pub use dvg_print::{BoundedVerdict, Verdict};

@@ -1,7 +1,7 @@
 //! The engine `list`. Its fault `Cut` comes in the middle of its writing, so it isn't an `Engine`
 //! that is served.
 use dvg_code::{Code, Listed, Listing, encode};
-use dvg_io::{DeviceFailed, ToolFault, Watched, collect_words, read_up_to, write_whole};
+use dvg_io::{StreamFailed, ToolFault, Watched, collect_words, read_up_to, write_whole};
 use dvg_print::Line;
 use dvg_read::TextFault;
 use std::alloc::Allocator;
@@ -20,7 +20,7 @@ pub(crate) fn write_item<W: Write>(
     address: usize,
     code: &Code,
     writer: &mut Watched<W>,
-) -> Result<(), DeviceFailed> {
+) -> Result<(), StreamFailed> {
     let canonical = words[place..].starts_with(encode(code).as_slice());
     line.become_listed(address, code, canonical);
     write_whole(writer, line.as_bytes())
@@ -50,7 +50,7 @@ fn list_words<W: Write>(words: &[u16], writer: &mut Watched<W>) -> Result<(), To
 /// - `Odd`: it has an odd number of bytes.
 /// - `Cut`: the last word is the first of two, and the second is missing; the lines before it are
 ///   written.
-/// - `Reader`, `Writer`: that device failed. After `Writer` a beginning of the text went out.
+/// - `Reader`, `Writer`: that stream failed. After `Writer` a beginning of the text went out.
 /// - `Memory`: a growth was refused.
 ///
 /// Where it stops before it writes, which is at any fault but `Cut` and `Writer`, the writer is as

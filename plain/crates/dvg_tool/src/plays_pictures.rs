@@ -1,5 +1,5 @@
 //! The engine `play` without each entry: the pictures alone.
-use dvg_io::{DeviceFailed, Engine, ToolFault, Watched, serve, write_strokes, write_whole};
+use dvg_io::{Engine, StreamFailed, ToolFault, Watched, serve, write_strokes, write_whole};
 use dvg_mem::{Image, MEMORY_BYTES, Rom, Store};
 use dvg_print::Line;
 use dvg_read::{MOST_TEXT_BYTES, TraceText, read_trace};
@@ -9,14 +9,14 @@ use std::io::{Read, Write};
 use std::marker::PhantomData;
 
 /// Lets the events of a trace happen over its ROM, from a RAM of zeros, and keeps the pictures.
-pub(crate) fn draw_text<S: Store>(alloc: S::Alloc, told: &TraceText<S::Alloc>) -> Drawn<S::Alloc> {
-    let Ok(rom) = Rom::new(alloc, told.rom.as_slice()) else {
+pub(crate) fn draw_text<S: Store>(alloc: S::Alloc, trace: &TraceText<S::Alloc>) -> Drawn<S::Alloc> {
+    let Ok(rom) = Rom::new(alloc, trace.rom.as_slice()) else {
         return Drawn::unstarted(alloc);
     };
     let Ok(image) = Image::new(alloc, &[0; MEMORY_BYTES]) else {
         return Drawn::unstarted(alloc);
     };
-    draw_trace::<S>(alloc, rom, &image, &told.events)
+    draw_trace::<S>(alloc, rom, &image, &trace.events)
 }
 
 // Writes a picture: its line, and one for each of its strokes. The lines are made in `line`.
@@ -24,7 +24,7 @@ fn write_picture<A: Allocator, W: Write>(
     line: &mut Line,
     picture: &Picture<A>,
     writer: &mut Watched<W>,
-) -> Result<(), DeviceFailed> {
+) -> Result<(), StreamFailed> {
     line.become_picture(picture.event, picture.strokes.len());
     write_whole(writer, line.as_bytes())?;
     write_strokes(line, picture.strokes.as_slice(), writer)
@@ -34,7 +34,7 @@ fn write_picture<A: Allocator, W: Write>(
 fn write_pictures<A: Allocator, W: Write>(
     pictures: &[Picture<A>],
     writer: &mut Watched<W>,
-) -> Result<(), DeviceFailed> {
+) -> Result<(), StreamFailed> {
     let mut line = Line::new();
     for picture in pictures {
         write_picture(&mut line, picture, writer)?;
@@ -53,15 +53,15 @@ impl<S: Store> Engine<S::Alloc> for PicturesEngine<S> {
     const MOST: u32 = MOST_TEXT_BYTES as u32;
 
     fn find(&self, alloc: S::Alloc, read: &[u8]) -> Result<Self::Found, ToolFault> {
-        let told = read_trace(alloc, read)?;
-        Ok(draw_text::<S>(alloc, &told))
+        let trace = read_trace(alloc, read)?;
+        Ok(draw_text::<S>(alloc, &trace))
     }
 
     fn write<W: Write>(
         &self,
         drawn: &Self::Found,
         writer: &mut Watched<W>,
-    ) -> Result<(), DeviceFailed> {
+    ) -> Result<(), StreamFailed> {
         write_pictures(drawn.pictures.as_slice(), writer)
     }
 }

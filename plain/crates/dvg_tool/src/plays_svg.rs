@@ -3,7 +3,7 @@ use std::prelude::*;
 
 use crate::plays::run_text;
 use dvg_gen::Stroke;
-use dvg_io::{DeviceFailed, Engine, ToolFault, Watched, serve};
+use dvg_io::{Engine, StreamFailed, ToolFault, Watched, serve};
 use dvg_log::{Entry, OwnEntry};
 use dvg_mem::{Flat, Store};
 use dvg_read::{MOST_TEXT_BYTES, TraceText, read_trace};
@@ -31,9 +31,9 @@ fn collect_pictures<A: Allocator + Copy>(
 // Lets the events of a trace happen, and answers the pictures of the runs that finished.
 fn draw_trace<S: Store>(
     alloc: S::Alloc,
-    told: &TraceText<S::Alloc>,
+    trace: &TraceText<S::Alloc>,
 ) -> Result<Vec<Vec<Stroke, S::Alloc>, S::Alloc>, ToolFault> {
-    match run_text::<S>(alloc, told) {
+    match run_text::<S>(alloc, trace) {
         Ok(entries) => collect_pictures(alloc, entries),
         Err(_) => Err(ToolFault::Memory),
     }
@@ -51,15 +51,15 @@ impl<S: Store> Engine<S::Alloc> for SvgEngine<S> {
     const MOST: u32 = MOST_TEXT_BYTES as u32;
 
     fn find(&self, alloc: S::Alloc, read: &[u8]) -> Result<Self::Found, ToolFault> {
-        let told = read_trace(alloc, read)?;
-        draw_trace::<S>(alloc, &told)
+        let trace = read_trace(alloc, read)?;
+        draw_trace::<S>(alloc, &trace)
     }
 
     fn write<W: Write>(
         &self,
         pictures: &Self::Found,
         writer: &mut Watched<W>,
-    ) -> Result<(), DeviceFailed> {
+    ) -> Result<(), StreamFailed> {
         write_svgs(self.show, pictures.as_slice(), writer)
     }
 }
@@ -69,7 +69,7 @@ impl<S: Store> Engine<S::Alloc> for SvgEngine<S> {
 /// choice).
 ///
 /// - `TooLong`, `Syntax`, `Full`, `Many`, `Unended`: as `play_in` says.
-/// - `Reader`, `Writer`: that device failed. After `Writer` a beginning of the text went out.
+/// - `Reader`, `Writer`: that stream failed. After `Writer` a beginning of the text went out.
 /// - `Memory`: a growth was refused.
 ///
 /// Where it stops before it writes, which is at any fault but `Writer`, the writer is as it was.

@@ -1,7 +1,7 @@
 //! The engine `rom_text`.
 use std::prelude::*;
 
-use dvg_io::{DeviceFailed, Engine, ToolFault, Watched, collect_words, serve, write_whole};
+use dvg_io::{Engine, StreamFailed, ToolFault, Watched, collect_words, serve, write_whole};
 use dvg_mem::{FIRST_LARGE_ROM_WORD, FIRST_ROM_WORD, LARGE_ROM_BYTES, MEMORY_BYTES};
 use dvg_print::Line;
 use dvg_read::TextFault;
@@ -19,7 +19,7 @@ fn write_rows<W: Write>(
     first: u16,
     words: &[u16],
     writer: &mut Watched<W>,
-) -> Result<(), DeviceFailed> {
+) -> Result<(), StreamFailed> {
     let mut line = Line::new();
     for row in 0..words.len() / LINE_WORDS {
         let begin = row * LINE_WORDS;
@@ -38,7 +38,7 @@ fn write_rom<W: Write>(
     first: u16,
     words: &[u16],
     writer: &mut Watched<W>,
-) -> Result<(), DeviceFailed> {
+) -> Result<(), StreamFailed> {
     write_whole(writer, map)?;
     write_rows(first, words, writer)
 }
@@ -70,7 +70,7 @@ impl<A: Allocator + Copy> Engine<A> for RomEngine {
         &self,
         words: &Vec<u16, A>,
         writer: &mut Watched<W>,
-    ) -> Result<(), DeviceFailed> {
+    ) -> Result<(), StreamFailed> {
         if words.len() == MEMORY_BYTES / 2 {
             write_rom(b"", FIRST_ROM_WORD, words.as_slice(), writer)
         } else {
@@ -84,7 +84,7 @@ impl<A: Allocator + Copy> Engine<A> for RomEngine {
 /// lines, from word address 400 on (the text is this project's own choice).
 ///
 /// - `RomSize`: the input has another number of bytes; no more than 4,097 are taken.
-/// - `Reader`, `Writer`: that device failed. After `Writer` a beginning of the text went out.
+/// - `Reader`, `Writer`: that stream failed. After `Writer` a beginning of the text went out.
 /// - `Memory`: a growth was refused.
 ///
 /// Where it stops before it writes, which is at any fault but `Writer`, the writer is as it was.

@@ -1,5 +1,5 @@
 //! What is written of a log's entries.
-use dvg_io::{DeviceFailed, Watched, write_strokes, write_whole};
+use dvg_io::{StreamFailed, Watched, write_strokes, write_whole};
 use dvg_log::{Entry, OwnEntry};
 use dvg_print::Line;
 use std::alloc::Allocator;
@@ -10,7 +10,7 @@ fn write_drawn<A: Allocator, W: Write>(
     line: &mut Line,
     entry: &OwnEntry<A>,
     writer: &mut Watched<W>,
-) -> Result<(), DeviceFailed> {
+) -> Result<(), StreamFailed> {
     match entry {
         Entry::Done(_, _, strokes) => write_strokes(line, strokes.as_slice(), writer),
         _ => Ok(()),
@@ -23,7 +23,7 @@ fn write_entry<A: Allocator, W: Write>(
     number: usize,
     entry: &OwnEntry<A>,
     writer: &mut Watched<W>,
-) -> Result<(), DeviceFailed> {
+) -> Result<(), StreamFailed> {
     line.become_entry(number, entry);
     write_whole(writer, line.as_bytes())?;
     write_drawn(line, entry, writer)
@@ -33,7 +33,7 @@ fn write_entry<A: Allocator, W: Write>(
 pub fn write_entries<A: Allocator, W: Write>(
     entries: &[OwnEntry<A>],
     writer: &mut Watched<W>,
-) -> Result<(), DeviceFailed> {
+) -> Result<(), StreamFailed> {
     let mut line = Line::new();
     for (number, entry) in entries.iter().enumerate() {
         write_entry(&mut line, number, entry, writer)?;

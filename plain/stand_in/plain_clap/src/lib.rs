@@ -30,7 +30,7 @@ pub mod error {
         MissingRequiredArgument,
         /// A value that an option doesn't take.
         InvalidValue,
-        /// The words match nothing.
+        /// The arguments match nothing.
         Refused,
     }
 }
@@ -163,13 +163,13 @@ impl<'a> Command<'a> {
         Ok(self)
     }
 
-    /// What the words of a command line match, of which the first is the program's name.
-    pub fn try_get_matches_from(self, words: &'a [&'a str]) -> Result<ArgMatches<'a>, Error> {
-        self.matched(words.get(1..).unwrap_or(&[]))
+    /// What the arguments of a command line match, of which the first is the program's name.
+    pub fn try_get_matches_from(self, arguments: &'a [&'a str]) -> Result<ArgMatches<'a>, Error> {
+        self.matched(arguments.get(1..).unwrap_or(&[]))
     }
 
-    /// What words match, without the name of the command.
-    fn matched(&self, words: &[&'a str]) -> Result<ArgMatches<'a>, Error> {
+    /// What arguments match, without the name of the command.
+    fn matched(&self, arguments: &[&'a str]) -> Result<ArgMatches<'a>, Error> {
         let flags = self.args.iter().filter(|arg| !arg.takes_value);
         let mut found = ArgMatches {
             set: Vec::new(),
@@ -177,16 +177,18 @@ impl<'a> Command<'a> {
             part: None,
         };
         let mut escaped = false;
-        let mut words = words;
-        while let [word, rest @ ..] = words {
-            words = rest;
-            match word.strip_prefix("--").filter(|_| !escaped) {
+        let mut arguments = arguments;
+        while let [argument, rest @ ..] = arguments {
+            arguments = rest;
+            match argument.strip_prefix("--").filter(|_| !escaped) {
                 Some("") => escaped = true,
-                Some(long) => words = self.flag(long, rest, &mut found)?,
-                None if is_short(word) && !escaped => return Err(self.short(word)),
-                None if *word == "help" && !self.parts.is_empty() => return Err(self.helped(rest)),
+                Some(long) => arguments = self.flag(long, rest, &mut found)?,
+                None if is_short(argument) && !escaped => return Err(self.short(argument)),
+                None if *argument == "help" && !self.parts.is_empty() => {
+                    return Err(self.helped(rest));
+                }
                 None => {
-                    let part = self.part(word).ok_or_else(|| self.stray(word))?;
+                    let part = self.part(argument).ok_or_else(|| self.stray(argument))?;
                     found.part = Some((part.name, Box::new(part.matched(rest)?)));
                     return Ok(found);
                 }
@@ -198,17 +200,20 @@ impl<'a> Command<'a> {
         Ok(found)
     }
 
-    /// What comes of a word that begins with a dash and a letter.
-    fn short(&self, word: &str) -> Error {
-        let end = word.char_indices().nth(2).map_or(word.len(), |(k, _)| k);
-        match &word[..end] {
+    /// What comes of an argument that begins with a dash and a letter.
+    fn short(&self, argument: &str) -> Error {
+        let end = argument
+            .char_indices()
+            .nth(2)
+            .map_or(argument.len(), |(k, _)| k);
+        match &argument[..end] {
             "-h" => Error::help(self),
             "-V" if self.version.is_some() => Error::version(self),
             flag => self.refused(&format!("unexpected argument '{flag}' found"), ""),
         }
     }
 
-    /// What comes of the word `help`, with the words after it.
+    /// What comes of the argument `help`, with the arguments after it.
     fn helped(&self, rest: &[&str]) -> Error {
         match rest.first() {
             None => Error::help(self),
@@ -218,16 +223,16 @@ impl<'a> Command<'a> {
         }
     }
 
-    /// What comes of a word that is no flag and no subcommand.
-    fn stray(&self, word: &str) -> Error {
-        if self.parts.is_empty() && self.like(word).is_none() {
-            self.refused(&format!("unexpected argument '{word}' found"), "")
+    /// What comes of an argument that is no flag and no subcommand.
+    fn stray(&self, argument: &str) -> Error {
+        if self.parts.is_empty() && self.like(argument).is_none() {
+            self.refused(&format!("unexpected argument '{argument}' found"), "")
         } else {
-            self.unknown(word)
+            self.unknown(argument)
         }
     }
 
-    /// What comes of words without a subcommand, where one must be given.
+    /// What comes of arguments without a subcommand, where one must be given.
     fn without_part(&self) -> Error {
         let names: Vec<&str> = self.parts.iter().map(|part| part.name).collect();
         let why = format!(
@@ -238,8 +243,8 @@ impl<'a> Command<'a> {
         self.refused(&why, "")
     }
 
-    /// Takes a flag or an option with a long name, without its dashes. The words after it may have
-    /// its value, or give a tip. Answers those that are left.
+    /// Takes a flag or an option with a long name, without its dashes. The arguments after it may
+    /// have its value, or give a tip. Answers those that are left.
     fn flag<'w>(
         &self,
         long: &'a str,
@@ -271,8 +276,8 @@ impl<'a> Command<'a> {
         Ok(rest)
     }
 
-    /// The value of a flag or an option, of which one may stand after `=`, and the words that are
-    /// left.
+    /// The value of a flag or an option, of which one may stand after `=`, and the arguments that
+    /// are left.
     fn value<'w>(
         &self,
         arg: &Arg,
@@ -313,7 +318,7 @@ impl<'a> Command<'a> {
         }
         let has_it = |part: &&Command<'_>| part.args.iter().any(|arg| arg.long == name);
         rest.iter()
-            .find_map(|word| self.part(word).filter(has_it))
+            .find_map(|argument| self.part(argument).filter(has_it))
             .map_or(String::new(), |part| {
                 format!("  tip: '{} --{name}' exists\n\n", part.name)
             })
@@ -323,12 +328,13 @@ impl<'a> Command<'a> {
         self.parts.iter().find(|part| part.name == name)
     }
 
-    fn like(&self, word: &str) -> Option<Vec<&'a str>> {
-        Some(similar(word, self.parts.iter().map(|part| part.name))).filter(|like| !like.is_empty())
+    fn like(&self, argument: &str) -> Option<Vec<&'a str>> {
+        Some(similar(argument, self.parts.iter().map(|part| part.name)))
+            .filter(|like| !like.is_empty())
     }
 
-    fn unknown(&self, word: &str) -> Error {
-        let tip = match self.like(word).as_deref() {
+    fn unknown(&self, argument: &str) -> Error {
+        let tip = match self.like(argument).as_deref() {
             None => String::new(),
             Some([one]) => format!("  tip: a similar subcommand exists: '{one}'\n\n"),
             Some(some) => format!(
@@ -336,10 +342,10 @@ impl<'a> Command<'a> {
                 some.join("', '")
             ),
         };
-        self.refused(&format!("unrecognized subcommand '{word}'"), &tip)
+        self.refused(&format!("unrecognized subcommand '{argument}'"), &tip)
     }
 
-    /// An error of this command, in the form of those of words.
+    /// An error of this command, in the form of those of arguments.
     pub fn error(&mut self, kind: ErrorKind, why: &str) -> Result<Error, AllocError> {
         Ok(Error {
             kind,
@@ -359,15 +365,15 @@ impl<'a> Command<'a> {
     }
 }
 
-/// Whether a word is one of flags: it begins with a dash, and goes on.
-fn is_short(word: &str) -> bool {
-    word.len() > 1 && word.starts_with('-')
+/// Whether an argument is one of flags: it begins with a dash, and goes on.
+fn is_short(argument: &str) -> bool {
+    argument.len() > 1 && argument.starts_with('-')
 }
 
-/// Those of some names that are like a word, the most alike last.
-fn similar<'n>(word: &str, names: impl Iterator<Item = &'n str>) -> Vec<&'n str> {
+/// Those of some names that are like an argument, the most alike last.
+fn similar<'n>(argument: &str, names: impl Iterator<Item = &'n str>) -> Vec<&'n str> {
     let mut like: Vec<(f64, &str)> = names
-        .map(|name| (jaro(word, name), name))
+        .map(|name| (jaro(argument, name), name))
         .filter(|(how, _)| *how > 0.7)
         .collect();
     like.sort_by(|a, b| a.0.total_cmp(&b.0));
@@ -408,7 +414,7 @@ fn jaro(a: &str, b: &str) -> f64 {
     (m / a.len() as f64 + m / b.len() as f64 + (m - moved) / m) / 3.0
 }
 
-/// What words matched.
+/// What arguments matched.
 pub struct ArgMatches<'a> {
     /// The flags and options that were given, with their values.
     set: Vec<(&'a str, &'a str)>,
@@ -418,7 +424,7 @@ pub struct ArgMatches<'a> {
 }
 
 impl<'a> ArgMatches<'a> {
-    /// The subcommand that was given, and what its words match.
+    /// The subcommand that was given, and what its arguments match.
     pub fn subcommand(&self) -> Option<(&'a str, &ArgMatches<'a>)> {
         self.part.as_ref().map(|(name, part)| (*name, &**part))
     }
@@ -433,7 +439,7 @@ impl<'a> ArgMatches<'a> {
     }
 }
 
-/// A text that was asked for, or why words matched nothing.
+/// A text that was asked for, or why arguments matched nothing.
 #[derive(Debug)]
 pub struct Error {
     kind: ErrorKind,

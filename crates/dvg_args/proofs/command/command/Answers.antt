@@ -1,7 +1,7 @@
 use Rattle.std.proofs.Common.{◌≡◌}
 use Rattle.std.proofs.lemmas.Result.{IfOk-weaker}
 use Rattle.clap.specs.Words.{app_of}
-use Rattle.dvg_args.specs.Words.{dvg_app}
+use Rattle.dvg_args.specs.Arguments.{dvg_app}
 use Rattle.dvg_args.proofs.Parts.{added, same}
 use Rattle.dvg_args.proofs.command.command.Goals as goal
 

@@ -13,6 +13,6 @@ returns c =
       entry = entry;
       stands = subst (λ bytes. AddsLine c.args.world.now (ResetAll bytes) entry c.reset_all.new.self) bytes c.reset_all.ensures.stands;
       headline = subst (λ bytes. KeepsHeadlineAfter c.args.world.now (ResetAll bytes) entry) bytes c.reset_all.ensures.headline;
-      told = c.told.ensures.told;
-      picture = c.told.ensures.picture;
+      answered = c.answered.ensures.answered;
+      picture = c.answered.ensures.picture;
     }))

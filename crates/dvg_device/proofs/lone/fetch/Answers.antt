@@ -11,6 +11,6 @@ returns-in-Ok c = inl (record {
   wanted = λ history low after. sym (c.wants.ensures.address history low after) ∙ c.in-Some.is;
   answers = λ history low after. c.in-Ok.ensures.answers history low after;
   shown = λ history low after. c.of_fetch.ensures ∙ ap (λ waits. entry_by c.in-Some.address (met waits c.args.byte) c.in-Ok.taken) (c.low_byte-low.ensures ∙ after.low);
-  told = c.told.ensures.told;
-  picture = c.told.ensures.picture;
+  answered = c.answered.ensures.answered;
+  picture = c.answered.ensures.picture;
 })

@@ -1,6 +1,6 @@
 use Rattle.std.proofs.Common.{rules, flat_map, drop, get_or, ◌+◌}
 use Rattle.dvg_print.specs.Shows.{stroke_line}
-use Rattle.dvg_io.specs.Watching.{BeginsToWrite, device_of}
+use Rattle.dvg_io.specs.Watching.{BeginsToWrite, stream_of}
 use Rattle.dvg_io.proofs.StrokeLines.{next_stroke, no_stroke}
 use Rattle.dvg_io.proofs.Went.{piece_begun, piece_more}
 use Rattle.dvg_io.proofs.strokes.write_strokes.Goals as goal
@@ -10,7 +10,7 @@ returns-in_err-write_whole g c =
     let i = c.loop-stroke.stroke-index in
     let line = stroke_line (get_or c.args.strokes.now i no_stroke) in
     let next = next_stroke c.args.strokes.now i c.loop-stroke-test.true in
-    let begun : BeginsToWrite line (g.W.Write.contents (device_of c.loop-stroke.writer)) (g.W.Write.contents (device_of c.write_whole.new.writer)) = search rules in
+    let begun : BeginsToWrite line (g.W.Write.contents (stream_of c.loop-stroke.writer)) (g.W.Write.contents (stream_of c.write_whole.new.writer)) = search rules in
     let all = piece_begun line (flat_map stroke_line (drop (i + 1) c.args.strokes.now)) c.loop-stroke.invariant.went next begun in
     search rules
 

@@ -1,6 +1,6 @@
 use Rattle.dvg_lay.specs.Refusals.{IsGood}
 use Rattle.dvg_lay.proofs.Lists.{all_at, all_in}
-use Rattle.dvg_lay.proofs.Told.{fault_at}
+use Rattle.dvg_lay.proofs.Described.{fault_at}
 use Rattle.dvg_lay.proofs.checking.check_all.Goals as goal
 
 pub returns-in-Err-clause-refused : goal.returns-in-Err-clause-refused

@@ -4,9 +4,9 @@ use Rattle.dvg_named.proofs.FrameLists.{first_has, frames_joined, others_have}
 use Rattle.dvg_named.proofs.frame_rows.frame_rows.Goals as goal
 
 pub returns-clause-frames : goal.returns-clause-frames
-returns-clause-frames g c told =
+returns-clause-frames g c stated =
     frames_joined c.args.closed.now c.args.last.now c.top-item.result (frames_of c.in_ok-found.found.items)
-    (frames_of c.push_frame.new.found.items) told c.in-len1-up.len_at_least c.top-item.is c.in_ok-found.ensures.frames
+    (frames_of c.push_frame.new.found.items) stated c.in-len1-up.len_at_least c.top-item.is c.in_ok-found.ensures.frames
     c.in_ok-push_frame.ensures.frames
 
 pub returns-clause-sources : goal.returns-clause-sources

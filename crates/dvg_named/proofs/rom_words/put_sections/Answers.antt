@@ -4,7 +4,7 @@ use Rattle.dvg_named.specs.LaidValues.{laid_section, laid_sections}
 use Rattle.dvg_named.specs.Places.{Laid, laid_end}
 use Rattle.dvg_named.specs.RomBytes.{MayStandInRom}
 use Rattle.dvg_named.specs.Ungiven.{WantsAt, in_rom}
-use Rattle.dvg_named.proofs.RomWritten.{first_is, section_at, section_stands, told_more}
+use Rattle.dvg_named.proofs.RomWritten.{first_is, section_at, section_stands, stated_more}
 use Rattle.dvg_named.proofs.rom_words.put_sections.Goals as goal
 
 pub put_section-requires-clause-start : goal.put_section-requires-clause-start
@@ -45,11 +45,11 @@ loop-number-preserved c =
     ∙ ap (λ s. laid_sections (take i sections) ++ laid_section s ∷ []) (sym is) in
     let put = c.in_default.ensures.put in
     record {
-      told = λ told is_rom.
-          told_more laid (laid_sections (take i sections)) (laid_sections (take (i + 1) sections)) (laid_section section) told
+      stated = λ stated is_rom.
+          stated_more laid (laid_sections (take i sections)) (laid_sections (take (i + 1) sections)) (laid_section section) stated
           (0xC00 - length c.args.rom.now / 2) c.loop-number.rom c.put_section.new.rom
-          (first_is told c.args.rom.now (0xC00 - length c.args.rom.now / 2) is_rom c.requires.size refl)
-          (before.told told is_rom) put more;
+          (first_is stated c.args.rom.now (0xC00 - length c.args.rom.now / 2) is_rom c.requires.size refl)
+          (before.stated stated is_rom) put more;
       count = put.put.count ∙ before.count;
       known = below_more _ _ before.known (λ other stands place wants.
           let here = section_stands sections i section low is in

@@ -6,8 +6,8 @@ use Rattle.dvg_named.proofs.rom_words.put_sections.Given as goal
 
 abbrev pub invariant-loop-number : goal.invariant-loop-number
 invariant-loop-number l = record {
-  told : (told : RomText) → IsRomOf told l.initial.rom
-      → TellsSections (laid_sections l.sections) (laid_sections (take l.number l.sections)) told l.rom;
+  stated : (stated : RomText) → IsRomOf stated l.initial.rom
+      → TellsSections (laid_sections l.sections) (laid_sections (take l.number l.sections)) stated l.rom;
   count : length l.rom ≡ length l.initial.rom;
   known : (k : ℕ) → k < l.number → WantsNothing (laid_sections l.sections) k;
 }

@@ -3,7 +3,7 @@ use Rattle.dvg_read.specs.LineParts.{bytes_of}
 use Rattle.dvg_read.specs.Texts.{lines}
 use Rattle.dvg_read.specs.TextLines.{lines_left}
 use Rattle.dvg_named.specs.TextReading.{StopsText}
-use Rattle.dvg_named.proofs.SketchRead.{are_parts, begins, bounded, goes_by, line_at, many, no_words, passes, plain_is, reads_all, some_words, stops_words}
+use Rattle.dvg_named.proofs.SketchRead.{are_parts, begins, bounded, goes_by, line_at, many, no_tokens, passes, plain_is, reads_all, some_tokens, stops_tokens}
 use Rattle.dvg_named.proofs.text_reading.read_lines.Goals as goal
 
 pub loop-line-init : goal.loop-line-init
@@ -37,24 +37,24 @@ loop-line-preserved-then-is_empty g c = record {
   short = c.loop-line.invariant.short;
   sourced = c.loop-line.invariant.sourced;
   read = passes c.args.small.now _ _ c.loop-line.number c.loop-line.reading c.in-Some.line.now c.in-Some.ensures.steps c.loop-line.invariant.read
-      (no_words c.in-Some-words_of.words.items c.in-Some.line.now c.is_empty.result c.is_empty.ensures c.if-is_empty.true
-      c.in-Some-words_of.ensures.found);
+      (no_tokens c.in-Some-tokens_of.tokens.items c.in-Some.line.now c.is_empty.result c.is_empty.ensures c.if-is_empty.true
+      c.in-Some-tokens_of.ensures.found);
 }
 
 pub add-requires : goal.add-requires
 add-requires g c =
     are_parts c.args.small.now _ _ c.loop-line.number c.loop-line.reading c.in-Some.line.now c.in-Some.ensures.steps c.loop-line.invariant.read
-    (bytes_of c.as_slice.result.now) (ap bytes_of c.as_slice.ensures.value ∙ c.in-Some-words_of.ensures.found)
-    (some_words c.in-Some-words_of.words.items c.in-Some.line.now c.is_empty.result c.is_empty.ensures c.if-is_empty.false
-    c.in-Some-words_of.ensures.found)
+    (bytes_of c.as_slice.result.now) (ap bytes_of c.as_slice.ensures.value ∙ c.in-Some-tokens_of.ensures.found)
+    (some_tokens c.in-Some-tokens_of.tokens.items c.in-Some.line.now c.is_empty.result c.is_empty.ensures c.if-is_empty.false
+    c.in-Some-tokens_of.ensures.found)
 
 pub returns-in-Err-clause-fault : goal.returns-in-Err-clause-fault
 returns-in-Err-clause-fault g c text is =
     subst (λ fault. StopsText fault text) (sym c.at_line-in-Err.ensures)
-    (stops_words c.args.small.now _ _ c.loop-line.number c.loop-line.reading c.in-Some.line.now c.in-Some.ensures.steps c.loop-line.invariant.read
-    (bytes_of c.as_slice.result.now) (ap bytes_of c.as_slice.ensures.value ∙ c.in-Some-words_of.ensures.found)
-    (some_words c.in-Some-words_of.words.items c.in-Some.line.now c.is_empty.result c.is_empty.ensures c.if-is_empty.false
-    c.in-Some-words_of.ensures.found)
+    (stops_tokens c.args.small.now _ _ c.loop-line.number c.loop-line.reading c.in-Some.line.now c.in-Some.ensures.steps c.loop-line.invariant.read
+    (bytes_of c.as_slice.result.now) (ap bytes_of c.as_slice.ensures.value ∙ c.in-Some-tokens_of.ensures.found)
+    (some_tokens c.in-Some-tokens_of.tokens.items c.in-Some.line.now c.is_empty.result c.is_empty.ensures c.if-is_empty.false
+    c.in-Some-tokens_of.ensures.found)
     c.in-Err.fault c.in-Err.ensures.fault c.loop-line.invariant.short text is)
 
 pub loop-line-preserved : goal.loop-line-preserved
@@ -66,13 +66,13 @@ loop-line-preserved g c = record {
       (line_at c.args.small.now _ _ c.loop-line.number c.loop-line.reading c.in-Some.line.now c.in-Some.ensures.steps c.loop-line.invariant.read
       _ refl refl)
       (plain_is c.args.small.now _ _ c.loop-line.number c.loop-line.reading c.in-Some.line.now c.in-Some.ensures.steps c.loop-line.invariant.read
-      (bytes_of c.as_slice.result.now) (ap bytes_of c.as_slice.ensures.value ∙ c.in-Some-words_of.ensures.found)
-      (some_words c.in-Some-words_of.words.items c.in-Some.line.now c.is_empty.result c.is_empty.ensures c.if-is_empty.false
-      c.in-Some-words_of.ensures.found));
+      (bytes_of c.as_slice.result.now) (ap bytes_of c.as_slice.ensures.value ∙ c.in-Some-tokens_of.ensures.found)
+      (some_tokens c.in-Some-tokens_of.tokens.items c.in-Some.line.now c.is_empty.result c.is_empty.ensures c.if-is_empty.false
+      c.in-Some-tokens_of.ensures.found));
   read = goes_by c.args.small.now _ _ c.loop-line.number c.loop-line.reading c.in-Some.line.now c.in-Some.ensures.steps c.loop-line.invariant.read
-      (bytes_of c.as_slice.result.now) (ap bytes_of c.as_slice.ensures.value ∙ c.in-Some-words_of.ensures.found)
-      (some_words c.in-Some-words_of.words.items c.in-Some.line.now c.is_empty.result c.is_empty.ensures c.if-is_empty.false
-      c.in-Some-words_of.ensures.found)
+      (bytes_of c.as_slice.result.now) (ap bytes_of c.as_slice.ensures.value ∙ c.in-Some-tokens_of.ensures.found)
+      (some_tokens c.in-Some-tokens_of.tokens.items c.in-Some.line.now c.is_empty.result c.is_empty.ensures c.if-is_empty.false
+      c.in-Some-tokens_of.ensures.found)
       c.add.new.self c.in_default-add.ensures.added
       (λ rom reads. c.in_default-add.ensures.numbers rom c.args.small.now reads c.loop-line.invariant.sourced);
 }

@@ -1,5 +1,5 @@
 use Rattle.std.proofs.Common.{rules, flat_map, drop, ◌+◌}
-use Rattle.dvg_io.specs.Watching.{BeginsToWrite, device_of}
+use Rattle.dvg_io.specs.Watching.{BeginsToWrite, stream_of}
 use Rattle.dvg_io.proofs.Went.{piece_begun, piece_more}
 use Rattle.dvg_picture.specs.Texts.{ran_text}
 use Rattle.dvg_picture.proofs.Shown.{next_ran}
@@ -10,7 +10,7 @@ returns-in_err-write_ran g c =
     let i = c.loop-ran.ran-index in
     let ran = c.ran-item.result in
     let next = next_ran c.args.trace.now i ran c.loop-ran-test.true c.ran-item.is in
-    let begun : BeginsToWrite (ran_text ran) (g.W.Write.contents (device_of c.loop-ran.writer)) (g.W.Write.contents (device_of c.write_ran.new.writer)) = search rules in
+    let begun : BeginsToWrite (ran_text ran) (g.W.Write.contents (stream_of c.loop-ran.writer)) (g.W.Write.contents (stream_of c.write_ran.new.writer)) = search rules in
     let all = piece_begun (ran_text ran) (flat_map ran_text (drop (i + 1) c.args.trace.now)) c.loop-ran.invariant.went next begun in
     search rules
 

@@ -4,4 +4,4 @@ use Rattle.dvg_read.specs.EventLines.{spelled_as}
 use Rattle.dvg_read.proofs.trace_text.count.Goals as goal
 
 pub returns-clause-value : goal.returns-clause-value
-returns-clause-value c = c.from.ensures ∙ sym (length-replicate c.args.told.now.count (spelled_as c.args.told.now.event))
+returns-clause-value c = c.from.ensures ∙ sym (length-replicate c.args.repeated.now.count (spelled_as c.args.repeated.now.event))

@@ -7,8 +7,8 @@ returns-in-Ok-check-clause-said g c =
     let (accepts, same, bound) = c.in-Ok-check.ensures in
     let rom = c.in-Ok-new.ensures.bytes ∙ c.as_slice.ensures.value in
     record {
-      F = c.in-Ok.told.draft;
-      R = c.in-Ok.told.rom.items;
+      F = c.in-Ok.drafted.draft;
+      R = c.in-Ok.drafted.rom.items;
       gives = c.in-Ok.ensures.gives;
       said = (rw rom at accepts, c.len_words.ensures.value ∙ ap size same, rw (← c.bound.ensures.value) at (rw rom at bound));
     }
@@ -16,4 +16,4 @@ returns-in-Ok-check-clause-said g c =
 pub returns-clause-said : goal.returns-clause-said
 returns-clause-said g c =
     let rom = c.in-Ok-new.ensures.bytes ∙ c.as_slice.ensures.value in
-    record { F = c.in-Ok.told.draft; R = c.in-Ok.told.rom.items; gives = c.in-Ok.ensures.gives; said = rw rom at c.in-Err-check.ensures }
+    record { F = c.in-Ok.drafted.draft; R = c.in-Ok.drafted.rom.items; gives = c.in-Ok.ensures.gives; said = rw rom at c.in-Err-check.ensures }

@@ -1,7 +1,7 @@
 use Rattle.std.proofs.Common.{◌≡◌}
 use Rattle.dvg_code.specs.Cutting.{Cutting}
 use Rattle.dvg_code.specs.Listing.{place_of, words_left}
-use Rattle.dvg_io.specs.Watching.{device_of, failures_of}
+use Rattle.dvg_io.specs.Watching.{failures_of, stream_of}
 use Rattle.dvg_tool.proofs.Progress.{Progress, Stands}
 use Rattle.dvg_tool.proofs.lists.list_words.Given as goal
 
@@ -12,5 +12,5 @@ invariant-loop-item g l = record {
   counted : failures_of l.writer ≡ failures_of l.initial.writer;
   stands : Stands l.words (words_left l.item-iterator) (place_of l.item-iterator);
   progress : (cutting : Cutting l.words) → Progress (λ place. place) cutting.items cutting.end cutting.rest (words_left l.item-iterator) (place_of l.item-iterator)
-      (g.W.Write.contents (device_of l.initial.writer)) (g.W.Write.contents (device_of l.writer));
+      (g.W.Write.contents (stream_of l.initial.writer)) (g.W.Write.contents (stream_of l.writer));
 }

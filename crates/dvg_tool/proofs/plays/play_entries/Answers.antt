@@ -2,9 +2,9 @@ use Rattle.std.proofs.Common.{ap, ◌∙◌, Err, Ok, is_ok, subst, true}
 use Rattle.std.specs.Io.KnownBytes.{Appends}
 use Rattle.std.proofs.lemmas.Result.{err_from_is_err_and}
 use Rattle.dvg_io.proofs.Served.{served, served_wanting, unserved}
-use Rattle.dvg_io.specs.Watching.{device_of}
+use Rattle.dvg_io.specs.Watching.{stream_of}
 use Rattle.dvg_tool.specs.Plays.{IsRun, run_shown}
-use Rattle.dvg_tool.proofs.TracesPlayed.{earlier, stops, told_part, told_whole}
+use Rattle.dvg_tool.proofs.TracesPlayed.{earlier, plays_part, plays_whole, stops}
 use Rattle.dvg_tool.proofs.plays.play_entries.Goals as goal
 
 pub returns-in_err-serve : goal.returns-in_err-serve
@@ -19,20 +19,20 @@ returns-in_err-serve g c =
 
 pub returns-in-Ok : goal.returns-in-Ok
 returns-in-Ok g c =
-    let old = g.W.Write.contents (device_of c.args.writer.now) in
-    let new = g.W.Write.contents (device_of c.serve.new.writer) in
+    let old = g.W.Write.contents (stream_of c.args.writer.now) in
+    let new = g.W.Write.contents (stream_of c.serve.new.writer) in
     served g.R.Read.remaining g.W.Write.contents 1048577 _ _ _ _ c.args.reader.now c.serve.new.reader c.args.writer.now c.serve.new.writer
     c.in_ok-serve.field-0 (tt {0})
-    (λ input h. told_whole true (run_shown (Ok c.in-Ok.field-0)) (tt {0}) old new input
+    (λ input h. plays_whole true (run_shown (Ok c.in-Ok.field-0)) (tt {0}) old new input
     (subst (λ run. IsRun input run × Appends old new (run_shown run)) c.in-Ok.is h))
     c.in_ok-serve.ensures
 
 pub returns : goal.returns
 returns g c =
-    let old = g.W.Write.contents (device_of c.args.writer.now) in
-    let new = g.W.Write.contents (device_of c.serve.new.writer) in
+    let old = g.W.Write.contents (stream_of c.args.writer.now) in
+    let new = g.W.Write.contents (stream_of c.serve.new.writer) in
     served_wanting g.R.Read.remaining g.W.Write.contents 1048577 _ _ _ _ c.args.reader.now c.serve.new.reader c.args.writer.now c.serve.new.writer
     c.in_ok-serve.field-0 (λ early. early)
-    (λ input h. told_part (Unit {0}) true (run_shown (Err c.in-Err.field-0)) old new input
+    (λ input h. plays_part (Unit {0}) true (run_shown (Err c.in-Err.field-0)) old new input
     (subst (λ run. IsRun input run × Appends old new (run_shown run)) c.in-Err.is h))
     c.in_ok-serve.ensures

@@ -17,6 +17,6 @@ returns-in_default-new g c =
 
 pub returns : goal.returns
 returns g c =
-    let told = c.args.told.now in
-    let image = subst (λ image. Draws c.in-Ok.rom image told.events c.draw_trace.result) c.in-Ok-new.ensures.bytes c.draw_trace.ensures in
-    subst (λ R. Draws R zeros told.events c.draw_trace.result) (c.in-Ok.ensures.bytes ∙ c.as_slice.ensures.value) image
+    let trace = c.args.trace.now in
+    let image = subst (λ image. Draws c.in-Ok.rom image trace.events c.draw_trace.result) c.in-Ok-new.ensures.bytes c.draw_trace.ensures in
+    subst (λ R. Draws R zeros trace.events c.draw_trace.result) (c.in-Ok.ensures.bytes ∙ c.as_slice.ensures.value) image

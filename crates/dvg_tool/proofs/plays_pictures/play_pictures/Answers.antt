@@ -2,9 +2,9 @@ use Rattle.std.proofs.Common.{ap, ◌∙◌, Err, false, subst}
 use Rattle.std.specs.Io.KnownBytes.{Appends}
 use Rattle.std.proofs.lemmas.Result.{err_from_is_err_and}
 use Rattle.dvg_io.proofs.Served.{served, served_wanting, unserved}
-use Rattle.dvg_io.specs.Watching.{device_of}
+use Rattle.dvg_io.specs.Watching.{stream_of}
 use Rattle.dvg_tool.specs.Plays.{IsDrawn, IsShown, drawn_shown}
-use Rattle.dvg_tool.proofs.TracesPlayed.{earlier, stops, told_part, told_whole}
+use Rattle.dvg_tool.proofs.TracesPlayed.{earlier, plays_part, plays_whole, stops}
 use Rattle.dvg_tool.proofs.plays_pictures.play_pictures.Goals as goal
 
 pub returns-in_err-serve : goal.returns-in_err-serve
@@ -20,10 +20,10 @@ returns-in_err-serve g c =
 pub returns-else-branch : goal.returns-else-branch
 returns-else-branch g c =
     let drawn = c.in_ok-serve.field-0 in
-    let old = g.W.Write.contents (device_of c.args.writer.now) in
-    let new = g.W.Write.contents (device_of c.serve.new.writer) in
+    let old = g.W.Write.contents (stream_of c.args.writer.now) in
+    let new = g.W.Write.contents (stream_of c.serve.new.writer) in
     served_wanting g.R.Read.remaining g.W.Write.contents 1048577 _ _ _ _ c.args.reader.now c.serve.new.reader c.args.writer.now c.serve.new.writer
     drawn (λ early. early)
-    (λ input h. told_part (Unit {0}) false (drawn_shown drawn) old new input
+    (λ input h. plays_part (Unit {0}) false (drawn_shown drawn) old new input
     (subst (λ is_whole. IsShown false is_whole input (drawn_shown drawn) × Appends old new (drawn_shown drawn)) c.if-branch.false h))
     c.in_ok-serve.ensures

@@ -1,6 +1,6 @@
 use Rattle.std.proofs.Common.{rules, ◌+◌, drop, flat_map, map}
 use Rattle.dvg_world.specs.Pictures.{picture_seen}
-use Rattle.dvg_io.specs.Watching.{BeginsToWrite, device_of}
+use Rattle.dvg_io.specs.Watching.{BeginsToWrite, stream_of}
 use Rattle.dvg_io.proofs.Went.{piece_begun, piece_more}
 use Rattle.dvg_tool.specs.Plays.{picture_text}
 use Rattle.dvg_tool.proofs.DrawnPlayed.{next_picture}
@@ -13,7 +13,7 @@ returns-in_err-write_picture g c =
     let picture = c.picture-item.result in
     let next = next_picture pictures i picture c.loop-picture-test.true c.picture-item.is in
     let text = picture_text (picture_seen picture) in
-    let begun : BeginsToWrite text (g.W.Write.contents (device_of c.loop-picture.writer)) (g.W.Write.contents (device_of c.write_picture.new.writer)) = search rules in
+    let begun : BeginsToWrite text (g.W.Write.contents (stream_of c.loop-picture.writer)) (g.W.Write.contents (stream_of c.write_picture.new.writer)) = search rules in
     let all = piece_begun text (flat_map picture_text (map picture_seen (drop (i + 1) pictures))) c.loop-picture.invariant.went next begun in
     search rules
 

@@ -1,6 +1,6 @@
 use Rattle.std.proofs.Common.{◌≡◌, ◌+◌, ◌-◌, ◌*◌, ◌<◌, ◌∙◌, ap, length, take, drop, arith, rules}
 use Rattle.dvg_print.specs.Lines.{rom_line}
-use Rattle.dvg_io.specs.Watching.{BeginsToWrite, device_of}
+use Rattle.dvg_io.specs.Watching.{BeginsToWrite, stream_of}
 use Rattle.dvg_tool.proofs.RomLines.{all_rows, row_begun, row_written}
 use Rattle.dvg_tool.proofs.roms.write_rows.Goals as goal
 
@@ -11,7 +11,7 @@ returns-in_err-write_whole g c =
     let is : c.as_bytes.result.now ≡ rom_line (c.args.first + c.loop-row.row * 8) (take 8 (drop (c.loop-row.row * 8) words)) =
     c.as_bytes.ensures ∙ c.become_rom.ensures ∙ ap (λ a. rom_line (a + c.loop-row.row * 8) (take (c.loop-row.row * 8 + 8 - c.loop-row.row * 8) (drop (c.loop-row.row * 8) words))) c.from.ensures
     ∙ ap (λ k. rom_line (c.args.first + c.loop-row.row * 8) (take k (drop (c.loop-row.row * 8) words))) eight in
-    let begun : BeginsToWrite c.as_bytes.result.now (g.W.Write.contents (device_of c.loop-row.writer)) (g.W.Write.contents (device_of c.write_whole.new.writer)) = search rules in
+    let begun : BeginsToWrite c.as_bytes.result.now (g.W.Write.contents (stream_of c.loop-row.writer)) (g.W.Write.contents (stream_of c.write_whole.new.writer)) = search rules in
     let all = row_begun c.args.first words c.as_bytes.result.now c.loop-row.row _ _ _ (search rules) c.loop-row.invariant.written is begun in
     search rules
 

@@ -2,7 +2,7 @@ use Rattle.std.proofs.Common.{subst, lit≤}
 use Rattle.dvg_mem.specs.Memory.{fetched}
 use Rattle.dvg_log.specs.Held.{HoldsFrame}
 use Rattle.test_facts.specs.Facts.{level_strokes}
-use Rattle.test_facts.proofs.Alone.{told}
+use Rattle.test_facts.proofs.Alone.{answered}
 use Rattle.test_facts.proofs.FourFrames.{level_drawn}
 use Rattle.test_facts.proofs.undisturbed.draws_a_level_vector.Goals as goal
 
@@ -16,5 +16,5 @@ pub returns : goal.returns
 returns c =
     let ram = c.in_ok-store.store in
     let holds = subst (HoldsFrame ram c.args.half) c.requires c.in_ok-store.ensures in
-    told (fetched ram c.args.rom.now) 6 level_strokes c.drawn.result c.drawn.ensures
+    answered (fetched ram c.args.rom.now) 6 level_strokes c.drawn.result c.drawn.ensures
     (level_drawn c.args.half ram c.args.rom.now holds)

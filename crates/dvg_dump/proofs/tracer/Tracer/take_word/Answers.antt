@@ -1,12 +1,12 @@
 use Rattle.std.proofs.Common.{ap, sym, refl, ◌∙◌}
 use Rattle.dvg_dump.specs.Tracing.{Trail}
-use Rattle.dvg_dump.proofs.Telling.{held_word, told_word}
+use Rattle.dvg_dump.proofs.Telling.{held_word, recorded_word}
 use Rattle.dvg_dump.proofs.tracer.Tracer.take_word.Goals as goal
 
 pub returns-in-Some : goal.returns-in-Some
 returns-in-Some g c =
     let old = c.args.self.now in
-    told_word c.tell.result c.in-Some.read c.completed.result c.args.address c.args.word _ old _ _ c.requires c.in-Some.is
+    recorded_word c.tell.result c.in-Some.read c.completed.result c.args.address c.args.word _ old _ _ c.requires c.in-Some.is
     (ap {A = Trail} (λ t. record t { address = c.began-self-inside.result }) c.self.view_is ∙ ap (λ a. record old { address = a }) c.began-self-inside.ensures) (ap (λ t. t.held) (sym c.self.view_is))
     c.completed.ensures.found c.completed.ensures.first c.tell.ensures
 

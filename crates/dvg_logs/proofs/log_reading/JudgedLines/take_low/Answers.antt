@@ -2,8 +2,8 @@ use Rattle.std.proofs.Common.{◌≡◌, ◌∙◌, ap, [], ◌∷◌, ◌++◌,
 use Rattle.dvg_logs.proofs.NumberLines.{firsts, head_of, line_taken, low_head}
 use Rattle.dvg_logs.proofs.log_reading.JudgedLines.take_low.Goals as goal
 
-pub returns-then-take_told-clause-taken : goal.returns-then-take_told-clause-taken
-returns-then-take_told-clause-taken c =
+pub returns-then-take_logged-clause-taken : goal.returns-then-take_logged-clause-taken
+returns-then-take_logged-clause-taken c =
     let text = c.args.text.now in
     let b0 : get_or text 0 0 ≡ 108 = search rules in
     let b1 : get_or text 1 0 ≡ 111 = search rules in
@@ -15,4 +15,4 @@ returns-then-take_told-clause-taken c =
     let front = get_or text 4 0 ∷ get_or text 5 0 ∷ get_or text 6 0 ∷ [] in
     let back = get_or text 8 0 ∷ get_or text 9 0 ∷ [] in
     let is : firsts 0 11 text ≡ (codes "low " ++ (front ++ 32 ∷ back)) ++ 10 ∷ [] = rw (b0, b1, b2, b3, b7, b10) refl in
-    line_taken (low_head text rest front back (head_of text 11 c.in-108.len_at_least ∙ ap (λ l. l ++ rest) is) c.in_ok-address.ensures c.in_ok-byte.ensures) (c.take_told.ensures.taken c.if-take_told.true)
+    line_taken (low_head text rest front back (head_of text 11 c.in-108.len_at_least ∙ ap (λ l. l ++ rest) is) c.in_ok-address.ensures c.in_ok-byte.ensures) (c.take_logged.ensures.taken c.if-take_logged.true)

@@ -2,8 +2,8 @@ use Rattle.std.proofs.Common.{◌≡◌, ◌∙◌, ap, [], ◌∷◌, ◌++◌,
 use Rattle.dvg_logs.proofs.NumberLines.{firsts, head_of, line_taken, wrote_head}
 use Rattle.dvg_logs.proofs.log_reading.JudgedLines.take_wrote.Goals as goal
 
-pub returns-then-take_told-clause-taken : goal.returns-then-take_told-clause-taken
-returns-then-take_told-clause-taken c =
+pub returns-then-take_logged-clause-taken : goal.returns-then-take_logged-clause-taken
+returns-then-take_logged-clause-taken c =
     let text = c.args.text.now in
     let b0 : get_or text 0 0 ≡ 119 = search rules in
     let b1 : get_or text 1 0 ≡ 114 = search rules in
@@ -17,4 +17,4 @@ returns-then-take_told-clause-taken c =
     let front = get_or text 6 0 ∷ get_or text 7 0 ∷ get_or text 8 0 ∷ [] in
     let back = get_or text 10 0 ∷ get_or text 11 0 ∷ [] in
     let is : firsts 0 13 text ≡ (codes "wrote " ++ (front ++ 32 ∷ back)) ++ 10 ∷ [] = rw (b0, b1, b2, b3, b4, b5, b9, b12) refl in
-    line_taken (wrote_head text rest front back (head_of text 13 c.in-119.len_at_least ∙ ap (λ l. l ++ rest) is) (omega (arith, c.if-address-lt-RAM_END.true)) c.in_ok-address.ensures c.in_ok-byte.ensures) (c.take_told.ensures.taken c.if-take_told.true)
+    line_taken (wrote_head text rest front back (head_of text 13 c.in-119.len_at_least ∙ ap (λ l. l ++ rest) is) (omega (arith, c.if-address-lt-RAM_END.true)) c.in_ok-address.ensures c.in_ok-byte.ensures) (c.take_logged.ensures.taken c.if-take_logged.true)

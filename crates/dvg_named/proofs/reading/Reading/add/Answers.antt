@@ -19,15 +19,15 @@ not_both true e f = cc
 not_both false e f = cc
 
 pub returns-in_default-read_row-clause-fault : goal.returns-in_default-read_row-clause-fault
-returns-in_default-read_row-clause-fault g c told reads now =
-    let line = line_of (bytes_of c.args.words.now) in
-    let no_rom : IsBare c.args.self.now → (rom : RomText) → TellsRom told line rom → ⊥ =
+returns-in_default-read_row-clause-fault g c stated reads now =
+    let line = line_of (bytes_of c.args.tokens.now) in
+    let no_rom : IsBare c.args.self.now → (rom : RomText) → TellsRom stated line rom → ⊥ =
     elim c.else-is_bare.branch [
-      | else-is_bare-via-then-is_bare+else-tell w ↦ λ bare rom. w.tell.ensures.refused w.if-tell.false told rom reads
+      | else-is_bare-via-then-is_bare+else-tell w ↦ λ bare rom. w.tell.ensures.refused w.if-tell.false stated rom reads
       | else-is_bare-via-else-is_bare w ↦ λ bare rom says.
           not_both c.is_bare.result (c.is_bare.ensures.1 bare) w.if-is_bare.false
     ] in
-    nothing_goes told (closed_in c.args.self.now) (section_in c.args.self.now.last) line now reads.keeps.starts
+    nothing_goes stated (closed_in c.args.self.now) (section_in c.args.self.now.last) line now reads.keeps.starts
     (λ none empty rom says. no_rom (none, empty) rom says)
     (λ head is. c.in_default.ensures.only head (subst (HeadParts head) c.requires is))
     (λ row is. absurd (c.in_default-read_row.ensures.only row (subst (RowParts row) c.requires is)))
@@ -39,7 +39,7 @@ returns-in-Some-clause-numbers g c =
       | else-is_bare-via-then-is_bare+else-tell w ↦ w.self-is ∙ w.tell.ensures.kept w.if-tell.false
       | else-is_bare-via-else-is_bare w ↦ w.self-is
     ] in
-    on_ok c.begin_section.result c.begin_section.ensures.entries (λ same told small reads sourced.
+    on_ok c.begin_section.result c.begin_section.ensures.entries (λ same stated small reads sourced.
     keeps (subst (λ old. KeepsEntries old c.begin_section.new.self) old same)
     (λ row is. head_is_no_row c.in-Some.ensures.found (subst (RowParts row) c.requires is)))
 
@@ -51,7 +51,7 @@ returns-clause-numbers g c =
       | else-is_bare-via-then-is_bare+else-tell w ↦ w.self-is ∙ w.tell.ensures.kept w.if-tell.false
       | else-is_bare-via-else-is_bare w ↦ w.self-is
     ] in
-    on_ok c.add_row.result c.add_row.ensures.entries (λ more told small reads sourced.
+    on_ok c.add_row.result c.add_row.ensures.entries (λ more stated small reads sourced.
     adds row (subst (RowParts row) (sym c.requires) c.in-Some-read_row.ensures.found)
     (subst (λ old. AddsEntry old row c.args.source.number c.add_row.new.self) old
     (more small (subst (AreSourced small) (sym old) sourced))))

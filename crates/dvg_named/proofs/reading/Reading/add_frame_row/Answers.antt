@@ -6,18 +6,18 @@ use Rattle.dvg_named.proofs.ReadRows.{frame_added, frame_filled, frame_given, on
 use Rattle.dvg_named.proofs.reading.Reading.add_frame_row.Goals as goal
 
 pub returns-in-Err-clause-fault : goal.returns-in-Err-clause-fault
-returns-in-Err-clause-fault g c told line reads spelled =
-    frame_given c.args.self.now c.args.row.now told line reads spelled c.in-Err.fault c.requires c.in-Err.ensures.fault
+returns-in-Err-clause-fault g c stated line reads spelled =
+    frame_given c.args.self.now c.args.row.now stated line reads spelled c.in-Err.fault c.requires c.in-Err.ensures.fault
 
 pub returns-in_default-counted-clause-fault : goal.returns-in_default-counted-clause-fault
-returns-in_default-counted-clause-fault g c told line reads spelled =
-    frame_filled c.args.self.now c.args.row.now told line reads spelled c.requires c.in_default.ensures.fresh
+returns-in_default-counted-clause-fault g c stated line reads spelled =
+    frame_filled c.args.self.now c.args.row.now stated line reads spelled c.requires c.in_default.ensures.fresh
     c.in_default-counted.ensures.full
 
 pub returns-clause-added : goal.returns-clause-added
 returns-clause-added g c =
-    on_ok c.push.result c.push.ensures.rows (λ pushed told line reads spelled.
-    frame_added c.args.self.now c.args.row.now told line reads spelled c.push.new.self c.give.new.self c.in-Some.count
+    on_ok c.push.result c.push.ensures.rows (λ pushed stated line reads spelled.
+    frame_added c.args.self.now c.args.row.now stated line reads spelled c.push.new.self c.give.new.self c.in-Some.count
     c.requires (section_pushed c.args.self.now.last c.push.new.self c.args.row.now c.push.ensures.head pushed)
     c.in_default.ensures.given c.in_default.ensures.fresh c.in-Some.ensures.counted)
 

@@ -45,18 +45,18 @@ join_frames-requires-clause-lines g c =
 pub returns-clause-drafts : goal.returns-clause-drafts
 returns-clause-drafts g c =
     let laid = laid_sections c.args.laid.now in
-    if_ok c.join_frames.result c.join_frames.ensures.spans (λ joined spans told.
+    if_ok c.join_frames.result c.join_frames.ensures.spans (λ joined spans stated.
     subst (λ fs. AllZip (IsFrameOf laid) fs (map (frame_at joined.ops.items) joined.spans.items))
-    (c.in_ok-found.ensures.frames told)
+    (c.in_ok-found.ensures.frames stated)
     (frames_are laid joined.ops.items c.in_ok-found.found.items joined.spans.items
     (subst (λ found. AllZip (IsSpanOf laid joined.ops.items) found joined.spans.items)
     c.as_slice.ensures.value spans)))
 
 pub returns-clause-lines : goal.returns-clause-lines
 returns-clause-lines g c =
-    if_ok c.join_frames.result c.join_frames.ensures.lines (λ joined lines told small sourced.
+    if_ok c.join_frames.result c.join_frames.ensures.lines (λ joined lines stated small sourced.
     subst (λ fs. AllZip (StandsIn small) fs (map (joined_at joined.ops.items joined.sources.items) joined.spans.items))
-    (c.in_ok-found.ensures.frames told)
+    (c.in_ok-found.ensures.frames stated)
     (stand_in small joined.ops.items joined.sources.items c.in_ok-found.found.items joined.spans.items
     (c.in_ok-found.ensures.sources small sourced)
     (subst (λ found. AllZip (AreLinesOf joined.sources.items) found joined.spans.items) c.as_slice.ensures.value lines)))

@@ -8,8 +8,8 @@ use Rattle.dvg_named.proofs.reading.Reading.frames.Goals as goal
 
 pub returns-clause-frames : goal.returns-clause-frames
 returns-clause-frames g c =
-    if_ok c.frame_rows.result c.frame_rows.ensures.frames (λ found are told.
-    are told ∙ ap (λ l. frames (sketch_of told (map section_in l) (section_in c.args.self.now.last))) c.as_slice.ensures.value)
+    if_ok c.frame_rows.result c.frame_rows.ensures.frames (λ found are stated.
+    are stated ∙ ap (λ l. frames (sketch_of stated (map section_in l) (section_in c.args.self.now.last))) c.as_slice.ensures.value)
 
 pub returns-clause-sources : goal.returns-clause-sources
 returns-clause-sources g c =

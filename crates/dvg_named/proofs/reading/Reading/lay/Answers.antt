@@ -14,7 +14,7 @@ lay-requires-clause-few g c =
 pub returns : goal.returns
 returns g c =
     let free : c.from.result ≡ c.args.self.now.rom.free = search rules in
-    if_ok c.lay.result c.lay.ensures (λ laid are told reads.
-    laid_held c.args.self.now told c.as_slice.result.now c.in_ok-sections.sections.items laid.items c.from.result reads
+    if_ok c.lay.result c.lay.ensures (λ laid are stated reads.
+    laid_held c.args.self.now stated c.as_slice.result.now c.in_ok-sections.sections.items laid.items c.from.result reads
     c.as_slice.ensures.value c.in_ok-sections.ensures free
     (are ∙ ap (λ l. laid_from c.from.result (sections_of l)) c.as_slice-2.ensures.value))

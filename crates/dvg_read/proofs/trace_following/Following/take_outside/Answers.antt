@@ -10,14 +10,14 @@ pub returns-then-self-more-gt-MOST_EVENTS-clause-fault : goal.returns-then-self-
 returns-then-self-more-gt-MOST_EVENTS-clause-fault c =
     let before = c.args.self.now in
     let over : 65536 < before.count + c.count-more.result = search rules in
-    many_halts before (happenings c.in-Some.told) c.args.line.now c.requires.outside c.in-Some.ensures.found
+    many_halts before (happenings c.in-Some.repeated) c.args.line.now c.requires.outside c.in-Some.ensures.found
     (subst (λ more. 65536 < before.count + more) c.count-more.ensures.value over)
 
 pub returns-in-Some-clause-taken : goal.returns-in-Some-clause-taken
 returns-in-Some-clause-taken c =
     let before = c.args.self.now in
     let few : before.count + c.count-more.result ≤ 65536 = search rules in
-    events_followed before _ (happenings c.in-Some.told) c.args.line.now c.requires.outside c.requires.outside c.in-Some.ensures.found refl
+    events_followed before _ (happenings c.in-Some.repeated) c.args.line.now c.requires.outside c.requires.outside c.in-Some.ensures.found refl
     (ap (λ more. before.count + more) c.count-more.ensures.value) few
 
 pub returns-then-take-clause-taken : goal.returns-then-take-clause-taken

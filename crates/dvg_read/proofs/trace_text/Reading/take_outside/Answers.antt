@@ -25,17 +25,17 @@ returns-then-is_offer-clause-held g c =
 
 pub returns-in-Some-clause-taken : goal.returns-in-Some-clause-taken
 returns-in-Some-clause-taken g c =
-    events_taken c.add_events.result (events_read c.args.self.now) (happenings c.in-Some.told) c.add_events.new.events (opened_of c.args.self.now) c.args.line.now c.args.self.now.rom (none_opened c.args.self.now.is_open c.args.self.now.draft c.requires.outside) c.in-Some.ensures.found c.add_events.ensures.added
+    events_taken c.add_events.result (events_read c.args.self.now) (happenings c.in-Some.repeated) c.add_events.new.events (opened_of c.args.self.now) c.args.line.now c.args.self.now.rom (none_opened c.args.self.now.is_open c.args.self.now.draft c.requires.outside) c.in-Some.ensures.found c.add_events.ensures.added
 
 pub returns-in-Some-clause-held : goal.returns-in-Some-clause-held
 returns-in-Some-clause-held g c =
     let new : Reading g.row.A.Denot = record { alloc = c.args.self.now.alloc; rom = c.args.self.now.rom; events = c.add_events.new.events; draft = c.args.self.now.draft; is_open = c.args.self.now.is_open; resets = c.add_events.new.resets } in
     held_on c.add_events.result new
-    (events_fit c.add_events.result (events_read c.args.self.now) (happenings c.in-Some.told) (events_read new) (opened_of c.args.self.now) (parts c.args.line.now) c.in-Some.ensures.found c.add_events.ensures.added c.add_events.ensures.room c.requires.held.fits)
+    (events_fit c.add_events.result (events_read c.args.self.now) (happenings c.in-Some.repeated) (events_read new) (opened_of c.args.self.now) (parts c.args.line.now) c.in-Some.ensures.found c.add_events.ensures.added c.add_events.ensures.room c.requires.held.fits)
     c.add_events.ensures.resets
 
 pub returns-in-Some-clause-fault : goal.returns-in-Some-clause-fault
-returns-in-Some-clause-fault g c = events_stop c.add_events.result (events_read c.args.self.now) (happenings c.in-Some.told) (opened_of c.args.self.now) c.args.line.now c.args.self.now.rom (none_opened c.args.self.now.is_open c.args.self.now.draft c.requires.outside) c.in-Some.ensures.found c.add_events.ensures.fault
+returns-in-Some-clause-fault g c = events_stop c.add_events.result (events_read c.args.self.now) (happenings c.in-Some.repeated) (opened_of c.args.self.now) c.args.line.now c.args.self.now.rom (none_opened c.args.self.now.is_open c.args.self.now.draft c.requires.outside) c.in-Some.ensures.found c.add_events.ensures.fault
 
 pub returns-then-take-clause-taken : goal.returns-then-take-clause-taken
 returns-then-take-clause-taken g c =

@@ -6,14 +6,14 @@ use Rattle.dvg_tool.proofs.DrawnPlayed.{finds_drawn}
 use Rattle.dvg_tool.proofs.TracesPlayed.{misread}
 use Rattle.dvg_tool.proofs.plays_pictures.PicturesEngineEngineAlloc.find.Goals as goal
 
-pub returns-in_err-told : goal.returns-in_err-told
-returns-in_err-told g c =
+pub returns-in_err-trace : goal.returns-in_err-trace
+returns-in_err-trace g c =
     let is = err_from_is_err_and c.from_residual.result c.from_residual.ensures.1 in
-    let fault = c.in_err-told.field-0.0 in
-    let stops : StopsReading fault c.args.read.now = c.in_err-told.ensures.fault in
+    let fault = c.in_err-trace.field-0.0 in
+    let stops : StopsReading fault c.args.read.now = c.in_err-trace.ensures.fault in
     misread IsDrawn c.from_residual.result fault c.args.read.now (is.1 ∙ ap Err is.2) stops
 
 pub returns : goal.returns
 returns g c =
-    let told = c.in_ok-told.told in
-    finds_drawn c.args.read.now told.rom.items told.events c.draw_text.result c.in_ok-told.ensures.gives c.draw_text.ensures
+    let trace = c.in_ok-trace.trace in
+    finds_drawn c.args.read.now trace.rom.items trace.events c.draw_text.result c.in_ok-trace.ensures.gives c.draw_text.ensures

@@ -1,0 +1,115 @@
+//! What the arguments of the program ask for.
+ghost use Rattle.std.specs.Prelude.{◌≡◌, IfErr, IfOk, IfSome, IsNone, Some, map, true};
+ghost use Rattle.dvg_args.specs.Options.{Refuses};
+ghost use Rattle.dvg_args.specs.Arguments.{IsJob, IsJobName, IsPlainName, TakesArguments};
+ghost use Rattle.dvg_args.specs.Arguments.{arguments_fault, dvg_app, options_fault};
+ghost use Rattle.clap.specs.Words.{FailsBy, fault_of, found_of, has_subcommand, kind_of, rows_of, subcommand_name_of, subcommand_of, subcommand_rows_of, takes};
+
+use crate::command::command;
+use crate::drawing::{draw_job, list_job, picture_job, play_job};
+use crate::laying::lay_job;
+use crate::misuse::misuse;
+use crate::options::is_set;
+use crate::task::Job;
+use clap::error::ErrorKind;
+use clap::{ArgMatches, Error};
+use std::alloc::Global;
+
+// The job of a subcommand whose options can't be refused.
+fn plain_job(name: &str, found: &ArgMatches) -> Option<Job>
+    ensures some { IfSome result (λ j. IsJob j (Some (name.now, rows_of (found_of found.now)))) }
+    ensures none { IsNone result → ¬ IsPlainName name.now }
+{
+    if name == "rom" {
+        Some(Job::Rom)
+    } else if name == "check" {
+        Some(Job::Check {
+            bound: is_set(found, "bound"),
+        })
+    } else if name == "torn" {
+        Some(Job::Torn)
+    } else {
+        None
+    }
+}
+
+// The job that a subcommand asks for, or how its options are refused.
+fn asked(name: &str, found: &ArgMatches) -> Result<Job, ErrorKind>
+    requires { IsJobName name.now }
+    ensures ok { IfOk result (λ j. IsJob j (Some (name.now, rows_of (found_of found.now)))) }
+    ensures kinds { Refuses result (options_fault (Some (name.now, rows_of (found_of found.now)))) }
+{
+    if name == "list" {
+        return list_job(found);
+    }
+    if name == "picture" {
+        return picture_job(found);
+    }
+    if name == "play" {
+        return play_job(found);
+    }
+    if name == "draw" {
+        return draw_job(found);
+    }
+    if name == "lay" {
+        return lay_job(found);
+    }
+    match plain_job(name, found) {
+        Some(job) => Ok(job),
+        None => unreachable!(),
+    }
+}
+
+// The job of a matching that entered a subcommand, where that is one, or how its options are
+// refused.
+fn entered(matches: &ArgMatches) -> Result<Job, ErrorKind>
+    requires some { has_subcommand matches.now ≡ true }
+    requires name { IfSome (subcommand_name_of matches.now) IsJobName }
+    ensures ok { IfOk result (λ j. IsJob j (subcommand_rows_of matches.now)) }
+    ensures kinds { Refuses result (options_fault (subcommand_rows_of matches.now)) }
+{
+    let Some(entered) = matches.subcommand() else {
+        unreachable!()
+    };
+    asked(entered.0, entered.1)
+}
+
+// The matching of arguments, which enters a subcommand where they are taken.
+fn matched<'a>(alloc: Global, arguments: &'a [&'a str]) -> Result<ArgMatches<'a>, Error>
+    ensures some { IfOk result (λ m. has_subcommand m ≡ true) }
+    ensures rows { IfOk result (λ m.
+        subcommand_rows_of m ≡ subcommand_of dvg_app (map (λ w. w.now) arguments.entry.now)) }
+    ensures err { IfErr result (λ e. takes dvg_app (map (λ w. w.now) arguments.entry.now) ≡ true
+        → kind_of e ≡ ErrorKind.OutOfMemory) }
+    ensures kinds { FailsBy (fault_of dvg_app (map (λ w. w.now) arguments.entry.now)) result }
+{
+    command(alloc)?.try_get_matches_from(arguments)
+}
+
+/// What the arguments ask for: the subcommand and the options that they match. The first argument
+/// is the program's name, and may be anything.
+///
+/// An error is help or the version that the arguments ask for (`DisplayHelp`, `DisplayVersion`), a
+/// refusal of arguments that ask for nothing the program can do, or want of memory (`OutOfMemory`).
+/// Its text is its `Display`.
+pub fn job<'a>(alloc: Global, arguments: &'a [&'a str]) -> Result<Job, Error>
+    ensures ok { IfOk result (λ j.
+        IsJob j (subcommand_of dvg_app (map (λ w. w.now) arguments.entry.now))) }
+
+    // Arguments that are taken fail only for want of memory.
+    ensures err { IfErr result (λ e. TakesArguments (map (λ w. w.now) arguments.entry.now)
+        → kind_of e ≡ ErrorKind.OutOfMemory) }
+
+    // A job is answered only where the arguments come to no kind of error; an error has one of the
+    // kinds that they come to, or memory ran out.
+    ensures kinds { FailsBy (arguments_fault (map (λ w. w.now) arguments.entry.now)) result }
+{
+    let matches = match matched(alloc, arguments) {
+        Ok(matches) => matches,
+        Err(error) => return Err(error),
+    };
+    match entered(&matches) {
+        Ok(job) => Ok(job),
+        Err(kind) => Err(misuse(alloc, &matches, kind)),
+    }
+}

@@ -1,0 +1,73 @@
+//! The tokens of a line.
+ghost use Rattle.std.specs.Prelude.{◌≡◌, ◌<◌, length, IfNone, IfSome};
+ghost use Rattle.std.specs.Str.Lines.{strip_carriage_return};
+ghost use Rattle.dvg_read.specs.LineParts.{bytes_of};
+ghost use Rattle.dvg_named.specs.PlainLines.{is_blank, is_some_byte, tokens, uncommented};
+
+use arrayvec::ArrayVec;
+use memchr::memchr;
+
+/// The most tokens that a line of a sketch has: those of a line `rom` that gives eight words.
+pub const MAX_TOKENS: usize = 10;
+
+/// The tokens of a line, which spaces and tabs part, without its comment and without one CR at its
+/// end. None exactly where there are more than ten.
+pub fn tokens_of(line: &[u8]) -> Option<ArrayVec<&[u8], MAX_TOKENS>>
+    ensures found { IfSome result (λ found. bytes_of found.items ≡ tokens line.now) }
+    ensures many { IfNone result (MAX_TOKENS < length (tokens line.now)) }
+{
+    let content = without_comment(without_cr(line));
+    let mut found = ArrayVec::new();
+    let parted = content.split(
+        |byte|
+            ensures { result ≡ is_blank byte.now }
+        { is_blank(*byte) },
+    );
+    let kept = parted.filter(
+        |token|
+            ensures { result ≡ is_some_byte token.now.now }
+        { has_bytes(token) },
+    );
+    match found.extend(kept) {
+        Ok(()) => Some(found),
+        Err(_) => None,
+    }
+}
+
+// Whether there is a byte.
+fn has_bytes(token: &[u8]) -> bool
+    ensures { result ≡ is_some_byte token.now }
+{
+    match token {
+        [] => false,
+        _ => true,
+    }
+}
+
+// Whether this byte is a space or a tab.
+fn is_blank(byte: u8) -> bool
+    ensures { result ≡ is_blank byte }
+{
+    byte == b' ' || byte == b'\t'
+}
+
+// What stands before a CR at the end.
+fn without_cr(line: &[u8]) -> &[u8]
+    ensures { result.now ≡ strip_carriage_return line.now }
+{
+    if line.is_empty() || line[line.len() - 1] != b'\r' {
+        line
+    } else {
+        &line[..line.len() - 1]
+    }
+}
+
+// What stands before the first `#`.
+fn without_comment(line: &[u8]) -> &[u8]
+    ensures { result.now ≡ uncommented line.now }
+{
+    match memchr(b'#', line) {
+        Some(end) => &line[..end],
+        None => line,
+    }
+}

@@ -1,0 +1,134 @@
+//! What the first lines of a sketch tell of its ROM.
+ghost use Rattle.std.specs.Prelude.{◌≡◌, ◌⊎◌, ◌+◌, ◌-◌, ◌/◌, ◌∷◌, [], ℕ, List, length, IfSome};
+ghost use Rattle.std.specs.Prelude.{IsFalse, IsTrue, Some};
+ghost use Rattle.dvg_mem.specs.Grown.{AreReturns};
+ghost use Rattle.dvg_read.specs.LineParts.{bytes_of};
+ghost use Rattle.dvg_read.specs.RomReading.{TellsRom, unstated};
+ghost use Rattle.dvg_read.specs.RomTexts.{IsMapLine, RomText};
+ghost use Rattle.dvg_named.specs.SketchSteps.{AreParts, line_of};
+ghost use Rattle.dvg_named.specs.StatedRoms.{HoldsStated, TellsStated};
+
+use crate::laid::free_with;
+use arrayvec::ArrayVec;
+use dvg_mem::{FIRST_LARGE_ROM_WORD, FIRST_ROM_WORD, LARGE_ROM_BYTES, LAST_ROM_WORD};
+use dvg_read::read_rom_parts;
+
+/// A word that no line gives, an RTSL, its low byte first (this project's own choice).
+const UNGIVEN: [u8; 2] = [0x00, 0xD0];
+
+/// The ROM that the lines tell which were read.
+#[derive(Drop)]
+pub(crate) struct StatedRom {
+    // Whether a line stated something.
+    is_stated: bool,
+    bytes: ArrayVec<u8, LARGE_ROM_BYTES>,
+    // The first word address after those that lines gave.
+    free: u16,
+}
+
+impl StatedRom {
+    /// Before the first line.
+    pub fn new() -> StatedRom
+        ensures { HoldsStated unstated result }
+    {
+        StatedRom {
+            is_stated: false,
+            bytes: ungiven(FIRST_ROM_WORD),
+            free: FIRST_ROM_WORD,
+        }
+    }
+
+    /// Reads a line of these tokens. Whether it tells something of the ROM, and may stand here.
+    pub fn take(&mut self, tokens: &[&[u8]]) -> bool
+        requires { AreParts (bytes_of tokens.now) }
+        ensures took { IsTrue result → (rom : RomText) → HoldsStated rom self.old
+            → TellsStated rom (line_of (bytes_of tokens.now)) self.new }
+        ensures refused { IsFalse result → (rom now : RomText) → HoldsStated rom self.old
+            → ¬ TellsRom rom (line_of (bytes_of tokens.now)) now }
+        ensures kept { IsFalse result → self.new ≡ self.old }
+    {
+        if let Some(first) = map_of(tokens) {
+            if self.is_stated {
+                return false;
+            }
+            self.is_stated = true;
+            self.bytes = ungiven(first);
+            self.free = first;
+            return true;
+        }
+        let first = self.first();
+        let Some(given) = read_rom_parts(first, tokens) else {
+            return false;
+        };
+        given.put(first, self.bytes.as_mut_slice());
+        self.free = free_with(self.free, given.end());
+        self.is_stated = true;
+        true
+    }
+
+    /// The bytes of the ROM.
+    pub fn bytes(&self) -> ArrayVec<u8, LARGE_ROM_BYTES>
+        ensures { result.items ≡ self.now.bytes.items }
+    {
+        let mut bytes = ArrayVec::new();
+        bytes.try_extend_from_slice(self.bytes.as_slice()).unwrap();
+        bytes
+    }
+
+    /// The first word address after those that lines gave.
+    pub fn free(&self) -> u16
+        ensures { result ≡ self.now.free }
+    {
+        self.free
+    }
+
+    /// The word address of the ROM's first word: the last one is at BFF.
+    pub fn first(&self) -> u16
+        ensures { result + length self.now.bytes.items / 2 ≡ 0xC00 }
+    {
+        LAST_ROM_WORD + 1 - (self.bytes.as_slice().len() / 2) as u16
+    }
+}
+
+// The word address of the ROM's first word in the memory map that a line of these tokens tells.
+// None exactly where it tells none.
+fn map_of(tokens: &[&[u8]]) -> Option<u16>
+    requires { AreParts (bytes_of tokens.now) }
+    ensures found { IfSome result (λ first. IsMapLine first (line_of (bytes_of tokens.now))) }
+    ensures only { (first : ℕ) → IsMapLine first (line_of (bytes_of tokens.now))
+        → result ≡ Some first }
+{
+    match tokens {
+        [name, size] => map_named(name, size),
+        _ => None,
+    }
+}
+
+// The same of a line of these two tokens.
+fn map_named(name: &[u8], size: &[u8]) -> Option<u16>
+    requires { AreParts (name.now ∷ size.now ∷ []) }
+    ensures found { IfSome result (λ first. IsMapLine first (line_of (name.now ∷ size.now ∷ []))) }
+    ensures only { (first : ℕ) → IsMapLine first (line_of (name.now ∷ size.now ∷ []))
+        → result ≡ Some first }
+{
+    if name != b"map".as_slice() {
+        return None;
+    }
+    match size {
+        b"2048" => Some(FIRST_ROM_WORD),
+        b"4096" => Some(FIRST_LARGE_ROM_WORD),
+        _ => None,
+    }
+}
+
+// The bytes of a ROM of which no line gives a word.
+fn ungiven(first: u16) -> ArrayVec<u8, LARGE_ROM_BYTES>
+    requires { (first ≡ 0x800) ⊎ (first ≡ 0x400) }
+    ensures { AreReturns result.items (0xC00 - first) }
+{
+    let mut bytes = ArrayVec::new();
+    for _word in 0..LAST_ROM_WORD + 1 - first {
+        bytes.try_extend_from_slice(&UNGIVEN).unwrap();
+    }
+    bytes
+}

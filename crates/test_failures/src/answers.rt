@@ -1,0 +1,34 @@
+//! What a job answers, as a plain value: a refusal of a sketch without its line, which takes memory.
+use dvg_tool::{BoundedVerdict, Done, LogVerdict, Outcome, ToolFault, Undrawn, Verdict};
+use std::alloc::Allocator;
+
+/// What an engine that is done has to say.
+#[derive(Clone, Copy, Debug, PartialEq, Eq)]
+pub enum Report {
+    Written,
+    Judged(Verdict),
+    Bounded(BoundedVerdict),
+    Drew(Outcome),
+    DrewSvg(Option<Undrawn>),
+    Searched(LogVerdict),
+    Refused,
+    Checked(bool),
+}
+
+/// What a job answers.
+pub type Answer = Result<Report, ToolFault>;
+
+/// What a job answered.
+pub fn answered<A: Allocator>(answer: &Result<Done<A>, ToolFault>) -> Answer {
+    match answer {
+        Ok(Done::Written) => Ok(Report::Written),
+        Ok(Done::Judged(verdict)) => Ok(Report::Judged(*verdict)),
+        Ok(Done::Bounded(verdict)) => Ok(Report::Bounded(*verdict)),
+        Ok(Done::Drew(outcome)) => Ok(Report::Drew(*outcome)),
+        Ok(Done::DrewSvg(undrawn)) => Ok(Report::DrewSvg(*undrawn)),
+        Ok(Done::Searched(verdict)) => Ok(Report::Searched(*verdict)),
+        Ok(Done::Refused(_)) => Ok(Report::Refused),
+        Ok(Done::CheckedFrames { good }) => Ok(Report::Checked(*good)),
+        Err(fault) => Err(*fault),
+    }
+}

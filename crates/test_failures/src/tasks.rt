@@ -1,0 +1,173 @@
+//! A task for each job, and what comes of it where nothing fails.
+use crate::answers::{Answer, Report, answered};
+use crate::traces::FIRST_PICTURE;
+use dvg_frame::{FrameFault, Place};
+use dvg_tool::{
+    BoundedVerdict, Job, LayForm, LogCounts, LogFinding, LogVerdict, Outcome, TextFault, ToolFault,
+    Verdict, Watched, perform,
+};
+use std::alloc::Global;
+use std::test::Fail;
+
+/// To play a trace: its pictures, its entries, and both over a banked store.
+pub const PICTURES: Job = Job::Play {
+    all: false,
+    banked: false,
+};
+
+pub const ENTRIES: Job = Job::Play {
+    all: true,
+    banked: false,
+};
+
+pub const BANKED_PICTURES: Job = Job::Play {
+    all: false,
+    banked: true,
+};
+
+pub const BANKED_ENTRIES: Job = Job::Play {
+    all: true,
+    banked: true,
+};
+
+/// A job with its input.
+#[derive(Clone, Copy)]
+pub struct Task<'a> {
+    pub job: Job,
+    pub input: &'a [u8],
+    /// How many bytes a stream moves by a call: one, or as many as a whole line that is written.
+    pub step: usize,
+    /// What is answered where nothing fails.
+    pub answer: Answer,
+}
+
+/// Two vectors, of which one is not canonical, and then words that are cut.
+const WORDS: [u8; 10] = [0x64, 0x90, 0x64, 0x74, 0x00, 0x94, 0x00, 0x00, 0x90, 0xA1];
+
+/// A draft after a ROM line, which is refused.
+const REFUSED: &str = "rom 800 E001\nlabs 0 0 0\ncallrom 800\nhalt\n";
+
+/// The answer to it.
+const OUT_OF_ROM: Verdict = Verdict::Refused(FrameFault::OutOfRom(Place::InRom(0x800)));
+
+/// A draft that is good, and the answer to it.
+const GOOD: &str = "labs 0 0 0\nhalt\n";
+
+const SHORT: BoundedVerdict = BoundedVerdict::Good { words: 3, bound: 4 };
+
+/// A log that isn't torn, so that it is read to its end.
+const LOG: &str = "started\n\nfetched 000 E201\nhalted\nwrote 402 90\n";
+
+/// The answer to it.
+pub const NOT_TORN: LogVerdict = LogVerdict {
+    finding: LogFinding::NotTorn,
+    counts: LogCounts {
+        runs: 1,
+        halted: 1,
+        writes: 1,
+        words: 2,
+    },
+};
+
+/// A sketch, and one with a frame that is refused.
+const SKETCH: &str = "labs 0 0 0\nhalt\n.frame b\nlabs 0 0 0\nhalt\n";
+
+const REFUSED_SKETCH: &str = "labs 0 0 0\na: call a\nhalt\n";
+
+/// The tasks, of which one reads this ROM, and two this dump, whose first word is a return.
+pub fn tasks<'a>(rom: &'a [u8], dump: &'a [u8]) -> [Task<'a>; 16] {
+    let task = |job, input, step, answer| Task {
+        job,
+        input,
+        step,
+        answer,
+    };
+    let picture = FIRST_PICTURE.as_bytes();
+    [
+        task(
+            Job::List,
+            WORDS.as_slice(),
+            1,
+            Err(ToolFault::Text(TextFault::Cut(4))),
+        ),
+        task(Job::Rom, rom, 64, Ok(Report::Written)),
+        task(
+            Job::Picture { all: false },
+            dump,
+            64,
+            Ok(Report::Drew(Outcome::Broke)),
+        ),
+        task(
+            Job::Picture { all: true },
+            dump,
+            64,
+            Ok(Report::Drew(Outcome::Broke)),
+        ),
+        task(
+            Job::Check { bound: false },
+            REFUSED.as_bytes(),
+            1,
+            Ok(Report::Judged(OUT_OF_ROM)),
+        ),
+        task(
+            Job::Check { bound: true },
+            GOOD.as_bytes(),
+            1,
+            Ok(Report::Bounded(SHORT)),
+        ),
+        task(PICTURES, picture, 1, Ok(Report::Written)),
+        task(ENTRIES, picture, 64, Ok(Report::Written)),
+        task(BANKED_PICTURES, picture, 1, Ok(Report::Written)),
+        task(BANKED_ENTRIES, picture, 64, Ok(Report::Written)),
+        task(Job::Torn, LOG.as_bytes(), 1, Ok(Report::Searched(NOT_TORN))),
+        task(
+            Job::ListAt { address: 0xFFF },
+            WORDS.as_slice(),
+            1,
+            Err(ToolFault::Text(TextFault::Cut(3))),
+        ),
+        task(
+            Job::PlaySvg {
+                banked: false,
+                percent: 100,
+                rate: 30,
+            },
+            picture,
+            1,
+            Ok(Report::Written),
+        ),
+        task(
+            Job::Draw {
+                percent: 100,
+                rate: 30,
+            },
+            REFUSED_SKETCH.as_bytes(),
+            1,
+            Ok(Report::Refused),
+        ),
+        task(
+            Job::DrawCheck,
+            SKETCH.as_bytes(),
+            1,
+            Ok(Report::Checked(true)),
+        ),
+        task(
+            Job::Lay {
+                form: LayForm::Table,
+            },
+            SKETCH.as_bytes(),
+            1,
+            Ok(Report::Written),
+        ),
+    ]
+}
+
+/// What is written of a task where nothing fails, which the cases of the program show.
+pub fn written(alloc: Global, task: Task) -> Result<Vec<u8>, Fail> {
+    let mut reader = Watched::new(task.input);
+    let mut writer = Watched::new(Vec::new(alloc));
+    if answered(&perform(alloc, task.job, &mut reader, &mut writer)) != task.answer {
+        return Err("another answer".into());
+    }
+    Ok(writer.into_inner())
+}

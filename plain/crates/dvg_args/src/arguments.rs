@@ -1,0 +1,79 @@
+//! What the arguments of the program ask for.
+use crate::command::command;
+use crate::drawing::{draw_job, list_job, picture_job, play_job};
+use crate::laying::lay_job;
+use crate::misuse::misuse;
+use crate::options::is_set;
+use crate::task::Job;
+use clap::error::ErrorKind;
+use clap::{ArgMatches, Error};
+use std::alloc::Global;
+
+// The job of a subcommand whose options can't be refused.
+fn plain_job(name: &str, found: &ArgMatches) -> Option<Job> {
+    if name == "rom" {
+        Some(Job::Rom)
+    } else if name == "check" {
+        Some(Job::Check {
+            bound: is_set(found, "bound"),
+        })
+    } else if name == "torn" {
+        Some(Job::Torn)
+    } else {
+        None
+    }
+}
+
+// The job that a subcommand asks for, or how its options are refused.
+fn asked(name: &str, found: &ArgMatches) -> Result<Job, ErrorKind> {
+    if name == "list" {
+        return list_job(found);
+    }
+    if name == "picture" {
+        return picture_job(found);
+    }
+    if name == "play" {
+        return play_job(found);
+    }
+    if name == "draw" {
+        return draw_job(found);
+    }
+    if name == "lay" {
+        return lay_job(found);
+    }
+    match plain_job(name, found) {
+        Some(job) => Ok(job),
+        None => unreachable!(),
+    }
+}
+
+// The job of a matching that entered a subcommand, where that is one, or how its options are
+// refused.
+fn entered(matches: &ArgMatches) -> Result<Job, ErrorKind> {
+    let Some(entered) = matches.subcommand() else {
+        unreachable!()
+    };
+    asked(entered.0, entered.1)
+}
+
+// The matching of arguments, which enters a subcommand where they are taken.
+fn matched<'a>(alloc: Global, arguments: &'a [&'a str]) -> Result<ArgMatches<'a>, Error> {
+    command(alloc)?.try_get_matches_from(arguments)
+}
+
+/// What the arguments ask for: the subcommand and the options that they match. The first argument
+/// is the program's name, and may be anything.
+///
+/// An error is help or the version that the arguments ask for (`DisplayHelp`, `DisplayVersion`), a
+/// refusal of arguments that ask for nothing the program can do, or want of memory (`OutOfMemory`).
+/// Its text is its `Display`.
+pub fn job<'a>(alloc: Global, arguments: &'a [&'a str]) -> Result<Job, Error> {
+    let matches = match matched(alloc, arguments) {
+        Ok(matches) => matches,
+        Err(error) => return Err(error),
+    };
+    match entered(&matches) {
+        Ok(job) => Ok(job),
+        Err(kind) => Err(misuse(alloc, &matches, kind)),
+    }
+}
