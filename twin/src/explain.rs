@@ -1,7 +1,7 @@
 //! What is told of the line at fault in a sketch, in plain Rust, for the plain twin: its text, and
 //! what would be right there.
 
-use crate::rows::{Doing, Goes, RowLine, is_name, read_row, words_of};
+use crate::rows::{Doing, Goes, RowLine, is_name, read_row, tokens_of};
 use crate::sketch::SketchFault;
 use crate::texts::hex;
 
@@ -30,7 +30,7 @@ const OPERATIONS: [(&str, &str); 9] = [
     ("halt", "and nothing after it"),
 ];
 
-/// The same of the other words that may begin a line.
+/// The same of the other tokens that may begin a line.
 const OTHERS: [(&str, &str); 4] = [
     (".frame", "or .frame NAME"),
     (
@@ -75,8 +75,8 @@ fn survey(text: &[u8]) -> Vec<Seen<'_>> {
     let mut section = Section::Frame(0);
     let mut seen = Vec::new();
     for (number, line) in (1..).zip(text.split(|byte| *byte == b'\n')) {
-        let words: Vec<_> = words_of(line).collect();
-        let spelled = read_row(&words);
+        let tokens: Vec<_> = tokens_of(line).collect();
+        let spelled = read_row(&tokens);
         match spelled {
             Some(RowLine::Frame(_)) => {
                 frames += 1;
@@ -115,8 +115,8 @@ fn shown(line: &[u8]) -> String {
 
 /// Words of a table, with commas.
 fn listed(table: &[(&str, &str)]) -> String {
-    let words: Vec<_> = table.iter().map(|(word, _)| *word).collect();
-    words.join(", ")
+    let tokens: Vec<_> = table.iter().map(|(word, _)| *word).collect();
+    tokens.join(", ")
 }
 
 /// What a word wants after it.
@@ -147,10 +147,10 @@ fn is_meant_as_name(target: &str) -> bool {
         || target.contains(|c: char| c == '_' || ('g'..='z').contains(&c) && c != 'x')
 }
 
-/// What a line of these words should be, where a name may come before them, or none.
-fn better_row(words: &[&str], section: Section) -> Option<String> {
+/// What a line of these tokens should be, where a name may come before them, or none.
+fn better_row(tokens: &[&str], section: Section) -> Option<String> {
     let goes = ["call", "jump", "callrom", "jumprom"];
-    match words {
+    match tokens {
         [".frame", name] => Some(better_name(name)),
         [word, target] if goes.contains(word) && is_meant_as_name(target) => {
             Some(better_name(target))
@@ -163,20 +163,20 @@ fn better_row(words: &[&str], section: Section) -> Option<String> {
     }
 }
 
-/// What a line of these words should be, which spells nothing that may stand there.
-fn better_line(words: &[&str], section: Section) -> String {
-    if words.iter().any(|word| word.contains(';')) {
+/// What a line of these tokens should be, which spells nothing that may stand there.
+fn better_line(tokens: &[&str], section: Section) -> String {
+    if tokens.iter().any(|word| word.contains(';')) {
         return "no semicolon: a comment begins with #".to_string();
     }
-    let first = words.first().copied().unwrap_or_default();
-    let rest = words.get(1..).unwrap_or_default();
+    let first = tokens.first().copied().unwrap_or_default();
+    let rest = tokens.get(1..).unwrap_or_default();
     match first.strip_suffix(':') {
         Some(name) if is_name(name.as_bytes()) => better_after_name(rest, section),
         Some(name) => better_name(name),
         None if first.contains(':') || rest.first().is_some_and(|word| word.starts_with(':')) => {
             "NAME: with the colon right after the name, and a blank after the colon".to_string()
         }
-        None => better_row(words, section).unwrap_or_else(|| {
+        None => better_row(tokens, section).unwrap_or_else(|| {
             format!(
                 "a line that begins with {}, {}, NAME: or #",
                 listed(&OPERATIONS),
@@ -186,14 +186,14 @@ fn better_line(words: &[&str], section: Section) -> String {
     }
 }
 
-/// What words after a name should be.
-fn better_after_name(words: &[&str], section: Section) -> String {
-    let first = words.first().copied().unwrap_or_default();
+/// What tokens after a name should be.
+fn better_after_name(tokens: &[&str], section: Section) -> String {
+    let first = tokens.first().copied().unwrap_or_default();
     if first.ends_with(':') {
         return "one name in a line".to_string();
     }
     if OPERATIONS.iter().any(|(word, _)| *word == first)
-        && let Some(better) = better_row(words, section)
+        && let Some(better) = better_row(tokens, section)
     {
         return better;
     }
@@ -253,9 +253,9 @@ fn better(fault: SketchFault, number: usize, small: &[u8]) -> Option<String> {
     match fault {
         SketchFault::TooLong => None,
         SketchFault::Syntax(_) => {
-            let words: Vec<_> = words_of(line).map(String::from_utf8_lossy).collect();
-            let words: Vec<_> = words.iter().map(|word| word.as_ref()).collect();
-            Some(better_line(&words, this.section))
+            let tokens: Vec<_> = tokens_of(line).map(String::from_utf8_lossy).collect();
+            let tokens: Vec<_> = tokens.iter().map(|word| word.as_ref()).collect();
+            Some(better_line(&tokens, this.section))
         }
         SketchFault::Twice(_) => given_before(&seen, this),
         SketchFault::Full(_) => Some("at most 511 operations in a frame".to_string()),

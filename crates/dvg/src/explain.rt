@@ -7,7 +7,7 @@ use crate::forms::{
 };
 use crate::places::{Place, Rows, first_frame, first_given, head_of, line_at, place_of, row_of};
 use arrayvec::ArrayVec;
-use dvg_named::{Doing, Head, MAX_WORDS, read_head, words_of};
+use dvg_named::{Doing, Head, MAX_TOKENS, read_head, tokens_of};
 use dvg_read::hex;
 use dvg_tool::TextFault;
 
@@ -29,19 +29,19 @@ fn in_frames(text: &[u8], name: &[u8], frame: &'static str) -> Found {
     }
 }
 
-/// What is expected of a line that wants a name of its frame. This argument goes to one of the ROM.
-fn of_frame<'a>(text: &[u8], name: &'a [u8], argument: &'static str) -> Expected<'a> {
+/// What is expected of a line that wants a name of its frame. This token goes to one of the ROM.
+fn of_frame<'a>(text: &[u8], name: &'a [u8], token: &'static str) -> Expected<'a> {
     let found = match first_given(text, name, Rows::OfRom) {
-        Some(_) => Found::InRom(argument),
+        Some(_) => Found::InRom(token),
         None => in_frames(text, name, "another frame"),
     };
     Expected::Known("a name of this frame", name, found)
 }
 
-/// What is expected of a line that wants a name of the ROM. This argument goes to one of its frame.
-fn of_rom<'a>(text: &[u8], place: Place, name: &'a [u8], argument: &'static str) -> Expected<'a> {
+/// What is expected of a line that wants a name of the ROM. This token goes to one of its frame.
+fn of_rom<'a>(text: &[u8], place: Place, name: &'a [u8], token: &'static str) -> Expected<'a> {
     let found = match first_given(text, name, place.rows()) {
-        Some(_) => Found::InFrame(argument),
+        Some(_) => Found::InFrame(token),
         None => in_frames(text, name, "a frame"),
     };
     Expected::Known("a name of the ROM", name, found)
@@ -68,49 +68,49 @@ fn in_rom<'a>(line: &[u8]) -> Expected<'a> {
     }
 }
 
-/// Whether an argument is a name.
-fn is_name(argument: &[u8]) -> bool {
+/// Whether a token is a name.
+fn is_name(token: &[u8]) -> bool {
     matches!(
-        read_head(&[b".frame".as_slice(), argument]),
+        read_head(&[b".frame".as_slice(), token]),
         Some(Head::Frame(Some(_)))
     )
 }
 
 /// Whether it has the look of a name, which no number has.
-fn looks_like_name(argument: &[u8]) -> bool {
-    match argument.first() {
+fn looks_like_name(token: &[u8]) -> bool {
+    match token.first() {
         Some(b'a'..=b'z' | b'_') => true,
-        _ => argument
+        _ => token
             .iter()
             .any(|byte| matches!(*byte, b'g'..=b'w' | b'y' | b'z' | b'_')),
     }
 }
 
-/// What is expected in place of an argument that is no name.
-fn name_for(argument: &[u8]) -> Expected<'_> {
-    match argument.first() {
-        Some(b'a'..=b'f') if hex(argument, 3).is_some() => Expected::NoAddress(argument),
+/// What is expected in place of a token that is no name.
+fn name_for(token: &[u8]) -> Expected<'_> {
+    match token.first() {
+        Some(b'a'..=b'f') if hex(token, 3).is_some() => Expected::NoAddress(token),
         _ => Expected::This(NAME),
     }
 }
 
-/// Whether a colon stands in an argument.
-fn has_colon(argument: &[u8]) -> bool {
-    argument.iter().any(|byte| *byte == b':')
+/// Whether a colon stands in a token.
+fn has_colon(token: &[u8]) -> bool {
+    token.iter().any(|byte| *byte == b':')
 }
 
-/// The arguments of a line, or the first ones of more than ten.
-fn first_words(line: &[u8]) -> ArrayVec<&[u8], MAX_WORDS> {
-    if let Some(arguments) = words_of(line) {
-        return arguments;
+/// The tokens of a line, or the first ones of more than ten.
+fn first_tokens(line: &[u8]) -> ArrayVec<&[u8], MAX_TOKENS> {
+    if let Some(tokens) = tokens_of(line) {
+        return tokens;
     }
-    let mut arguments = ArrayVec::new();
-    for argument in line.split(|byte| *byte == b' ' || *byte == b'\t') {
-        if !argument.is_empty() && !arguments.is_full() {
-            arguments.push(argument);
+    let mut tokens = ArrayVec::new();
+    for token in line.split(|byte| *byte == b' ' || *byte == b'\t') {
+        if !token.is_empty() && !tokens.is_full() {
+            tokens.push(token);
         }
     }
-    arguments
+    tokens
 }
 
 /// Whether a semicolon stands in a line before its comment.
@@ -130,8 +130,8 @@ fn spelled(is_rom: bool, line: &[u8]) -> Expected<'_> {
     if has_semicolon(line) {
         return Expected::This(SEMICOLON);
     }
-    let arguments = first_words(line);
-    let [first, rest @ ..] = arguments.as_slice() else {
+    let tokens = first_tokens(line);
+    let [first, rest @ ..] = tokens.as_slice() else {
         return Expected::Beginning;
     };
     match first {
@@ -142,24 +142,24 @@ fn spelled(is_rom: bool, line: &[u8]) -> Expected<'_> {
     }
 }
 
-/// Whether the first of these arguments begins with a colon.
-fn begins_with_colon(arguments: &[&[u8]]) -> bool {
-    match arguments {
-        [argument, ..] => argument.starts_with(b":"),
+/// Whether the first of these tokens begins with a colon.
+fn begins_with_colon(tokens: &[&[u8]]) -> bool {
+    match tokens {
+        [token, ..] => token.starts_with(b":"),
         [] => false,
     }
 }
 
-/// What is expected of these arguments after a name.
-fn after_name<'a>(is_rom: bool, arguments: &[&'a [u8]]) -> Expected<'a> {
-    match arguments {
+/// What is expected of these tokens after a name.
+fn after_name<'a>(is_rom: bool, tokens: &[&'a [u8]]) -> Expected<'a> {
+    match tokens {
         [first, ..] if first.ends_with(b":") => Expected::This(TWO_NAMES),
         [first, rest @ ..] if is_operation(first) => begun(is_rom, first, rest),
         _ => Expected::Operation,
     }
 }
 
-/// What is expected of a line that this argument begins, with these arguments after it.
+/// What is expected of a line that this token begins, with these tokens after it.
 fn begun<'a>(is_rom: bool, first: &[u8], rest: &[&'a [u8]]) -> Expected<'a> {
     match (first, rest) {
         (b".frame", [name]) => return name_for(name),

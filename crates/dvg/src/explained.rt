@@ -1,7 +1,7 @@
 //! What a fault of a sketch tells beside its name: the text of the line, and what was expected of
 //! it.
 
-use crate::forms::{FORMS, OPERATIONS, write_words};
+use crate::forms::{FORMS, OPERATIONS, write_openings};
 use std::fmt;
 
 /// The most bytes of a line that are shown.
@@ -12,12 +12,12 @@ const MOST_SHOWN: usize = 60;
 pub enum Found {
     /// No line gives it.
     Nowhere,
-    /// The frame in which it was looked for has no such name, but the ROM has, and this argument
+    /// The frame in which it was looked for has no such name, but the ROM has, and this token
     /// goes there.
     InRom(&'static str),
-    /// The ROM has no such name, but the frame of the line has, and this argument goes there.
+    /// The ROM has no such name, but the frame of the line has, and this token goes there.
     InFrame(&'static str),
-    /// A frame has it, which is told so, in this line.
+    /// Such a frame gives it, in this line.
     In(&'static str, usize),
 }
 
@@ -26,7 +26,7 @@ pub enum Found {
 pub enum Expected<'a> {
     /// This.
     This(&'static str),
-    /// An argument that may begin a line.
+    /// A token that may begin a line.
     Beginning,
     /// An operation after a name.
     Operation,
@@ -75,12 +75,12 @@ fn write_found<W: fmt::Write>(f: &mut fmt::Formatter<W>, name: &[u8], found: Fou
     match found {
         Found::Nowhere => Ok(()),
         Found::In(frame, at) => write!(f, " is in {frame}, at line {at}"),
-        Found::InRom(argument) => {
-            write!(f, " is in the ROM: {argument} ")?;
+        Found::InRom(token) => {
+            write!(f, " is in the ROM: {token} ")?;
             write_name(f, name)
         }
-        Found::InFrame(argument) => {
-            write!(f, " is in this frame: {argument} ")?;
+        Found::InFrame(token) => {
+            write!(f, " is in this frame: {token} ")?;
             write_name(f, name)
         }
     }
@@ -92,12 +92,12 @@ impl fmt::Display for Expected<'_> {
             Expected::This(text) => write!(f, "{text}"),
             Expected::Beginning => {
                 write!(f, "a line that begins with ")?;
-                write_words(f, FORMS.len())?;
+                write_openings(f, FORMS.len())?;
                 write!(f, ", NAME: or #")
             }
             Expected::Operation => {
                 write!(f, "an operation after the name: ")?;
-                write_words(f, OPERATIONS)
+                write_openings(f, OPERATIONS)
             }
             Expected::NoAddress(name) => {
                 write!(f, "another name than ")?;

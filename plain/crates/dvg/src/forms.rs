@@ -1,69 +1,69 @@
-//! The arguments that may begin a line of a sketch, and what is expected of its line.
+//! The tokens that may begin a line of a sketch, and what is expected of its line.
 use std::fmt;
 
-/// An argument that may begin a line, and what is expected of a line that it begins.
+/// A token that may begin a line, and what is expected of a line that it begins.
 pub struct Form {
-    argument: &'static str,
+    token: &'static str,
     expected: &'static str,
 }
 
 /// How many of the forms are those of operations: they come first.
 pub const OPERATIONS: usize = 9;
 
-/// All arguments that may begin a line.
+/// All tokens that may begin a line.
 pub static FORMS: [Form; 13] = [
     Form {
-        argument: "labs",
+        token: "labs",
         expected: "labs X Y S: X and Y 0 to 4095, S 0 to 15",
     },
     Form {
-        argument: "vctr",
+        token: "vctr",
         expected: "vctr S DX DY Z: S 0 to 9, DX and DY -1023 to 1023, Z 0 to 15",
     },
     Form {
-        argument: "svec",
+        token: "svec",
         expected: "svec S DX DY Z: S 2 to 5, DX and DY -3 to 3, Z 0 to 15",
     },
     Form {
-        argument: "call",
+        token: "call",
         expected: "call NAME or call N: N 0 to 65535",
     },
     Form {
-        argument: "jump",
+        token: "jump",
         expected: "jump NAME or jump N: N 0 to 65535",
     },
     Form {
-        argument: "callrom",
+        token: "callrom",
         expected: "callrom NAME or callrom HHH: HHH three hexadecimal digits",
     },
     Form {
-        argument: "jumprom",
+        token: "jumprom",
         expected: "jumprom NAME or jumprom HHH: HHH three hexadecimal digits",
     },
     Form {
-        argument: "return",
+        token: "return",
         expected: "return and nothing after it",
     },
     Form {
-        argument: "halt",
+        token: "halt",
         expected: "halt and nothing after it",
     },
     Form {
-        argument: ".frame",
+        token: ".frame",
         expected: ".frame or .frame NAME",
     },
     Form {
-        argument: ".rom",
+        token: ".rom",
         expected: ".rom or .rom HHH: HHH 800 to BFF, or 400 to BFF after map 4096",
     },
     Form {
-        argument: "map",
+        token: "map",
         expected: "map 2048 or map 4096, before all other lines",
     },
     Form {
-        argument: "rom",
+        token: "rom",
         expected: "rom HHH HHHH ..: HHH 800 to BFF, or 400 to BFF after map 4096, \
-                   one to eight arguments up to BFF, before all sections and operations",
+                   one to eight words up to BFF, before all sections and operations",
     },
 ];
 
@@ -87,37 +87,37 @@ pub const BY_NUMBER: &str = "a name: operations of the ROM have no numbers";
 pub const FULL: &str = "at most 511 operations in a frame";
 
 /// An operation past the ROM's end.
-pub const PAST_END: &str = "no operation past BFF, the last argument of the ROM";
+pub const PAST_END: &str = "no operation past BFF, the last word of the ROM";
 
-/// An operation on an argument of another section.
+/// An operation on a token of another section.
 pub const OVERLAP: &str =
-    "no argument of another section: .rom without an address begins after all others";
+    "no word of another section: .rom without an address begins after all others";
 
-/// What is expected of a line that this argument begins, or nothing where it may not begin one.
-pub fn form_of(argument: &[u8]) -> &'static str {
+/// What is expected of a line that this token begins, or nothing where it may not begin one.
+pub fn form_of(token: &[u8]) -> &'static str {
     for form in &FORMS {
-        if form.argument.as_bytes() == argument {
+        if form.token.as_bytes() == token {
             return form.expected;
         }
     }
     ""
 }
 
-/// Whether it is the argument of an operation.
-pub fn is_operation(argument: &[u8]) -> bool {
+/// Whether it is the token of an operation.
+pub fn is_operation(token: &[u8]) -> bool {
     for form in FORMS.iter().take(OPERATIONS) {
-        if form.argument.as_bytes() == argument {
+        if form.token.as_bytes() == token {
             return true;
         }
     }
     false
 }
 
-/// Writes arguments of the table, each after a comma but the first.
-pub fn write_words(f: &mut fmt::Formatter<'_>, count: usize) -> fmt::Result {
+/// Writes tokens of the table, each after a comma but the first.
+pub fn write_openings(f: &mut fmt::Formatter<'_>, count: usize) -> fmt::Result {
     let mut comma = "";
     for form in FORMS.iter().take(count) {
-        write!(f, "{comma}{}", form.argument)?;
+        write!(f, "{comma}{}", form.token)?;
         comma = ", ";
     }
     Ok(())

@@ -1,5 +1,5 @@
 //! Where lines of a sketch stand, and which lines give a name.
-use dvg_named::{Head, Row, read_head, read_row, words_of};
+use dvg_named::{Head, Row, read_head, read_row, tokens_of};
 
 /// Where a line of a sketch stands.
 #[derive(Clone, Copy)]
@@ -66,14 +66,14 @@ impl Place {
 
 /// The section that a line begins.
 pub fn head_of(line: &[u8]) -> Option<Head<'_>> {
-    let arguments = words_of(line)?;
-    read_head(arguments.as_slice())
+    let tokens = tokens_of(line)?;
+    read_head(tokens.as_slice())
 }
 
 /// The row that a line spells.
 pub fn row_of(line: &[u8]) -> Option<Row<'_>> {
-    let arguments = words_of(line)?;
-    read_row(arguments.as_slice())
+    let tokens = tokens_of(line)?;
+    read_row(tokens.as_slice())
 }
 
 /// Whether a line is a row that gives this name.
