@@ -64,7 +64,7 @@ pub static FORMS: [Form; 13] = [
     Form {
         token: "rom",
         expected: "rom HHH HHHH ..: HHH 800 to BFF, or 400 to BFF after map 4096, \
-                   one to eight arguments up to BFF, before all sections and operations",
+                   one to eight words up to BFF, before all sections and operations",
     },
 ];
 
@@ -88,11 +88,11 @@ pub const BY_NUMBER: &str = "a name: operations of the ROM have no numbers";
 pub const FULL: &str = "at most 511 operations in a frame";
 
 /// An operation past the ROM's end.
-pub const PAST_END: &str = "no operation past BFF, the last argument of the ROM";
+pub const PAST_END: &str = "no operation past BFF, the last word of the ROM";
 
 /// An operation on a token of another section.
 pub const OVERLAP: &str =
-    "no argument of another section: .rom without an address begins after all others";
+    "no word of another section: .rom without an address begins after all others";
 
 /// What is expected of a line that this token begins, or nothing where it may not begin one.
 pub fn form_of(token: &[u8]) -> &'static str {
