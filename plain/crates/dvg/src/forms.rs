@@ -89,7 +89,7 @@ pub const FULL: &str = "at most 511 operations in a frame";
 /// An operation past the ROM's end.
 pub const PAST_END: &str = "no operation past BFF, the last word of the ROM";
 
-/// An operation on a token of another section.
+/// An operation on a word of another section.
 pub const OVERLAP: &str =
     "no word of another section: .rom without an address begins after all others";
 
