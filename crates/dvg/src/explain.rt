@@ -7,16 +7,23 @@ use crate::forms::{
 };
 use crate::places::{Place, Rows, first_frame, first_given, head_of, line_at, place_of, row_of};
 use arrayvec::ArrayVec;
-use dvg_named::{Doing, Head, MAX_TOKENS, read_head, tokens_of};
-use dvg_read::hex;
-use dvg_tool::TextFault;
+use dvg_named::{Doing, Head, MAX_TOKENS, Row, read_head, tokens_of};
+use dvg_read::{TextFault, hex};
 
 /// What is expected of a line whose name is given before.
 fn another<'a>(text: &[u8], number: usize, line: &'a [u8]) -> Option<Expected<'a>> {
     if let Some(Head::Frame(Some(name))) = head_of(line) {
         return Some(Expected::Another(name, first_frame(text, name)?));
     }
-    let name = row_of(line)?.name?;
+    let Some(
+        Row {
+            name: Some(name),
+            ..
+        },
+    ) = row_of(line)
+    else {
+        return None;
+    };
     let rows = place_of(text, number).rows();
     Some(Expected::Another(name, first_given(text, name, rows)?))
 }
@@ -50,7 +57,16 @@ fn of_rom<'a>(text: &[u8], place: Place, name: &'a [u8], token: &'static str) ->
 /// What is expected of a line that wants a name which isn't given.
 fn known<'a>(text: &[u8], number: usize, line: &'a [u8]) -> Option<Expected<'a>> {
     let place = place_of(text, number);
-    match row_of(line)?.doing? {
+    let Some(
+        Row {
+            doing: Some(doing),
+            ..
+        },
+    ) = row_of(line)
+    else {
+        return None;
+    };
+    match doing {
         Doing::Plainly(_) => None,
         Doing::Calls(name) if !place.is_rom => Some(of_frame(text, name, "callrom")),
         Doing::Jumps(name) if !place.is_rom => Some(of_frame(text, name, "jumprom")),
@@ -175,6 +191,19 @@ fn begun<'a>(is_rom: bool, first: &[u8], rest: &[&'a [u8]]) -> Expected<'a> {
     }
 }
 
+/// What is expected of the line of this number, of which this fault tells.
+fn expected_of(fault: TextFault, text: &[u8], number: usize) -> Option<Expected<'_>> {
+    let line = line_at(text, number);
+    match fault {
+        TextFault::NameGivenAgain(_) => another(text, number, line),
+        TextFault::UnknownName(_) => known(text, number, line),
+        TextFault::OutOfRom(_) => Some(in_rom(line)),
+        TextFault::Overlap(_) => Some(Expected::This(OVERLAP)),
+        TextFault::Full(_) => Some(Expected::This(FULL)),
+        _ => Some(spelled(place_of(text, number).is_rom, line)),
+    }
+}
+
 /// What a fault tells of a sketch, which is also given in small letters. None of a fault that has no
 /// line.
 pub fn explain<'t, 'a>(
@@ -191,17 +220,11 @@ pub fn explain<'t, 'a>(
         | TextFault::UnknownName(number) => number,
         _ => return None,
     };
-    let line = line_at(small, number);
-    let expected = match fault {
-        TextFault::NameGivenAgain(_) => another(small, number, line)?,
-        TextFault::UnknownName(_) => known(small, number, line)?,
-        TextFault::OutOfRom(_) => in_rom(line),
-        TextFault::Overlap(_) => Expected::This(OVERLAP),
-        TextFault::Full(_) => Expected::This(FULL),
-        _ => spelled(place_of(small, number).is_rom, line),
-    };
-    Some(Explained {
-        line: line_at(text, number),
-        expected,
-    })
+    match expected_of(fault, small, number) {
+        Some(expected) => Some(Explained {
+            line: line_at(text, number),
+            expected,
+        }),
+        None => None,
+    }
 }

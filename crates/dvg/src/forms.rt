@@ -116,10 +116,11 @@ pub fn is_operation(token: &[u8]) -> bool {
 
 /// Writes tokens of the table, each after a comma but the first.
 pub fn write_openings<W: fmt::Write>(f: &mut fmt::Formatter<W>, count: usize) -> fmt::Result {
-    let mut comma = "";
-    for form in FORMS.iter().take(count) {
-        write!(f, "{comma}{}", form.token)?;
-        comma = ", ";
+    for (number, form) in FORMS.iter().take(count).enumerate() {
+        if number > 0 {
+            write!(f, ", ")?;
+        }
+        write!(f, "{}", form.token)?;
     }
     Ok(())
 }
