@@ -209,7 +209,7 @@ pub const SKETCH_ROWS: &[Row] = &[
     .each("operation", FRAMES * FRAME_OPERATIONS),
 ];
 
-/// Sketches of 1 MiB that are slow to read, as their names are looked for one after the other. Each
+/// Sketches of 1 MiB that were slow to read, while names were looked for one after the other. Each
 /// is read once.
 pub const NAME_ROWS: &[Row] = &[
     row("lay, 174,760 names in a frame", &["lay"], names_alone).against(Against::Plain),
