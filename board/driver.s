@@ -40,7 +40,7 @@
 ;     first instructions set it to 0, and the NMI's ticks wait until dvg_reset was called.
 ;   - Ticks come from one place: from the NMI, or from the main program. Offers, redraws and
 ;     building may come from the main program even so: each changes dvg_phase last.
-;   - Devices are touched once, by absolute addresses. `sta (to),y` reads before it writes, and
+;   - Hardware is touched once, by absolute addresses. `sta (to),y` reads before it writes, and
 ;     INC writes twice. The RAM doesn't mind; byte 001, the flag and the strobe do.
 
 .include "dvg.inc"

@@ -1,5 +1,5 @@
 ; Calls each routine of the driver, for sim65 and for board_cycles.c: both must take the same cycles
-; and answer the same sum of the vector RAM. Devices are plain memory here, and the flag is 0.
+; and answer the same sum of the vector RAM. The hardware is plain memory here, and the flag is 0.
 
 .include "dvg.inc"
 .export _main

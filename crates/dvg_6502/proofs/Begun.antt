@@ -9,15 +9,15 @@ use Rattle.dvg_frame.specs.declared.op.OpKind.{OpKind}
 use Rattle.dvg_frame.specs.Bytes.{addressed}
 use Rattle.dvg_driver.specs.Script.{frame_writes, word_zero}
 use Rattle.dvg_driver.specs.Place.{Writing}
-use Rattle.dvg_6502.specs.Board.{is_device, source_in, goal_in}
+use Rattle.dvg_6502.specs.Board.{is_hardware, source_in, goal_in}
 use Rattle.dvg_6502.specs.Feed.{fed}
 use Rattle.dvg_6502.specs.Holds.{IsFeeding, Holds, publish_byte}
-use Rattle.dvg_6502.specs.Tables.{AreTold, table_of, TableMisses}
-use Rattle.dvg_6502.proofs.Told.{table_law}
+use Rattle.dvg_6502.specs.Tables.{AreExpressible, table_of, TableMisses}
+use Rattle.dvg_6502.proofs.Tables.{table_law}
 
 -- the driver's bytes begin a table, which stands in memory
 pub record BeginsTable (mem : ℕ → ℕ) (t : ℕ) (half : Half) (F : List OpKind) : Type 0 where
-  pub told : AreTold F F
+  pub fit : AreExpressible F F
   pub phase : mem 0x10 ≡ 0x80
   pub free : mem 0x11 ≡ high (other half)
   pub place : mem 0x13 ≡ 2
@@ -30,7 +30,7 @@ pub record BeginsTable (mem : ℕ → ℕ) (t : ℕ) (half : Half) (F : List OpK
   pub counted : 256 * mem 0x16 + mem 0x17 ≡ 2 + length (table_of F)
   pub even : mem 0x17 % 2 ≡ 0
   pub table : (k : ℕ) → k < length (table_of F) → mem (t + k) ≡ slice_index (table_of F) k
-  pub far : (k : ℕ) → k < length (table_of F) → is_device (t + k) ≡ false
+  pub far : (k : ℕ) → k < length (table_of F) → is_hardware (t + k) ≡ false
   pub low : 0x202 ≤ t
   pub ends : t + length (table_of F) ≤ 65536
 
@@ -51,14 +51,14 @@ feeds mem t half flipped F b = record {
   left = omega (arith, b.place, b.counted);
   even = b.even;
   reads = λ k h. ap mem (from k) ∙ b.table k h;
-  far = λ k h. (omega (arith, from k, b.low), subst (λ q. is_device q ≡ false) (sym (from k)) (b.far k h));
+  far = λ k h. (omega (arith, from k, b.low), subst (λ q. is_hardware q ≡ false) (sym (from k)) (b.far k h));
   after = omega (arith, b.place, b.from);
   ends = omega (arith, b.place, b.from);
   top = b.ends;
   low = omega (arith, b.place, b.to_low, b.to_high, (base_low (other half)).0);
   high = omega (arith, b.place, b.to_low, b.to_high, (base_low (other half)).1, b.fits);
   are = ap (λ l. addressed (2 * base (other half)) l ++ word_zero (other half) (not flipped))
-      (sym (table_law (other half) F b.told) ∙ ap (λ f. fed f false false (table_of F)) (sym b.free))
+      (sym (table_law (other half) F b.fit) ∙ ap (λ f. fed f false false (table_of F)) (sym b.free))
       ∙ ap (λ p. addressed p (fed (mem 0x11) false false (table_of F)) ++ word_zero (other half) (not flipped)) there;
 }
   where

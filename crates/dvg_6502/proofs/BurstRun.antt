@@ -5,7 +5,7 @@ use Rattle.std.proofs.lemmas.Bool.{ne_eqb}
 use Rattle.std.proofs.lemmas.Nat.{and_le_l, le_or_r}
 use Rattle.std.specs.Prelude.{nat_eq, nat_le, bit_and, bit_or, if◌then◌else◌}
 use Rattle.dvg_6502.specs.Processor.{Cpu, Access, Reads, Writes, put, run}
-use Rattle.dvg_6502.specs.Board.{seen, is_device}
+use Rattle.dvg_6502.specs.Board.{seen, is_hardware}
 use Rattle.dvg_6502.specs.Feed.{moved_byte, put_for, second_then, second_byte}
 use Rattle.dvg_6502.specs.Holds.{publish_byte}
 use Rattle.dvg_6502.proofs.Running.{at, run_more}
@@ -188,8 +188,8 @@ module _ (q s : ℕ) (free : ℕ) (set : Bool) (old next t0 t1 pages end f0 f1 :
   module _ (b0 b1 : ℕ) (b1_small : b1 < 256) (wrap ends last : Bool)
       (read0 : (second : Bool) → laid (page second) mem from0 ≡ b0) (read1 : (second : Bool)
       → laid (page second) (put to0 b0 mem) from1 ≡ b1)
-      (flag0 : nat_eq from0 0x2002 ≡ false) (flag1 : nat_eq from1 0x2002 ≡ false) (device0 : is_device from0 ≡ false)
-      (device1 : is_device from1 ≡ false)
+      (flag0 : nat_eq from0 0x2002 ≡ false) (flag1 : nat_eq from1 0x2002 ≡ false) (device0 : is_hardware from0 ≡ false)
+      (device1 : is_hardware from1 ≡ false)
       (page0 : in_page to0 ≡ false) (code0 : in_code to0 ≡ false) (high0 : nat_le 0x200 to0 ≡ true)
       (page1 : in_page to1 ≡ false) (code1 : in_code to1 ≡ false) (high1 : nat_le 0x200 to1 ≡ true)
       (wraps : nat_eq after 0 ≡ wrap) (ended : nat_eq ((after + 256 - end) % 256) 0 ≡ ends)

@@ -11,7 +11,7 @@ use Rattle.dvg_driver.specs.Script.{Item, Did, word_zero}
 use Rattle.dvg_driver.specs.Place.{Place, Start, Booting, Resting, Writing, Waiting, Sending}
 use Rattle.dvg_driver.specs.Stands.{StandsAfter, byte1_of}
 use Rattle.dvg_6502.specs.Processor.{put}
-use Rattle.dvg_6502.specs.Board.{IsLoaded, is_device, source_in, goal_in}
+use Rattle.dvg_6502.specs.Board.{IsLoaded, is_hardware, source_in, goal_in}
 use Rattle.dvg_6502.specs.Feed.{fed, put_for, second_then, second_byte}
 use Rattle.dvg_6502.specs.Holds.{HoldsPlace, IsFeeding, publish_byte}
 use Rattle.dvg_6502.proofs.Memory.{laid, page_of}
@@ -98,7 +98,7 @@ pub record NextByte (mem : ℕ → ℕ) (begin stop : ℕ) (life : List Item) (o
   pub byte : ℕ
   pub reads : mem (source_in mem) ≡ byte
   pub far : 0x200 ≤ source_in mem
-  pub silent : is_device (source_in mem) ≡ false
+  pub silent : is_hardware (source_in mem) ≡ false
   pub below : source_in mem < 65536
   pub low : 0x4002 ≤ goal_in mem
   pub high : goal_in mem < 0x4800
@@ -153,7 +153,7 @@ next_byte mem begin stop life feeds odd second parity mark = by f.rest refl
           byte = byte;
           reads = sym (ap mem zero') ∙ f.reads 0 (omega (arith, some)) ∙ ap (λ l. slice_index l 0) is;
           far = far;
-          silent = subst (λ p. is_device p ≡ false) zero' first.1;
+          silent = subst (λ p. is_hardware p ≡ false) zero' first.1;
           below = omega (arith, f.ends, f.top, some);
           low = f.low;
           high = omega (arith, f.high, some);

@@ -6,7 +6,7 @@ use Rattle.std.specs.Prelude.{nat_eq, nat_le, nat_lt, if◌then◌else◌}
 use Rattle.dvg_driver.specs.declared.action.Action.TheVariants.{Wrote}
 use Rattle.dvg_driver.specs.Script.{Item, Did}
 use Rattle.dvg_6502.specs.Processor.{Cpu, Access, Writes, put}
-use Rattle.dvg_6502.specs.Board.{IsLoaded, seen, is_own, is_device, source_in, goal_in}
+use Rattle.dvg_6502.specs.Board.{IsLoaded, seen, is_own, is_hardware, source_in, goal_in}
 use Rattle.dvg_6502.specs.Feed.{put_for, second_then, second_byte}
 use Rattle.dvg_6502.specs.Holds.{publish_byte}
 use Rattle.dvg_6502.proofs.Running.{at}
@@ -145,11 +145,11 @@ module _ (q y : ℕ) (mem : ℕ → ℕ) (begin stop : ℕ) (life : List Item) (
   to1_is = let less = two.high in omega (arith, less, goal1)
 
   ram0 : (in_page (goal_in vm) ≡ false) × (in_code (goal_in vm) ≡ false) × (nat_le 0x200 (goal_in vm) ≡ true)
-      × (is_device (goal_in vm) ≡ true)
+      × (is_hardware (goal_in vm) ≡ true)
   ram0 = in_ram (goal_in vm) one.low one.high
 
   ram1 : (in_page (goal_in vm1) ≡ false) × (in_code (goal_in vm1) ≡ false) × (nat_le 0x200 (goal_in vm1) ≡ true)
-      × (is_device (goal_in vm1) ≡ true)
+      × (is_hardware (goal_in vm1) ≡ true)
   ram1 = in_ram (goal_in vm1) two.low two.high
 
   -- what a page leaves of memory
@@ -307,7 +307,7 @@ module _ (q y : ℕ) (mem : ℕ → ℕ) (begin stop : ℕ) (life : List Item) (
       (λ s. read1 (with_mark 0x80 (publish_byte set) (second_byte s)))
       (ap (λ p. nat_eq p 0x2002) from0_is ∙ not_flag (source_in vm) one.silent) (ap (λ p. nat_eq p 0x2002) from1_is
       ∙ not_flag (source_in vm1) two.silent)
-      (ap is_device from0_is ∙ one.silent) (ap is_device from1_is ∙ two.silent)
+      (ap is_hardware from0_is ∙ one.silent) (ap is_hardware from1_is ∙ two.silent)
       (ap in_page to0_is ∙ ram0.0) (ap in_code to0_is ∙ ram0.1) (ap (nat_le 0x200) to0_is ∙ ram0.2)
       (ap in_page to1_is ∙ ram1.0) (ap in_code to1_is ∙ ram1.1) (ap (nat_le 0x200) to1_is ∙ ram1.2)
       refl refl refl second a x n z c v log)))))

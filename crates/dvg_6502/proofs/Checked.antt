@@ -13,7 +13,7 @@ use Rattle.dvg_frame.specs.Layout.{at, op_words, size}
 use Rattle.dvg_frame.specs.Ops.{IsOp}
 use Rattle.dvg_frame.specs.Steps.{Names, op_act, misses, Begins}
 use Rattle.dvg_frame.proofs.Sizes.{size-take_le, size-take_more}
-use Rattle.dvg_6502.specs.Tables.{IsTold, AreTold, NamesRom, CheckedTold}
+use Rattle.dvg_6502.specs.Tables.{IsExpressible, AreExpressible, NamesRom, CheckedExpressible}
 
 -- an operation has a word at least
 some_words : (op : OpKind) → 1 ≤ op_words op
@@ -54,26 +54,26 @@ module _ (F : List OpKind) (begins : Begins F) where
       by true is' = absurd (begins.targets i (misses is names (leb-true (length F) j is')))
       by false is' = let less = leb-false (length F) j is' in omega (arith, less)
 
-  told : (i : ℕ) (op : OpKind) → slice_get F i ≡ Some op → NamesRom op → IsTold F op
-  told i (Draw instr) is rom = tt
-  told i (CallRom a) is rom = rom
-  told i (JumpRom a) is rom = rom
-  told i (Call j) is rom = low_place F j (in_frame i j (Call j) is refl) begins.fits
-  told i (Jump j) is rom = low_place F j (in_frame i j (Jump j) is refl) begins.fits
-  told i Return is rom = tt
-  told i Halt is rom = tt
+  fits : (i : ℕ) (op : OpKind) → slice_get F i ≡ Some op → NamesRom op → IsExpressible F op
+  fits i (Draw instr) is rom = tt
+  fits i (CallRom a) is rom = rom
+  fits i (JumpRom a) is rom = rom
+  fits i (Call j) is rom = low_place F j (in_frame i j (Call j) is refl) begins.fits
+  fits i (Jump j) is rom = low_place F j (in_frame i j (Jump j) is refl) begins.fits
+  fits i Return is rom = tt
+  fits i Halt is rom = tt
 
-  all_told : (ops : List OpKind)
+  all_fit : (ops : List OpKind)
       → ((i : ℕ) (op : OpKind) → slice_get ops i ≡ Some op → (k : ℕ) × (slice_get F k ≡ Some op))
-      → All IsOp ops → All NamesRom ops → AreTold F ops
-  all_told [] stands ops rom = tt
-  all_told (op ∷ rest) stands ops rom =
+      → All IsOp ops → All NamesRom ops → AreExpressible F ops
+  all_fit [] stands ops rom = tt
+  all_fit (op ∷ rest) stands ops rom =
       let here = stands 0 op refl in (
         All-head IsOp op rest ops,
-        told here.0 op here.1 (All-head NamesRom op rest rom),
-        all_told rest (λ i other is. stands (suc i) other is) (All-tail IsOp op rest ops)
+        fits here.0 op here.1 (All-head NamesRom op rest rom),
+        all_fit rest (λ i other is. stands (suc i) other is) (All-tail IsOp op rest ops)
             (All-tail NamesRom op rest rom),
       )
 
-pub checked_told : CheckedTold
-checked_told F R draft accepts rom = all_told F accepts.closed.begins F (λ i op is. (i, is)) draft.ops rom
+pub checked_expressible : CheckedExpressible
+checked_expressible F R draft accepts rom = all_fit F accepts.closed.begins F (λ i op is. (i, is)) draft.ops rom

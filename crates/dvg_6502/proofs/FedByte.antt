@@ -5,7 +5,7 @@ use Rattle.std.proofs.lemmas.Bool.{eqb-false, ne_eqb, leb-false}
 use Rattle.std.proofs.lemmas.Nat.{and_le_l}
 use Rattle.std.specs.Prelude.{nat_eq, nat_le, bit_and, bit_or, if◌then◌else◌}
 use Rattle.dvg_6502.specs.Processor.{Cpu, Access, Reads, Writes, put}
-use Rattle.dvg_6502.specs.Board.{seen, is_device}
+use Rattle.dvg_6502.specs.Board.{seen, is_hardware}
 use Rattle.dvg_6502.specs.Feed.{moved_byte, put_for, second_then, second_byte}
 use Rattle.dvg_6502.proofs.Running.{Ends, on, at, seen_as}
 use Rattle.dvg_6502.proofs.Memory.{laid, page_of, put_page, in_page, in_code}
@@ -56,7 +56,7 @@ module _ (q s : ℕ) (free publish next t0 t1 pages end f0 f1 : ℕ) (mem flags 
       (high : nat_le 0x200 to ≡ true)
       (wraps : nat_eq up 0 ≡ wrap) (ended : nat_eq ((up + 256 - end) % 256) 0 ≡ ends)
       (is : nat_eq (carried wrap 255 pages) 0 ≡ last)
-      (not_flag : nat_eq source 0x2002 ≡ false) (device : is_device source ≡ false) where
+      (not_flag : nat_eq source 0x2002 ≡ false) (device : is_hardware source ≡ false) where
     abbrev phase : ℕ
     phase = phase_then ends last publish
 

@@ -8,7 +8,7 @@ use Rattle.dvg_6502.specs.Processor.{Register, A, X, Y, Instr, Load, Store, Tran
 use Rattle.dvg_6502.specs.Processor.{Change, Step, ShiftLeft, RotateLeft, ShiftLeftA, ShiftRightA, SetCarry, Branch}
 use Rattle.dvg_6502.specs.Processor.{Jump, Call, Return, Unknown, run, turn, step, does, decoded, opcodes, at_return}
 use Rattle.dvg_6502.specs.Processor.{reading, setting}
-use Rattle.dvg_6502.specs.Board.{seen, is_device}
+use Rattle.dvg_6502.specs.Board.{seen, is_hardware}
 use Rattle.dvg_6502.proofs.Running.{run_more}
 
 -- one log goes on another one
@@ -70,7 +70,7 @@ run_on s (suc n) cpu =
 
 pub seen_append : (pre log : List Access) → seen (pre ++ log) ≡ seen pre ++ seen log
 seen_append [] log = refl
-seen_append (Reads a byte ∷ pre) log = by (is_device a) (seen_append pre log)
+seen_append (Reads a byte ∷ pre) log = by (is_hardware a) (seen_append pre log)
   where
     by : (t : Bool) → seen (pre ++ log) ≡ seen pre ++ seen log
         → (if t then Reads a byte ∷ seen (pre ++ log) else seen (pre ++ log))

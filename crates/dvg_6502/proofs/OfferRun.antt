@@ -3,7 +3,7 @@ use Rattle.std.proofs.Common.{◌≡◌, ℕ, ◌+◌, ◌-◌, ◌*◌, ◌%◌
 use Rattle.std.proofs.Common.{arith}
 use Rattle.std.specs.Prelude.{nat_eq, nat_le, if◌then◌else◌}
 use Rattle.dvg_6502.specs.Processor.{Cpu, Access, Reads, Writes, put, run, bit_of}
-use Rattle.dvg_6502.specs.Board.{seen, is_device}
+use Rattle.dvg_6502.specs.Board.{seen, is_hardware}
 use Rattle.dvg_6502.proofs.Running.{Comes, by, at}
 use Rattle.dvg_6502.proofs.Memory.{laid, page_of, put_page}
 use Rattle.dvg_6502.proofs.FedByte.{compared, byte_read, flags_then}
@@ -84,7 +84,7 @@ module _ (q a x y s : ℕ) (n z c v : Bool) (publish next t0 t1 pages end second
   module _ (h : Bool) (wl wh : ℕ) (low_read : (page : List ℕ) → laid page mem low_place ≡ wl)
       (high_read : (page : List ℕ) → laid page mem high_place ≡ wh)
       (low_flag : nat_eq low_place 0x2002 ≡ false) (high_flag : nat_eq high_place 0x2002 ≡ false)
-      (low_device : is_device low_place ≡ false) (high_device : is_device high_place ≡ false) where
+      (low_device : is_hardware low_place ≡ false) (high_device : is_hardware high_place ≡ false) where
     abbrev paged : ℕ → ℕ → List ℕ
     paged pages end = page_of 2 (free_of h) publish next t0 t1 pages end second a x
 

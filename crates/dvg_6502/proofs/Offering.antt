@@ -11,7 +11,7 @@ use Rattle.dvg_driver.specs.Script.{frame_writes, word_zero}
 use Rattle.dvg_driver.specs.Place.{Place, Start, Booting, Resting, Writing, Waiting, Sending}
 use Rattle.dvg_driver.specs.Stands.{Stage}
 use Rattle.dvg_6502.specs.Processor.{Cpu, run, bit_of}
-use Rattle.dvg_6502.specs.Board.{IsLoaded, is_device, is_own, seen}
+use Rattle.dvg_6502.specs.Board.{IsLoaded, is_hardware, is_own, seen}
 use Rattle.dvg_6502.specs.Holds.{Holds, IsFeeding, HoldsPlace, publish_byte}
 use Rattle.dvg_6502.specs.Tables.{HasTable, table_of}
 use Rattle.dvg_6502.specs.Routines.{Answers, IsBusy, Enters, ResetRefines, OfferTakes, OfferRefuses, RedrawTakes}
@@ -231,12 +231,12 @@ module _ (a x y s : ℕ) (n z c v : Bool) (mem flags : ℕ → ℕ) (load : IsLo
       ∙ reads page (t + 1) low)
       (ap (λ p. nat_eq p 0x2002) low_is ∙ not_flag t table.head.0)
       (ap (λ p. nat_eq p 0x2002) high_place_is ∙ not_flag (t + 1) table.head.1)
-      (ap is_device low_is ∙ table.head.0)
-      (ap is_device high_place_is ∙ table.head.1)
+      (ap is_hardware low_is ∙ table.head.0)
+      (ap is_hardware high_place_is ∙ table.head.1)
 
   begins : BeginsTable (laid final mem) (t + 2) half F
   begins = record {
-    told = table.told;
+    fit = table.fit;
     phase = refl;
     free = free_is;
     place = refl;

@@ -13,7 +13,7 @@ use Rattle.dvg_driver.specs.Place.{Place, Start, Booting, Resting, Writing, Wait
 use Rattle.dvg_driver.specs.Stands.{Stage, StandsAfter, byte1_of, peeked_after}
 use Rattle.dvg_driver.proofs.Places.{place_before, some_same}
 use Rattle.dvg_6502.specs.Processor.{Cpu, Access, run}
-use Rattle.dvg_6502.specs.Board.{IsLoaded, is_own, is_ram, is_device, source_in, goal_in}
+use Rattle.dvg_6502.specs.Board.{IsLoaded, is_own, is_ram, is_hardware, source_in, goal_in}
 use Rattle.dvg_6502.specs.Feed.{fed}
 use Rattle.dvg_6502.specs.Holds.{Holds, HoldsPlace, IsFeeding}
 use Rattle.dvg_6502.specs.Routines.{Shows, acted}
@@ -22,7 +22,7 @@ use Rattle.dvg_6502.proofs.Acting.{Acts}
 
 -- what stands in other memories: where the driver's bytes are the same, and a table while it is written
 module _ (mem now : ℕ → ℕ) (begin stop : ℕ) (own : (b : ℕ) → is_own b ≡ true → now b ≡ mem b)
-    (table : mem 0x10 ≡ 0x80 → (b : ℕ) → begin ≤ b → b < stop → 0x200 ≤ b → is_device b ≡ false → now b ≡ mem b) where
+    (table : mem 0x10 ≡ 0x80 → (b : ℕ) → begin ≤ b → b < stop → 0x200 ≤ b → is_hardware b ≡ false → now b ≡ mem b) where
   source_same : source_in now ≡ source_in mem
   source_same = let a = own 0x13 refl in let b = own 0x19 refl in let c = own 0x1A refl in omega arith
 
@@ -46,7 +46,7 @@ module _ (mem now : ℕ → ℕ) (begin stop : ℕ) (own : (b : ℕ) → is_own 
         reads = λ k h. ap now (moved k)
             ∙ table f.phase (source_in mem + k) (omega (arith, f.after)) (omega (arith, h, f.ends)) (f.far k h).0
             (f.far k h).1 ∙ f.reads k h;
-        far = λ k h. subst (λ q. (0x200 ≤ q) × (is_device q ≡ false)) (sym (moved k)) (f.far k h);
+        far = λ k h. subst (λ q. (0x200 ≤ q) × (is_hardware q ≡ false)) (sym (moved k)) (f.far k h);
         after = omega (arith, source_same, f.after);
         ends = omega (arith, source_same, f.ends);
         top = f.top;
@@ -95,7 +95,7 @@ pub record Stood (mem : ℕ → ℕ) (begin stop : ℕ) (life : List Item) : Typ
 
 pub stood_on : (mem now : ℕ → ℕ) (begin stop : ℕ) (life : List Item) → Stood mem begin stop life → IsLoaded now
     → ((b : ℕ) → is_own b ≡ true → now b ≡ mem b) → ((b : ℕ) → is_ram b ≡ true → now b ≡ mem b)
-    → (mem 0x10 ≡ 0x80 → (b : ℕ) → begin ≤ b → b < stop → 0x200 ≤ b → is_device b ≡ false → now b ≡ mem b)
+    → (mem 0x10 ≡ 0x80 → (b : ℕ) → begin ≤ b → b < stop → 0x200 ≤ b → is_hardware b ≡ false → now b ≡ mem b)
     → Stood now begin stop life
 stood_on mem now begin stop life stood load own ram table = record {
   stage = stood.stage;

@@ -13,7 +13,7 @@ use Rattle.dvg_driver.specs.Place.{Writing, next_place}
 use Rattle.dvg_driver.specs.Stands.{Stage, StandsAfter}
 use Rattle.dvg_driver.proofs.Places.{with_left-append, write_fits}
 use Rattle.dvg_6502.specs.Processor.{Cpu, Access, Writes, put}
-use Rattle.dvg_6502.specs.Board.{IsLoaded, is_device, source_in, goal_in, seen}
+use Rattle.dvg_6502.specs.Board.{IsLoaded, is_hardware, source_in, goal_in, seen}
 use Rattle.dvg_6502.specs.Feed.{fed, put_for, second_then, second_byte}
 use Rattle.dvg_6502.specs.Holds.{IsFeeding, Holds, publish_byte}
 use Rattle.dvg_6502.proofs.Running.{Ends, at}
@@ -69,7 +69,7 @@ carried_small false by byte small = small
 
 -- an address of the vector RAM
 pub in_ram : (p : ℕ) → 0x4002 ≤ p → p < 0x4800 → (in_page p ≡ false) × (in_code p ≡ false) × (nat_le 0x200 p ≡ true)
-    × (is_device p ≡ true)
+    × (is_hardware p ≡ true)
 in_ram p low high =
     let a : nat_le 0x10 p ≡ true = le-leb 0x10 p (omega arith) in
     let b : nat_lt p 0x1B ≡ false = le_not (suc p) 0x1B (omega arith) in
@@ -79,13 +79,13 @@ in_ram p low high =
     let g : nat_lt p 0x4800 ≡ true = le-leb (suc p) 0x4800 (omega arith) in
     (rw (a, b) refl, rw d refl, e, rw (f, g) refl)
 
--- what isn't a device isn't the flag
-pub not_flag : (p : ℕ) → is_device p ≡ false → nat_eq p 0x2002 ≡ false
+-- what isn't hardware isn't the flag
+pub not_flag : (p : ℕ) → is_hardware p ≡ false → nat_eq p 0x2002 ≡ false
 not_flag p not_device = by (nat_eq p 0x2002) refl
   where
     by : (t : Bool) → nat_eq p 0x2002 ≡ t → nat_eq p 0x2002 ≡ false
     by false is = is
-    by true is = let e : is_device p ≡ true = ap is_device (eqb-true p 0x2002 is) in absurd (cc)
+    by true is = let e : is_hardware p ≡ true = ap is_hardware (eqb-true p 0x2002 is) in absurd (cc)
 
 module _ (q a x y s : ℕ) (n z c v : Bool) (mem flags : ℕ → ℕ) (log : List Access) (load : IsLoaded mem)
     (begin stop peeked : ℕ) (life : List Item) where
@@ -103,7 +103,7 @@ module _ (q a x y s : ℕ) (n z c v : Bool) (mem flags : ℕ → ℕ) (log : Lis
       (parity : nat_eq (mem 0x13 % 2) 1 ≡ odd) (even : mem 0x17 % 2 ≡ 0) (left : mem 0x13 + suc (length more)
       ≡ 256 * mem 0x16 + mem 0x17)
       (reads : (k : ℕ) → k < suc (length more) → mem (source_in mem + k) ≡ slice_index (byte ∷ more) k)
-      (far : (k : ℕ) → k < suc (length more) → (0x200 ≤ source_in mem + k) × (is_device (source_in mem + k) ≡ false))
+      (far : (k : ℕ) → k < suc (length more) → (0x200 ≤ source_in mem + k) × (is_hardware (source_in mem + k) ≡ false))
       (after : begin ≤ source_in mem) (ends : source_in mem + suc (length more) ≡ stop) (top : stop ≤ 65536)
       (low : 0x4002 ≤ goal_in mem) (high' : goal_in mem + suc (length more) ≤ 0x4800)
       (are : list ≡ addressed (goal_in mem - 0x4000) (fed (mem 0x11) odd second (byte ∷ more))
@@ -147,7 +147,7 @@ module _ (q a x y s : ℕ) (n z c v : Bool) (mem flags : ℕ → ℕ) (log : Lis
     left' : up + length more ≡ 256 * pages + mem 0x17
     left' = left_on (mem 0x13) (mem 0x16) (mem 0x17) (length more) wrap (bytes 0x13) (bytes 0x16) (bytes 0x17) refl left
 
-    in_ram' : (in_page to ≡ false) × (in_code to ≡ false) × (nat_le 0x200 to ≡ true) × (is_device to ≡ true)
+    in_ram' : (in_page to ≡ false) × (in_code to ≡ false) × (nat_le 0x200 to ≡ true) × (is_hardware to ≡ true)
     in_ram' = in_ram to low (omega (arith, high'))
 
     to_is : (mem 0x14 + 256 * mem 0x15 + mem 0x13) % 65536 ≡ to
@@ -182,7 +182,7 @@ module _ (q a x y s : ℕ) (n z c v : Bool) (mem flags : ℕ → ℕ) (log : Lis
       left = left';
       even = even;
       reads = λ k h. on_reads k h;
-      far = λ k h. subst (λ q. (0x200 ≤ q) × (is_device q ≡ false)) (sym (next_is k)) (far (suc k) (omega (arith, h)));
+      far = λ k h. subst (λ q. (0x200 ≤ q) × (is_hardware q ≡ false)) (sym (next_is k)) (far (suc k) (omega (arith, h)));
       after = omega (arith, source', after);
       ends = omega (arith, source', ends);
       top = top;
@@ -212,7 +212,7 @@ module _ (q a x y s : ℕ) (n z c v : Bool) (mem flags : ℕ → ℕ) (log : Lis
             let away = far (suc k) (omega (arith, h)) in
             let out = out_of_page b away.0 in
             let differ : nat_eq b to ≡ false =
-            ne_eqb b to (λ same. let e : is_device to ≡ false = subst (λ q. is_device q ≡ false) same away.1 in
+            ne_eqb b to (λ same. let e : is_hardware to ≡ false = subst (λ q. is_hardware q ≡ false) same away.1 in
             let f = in_ram'.3 in absurd (cc)) in
             ap (final 0x80) (next_is k) ∙ kept_write to w here (there 0x80) mem in_ram'.0 in_ram'.1 b out
             ∙ ap (λ (t : Bool). if t then w else laid here mem b) differ
@@ -266,9 +266,9 @@ module _ (q a x y s : ℕ) (n z c v : Bool) (mem flags : ℕ → ℕ) (log : Lis
     byte_small : byte < 256
     byte_small = subst (λ b. b < 256) (reads 0 (omega arith)) (bytes (source_in mem + 0))
 
-    silent : is_device (source_in mem) ≡ false
+    silent : is_hardware (source_in mem) ≡ false
     silent = let zero' : source_in mem + 0 ≡ source_in mem = omega arith in
-        subst (λ q. is_device q ≡ false) zero' (far 0 (omega arith)).1
+        subst (λ q. is_hardware q ≡ false) zero' (far 0 (omega arith)).1
 
     runs : Ends q (from 0x80 (mem 0x11) (second_byte second)) s (final phase) (Writes to w ∷ seen log)
     runs = subst (λ p. Ends q (from 0x80 (mem 0x11) (second_byte second)) s (laid (there phase) (put p w mem))
@@ -280,7 +280,7 @@ module _ (q a x y s : ℕ) (n z c v : Bool) (mem flags : ℕ → ℕ) (log : Lis
         (subst (λ p. nat_le 0x200 p ≡ true) (sym to_is) in_ram'.2)
         refl refl refl
         (subst (λ q. nat_eq q 0x2002 ≡ false) (sym source_is) (not_flag (source_in mem) silent))
-        (subst (λ q. is_device q ≡ false) (sym source_is) silent)
+        (subst (λ q. is_hardware q ≡ false) (sym source_is) silent)
         a x y n z c v log odd second byte byte_small
         (subst (λ q. laid (page_of 0x80 (mem 0x11) (mem 0x12) (mem 0x13) (mem 0x14) (mem 0x15) (mem 0x16)
         (mem 0x17) 0x80 (mem 0x19) (mem 0x1A)) mem q ≡ byte) (sym source_is) (first 0x80))

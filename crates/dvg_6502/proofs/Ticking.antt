@@ -9,7 +9,7 @@ use Rattle.dvg_driver.specs.Script.{Item, word_zero}
 use Rattle.dvg_driver.specs.Place.{Place, Start, Booting, Resting, Writing, Waiting, Sending}
 use Rattle.dvg_driver.specs.Stands.{Stage, StandsAfter}
 use Rattle.dvg_6502.specs.Processor.{Cpu, Access, run}
-use Rattle.dvg_6502.specs.Board.{IsLoaded, is_device, source_in, goal_in, seen}
+use Rattle.dvg_6502.specs.Board.{IsLoaded, is_hardware, source_in, goal_in, seen}
 use Rattle.dvg_6502.specs.Feed.{fed, second_byte}
 use Rattle.dvg_6502.specs.Holds.{IsFeeding, HoldsPlace, Holds, publish_byte}
 use Rattle.dvg_6502.specs.Routines.{TickRefines, Shows}
@@ -44,7 +44,7 @@ module _ (q a x y s : ℕ) (n z c v : Bool) (mem flags : ℕ → ℕ) (log : Lis
       → nat_eq (mem 0x13 % 2) 1 ≡ odd → mem 0x17 % 2 ≡ 0 → mem 0x18 ≡ second_byte second → 1 ≤ length rest
       → mem 0x13 + length rest ≡ 256 * mem 0x16 + mem 0x17
       → ((k : ℕ) → k < length rest → mem (source_in mem + k) ≡ slice_index rest k)
-      → ((k : ℕ) → k < length rest → (0x200 ≤ source_in mem + k) × (is_device (source_in mem + k) ≡ false))
+      → ((k : ℕ) → k < length rest → (0x200 ≤ source_in mem + k) × (is_hardware (source_in mem + k) ≡ false))
       → begin ≤ source_in mem → source_in mem + length rest ≡ stop → stop ≤ 65536 → 0x4002 ≤ goal_in mem
       → goal_in mem + length rest ≤ 0x4800
       → list ≡ addressed (goal_in mem - 0x4000) (fed (mem 0x11) odd second rest) ++ word_zero (other half) (not set)

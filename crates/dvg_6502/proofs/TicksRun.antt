@@ -12,7 +12,7 @@ use Rattle.dvg_6502.proofs.Standing.{Stood, stood_on}
 use Rattle.dvg_6502.proofs.Going.{Goes, Stretch, finish, go_on}
 use Rattle.dvg_6502.proofs.TickCall.{Turned, tick_call, past_low}
 
--- a stretch, and steps after it that touch no device
+-- a stretch, and steps after it that touch no hardware
 abbrev pub extend : (q : ℕ) (cpu : Cpu) (k more : ℕ) (life : List Item) → Stretch q cpu k life
     → seen (run q more (run q k cpu)).log ≡ seen (run q k cpu).log → Stretch q cpu (more + k) life
 extend q cpu k more life made quiet = record {
@@ -23,7 +23,7 @@ extend q cpu k more life made quiet = record {
   logged = ap (λ (c : Cpu). seen c.log) (run_more q k more cpu) ∙ quiet ∙ made.logged;
 }
 
--- a stretch that touches no device
+-- a stretch that touches no hardware
 abbrev pub idle_stretch : (q : ℕ) (cpu : Cpu) (k begin stop : ℕ) (life : List Item) (mem : ℕ → ℕ)
     → Stood mem begin stop life → seen (run q k cpu).log ≡ seen cpu.log → Stretch q cpu k life
 idle_stretch q cpu k begin stop life mem stood quiet = record {

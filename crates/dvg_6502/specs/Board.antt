@@ -1,4 +1,4 @@
--- The board: the driver's bytes in the zero page, its code, and the devices, as driver.s and dvg.inc place them.
+-- The board: the driver's bytes in the zero page, its code, and the hardware, as driver.s and dvg.inc place them.
 use Rattle.std.specs.Prelude.{◌≡◌, ℕ, ◌+◌, ◌*◌, ◌<◌, ◌&&◌, ◌||◌, Bool, not, nat_eq, nat_le, nat_lt, List, [], ◌∷◌}
 use Rattle.std.specs.Prelude.{length, slice_index, if◌then◌else◌}
 use Rattle.dvg_6502.specs.Processor.{Access, Reads, Writes, flag_place}
@@ -53,14 +53,14 @@ byte1_place = 0x4001
 abbrev pub strobe_place : ℕ
 strobe_place = 0x3000
 
--- the devices: the vector RAM, the flag and the strobe
-abbrev pub is_device : ℕ → Bool
-is_device b = is_ram b || (nat_eq b flag_place || nat_eq b strobe_place)
+-- the hardware: the vector RAM, the flag and the strobe
+abbrev pub is_hardware : ℕ → Bool
+is_hardware b = is_ram b || (nat_eq b flag_place || nat_eq b strobe_place)
 
--- what is seen outside: a read of a device, and a write of anything but the zero page and the stack
+-- what is seen outside: a read of the hardware, and a write of anything but the zero page and the stack
 abbrev pub seen : List Access → List Access
 seen [] = []
-seen (Reads a byte ∷ log) = let rest = seen log in if is_device a then Reads a byte ∷ rest else rest
+seen (Reads a byte ∷ log) = let rest = seen log in if is_hardware a then Reads a byte ∷ rest else rest
 seen (Writes a byte ∷ log) = let rest = seen log in if nat_le 0x200 a then Writes a byte ∷ rest else rest
 
 -- the flag's byte shows that the generator is halted: its bit 7 is clear

@@ -85,7 +85,7 @@ IsSession (call ∷ calls) =
     Enters call.from (entry call.routine) × OffersTable call.routine call.from
     × UnlessReset call.routine (Follows call calls × IsSession calls)
 
--- accesses of the devices as actions, one by one
+-- accesses of the hardware as actions, one by one
 abbrev pub AreShown : List Item → List Access → Type 0
 AreShown [] [] = Unit {0}
 AreShown (Did action ∷ items) (access ∷ log) = Shows action (access ∷ []) × AreShown items log

@@ -8,7 +8,7 @@ use Rattle.dvg_driver.specs.Script.{word_zero}
 use Rattle.dvg_driver.specs.Place.{Place, Start, Booting, Resting, Writing, Waiting, Sending}
 use Rattle.dvg_driver.specs.Stands.{Stage}
 use Rattle.dvg_6502.specs.Board.{phase_in, free_in, publish_in, place_in, pages_in, end_in, second_in, source_in}
-use Rattle.dvg_6502.specs.Board.{goal_in, is_device}
+use Rattle.dvg_6502.specs.Board.{goal_in, is_hardware}
 use Rattle.dvg_6502.specs.Feed.{fed, second_byte}
 
 -- the phase after a frame's last byte: DVG_FLIP, once a frame was published since the reset, and else DVG_ZERO
@@ -29,7 +29,7 @@ pub record IsFeeding (mem : ℕ → ℕ) (begin stop : ℕ) (half : Half) (flipp
   pub left : place_in mem + length rest ≡ 256 * pages_in mem + end_in mem
   pub even : end_in mem % 2 ≡ 0
   pub reads : (k : ℕ) → k < length rest → mem (source_in mem + k) ≡ slice_index rest k
-  pub far : (k : ℕ) → k < length rest → (0x200 ≤ source_in mem + k) × (is_device (source_in mem + k) ≡ false)
+  pub far : (k : ℕ) → k < length rest → (0x200 ≤ source_in mem + k) × (is_hardware (source_in mem + k) ≡ false)
   pub after : begin ≤ source_in mem
   pub ends : source_in mem + length rest ≡ stop
   pub top : stop ≤ 65536

@@ -21,7 +21,7 @@ IsMade items = (calls : List Call) × IsSession calls × IsLifeOf calls items
 
 -- an event gets this entry: the driver's are what the machine code does, and the others as they are in each legal log
 abbrev pub FitsBoard : List ℕ → List ℕ → Log → Happening → Shown → Type 0
--- an access of the devices; where the code reads the flag, it shows whether no run is open
+-- an access of the hardware; where the code reads the flag, it shows whether no run is open
 FitsBoard R image log Tick (Acted action) = IsMade (Did action ∷ life image log) × Tells action (is_none (open_run log))
 -- an answer of dvg_offer, for a draft that is checked before: C clear, or C set
 FitsBoard R image log (Offer F) Offered = Accepts F R × IsAnswered (Calls.Offer F) false (life image log)

@@ -23,7 +23,7 @@ pub record Enters (cpu : Cpu) (here : ℕ) : Type 0 where
   pub x : cpu.x < 256
   pub s : cpu.s < 256
 
--- an action as its access of the devices
+-- an action as its access of the hardware
 abbrev pub Shows : Action → List Access → Type 0
 Shows Peek accesses = (byte : ℕ) × (accesses ≡ Reads byte1_place byte ∷ [])
 Shows (Wrote a byte) accesses = accesses ≡ Writes (0x4000 + a) byte ∷ []
@@ -55,7 +55,7 @@ abbrev pub TickRefines : Type 0
 TickRefines = (cpu : Cpu) (begin stop : ℕ) (stage : Stage) (peeked : ℕ) (life : List Item) → Enters cpu dvg_tick
     → Holds cpu.mem begin stop stage → StandsAfter stage peeked life → Ticks cpu begin stop peeked life
 
--- the call returns with S as it was and with this C, touches no device, and its memory holds this stage; but for its
+-- the call returns with S as it was and with this C, touches no hardware, and its memory holds this stage; but for its
 -- own bytes, memory is as it was
 pub record Answers (cpu : Cpu) (c : Bool) (begin stop : ℕ) (new : Stage) : Type 0 where
   pub steps : ℕ

@@ -6,7 +6,7 @@ ghost use Rattle.dvg_6502.specs.Calls.{CallsLive, OfferAnswers, OneLife, RedrawA
 ghost use Rattle.dvg_6502.specs.Joined.{BoardKeeps, SomeCalls};
 ghost use Rattle.dvg_6502.specs.Routines.{OfferRefuses, OfferTakes, RedrawRefuses, RedrawTakes};
 ghost use Rattle.dvg_6502.specs.Routines.{ResetRefines, TickRefines};
-ghost use Rattle.dvg_6502.specs.Tables.{CheckedTold, TableLaw, TableMisses};
+ghost use Rattle.dvg_6502.specs.Tables.{CheckedExpressible, TableLaw, TableMisses};
 
 /// What is written for the table of a frame is the frame in either half.
 pub fn tables()
@@ -15,7 +15,7 @@ pub fn tables()
 
 /// A table can express each checked draft whose operations name the ROM from 400 on.
 pub fn checked_tables()
-    ensures { CheckedTold }
+    ensures { CheckedExpressible }
 {}
 
 /// A table says something else where an operation names a word of the ROM below 400.
@@ -47,7 +47,7 @@ pub fn redraw()
 
 /// Over all calls since a reset, with any memory at first, in which nobody else writes the driver's
 /// bytes, its code, the vector RAM or a table while it is being written: the accesses of the
-/// devices, in their order, with the frames and redraws that were taken, are a life of the script.
+/// hardware, in their order, with the frames and redraws that were taken, are a life of the script.
 pub fn calls_live()
     ensures { CallsLive }
 {}

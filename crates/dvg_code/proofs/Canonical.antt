@@ -9,12 +9,12 @@ use Rattle.dvg_code.specs.Cutting.{Fronts}
 use Rattle.dvg_code.proofs.Unique.{front_of_canon, same_fronts}
 
 -- words are canonical exactly where they equal what is written of the instruction that their front spells
-pub told_canonical : (words written : List ℕ) (a : Instr) (count : ℕ) (equal : Bool) → InRange a → Fronts words a count → written ≡ canon a
+pub canonical_answer : (words written : List ℕ) (a : Instr) (count : ℕ) (equal : Bool) → InRange a → Fronts words a count → written ≡ canon a
     → equal ≡ pointwise nat_eq written words → (IsTrue equal ↔ IsCanonical words)
-told_canonical words written a count true r read written_is told =
+canonical_answer words written a count true r read written_is told =
     let same = same_text written words told in
     (λ equal. (a, r, sym same ∙ written_is), λ canonical. search rules)
-told_canonical words written a count false r read written_is told = (
+canonical_answer words written a count false r read written_is told = (
   λ equal. absurd (search rules),
   λ canonical.
       let b = canonical.0 in

@@ -22,8 +22,8 @@ notes_later round later notes are after = record {
 }
 
 -- and tell nothing in it
-other_told : (later : ℕ) (note : Note) → eqb note.round later ≡ false → noted later note ≡ None
-other_told later note other = rw other refl
+other_noted : (later : ℕ) (note : Note) → eqb note.round later ≡ false → noted later note ≡ None
+other_noted later note other = rw other refl
 
 pub notes_past : (round later : ℕ) (notes : List Note) → AreNotes round notes → round < later → HasNone (map (noted later) notes)
 notes_past round later notes are after p inside =
@@ -33,7 +33,7 @@ notes_past round later notes are after p inside =
     let note = get_or notes (place_index p) blank in
     let past : note.round ≤ round = are.past (place_index p) blank within in
     let other : eqb note.round later ≡ false = false_from_ne_true (eqb note.round later) (λ is. let same = eqb-true note.round later is in omega arith) in
-    get_or-map (noted later) notes (place_index p) blank None within ∙ other_told later note other)
+    get_or-map (noted later) notes (place_index p) blank None within ∙ other_noted later note other)
     (λ past. get_or-eq_default (map (noted later) notes) None (let count = length-map notes (noted later) in omega arith))
     (cases_lt (place_index p) (length notes))
 

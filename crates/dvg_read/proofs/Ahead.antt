@@ -1,6 +1,7 @@
 -- Numbers at the head of a text, up to a space, and a name there.
-use Rattle.std.proofs.Common.{◌≡◌, ◌<◌, ◌≤◌, ◌^◌, ◌+◌, ℕ, suc, List, [], ◌∷◌, ◌++◌, length, get_or, take, decimal, refl, sym, ap, subst, ◌∙◌, arith, false, eqb, add-one, Option, Some, IfSome}
+use Rattle.std.proofs.Common.{◌≡◌, ◌<◌, ◌≤◌, ◌^◌, ◌+◌, ℕ, suc, List, [], ◌∷◌, ◌++◌, length, get_or, take, min, decimal, refl, sym, ap, subst, ◌∙◌, arith, false, eqb, add-one, Option, Some, IfSome}
 use Rattle.std.specs.List.{onto_first, AllByRecursion}
+use Rattle.std.specs.Char.{digit_value}
 use Rattle.std.specs.Str.Parse.{AllDigits, digits_value}
 use Rattle.std.proofs.Math.Nat.{pow-le-pow_right}
 use Rattle.std.proofs.Math.Seq.{split_at}
@@ -11,7 +12,7 @@ use Rattle.std.proofs.lemmas.List.Elements.{All-from_recursion}
 use Rattle.dvg_frame.specs.declared.op.OpKind.{OpKind}
 use Rattle.dvg_read.specs.OpLines.{OpParts}
 use Rattle.dvg_read.specs.Texts.{parts}
-use Rattle.dvg_read.proofs.Decimals.{respelled, shaped}
+use Rattle.dvg_read.proofs.Decimals.{one_more, respelled, shaped}
 use Rattle.dvg_read.proofs.FirstBytes.{HasNone, IsCutAt, behind}
 use Rattle.dvg_read.proofs.Spaces.{digits_alone, no_space, part_ended}
 
@@ -36,6 +37,14 @@ number_ahead text i n inside digits value some lead space small =
     let first : get_or (take i text) 0 0 ≡ get_or text 0 0 = get_or-take i text 0 0 some in
     let spelled = respelled (take i text) n digits (omega arith) (λ zero. size ∙ lead (sym first ∙ zero)) (sym value) small in
     part_ended text i (cut_here 32 text i inside (no_space 10 (take i text) (omega arith) digits) space) ∙ ap (λ part. part ∷ parts (behind i text)) spelled
+
+-- so is one digit
+pub digit_ahead : (text : List ℕ) (n : ℕ) → 2 ≤ length text → n ≡ min 16 (digit_value (get_or text 0 0)) → n < 10 → get_or text 1 0 ≡ 32 → parts text ≡ decimal n ∷ parts (behind 1 text)
+digit_ahead text n fits value few space =
+    let digit : digit_value (get_or text 0 0) < 10 = omega (arith, value, few) in
+    let one = one_more 10 text 0 tt (omega (arith, fits)) digit in
+    let number : n ≡ digits_value 10 (take 1 text) = omega (arith, value, few, one.1) in
+    number_ahead text 1 n (omega (arith, fits)) one.0 number (omega arith) (λ zero. refl) space (omega (arith, few))
 
 -- so is one after a minus
 pub minus_ahead : (text digits rest : List ℕ) (n : ℕ) → text ≡ 45 ∷ digits → parts digits ≡ decimal (suc n) ∷ parts rest → parts text ≡ (45 ∷ decimal (suc n)) ∷ parts rest

@@ -76,6 +76,15 @@ pub fn natural(part: &[u8]) -> Option<u16>
 pub(crate) fn natural_ahead(text: &[u8]) -> Option<(u16, &[u8])>
     ensures { IfSome result (λ ahead. parts text.now ≡ decimal ahead.0 ∷ parts ahead.1.now) }
 {
+    // Most numbers have one digit.
+    if let [first, b' ', rest @ ..] = text {
+        let digit = digit_of(*first);
+        return if digit < 10 {
+            Some((u16::from(digit), rest))
+        } else {
+            None
+        };
+    }
     let mut number = 0;
     for (place, byte) in text.iter().enumerate() {
         let digit = u32::from(digit_of(*byte));

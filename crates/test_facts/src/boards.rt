@@ -1,7 +1,7 @@
 //! What follows from the contracts of tables and of the machine code that reads them.
 ghost use Rattle.std.specs.Prelude.{◌≤◌, ◌≡◌, length, OnOk};
 ghost use Rattle.dvg_lay.specs.Refusals.{IsLent};
-ghost use Rattle.dvg_6502.specs.Tables.{AreTold};
+ghost use Rattle.dvg_6502.specs.Tables.{AreExpressible};
 
 use dvg_6502::checked_tables;
 use dvg_frame::Draft;
@@ -15,14 +15,14 @@ use std::slice;
 /// its operations name of the ROM stands from 400 on, and what they name of the frame in half 0. So
 /// the law `dvg_6502::tables` speaks of it: the code writes the frame as it is laid for either
 /// half.
-pub fn board_can_be_told(
+pub fn tables_fit_boards(
     alloc: Global,
     rom: &Rom<Global>,
     names: &[RomName],
     frame: &NamedFrame,
 ) -> Result<Vec<u8, Global>, Unlaid<Global>>
     requires { IsLent frame.now }
-    ensures { OnOk result (AreTold frame.now.ops.now frame.now.ops.now) }
+    ensures { OnOk result (AreExpressible frame.now.ops.now frame.now.ops.now) }
 {
     checked_tables();
     // The operations of a frame are operations, as their type says.

@@ -1,5 +1,5 @@
-use Rattle.dvg_6502.proofs.Checked.{checked_told}
+use Rattle.dvg_6502.proofs.Checked.{checked_expressible}
 use Rattle.dvg_6502.proofs.checked_tables.Goals as goal
 
 pub returns : goal.returns
-returns c = checked_told
+returns c = checked_expressible

@@ -1,7 +1,7 @@
-use Rattle.std.proofs.Common.{◌≡◌, ◌<◌, ◌^◌, get_or, ◌∙◌, arith}
+use Rattle.std.proofs.Common.{◌≡◌, ◌<◌, ◌^◌, get_or, ◌∙◌, arith, rules}
 use Rattle.std.proofs.lemmas.Grind.{common_steps}
 use Rattle.std.specs.Char.{digit_value}
-use Rattle.dvg_read.proofs.Ahead.{few_value, number_ahead}
+use Rattle.dvg_read.proofs.Ahead.{digit_ahead, few_value, number_ahead}
 use Rattle.dvg_read.proofs.Decimals.{one_more}
 use Rattle.dvg_read.proofs.number.natural_ahead.Goals as goal
 
@@ -30,3 +30,8 @@ loop-place-preserved c =
     let more = one_more 10 c.args.text.now c.loop-place.place c.loop-place.invariant.digits c.loop-place-test.true digit in
     let value : c.from-digit.result ≡ digit_value (get_or c.args.text.now c.loop-place.place 0) = omega (arith, c.digit_of.ensures) in
     record { few = omega arith; digits = more.0; value = grind (arith, common_steps, more.1, value) }
+
+pub returns-then-digit-lt10 : goal.returns-then-digit-lt10
+returns-then-digit-lt10 c =
+    let space : get_or c.args.text.now 1 0 ≡ 32 = search rules in
+    rw c.from.ensures (digit_ahead c.args.text.now c.digit_of-digit.result c.in-32.len_at_least c.digit_of-digit.ensures c.if-digit-lt10.true space)

@@ -1,4 +1,4 @@
--- What a table tells of a frame.
+-- What a table gives the machine code of a frame.
 use Rattle.std.proofs.Common.{◌≡◌, ◌≢◌, ℕ, zero, suc, ◌+◌, ◌-◌, ◌*◌, ◌%◌, ◌/◌, ◌<◌, ◌≤◌, ℤ, pos, negsuc, Bool, true}
 use Rattle.std.proofs.Common.{false, not, List, [], ◌∷◌, ◌++◌, refl, sym, ap, ◌∙◌, subst, arith, eqb-true, eq-eqb}
 use Rattle.std.proofs.Common.{le-leb, leb-true}
@@ -16,7 +16,7 @@ use Rattle.dvg_frame.specs.Bytes.{bytes}
 use Rattle.dvg_frame.specs.Layout.{laid_ops, op_code, at}
 use Rattle.dvg_frame.specs.Ops.{IsOp}
 use Rattle.dvg_6502.specs.Feed.{fed, moved_byte}
-use Rattle.dvg_6502.specs.Tables.{IsTold, AreTold, TableLaw}
+use Rattle.dvg_6502.specs.Tables.{IsExpressible, AreExpressible, TableLaw}
 
 -- each byte passes a test, by trying
 abbrev all_below : (ℕ → Bool) → ℕ → Bool
@@ -175,15 +175,15 @@ sign_small (pos n) = omega arith
 sign_small (negsuc n) = omega arith
 
 -- an operation's words, and those after them
-op_fed : (half : Half) (F : List OpKind) (op : OpKind) (rest : List ℕ) → IsOp op → IsTold F op
+op_fed : (half : Half) (F : List OpKind) (op : OpKind) (rest : List ℕ) → IsOp op → IsExpressible F op
     → feed half (bytes (canon (op_code H0 F op) ++ rest)) ≡ bytes (canon (op_code half F op)) ++ feed half (bytes rest)
-op_fed half F (Draw (Vctr scale dx dy z)) rest op told =
+op_fed half F (Draw (Vctr scale dx dy z)) rest op fit =
     let a = sign_small dy in let b = op.0.0 in let c = op.0.2 in
     pair half (4096 * scale + 1024 * sign_bit dy + unsigned_abs dy) (4096 * z + 1024 * sign_bit dx + unsigned_abs dx)
     rest (omega (arith, a, b, c))
-op_fed half F (Draw (Labs x y scale)) rest op told =
+op_fed half F (Draw (Labs x y scale)) rest op fit =
     pair half (0xA000 + y) (4096 * scale + x) rest (omega (arith, op.0.1))
-op_fed half F (Draw (Svec scale dx dy z)) rest op told =
+op_fed half F (Draw (Svec scale dx dy z)) rest op fit =
     let w = 0xF000 + 2048 * ((scale - 2) % 2) + 1024 * sign_bit dy + 256 * unsigned_abs dy + 16 * z
     + 8 * ((scale - 2) / 2) + 4 * sign_bit dx + unsigned_abs dx in
     let a = sign_small dy in let b = sign_small dx in let c = op.0.1 in let d = op.0.3 in let e = op.0.2 in
@@ -191,36 +191,36 @@ op_fed half F (Draw (Svec scale dx dy z)) rest op told =
     let high : w < 65536 = omega (arith, a, b, c, d, e, f) in
     let low : 0xF0 ≤ w / 256 = omega arith in
     alone half w rest high (le_true 0xB0 (w / 256) (omega arith)) (not_ours_E (w / 256) (omega arith))
-op_fed half F (Draw Halt) rest op told = absurd (let e = op.1 in cc)
-op_fed half F (Draw (Jsrl a)) rest op told = absurd (let e = op.1 in cc)
-op_fed half F (Draw Rtsl) rest op told = absurd (let e = op.1 in cc)
-op_fed half F (Draw (Jmpl a)) rest op told = absurd (let e = op.1 in cc)
-op_fed half F (CallRom a) rest op told =
+op_fed half F (Draw Halt) rest op fit = absurd (let e = op.1 in cc)
+op_fed half F (Draw (Jsrl a)) rest op fit = absurd (let e = op.1 in cc)
+op_fed half F (Draw Rtsl) rest op fit = absurd (let e = op.1 in cc)
+op_fed half F (Draw (Jmpl a)) rest op fit = absurd (let e = op.1 in cc)
+op_fed half F (CallRom a) rest op fit =
     alone half (0xC000 + a) rest (omega arith) (le_true 0xB0 ((0xC000 + a) / 256) (omega arith))
     (not_ours_C ((0xC000 + a) / 256) (omega arith) (omega arith))
-op_fed half F (JumpRom a) rest op told =
+op_fed half F (JumpRom a) rest op fit =
     alone half (0xE000 + a) rest (omega arith) (le_true 0xB0 ((0xE000 + a) / 256) (omega arith))
     (not_ours_E ((0xE000 + a) / 256) (omega arith))
-op_fed H0 F (Call j) rest op told = call_word H0 (at H0 F j) (at H0 F j) rest told (omega arith)
-op_fed H1 F (Call j) rest op told = call_word H1 (at H0 F j) (at H1 F j) rest told (omega arith)
-op_fed H0 F (Jump j) rest op told = jump_word H0 (at H0 F j) (at H0 F j) rest told (omega arith)
-op_fed H1 F (Jump j) rest op told = jump_word H1 (at H0 F j) (at H1 F j) rest told (omega arith)
-op_fed half F Return rest op told = alone half 0xD000 rest (omega arith) refl refl
-op_fed half F Stop rest op told = alone half 0xB000 rest (omega arith) refl refl
+op_fed H0 F (Call j) rest op fit = call_word H0 (at H0 F j) (at H0 F j) rest fit (omega arith)
+op_fed H1 F (Call j) rest op fit = call_word H1 (at H0 F j) (at H1 F j) rest fit (omega arith)
+op_fed H0 F (Jump j) rest op fit = jump_word H0 (at H0 F j) (at H0 F j) rest fit (omega arith)
+op_fed H1 F (Jump j) rest op fit = jump_word H1 (at H0 F j) (at H1 F j) rest fit (omega arith)
+op_fed half F Return rest op fit = alone half 0xD000 rest (omega arith) refl refl
+op_fed half F Stop rest op fit = alone half 0xB000 rest (omega arith) refl refl
 
 bytes_append : (a b : List ℕ) → bytes (a ++ b) ≡ bytes a ++ bytes b
 bytes_append [] b = refl
 bytes_append (w ∷ a) b = ap (λ l. w % 256 ∷ w / 256 ∷ l) (bytes_append a b)
 
-ops_fed : (half : Half) (F ops : List OpKind) → AreTold F ops
+ops_fed : (half : Half) (F ops : List OpKind) → AreExpressible F ops
     → feed half (bytes (laid_ops H0 F ops)) ≡ bytes (laid_ops half F ops)
-ops_fed half F [] told = refl
-ops_fed half F (op ∷ ops) told =
+ops_fed half F [] fit = refl
+ops_fed half F (op ∷ ops) fit =
     ap (λ l. feed half (bytes l)) (flat_map-cons (λ o. canon (op_code H0 F o)) op ops)
-    ∙ op_fed half F op (laid_ops H0 F ops) told.0 told.1
-    ∙ ap (λ l. bytes (canon (op_code half F op)) ++ l) (ops_fed half F ops told.2)
+    ∙ op_fed half F op (laid_ops H0 F ops) fit.0 fit.1
+    ∙ ap (λ l. bytes (canon (op_code half F op)) ++ l) (ops_fed half F ops fit.2)
     ∙ sym (bytes_append (canon (op_code half F op)) (laid_ops half F ops))
     ∙ ap bytes (sym (flat_map-cons (λ o. canon (op_code half F o)) op ops))
 
 pub table_law : TableLaw
-table_law half F told = ops_fed half F F told
+table_law half F fit = ops_fed half F F fit
