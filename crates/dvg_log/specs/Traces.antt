@@ -6,18 +6,22 @@ use Rattle.dvg_log.specs.declared.event.Event.{Event}
 use Rattle.dvg_log.specs.declared.event.Event.TheVariants.{Offer}
 use Rattle.dvg_log.specs.Events.{Happening, map_event}
 
--- an event that says where its operations lie, and how many they are, and which image it has
+-- an event that says which offer it is, and which image it has
 abbrev pub Step : Type 0
-Step = Event (ℕ × ℕ) ℕ
+Step = Event ℕ ℕ
 
--- the event of a step, by the operations of all offers and the images of all resets
-abbrev pub step_event : List OpKind → List (List ℕ) → Step → Happening
-step_event ops images step = map_event (λ range. slice_range ops range.0 (range.0 + range.1))
-    (λ number. get_or images number []) step
+-- the operations of an offer: where they begin among those of all offers, and how many they are
+abbrev pub ops_in : List OpKind → ℕ × ℕ → List OpKind
+ops_in ops range = slice_range ops range.0 (range.0 + range.1)
+
+-- the event of a step, by all offers and the images of all resets
+abbrev pub step_event : List (List OpKind) → List (List ℕ) → Step → Happening
+step_event offers images step =
+    map_event (λ number. get_or offers number []) (λ number. get_or images number []) step
 
 -- the events of steps
-abbrev pub step_events : List Step → List OpKind → List (List ℕ) → List Happening
-step_events steps ops images = map (step_event ops images) steps
+abbrev pub step_events : List Step → List (List OpKind) → List (List ℕ) → List Happening
+step_events steps offers images = map (step_event offers images) steps
 
 -- an event whose draft and image lie elsewhere
 abbrev pub Seen : Type 0

@@ -1,9 +1,10 @@
 //! Lists of events that take little room.
 ghost use Rattle.std.specs.Prelude.{◌≡◌, ◌+◌, ◌<◌, ◌≤◌, ◌↔◌, ◌++◌, ◌∷◌, [], List, Some, length};
-ghost use Rattle.std.specs.Prelude.{slice_get, vec_capacity, vec_len, IsTrue, OnErr, OnOk};
+ghost use Rattle.std.specs.Prelude.{map, replicate, slice_get, vec_capacity, vec_len, IsTrue};
+ghost use Rattle.std.specs.Prelude.{OnErr, OnOk};
 ghost use Rattle.dvg_log.specs.Events.{Happening, happening_of};
 ghost use Rattle.dvg_log.specs.declared.event.Event.TheVariants.{Offer, ResetAll};
-ghost use Rattle.dvg_log.specs.Traces.{FitsInDraft, step_events, seen_as};
+ghost use Rattle.dvg_log.specs.Traces.{FitsInDraft, ops_in, step_events, seen_as};
 ghost use Rattle.dvg_log.specs.own.Kept.{IsTrace};
 
 use crate::event::{Event, OwnEvent, TraceEvent};
@@ -23,6 +24,8 @@ pub const MOST_EVENTS: usize = 65_536;
 #[derive(Drop)]
 pub struct Trace<A: Allocator = Global> {
     steps: Vec<Step, A>,
+    /// Where the operations of each offer begin among those of all, and how many they are.
+    offers: Vec<(u32, u16), A>,
     /// The operations of all offers.
     ops: Vec<Op, A>,
     /// The images of the resets of the whole system.
@@ -33,14 +36,16 @@ pub struct Trace<A: Allocator = Global> {
 impl<A: Allocator> Model for Trace<A> {
     ghost Value = { List Happening };
 
-    ghost view = { λ trace. step_events trace.steps.items trace.ops.items trace.images.items };
+    ghost view = { λ trace. step_events trace.steps.items
+        (map (ops_in trace.ops.items) trace.offers.items) trace.images.items };
 
-    ghost invariant = { λ trace. IsTrace trace.steps.items trace.ops.items trace.images.items };
+    ghost invariant = { λ trace. IsTrace trace.steps.items trace.offers.items trace.ops.items
+        trace.images.items };
 }
 
-/// An event of a trace: an offer has the number of its first operation among those of all offers,
-/// and how many it has, and a reset of the whole system the number of its image among all.
-pub(crate) type Step = Event<(u32, u16), u32>;
+/// An event of a trace, in four bytes: an offer has its number among all offers, and a reset of the
+/// whole system that of its image among all.
+pub(crate) type Step = Event<u16, u16>;
 
 impl<A: Allocator + Copy> Trace<A> {
     /// No events.
@@ -49,6 +54,7 @@ impl<A: Allocator + Copy> Trace<A> {
     {
         Trace {
             steps: Vec::new(alloc),
+            offers: Vec::new(alloc),
             ops: Vec::new(alloc),
             images: Vec::new(alloc),
         }
@@ -72,15 +78,17 @@ impl<A: Allocator> Trace<A> {
     }
 
     /// The event of this number, counted from 0. An offer has at most 511 operations.
+    #[inline(always)]
     pub fn event(&self, number: usize) -> TraceEvent<'_, A>
         requires { number < length self.now }
         ensures value { slice_get self.now number ≡ Some (seen_as result) }
         ensures draft { FitsInDraft result }
     {
         match &self.steps[number] {
-            Step::Offer((first, count)) => {
-                let first = *first as usize;
-                TraceEvent::Offer(&self.ops[first..first + usize::from(*count)])
+            Step::Offer(offer) => {
+                let (first, count) = self.offers[usize::from(*offer)];
+                let first = first as usize;
+                TraceEvent::Offer(&self.ops[first..first + usize::from(count)])
             }
             Step::Redraw => TraceEvent::Redraw,
             Step::Tick => TraceEvent::Tick,
@@ -88,7 +96,7 @@ impl<A: Allocator> Trace<A> {
             Step::Fetch => TraceEvent::Fetch,
             Step::ResetGen => TraceEvent::ResetGen,
             Step::ResetCpu => TraceEvent::ResetCpu,
-            Step::ResetAll(image) => TraceEvent::ResetAll(&self.images[*image as usize]),
+            Step::ResetAll(image) => TraceEvent::ResetAll(&self.images[usize::from(*image)]),
         }
     }
 
@@ -123,25 +131,28 @@ impl<A: Allocator> Trace<A> {
     {
         let first = self.ops.len() as u32;
         let count = draft.len();
+        let number = self.offers.len() as u16;
         self.ops.reserve(count)?;
+        self.offers.reserve(1)?;
         self.steps.reserve(1)?;
         self.ops.extend_from_slice(draft.ops()).unwrap();
-        self.steps.push_reserved(Step::Offer((first, count as u16)));
+        self.offers.push_reserved((first, count as u16));
+        self.steps.push_reserved(Step::Offer(number));
         Ok(())
     }
 
-    /// Adds the event of this number, counted from 0, once more at the end of fewer than 65,536
-    /// events. Its draft or image isn't copied. The only error is lack of memory, and then nothing
-    /// has changed.
-    pub fn push_again(&mut self, number: usize) -> Result<(), OutOfMemory>
+    /// Adds the event of this number, counted from 0, so many times more at the end of a trace that
+    /// has room for them. Its draft or image isn't copied. The only error is lack of memory, and
+    /// then nothing has changed.
+    pub fn push_again(&mut self, number: usize, times: usize) -> Result<(), OutOfMemory>
         requires inside { number < length self.old }
-        requires room { length self.old < 65536 }
+        requires room { length self.old + times ≤ 65536 }
         ensures pushed { (event : Happening) → slice_get self.old number ≡ Some event
-            → OnOk result (self.new ≡ self.old ++ event ∷ []) }
+            → OnOk result (self.new ≡ self.old ++ replicate times event) }
         ensures refused { OnErr result (self.new ≡ self.old) }
     {
         let step = self.steps[number];
-        self.steps.push(step)?;
+        self.steps.resize(self.steps.len() + times, step)?;
         Ok(())
     }
 
@@ -151,7 +162,7 @@ impl<A: Allocator> Trace<A> {
         ensures pushed { OnOk result (self.new ≡ self.old ++ ResetAll image ∷ []) }
         ensures refused { OnErr result (self.new ≡ self.old) }
     {
-        let number = self.images.len() as u32;
+        let number = self.images.len() as u16;
         self.images.reserve(1)?;
         self.steps.reserve(1)?;
         self.images.push_reserved(image);

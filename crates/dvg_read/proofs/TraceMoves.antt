@@ -1,5 +1,5 @@
 -- What one more line makes of a trace that is read.
-use Rattle.std.proofs.Common.{add-one, append_assoc, ◌≡◌, ◌≢◌, ⊎_elim, get_or, set, slice_get, ◌<◌, ◌≤◌, ◌+◌, ℕ, zero, suc, List, [], ◌∷◌, ◌++◌, length, replicate, refl, sym, ap, subst, ◌∙◌, arith, length-append, codes, All, Option, Some, None, Result, Ok, Err, OnOk, IfErr, Bool, true, false}
+use Rattle.std.proofs.Common.{append_assoc, ◌≡◌, ◌≢◌, ⊎_elim, get_or, set, slice_get, ◌<◌, ◌≤◌, ◌+◌, ◌-◌, ℕ, zero, suc, List, [], ◌∷◌, ◌++◌, length, replicate, refl, sym, ap, subst, ◌∙◌, arith, length-append, codes, All, Option, Some, None, Result, Ok, Err, OnOk, IfErr, Bool, true, false}
 use Rattle.std.specs.Option.{is_some}
 use Rattle.std.proofs.lemmas.Bool.Decides.{eqb_tells}
 use Rattle.std.proofs.lemmas.Grind.{get_or-set_at}
@@ -58,22 +58,15 @@ get_last : {X : Type 0} (xs : List X) (x : X) → slice_get (xs ++ x ∷ []) (le
 get_last [] x = refl
 get_last (y ∷ xs) x = get_last xs x
 
--- an event that was added this many times stands where it was first added
-get_run : (old : List Happening) (event : Happening) (times : ℕ) → slice_get (old ++ replicate (suc times) event) (length old) ≡ Some event
-get_run [] event times = refl
-get_run (other ∷ old) event times = get_run old event times
+-- an event that was added stands at the end
+pub stands_last : (old now : List Happening) (event : Happening) → now ≡ old ++ event ∷ [] → slice_get now (length old) ≡ Some event
+stands_last old now event is = rw is (get_last old event)
 
-pub first_stays : (old now : List Happening) (event : Happening) (times : ℕ) → 1 ≤ times → now ≡ old ++ replicate times event → slice_get now (length old) ≡ Some event
-first_stays old now event zero some is = absurd (omega arith)
-first_stays old now event (suc times) some is = rw is (get_run old event times)
-
-run_more : (event : Happening) (times : ℕ) → replicate times event ++ event ∷ [] ≡ replicate (suc times) event
-run_more event zero = refl
-run_more event (suc times) = ap (λ l. event ∷ l) (run_more event times)
-
--- and it is added once more
-pub once_more : (old before now : List Happening) (event : Happening) (times : ℕ) → before ≡ old ++ replicate times event → now ≡ before ++ event ∷ [] → now ≡ old ++ replicate (times + 1) event
-once_more old before now event times run is = rw (is, run, add-one times) (append_assoc old (replicate times event) (event ∷ []) ∙ ap (λ l. old ++ l) (run_more event times))
+-- an event and all its repetitions
+pub all_times : {A E : Type 0} (answer : Result A E) (old first now : List Happening) (event : Happening) (count : ℕ) → 1 ≤ count → first ≡ old ++ event ∷ [] → OnOk answer (now ≡ first ++ replicate (count - 1) event) → OnOk answer (now ≡ old ++ replicate count event)
+all_times (Ok x) old first now event zero some is more = absurd (omega arith)
+all_times (Ok x) old first now event (suc n) some is more = more ∙ rw is (append_assoc old (event ∷ []) (replicate (suc n - 1) event)) ∙ ap (λ k. old ++ event ∷ replicate k event) (let k : suc n - 1 ≡ n = omega arith in k)
+all_times (Err x) old first now event count some is more = tt
 
 -- no number says nothing
 pub no_resets : (numbers : List (Option ℕ)) (happened : List Happening) → numbers ≡ replicate 256 None → AreResets numbers happened

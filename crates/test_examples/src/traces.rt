@@ -39,7 +39,7 @@ fn pushed_again(alloc: Global) -> Result<Trace, Fail> {
     let mut trace = Trace::new(alloc);
     trace.push(offer(alloc)?)?;
     trace.push(Event::ResetAll(image(alloc, 0x0F)?))?;
-    trace.push_again(0)?;
+    trace.push_again(0, 1)?;
     Ok(trace)
 }
 

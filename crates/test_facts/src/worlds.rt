@@ -90,7 +90,7 @@ pub fn trace_keeps_what_is_pushed_again(alloc: Global) -> Option<bool>
     let mut trace = Trace::new(alloc);
     trace.push(Event::Strobe).ok()?;
     trace.push(Event::Tick).ok()?;
-    trace.push_again(0).ok()?;
+    trace.push_again(0, 1).ok()?;
     Some(matches!(trace.event(2), TraceEvent::Strobe))
 }
 

@@ -1,12 +1,20 @@
-use Rattle.std.proofs.Common.{◌≡◌, Some, slice_get, arith, [], ◌∷◌}
+use Rattle.std.proofs.Common.{◌≡◌, ◌-◌, ◌++◌, OnOk, Some, replicate, slice_get}
+use Rattle.dvg_log.specs.Events.{Happening}
 use Rattle.dvg_read.specs.EventLines.{spelled_as}
-use Rattle.dvg_read.proofs.TraceMoves.{first_stays, once_more, resets_stay}
+use Rattle.dvg_read.proofs.TraceMoves.{all_times, resets_stay_on, stands_last}
 use Rattle.dvg_read.proofs.trace_text.add_times.Goals as goal
 
-pub loop-time-preserved : goal.loop-time-preserved
-loop-time-preserved g c =
+pub returns-clause-added : goal.returns-clause-added
+returns-clause-added g c =
     let event = spelled_as c.args.event in
-    let run = c.loop-time.invariant.0 in
-    let first : slice_get c.loop-time.events c.len-first.result ≡ Some event = rw c.len-first.ensures.value (first_stays c.args.events.now c.loop-time.events event c.loop-time._time (omega arith) run) in
-    let added = c.in_ok-push_again.ensures.pushed event first in
-    (once_more c.args.events.now c.loop-time.events c.push_again.new.self event c.loop-time._time run added, resets_stay _ c.loop-time.events (event ∷ []) c.push_again.new.self added c.loop-time.invariant.1)
+    let first = c.in_ok-add_once.ensures.added in
+    let stands : slice_get c.add_once.new.events c.len-first.result ≡ Some event = rw c.len-first.ensures.value (stands_last c.args.events.now c.add_once.new.events event first) in
+    let more : OnOk c.push_again.result (c.push_again.new.self ≡ c.add_once.new.events ++ replicate (c.args.count - 1) event) = rw (← c.from.ensures) (c.push_again.ensures.pushed event stands) in
+    all_times c.push_again.result c.args.events.now c.add_once.new.events c.push_again.new.self event c.args.count c.requires.some first more
+
+pub returns-clause-resets : goal.returns-clause-resets
+returns-clause-resets g c =
+    let event = spelled_as c.args.event in
+    let first = c.in_ok-add_once.ensures.added in
+    let stands : slice_get c.add_once.new.events c.len-first.result ≡ Some event = rw c.len-first.ensures.value (stands_last c.args.events.now c.add_once.new.events event first) in
+    resets_stay_on c.push_again.result c.add_once.new.resets c.add_once.new.events (replicate (c.from.result - 1) event) c.push_again.new.self (c.push_again.ensures.pushed event stands) c.in_ok-add_once.ensures.resets

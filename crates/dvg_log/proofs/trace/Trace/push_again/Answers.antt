@@ -1,11 +1,11 @@
-use Rattle.std.proofs.Common.{rules, ◌≡◌, ◌∷◌, ◌++◌, []}
-use Rattle.dvg_log.specs.Traces.{step_event}
-use Rattle.dvg_log.proofs.Traces.{one_step_again}
+use Rattle.std.proofs.Common.{rules, ◌≡◌, ◌++◌, map, replicate, vec_len, ◌∙◌}
+use Rattle.dvg_log.specs.Traces.{ops_in, step_event}
+use Rattle.dvg_log.proofs.Traces.{grown, steps_again}
 use Rattle.dvg_log.proofs.trace.Trace.push_again.Goals as goal
 
 pub returns-clause-pushed : goal.returns-clause-pushed
 returns-clause-pushed g c event at =
-    let steps = c.self.inside.steps.items in
+    let kept = c.self.inside in
     let step = c.index-step.result.now in
-    let added : c.push.new.self.items ≡ steps ++ step ∷ [] = search rules in
-    one_step_again (step_event c.self.inside.ops.items c.self.inside.images.items) steps c.push.new.self.items c.args.self.now c.args.number step _ event c.self.view_is c.requires.inside c.index-step.ensures added at
+    let added : c.resize.new.self.items ≡ kept.steps.items ++ replicate c.args.times step = c.in_ok-resize.ensures.items ∙ grown kept.steps.items (vec_len kept.steps) _ c.args.times step (search rules) (search rules) in
+    steps_again (step_event (map (ops_in kept.ops.items) kept.offers.items) kept.images.items) kept.steps.items c.resize.new.self.items c.args.self.now c.args.number c.args.times step _ event c.self.view_is c.requires.inside c.index-step.ensures added at
