@@ -1,2 +1,3 @@
 mod Spaced
 mod Joined
+mod Counting

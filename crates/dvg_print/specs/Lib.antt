@@ -4,3 +4,4 @@ pub mod Shows
 pub mod LogVerdicts
 pub mod RunLines
 pub mod Svg
+pub mod Numbering

@@ -3,6 +3,7 @@
 //! memory.
 #![tactic(auto)]
 
+mod entry_line;
 mod line;
 mod log_line;
 mod log_verdict;
@@ -10,6 +11,7 @@ mod run_line;
 mod svg_line;
 mod verdict;
 
+pub use entry_line::EntryLine;
 pub use line::Line;
 pub use log_verdict::{LogCounts, LogFinding, LogVerdict};
 pub use verdict::{BoundedVerdict, Verdict};

@@ -1,9 +1,10 @@
 //! Lines of output, made without taking memory.
 ghost use Rattle.std.specs.Prelude.{◌≡◌, ◌≤◌, ◌<◌, ◌+◌, ◌++◌, ◌∷◌, [], length, codes};
-ghost use Rattle.std.specs.Prelude.{decimal, true};
+ghost use Rattle.std.specs.Prelude.{decimal, take, true};
 ghost use Rattle.std.specs.Fmt.{digit_glyph};
 ghost use Rattle.dvg_print.specs.Lines.{hex_2, hex_3, hex_4, instr_parts, line_text, listed_parts};
 ghost use Rattle.dvg_print.specs.Lines.{rom_line, spaced, vector_parts};
+ghost use Rattle.dvg_print.specs.Numbering.{ComesBefore};
 ghost use Rattle.dvg_print.specs.Verdicts.{bounded_line, fault_parts, place_parts, verdict_line};
 
 use crate::verdict::{BoundedVerdict, Verdict};
@@ -66,6 +67,30 @@ impl Line {
         ensures { self.new ≡ [] }
     {
         self.count = 0;
+    }
+
+    // Keeps this many of its first bytes.
+    #[inline(always)]
+    pub(crate) fn keep(&mut self, count: usize)
+        requires { count ≤ length self.old }
+        ensures { self.new ≡ take count self.old }
+    {
+        self.count = count;
+    }
+
+    // Becomes a number from the one before it, which nine times in ten has another last digit
+    // alone; or from no bytes.
+    #[inline(always)]
+    pub(crate) fn count_on(&mut self, number: usize)
+        requires { ComesBefore self.old number }
+        ensures text { self.new ≡ decimal number }
+        ensures grew { length self.new ≤ 20 }
+    {
+        if self.count > 0 && self.bytes[self.count - 1] < b'9' {
+            self.bytes[self.count - 1] += 1;
+        } else {
+            self.become_number(number);
+        }
     }
 
     // Becomes a number in decimal.

@@ -2,7 +2,7 @@
 ghost use Rattle.std.specs.Prelude.{◌≡◌, ◌≤◌, ◌+◌, ◌++◌, ◌∷◌, [], ℕ, length, codes, decimal};
 ghost use Rattle.dvg_log.specs.Entries.{shown_of};
 ghost use Rattle.dvg_print.specs.Lines.{hex_3, hex_4, spaced};
-ghost use Rattle.dvg_print.specs.Shows.{action_parts, entry_line, entry_parts, stroke_line};
+ghost use Rattle.dvg_print.specs.Shows.{action_parts, entry_parts, stroke_line};
 
 use crate::line::Line;
 use dvg_driver::Action;
@@ -42,7 +42,8 @@ impl Line {
     }
 
     // Appends what an event led to.
-    fn entry<A: Allocator>(&mut self, entry: &OwnEntry<A>)
+    #[inline(always)]
+    pub(crate) fn entry<A: Allocator>(&mut self, entry: &OwnEntry<A>)
         requires { length self.old + 36 ≤ 64 }
         ensures text { self.new ≡ self.old ++ spaced (entry_parts (shown_of entry.now)) }
         ensures grew { length self.new ≤ length self.old + 36 }
@@ -75,15 +76,6 @@ impl Line {
             Entry::Still => self.part(b"still"),
             Entry::Cleared => self.part(b"cleared"),
         }
-    }
-
-    /// Becomes the line that `play --all` writes of an event's entry.
-    pub fn become_entry<A: Allocator>(&mut self, number: usize, entry: &OwnEntry<A>)
-        ensures { self.new ≡ entry_line number (shown_of entry.now) }
-    {
-        self.become_number(number);
-        self.entry(entry);
-        self.text(b"\n");
     }
 
     /// Becomes the line of a picture of this many strokes, by the number of the event that finished

@@ -1,0 +1,69 @@
+//! Lines of entries, which are numbered.
+ghost use Rattle.std.specs.Prelude.{◌≡◌, ◌+◌, ◌^◌, ◌<◌, ◌≤◌, [], length, take};
+ghost use Rattle.dvg_log.specs.Entries.{shown_of};
+ghost use Rattle.dvg_print.specs.Numbering.{ComesBefore};
+ghost use Rattle.dvg_print.specs.Shows.{entry_line};
+
+use crate::line::Line;
+use dvg_log::OwnEntry;
+use std::alloc::Allocator;
+use std::marker::Model;
+
+/// The lines that `play --all` writes of entries: it becomes one after the other. The digits of an
+/// event's number stay in it, and become those of the next one.
+#[derive(Drop)]
+pub struct EntryLine {
+    line: Line,
+    // How many of the line's bytes are digits of its number.
+    digits: usize,
+    // The number of the next entry's event.
+    next: usize,
+}
+
+/// Contracts see the line, and the number of the next one.
+impl Model for EntryLine {
+    ghost use Rattle.std.specs.Prelude.{◌≤◌, length, take};
+    ghost use Rattle.dvg_print.specs.Numbering.{ComesBefore, Numbered};
+
+    ghost Value = { Numbered };
+
+    ghost view = { λ entry_line. record { text = entry_line.line; next = entry_line.next } };
+
+    ghost invariant = { λ entry_line. (entry_line.digits ≤ length entry_line.line)
+        × ComesBefore (take entry_line.digits entry_line.line) entry_line.next };
+}
+
+impl EntryLine {
+    /// No bytes. The next entry's event has this number.
+    pub fn new(next: usize) -> EntryLine
+        ensures text { result.text ≡ [] }
+        ensures next { result.next ≡ next }
+    {
+        EntryLine {
+            line: Line::new(),
+            digits: 0,
+            next,
+        }
+    }
+
+    /// The bytes.
+    pub fn as_bytes(&self) -> &[u8]
+        ensures { result.now ≡ self.now.text }
+    {
+        self.line.as_bytes()
+    }
+
+    /// Becomes the line of the next entry.
+    pub fn become_next<A: Allocator>(&mut self, entry: &OwnEntry<A>)
+        requires { self.old.next < 2 ^ 63 }
+        ensures text { self.new.text ≡ entry_line self.old.next (shown_of entry.now) }
+        ensures next { self.new.next ≡ self.old.next + 1 }
+    {
+        self.line.keep(self.digits);
+        self.line.count_on(self.next);
+        self.digits = self.line.as_bytes().len();
+        self.line.entry(entry);
+        self.line.text(b"\n");
+        self.next += 1;
+    }
+}
