@@ -55,7 +55,7 @@ impl EntryLine {
 
     /// Becomes the line of the next entry.
     pub fn become_next<A: Allocator>(&mut self, entry: &OwnEntry<A>)
-        requires { self.old.next < 2 ^ 63 }
+        requires { self.old.next + 1 < 2 ^ 64 }
         ensures text { self.new.text ≡ entry_line self.old.next (shown_of entry.now) }
         ensures next { self.new.next ≡ self.old.next + 1 }
     {

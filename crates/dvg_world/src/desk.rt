@@ -95,6 +95,7 @@ impl<A: Allocator> Desk<A> {
 
     /// The driver does one action. It is told whether the generator is halted, and the byte at 001
     /// of the RAM.
+    #[inline(always)]
     pub fn tick(&mut self, halted: bool, byte1: u8) -> Action
         ensures rom { self.new.rom ≡ self.old.rom }
         ensures answers { TickAnswers halted byte1 self.old.stage self.new.stage result }

@@ -20,6 +20,7 @@ fn fill(draft: &mut Draft, ops: &[Op])
 
 // Lets the event of this number of a trace happen to a world. The draft of an offer is made in
 // `draft`.
+#[inline(always)]
 pub(crate) fn happen_of<S: Store>(
     trace: &Trace<S::Alloc>,
     number: usize,

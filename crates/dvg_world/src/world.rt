@@ -145,6 +145,7 @@ impl<S: Store> World<S> {
     }
 
     /// The driver is handed a draft to show, as by `Event::Offer`.
+    #[inline(always)]
     pub fn offer(&mut self, draft: &Draft) -> OwnEntry<S::Alloc>
         ensures stands { AddsLine self.old (Offer draft.now) (shown_of result) self.new }
         ensures headline { KeepsHeadlineAfter self.old (Offer draft.now) (shown_of result) }
@@ -155,6 +156,7 @@ impl<S: Store> World<S> {
     }
 
     /// The driver is asked to have the published frame drawn again, as by `Event::Redraw`.
+    #[inline(always)]
     pub fn redraw(&mut self) -> OwnEntry<S::Alloc>
         ensures stands { AddsLine self.old Redraw (shown_of result) self.new }
         ensures headline { KeepsHeadlineAfter self.old Redraw (shown_of result) }
@@ -163,6 +165,7 @@ impl<S: Store> World<S> {
     }
 
     /// The driver does one action, as by `Event::Tick`.
+    #[inline(always)]
     pub fn tick(&mut self) -> OwnEntry<S::Alloc>
         ensures stands { AddsLine self.old Tick (shown_of result) self.new }
         ensures headline { KeepsHeadlineAfter self.old Tick (shown_of result) }
@@ -174,6 +177,7 @@ impl<S: Store> World<S> {
     }
 
     // Does a write in the store, and puts a strobe under way.
+    #[inline(always)]
     fn perform(&mut self, action: Action)
         requires { IsInRam action }
         ensures { self.new ≡ record self.old
@@ -187,6 +191,7 @@ impl<S: Store> World<S> {
     }
 
     /// A strobe reaches the generator, if the driver has sent one, as by `Event::Strobe`.
+    #[inline(always)]
     pub fn strobe(&mut self) -> OwnEntry<S::Alloc>
         ensures stands { AddsLine self.old Strobe (shown_of result) self.new }
         ensures headline { KeepsHeadlineAfter self.old Strobe (shown_of result) }
@@ -201,6 +206,7 @@ impl<S: Store> World<S> {
     /// The generator fetches one byte, as by `Event::Fetch`. This is the one event that takes
     /// memory, for the stroke of a vector with an intensity of at least 1. The only error is lack
     /// of memory, and then the world is as it was.
+    #[inline(always)]
     pub fn fetch(&mut self) -> Result<OwnEntry<S::Alloc>, OutOfMemory>
         ensures stands { IfOk result (λ entry. AddsLine self.old Fetch (shown_of entry) self.new) }
         ensures headline { IfOk result
@@ -218,6 +224,7 @@ impl<S: Store> World<S> {
     }
 
     /// The generator is reset, as by `Event::ResetGen`.
+    #[inline(always)]
     pub fn reset_generator(&mut self) -> OwnEntry<S::Alloc>
         ensures stands { AddsLine self.old ResetGen (shown_of result) self.new }
         ensures headline { KeepsHeadlineAfter self.old ResetGen (shown_of result) }
@@ -227,6 +234,7 @@ impl<S: Store> World<S> {
     }
 
     /// The driver is reset, as by `Event::ResetCpu`.
+    #[inline(always)]
     pub fn reset_processor(&mut self) -> OwnEntry<S::Alloc>
         ensures stands { AddsLine self.old ResetCpu (shown_of result) self.new }
         ensures headline { KeepsHeadlineAfter self.old ResetCpu (shown_of result) }
@@ -236,6 +244,7 @@ impl<S: Store> World<S> {
     }
 
     /// The whole system is reset, and the RAM holds this image, as by `Event::ResetAll`.
+    #[inline(always)]
     pub fn reset_all(&mut self, image: &Image<S::Alloc>) -> OwnEntry<S::Alloc>
         ensures stands { AddsLine self.old (ResetAll image.now) (shown_of result) self.new }
         ensures headline { KeepsHeadlineAfter self.old (ResetAll image.now) (shown_of result) }

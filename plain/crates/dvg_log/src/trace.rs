@@ -16,21 +16,24 @@ pub const MOST_EVENTS: usize = 65_536;
 /// or the image of the earlier one.
 pub struct Trace<A: Allocator = Global> {
     steps: Vec<Step, A>,
+    /// Where the operations of each offer begin among those of all, and how many they are.
+    offers: Vec<(u32, u16), A>,
     /// The operations of all offers.
     ops: Vec<Op, A>,
     /// The images of the resets of the whole system.
     images: Vec<Image<A>, A>,
 }
 
-/// An event of a trace: an offer has the number of its first operation among those of all offers,
-/// and how many it has, and a reset of the whole system the number of its image among all.
-pub(crate) type Step = Event<(u32, u16), u32>;
+/// An event of a trace, in four bytes: an offer has its number among all offers, and a reset of the
+/// whole system that of its image among all.
+pub(crate) type Step = Event<u16, u16>;
 
 impl<A: Allocator + Copy> Trace<A> {
     /// No events.
     pub fn new(alloc: A) -> Trace<A> {
         Trace {
             steps: Vec::new(alloc),
+            offers: Vec::new(alloc),
             ops: Vec::new(alloc),
             images: Vec::new(alloc),
         }
@@ -49,11 +52,13 @@ impl<A: Allocator> Trace<A> {
     }
 
     /// The event of this number, counted from 0. An offer has at most 511 operations.
+    #[inline(always)]
     pub fn event(&self, number: usize) -> TraceEvent<'_, A> {
         match &self.steps[number] {
-            Step::Offer((first, count)) => {
-                let first = *first as usize;
-                TraceEvent::Offer(&self.ops[first..first + usize::from(*count)])
+            Step::Offer(offer) => {
+                let (first, count) = self.offers[usize::from(*offer)];
+                let first = first as usize;
+                TraceEvent::Offer(&self.ops[first..first + usize::from(count)])
             }
             Step::Redraw => TraceEvent::Redraw,
             Step::Tick => TraceEvent::Tick,
@@ -61,7 +66,7 @@ impl<A: Allocator> Trace<A> {
             Step::Fetch => TraceEvent::Fetch,
             Step::ResetGen => TraceEvent::ResetGen,
             Step::ResetCpu => TraceEvent::ResetCpu,
-            Step::ResetAll(image) => TraceEvent::ResetAll(&self.images[*image as usize]),
+            Step::ResetAll(image) => TraceEvent::ResetAll(&self.images[usize::from(*image)]),
         }
     }
 
@@ -88,25 +93,28 @@ impl<A: Allocator> Trace<A> {
     pub fn push_offer(&mut self, draft: &Draft) -> Result<(), OutOfMemory> {
         let first = self.ops.len() as u32;
         let count = draft.len();
+        let number = self.offers.len() as u16;
         self.ops.reserve(count)?;
+        self.offers.reserve(1)?;
         self.steps.reserve(1)?;
         self.ops.extend_from_slice(draft.ops()).unwrap();
-        self.steps.push_reserved(Step::Offer((first, count as u16)));
+        self.offers.push_reserved((first, count as u16));
+        self.steps.push_reserved(Step::Offer(number));
         Ok(())
     }
 
-    /// Adds the event of this number, counted from 0, once more at the end of fewer than 65,536
-    /// events. Its draft or image isn't copied. The only error is lack of memory, and then nothing
-    /// has changed.
-    pub fn push_again(&mut self, number: usize) -> Result<(), OutOfMemory> {
+    /// Adds the event of this number, counted from 0, so many times more at the end of a trace that
+    /// has room for them. Its draft or image isn't copied. The only error is lack of memory, and
+    /// then nothing has changed.
+    pub fn push_again(&mut self, number: usize, times: usize) -> Result<(), OutOfMemory> {
         let step = self.steps[number];
-        self.steps.push(step)?;
+        self.steps.resize(self.steps.len() + times, step)?;
         Ok(())
     }
 
     // Adds a reset of the whole system, and keeps its image.
     fn push_reset(&mut self, image: Image<A>) -> Result<(), OutOfMemory> {
-        let number = self.images.len() as u32;
+        let number = self.images.len() as u16;
         self.images.reserve(1)?;
         self.steps.reserve(1)?;
         self.images.push_reserved(image);

@@ -5,6 +5,7 @@
 
 extern crate plain_std as std;
 
+mod entry_line;
 mod line;
 mod log_line;
 mod log_verdict;
@@ -12,6 +13,7 @@ mod run_line;
 mod svg_line;
 mod verdict;
 
+pub use entry_line::EntryLine;
 pub use line::Line;
 pub use log_verdict::{LogCounts, LogFinding, LogVerdict};
 pub use verdict::{BoundedVerdict, Verdict};

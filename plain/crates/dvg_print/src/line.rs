@@ -39,6 +39,23 @@ impl Line {
         self.count = 0;
     }
 
+    // Keeps this many of its first bytes.
+    #[inline(always)]
+    pub(crate) fn keep(&mut self, count: usize) {
+        self.count = count;
+    }
+
+    // Becomes a number from the one before it, which nine times in ten has another last digit
+    // alone; or from no bytes.
+    #[inline(always)]
+    pub(crate) fn count_on(&mut self, number: usize) {
+        if self.count > 0 && self.bytes[self.count - 1] < b'9' {
+            self.bytes[self.count - 1] += 1;
+        } else {
+            self.become_number(number);
+        }
+    }
+
     // Becomes a number in decimal.
     pub(crate) fn become_number<I: Integer>(&mut self, n: I) {
         self.clear();

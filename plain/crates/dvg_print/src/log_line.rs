@@ -29,7 +29,8 @@ impl Line {
     }
 
     // Appends what an event led to.
-    fn entry<A: Allocator>(&mut self, entry: &OwnEntry<A>) {
+    #[inline(always)]
+    pub(crate) fn entry<A: Allocator>(&mut self, entry: &OwnEntry<A>) {
         match entry {
             Entry::Offered => self.part(b"offered"),
             Entry::Refused(fault) => {
@@ -58,13 +59,6 @@ impl Line {
             Entry::Still => self.part(b"still"),
             Entry::Cleared => self.part(b"cleared"),
         }
-    }
-
-    /// Becomes the line that `play --all` writes of an event's entry.
-    pub fn become_entry<A: Allocator>(&mut self, number: usize, entry: &OwnEntry<A>) {
-        self.become_number(number);
-        self.entry(entry);
-        self.text(b"\n");
     }
 
     /// Becomes the line of a picture of this many strokes, by the number of the event that finished

@@ -188,10 +188,10 @@ fn add_times<A: Allocator>(
 ) -> Result<(), OutOfMemory> {
     let first = events.len();
     add_once(alloc, event, resets, events)?;
-    for _time in 1..count {
-        events.push_again(first)?;
+    if count == 1 {
+        return Ok(());
     }
-    Ok(())
+    events.push_again(first, usize::from(count) - 1)
 }
 
 // Adds an event.
@@ -222,7 +222,7 @@ fn add_reset<A: Allocator>(
     events: &mut Trace<A>,
 ) -> Result<(), OutOfMemory> {
     if let Some(first) = resets[usize::from(byte)] {
-        return events.push_again(first as usize);
+        return events.push_again(first as usize, 1);
     }
     let Ok(image) = Image::new(alloc, &[byte; MEMORY_BYTES]) else {
         return Err(OutOfMemory);

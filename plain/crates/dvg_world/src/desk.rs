@@ -67,6 +67,7 @@ impl<A: Allocator> Desk<A> {
 
     /// The driver does one action. It is told whether the generator is halted, and the byte at 001
     /// of the RAM.
+    #[inline(always)]
     pub fn tick(&mut self, halted: bool, byte1: u8) -> Action {
         self.driver.tick(halted, byte1)
     }

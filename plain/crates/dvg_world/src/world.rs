@@ -95,6 +95,7 @@ impl<S: Store> World<S> {
     }
 
     /// The driver is handed a draft to show, as by `Event::Offer`.
+    #[inline(always)]
     pub fn offer(&mut self, draft: &Draft) -> OwnEntry<S::Alloc> {
         // A draft has at most 511 operations, as its type says.
         let _ = draft.len();
@@ -102,11 +103,13 @@ impl<S: Store> World<S> {
     }
 
     /// The driver is asked to have the published frame drawn again, as by `Event::Redraw`.
+    #[inline(always)]
     pub fn redraw(&mut self) -> OwnEntry<S::Alloc> {
         self.desk.redraw()
     }
 
     /// The driver does one action, as by `Event::Tick`.
+    #[inline(always)]
     pub fn tick(&mut self) -> OwnEntry<S::Alloc> {
         let byte1 = self.store.read(1);
         let action = self.desk.tick(self.generator.halted(), byte1);
@@ -115,6 +118,7 @@ impl<S: Store> World<S> {
     }
 
     // Does a write in the store, and puts a strobe under way.
+    #[inline(always)]
     fn perform(&mut self, action: Action) {
         match action {
             Action::Wrote(a, byte) => self.store.write(a, byte),
@@ -124,6 +128,7 @@ impl<S: Store> World<S> {
     }
 
     /// A strobe reaches the generator, if the driver has sent one, as by `Event::Strobe`.
+    #[inline(always)]
     pub fn strobe(&mut self) -> OwnEntry<S::Alloc> {
         if !self.strobe_sent {
             return Entry::NoStrobe;
@@ -135,6 +140,7 @@ impl<S: Store> World<S> {
     /// The generator fetches one byte, as by `Event::Fetch`. This is the one event that takes
     /// memory, for the stroke of a vector with an intensity of at least 1. The only error is lack
     /// of memory, and then the world is as it was.
+    #[inline(always)]
     pub fn fetch(&mut self) -> Result<OwnEntry<S::Alloc>, OutOfMemory> {
         let Some(address) = self.generator.wants() else {
             return Ok(Entry::Still);
@@ -146,18 +152,21 @@ impl<S: Store> World<S> {
     }
 
     /// The generator is reset, as by `Event::ResetGen`.
+    #[inline(always)]
     pub fn reset_generator(&mut self) -> OwnEntry<S::Alloc> {
         self.generator.reset(); // The open run is over.
         Entry::Cleared
     }
 
     /// The driver is reset, as by `Event::ResetCpu`.
+    #[inline(always)]
     pub fn reset_processor(&mut self) -> OwnEntry<S::Alloc> {
         self.desk.reset();
         Entry::Cleared
     }
 
     /// The whole system is reset, and the RAM holds this image, as by `Event::ResetAll`.
+    #[inline(always)]
     pub fn reset_all(&mut self, image: &Image<S::Alloc>) -> OwnEntry<S::Alloc> {
         self.store.load(image);
         self.generator.reset();
