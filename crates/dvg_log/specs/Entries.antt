@@ -1,5 +1,5 @@
 -- Entries without where their strokes lie in memory.
-use Rattle.std.specs.Prelude.{ℕ, List, Some, None, Vec}
+use Rattle.std.specs.Prelude.{ℕ, List, Option, Some, None, Vec}
 use Rattle.dvg_gen.specs.declared.stroke.Stroke.{Stroke}
 use Rattle.dvg_gen.specs.Bytes.{Met, Waits, Whole}
 use Rattle.dvg_gen.specs.declared.taken.GenFault.TheVariants.{Hole}
@@ -25,6 +25,11 @@ map_entry f (Done address word drew) = Done address word (f drew)
 map_entry f (Broke address fault) = Broke address fault
 map_entry f Still = Still
 map_entry f Cleared = Cleared
+
+-- what the run of an entry drew, if it finished
+abbrev pub drew_in : {S : Type 0} → Entry S → Option S
+drew_in (Done address word drew) = Some drew
+drew_in _ = None
 
 -- an entry whose strokes are a list
 abbrev pub Shown : Type 0

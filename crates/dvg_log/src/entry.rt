@@ -1,7 +1,7 @@
 //! What a log shows of an event.
 ghost use Rattle.std.specs.Prelude.{◌≡◌};
 ghost use Rattle.dvg_gen.specs.Bytes.{met};
-ghost use Rattle.dvg_log.specs.Entries.{entry_by, shown_of};
+ghost use Rattle.dvg_log.specs.Entries.{drew_in, entry_by, map_entry, shown_of};
 
 use dvg_driver::Action;
 use dvg_frame::FrameFault;
@@ -67,5 +67,34 @@ impl<A: Allocator> Entry<Vec<Stroke, A>> {
             Taken::Done(strokes) => Entry::Done(address, word, strokes),
             Taken::Broke(fault) => Entry::Broke(address, fault),
         }
+    }
+}
+
+impl<S> Entry<S> {
+    /// The same entry, with this in place of what the run drew; and what it drew, if it finished.
+    #[inline(always)]
+    pub fn replace<T: Copy>(self, other: T) -> (Entry<T>, Option<S>)
+        ensures entry { result.0 ≡ map_entry (λ _. other) self }
+        ensures drew { result.1 ≡ drew_in self }
+    {
+        let entry = match self {
+            Entry::Done(address, word, drew) => {
+                return (Entry::Done(address, word, other), Some(drew));
+            }
+            Entry::Offered => Entry::Offered,
+            Entry::Refused(fault) => Entry::Refused(fault),
+            Entry::Busy => Entry::Busy,
+            Entry::Asked => Entry::Asked,
+            Entry::NothingPublished => Entry::NothingPublished,
+            Entry::Acted(action) => Entry::Acted(action),
+            Entry::Started => Entry::Started,
+            Entry::NoStrobe => Entry::NoStrobe,
+            Entry::Low(address, byte) => Entry::Low(address, byte),
+            Entry::Fetched(address, word) => Entry::Fetched(address, word),
+            Entry::Broke(address, fault) => Entry::Broke(address, fault),
+            Entry::Still => Entry::Still,
+            Entry::Cleared => Entry::Cleared,
+        };
+        (entry, None)
     }
 }

@@ -4,7 +4,8 @@ use Rattle.dvg_gen.specs.declared.stroke.Stroke.{Stroke}
 use Rattle.dvg_gen.specs.Numbers.{fault_number}
 use Rattle.dvg_driver.specs.declared.action.Action.{Action}
 use Rattle.dvg_driver.specs.declared.action.Action.TheVariants.{Peek, Wrote, Read, Sent, Idle}
-use Rattle.dvg_log.specs.Entries.{Shown}
+use Rattle.dvg_log.specs.Entries.{Shown, map_entry}
+use Rattle.dvg_log.specs.declared.entry.Entry.{Entry}
 use Rattle.dvg_log.specs.declared.entry.Entry.TheVariants.{Offered, Refused, Busy, Asked, NothingPublished, Acted}
 use Rattle.dvg_log.specs.declared.entry.Entry.TheVariants.{Started, NoStrobe, Low, Fetched, Done, Broke, Still, Cleared}
 use Rattle.dvg_print.specs.Lines.{hex_2, hex_3, hex_4, spaced}
@@ -19,8 +20,8 @@ action_parts (Read false) = codes "read running" ∷ []
 action_parts Sent = codes "sent" ∷ []
 action_parts Idle = codes "idle" ∷ []
 
--- the parts of an entry's text
-abbrev pub entry_parts : Shown → List (List ℕ)
+-- the parts of an entry's text; a finished run has the number of its strokes
+abbrev pub entry_parts : Entry ℕ → List (List ℕ)
 entry_parts Offered = codes "offered" ∷ []
 entry_parts (Refused fault) = codes "refused" ∷ fault_parts fault
 entry_parts Busy = codes "busy" ∷ []
@@ -31,7 +32,7 @@ entry_parts Started = codes "started" ∷ []
 entry_parts NoStrobe = codes "no strobe" ∷ []
 entry_parts (Low address byte) = codes "low" ∷ hex_3 address ∷ hex_2 byte ∷ []
 entry_parts (Fetched address word) = codes "fetched" ∷ hex_3 address ∷ hex_4 word ∷ []
-entry_parts (Done address word drew) = codes "done" ∷ hex_3 address ∷ hex_4 word ∷ decimal (length drew) ∷ []
+entry_parts (Done address word strokes) = codes "done" ∷ hex_3 address ∷ hex_4 word ∷ decimal strokes ∷ []
 entry_parts (Broke address fault) = codes "broke" ∷ hex_3 address ∷ decimal (fault_number fault) ∷ []
 entry_parts Still = codes "still" ∷ []
 entry_parts Cleared = codes "cleared" ∷ []
@@ -47,7 +48,7 @@ strokes_of (Done address word drew) = flat_map stroke_line drew
 strokes_of _ = []
 
 -- the line of an entry: its event's number and its text
-abbrev pub entry_line : ℕ → Shown → List ℕ
+abbrev pub entry_line : ℕ → Entry ℕ → List ℕ
 entry_line number entry = decimal number ++ spaced (entry_parts entry) ++ 10 ∷ []
 
 -- the line of a picture: the event's number and how many strokes there are; none for another entry
@@ -58,7 +59,7 @@ picture_line number _ = []
 
 -- the first line that is shown of an entry: with `all` of each, and else of finished runs alone
 abbrev pub head_line : Bool → ℕ → Shown → List ℕ
-head_line true number entry = entry_line number entry
+head_line true number entry = entry_line number (map_entry (λ drew. length drew) entry)
 head_line false number entry = picture_line number entry
 
 -- what is shown of one entry

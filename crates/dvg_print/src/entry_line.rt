@@ -1,12 +1,10 @@
 //! Lines of entries, which are numbered.
-ghost use Rattle.std.specs.Prelude.{◌≡◌, ◌+◌, ◌^◌, ◌<◌, ◌≤◌, [], length, take};
-ghost use Rattle.dvg_log.specs.Entries.{shown_of};
-ghost use Rattle.dvg_print.specs.Numbering.{ComesBefore};
+ghost use Rattle.std.specs.Prelude.{◌≡◌, ◌+◌, ◌^◌, ◌<◌, []};
+ghost use Rattle.dvg_log.specs.Entries.{map_entry};
 ghost use Rattle.dvg_print.specs.Shows.{entry_line};
 
 use crate::line::Line;
-use dvg_log::OwnEntry;
-use std::alloc::Allocator;
+use dvg_log::Entry;
 use std::marker::Model;
 
 /// The lines that `play --all` writes of entries: it becomes one after the other. The digits of an
@@ -53,16 +51,17 @@ impl EntryLine {
         self.line.as_bytes()
     }
 
-    /// Becomes the line of the next entry.
-    pub fn become_next<A: Allocator>(&mut self, entry: &OwnEntry<A>)
+    /// Becomes the line of the next entry. A finished run drew this many strokes.
+    pub fn become_next<S>(&mut self, entry: &Entry<S>, drew: usize)
         requires { self.old.next + 1 < 2 ^ 64 }
-        ensures text { self.new.text ≡ entry_line self.old.next (shown_of entry.now) }
+        ensures text { self.new.text
+            ≡ entry_line self.old.next (map_entry (λ _. drew) entry.now) }
         ensures next { self.new.next ≡ self.old.next + 1 }
     {
         self.line.keep(self.digits);
         self.line.count_on(self.next);
         self.digits = self.line.as_bytes().len();
-        self.line.entry(entry);
+        self.line.entry(entry, drew);
         self.line.text(b"\n");
         self.next += 1;
     }

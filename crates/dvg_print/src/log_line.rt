@@ -1,14 +1,13 @@
 //! Lines of what a log shows.
-ghost use Rattle.std.specs.Prelude.{◌≡◌, ◌≤◌, ◌+◌, ◌++◌, ◌∷◌, [], ℕ, length, codes, decimal};
-ghost use Rattle.dvg_log.specs.Entries.{shown_of};
+ghost use Rattle.std.specs.Prelude.{◌≡◌, ◌≤◌, ◌+◌, ◌++◌, ◌∷◌, [], length, codes, decimal};
+ghost use Rattle.dvg_log.specs.Entries.{map_entry};
 ghost use Rattle.dvg_print.specs.Lines.{hex_3, hex_4, spaced};
 ghost use Rattle.dvg_print.specs.Shows.{action_parts, entry_parts, stroke_line};
 
 use crate::line::Line;
 use dvg_driver::Action;
 use dvg_gen::Stroke;
-use dvg_log::{Entry, OwnEntry};
-use std::alloc::Allocator;
+use dvg_log::Entry;
 
 impl Line {
     // Appends what an action did.
@@ -41,11 +40,12 @@ impl Line {
         self.hex_4(word);
     }
 
-    // Appends what an event led to.
+    // Appends what an event led to. A finished run drew this many strokes.
     #[inline(always)]
-    pub(crate) fn entry<A: Allocator>(&mut self, entry: &OwnEntry<A>)
+    pub(crate) fn entry<S>(&mut self, entry: &Entry<S>, drew: usize)
         requires { length self.old + 36 ≤ 64 }
-        ensures text { self.new ≡ self.old ++ spaced (entry_parts (shown_of entry.now)) }
+        ensures text { self.new
+            ≡ self.old ++ spaced (entry_parts (map_entry (λ _. drew) entry.now)) }
         ensures grew { length self.new ≤ length self.old + 36 }
     {
         match entry {
@@ -65,9 +65,9 @@ impl Line {
                 self.hex_2(*byte);
             }
             Entry::Fetched(address, word) => self.fetched(b"fetched", *address, *word),
-            Entry::Done(address, word, strokes) => {
+            Entry::Done(address, word, _) => {
                 self.fetched(b"done", *address, *word);
-                self.number(strokes.len());
+                self.number(drew);
             }
             Entry::Broke(address, fault) => {
                 self.with_address(b"broke", *address);
