@@ -1,3 +1,5 @@
 -- What only private contracts cite.
 pub mod Stepping
 pub mod Leaving
+pub mod Entries
+pub mod Logging

@@ -1,6 +1,6 @@
-//! Whole runs of which the pictures alone are kept.
+//! The pictures of a trace.
 ghost use Rattle.std.specs.Prelude.{◌≡◌, [], false};
-ghost use Rattle.dvg_world.specs.Pictures.{Draws};
+ghost use Rattle.dvg_world.specs.Kept.{Draws};
 
 use crate::happens::happen_of;
 use crate::world::World;

@@ -1,0 +1,53 @@
+-- What is kept of the events of a trace.
+use Rattle.std.specs.Prelude.{◌≡◌, ◌<◌, ◌≤◌, ℕ, ◌⊎◌, List, [], ◌∷◌, ◌++◌, length, get_or, map, reverse, Bool, true, false}
+use Rattle.dvg_gen.specs.declared.stroke.Stroke.{Stroke}
+use Rattle.dvg_log.specs.declared.entry.Entry.{Entry}
+use Rattle.dvg_log.specs.declared.entry.Entry.TheVariants.{Done}
+use Rattle.dvg_log.specs.Entries.{Shown, map_entry}
+use Rattle.dvg_log.specs.Events.{Happening}
+use Rattle.dvg_log.specs.Headline.{KeepsHeadline}
+use Rattle.dvg_log.specs.Legal.{IsLegal}
+use Rattle.dvg_log.specs.Log.{Log, Throughout, ◌⟼◌, events_of}
+use Rattle.dvg_world.specs.Wanting.{TakesMemory}
+
+-- the next event is one that takes memory
+abbrev pub TakesMemoryNext : List ℕ → List ℕ → Log → (later : List Happening) → Type 0
+TakesMemoryNext R image log [] = ⊥
+TakesMemoryNext R image log (event ∷ later) = TakesMemory R image log event
+
+-- no event is left; or, of a run that isn't whole, none happened, or the next one takes memory
+abbrev pub IsEndOf : (is_whole : Bool) → List ℕ → List ℕ → Log → (later : List Happening) → Type 0
+IsEndOf true R image log later = later ≡ []
+IsEndOf false R image log later = (log ≡ []) ⊎ TakesMemoryNext R image log later
+
+-- the events, or the first of them, have this legal log, and each of its lines keeps the headline; and what is kept of
+-- it is so
+pub record Happened (R image : List ℕ) (events : List Happening) (is_whole : Bool) (IsKept : Log → Type 0)
+    : Type 0 where
+  pub log : Log
+  pub later : List Happening
+  pub in_order : events ≡ reverse (events_of log) ++ later
+  pub legal : IsLegal R image log
+  pub headline : Throughout (KeepsHeadline R image) log
+  pub kept : IsKept log
+  pub ends : IsEndOf is_whole R image log later
+
+-- the entries of a log, oldest first
+abbrev pub entries_in : Log → List Shown
+entries_in [] = []
+entries_in ((event ⟼ entry) ∷ log) = entries_in log ++ entry ∷ []
+
+-- the pictures of a log, oldest first: each has the number of the event that finished its run, and the strokes
+abbrev pub pictures_of : Log → List (ℕ × List Stroke)
+pictures_of [] = []
+pictures_of ((event ⟼ Done address word strokes) ∷ log) = pictures_of log ++ (length log, strokes) ∷ []
+pictures_of (line ∷ log) = pictures_of log
+
+-- an entry that has the number of its picture, by the strokes of all pictures
+abbrev pub entry_among : List (List Stroke) → Entry ℕ → Shown
+entry_among drawn entry = map_entry (λ number. get_or drawn number []) entry
+
+-- what the run of an entry drew, or nothing
+abbrev pub strokes_in : Shown → List Stroke
+strokes_in (Done address word drew) = drew
+strokes_in _ = []

@@ -1,0 +1,16 @@
+-- What is kept where all entries are.
+use Rattle.std.specs.Prelude.{◌≡◌, ◌-◌, ℕ, length, map, min, vec_capacity, vec_len}
+use Rattle.dvg_log.specs.Log.{Log}
+use Rattle.dvg_world.specs.declared.logging.EntriesKept.{EntriesKept}
+use Rattle.dvg_world.specs.Keeping.{entries_in, entry_among}
+use Rattle.dvg_world.specs.own.Entries.{AreEntries}
+
+-- they are the entries of a log, and the strokes of its pictures
+abbrev pub AreKept : {A : Type 0} → EntriesKept A → Log → Type 0
+AreKept entries log = AreEntries entries.kept.items (length entries.drawn.items)
+    × (map (entry_among (map (λ strokes. strokes.items) entries.drawn.items)) entries.kept.items ≡ entries_in log)
+
+-- for how many entries more there is room
+abbrev pub room_left : {A : Type 0} → EntriesKept A → ℕ
+room_left entries = min (min (vec_capacity entries.kept) 65536 - vec_len entries.kept)
+    (min (vec_capacity entries.drawn) 65536 - vec_len entries.drawn)
