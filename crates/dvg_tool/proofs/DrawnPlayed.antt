@@ -1,5 +1,5 @@
--- From the pictures of a trace that was read to what is shown of its log.
-use Rattle.std.proofs.Common.{◌≡◌, ℕ, ◌+◌, ◌<◌, List, [], ◌∷◌, ◌++◌, map, flat_map, reverse, length, drop, get_or, refl, sym, ap, ◌∙◌, subst, suc, Bool, true, false, Vec, append_assoc, append-nil, add-one, arith}
+-- From what is kept of a trace that was read to what is shown of its log.
+use Rattle.std.proofs.Common.{◌≡◌, ℕ, ◌+◌, ◌<◌, List, [], ◌∷◌, ◌++◌, map, flat_map, reverse, length, drop, take, get_or, refl, sym, ap, ◌∙◌, subst, suc, Bool, true, false, Vec, append_assoc, append-nil, add-one, arith}
 use Rattle.std.proofs.lemmas.List.{drop_more, length-map, length-reverse, map-append, reverse-append}
 use Rattle.std.proofs.lemmas.Grind.{flat_map-append}
 use Rattle.dvg_gen.specs.declared.stroke.Stroke.{Stroke}
@@ -10,14 +10,16 @@ use Rattle.dvg_log.specs.Log.{Line, Log, ◌⟼◌, events_of}
 use Rattle.dvg_print.specs.Shows.{shown, shown_entry}
 use Rattle.dvg_world.specs.declared.pictures.Drawn.{Drawn}
 use Rattle.dvg_world.specs.declared.pictures.Picture.{Picture}
-use Rattle.dvg_world.specs.Pictures.{Draws, picture_seen, pictures_of}
+use Rattle.dvg_world.specs.declared.logging.Logged.{Logged}
+use Rattle.dvg_world.specs.Keeping.{Happened, entries_in, pictures_of}
+use Rattle.dvg_world.specs.Kept.{Draws, Logs, picture_seen}
 use Rattle.dvg_io.specs.Serving.{OfInput}
 use Rattle.dvg_io.proofs.Inputs.{whole}
 use Rattle.dvg_read.specs.TraceGives.{GivesTrace}
-use Rattle.dvg_tool.specs.Plays.{IsDrawn, entry_of, event_of, log_text, picture_text, zeros}
+use Rattle.dvg_tool.specs.Plays.{IsDrawn, IsLogged, IsShown, drawn_shown, entry_of, event_of, log_text, logged_shown, picture_text, zeros}
 
 -- the events of a log, oldest first
-events_shown : (log : Log) → reverse (events_of log) ≡ map event_of (reverse log)
+pub events_shown : (log : Log) → reverse (events_of log) ≡ map event_of (reverse log)
 events_shown [] = refl
 events_shown ((event ⟼ entry) ∷ log) =
     reverse-append (event ∷ []) (events_of log)
@@ -62,23 +64,43 @@ pub text_of_pictures : (log : Log) → log_text false log ≡ flat_map picture_t
 text_of_pictures [] = refl
 text_of_pictures ((event ⟼ entry) ∷ log) = log_more false (event ⟼ entry) log ∙ shown_by event entry log (text_of_pictures log)
 
--- what is drawn of a trace that was read is drawn of the input
-pub finds_drawn : {A : Type 0} (read R : List ℕ) (events : List Happening) (drawn : Drawn A) → GivesTrace read events R → Draws R zeros events drawn
-    → OfInput 1048576 read (λ input. IsDrawn input drawn)
-finds_drawn read R events drawn gives draws input e = record {
-  log = draws.log;
-  later = draws.later;
+-- what happened by a trace that was read, happened by the input
+pub played_so : {read R : List ℕ} {events : List Happening} {is_whole : Bool} {IsKept : Log → Type 0} (all : Bool) (text : List ℕ) (input : List ℕ) → GivesTrace read events R → read ≡ take 1048577 input
+    → Happened R zeros events is_whole IsKept → ((log : Log) → IsKept log → text ≡ log_text all log) → IsShown all is_whole input text
+played_so {read} {R} {events} {is_whole} {IsKept} all text input gives e happened shows = record {
+  log = happened.log;
+  later = happened.later;
   played = record {
     events = events;
     R = R;
     gives = subst (λ text. GivesTrace text events R) (whole 1048576 read input e gives.denotes.short) gives;
-    legal = draws.legal;
-    headline = draws.headline;
-    in_order = draws.in_order ∙ ap (λ l. l ++ draws.later) (events_shown draws.log);
+    legal = happened.legal;
+    headline = happened.headline;
+    in_order = happened.in_order ∙ ap (λ l. l ++ happened.later) (events_shown happened.log);
   };
-  ends = draws.ends;
-  holds = ap (flat_map picture_text) draws.pictures ∙ sym (text_of_pictures draws.log);
+  ends = happened.ends;
+  holds = shows happened.log happened.kept;
 }
+
+-- what is drawn of a trace that was read is drawn of the input
+pub finds_drawn : {A : Type 0} (read R : List ℕ) (events : List Happening) (drawn : Drawn A) → GivesTrace read events R → Draws R zeros events drawn
+    → OfInput 1048576 read (λ input. IsDrawn input drawn)
+finds_drawn read R events drawn gives draws input e =
+    played_so false (drawn_shown drawn) input gives e draws (λ log kept. ap (flat_map picture_text) kept ∙ sym (text_of_pictures log))
+
+-- the entries of a log, as they are shown
+entries_shown : (log : Log) → entries_in log ≡ map entry_of (reverse log)
+entries_shown [] = refl
+entries_shown ((event ⟼ entry) ∷ log) =
+    ap (λ entries. entries ++ entry ∷ []) (entries_shown log)
+    ∙ sym (map-append entry_of (reverse log) ((event ⟼ entry) ∷ []))
+    ∙ ap (map entry_of) (sym (reverse-append ((event ⟼ entry) ∷ []) log))
+
+-- so are its entries
+pub finds_logged : {A : Type 0} (read R : List ℕ) (events : List Happening) (logged : Logged A) → GivesTrace read events R → Logs R zeros events logged
+    → OfInput 1048576 read (λ input. IsLogged input logged)
+finds_logged read R events logged gives logs input e =
+    played_so true (logged_shown logged) input gives e logs (λ log kept. ap (shown true 0) (kept ∙ entries_shown log))
 
 -- the next picture is that at this index
 pub next_picture : {A : Type 0} (pictures : List (Picture A)) (i : ℕ) (picture : Picture A) → i < length pictures → picture ≡ get_or pictures i picture

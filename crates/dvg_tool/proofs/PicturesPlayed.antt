@@ -1,13 +1,11 @@
 -- From the log of a trace to its pictures.
-use Rattle.std.proofs.Common.{◌≡◌, ℕ, List, [], ◌∷◌, ◌++◌, Option, Result, Ok, Err, IfErr, IfOk, Vec, length, map, reverse, flat_map, append_assoc, ap, refl, subst, sym, ◌∙◌, arith}
+use Rattle.std.proofs.Common.{◌≡◌, ℕ, List, [], ◌∷◌, ◌++◌, Bool, true, Option, Result, Ok, Err, IfErr, IfOk, Vec, map, ap, refl, subst, sym, ◌∙◌}
 use Rattle.dvg_gen.specs.declared.stroke.Stroke.{Stroke}
-use Rattle.dvg_log.specs.declared.entry.Entry.TheVariants.{Done}
-use Rattle.dvg_log.specs.Entries.{OwnEntry, shown_of}
 use Rattle.dvg_log.specs.Events.{Happening}
-use Rattle.dvg_log.specs.Headline.{KeepsHeadline}
-use Rattle.dvg_log.specs.Legal.{IsLegal}
-use Rattle.dvg_log.specs.Log.{Throughout}
-use Rattle.dvg_world.specs.Runs.{log_of}
+use Rattle.dvg_world.specs.declared.pictures.Drawn.{Drawn}
+use Rattle.dvg_world.specs.declared.pictures.Picture.{Picture}
+use Rattle.dvg_world.specs.Keeping.{IsEndOf}
+use Rattle.dvg_world.specs.Kept.{Draws, picture_seen}
 use Rattle.dvg_read.specs.TraceGives.{GivesTrace}
 use Rattle.dvg_read.specs.TraceTexts.{HasTraceFault}
 use Rattle.dvg_io.specs.declared.fault.ToolFault.{ToolFault}
@@ -16,17 +14,14 @@ use Rattle.dvg_io.specs.Serving.{Answers, IsFinding, OfInput}
 use Rattle.dvg_io.proofs.Inputs.{whole}
 use Rattle.dvg_svg.specs.declared.show.Show.{Show}
 use Rattle.dvg_svg.specs.Svg.{strokes_of, svgs_text}
-use Rattle.dvg_tool.specs.Plays.{IsPlayed, entry_of, zeros}
-use Rattle.dvg_tool.specs.PlaysSvg.{PlaysSvg, ShowsPictures, picture_of, pictures_of}
-use Rattle.dvg_tool.proofs.Played.{log_entries, played_whole}
-use Rattle.dvg_tool.proofs.Shown.{IsNoPicture}
+use Rattle.dvg_tool.specs.Plays.{zeros}
+use Rattle.dvg_tool.specs.PlaysSvg.{PlaysSvg, ShowsPictures}
+use Rattle.dvg_tool.proofs.DrawnPlayed.{events_shown}
 
--- the pictures of a log that was played whole are those of its entries
-pub pictures_shown : {A : Type 0} (text R : List ℕ) (events : List Happening) (entries : List (OwnEntry A)) (pictures : List (List Stroke)) → GivesTrace text events R
-    → IsLegal R zeros (log_of events entries) → Throughout (KeepsHeadline R zeros) (log_of events entries) → length entries ≡ length events
-    → pictures ≡ flat_map picture_of (map shown_of entries) → ShowsPictures text pictures
-pictures_shown text R events entries pictures gives legal headline all is =
-    (log_of events entries, played_whole text R events entries gives legal headline all, is ∙ sym (ap (flat_map picture_of) (log_entries events entries (omega arith))))
+-- the strokes of pictures
+strokes_seen : {A : Type 0} (pictures : List (Picture A)) → map (λ picture. picture.strokes.items) pictures ≡ map (λ (picture : ℕ × List Stroke). picture.1) (map picture_seen pictures)
+strokes_seen [] = refl
+strokes_seen (picture ∷ pictures) = ap (λ rest. picture.strokes.items ∷ rest) (strokes_seen pictures)
 
 -- where it stops
 pub stops : (A T : Type 0) (show : Show) (fault : ToolFault) (old new : Option (List ℕ)) (input : List ℕ)
@@ -37,12 +32,19 @@ stops A T show Reader old new input h = tt
 stops A T show Memory old new input h = tt
 stops A T show Writer old new input (pictures, found, begun) = (strokes_of pictures.items, found, begun)
 
-pub drawn : {A : Type 0} (R : List ℕ) (events : List Happening) (entries : List (OwnEntry A)) (answer : Result (Vec (Vec Stroke A) A) ToolFault)
-    → IsLegal R zeros (log_of events entries) → Throughout (KeepsHeadline R zeros) (log_of events entries) → length entries ≡ length events
-    → IfOk answer (λ pictures. strokes_of pictures.items ≡ flat_map picture_of (map shown_of entries))
+-- the pictures of a trace of which all events happened are those of a log that was played whole
+pub drawn_whole : {A : Type 0} (R : List ℕ) (events : List Happening) (drawn : Drawn A) (answer : Result (Vec (Vec Stroke A) A) ToolFault) → Draws R zeros events drawn → drawn.is_whole ≡ true
+    → IfOk answer (λ pictures. strokes_of pictures.items ≡ map (λ picture. picture.strokes.items) drawn.pictures.items)
     → IfOk answer (λ pictures. (text : List ℕ) → GivesTrace text events R → ShowsPictures text (strokes_of pictures.items))
-drawn R events entries (Ok pictures) legal headline all is = λ text gives. pictures_shown text R events entries (strokes_of pictures.items) gives legal headline all is
-drawn R events entries (Err fault) legal headline all is = tt
+drawn_whole R events drawn (Ok pictures) draws all is = λ text gives. (draws.log, record {
+  events = events;
+  R = R;
+  gives = gives;
+  legal = draws.legal;
+  headline = draws.headline;
+  in_order = draws.in_order ∙ (λ i. events_shown draws.log i ++ (subst (λ is_whole. IsEndOf is_whole R zeros draws.log draws.later) all draws.ends) i);
+}, is ∙ strokes_seen drawn.pictures.items ∙ ap (map (λ picture. picture.1)) draws.kept)
+drawn_whole R events drawn (Err fault) draws all is = tt
 
 -- what is found of a trace that was read is found of the input
 abbrev pub Finds : {A : Type 0} → (input : List ℕ) → Vec (Vec Stroke A) A → Type 0

@@ -1,22 +1,27 @@
 -- What is shown of entries, one after the other.
-use Rattle.std.proofs.Common.{◌≡◌, ℕ, ◌+◌, ◌<◌, List, [], ◌∷◌, ◌++◌, map, length, drop, get_or, Bool, refl, sym, ap, ◌∙◌, Vec, add-one}
+use Rattle.std.proofs.Common.{◌≡◌, ℕ, ◌+◌, ◌<◌, List, [], ◌∷◌, ◌++◌, length, drop, get_or, flat_map, Some, slice_get, Bool, true, refl, sym, ap, ◌∙◌, add-one}
 use Rattle.std.proofs.lemmas.List.{drop_more}
+use Rattle.std.proofs.lemmas.Option.{slice_get_within, get_or_from_slice_get}
 use Rattle.dvg_gen.specs.declared.stroke.Stroke.{Stroke}
+use Rattle.dvg_log.specs.declared.entry.Entry.{Entry}
 use Rattle.dvg_log.specs.declared.entry.Entry.TheVariants.{Done}
-use Rattle.dvg_log.specs.Entries.{OwnEntry, shown_of}
-use Rattle.dvg_print.specs.Shows.{shown, shown_entry, strokes_of}
+use Rattle.dvg_log.specs.Entries.{Shown, map_entry}
+use Rattle.dvg_print.specs.Shows.{shown, shown_entry, stroke_line, strokes_of}
+use Rattle.dvg_world.specs.Keeping.{strokes_in}
 
--- the entry isn't one of a finished run
-abbrev pub IsNoPicture : {A : Type 0} → OwnEntry A → Type 0
-IsNoPicture {A = A} entry = (address word : ℕ) (strokes : Vec Stroke A) → entry ≡ Done address word strokes → ⊥
+-- the number of the strokes that stand in an entry
+pub counted : (strokes : List Stroke) (entry : Entry ℕ) → map_entry (λ _. length strokes) entry ≡ map_entry (λ drew. length drew) (map_entry (λ _. strokes) entry)
+counted strokes (Done address word number) = refl
+counted strokes _ = refl
 
-pub no_strokes : {A : Type 0} (entry : OwnEntry A) → IsNoPicture entry → [] ≡ strokes_of (shown_of entry)
-no_strokes (Done address word strokes) none = absurd (none address word strokes refl)
-no_strokes _ none = refl
+-- the lines of what an entry's run drew
+pub lines_drawn : (entry : Shown) → strokes_of entry ≡ flat_map stroke_line (strokes_in entry)
+lines_drawn (Done address word drew) = refl
+lines_drawn _ = refl
 
 -- the next entry is that at this index
-pub next_entry : {A : Type 0} (all : Bool) (entries : List (OwnEntry A)) (i : ℕ) (entry : OwnEntry A) → i < length entries → entry ≡ get_or entries i entry
-    → shown all i (map shown_of (drop i entries)) ≡ shown_entry all i (shown_of entry) ++ shown all (i + 1) (map shown_of (drop (i + 1) entries))
-next_entry all entries i entry low is =
-    ap (λ l. shown all i (map shown_of l)) (drop_more entries i entry low ∙ ap (λ e. e ∷ drop (i + 1) entries) (sym is))
-    ∙ ap (λ n. shown_entry all i (shown_of entry) ++ shown all n (map shown_of (drop (i + 1) entries))) (sym (add-one i))
+pub next_entry : (all : Bool) (entries : List Shown) (i : ℕ) (entry : Shown) → slice_get entries i ≡ Some entry
+    → shown all i (drop i entries) ≡ shown_entry all i entry ++ shown all (i + 1) (drop (i + 1) entries)
+next_entry all entries i entry at =
+    ap (shown all i) (drop_more entries i entry (slice_get_within entries i entry at) ∙ ap (λ e. e ∷ drop (i + 1) entries) (get_or_from_slice_get entries i entry entry at))
+    ∙ ap (λ n. shown_entry all i entry ++ shown all n (drop (i + 1) entries)) (sym (add-one i))

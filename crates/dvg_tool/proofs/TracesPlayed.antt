@@ -1,18 +1,11 @@
 -- From what was read of a trace to what the reader had.
 use Rattle.std.proofs.Common.{◌≡◌, ℕ, List, [], inl, inr, ⊎_elim, Bool, true, false, Option, Result, Ok, Err, IfErr, IfOk, Vec, length, take, drop, length-take, ap, refl, subst, sym, arith}
 use Rattle.std.specs.Io.KnownBytes.{Appends}
-use Rattle.dvg_log.specs.Entries.{OwnEntry}
-use Rattle.dvg_log.specs.Events.{Happening}
-use Rattle.dvg_log.specs.Headline.{KeepsHeadline}
-use Rattle.dvg_log.specs.Legal.{IsLegal}
-use Rattle.dvg_log.specs.Log.{Log, Throughout}
-use Rattle.dvg_world.specs.declared.stopped.Stopped.{Stopped}
-use Rattle.dvg_world.specs.Runs.{IsStop, log_by, log_of}
 use Rattle.dvg_read.specs.declared.fault.TextFault.{TextFault}
 use Rattle.dvg_read.specs.declared.fault.TextFault.TheVariants.{TooLong, Syntax, Full, Many, Unended}
 use Rattle.dvg_read.specs.declared.fault.TraceFault.{TraceFault}
 use Rattle.dvg_read.specs.declared.fault.TraceFault.TheVariants as of_trace
-use Rattle.dvg_read.specs.TraceGives.{GivesTrace, StopsReading}
+use Rattle.dvg_read.specs.TraceGives.{StopsReading}
 use Rattle.dvg_read.specs.TraceTexts.{HasTraceFault, TraceMeetsSyntax, TraceMeetsFull, MeetsMany, EndsInside}
 use Rattle.dvg_io.specs.declared.fault.ToolFault.{ToolFault}
 use Rattle.dvg_io.specs.declared.fault.ToolFault.TheVariants.{Text, Reader, Writer, Memory}
@@ -22,8 +15,7 @@ use Rattle.dvg_io.specs.Serving.{Answers, IsFinding, OfInput}
 use Rattle.dvg_io.specs.Watching.{BeginsToWrite, stream_of}
 use Rattle.dvg_io.proofs.Inputs.{whole}
 use Rattle.dvg_io.proofs.Known.{Appends-nil}
-use Rattle.dvg_tool.specs.Plays.{IsPlayed, IsRun, IsShown, Plays, StopsBeforeShowing, log_text, zeros}
-use Rattle.dvg_tool.proofs.Played.{PlayedPart, few, log_shown, played_part, played_whole}
+use Rattle.dvg_tool.specs.Plays.{IsPlayed, IsShown, Plays, StopsBeforeShowing, log_text}
 
 -- the fault of what was read is that of the input
 faulted : (fault : TextFault) (input read : List ℕ) → read ≡ take 1048577 input → HasTraceFault read fault → HasTraceFault input fault
@@ -34,37 +26,7 @@ faulted (Many n) input read e h = subst (λ text. MeetsMany text n) (whole 10485
 faulted Unended input read e h = subst EndsInside (whole 1048576 read input e h.short) h
 faulted _ input read e h = absurd h
 
--- what was played of what was read was played of the input
-played : {log : Log} {later : List Happening} (input read : List ℕ) → read ≡ take 1048577 input → IsPlayed read log later → IsPlayed input log later
-played {log = log} {later = later} input read e p = subst (λ text. IsPlayed text log later) (whole 1048576 read input e p.gives.denotes.short) p
-
--- so was a part
-played_so_far : {log : Log} {later : List Happening} (input read : List ℕ) → read ≡ take 1048577 input → PlayedPart read log later → PlayedPart input log later
-played_so_far {log = log} {later = later} input read e p = subst (λ text. PlayedPart text log later) (whole 1048576 read input e p.played.gives.denotes.short) p
-
--- what is found of a trace that was read is found of the input
-pub finds_run : {A : Type 0} (read R : List ℕ) (events : List Happening) (run : Result (Vec (OwnEntry A) A) (Stopped A))
-    → GivesTrace read events R → IsLegal R zeros (log_by events run) → Throughout (KeepsHeadline R zeros) (log_by events run)
-    → IfOk run (λ entries. length entries.items ≡ length events) → IfErr run (λ stopped. length stopped.entries.items ≡ stopped.event)
-    → IfErr run (IsStop R zeros events) → OfInput 1048576 read (λ input. IsRun input run)
-finds_run read R events (Ok entries) gives legal headline all_of_them count early input e = record {
-  log = log_of events entries.items;
-  later = [];
-  played = played input read e (played_whole read R events entries.items gives legal headline all_of_them);
-  ends = refl;
-  holds = log_shown true events entries.items (omega arith);
-}
-finds_run read R events (Err stopped) gives legal headline all_of_them count early input e =
-    let part = played_so_far input read e (played_part read R events stopped gives legal headline count early) in
-    record {
-      log = log_of events stopped.entries.items;
-      later = drop (length stopped.entries.items) events;
-      played = part.played;
-      ends = part.stops;
-      holds = log_shown true events stopped.entries.items (few R events stopped count early);
-    }
-
--- or the trace is at fault, or memory was refused
+-- the trace is at fault, or memory was refused
 misread_by : {F : Type 0} (Finds : List ℕ → F → Type 0) (fault : TraceFault) (read : List ℕ) → StopsReading fault read
     → OfInput 1048576 read (λ input. IsFinding {F = F} (Finds input) (HasTraceFault input) (Err (called fault)))
 misread_by Finds (of_trace.Text fault) read h input e = faulted fault input read e h

@@ -1,17 +1,17 @@
 -- What `play` answers and writes.
 use Rattle.std.specs.Prelude.{◌≡◌, ℕ, ◌⊎◌, List, [], ◌∷◌, ◌++◌, length, map, flat_map, replicate, reverse, codes, decimal}
-use Rattle.std.specs.Prelude.{Bool, true, false, Option, Result, Ok, Err, is_ok, Vec}
+use Rattle.std.specs.Prelude.{Bool, true, false, Option, Result, Ok, Err}
 use Rattle.std.specs.Io.KnownBytes.{Appends}
 use Rattle.dvg_gen.specs.declared.stroke.Stroke.{Stroke}
-use Rattle.dvg_log.specs.Entries.{OwnEntry, Shown, shown_of}
+use Rattle.dvg_log.specs.Entries.{Shown}
 use Rattle.dvg_log.specs.Events.{Happening}
 use Rattle.dvg_log.specs.Headline.{KeepsHeadline}
 use Rattle.dvg_log.specs.Legal.{IsLegal}
 use Rattle.dvg_log.specs.Log.{Line, Log, Throughout, ◌⟼◌}
-use Rattle.dvg_world.specs.declared.stopped.Stopped.{Stopped}
+use Rattle.dvg_world.specs.declared.logging.Logged.{Logged}
 use Rattle.dvg_world.specs.declared.pictures.Drawn.{Drawn}
-use Rattle.dvg_world.specs.Pictures.{IsEndOf, TakesMemoryNext, picture_seen}
-use Rattle.dvg_world.specs.Runs.{entries_of}
+use Rattle.dvg_world.specs.Keeping.{IsEndOf, TakesMemoryNext}
+use Rattle.dvg_world.specs.Kept.{picture_seen}
 use Rattle.dvg_io.specs.declared.fault.ToolFault.{ToolFault}
 use Rattle.dvg_io.specs.declared.fault.ToolFault.TheVariants.{Text, Reader, Writer, Memory}
 use Rattle.dvg_io.specs.Faults.{StopsBeforeWriting}
@@ -70,14 +70,13 @@ abbrev pub IsShown : (all is_whole : Bool) → (text : List ℕ) → (shown : Li
 IsShown all is_whole text shown =
     ShowsUntil all text (λ R log later. IsEndOf is_whole R zeros log later) (λ log. shown ≡ log)
 
--- what is shown of a run, entry by entry (for a private contract)
-abbrev pub run_shown : {A : Type 0} → Result (Vec (OwnEntry A) A) (Stopped A) → List ℕ
-run_shown run = shown true 0 (map shown_of (entries_of run))
+-- what is shown of entries, one by one (for a private contract)
+abbrev pub logged_shown : {A : Type 0} → Logged A → List ℕ
+logged_shown logged = shown true 0 logged.entries
 
--- a log that was played is shown in this way: the whole one, or that of a run that stopped (for a
--- private contract)
-abbrev pub IsRun : {A : Type 0} → (text : List ℕ) → Result (Vec (OwnEntry A) A) (Stopped A) → Type 0
-IsRun text run = IsShown true (is_ok run) text (run_shown run)
+-- the entries of a log that was played are shown in this way (for a private contract)
+abbrev pub IsLogged : {A : Type 0} → (text : List ℕ) → Logged A → Type 0
+IsLogged text logged = IsShown true logged.is_whole text (logged_shown logged)
 
 -- the text of a picture: its line, and one for each of its strokes
 abbrev pub picture_text : ℕ × List Stroke → List ℕ

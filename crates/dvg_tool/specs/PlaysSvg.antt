@@ -1,9 +1,7 @@
 -- What `play_svg` answers and writes.
-use Rattle.std.specs.Prelude.{◌≡◌, ℕ, List, [], ◌∷◌, flat_map, map, reverse, Option, Result, Ok, Err}
+use Rattle.std.specs.Prelude.{◌≡◌, ℕ, List, [], map, Option, Result, Ok, Err}
 use Rattle.std.specs.Io.KnownBytes.{Appends}
 use Rattle.dvg_gen.specs.declared.stroke.Stroke.{Stroke}
-use Rattle.dvg_log.specs.declared.entry.Entry.TheVariants.{Done}
-use Rattle.dvg_log.specs.Entries.{Shown}
 use Rattle.dvg_log.specs.Log.{Log}
 use Rattle.dvg_read.specs.TraceTexts.{HasTraceFault}
 use Rattle.dvg_io.specs.declared.fault.ToolFault.{ToolFault}
@@ -11,20 +9,12 @@ use Rattle.dvg_io.specs.declared.fault.ToolFault.TheVariants.{Text, Writer}
 use Rattle.dvg_io.specs.Watching.{BeginsToWrite}
 use Rattle.dvg_svg.specs.declared.show.Show.{Show}
 use Rattle.dvg_svg.specs.Svg.{svgs_text}
-use Rattle.dvg_tool.specs.Plays.{IsPlayed, entry_of}
-
--- the picture of a finished run, by its strokes; none for another entry
-abbrev pub picture_of : Shown → List (List Stroke)
-picture_of (Done address word drew) = drew ∷ []
-picture_of _ = []
-
--- the pictures of a log's finished runs, the oldest first
-abbrev pub pictures_of : Log → List (List Stroke)
-pictures_of log = flat_map picture_of (map entry_of (reverse log))
+use Rattle.dvg_world.specs.Keeping.{pictures_of}
+use Rattle.dvg_tool.specs.Plays.{IsPlayed}
 
 -- a log was played whole, and these are its pictures
 abbrev pub ShowsPictures : (text : List ℕ) → List (List Stroke) → Type 0
-ShowsPictures text pictures = (log : Log) × IsPlayed text log [] × (pictures ≡ pictures_of log)
+ShowsPictures text pictures = (log : Log) × IsPlayed text log [] × (pictures ≡ map (λ picture. picture.1) (pictures_of log))
 
 -- what `play_svg` answers to an input, and what went out: the pictures of the log, or at `Writer` a
 -- beginning of their text (that nothing went out at the other faults is a part of `Serves`)

@@ -1,15 +1,16 @@
 //! The engine `play` without each entry: the pictures alone.
 ghost use Rattle.std.specs.Prelude.{flat_map, map, false};
 ghost use Rattle.dvg_mem.specs.Memory.{IsRom};
-ghost use Rattle.dvg_world.specs.Pictures.{Draws, picture_seen};
+ghost use Rattle.dvg_world.specs.Kept.{Draws, picture_seen};
 ghost use Rattle.dvg_io.specs.Serving.{AreFresh, Serves};
 ghost use Rattle.dvg_io.specs.Watching.{Writes};
 ghost use Rattle.dvg_read.specs.TraceTexts.{HasTraceFault};
 ghost use Rattle.dvg_tool.specs.Plays.{IsDrawn, Plays, StopsBeforeShowing, drawn_shown};
 ghost use Rattle.dvg_tool.specs.Plays.{picture_text, zeros};
 
+use crate::plays::memory_of;
 use dvg_io::{Engine, StreamFailed, ToolFault, Watched, serve, write_strokes, write_whole};
-use dvg_mem::{Image, MEMORY_BYTES, Rom, Store};
+use dvg_mem::Store;
 use dvg_print::Line;
 use dvg_read::{MOST_TEXT_BYTES, TraceText, read_trace};
 use dvg_world::{Drawn, Picture, draw_trace};
@@ -22,10 +23,7 @@ pub(crate) fn draw_text<S: Store>(alloc: S::Alloc, trace: &TraceText<S::Alloc>) 
     requires { IsRom trace.now.rom.items }
     ensures { Draws trace.now.rom.items zeros trace.now.events result }
 {
-    let Ok(rom) = Rom::new(alloc, trace.rom.as_slice()) else {
-        return Drawn::unstarted(alloc);
-    };
-    let Ok(image) = Image::new(alloc, &[0; MEMORY_BYTES]) else {
+    let Some((rom, image)) = memory_of(alloc, trace) else {
         return Drawn::unstarted(alloc);
     };
     draw_trace::<S>(alloc, rom, &image, &trace.events)

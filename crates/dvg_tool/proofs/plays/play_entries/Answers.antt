@@ -1,9 +1,9 @@
-use Rattle.std.proofs.Common.{ap, ◌∙◌, Err, Ok, is_ok, subst, true}
+use Rattle.std.proofs.Common.{ap, ◌∙◌, Err, true, subst}
 use Rattle.std.specs.Io.KnownBytes.{Appends}
 use Rattle.std.proofs.lemmas.Result.{err_from_is_err_and}
 use Rattle.dvg_io.proofs.Served.{served, served_wanting, unserved}
 use Rattle.dvg_io.specs.Watching.{stream_of}
-use Rattle.dvg_tool.specs.Plays.{IsRun, run_shown}
+use Rattle.dvg_tool.specs.Plays.{IsLogged, IsShown, logged_shown}
 use Rattle.dvg_tool.proofs.TracesPlayed.{earlier, plays_part, plays_whole, stops}
 use Rattle.dvg_tool.proofs.plays.play_entries.Goals as goal
 
@@ -15,24 +15,15 @@ returns-in_err-serve g c =
     let written = c.serve.new.writer in
     unserved g.R.Read.remaining g.W.Write.contents 1048577 _ _ _ _ c.args.reader.now c.serve.new.reader writer written c.from_residual.result fault
     (is.1 ∙ ap Err is.2) (earlier fault)
-    (λ input. stops (Unit {0}) true IsRun is_ok run_shown fault g.W.Write.contents writer written input (λ run found. found) c.in_err-serve.ensures.unwritten) c.in_err-serve.ensures
+    (λ input. stops (Unit {0}) true IsLogged (λ logged. logged.is_whole) logged_shown fault g.W.Write.contents writer written input (λ logged found. found) c.in_err-serve.ensures.unwritten) c.in_err-serve.ensures
 
-pub returns-in-Ok : goal.returns-in-Ok
-returns-in-Ok g c =
-    let old = g.W.Write.contents (stream_of c.args.writer.now) in
-    let new = g.W.Write.contents (stream_of c.serve.new.writer) in
-    served g.R.Read.remaining g.W.Write.contents 1048577 _ _ _ _ c.args.reader.now c.serve.new.reader c.args.writer.now c.serve.new.writer
-    c.in_ok-serve.field-0 (tt {0})
-    (λ input h. plays_whole true (run_shown (Ok c.in-Ok.field-0)) (tt {0}) old new input
-    (subst (λ run. IsRun input run × Appends old new (run_shown run)) c.in-Ok.is h))
-    c.in_ok-serve.ensures
-
-pub returns : goal.returns
-returns g c =
+pub returns-else-branch : goal.returns-else-branch
+returns-else-branch g c =
+    let logged = c.in_ok-serve.field-0 in
     let old = g.W.Write.contents (stream_of c.args.writer.now) in
     let new = g.W.Write.contents (stream_of c.serve.new.writer) in
     served_wanting g.R.Read.remaining g.W.Write.contents 1048577 _ _ _ _ c.args.reader.now c.serve.new.reader c.args.writer.now c.serve.new.writer
-    c.in_ok-serve.field-0 (λ early. early)
-    (λ input h. plays_part (Unit {0}) true (run_shown (Err c.in-Err.field-0)) old new input
-    (subst (λ run. IsRun input run × Appends old new (run_shown run)) c.in-Err.is h))
+    logged (λ early. early)
+    (λ input h. plays_part (Unit {0}) true (logged_shown logged) old new input
+    (subst (λ is_whole. IsShown true is_whole input (logged_shown logged) × Appends old new (logged_shown logged)) c.if-branch.false h))
     c.in_ok-serve.ensures

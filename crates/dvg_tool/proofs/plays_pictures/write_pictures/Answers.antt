@@ -1,5 +1,5 @@
 use Rattle.std.proofs.Common.{rules, ◌+◌, drop, flat_map, map}
-use Rattle.dvg_world.specs.Pictures.{picture_seen}
+use Rattle.dvg_world.specs.Kept.{picture_seen}
 use Rattle.dvg_io.specs.Watching.{BeginsToWrite, stream_of}
 use Rattle.dvg_io.proofs.Went.{piece_begun, piece_more}
 use Rattle.dvg_tool.specs.Plays.{picture_text}

@@ -1,5 +1,5 @@
 use Rattle.std.proofs.Common.{◌≡◌, drop, flat_map, map}
-use Rattle.dvg_world.specs.Pictures.{picture_seen}
+use Rattle.dvg_world.specs.Kept.{picture_seen}
 use Rattle.dvg_io.specs.Watching.{failures_of, stream_of}
 use Rattle.dvg_io.proofs.Went.{Went}
 use Rattle.dvg_tool.specs.Plays.{picture_text}

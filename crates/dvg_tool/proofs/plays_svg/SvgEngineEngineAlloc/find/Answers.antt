@@ -15,4 +15,4 @@ returns-in_err-trace g c =
 pub returns : goal.returns
 returns g c =
     let trace = c.in_ok-trace.trace in
-    finds c.args.read.now trace.rom.items trace.events c.draw_trace.result c.in_ok-trace.ensures.gives c.draw_trace.ensures.pictures c.draw_trace.ensures.fault
+    finds c.args.read.now trace.rom.items trace.events c.draw_whole.result c.in_ok-trace.ensures.gives c.draw_whole.ensures.pictures c.draw_whole.ensures.fault
