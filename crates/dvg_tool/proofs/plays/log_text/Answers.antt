@@ -13,5 +13,5 @@ returns-in_default g c =
 pub returns : goal.returns
 returns g c =
     let trace = c.args.trace.now in
-    let image = subst (λ image. Logs c.in-Some.field-0.0 image trace.events c.log_trace.result) c.in-Some.ensures.image c.log_trace.ensures in
+    let image = subst (λ image. Logs c.in-Some.rom image trace.events c.log_trace.result) c.in-Some.ensures.image c.log_trace.ensures in
     subst (λ R. Logs R zeros trace.events c.log_trace.result) c.in-Some.ensures.rom image

@@ -1,3 +1,4 @@
+use Rattle.std.proofs.Common.{rules}
 use Rattle.dvg_tool.proofs.PicturesPlayed.{drawn_whole}
 use Rattle.dvg_tool.proofs.plays_svg.draw_whole.Goals as goal
 

@@ -1,4 +1,4 @@
-use Rattle.std.proofs.Common.{rules, ◌≡◌, ◌++◌, [], ◌∷◌, decimal, flat_map, true, ap, ◌∙◌, sym, subst}
+use Rattle.std.proofs.Common.{rules, ◌≡◌, flat_map, length, true, ap, ◌∙◌, sym, subst}
 use Rattle.dvg_log.specs.Entries.{map_entry}
 use Rattle.dvg_print.specs.Shows.{entry_line, stroke_line, strokes_of}
 use Rattle.dvg_io.specs.Watching.{Writes}
