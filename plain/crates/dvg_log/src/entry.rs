@@ -65,3 +65,29 @@ impl<A: Allocator> Entry<Vec<Stroke, A>> {
         }
     }
 }
+
+impl<S> Entry<S> {
+    /// The same entry, with this in place of what the run drew; and what it drew, if it finished.
+    #[inline(always)]
+    pub fn replace<T: Copy>(self, other: T) -> (Entry<T>, Option<S>) {
+        let entry = match self {
+            Entry::Done(address, word, drew) => {
+                return (Entry::Done(address, word, other), Some(drew));
+            }
+            Entry::Offered => Entry::Offered,
+            Entry::Refused(fault) => Entry::Refused(fault),
+            Entry::Busy => Entry::Busy,
+            Entry::Asked => Entry::Asked,
+            Entry::NothingPublished => Entry::NothingPublished,
+            Entry::Acted(action) => Entry::Acted(action),
+            Entry::Started => Entry::Started,
+            Entry::NoStrobe => Entry::NoStrobe,
+            Entry::Low(address, byte) => Entry::Low(address, byte),
+            Entry::Fetched(address, word) => Entry::Fetched(address, word),
+            Entry::Broke(address, fault) => Entry::Broke(address, fault),
+            Entry::Still => Entry::Still,
+            Entry::Cleared => Entry::Cleared,
+        };
+        (entry, None)
+    }
+}

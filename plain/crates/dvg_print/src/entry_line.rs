@@ -1,7 +1,6 @@
 //! Lines of entries, which are numbered.
 use crate::line::Line;
-use dvg_log::OwnEntry;
-use std::alloc::Allocator;
+use dvg_log::Entry;
 
 /// The lines that `play --all` writes of entries: it becomes one after the other. The digits of an
 /// event's number stay in it, and become those of the next one.
@@ -28,12 +27,12 @@ impl EntryLine {
         self.line.as_bytes()
     }
 
-    /// Becomes the line of the next entry.
-    pub fn become_next<A: Allocator>(&mut self, entry: &OwnEntry<A>) {
+    /// Becomes the line of the next entry. A finished run drew this many strokes.
+    pub fn become_next<S>(&mut self, entry: &Entry<S>, drew: usize) {
         self.line.keep(self.digits);
         self.line.count_on(self.next);
         self.digits = self.line.as_bytes().len();
-        self.line.entry(entry);
+        self.line.entry(entry, drew);
         self.line.text(b"\n");
         self.next += 1;
     }

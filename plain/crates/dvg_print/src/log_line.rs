@@ -2,8 +2,7 @@
 use crate::line::Line;
 use dvg_driver::Action;
 use dvg_gen::Stroke;
-use dvg_log::{Entry, OwnEntry};
-use std::alloc::Allocator;
+use dvg_log::Entry;
 
 impl Line {
     // Appends what an action did.
@@ -28,9 +27,9 @@ impl Line {
         self.hex_4(word);
     }
 
-    // Appends what an event led to.
+    // Appends what an event led to. A finished run drew this many strokes.
     #[inline(always)]
-    pub(crate) fn entry<A: Allocator>(&mut self, entry: &OwnEntry<A>) {
+    pub(crate) fn entry<S>(&mut self, entry: &Entry<S>, drew: usize) {
         match entry {
             Entry::Offered => self.part(b"offered"),
             Entry::Refused(fault) => {
@@ -48,9 +47,9 @@ impl Line {
                 self.hex_2(*byte);
             }
             Entry::Fetched(address, word) => self.fetched(b"fetched", *address, *word),
-            Entry::Done(address, word, strokes) => {
+            Entry::Done(address, word, _) => {
                 self.fetched(b"done", *address, *word);
-                self.number(strokes.len());
+                self.number(drew);
             }
             Entry::Broke(address, fault) => {
                 self.with_address(b"broke", *address);

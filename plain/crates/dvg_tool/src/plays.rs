@@ -1,37 +1,34 @@
 //! The engine `play`.
-use std::prelude::*;
-
 use crate::plays_pictures::play_pictures;
 use crate::shows::write_entries;
 use dvg_io::{Engine, StreamFailed, ToolFault, Watched, serve};
-use dvg_log::OwnEntry;
 use dvg_mem::{Flat, Image, MEMORY_BYTES, Rom, Store};
 use dvg_read::{MOST_TEXT_BYTES, TraceText, read_trace};
-use dvg_world::{Stopped, run_trace};
+use dvg_world::{Logged, log_trace};
 use std::alloc::Allocator;
 use std::io::{Read, Write};
 use std::marker::PhantomData;
 
-// A run that stopped before its first event.
-fn unstarted<A: Allocator>(alloc: A) -> Stopped<A> {
-    Stopped {
-        entries: Vec::new(alloc),
-        event: 0,
-    }
-}
-
-/// Lets the events of a trace happen over its ROM, from a RAM of zeros.
-pub(crate) fn run_text<S: Store>(
-    alloc: S::Alloc,
-    trace: &TraceText<S::Alloc>,
-) -> Result<Vec<OwnEntry<S::Alloc>, S::Alloc>, Stopped<S::Alloc>> {
+/// The ROM of a trace's text, and an image of zeros. None where memory is refused.
+pub(crate) fn memory_of<A: Allocator + Copy>(
+    alloc: A,
+    trace: &TraceText<A>,
+) -> Option<(Rom<A>, Image<A>)> {
     let Ok(rom) = Rom::new(alloc, trace.rom.as_slice()) else {
-        return Err(unstarted(alloc));
+        return None;
     };
     let Ok(image) = Image::new(alloc, &[0; MEMORY_BYTES]) else {
-        return Err(unstarted(alloc));
+        return None;
     };
-    run_trace::<S>(alloc, rom, &image, &trace.events)
+    Some((rom, image))
+}
+
+// Lets the events of a trace happen over its ROM, from a RAM of zeros, and keeps their entries.
+fn log_text<S: Store>(alloc: S::Alloc, trace: &TraceText<S::Alloc>) -> Logged<S::Alloc> {
+    let Some((rom, image)) = memory_of(alloc, trace) else {
+        return Logged::unstarted(alloc);
+    };
+    log_trace::<S>(alloc, rom, &image, &trace.events)
 }
 
 // The engine: of a trace it finds the entries of its events, over a RAM that is kept in a store.
@@ -40,24 +37,21 @@ struct EntriesEngine<S> {
 }
 
 impl<S: Store> Engine<S::Alloc> for EntriesEngine<S> {
-    type Found = Result<Vec<OwnEntry<S::Alloc>, S::Alloc>, Stopped<S::Alloc>>;
+    type Found = Logged<S::Alloc>;
 
     const MOST: u32 = MOST_TEXT_BYTES as u32;
 
     fn find(&self, alloc: S::Alloc, read: &[u8]) -> Result<Self::Found, ToolFault> {
         let trace = read_trace(alloc, read)?;
-        Ok(run_text::<S>(alloc, &trace))
+        Ok(log_text::<S>(alloc, &trace))
     }
 
     fn write<W: Write>(
         &self,
-        run: &Self::Found,
+        logged: &Self::Found,
         writer: &mut Watched<W>,
     ) -> Result<(), StreamFailed> {
-        match run {
-            Ok(entries) => write_entries(entries.as_slice(), writer),
-            Err(stopped) => write_entries(stopped.entries.as_slice(), writer),
-        }
+        write_entries(&logged.entries, writer)
     }
 }
 
@@ -68,9 +62,10 @@ fn play_entries<S: Store, R: Read, W: Write>(
     writer: &mut Watched<W>,
 ) -> Result<(), ToolFault> {
     let engine = EntriesEngine::<S> { store: PhantomData };
-    match serve(&engine, alloc, reader, writer)? {
-        Ok(_) => Ok(()),
-        Err(_) => Err(ToolFault::Memory),
+    if serve(&engine, alloc, reader, writer)?.is_whole {
+        Ok(())
+    } else {
+        Err(ToolFault::Memory)
     }
 }
 
@@ -79,7 +74,7 @@ fn play_entries<S: Store, R: Read, W: Write>(
 /// else for each finished run; and after the line of a finished run one for each of its strokes, in
 /// the order drawn (the texts are this project's own choice).
 ///
-/// The events happen by `dvg_world::run_trace`, or, where only finished runs are shown, by
+/// The events happen by `dvg_world::log_trace`, or, where only finished runs are shown, by
 /// `draw_trace`, which keeps nothing else: the log is the one legal log of them, and each of its
 /// lines keeps the headline, which `Plays` says, too. The whole text is read before the first event
 /// happens, and what writes is handed no allocator.

@@ -1,6 +1,7 @@
 //! The engine `play` without each entry: the pictures alone.
+use crate::plays::memory_of;
 use dvg_io::{Engine, StreamFailed, ToolFault, Watched, serve, write_strokes, write_whole};
-use dvg_mem::{Image, MEMORY_BYTES, Rom, Store};
+use dvg_mem::Store;
 use dvg_print::Line;
 use dvg_read::{MOST_TEXT_BYTES, TraceText, read_trace};
 use dvg_world::{Drawn, Picture, draw_trace};
@@ -10,10 +11,7 @@ use std::marker::PhantomData;
 
 /// Lets the events of a trace happen over its ROM, from a RAM of zeros, and keeps the pictures.
 pub(crate) fn draw_text<S: Store>(alloc: S::Alloc, trace: &TraceText<S::Alloc>) -> Drawn<S::Alloc> {
-    let Ok(rom) = Rom::new(alloc, trace.rom.as_slice()) else {
-        return Drawn::unstarted(alloc);
-    };
-    let Ok(image) = Image::new(alloc, &[0; MEMORY_BYTES]) else {
+    let Some((rom, image)) = memory_of(alloc, trace) else {
         return Drawn::unstarted(alloc);
     };
     draw_trace::<S>(alloc, rom, &image, &trace.events)

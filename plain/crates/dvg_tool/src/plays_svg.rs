@@ -1,42 +1,41 @@
 //! The engine `play_svg`.
 use std::prelude::*;
 
-use crate::plays::run_text;
+use crate::plays_pictures::draw_text;
 use dvg_gen::Stroke;
 use dvg_io::{Engine, StreamFailed, ToolFault, Watched, serve};
-use dvg_log::{Entry, OwnEntry};
 use dvg_mem::{Flat, Store};
 use dvg_read::{MOST_TEXT_BYTES, TraceText, read_trace};
 use dvg_svg::{Show, write_svgs};
+use dvg_world::Picture;
 use std::alloc::Allocator;
 use std::io::{Read, Write};
 use std::marker::PhantomData;
 
-// The pictures of finished runs.
-fn collect_pictures<A: Allocator + Copy>(
+// The strokes of each of these pictures.
+fn collect_strokes<A: Allocator + Copy>(
     alloc: A,
-    entries: Vec<OwnEntry<A>, A>,
+    pictures: Vec<Picture<A>, A>,
 ) -> Result<Vec<Vec<Stroke, A>, A>, ToolFault> {
-    let mut pictures = Vec::new(alloc);
-    for entry in entries {
-        if let Entry::Done(_, _, strokes) = entry {
-            if pictures.push(strokes).is_err() {
-                return Err(ToolFault::Memory);
-            }
+    let mut strokes = Vec::new(alloc);
+    for picture in pictures {
+        if strokes.push(picture.strokes).is_err() {
+            return Err(ToolFault::Memory);
         }
     }
-    Ok(pictures)
+    Ok(strokes)
 }
 
-// Lets the events of a trace happen, and answers the pictures of the runs that finished.
-fn draw_trace<S: Store>(
+// Lets the events of a trace happen, and answers the strokes of the runs that finished.
+fn draw_whole<S: Store>(
     alloc: S::Alloc,
     trace: &TraceText<S::Alloc>,
 ) -> Result<Vec<Vec<Stroke, S::Alloc>, S::Alloc>, ToolFault> {
-    match run_text::<S>(alloc, trace) {
-        Ok(entries) => collect_pictures(alloc, entries),
-        Err(_) => Err(ToolFault::Memory),
+    let drawn = draw_text::<S>(alloc, trace);
+    if !drawn.is_whole {
+        return Err(ToolFault::Memory);
     }
+    collect_strokes(alloc, drawn.pictures)
 }
 
 // The engine: of a trace it finds the pictures, over a RAM that is kept in a store.
@@ -52,7 +51,7 @@ impl<S: Store> Engine<S::Alloc> for SvgEngine<S> {
 
     fn find(&self, alloc: S::Alloc, read: &[u8]) -> Result<Self::Found, ToolFault> {
         let trace = read_trace(alloc, read)?;
-        draw_trace::<S>(alloc, &trace)
+        draw_whole::<S>(alloc, &trace)
     }
 
     fn write<W: Write>(

@@ -1,46 +1,36 @@
-//! What is written of a log's entries.
+//! What is written of entries.
+use dvg_gen::Stroke;
 use dvg_io::{StreamFailed, Watched, write_strokes, write_whole};
-use dvg_log::{Entry, OwnEntry};
+use dvg_log::Entry;
 use dvg_print::{EntryLine, Line};
+use dvg_world::Entries;
 use std::alloc::Allocator;
 use std::io::Write;
 
-// Writes the strokes of a finished run; nothing for another entry. The lines are made in `line`.
-fn write_drawn<A: Allocator, W: Write>(
-    line: &mut Line,
-    entry: &OwnEntry<A>,
-    writer: &mut Watched<W>,
-) -> Result<(), StreamFailed> {
-    match entry {
-        Entry::Done(_, _, strokes) => write_strokes(line, strokes.as_slice(), writer),
-        _ => Ok(()),
-    }
-}
-
-// Writes what is shown of the next entry. Its line is made in `entry_line`, and those of strokes in
-// `line`.
-fn write_next<A: Allocator, W: Write>(
+// Writes what is shown of the next entry, whose run drew these strokes, if it finished. Its line is
+// made in `entry_line`, and those of the strokes in `line`.
+fn write_next<W: Write>(
     entry_line: &mut EntryLine,
     line: &mut Line,
-    entry: &OwnEntry<A>,
+    entry: &Entry<u16>,
+    strokes: &[Stroke],
     writer: &mut Watched<W>,
 ) -> Result<(), StreamFailed> {
-    entry_line.become_next(entry);
+    entry_line.become_next(entry, strokes.len());
     write_whole(writer, entry_line.as_bytes())?;
-    write_drawn(line, entry, writer)
+    write_strokes(line, strokes, writer)
 }
 
 /// Writes what is shown of each of these entries, the first of which is that of event 0.
 pub fn write_entries<A: Allocator, W: Write>(
-    entries: &[OwnEntry<A>],
+    entries: &Entries<A>,
     writer: &mut Watched<W>,
 ) -> Result<(), StreamFailed> {
-    // There are no more entries than a number of 64 bits tells.
-    let _ = entries.len();
     let mut entry_line = EntryLine::new(0);
     let mut line = Line::new();
-    for entry in entries {
-        write_next(&mut entry_line, &mut line, entry, writer)?;
+    for number in 0..entries.len() {
+        let (entry, strokes) = entries.entry(number);
+        write_next(&mut entry_line, &mut line, entry, strokes, writer)?;
     }
     Ok(())
 }

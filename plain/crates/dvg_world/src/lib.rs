@@ -11,8 +11,10 @@
 extern crate plain_std as std;
 
 mod desk;
+mod entries;
 mod happens;
 mod judge;
+mod logging;
 mod pictures;
 mod runs;
 mod stopped;
@@ -20,7 +22,9 @@ mod world;
 
 pub use desk::Desk;
 pub use dvg_log::{Entry, Event, MOST_EVENTS, OwnEntry, OwnEvent, Trace, TraceEvent};
+pub use entries::Entries;
 pub use judge::{Judge, first_torn};
+pub use logging::{Logged, log_trace};
 pub use pictures::{Drawn, Picture, draw_trace};
 pub use runs::{run, run_trace};
 pub use stopped::Stopped;

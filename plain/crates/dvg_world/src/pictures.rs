@@ -1,4 +1,4 @@
-//! Whole runs of which the pictures alone are kept.
+//! The pictures of a trace.
 use std::prelude::*;
 
 use crate::happens::happen_of;
