@@ -31,6 +31,9 @@ fn write_next<W: Write>(
 {
     entry_line.become_next(entry, strokes.len());
     write_whole(writer, entry_line.as_bytes())?;
+    if strokes.is_empty() {
+        return Ok(());
+    }
     write_strokes(line, strokes, writer)
 }
 
