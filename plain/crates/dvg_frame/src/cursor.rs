@@ -30,8 +30,8 @@ impl Cursor {
         }
     }
 
-    /// Begins anew, with the bytes of a checked draft's frame, laid out for this half. They are laid
-    /// out in the memory that the cursor has: the time is linear in the draft's operations, and in
+    /// Begins anew, with the bytes of a checked draft's frame, laid out for this half. They are put
+    /// into the memory that the cursor has: the time is linear in the draft's operations, and in
     /// those of the frame that the cursor kept.
     pub fn restart(&mut self, checked: &Checked, half: Half) {
         checked.lay(half, &mut self.bytes);
