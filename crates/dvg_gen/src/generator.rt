@@ -179,8 +179,8 @@ impl<A: Allocator + Copy> Generator<A> {
         self.take(u16::from_le_bytes([low, byte]))
     }
 
-    /// Takes back a list that was handed out, so that the strokes of the next run lie in its memory.
-    /// The strokes in it are forgotten. Where the newest run has drawn already, the list is dropped.
+    /// Takes a list back that was handed out, so that the next strokes lie in its memory. What is in
+    /// it is forgotten. Where the newest run has drawn already, the list is dropped.
     pub fn reuse(&mut self, strokes: Vec<Stroke, A>)
         ensures { self.new ≡ self.old }
     {
