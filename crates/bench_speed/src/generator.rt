@@ -56,6 +56,7 @@ pub fn draw(alloc: Global) -> Result<Totals, OutOfMemory> {
                 let byte = byte_at(address, generator.wants_high());
                 if let Taken::Done(strokes) = generator.take_byte(byte)? {
                     totals = totals.with_run(strokes.as_slice());
+                    generator.reuse(strokes);
                 }
             }
         }

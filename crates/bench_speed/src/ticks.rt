@@ -2,7 +2,7 @@
 use crate::drafts::{draw, labs, put};
 use dvg_code::Instr;
 use dvg_driver::{Action, Driver};
-use dvg_frame::{Draft, Op, OpKind, check};
+use dvg_frame::{Checker, Draft, Op, OpKind};
 use dvg_mem::{MEMORY_BYTES, Rom};
 use std::alloc::Global;
 
@@ -66,6 +66,7 @@ fn full_draft() -> Option<Draft> {
 pub fn tick_often(alloc: Global) -> Option<Ticked> {
     let rom = Rom::new(alloc, &[0; MEMORY_BYTES]).ok()?;
     let draft = full_draft()?;
+    let mut checker = Checker::new();
     let mut driver = Driver::new();
     let mut ticked = Ticked {
         frames: 0,
@@ -76,8 +77,8 @@ pub fn tick_often(alloc: Global) -> Option<Ticked> {
         match driver.tick(true, 0xE0) {
             Action::Wrote(address, byte) => ticked = ticked.with_write(address, byte),
             Action::Idle => {
-                if let Ok(frame) = check(&draft, &rom) {
-                    if driver.offer(frame).is_ok() {
+                if let Ok(checked) = checker.check(&draft, &rom) {
+                    if driver.offer_checked(&checked).is_ok() {
                         ticked.frames = ticked.frames.wrapping_add(1);
                     }
                 }

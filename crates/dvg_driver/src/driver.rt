@@ -165,6 +165,7 @@ impl Driver {
     /// Does the next action of the script. `halted` is the HALT flag, and `byte1` is byte 001 of
     /// the RAM; what isn't read has no effect. The caller does the write of a `Wrote`, and sends
     /// the strobe of a `Sent`.
+    #[inline(always)]
     pub fn tick(&mut self, halted: bool, byte1: u8) -> Action
         ensures stands { (peeked : ℕ) (life : List Item) → StandsAfter self.old peeked life →
             StandsAfter self.new (peeked_after result byte1 peeked) (Did result ∷ life) }
@@ -177,6 +178,7 @@ impl Driver {
     }
 
     // Does the next action.
+    #[inline(always)]
     fn act(&mut self, halted: bool, byte1: u8) -> Action
         ensures stands { (peeked : ℕ) (life : List Item) → StandsAfter self.old peeked life →
             StandsAfter self.new (peeked_after result byte1 peeked) (Did result ∷ life) }

@@ -18,6 +18,7 @@ mod draft;
 mod fault;
 mod frame;
 pub mod laws;
+mod laying;
 mod op;
 mod place;
 

@@ -179,6 +179,17 @@ impl<A: Allocator + Copy> Generator<A> {
         self.take(u16::from_le_bytes([low, byte]))
     }
 
+    /// Takes a list back that was handed out, so that the next strokes lie in its memory. What is in
+    /// it is forgotten. Where the newest run has drawn already, the list is dropped.
+    pub fn reuse(&mut self, strokes: Vec<Stroke, A>)
+        ensures { self.new ≡ self.old }
+    {
+        if self.strokes.is_empty() {
+            self.strokes = strokes;
+            self.strokes.clear();
+        }
+    }
+
     // Takes a whole word.
     #[inline(always)]
     fn take(&mut self, word: u16) -> Result<Taken<A>, OutOfMemory>

@@ -3,3 +3,4 @@ pub mod Memory
 pub mod Grown
 pub mod Laws
 pub mod Banks
+pub mod Filled

@@ -1,4 +1,6 @@
 //! A store in one array of bytes.
+ghost use Rattle.std.specs.Prelude.{◌≡◌, length, replicate};
+
 use crate::MEMORY_BYTES;
 use crate::image::Image;
 use crate::store::Store;
@@ -47,6 +49,18 @@ impl<A: Allocator + Copy> Store for Flat<A> {
     }
 
     fn load(&mut self, image: &Image<A>) {
-        self.bytes.copy_from_slice(image.bytes());
+        match image.filled() {
+            Some(byte) => fill(self.bytes.as_mut_slice(), byte),
+            None => self.bytes.copy_from_slice(image.bytes()),
+        }
+    }
+}
+
+// Puts a byte everywhere.
+fn fill(bytes: &mut [u8], byte: u8)
+    ensures { bytes.new ≡ replicate (length bytes.old) byte }
+{
+    for i in 0..bytes.len() {
+        bytes[i] = byte;
     }
 }

@@ -1,5 +1,6 @@
 //! What a memory holds.
-ghost use Rattle.std.specs.Prelude.{◌≡◌, ◌≢◌, ◌↔◌, length, IfOk, IsErrOf, Err};
+ghost use Rattle.std.specs.Prelude.{◌≡◌, ◌≢◌, ◌↔◌, ◌<◌, length, IfOk, IfSome, IsErrOf, Err};
+ghost use Rattle.dvg_mem.specs.Filled.{IsFilled};
 ghost use Rattle.dvg_mem.specs.Memory.{IsImage};
 
 use crate::MEMORY_BYTES;
@@ -23,18 +24,23 @@ pub enum MemFault {
 #[derive_where(Debug)]
 pub struct Image<A: Allocator = Global> {
     bytes: Box<[u8; MEMORY_BYTES], A>,
+    /// The byte that stands everywhere, if that was seen: then a store is filled, and nothing is
+    /// copied.
+    filled: Option<u8>,
 }
 
 /// Contracts see the list of the bytes.
 impl<A: Allocator> Model for Image<A> {
-    ghost use Rattle.std.specs.Prelude.{List, ℕ};
+    ghost use Rattle.std.specs.Prelude.{IfSome, List, ℕ};
     ghost use Rattle.dvg_mem.specs.Memory.{IsImage};
+    ghost use Rattle.dvg_mem.specs.Filled.{IsFilled};
 
     ghost Value = { List ℕ };
 
     ghost view = { λ image. image.bytes.value };
 
-    ghost invariant = { λ image. IsImage image.bytes.value };
+    ghost invariant = { λ image. IsImage image.bytes.value
+        × IfSome image.filled (IsFilled image.bytes.value) };
 }
 
 /// A copy of the bytes, for which memory may be refused.
@@ -83,7 +89,10 @@ impl<A: Allocator> Image<A> {
         let mut copy = [0; MEMORY_BYTES];
         copy.copy_from_slice(bytes);
         match Box::new(alloc, copy) {
-            Ok(bytes) => Ok(Image { bytes }),
+            Ok(boxed) => Ok(Image {
+                bytes: boxed,
+                filled: only_byte(bytes),
+            }),
             Err(_) => Err(MemFault::OutOfMemory),
         }
     }
@@ -94,6 +103,15 @@ impl<A: Allocator> Image<A> {
         ensures { self.new ≡ bytes.now }
     {
         self.bytes.copy_from_slice(bytes);
+        self.filled = None;
+    }
+
+    // The byte that stands everywhere, if that was seen.
+    pub(crate) fn filled(&self) -> Option<u8>
+        ensures byte { IfSome result (IsFilled self.now) }
+        ensures image { IsImage self.now }
+    {
+        self.filled
     }
 
     /// The bytes, from address 000 on.
@@ -102,5 +120,17 @@ impl<A: Allocator> Image<A> {
         ensures image { IsImage result.now }
     {
         self.bytes.as_slice()
+    }
+}
+
+// The byte that stands everywhere, if there is one.
+fn only_byte(bytes: &[u8]) -> Option<u8>
+    requires { 0 < length bytes.now }
+    ensures { IfSome result (IsFilled bytes.now) }
+{
+    if bytes[1..] == bytes[..bytes.len() - 1] {
+        Some(bytes[0])
+    } else {
+        None
     }
 }

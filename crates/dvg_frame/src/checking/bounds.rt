@@ -189,6 +189,9 @@ fn settle<A: Allocator>(
     ensures settled { MatchBool result (HasPlace table.new start.place × (chain.new ≡ chain.old))
         (IsRefused draft.now rom.now) }
 {
+    if table.at(start.place).is_some() {
+        return true;
+    }
     let base = chain.len();
     if !follow(draft, rom, table, chain, start) {
         return false;

@@ -179,8 +179,8 @@ impl Checker {
     }
 }
 
-// The fault that is picked of a draft without the faults 1 to 4, in which a reached pair has a fault
-// or steps at one depth come to no end. The list of pairs is laid out for such a draft alone.
+// The fault that is picked of a draft without the faults 1 to 4, in which a reached pair has a
+// fault or steps at one depth come to no end. The list of pairs is laid out for such a draft alone.
 #[inline(never)]
 fn picked<A: Allocator>(draft: &Draft, rom: &Rom<A>) -> FrameFault
     requires rom { IsRom rom.now }

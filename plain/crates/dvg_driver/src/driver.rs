@@ -108,11 +108,13 @@ impl Driver {
     /// Does the next action of the script. `halted` is the HALT flag, and `byte1` is byte 001 of
     /// the RAM; what isn't read has no effect. The caller does the write of a `Wrote`, and sends
     /// the strobe of a `Sent`.
+    #[inline(always)]
     pub fn tick(&mut self, halted: bool, byte1: u8) -> Action {
         self.act(halted, byte1)
     }
 
     // Does the next action.
+    #[inline(always)]
     fn act(&mut self, halted: bool, byte1: u8) -> Action {
         match self.phase {
             Phase::Start => {

@@ -1,68 +1,47 @@
 //! Cursors: the bytes of a frame, one after the other.
 use crate::checked::Checked;
-use crate::counted::COUNTS;
-use crate::frame::{Frame, byte_of};
-use arrayvec::ArrayVec;
-use dvg_code::Words;
+use crate::frame::Frame;
+use crate::laying::Bytes;
 use dvg_mem::Half;
 use std::iter::FusedIterator;
 
 /// An iterator over the bytes of a frame that is laid out for a half, each with its byte address in
 /// the RAM: from the low byte of the half's first word on, in rising order.
 ///
-/// A cursor keeps the frame, its place in it, and how many words stand before each operation, so
-/// that an item takes constant time.
+/// A frame is laid out where its cursor begins, so that an item takes little time.
 pub struct Cursor {
-    frame: Frame,
-    /// How many words stand before each operation of the frame, and how many there are in all.
-    words_before: ArrayVec<u16, COUNTS>,
-    half: Half,
-    /// The words at hand: those of the operation before number `op`.
-    words: Words,
-    /// How many bytes of the words at hand were given.
-    given: u16,
-    /// The number of the operation that comes after the words at hand.
-    op: u16,
+    /// The bytes of the frame, laid out for the half.
+    bytes: Bytes,
+    /// How many of them were given.
+    given: usize,
     /// The address of the next byte.
     address: u16,
-    /// How many bytes are still to come.
-    left: u16,
 }
 
 impl Cursor {
     /// A cursor over the bytes of the frame, laid out for this half.
     pub fn new(frame: Frame, half: Half) -> Cursor {
-        let left = 2 * frame.len_words();
-        let words_before = frame.words_before_each();
+        let mut bytes = Bytes::new();
+        frame.lay(half, &mut bytes);
         Cursor {
-            frame,
-            words_before,
-            half,
-            words: Words::new(),
+            bytes,
             given: 0,
-            op: 0,
             address: 2 * half.base(),
-            left,
         }
     }
 
-    /// Begins anew, with the bytes of a checked draft's frame, laid out for this half. The draft is
-    /// copied into the memory that the cursor has: the time is linear in its operations, and in
+    /// Begins anew, with the bytes of a checked draft's frame, laid out for this half. They are put
+    /// into the memory that the cursor has: the time is linear in the draft's operations, and in
     /// those of the frame that the cursor kept.
     pub fn restart(&mut self, checked: &Checked, half: Half) {
-        self.frame.copy_from(checked);
-        self.words_before = self.frame.words_before_each();
-        self.half = half;
-        self.words = Words::new();
+        checked.lay(half, &mut self.bytes);
         self.given = 0;
-        self.op = 0;
         self.address = 2 * half.base();
-        self.left = 2 * self.frame.len_words();
     }
 
     /// How many items are still to come.
     pub fn left(&self) -> u16 {
-        self.left
+        (self.bytes.len() - self.given) as u16
     }
 }
 
@@ -70,20 +49,12 @@ impl Iterator for Cursor {
     type Item = (u16, u8);
 
     fn next(&mut self) -> Option<(u16, u8)> {
-        if self.left == 0 {
+        if self.given == self.bytes.len() {
             return None;
         }
-        if usize::from(self.given) == 2 * self.words.len() {
-            let words_before = self.words_before.as_slice();
-            self.words = self.frame.spelling(words_before, self.half, self.op);
-            self.given = 0;
-            self.op += 1;
-        }
-        let word = self.words[usize::from(self.given / 2)];
-        let item = (self.address, byte_of(word, self.given));
+        let item = (self.address, self.bytes[self.given]);
         self.given += 1;
         self.address += 1;
-        self.left -= 1;
         Some(item)
     }
 }

@@ -19,6 +19,7 @@ mod cursor;
 mod draft;
 mod fault;
 mod frame;
+mod laying;
 mod op;
 mod place;
 

@@ -33,6 +33,16 @@ impl<A: Allocator + Copy> Store for Flat<A> {
     }
 
     fn load(&mut self, image: &Image<A>) {
-        self.bytes.copy_from_slice(image.bytes());
+        match image.filled() {
+            Some(byte) => fill(self.bytes.as_mut_slice(), byte),
+            None => self.bytes.copy_from_slice(image.bytes()),
+        }
+    }
+}
+
+// Puts a byte everywhere.
+fn fill(bytes: &mut [u8], byte: u8) {
+    for i in 0..bytes.len() {
+        bytes[i] = byte;
     }
 }

@@ -20,6 +20,9 @@ pub enum MemFault {
 #[derive(Debug)]
 pub struct Image<A: Allocator = Global> {
     bytes: Box<[u8; MEMORY_BYTES], A>,
+    /// The byte that stands everywhere, if that was seen: then a store is filled, and nothing is
+    /// copied.
+    filled: Option<u8>,
 }
 
 /// A copy of the bytes, for which memory may be refused.
@@ -52,7 +55,10 @@ impl<A: Allocator> Image<A> {
         let mut copy = [0; MEMORY_BYTES];
         copy.copy_from_slice(bytes);
         match Box::new(alloc, copy) {
-            Ok(bytes) => Ok(Image { bytes }),
+            Ok(boxed) => Ok(Image {
+                bytes: boxed,
+                filled: only_byte(bytes),
+            }),
             Err(_) => Err(MemFault::OutOfMemory),
         }
     }
@@ -60,10 +66,25 @@ impl<A: Allocator> Image<A> {
     /// Takes other bytes in place of its own, in the memory that it has.
     pub fn copy_from(&mut self, bytes: &[u8]) {
         self.bytes.copy_from_slice(bytes);
+        self.filled = None;
+    }
+
+    // The byte that stands everywhere, if that was seen.
+    pub(crate) fn filled(&self) -> Option<u8> {
+        self.filled
     }
 
     /// The bytes, from address 000 on.
     pub fn bytes(&self) -> &[u8] {
         self.bytes.as_slice()
+    }
+}
+
+// The byte that stands everywhere, if there is one.
+fn only_byte(bytes: &[u8]) -> Option<u8> {
+    if bytes[1..] == bytes[..bytes.len() - 1] {
+        Some(bytes[0])
+    } else {
+        None
     }
 }

@@ -129,6 +129,9 @@ fn settle<A: Allocator>(
     chain: &mut Chain,
     start: Pair,
 ) -> bool {
+    if table.at(start.place).is_some() {
+        return true;
+    }
     let base = chain.len();
     if !follow(draft, rom, table, chain, start) {
         return false;

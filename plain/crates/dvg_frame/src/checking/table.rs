@@ -101,6 +101,6 @@ impl Table {
 fn number_of(place: Place) -> usize {
     match place {
         Place::InFrame(i) => usize::from(i),
-        Place::InRom(a) => MAX_OPS + usize::from(a - ROM_FIRST),
+        Place::InRom(a) => MAX_OPS + usize::from(a) - usize::from(ROM_FIRST),
     }
 }
