@@ -18,7 +18,7 @@ pub fn checked_tables()
     ensures { CheckedExpressible }
 {}
 
-/// A table says something else where an operation names a word of the ROM below 400.
+/// An example of a table that says something else: its frame names a word of the ROM below 400.
 pub fn table_misses()
     ensures { TableMisses }
 {}
