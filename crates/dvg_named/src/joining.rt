@@ -54,8 +54,13 @@ pub fn join_frames<'a, A: Allocator + Copy>(
         AllZip (AreLinesOf joined.sources.items) frames.now joined.spans.items) }
     ensures fault { IfErr result (StopsFrames (laid_sections rom.now) frames.now) }
 {
-    let mut ops = Vec::new(alloc);
-    let mut sources = Vec::new(alloc);
+    let room = row_count(frames);
+    let Ok(mut ops) = Vec::with_capacity(alloc, room) else {
+        return Err(DraftFault::Memory);
+    };
+    let Ok(mut sources) = Vec::with_capacity(alloc, room) else {
+        return Err(DraftFault::Memory);
+    };
     let mut spans = Vec::new(alloc);
     for frame in frames {
         if push_sources(&mut sources, frame).is_err() {
@@ -74,6 +79,17 @@ pub fn join_frames<'a, A: Allocator + Copy>(
         sources,
         spans,
     })
+}
+
+// How many rows frames have, and so no fewer operations.
+fn row_count(frames: &[FrameRows]) -> usize
+    ensures { IsTrueFor }
+{
+    let mut count: usize = 0;
+    for frame in frames {
+        count = count.saturating_add(frame.rows.len());
+    }
+    count
 }
 
 // Adds the lines of the operations of a frame.

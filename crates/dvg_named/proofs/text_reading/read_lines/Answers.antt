@@ -37,24 +37,24 @@ loop-line-preserved-then-is_empty g c = record {
   short = c.loop-line.invariant.short;
   sourced = c.loop-line.invariant.sourced;
   read = passes c.args.small.now _ _ c.loop-line.number c.loop-line.reading c.in-Some.line.now c.in-Some.ensures.steps c.loop-line.invariant.read
-      (no_tokens c.in-Some-tokens_of.tokens.items c.in-Some.line.now c.is_empty.result c.is_empty.ensures c.if-is_empty.true
-      c.in-Some-tokens_of.ensures.found);
+      (no_tokens c.find_tokens.new.found.items c.in-Some.line.now c.is_empty.result c.is_empty.ensures c.if-is_empty.true
+      c.in_default-find_tokens.ensures.found);
 }
 
 pub add-requires : goal.add-requires
 add-requires g c =
     are_parts c.args.small.now _ _ c.loop-line.number c.loop-line.reading c.in-Some.line.now c.in-Some.ensures.steps c.loop-line.invariant.read
-    (bytes_of c.as_slice.result.now) (ap bytes_of c.as_slice.ensures.value ∙ c.in-Some-tokens_of.ensures.found)
-    (some_tokens c.in-Some-tokens_of.tokens.items c.in-Some.line.now c.is_empty.result c.is_empty.ensures c.if-is_empty.false
-    c.in-Some-tokens_of.ensures.found)
+    (bytes_of c.as_slice.result.now) (ap bytes_of c.as_slice.ensures.value ∙ c.in_default-find_tokens.ensures.found)
+    (some_tokens c.find_tokens.new.found.items c.in-Some.line.now c.is_empty.result c.is_empty.ensures c.if-is_empty.false
+    c.in_default-find_tokens.ensures.found)
 
 pub returns-in-Err-clause-fault : goal.returns-in-Err-clause-fault
 returns-in-Err-clause-fault g c text is =
     subst (λ fault. StopsText fault text) (sym c.at_line-in-Err.ensures)
     (stops_tokens c.args.small.now _ _ c.loop-line.number c.loop-line.reading c.in-Some.line.now c.in-Some.ensures.steps c.loop-line.invariant.read
-    (bytes_of c.as_slice.result.now) (ap bytes_of c.as_slice.ensures.value ∙ c.in-Some-tokens_of.ensures.found)
-    (some_tokens c.in-Some-tokens_of.tokens.items c.in-Some.line.now c.is_empty.result c.is_empty.ensures c.if-is_empty.false
-    c.in-Some-tokens_of.ensures.found)
+    (bytes_of c.as_slice.result.now) (ap bytes_of c.as_slice.ensures.value ∙ c.in_default-find_tokens.ensures.found)
+    (some_tokens c.find_tokens.new.found.items c.in-Some.line.now c.is_empty.result c.is_empty.ensures c.if-is_empty.false
+    c.in_default-find_tokens.ensures.found)
     c.in-Err.fault c.in-Err.ensures.fault c.loop-line.invariant.short text is)
 
 pub loop-line-preserved : goal.loop-line-preserved
@@ -66,13 +66,13 @@ loop-line-preserved g c = record {
       (line_at c.args.small.now _ _ c.loop-line.number c.loop-line.reading c.in-Some.line.now c.in-Some.ensures.steps c.loop-line.invariant.read
       _ refl refl)
       (plain_is c.args.small.now _ _ c.loop-line.number c.loop-line.reading c.in-Some.line.now c.in-Some.ensures.steps c.loop-line.invariant.read
-      (bytes_of c.as_slice.result.now) (ap bytes_of c.as_slice.ensures.value ∙ c.in-Some-tokens_of.ensures.found)
-      (some_tokens c.in-Some-tokens_of.tokens.items c.in-Some.line.now c.is_empty.result c.is_empty.ensures c.if-is_empty.false
-      c.in-Some-tokens_of.ensures.found));
+      (bytes_of c.as_slice.result.now) (ap bytes_of c.as_slice.ensures.value ∙ c.in_default-find_tokens.ensures.found)
+      (some_tokens c.find_tokens.new.found.items c.in-Some.line.now c.is_empty.result c.is_empty.ensures c.if-is_empty.false
+      c.in_default-find_tokens.ensures.found));
   read = goes_by c.args.small.now _ _ c.loop-line.number c.loop-line.reading c.in-Some.line.now c.in-Some.ensures.steps c.loop-line.invariant.read
-      (bytes_of c.as_slice.result.now) (ap bytes_of c.as_slice.ensures.value ∙ c.in-Some-tokens_of.ensures.found)
-      (some_tokens c.in-Some-tokens_of.tokens.items c.in-Some.line.now c.is_empty.result c.is_empty.ensures c.if-is_empty.false
-      c.in-Some-tokens_of.ensures.found)
+      (bytes_of c.as_slice.result.now) (ap bytes_of c.as_slice.ensures.value ∙ c.in_default-find_tokens.ensures.found)
+      (some_tokens c.find_tokens.new.found.items c.in-Some.line.now c.is_empty.result c.is_empty.ensures c.if-is_empty.false
+      c.in_default-find_tokens.ensures.found)
       c.add.new.self c.in_default-add.ensures.added
       (λ rom reads. c.in_default-add.ensures.numbers rom c.args.small.now reads c.loop-line.invariant.sourced);
 }
