@@ -1,6 +1,6 @@
 //! The drafts of all frames, with their operations in one list.
-ghost use Rattle.std.specs.Prelude.{◌≡◌, ◌≤◌, ◌++◌, All, IfErr, IfOk, List, OnOk, length};
-ghost use Rattle.std.specs.List.{AllZip};
+ghost use Rattle.std.specs.Prelude.{◌≡◌, ◌≤◌, ◌++◌, ◌-◌, ◌^◌, All, IfErr, IfOk, List, OnOk, length, min};
+ghost use Rattle.std.specs.List.{AllZip, sum_by};
 ghost use Rattle.dvg_frame.specs.declared.op.OpKind.{OpKind as Kind};
 ghost use Rattle.dvg_named.specs.FlatFrames.{HasFewOps, IsSpanOf, StopsFrame, StopsFrames};
 ghost use Rattle.dvg_named.specs.LaidValues.{AreLow, laid_sections};
@@ -81,9 +81,9 @@ pub fn join_frames<'a, A: Allocator + Copy>(
     })
 }
 
-// How many rows frames have, and so no fewer operations.
+// How many rows frames have, or the most of a `usize`.
 fn row_count(frames: &[FrameRows]) -> usize
-    ensures { IsTrueFor }
+    ensures { result ≡ min (sum_by (λ frame. length frame.rows.now) frames.now) (2 ^ 64 - 1) }
 {
     let mut count: usize = 0;
     for frame in frames {
