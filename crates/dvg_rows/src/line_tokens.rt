@@ -1,5 +1,6 @@
 //! The tokens of a line.
-ghost use Rattle.std.specs.Prelude.{◌≡◌, ◌<◌, length, IfErr, IfNone, IfSome, OnErr, OnOk};
+ghost use Rattle.std.specs.Prelude.{◌≡◌, ◌<◌, filter, length, IfErr, IfNone, IfSome, OnErr, OnOk};
+ghost use Rattle.std.specs.List.{slice_split};
 ghost use Rattle.std.specs.Str.Lines.{strip_carriage_return};
 ghost use Rattle.dvg_read.specs.LineParts.{bytes_of};
 ghost use Rattle.dvg_rows.specs.PlainLines.{is_blank, is_some_byte, tokens, uncommented};
@@ -34,7 +35,7 @@ pub fn find_tokens<'a>(
     ensures many { OnErr result (MAX_TOKENS < length (tokens line.now)) }
     ensures fault { IfErr result (λ fault. fault ≡ LineFault.Syntax) }
 {
-    let content = without_comment(without_cr(line));
+    let content = without_indent(without_comment(without_cr(line)));
     let parted = content.split(
         |byte|
             ensures { result ≡ is_blank byte.now }
@@ -88,4 +89,16 @@ fn without_comment(line: &[u8]) -> &[u8]
         Some(end) => &line[..end],
         None => line,
     }
+}
+
+// What stands after the blanks at the beginning.
+fn without_indent(line: &[u8]) -> &[u8]
+    ensures { filter is_some_byte (slice_split is_blank result.now)
+        ≡ filter is_some_byte (slice_split is_blank line.now) }
+{
+    let mut rest = line;
+    while let [b' ' | b'\t', after @ ..] = rest {
+        rest = after;
+    }
+    rest
 }
