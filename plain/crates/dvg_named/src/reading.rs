@@ -115,7 +115,7 @@ impl<'a, A: Allocator + Copy> Reading<'a, A> {
         if self.closed.push(closed).is_err() {
             return Err(LineFault::Memory);
         }
-        self.names = GivenNames::new(self.alloc);
+        self.names.clear();
         self.count = 0;
         Ok(())
     }

@@ -55,6 +55,15 @@ pub fn natural(part: &[u8]) -> Option<u16> {
 /// The decimal number at the head of a text, up to a space, and what comes after that.
 #[inline(always)]
 pub(crate) fn natural_ahead(text: &[u8]) -> Option<(u16, &[u8])> {
+    // Most numbers have one digit.
+    if let [first, b' ', rest @ ..] = text {
+        let digit = digit_of(*first);
+        return if digit < 10 {
+            Some((u16::from(digit), rest))
+        } else {
+            None
+        };
+    }
     let mut number = 0;
     for (place, byte) in text.iter().enumerate() {
         let digit = u32::from(digit_of(*byte));

@@ -140,12 +140,29 @@ impl Checker {
     }
 }
 
+// The fault that is picked of a draft without the faults 1 to 4, in which a reached pair has a fault
+// or steps at one depth come to no end. The list of pairs is laid out for such a draft alone.
+#[inline(never)]
+fn picked<A: Allocator>(draft: &Draft, rom: &Rom<A>) -> FrameFault {
+    let mut reached = Worklist::new();
+    match sweep(&mut reached, draft, rom) {
+        Some(found) => found.fault,
+        None => FrameFault::Loops,
+    }
+}
+
 /// The frame of a draft that has no fault over the ROM, and else the fault that is picked, as by a
-/// `Checker`, which it lays out on the stack. A caller that checks many drafts should keep a
+/// `Checker`. Its tables are laid out on the stack. A caller that checks many drafts should keep a
 /// `Checker`, which saves the time for that.
 pub fn check<A: Allocator>(draft: &Draft, rom: &Rom<A>) -> Result<Frame, FrameFault> {
-    match Checker::new().check(draft, rom) {
-        Ok(checked) => Ok(checked.to_frame()),
-        Err(fault) => Err(fault),
+    let words = match words_or_fault(draft) {
+        Ok(words) => words,
+        Err(fault) => return Err(fault),
+    };
+    // A ROM has 2,048 or 4,096 bytes, as its type says.
+    let _ = rom.len_words();
+    match bound_of(draft, rom, &mut Table::new(), &mut Chain::new()) {
+        Some(bound) => Ok(Checked::of(draft, words, bound).to_frame()),
+        None => Err(picked(draft, rom)),
     }
 }
