@@ -222,6 +222,7 @@ impl<'a, A: Allocator + Copy> Reading<'a, A> {
         ensures fault { IfErr result (λ fault. fault ≡ LineFault.Memory) }
         ensures entries { OnOk result (KeepsEntries self.old self.new) }
     {
+        self.last.fit();
         let part = Part::new(self.alloc, Some(head), source);
         let closed = mem::replace(&mut self.last, part);
         if self.closed.push(closed).is_err() {
