@@ -50,6 +50,19 @@ opened_keeps old new closed none = record {
       ∙ ap (λ n. entries_from 0 old.closed.items ++ entries_last n old.last) (omega arith);
 }
 
+-- a last section that holds the same is as good
+pub fitted_keeps : {A : Type 0} (old new : Reading A) (part : Part A) → part.head ≡ old.last.head
+    → part.rows.items ≡ old.last.rows.items → part.sources.items ≡ old.last.sources.items
+    → KeepsEntries (record old { last = part }) new → KeepsEntries old new
+fitted_keeps old new part head rows sources keeps =
+    let n = length old.closed.items in
+    let front = entries_from 0 old.closed.items in
+    record {
+      top = keeps.top ∙ first_same old.closed.items old.last part head;
+      entries = keeps.entries ∙ ap (λ l. front ++ entries_of n l part.sources.items) rows
+          ∙ ap (λ l. front ++ entries_of n old.last.rows.items l) sources;
+    }
+
 -- a row more in the last section
 pub row_adds : {A : Type 0} (R : held_row.Row → Source → Type 0) (old new : Reading A) (row : held_row.Row) (source : Source)
     → new.closed ≡ old.closed → new.last.head ≡ old.last.head → new.last.rows.items ≡ old.last.rows.items ++ row ∷ []

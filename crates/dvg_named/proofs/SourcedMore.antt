@@ -27,6 +27,20 @@ part_more small old new row source head begin rows sources h at = record {
       (zip_push (IsRowAt small) old.rows.items old.sources.items row source h.rows at));
 }
 
+-- a last section that holds the same is as good
+pub fitted_sourced : {A : Type 0} (small : List ℕ) (old : Reading A) (part : Part A) → part.head ≡ old.last.head
+    → part.begin ≡ old.last.begin → part.rows.items ≡ old.last.rows.items
+    → part.sources.items ≡ old.last.sources.items → AreSourced small old → AreSourced small (record old { last = part })
+fitted_sourced small old part head begin rows sources h = record {
+  closed = h.closed;
+  last = record {
+    begin = subst (λ head. BeginsIn small head part.begin) (sym head)
+        (subst (λ begin. BeginsIn small old.last.head begin) (sym begin) h.last.begin);
+    rows = subst (λ rows. AllZip (IsRowAt small) rows part.sources.items) (sym rows)
+        (subst (λ sources. AllZip (IsRowAt small) old.last.rows.items sources) (sym sources) h.last.rows);
+  };
+}
+
 -- a section more begins
 pub part_opened : {A : Type 0} (small : List ℕ) (old new : Reading A) (head : held_head.Head) (source : Source)
     → new.closed.items ≡ old.closed.items ++ old.last ∷ [] → new.last.head ≡ Some head → new.last.begin ≡ source

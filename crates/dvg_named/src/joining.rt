@@ -1,6 +1,6 @@
 //! The drafts of all frames, with their operations in one list.
-ghost use Rattle.std.specs.Prelude.{◌≡◌, ◌≤◌, ◌++◌, All, IfErr, IfOk, List, OnOk, length};
-ghost use Rattle.std.specs.List.{AllZip};
+ghost use Rattle.std.specs.Prelude.{◌≡◌, ◌≤◌, ◌++◌, ◌-◌, ◌^◌, All, IfErr, IfOk, List, OnOk, length, min};
+ghost use Rattle.std.specs.List.{AllZip, sum_by};
 ghost use Rattle.dvg_frame.specs.declared.op.OpKind.{OpKind as Kind};
 ghost use Rattle.dvg_named.specs.FlatFrames.{HasFewOps, IsSpanOf, StopsFrame, StopsFrames};
 ghost use Rattle.dvg_named.specs.LaidValues.{AreLow, laid_sections};
@@ -54,8 +54,13 @@ pub fn join_frames<'a, A: Allocator + Copy>(
         AllZip (AreLinesOf joined.sources.items) frames.now joined.spans.items) }
     ensures fault { IfErr result (StopsFrames (laid_sections rom.now) frames.now) }
 {
-    let mut ops = Vec::new(alloc);
-    let mut sources = Vec::new(alloc);
+    let room = row_count(frames);
+    let Ok(mut ops) = Vec::with_capacity(alloc, room) else {
+        return Err(DraftFault::Memory);
+    };
+    let Ok(mut sources) = Vec::with_capacity(alloc, room) else {
+        return Err(DraftFault::Memory);
+    };
     let mut spans = Vec::new(alloc);
     for frame in frames {
         if push_sources(&mut sources, frame).is_err() {
@@ -74,6 +79,17 @@ pub fn join_frames<'a, A: Allocator + Copy>(
         sources,
         spans,
     })
+}
+
+// How many rows frames have, or the most of a `usize`.
+fn row_count(frames: &[FrameRows]) -> usize
+    ensures { result ≡ min (sum_by (λ frame. length frame.rows.now) frames.now) (2 ^ 64 - 1) }
+{
+    let mut count: usize = 0;
+    for frame in frames {
+        count = count.saturating_add(frame.rows.len());
+    }
+    count
 }
 
 // Adds the lines of the operations of a frame.

@@ -222,12 +222,13 @@ impl<'a, A: Allocator + Copy> Reading<'a, A> {
         ensures fault { IfErr result (λ fault. fault ≡ LineFault.Memory) }
         ensures entries { OnOk result (KeepsEntries self.old self.new) }
     {
+        self.last.fit();
         let part = Part::new(self.alloc, Some(head), source);
         let closed = mem::replace(&mut self.last, part);
         if self.closed.push(closed).is_err() {
             return Err(LineFault::Memory);
         }
-        self.names = GivenNames::new(self.alloc);
+        self.names.clear();
         self.count = 0;
         Ok(())
     }

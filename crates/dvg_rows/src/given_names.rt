@@ -28,6 +28,13 @@ impl<'a, A: Allocator + Copy> GivenNames<'a, A> {
         }
     }
 
+    /// Forgets all names, and keeps their room.
+    pub fn clear(&mut self)
+        ensures { bytes_of self.new.given.keys ≡ [] }
+    {
+        self.given.clear();
+    }
+
     /// Gives one name more, if there is one.
     pub fn give(&mut self, name: Option<&'a [u8]>) -> Result<(), LineFault>
         ensures given { OnOk result (bytes_of self.new.given.keys

@@ -17,7 +17,7 @@ mod source;
 
 pub use given_names::GivenNames;
 pub use line_fault::LineFault;
-pub use line_tokens::{MAX_TOKENS, tokens_of};
+pub use line_tokens::{MAX_TOKENS, find_tokens, tokens_of};
 pub use name_table::NameTable;
 pub use number::{NamedRows, number_of};
 pub use part::Part;

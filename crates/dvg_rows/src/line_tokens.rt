@@ -1,9 +1,11 @@
 //! The tokens of a line.
-ghost use Rattle.std.specs.Prelude.{◌≡◌, ◌<◌, length, IfNone, IfSome};
+ghost use Rattle.std.specs.Prelude.{◌≡◌, ◌<◌, filter, length, IfErr, IfNone, IfSome, OnErr, OnOk};
+ghost use Rattle.std.specs.List.{slice_split};
 ghost use Rattle.std.specs.Str.Lines.{strip_carriage_return};
 ghost use Rattle.dvg_read.specs.LineParts.{bytes_of};
 ghost use Rattle.dvg_rows.specs.PlainLines.{is_blank, is_some_byte, tokens, uncommented};
 
+use crate::line_fault::LineFault;
 use arrayvec::ArrayVec;
 use memchr::memchr;
 
@@ -16,8 +18,24 @@ pub fn tokens_of(line: &[u8]) -> Option<ArrayVec<&[u8], MAX_TOKENS>>
     ensures found { IfSome result (λ found. bytes_of found.items ≡ tokens line.now) }
     ensures many { IfNone result (MAX_TOKENS < length (tokens line.now)) }
 {
-    let content = without_comment(without_cr(line));
     let mut found = ArrayVec::new();
+    match find_tokens(line, &mut found) {
+        Ok(()) => Some(found),
+        Err(_) => None,
+    }
+}
+
+/// Finds the tokens of a line, as `tokens_of` does, in place of those that were found before. It is
+/// refused exactly where there are more than ten.
+pub fn find_tokens<'a>(
+    line: &'a [u8],
+    found: &mut ArrayVec<&'a [u8], MAX_TOKENS>,
+) -> Result<(), LineFault>
+    ensures found { OnOk result (bytes_of found.new.items ≡ tokens line.now) }
+    ensures many { OnErr result (MAX_TOKENS < length (tokens line.now)) }
+    ensures fault { IfErr result (λ fault. fault ≡ LineFault.Syntax) }
+{
+    let content = without_indent(without_comment(without_cr(line)));
     let parted = content.split(
         |byte|
             ensures { result ≡ is_blank byte.now }
@@ -28,9 +46,10 @@ pub fn tokens_of(line: &[u8]) -> Option<ArrayVec<&[u8], MAX_TOKENS>>
             ensures { result ≡ is_some_byte token.now.now }
         { has_bytes(token) },
     );
+    found.clear();
     match found.extend(kept) {
-        Ok(()) => Some(found),
-        Err(_) => None,
+        Ok(()) => Ok(()),
+        Err(_) => Err(LineFault::Syntax),
     }
 }
 
@@ -70,4 +89,16 @@ fn without_comment(line: &[u8]) -> &[u8]
         Some(end) => &line[..end],
         None => line,
     }
+}
+
+// What stands after the blanks at the beginning.
+fn without_indent(line: &[u8]) -> &[u8]
+    ensures { filter is_some_byte (slice_split is_blank result.now)
+        ≡ filter is_some_byte (slice_split is_blank line.now) }
+{
+    let mut rest = line;
+    while let [b' ' | b'\t', after @ ..] = rest {
+        rest = after;
+    }
+    rest
 }

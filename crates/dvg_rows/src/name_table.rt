@@ -28,14 +28,15 @@ impl<'a, A: Allocator + Copy> NameTable<'a, A> {
         }
     }
 
-    /// Gives a name this number, if there is a name, in place of one that it had. A growth may be
-    /// refused.
+    /// Gives a name this number, if there is a name and it has none yet. A growth may be refused.
     pub fn put(&mut self, name: Option<&'a [u8]>, number: usize) -> Result<(), OutOfMemory>
         ensures { OnOk result ((other : Bor (List ℕ)) → number_in self.new other
             ≡ number_with self.old name.entry number other) }
     {
         if let Some(name) = name {
-            self.numbers.insert(name, number)?;
+            if self.numbers.get(name).is_none() {
+                self.numbers.insert(name, number)?;
+            }
         }
         Ok(())
     }

@@ -1,7 +1,7 @@
 //! Which operation of a frame a name names.
 ghost use Rattle.std.specs.Prelude.{◌≡◌, ◌≤◌, ◌∷◌, [], ℕ, length, IfNone, IfOk, IfSome, Some};
 ghost use Rattle.dvg_rows.specs.HeldRows.{rows_of};
-ghost use Rattle.dvg_rows.specs.NameTables.{Tells};
+ghost use Rattle.dvg_rows.specs.NameTables.{IsLeast, TellsLeast};
 ghost use Rattle.dvg_rows.specs.RowPlaces.{AreDistinct, IsNumber, doings, names_of};
 ghost use Rattle.dvg_rows.specs.RowValues.{row_of};
 
@@ -22,14 +22,14 @@ impl<'r, 'a, A: Allocator + Copy> Model for NamedRows<'r, 'a, A> {
     ghost use Rattle.std.specs.Prelude.{List};
     ghost use Rattle.dvg_rows.specs.declared.row.Row.{Row as HeldRow};
     ghost use Rattle.dvg_rows.specs.HeldRows.{rows_of};
-    ghost use Rattle.dvg_rows.specs.NameTables.{Tells};
+    ghost use Rattle.dvg_rows.specs.NameTables.{TellsLeast};
     ghost use Rattle.dvg_rows.specs.RowPlaces.{IsNumber};
 
     ghost Value = { List HeldRow };
 
     ghost view = { λ named. named.rows.now };
 
-    ghost invariant = { λ named. Tells (IsNumber (rows_of named.rows.now)) named.numbers };
+    ghost invariant = { λ named. TellsLeast (IsNumber (rows_of named.rows.now)) named.numbers };
 }
 
 impl<'r, 'a, A: Allocator + Copy> NamedRows<'r, 'a, A> {
@@ -53,13 +53,13 @@ impl<'r, 'a, A: Allocator + Copy> NamedRows<'r, 'a, A> {
 }
 
 /// The number of the operation that a name names in a frame, counted from 0: as many operations
-/// stand before the row that gives it. None exactly where no row gives it. The time doesn't grow
-/// with the number of rows.
+/// stand before the first row that gives it. None exactly where no row gives it. The time doesn't
+/// grow with the number of rows.
 ///
 /// Where each name is given once, no other number is that of the name. A name after the last
 /// operation has the number of one that isn't there (this project's own choice).
 pub fn number_of<A: Allocator + Copy>(rows: &NamedRows<'_, '_, A>, name: &[u8]) -> Option<usize>
-    ensures found { IfSome result (IsNumber (rows_of rows.now) name.now) }
+    ensures found { IfSome result (IsLeast (IsNumber (rows_of rows.now) name.now)) }
     ensures none { IfNone result ((number : ℕ) → ¬ IsNumber (rows_of rows.now) name.now number) }
     ensures only { AreDistinct (names_of (rows_of rows.now)) → (number : ℕ)
         → IsNumber (rows_of rows.now) name.now number → result ≡ Some number }
@@ -67,12 +67,12 @@ pub fn number_of<A: Allocator + Copy>(rows: &NamedRows<'_, '_, A>, name: &[u8]) 
     rows.numbers.get(name)
 }
 
-// The number of each name that rows give.
+// The least number of each name that rows give.
 fn numbers_of<'a, A: Allocator + Copy>(
     alloc: A,
     rows: &[Row<'a>],
 ) -> Result<NameTable<'a, A>, OutOfMemory>
-    ensures { IfOk result (Tells (IsNumber (rows_of rows.now))) }
+    ensures { IfOk result (TellsLeast (IsNumber (rows_of rows.now))) }
 {
     let mut numbers = NameTable::new(alloc);
     let mut count = 0;

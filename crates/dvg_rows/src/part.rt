@@ -54,4 +54,15 @@ impl<'a, A: Allocator + Copy> Part<'a, A> {
         }
         Ok(())
     }
+
+    /// Gives back the room that is left.
+    pub fn fit(&mut self)
+        ensures head { self.new.head ≡ self.old.head }
+        ensures begin { self.new.begin ≡ self.old.begin }
+        ensures rows { self.new.rows.items ≡ self.old.rows.items }
+        ensures sources { self.new.sources.items ≡ self.old.sources.items }
+    {
+        self.rows.shrink_to_fit();
+        self.sources.shrink_to_fit();
+    }
 }

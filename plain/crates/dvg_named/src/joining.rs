@@ -38,8 +38,13 @@ pub fn join_frames<'a, A: Allocator + Copy>(
     frames: &[FrameRows<'_, 'a>],
     rom: &LaidNames<'_, '_, '_, A>,
 ) -> Result<JoinedFrames<'a, A>, DraftFault> {
-    let mut ops = Vec::new(alloc);
-    let mut sources = Vec::new(alloc);
+    let room = row_count(frames);
+    let Ok(mut ops) = Vec::with_capacity(alloc, room) else {
+        return Err(DraftFault::Memory);
+    };
+    let Ok(mut sources) = Vec::with_capacity(alloc, room) else {
+        return Err(DraftFault::Memory);
+    };
     let mut spans = Vec::new(alloc);
     for frame in frames {
         if push_sources(&mut sources, frame).is_err() {
@@ -58,6 +63,15 @@ pub fn join_frames<'a, A: Allocator + Copy>(
         sources,
         spans,
     })
+}
+
+// How many rows frames have, or the most of a `usize`.
+fn row_count(frames: &[FrameRows]) -> usize {
+    let mut count: usize = 0;
+    for frame in frames {
+        count = count.saturating_add(frame.rows.len());
+    }
+    count
 }
 
 // Adds the lines of the operations of a frame.

@@ -110,12 +110,13 @@ impl<'a, A: Allocator + Copy> Reading<'a, A> {
 
     // Closes the last section, and opens another one.
     fn open_part(&mut self, head: Head<'a>, source: Source<'a>) -> Result<(), LineFault> {
+        self.last.fit();
         let part = Part::new(self.alloc, Some(head), source);
         let closed = mem::replace(&mut self.last, part);
         if self.closed.push(closed).is_err() {
             return Err(LineFault::Memory);
         }
-        self.names = GivenNames::new(self.alloc);
+        self.names.clear();
         self.count = 0;
         Ok(())
     }

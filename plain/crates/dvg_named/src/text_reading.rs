@@ -1,8 +1,9 @@
 //! What all lines of a sketch spell.
 use crate::fault::{NamedFault, SketchFault};
 use crate::reading::Reading;
+use arrayvec::ArrayVec;
 use dvg_read::{MOST_TEXT_BYTES, TextLines};
-use dvg_rows::{LineFault, Source, tokens_of};
+use dvg_rows::{LineFault, Source, find_tokens};
 use std::alloc::Allocator;
 
 /// Reads all lines of a text in small letters, in one pass. Or else the text has a fault: it is too
@@ -15,12 +16,13 @@ pub(crate) fn read_lines<'a, A: Allocator + Copy>(
         return Err(SketchFault::Text(NamedFault::TooLong));
     }
     let mut reading = Reading::new(alloc, first_line(small));
+    let mut tokens = ArrayVec::new();
     let mut number = 0;
     for line in TextLines::new(small) {
         number += 1;
-        let Some(tokens) = tokens_of(line) else {
-            return Err(at_line(LineFault::Syntax, number));
-        };
+        if let Err(many) = find_tokens(line, &mut tokens) {
+            return Err(at_line(many, number));
+        }
         if tokens.is_empty() {
             continue;
         }

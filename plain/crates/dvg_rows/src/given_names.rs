@@ -18,6 +18,11 @@ impl<'a, A: Allocator + Copy> GivenNames<'a, A> {
         }
     }
 
+    /// Forgets all names, and keeps their room.
+    pub fn clear(&mut self) {
+        self.given.clear();
+    }
+
     /// Gives one name more, if there is one.
     pub fn give(&mut self, name: Option<&'a [u8]>) -> Result<(), LineFault> {
         let Some(name) = name else {

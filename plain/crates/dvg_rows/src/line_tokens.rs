@@ -1,4 +1,5 @@
 //! The tokens of a line.
+use crate::line_fault::LineFault;
 use arrayvec::ArrayVec;
 use memchr::memchr;
 
@@ -8,17 +9,30 @@ pub const MAX_TOKENS: usize = 10;
 /// The tokens of a line, which spaces and tabs part, without its comment and without one CR at its
 /// end. None exactly where there are more than ten.
 pub fn tokens_of(line: &[u8]) -> Option<ArrayVec<&[u8], MAX_TOKENS>> {
-    let content = without_comment(without_cr(line));
     let mut found = ArrayVec::new();
+    match find_tokens(line, &mut found) {
+        Ok(()) => Some(found),
+        Err(_) => None,
+    }
+}
+
+/// Finds the tokens of a line, as `tokens_of` does, in place of those that were found before. It is
+/// refused exactly where there are more than ten.
+pub fn find_tokens<'a>(
+    line: &'a [u8],
+    found: &mut ArrayVec<&'a [u8], MAX_TOKENS>,
+) -> Result<(), LineFault> {
+    let content = without_indent(without_comment(without_cr(line)));
     let parted = content.split(
         |byte| { is_blank(*byte) },
     );
     let kept = parted.filter(
         |token| { has_bytes(token) },
     );
+    found.clear();
     match found.extend(kept) {
-        Ok(()) => Some(found),
-        Err(_) => None,
+        Ok(()) => Ok(()),
+        Err(_) => Err(LineFault::Syntax),
     }
 }
 
@@ -50,4 +64,13 @@ fn without_comment(line: &[u8]) -> &[u8] {
         Some(end) => &line[..end],
         None => line,
     }
+}
+
+// What stands after the blanks at the beginning.
+fn without_indent(line: &[u8]) -> &[u8] {
+    let mut rest = line;
+    while let [b' ' | b'\t', after @ ..] = rest {
+        rest = after;
+    }
+    rest
 }

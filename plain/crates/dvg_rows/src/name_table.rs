@@ -17,11 +17,12 @@ impl<'a, A: Allocator + Copy> NameTable<'a, A> {
         }
     }
 
-    /// Gives a name this number, if there is a name, in place of one that it had. A growth may be
-    /// refused.
+    /// Gives a name this number, if there is a name and it has none yet. A growth may be refused.
     pub fn put(&mut self, name: Option<&'a [u8]>, number: usize) -> Result<(), OutOfMemory> {
         if let Some(name) = name {
-            self.numbers.insert(name, number)?;
+            if self.numbers.get(name).is_none() {
+                self.numbers.insert(name, number)?;
+            }
         }
         Ok(())
     }

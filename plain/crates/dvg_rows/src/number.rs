@@ -25,8 +25,8 @@ impl<'r, 'a, A: Allocator + Copy> NamedRows<'r, 'a, A> {
 }
 
 /// The number of the operation that a name names in a frame, counted from 0: as many operations
-/// stand before the row that gives it. None exactly where no row gives it. The time doesn't grow
-/// with the number of rows.
+/// stand before the first row that gives it. None exactly where no row gives it. The time doesn't
+/// grow with the number of rows.
 ///
 /// Where each name is given once, no other number is that of the name. A name after the last
 /// operation has the number of one that isn't there (this project's own choice).
@@ -34,7 +34,7 @@ pub fn number_of<A: Allocator + Copy>(rows: &NamedRows<'_, '_, A>, name: &[u8]) 
     rows.numbers.get(name)
 }
 
-// The number of each name that rows give.
+// The least number of each name that rows give.
 fn numbers_of<'a, A: Allocator + Copy>(
     alloc: A,
     rows: &[Row<'a>],

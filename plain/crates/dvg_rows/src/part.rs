@@ -40,4 +40,10 @@ impl<'a, A: Allocator + Copy> Part<'a, A> {
         }
         Ok(())
     }
+
+    /// Gives back the room that is left.
+    pub fn fit(&mut self) {
+        self.rows.shrink_to_fit();
+        self.sources.shrink_to_fit();
+    }
 }

@@ -65,6 +65,12 @@ impl<K: Copy + Eq + Hash, V, S: BuildHasher, A> IndexMap<K, V, S, A> {
         Ok(None)
     }
 
+    /// Forgets all entries, and keeps their room.
+    pub fn clear(&mut self) {
+        self.entries.clear();
+        self.places.fill(0);
+    }
+
     // The place of the key of this hash that `is_key` knows, or the free one where it would be.
     fn place_of(&self, hash: u64, is_key: impl Fn(&K) -> bool) -> usize {
         let last = self.places.len() - 1;
@@ -113,6 +119,11 @@ impl<T, S: Default, A: Copy> IndexSet<T, S, A> {
 }
 
 impl<T: Copy + Eq + Hash, S: BuildHasher, A> IndexSet<T, S, A> {
+    /// Forgets all values, and keeps their room.
+    pub fn clear(&mut self) {
+        self.map.clear();
+    }
+
     /// Adds a value. Whether it is new.
     pub fn insert(&mut self, value: T) -> Result<bool, AllocFailed<T>> {
         match self.map.insert(value, ()) {

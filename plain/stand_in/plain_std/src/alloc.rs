@@ -151,6 +151,11 @@ impl<T, A> Vec<T, A> {
         Ok(made)
     }
 
+    /// Gives back the room that is left.
+    pub fn shrink_to_fit(&mut self) {
+        self.items.shrink_to_fit();
+    }
+
     /// The allocator.
     pub fn allocator(&self) -> &A {
         &self.alloc
