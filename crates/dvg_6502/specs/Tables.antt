@@ -49,7 +49,7 @@ abbrev pub TableLaw : Type 0
 TableLaw = (half : Half) (F : List OpKind) → AreExpressible F F
     → fed (high half) false false (table_of F) ≡ bytes (laid half F)
 
--- where an operation that is never reached calls the ROM below 400, the table says something else
+-- an example of a draft that a table can't express: an operation that is never reached calls the ROM below 400
 abbrev pub TableMisses : Type 0
 TableMisses =
     let F = Draw (Labs 0 0 0) ∷ Halt ∷ CallRom 5 ∷ [] in fed (high H1) false false (table_of F) ≢ bytes (laid H1 F)

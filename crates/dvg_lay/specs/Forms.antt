@@ -7,7 +7,7 @@ use Rattle.dvg_lay.specs.declared.form.Form.TheVariants.{Bytes, Tables, RomBytes
 use Rattle.dvg_lay.specs.declared.form.Laid.{Laid}
 use Rattle.dvg_lay.specs.declared.form.Laid.TheVariants as laids
 use Rattle.dvg_lay.specs.declared.refusal.Refusal.{Refusal}
-use Rattle.dvg_lay.specs.Refusals.{IsFault, IsGood, IsLow, IsExpressible}
+use Rattle.dvg_lay.specs.Refusals.{IsFault, IsGood, IsLow, NamesRomOnly}
 use Rattle.dvg_lay.specs.Texts.{frames_bytes, name_lines, tables}
 
 -- what is laid out over a ROM
@@ -19,7 +19,7 @@ form_text RomNames R names frames = name_lines names
 
 -- of these frames it may be: the check accepts all, and a table can tell all
 abbrev pub MayLay : Form → (R : List ℕ) → List NamedFrame → Type 0
-MayLay Tables R frames = All (IsGood R) frames × All IsExpressible frames
+MayLay Tables R frames = All (IsGood R) frames × All NamesRomOnly frames
 MayLay _ R frames = All (IsGood R) frames
 
 -- the refusal tells why it may not be
