@@ -1,5 +1,5 @@
 -- Row 8.
-use Rattle.std.proofs.Common.{◌≡◌, ℕ, List, [], ◌∷◌, ◌++◌, map, reverse, length, refl, sym, ap, ◌∙◌, arith}
+use Rattle.std.proofs.Common.{◌≡◌, Bool, true, subst, append-nil, ℕ, List, [], ◌∷◌, ◌++◌, map, reverse, length, refl, sym, ap, ◌∙◌, arith}
 use Rattle.std.proofs.lemmas.List.{reverse-reverse}
 use mathlib.Core.List.{reverse-cons}
 use Rattle.std.specs.List.{zip}
@@ -7,6 +7,7 @@ use Rattle.dvg_log.specs.Events.{Happening}
 use Rattle.dvg_log.specs.Entries.{Shown, OwnEntry, shown_of}
 use Rattle.dvg_log.specs.Legal.{IsLegal}
 use Rattle.dvg_log.specs.Log.{Line, Log, ◌⟼◌, events_of}
+use Rattle.dvg_world.specs.Keeping.{Happened, IsEndOf}
 use Rattle.dvg_world.specs.Runs.{log_of}
 use Rattle.dvg_theorem.proofs.OneLog.{same_log}
 use Rattle.dvg_theorem.proofs.Rows.{first_picture as legal_first_picture}
@@ -65,3 +66,13 @@ pub first_picture_is : {A : Type 0} (entries : List (OwnEntry A)) → length ent
 first_picture_is entries count legal =
     shown_log zeros zeros entries first_picture_log refl legal_first_picture count legal
     (events_mapped (log_of first_picture_events entries) ∙ map_reverse_events (lines_of first_picture_events entries) ∙ ap reverse (events_listed first_picture_events entries count))
+
+-- what is kept of these events, where all of them happened, is what is kept of that log
+pub kept_of_first_picture : {R image : List ℕ} {events : List Happening} {is_whole : Bool} {IsKept : Log → Type 0} → Happened R image events is_whole IsKept → is_whole ≡ true → R ≡ zeros → image ≡ zeros → events ≡ first_picture_events → IsKept first_picture_log
+kept_of_first_picture {R} {image} {events} {is_whole} {IsKept} happened whole rom zero is =
+    let log = happened.log in
+    let none : happened.later ≡ [] = subst (λ is_whole. IsEndOf is_whole R image log happened.later) whole happened.ends in
+    let listed : first_picture_events ≡ reverse (events_of log) = sym is ∙ happened.in_order ∙ ap (λ later. reverse (events_of log) ++ later) none ∙ append-nil (reverse (events_of log)) in
+    let same : events_of log ≡ events_of first_picture_log = sym (ap reverse listed ∙ reverse-reverse (events_of log)) in
+    let legal : IsLegal zeros zeros log = subst (λ R. IsLegal R zeros log) rom (subst (λ image. IsLegal R image log) zero happened.legal) in
+    subst IsKept (same_log zeros zeros log first_picture_log legal legal_first_picture same) happened.kept

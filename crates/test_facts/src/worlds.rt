@@ -1,7 +1,8 @@
 //! What follows from the contracts of worlds, traces and whole runs.
-ghost use Rattle.std.specs.Prelude.{◌≡◌, IfSome, map, true};
+ghost use Rattle.std.specs.Prelude.{◌≡◌, ◌∷◌, [], IfSome, map, true};
 ghost use Rattle.test_facts.specs.Facts.{first_picture, first_picture_events, two_ticks};
-ghost use Rattle.test_facts.specs.Facts.{two_ticks_shown};
+ghost use Rattle.test_facts.specs.Facts.{two_ticks_shown, vector_strokes};
+ghost use Rattle.dvg_world.specs.Kept.{picture_seen};
 ghost use Rattle.dvg_tool.specs.Plays.{zeros};
 ghost use Rattle.dvg_log.specs.Entries.{shown_of};
 ghost use Rattle.dvg_log.specs.declared.entry.Entry.TheVariants.{Acted};
@@ -9,7 +10,8 @@ ghost use Rattle.dvg_log.specs.Events.{happening_of};
 
 use dvg_driver::Action;
 use dvg_mem::{Flat, Image, Rom};
-use dvg_world::{Event, OwnEntry, OwnEvent, Trace, TraceEvent, World, run, run_trace};
+use dvg_world::{Entries, Event, OwnEntry, OwnEvent, Picture, Trace, TraceEvent, World};
+use dvg_world::{draw_trace, log_trace, run, run_trace};
 use std::alloc::Global;
 
 /// The first tick of a new world is the driver's peek, over each ROM and image. None where there is
@@ -111,5 +113,47 @@ pub fn runs_the_first_picture(
     match run::<Flat<Global>>(alloc, rom, image, events) {
         Ok(entries) => Some(entries),
         Err(_) => None,
+    }
+}
+
+/// The same events as a trace, of which the pictures alone are kept: there is one picture, which
+/// event 29 finished. None where memory was refused.
+pub fn draws_the_first_picture(
+    alloc: Global,
+    rom: Rom<Global>,
+    image: &Image<Global>,
+    trace: &Trace<Global>,
+) -> Option<Vec<Picture<Global>, Global>>
+    requires rom { rom ≡ zeros }
+    requires image { image.now ≡ zeros }
+    requires events { trace.now ≡ first_picture_events }
+    ensures { IfSome result (λ pictures.
+        map picture_seen pictures.items ≡ (29, vector_strokes) ∷ []) }
+{
+    let drawn = draw_trace::<Flat<Global>>(alloc, rom, image, trace);
+    if drawn.is_whole {
+        Some(drawn.pictures)
+    } else {
+        None
+    }
+}
+
+/// The same trace, of which all entries are kept in little room. None where memory was refused.
+pub fn logs_the_first_picture(
+    alloc: Global,
+    rom: Rom<Global>,
+    image: &Image<Global>,
+    trace: &Trace<Global>,
+) -> Option<Entries<Global>>
+    requires rom { rom ≡ zeros }
+    requires image { image.now ≡ zeros }
+    requires events { trace.now ≡ first_picture_events }
+    ensures { IfSome result (λ entries. entries ≡ first_picture) }
+{
+    let logged = log_trace::<Flat<Global>>(alloc, rom, image, trace);
+    if logged.is_whole {
+        Some(logged.entries)
+    } else {
+        None
     }
 }
