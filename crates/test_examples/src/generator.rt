@@ -99,6 +99,27 @@ fn addresses_are_wanted(rt: HostRuntime) -> Result<(), OutOfMemory> {
     Ok(())
 }
 
+/// A frame of one vector: LABS, VCTR and HALT.
+const FRAME: [u16; 5] = [0xA190, 0x0200, 0x9064, 0x7464, 0xB000];
+
+#[test]
+fn a_list_that_comes_back_is_used_again(rt: HostRuntime) -> Result<(), OutOfMemory> {
+    let mut generator = Generator::new(rt.alloc());
+    generator.start();
+    let drawn = told_words(&mut generator, &FRAME)?;
+    generator.start();
+    let _ = told_words(&mut generator, &FRAME[..4])?;
+    let _ = told(&mut generator, Some(0x00))?;
+    let Taken::Done(strokes) = generator.take_byte(Some(0xB0))? else {
+        return Ok(());
+    };
+    assert_eq!(rt; strokes.len(), 1);
+    generator.reuse(strokes);
+    generator.start();
+    assert_eq!(rt; told_words(&mut generator, &FRAME)?, drawn);
+    Ok(())
+}
+
 /// Whether the generator takes its next byte as the low one of word zero.
 fn begins(generator: &mut Generator<Global>) -> Result<bool, OutOfMemory> {
     let is_first = generator.wants() == Some(0) && !generator.wants_high();

@@ -26,6 +26,10 @@ pub fn read_up_to<A: Allocator, R: Read>(
         if count == 0 {
             return Ok(bytes);
         }
+        // A second piece gets all the room at once: to grow step by step would copy and touch more.
+        if !bytes.is_empty() && bytes.reserve(most + 1 - bytes.len()).is_err() {
+            return Err(ToolFault::Memory);
+        }
         if bytes.extend_from_slice(&piece[..count]).is_err() {
             return Err(ToolFault::Memory);
         }

@@ -25,11 +25,10 @@ pub struct World<S: Store> {
 }
 
 impl<S: Store> World<S> {
-    /// A world after a reset of the whole system: the RAM holds this image, the generator is halted
-    /// with the beam at 0, 0 and scale 0, the driver boots, and no strobe is under way. It takes
-    /// its memory from this allocator: that of its store, and then some 105 KB for the tables of
-    /// the check. A fetch takes memory later on, for the list of a run's strokes, and nothing else
-    /// does.
+    /// A world at its beginning: the RAM holds this image, the generator is halted with the beam at
+    /// 0, 0 and scale 0, the driver boots, and no strobe is under way. It takes its memory from
+    /// this allocator: that of its store, and then some 105 KB for the tables of the check. A fetch
+    /// takes memory later on, for the list of a run's strokes, and nothing else does.
     pub fn new(
         alloc: S::Alloc,
         rom: Rom<S::Alloc>,
