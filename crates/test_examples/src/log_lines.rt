@@ -8,6 +8,6 @@ use std::alloc::Global;
 fn a_broken_run_has_a_line(rt: HostRuntime) {
     let mut line = EntryLine::new(65535);
     let entry: OwnEntry<Global> = Entry::Broke(0xFFF, GenFault::Hole);
-    line.become_next(&entry);
+    line.become_next(&entry, 0);
     assert!(rt; line.as_bytes() == b"65535 broke FFF 3\n".as_slice());
 }
