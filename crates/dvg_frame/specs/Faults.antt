@@ -34,8 +34,7 @@ pub record Least (F : List OpKind) (R : List ℕ) (fault : FrameFault) : Type 0 
   pub first : (q : Place) (e : ℕ) (other : FrameFault) → Reached F R q e → Bad F R q e other → Precedes place depth q e
   pub least : (other : FrameFault) → Bad F R place depth other → rank fault ≤ rank other
 
--- the fault that is picked: faults 1 to 4 in their order, then that of the first reached pair, and last a loop; when
--- each of the faults 5 to 8 holds at a pair, a case of `Bad` says
+-- the fault that is picked: faults 1 to 4 in their order, then that of the first reached pair (`Bad`), and last a loop
 abbrev pub Refuses : List OpKind → List ℕ → FrameFault → Type 0
 Refuses F R Empty = F ≡ []
 Refuses F R NoLabs = (0 < length F) × ¬ BeginsWithLabs F

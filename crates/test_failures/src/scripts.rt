@@ -2,7 +2,7 @@
 use dvg_code::{Code, Instr};
 use dvg_frame::{Draft, Op, OpKind};
 use dvg_mem::{Image, Rom, Store};
-use dvg_print::Line;
+use dvg_print::{EntryLine, Line};
 use dvg_world::{Entry, Event, MOST_EVENTS, OwnEntry, OwnEvent, Trace, run, run_trace};
 use std::alloc::{Allocator, Global};
 use std::test::Fail;
@@ -152,10 +152,15 @@ fn trace(alloc: Global, steps: &[Step]) -> Result<Trace, Fail> {
 /// picture below it.
 pub fn entries_text<A: Allocator>(alloc: Global, entries: &[OwnEntry<A>]) -> Result<Vec<u8>, Fail> {
     let mut text = Vec::new(alloc);
+    let mut entry_line = EntryLine::new(0);
     let mut line = Line::new();
-    for (number, entry) in entries.iter().enumerate() {
-        line.become_entry(number, entry);
-        text.extend_from_slice(line.as_bytes())?;
+    for entry in entries {
+        let drew = match entry {
+            Entry::Done(_, _, strokes) => strokes.len(),
+            _ => 0,
+        };
+        entry_line.become_next(entry, drew);
+        text.extend_from_slice(entry_line.as_bytes())?;
         if let Entry::Done(_, _, strokes) = entry {
             for stroke in strokes.as_slice() {
                 line.become_stroke(*stroke);
