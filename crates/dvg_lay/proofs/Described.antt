@@ -2,7 +2,7 @@
 use Rattle.std.proofs.Common.{◌≡◌, ◌<◌, ℕ, List, All, get_or, length, take}
 use Rattle.dvg_named.specs.declared.meaning.NamedFrame.{NamedFrame}
 use Rattle.dvg_named.specs.declared.meaning.RomName.{RomName}
-use Rattle.dvg_lay.specs.Refusals.{IsFault, IsFirst, IsGood, NamesRomOnly, IsUnlaid, TellsFault, TellsLow}
+use Rattle.dvg_lay.specs.Refusals.{IsFault, IsFirst, IsGood, NamesHighRom, IsUnlaid, TellsFault, TellsLow}
 use Rattle.dvg_lay.specs.declared.refusal.Refusal.{Refusal}
 use Rattle.dvg_lay.specs.declared.refusal.Unlaid.{Unlaid}
 use Rattle.dvg_lay.specs.declared.refusal.Unlaid.TheVariants.{Refused, Memory}
@@ -20,6 +20,6 @@ module _ {A : Type 0} (names : List RomName) (frames : List NamedFrame) (i : ℕ
   fault_at R good = unlaid_weaker _ _ (λ refusal described. first_at (IsGood R) (TellsFault R names refusal) frames i frame low is good described)
 
   -- a frame that a table can't express, after others that it can
-  pub low_at : All NamesRomOnly (take i frames) → (unlaid : Unlaid A) → IsUnlaid (λ refusal. TellsLow names refusal frame) unlaid
-      → IsUnlaid (λ refusal. IsFirst NamesRomOnly (TellsLow names refusal) frames) unlaid
-  low_at described = unlaid_weaker _ _ (λ refusal tells. first_at NamesRomOnly (TellsLow names refusal) frames i frame low is described tells)
+  pub low_at : All NamesHighRom (take i frames) → (unlaid : Unlaid A) → IsUnlaid (λ refusal. TellsLow names refusal frame) unlaid
+      → IsUnlaid (λ refusal. IsFirst NamesHighRom (TellsLow names refusal) frames) unlaid
+  low_at described = unlaid_weaker _ _ (λ refusal tells. first_at NamesHighRom (TellsLow names refusal) frames i frame low is described tells)

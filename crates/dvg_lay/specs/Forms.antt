@@ -7,7 +7,7 @@ use Rattle.dvg_lay.specs.declared.form.Form.TheVariants.{Bytes, Tables, RomBytes
 use Rattle.dvg_lay.specs.declared.form.Laid.{Laid}
 use Rattle.dvg_lay.specs.declared.form.Laid.TheVariants as laids
 use Rattle.dvg_lay.specs.declared.refusal.Refusal.{Refusal}
-use Rattle.dvg_lay.specs.Refusals.{IsFault, IsGood, IsLow, NamesRomOnly}
+use Rattle.dvg_lay.specs.Refusals.{IsFault, IsGood, IsLow, NamesHighRom}
 use Rattle.dvg_lay.specs.Texts.{frames_bytes, name_lines, tables}
 
 -- what is laid out over a ROM
@@ -17,9 +17,9 @@ form_text Tables R names frames = tables 0 frames
 form_text RomBytes R names frames = R
 form_text RomNames R names frames = name_lines names
 
--- of these frames it may be: the check accepts all, and a table can tell all
+-- of these frames it may be: the check accepts all, and a table can express all
 abbrev pub MayLay : Form → (R : List ℕ) → List NamedFrame → Type 0
-MayLay Tables R frames = All (IsGood R) frames × All NamesRomOnly frames
+MayLay Tables R frames = All (IsGood R) frames × All NamesHighRom frames
 MayLay _ R frames = All (IsGood R) frames
 
 -- the refusal tells why it may not be

@@ -35,9 +35,9 @@ NamesRom (CallRom a) = 0x400 ≤ a
 NamesRom (JumpRom a) = 0x400 ≤ a
 NamesRom op = Unit {0}
 
--- each operation of the frame names words of the ROM from 400 on
-abbrev pub NamesRomOnly : NamedFrame → Type 0
-NamesRomOnly frame = All NamesRom frame.ops.now
+-- what the operations of the frame name of the ROM stands from 400 on
+abbrev pub NamesHighRom : NamedFrame → Type 0
+NamesHighRom frame = All NamesRom frame.ops.now
 
 -- this is the first item of which `Good` doesn't hold; what is said of it is `Bad`
 pub record IsFirst {X : Type 0} (Good Bad : X → Type 0) (xs : List X) : Type 0 where
@@ -115,7 +115,7 @@ TellsLow names refusal frame = (i : ℕ) × IsFirstLow frame.ops.now i × (refus
 -- the check accepts all frames, and the refusal tells of the first that a table can't express
 abbrev pub IsLow : {A : Type 0} → (R : List ℕ) → List RomName → List NamedFrame → Refusal A → Type 0
 IsLow R names frames refusal =
-    All (IsGood R) frames × IsFirst NamesRomOnly (TellsLow names refusal) frames
+    All (IsGood R) frames × IsFirst NamesHighRom (TellsLow names refusal) frames
 
 -- why nothing is laid out: the refusal that `Tells` allows, or want of memory
 abbrev pub IsUnlaid : {A : Type 0} → (Tells : Refusal A → Type 0) → Unlaid A → Type 0

@@ -3,7 +3,7 @@ ghost use Rattle.std.specs.Prelude.{◌≡◌, ◌<◌, ◌↔◌, All, IfErr, I
 ghost use Rattle.std.specs.Prelude.{option_map};
 ghost use Rattle.dvg_frame.specs.Picture.{IsBound};
 ghost use Rattle.dvg_lay.specs.Refusals.{Blames, IsFault, IsFirst, IsFirstLow, IsGood, IsLent};
-ghost use Rattle.dvg_lay.specs.Refusals.{IsNameBefore, IsNearer, NamesRomOnly, IsUnlaid, NamesBefore};
+ghost use Rattle.dvg_lay.specs.Refusals.{IsNameBefore, IsNearer, NamesHighRom, IsUnlaid, NamesBefore};
 ghost use Rattle.dvg_lay.specs.Refusals.{NamesRom, TellsFault, TellsLow, line_of, place_of};
 
 use crate::refusal::{Blamed, Reason, Refusal, Unlaid};
@@ -208,15 +208,15 @@ fn first_low(ops: &[Op]) -> Option<usize>
 }
 
 /// Tells of the first frame with an operation that names a word of the ROM below 400.
-pub(crate) fn check_names<A: Allocator + Copy>(
+pub(crate) fn check_low_words<A: Allocator + Copy>(
     alloc: A,
     names: &[RomName],
     frames: &[NamedFrame],
 ) -> Result<(), Unlaid<A>>
     requires { All IsLent frames.now }
-    ensures expressible { OnOk result (All NamesRomOnly frames.now) }
+    ensures expressible { OnOk result (All NamesHighRom frames.now) }
     ensures refused { IfErr result (IsUnlaid (λ refusal.
-        IsFirst NamesRomOnly (TellsLow names.now refusal) frames.now)) }
+        IsFirst NamesHighRom (TellsLow names.now refusal) frames.now)) }
 {
     for frame in frames {
         if let Some(i) = first_low(frame.ops) {

@@ -1,9 +1,9 @@
 //! What is laid out of a sketch.
 ghost use Rattle.std.specs.Prelude.{◌≡◌, ◌⊎◌, All, IfErr, IfOk, OnOk};
-ghost use Rattle.dvg_lay.specs.Refusals.{IsFault, IsGood, IsLent, IsLow, NamesRomOnly, IsUnlaid};
+ghost use Rattle.dvg_lay.specs.Refusals.{IsFault, IsGood, IsLent, IsLow, NamesHighRom, IsUnlaid};
 ghost use Rattle.dvg_lay.specs.Texts.{frames_bytes, name_lines, tables};
 
-use crate::checking::{check_all, check_names, good_frame};
+use crate::checking::{check_all, check_low_words, good_frame};
 use crate::names::put_names;
 use crate::refusal::Unlaid;
 use crate::table::{put_laid, put_table};
@@ -90,7 +90,7 @@ pub fn lay_tables<A: Allocator + Copy>(
 ) -> Result<Vec<u8, A>, Unlaid<A>>
     requires { All IsLent frames.now }
     ensures good { OnOk result (All (IsGood rom.now) frames.now) }
-    ensures expressible { OnOk result (All NamesRomOnly frames.now) }
+    ensures expressible { OnOk result (All NamesHighRom frames.now) }
     ensures laid { IfOk result (λ text. text.items ≡ tables 0 frames.now) }
     ensures refused { IfErr result
         (IsUnlaid (λ refusal. IsFault rom.now names.now frames.now refusal
@@ -100,7 +100,7 @@ pub fn lay_tables<A: Allocator + Copy>(
         Ok(text) => text,
         Err(unlaid) => return Err(unlaid),
     };
-    match check_names(alloc, names, frames) {
+    match check_low_words(alloc, names, frames) {
         Ok(()) => Ok(text),
         Err(unlaid) => Err(unlaid),
     }

@@ -36,14 +36,18 @@ stops A T show Writer old new input (pictures, found, begun) = (strokes_of pictu
 pub drawn_whole : {A : Type 0} (R : List ℕ) (events : List Happening) (drawn : Drawn A) (answer : Result (Vec (Vec Stroke A) A) ToolFault) → Draws R zeros events drawn → drawn.is_whole ≡ true
     → IfOk answer (λ pictures. strokes_of pictures.items ≡ map (λ picture. picture.strokes.items) drawn.pictures.items)
     → IfOk answer (λ pictures. (text : List ℕ) → GivesTrace text events R → ShowsPictures text (strokes_of pictures.items))
-drawn_whole R events drawn (Ok pictures) draws all is = λ text gives. (draws.log, record {
-  events = events;
-  R = R;
-  gives = gives;
-  legal = draws.legal;
-  headline = draws.headline;
-  in_order = draws.in_order ∙ (λ i. events_shown draws.log i ++ (subst (λ is_whole. IsEndOf is_whole R zeros draws.log draws.later) all draws.ends) i);
-}, is ∙ strokes_seen drawn.pictures.items ∙ ap (map (λ picture. picture.1)) draws.kept)
+drawn_whole R events drawn (Ok pictures) draws all is = λ text gives. (
+  draws.log,
+  record {
+    events = events;
+    R = R;
+    gives = gives;
+    legal = draws.legal;
+    headline = draws.headline;
+    in_order = draws.in_order ∙ (λ i. events_shown draws.log i ++ (subst (λ is_whole. IsEndOf is_whole R zeros draws.log draws.later) all draws.ends) i);
+  },
+  is ∙ strokes_seen drawn.pictures.items ∙ ap (map (λ picture. picture.1)) draws.kept,
+)
 drawn_whole R events drawn (Err fault) draws all is = tt
 
 -- what is found of a trace that was read is found of the input

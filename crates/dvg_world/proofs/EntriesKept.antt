@@ -1,5 +1,5 @@
 -- Entries that are kept, one more after the others.
-use Rattle.std.proofs.Common.{◌≡◌, ℕ, zero, suc, ◌+◌, ◌<◌, ◌≤◌, List, [], ◌∷◌, ◌++◌, map, length, get_or, All, Option, Some, None, Vec, refl, sym, ap, ◌∙◌, subst, arith, length-append}
+use Rattle.std.proofs.Common.{◌≡◌, ℕ, ◌+◌, ◌<◌, ◌≤◌, List, [], ◌∷◌, ◌++◌, map, length, get_or, All, Some, Vec, refl, sym, ap, ◌∙◌, subst, arith, length-append}
 use Rattle.std.proofs.lemmas.List.{append-nil, get_or_append_left, length-map, map-append}
 use Rattle.std.proofs.lemmas.Option.{none-some, same_Some}
 use Rattle.std.proofs.lemmas.List.Elements.{All-cons, All-head, All-push, All-tail}
@@ -7,7 +7,7 @@ use Rattle.std.proofs.Math.Seq.{get_or-append_seam}
 use Rattle.dvg_gen.specs.declared.stroke.Stroke.{Stroke}
 use Rattle.dvg_log.specs.declared.entry.Entry.{Entry}
 use Rattle.dvg_log.specs.declared.entry.Entry.TheVariants.{Done}
-use Rattle.dvg_log.specs.Entries.{OwnEntry, Shown, drew_in, map_entry, shown_of}
+use Rattle.dvg_log.specs.Entries.{OwnEntry, drew_in, map_entry, shown_of}
 use Rattle.dvg_log.specs.Events.{Happening}
 use Rattle.dvg_log.specs.Log.{Log, ◌⟼◌}
 use Rattle.dvg_world.specs.Keeping.{entries_in, entry_among}
@@ -69,11 +69,14 @@ pub kept_more : {A : Type 0} (kept more : List (Entry ℕ)) (drawn later : List 
     → AreEntries kept (length drawn) → map (entry_among (map (λ strokes. strokes.items) drawn)) kept ≡ entries_in log → length kept < 65536
     → more ≡ kept ++ map_entry (λ _. length drawn) entry ∷ [] → later ≡ drawn ++ drawn_more entry
     → AreEntries more (length later) × (map (entry_among (map (λ strokes. strokes.items) later)) more ≡ entries_in ((event ⟼ shown_of entry) ∷ log))
-kept_more {A = A} kept more drawn later entry event log are shown room more_is later_is = rw (more_is, later_is) (record {
-  count = (let size = length-append kept (last ∷ []) in omega (arith, size, room));
-  drawn = (let size = length-append kept (last ∷ []) in let few = (few_more drawn entry).1 in let old = are.drawn in omega (arith, size, few, old));
-  within = All-push (HasPicture (length all)) kept last (all_wider (length drawn) (length all) (few_more drawn entry).0 kept are.within) (last_within drawn entry);
-}, map-append (entry_among lists) kept (last ∷ []) ∙ ap (λ front. front ++ entry_among lists last ∷ []) before ∙ ap (λ shown. entries_in log ++ shown ∷ []) (shown_last drawn entry))
+kept_more {A = A} kept more drawn later entry event log are shown room more_is later_is = rw (more_is, later_is) (
+  record {
+    count = (let size = length-append kept (last ∷ []) in omega (arith, size, room));
+    drawn = (let size = length-append kept (last ∷ []) in let few = (few_more drawn entry).1 in let old = are.drawn in omega (arith, size, few, old));
+    within = All-push (HasPicture (length all)) kept last (all_wider (length drawn) (length all) (few_more drawn entry).0 kept are.within) (last_within drawn entry);
+  },
+  map-append (entry_among lists) kept (last ∷ []) ∙ ap (λ front. front ++ entry_among lists last ∷ []) before ∙ ap (λ shown. entries_in log ++ shown ∷ []) (shown_last drawn entry),
+)
   where
     last : Entry ℕ
     last = map_entry (λ _. length drawn) entry

@@ -1,5 +1,5 @@
 -- What is kept of the events of a trace, one after the other.
-use Rattle.std.proofs.Common.{◌≡◌, ℕ, ◌+◌, ◌<◌, ◌≤◌, List, [], ◌∷◌, ◌++◌, reverse, length, drop, get_or, slice_get, refl, sym, ap, ◌∙◌, subst, inl, inr, Bool, true, false, append_assoc, arith}
+use Rattle.std.proofs.Common.{◌≡◌, ℕ, ◌+◌, ◌<◌, ◌≤◌, List, [], ◌∷◌, ◌++◌, reverse, length, drop, get_or, refl, sym, ap, ◌∙◌, subst, inl, inr, Bool, true, false, append_assoc, arith}
 use Rattle.std.proofs.lemmas.List.{reverse-append, drop_more, drop_all}
 use Rattle.std.proofs.lemmas.Option.{slice_get-get_or}
 use Rattle.dvg_log.specs.Entries.{Shown}

@@ -10,8 +10,10 @@ ghost use Rattle.dvg_log.specs.Events.{happening_of};
 
 use dvg_driver::Action;
 use dvg_mem::{Flat, Image, Rom};
-use dvg_world::{Entries, Event, OwnEntry, OwnEvent, Picture, Trace, TraceEvent, World};
-use dvg_world::{draw_trace, log_trace, run, run_trace};
+use dvg_world::{
+    Entries, Event, OwnEntry, OwnEvent, Picture, Trace, TraceEvent, World, draw_trace, log_trace,
+    run, run_trace,
+};
 use std::alloc::Global;
 
 /// The first tick of a new world is the driver's peek, over each ROM and image. None where there is

@@ -168,7 +168,7 @@ fn first_low(ops: &[Op]) -> Option<usize> {
 }
 
 /// Tells of the first frame with an operation that names a word of the ROM below 400.
-pub(crate) fn check_names<A: Allocator + Copy>(
+pub(crate) fn check_low_words<A: Allocator + Copy>(
     alloc: A,
     names: &[RomName],
     frames: &[NamedFrame],

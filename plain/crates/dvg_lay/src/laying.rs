@@ -1,7 +1,7 @@
 //! What is laid out of a sketch.
 use std::prelude::*;
 
-use crate::checking::{check_all, check_names, good_frame};
+use crate::checking::{check_all, check_low_words, good_frame};
 use crate::names::put_names;
 use crate::refusal::Unlaid;
 use crate::table::{put_laid, put_table};
@@ -80,7 +80,7 @@ pub fn lay_tables<A: Allocator + Copy>(
         Ok(text) => text,
         Err(unlaid) => return Err(unlaid),
     };
-    match check_names(alloc, names, frames) {
+    match check_low_words(alloc, names, frames) {
         Ok(()) => Ok(text),
         Err(unlaid) => Err(unlaid),
     }

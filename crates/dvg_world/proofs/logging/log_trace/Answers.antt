@@ -1,4 +1,4 @@
-use Rattle.std.proofs.Common.{rules, ◌≡◌, ◌<◌, ◌≤◌, length, ◌∙◌}
+use Rattle.std.proofs.Common.{rules, ◌<◌, ◌≤◌, length, ◌∙◌}
 use Rattle.dvg_log.specs.Entries.{shown_of}
 use Rattle.dvg_world.proofs.KeptSoFar.{happened_all, happened_part, happened_so, keeps_more}
 use Rattle.dvg_world.proofs.logging.log_trace.Goals as goal

@@ -21,17 +21,17 @@ loop-number-preserved g c =
     let inside : n < length c.args.trace.now = search rules in
     elim c.match-entry.branch [
       | in-Done w ↦ record {
-          so_far = keeps_more (shown_of entry) c.loop-number.invariant.so_far inside c.in-Ok-happen_of.ensures.stands
-              (one_picture before c.match-entry.pictures.items n entry w.in-Done.field-0 w.in-Done.field-1 w.in-Done.strokes w.in-Done.is (search rules));
-          few = search rules;
-          room = search rules;
-        }
+        so_far = keeps_more (shown_of entry) c.loop-number.invariant.so_far inside c.in-Ok-happen_of.ensures.stands
+            (one_picture before c.match-entry.pictures.items n entry w.in-Done.field-0 w.in-Done.field-1 w.in-Done.strokes w.in-Done.is (search rules));
+        few = search rules;
+        room = search rules;
+      }
       | in_default-entry w ↦ record {
-          so_far = keeps_more (shown_of entry) c.loop-number.invariant.so_far inside c.in-Ok-happen_of.ensures.stands
-              (λ event log kept count. subst (λ pictures. map picture_seen pictures.items ≡ pictures_of ((event ⟼ shown_of entry) ∷ log)) (sym w.pictures-is) (no_picture (map picture_seen before) entry w.in_default-entry.not-Done event log kept));
-          few = search rules;
-          room = search rules;
-        }
+        so_far = keeps_more (shown_of entry) c.loop-number.invariant.so_far inside c.in-Ok-happen_of.ensures.stands
+            (λ event log kept count. subst (λ pictures. map picture_seen pictures.items ≡ pictures_of ((event ⟼ shown_of entry) ∷ log)) (sym w.pictures-is) (no_picture (map picture_seen before) entry w.in_default-entry.not-Done event log kept));
+        few = search rules;
+        room = search rules;
+      }
     ]
 
 pub returns : goal.returns

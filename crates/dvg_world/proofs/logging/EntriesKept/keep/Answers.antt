@@ -1,6 +1,6 @@
-use Rattle.std.proofs.Common.{rules, ◌≡◌, ◌<◌, ◌∷◌, ◌++◌, [], length, ap, sym, ◌∙◌, arith}
+use Rattle.std.proofs.Common.{rules, ◌≡◌, ◌<◌, ◌∷◌, ◌++◌, [], length}
 use Rattle.dvg_log.specs.Entries.{map_entry}
-use Rattle.dvg_world.proofs.EntriesKept.{drawn_more, kept_more, none_drawn, one_drawn}
+use Rattle.dvg_world.proofs.EntriesKept.{drawn_more, kept_more}
 use Rattle.dvg_world.proofs.logging.EntriesKept.keep.Goals.{in-Some, in_default}
 use Rattle.dvg_world.proofs.logging.EntriesKept.keep.Goals as goal
 
