@@ -13,7 +13,7 @@ use Rattle.dvg_6502.specs.Board.{is_hardware, source_in, goal_in}
 use Rattle.dvg_6502.specs.Feed.{fed}
 use Rattle.dvg_6502.specs.Holds.{IsFeeding, Holds, publish_byte}
 use Rattle.dvg_6502.specs.Tables.{AreExpressible, table_of, TableMisses}
-use Rattle.dvg_6502.proofs.Tables.{table_law}
+use Rattle.dvg_6502.proofs.TableFed.{table_law}
 
 -- the driver's bytes begin a table, which stands in memory
 pub record BeginsTable (mem : ℕ → ℕ) (t : ℕ) (half : Half) (F : List OpKind) : Type 0 where

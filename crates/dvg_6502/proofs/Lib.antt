@@ -4,7 +4,7 @@ pub mod ShortTicks
 pub mod StoredByte
 pub mod FedByte
 pub mod Moving
-pub mod Told
+pub mod TableFed
 pub mod Begun
 pub mod Checked
 pub mod Acting

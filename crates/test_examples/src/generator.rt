@@ -99,6 +99,20 @@ fn addresses_are_wanted(rt: HostRuntime) -> Result<(), OutOfMemory> {
     Ok(())
 }
 
+/// What a run drew that this byte finishes. None where it finishes none.
+fn finished(
+    generator: &mut Generator<Global>,
+    byte: u8,
+) -> Result<Option<Vec<Stroke, Global>>, OutOfMemory> {
+    if generator.halted() {
+        return Ok(None);
+    }
+    Ok(match generator.take_byte(Some(byte))? {
+        Taken::Done(strokes) => Some(strokes),
+        _ => None,
+    })
+}
+
 /// A frame of one vector: LABS, VCTR and HALT.
 const FRAME: [u16; 5] = [0xA190, 0x0200, 0x9064, 0x7464, 0xB000];
 
@@ -110,12 +124,12 @@ fn a_list_that_comes_back_is_used_again(rt: HostRuntime) -> Result<(), OutOfMemo
     generator.start();
     let _ = told_words(&mut generator, &FRAME[..4])?;
     let _ = told(&mut generator, Some(0x00))?;
-    let strokes = match generator.take_byte(Some(0xB0))? {
-        Taken::Done(strokes) => strokes,
-        _ => Vec::new(rt.alloc()),
-    };
-    assert_eq!(rt; strokes.len(), 1);
-    generator.reuse(strokes);
+    let strokes = finished(&mut generator, 0xB0)?;
+    assert!(rt; strokes.is_some());
+    if let Some(strokes) = strokes {
+        assert_eq!(rt; strokes.len(), 1);
+        generator.reuse(strokes);
+    }
     generator.start();
     assert_eq!(rt; told_words(&mut generator, &FRAME)?, drawn);
     Ok(())

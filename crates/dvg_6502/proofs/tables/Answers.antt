@@ -1,4 +1,4 @@
-use Rattle.dvg_6502.proofs.Tables.{table_law}
+use Rattle.dvg_6502.proofs.TableFed.{table_law}
 use Rattle.dvg_6502.proofs.tables.Goals as goal
 
 pub returns : goal.returns
