@@ -152,13 +152,15 @@ fn trace(alloc: Global, steps: &[Step]) -> Result<Trace, Fail> {
 /// picture below it.
 pub fn entries_text<A: Allocator>(alloc: Global, entries: &[OwnEntry<A>]) -> Result<Vec<u8>, Fail> {
     let mut text = Vec::new(alloc);
-    let mut entry_line = EntryLine::new(0);
     let mut line = Line::new();
-    for entry in entries {
+    // There are no more entries than a number of 64 bits tells.
+    let _ = entries.len();
+    for (number, entry) in entries.iter().enumerate() {
         let drew = match entry {
             Entry::Done(_, _, strokes) => strokes.len(),
             _ => 0,
         };
+        let mut entry_line = EntryLine::new(number);
         entry_line.become_next(entry, drew);
         text.extend_from_slice(entry_line.as_bytes())?;
         if let Entry::Done(_, _, strokes) = entry {
