@@ -118,8 +118,8 @@ fn put_drawn(table: &mut Table, place: Place, way: Way)
     ensures kept { KeepsKnown table.old table.new }
     ensures has { HasPlace table.new place }
 {
+    let drawn = draw(table, way);
     if table.at(place).is_none() {
-        let drawn = draw(table, way);
         table.put(place, drawn);
     }
 }
@@ -158,8 +158,9 @@ fn follow<A: Allocator>(
         let Ok(way) = look(draft, rom, pair) else {
             return false;
         };
+        let next = onward(way);
         chain.push(pair);
-        match onward(way) {
+        match next {
             Some(next) => place = next,
             None => return true,
         }

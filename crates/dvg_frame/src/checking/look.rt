@@ -6,7 +6,7 @@ ghost use Rattle.dvg_frame.specs.own.Ways.{HasFaultAt, IsPlaceOf, IsLeast, Stand
 ghost use Rattle.dvg_frame.specs.declared.fault.FrameFault.{FrameFault};
 
 use crate::checking::pair::{DEEPEST, Pair};
-use crate::checking::way::{Way, way_at};
+use crate::checking::way::{Way, is_outside, way_at};
 use crate::draft::Draft;
 use crate::fault::FrameFault;
 use crate::place::Place;
@@ -36,21 +36,24 @@ fn fault_at<A: Allocator>(rom: &Rom<A>, count: usize, pair: Pair, seen: Way) -> 
     ensures { MatchOption result ((fault : FrameFault) → ¬ HasFaultAt rom.now count pair seen fault)
         (λ fault. IsLeast (HasFaultAt rom.now count pair seen) fault) }
 {
-    if seen.goes_on() {
-        if let Some(i) = last_op(count, pair.place) {
-            return Some(FrameFault::RunsOff(i));
-        }
+    match seen {
+        Way::Move(after, _) => match last_op(count, pair.place) {
+            Some(i) => Some(FrameFault::RunsOff(i)),
+            None if is_outside(rom, after) => Some(FrameFault::OutOfRom(pair.place)),
+            None => None,
+        },
+        Way::Jump(to) if is_outside(rom, to) => Some(FrameFault::OutOfRom(pair.place)),
+        Way::Call(to, after) => match last_op(count, pair.place) {
+            Some(i) => Some(FrameFault::RunsOff(i)),
+            None if is_outside(rom, to) || is_outside(rom, after) => {
+                Some(FrameFault::OutOfRom(pair.place))
+            }
+            None if pair.depth == DEEPEST => Some(FrameFault::TooDeep(pair.place)),
+            None => None,
+        },
+        Way::Return if pair.depth == 0 => Some(FrameFault::NoCaller(pair.place)),
+        Way::Jump(_) | Way::Return | Way::Halt => None,
     }
-    if seen.leads_outside(rom) {
-        return Some(FrameFault::OutOfRom(pair.place));
-    }
-    if seen.is_call() && pair.depth == DEEPEST {
-        return Some(FrameFault::TooDeep(pair.place));
-    }
-    if seen.is_return() && pair.depth == 0 {
-        return Some(FrameFault::NoCaller(pair.place));
-    }
-    None
 }
 
 // The way on from a pair without a fault, or the fault of least number there.

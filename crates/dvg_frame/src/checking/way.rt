@@ -2,8 +2,8 @@
 ghost use Rattle.std.specs.Prelude.{◌≡◌, ◌<◌, ◌≤◌, ◌↔◌, List, IsTrue, MatchOption};
 ghost use Rattle.dvg_mem.specs.Memory.{IsRom, first_word};
 ghost use Rattle.dvg_frame.specs.Steps.{op_act};
-ghost use Rattle.dvg_frame.specs.own.Ways.{EndsWithin, GoesOn, IsCall, IsPlaceOf, IsReturn};
-ghost use Rattle.dvg_frame.specs.own.Ways.{LeadsOutside, Outside, StandsSo, way};
+ghost use Rattle.dvg_frame.specs.own.Ways.{EndsWithin, IsPlaceOf};
+ghost use Rattle.dvg_frame.specs.own.Ways.{Outside, StandsSo, way};
 ghost use Rattle.dvg_frame.specs.declared.op.OpKind.{OpKind};
 
 use crate::checking::pair::ROM_END;
@@ -28,42 +28,8 @@ pub(crate) enum Way {
     Halt,
 }
 
-impl Way {
-    // Whether it leads to the place after it.
-    pub(crate) fn goes_on(self) -> bool
-        ensures { IsTrue result ↔ GoesOn self }
-    {
-        matches!(self, Way::Move(_, _) | Way::Call(_, _))
-    }
-
-    // Whether it leads to an address outside the ROM.
-    pub(crate) fn leads_outside<A: Allocator>(self, rom: &Rom<A>) -> bool
-        ensures { IsTrue result ↔ LeadsOutside rom.now self }
-    {
-        match self {
-            Way::Move(next, _) | Way::Jump(next) => is_outside(rom, next),
-            Way::Call(target, after) => is_outside(rom, target) || is_outside(rom, after),
-            Way::Return | Way::Halt => false,
-        }
-    }
-
-    // Whether it is a call.
-    pub(crate) fn is_call(self) -> bool
-        ensures { IsTrue result ↔ IsCall self }
-    {
-        matches!(self, Way::Call(_, _))
-    }
-
-    // Whether it is a return.
-    pub(crate) fn is_return(self) -> bool
-        ensures { IsTrue result ↔ IsReturn self }
-    {
-        matches!(self, Way::Return)
-    }
-}
-
 // Whether a place is at an address outside the ROM.
-fn is_outside<A: Allocator>(rom: &Rom<A>, place: Place) -> bool
+pub(crate) fn is_outside<A: Allocator>(rom: &Rom<A>, place: Place) -> bool
     ensures { IsTrue result ↔ Outside rom.now place }
 {
     match place {

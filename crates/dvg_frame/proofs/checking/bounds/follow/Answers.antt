@@ -55,13 +55,13 @@ pub returns-in-None-clause-followed : goal.returns-in-None-clause-followed
 returns-in-None-clause-followed g c =
     let i = c.loop-step.invariant in
     has_chain_ends _ _ c.requires.begins _ _ _ _ _ _ _ i.pairs _ refl i.is i.linked (good_by _ _ _ _ i.inside c.in-Ok.ensures.0 i.reached) c.push.ensures
-    (onward_nowhere _ _ _ _ c.in-Ok.ensures.1 (sym c.onward.ensures ∙ c.in-None.is))
+    (onward_nowhere _ _ _ _ c.in-Ok.ensures.1 (sym c.onward-next.ensures ∙ c.in-None.is))
 
 pub loop-step-preserved : goal.loop-step-preserved
 loop-step-preserved g c =
     let i = c.loop-step.invariant in
     let good = good_by _ _ _ _ i.inside c.in-Ok.ensures.0 i.reached in
-    let goes = onward_goes _ _ _ _ _ c.in-Ok.ensures.1 (sym c.onward.ensures ∙ c.in-Some.is) in
+    let goes = onward_goes _ _ _ _ _ c.in-Ok.ensures.1 (sym c.onward-next.ensures ∙ c.in-Some.is) in
     let both = has_linked_more _ _ c.requires.begins _ _ _ _ _ _ _ i.pairs _ refl i.is i.linked good c.push.ensures goes in
     record {
       pairs = _;
