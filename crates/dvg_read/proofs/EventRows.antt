@@ -1,12 +1,12 @@
 -- A line spells one list of events at most, and what it spells shows by its name.
-use Rattle.std.proofs.Common.{◌≡◌, ◌<◌, ◌≤◌, ℕ, List, [], ◌∷◌, Some, ◌⊎◌, inl, inr, length, replicate, get_or, refl, sym, ap, subst, ◌∙◌, arith, codes, decimal}
+use Rattle.std.proofs.Common.{◌≡◌, ◌<◌, ◌≤◌, ℕ, List, [], ◌∷◌, false, Some, ◌⊎◌, inl, inr, length, replicate, get_or, refl, sym, ap, subst, ◌∙◌, arith, codes, decimal}
 use Rattle.std.proofs.lemmas.Fmt.{decimal_injective}
 use Rattle.std.proofs.lemmas.List.{length-replicate}
 use Rattle.dvg_log.specs.Events.{Happening}
 use Rattle.dvg_log.specs.declared.event.Event.TheVariants.{Offer, Redraw, Tick, Strobe, Fetch, ResetGen, ResetCpu, ResetAll}
 use Rattle.std.proofs.lemmas.Int.Digits.{digits_value-lt}
 use Rattle.dvg_read.specs.EventLines.{TakesCount, IsNamed}
-use Rattle.dvg_read.specs.Texts.{IsHex, parts}
+use Rattle.dvg_read.specs.Texts.{IsHex, is_passed, parts}
 use Rattle.dvg_read.specs.TraceTexts.{Counts, EventParts, once, times, redraw, tick, strobe, fetch, resetgen, resetcpu, resetall}
 
 -- The rows, with the bytes of a reset as a function of the byte: a match on `EventParts` itself computes 2,048 of them.
@@ -293,3 +293,14 @@ few (resets_all h) = omega arith
 -- there are two parts at most
 pub few_parts : {events : List Happening} {ps : List (List ℕ)} → EventParts events ps → length ps ≤ 2
 few_parts h = few (row h)
+
+-- the name of an event isn't passed over
+pub named_unpassed : (event : Happening) (name : List ℕ) → IsNamed event name → is_passed name ≡ false
+named_unpassed (Offer F) name named = absurd named
+named_unpassed Redraw name named = rw named
+named_unpassed Tick name named = rw named
+named_unpassed Strobe name named = rw named
+named_unpassed Fetch name named = rw named
+named_unpassed ResetGen name named = rw named
+named_unpassed ResetCpu name named = rw named
+named_unpassed (ResetAll image) name named = absurd named

@@ -1,5 +1,5 @@
 -- What one more line makes of a trace that is read.
-use Rattle.std.proofs.Common.{append_assoc, ◌≡◌, ◌≢◌, ⊎_elim, get_or, set, slice_get, ◌<◌, ◌≤◌, ◌+◌, ◌-◌, ℕ, zero, suc, List, [], ◌∷◌, ◌++◌, length, replicate, refl, sym, ap, subst, ◌∙◌, arith, length-append, codes, All, Option, Some, None, Result, Ok, Err, OnOk, IfErr, Bool, true, false}
+use Rattle.std.proofs.Common.{append_assoc, ◌≡◌, ◌≢◌, ⊎_elim, get_or, set, slice_get, ◌<◌, ◌≤◌, ◌-◌, ℕ, zero, suc, List, [], ◌∷◌, ◌++◌, length, replicate, refl, sym, ap, subst, ◌∙◌, arith, length-append, codes, All, Option, Some, None, Result, Ok, Err, OnOk, IfErr, Bool, true, false}
 use Rattle.std.specs.Option.{is_some}
 use Rattle.std.proofs.lemmas.Bool.Decides.{eqb_tells}
 use Rattle.std.proofs.lemmas.Grind.{get_or-set_at}

@@ -1,8 +1,12 @@
 //! The lines of a text.
-ghost use Rattle.std.specs.Prelude.{◌≡◌};
+ghost use Rattle.std.specs.Prelude.{◌≡◌, IfSome};
+ghost use Rattle.dvg_read.specs.EventLines.{spelled_as};
+ghost use Rattle.dvg_read.specs.TextLines.{HasName};
 ghost use Rattle.dvg_read.specs.Texts.{is_passed};
 ghost use Rattle.memchr.specs.Find.{IsFirstByte, is_byte};
 
+use crate::event_line::SpelledEvent;
+use dvg_log::Event;
 use memchr::memchr;
 
 /// How many bytes are looked at one by one for the end of a line.
@@ -16,8 +20,9 @@ pub struct TextLines<'a> {
 }
 
 impl<'a> TextLines<'a> {
-    ghost use Rattle.std.specs.Prelude.{◌≡◌};
-    ghost use Rattle.dvg_read.specs.TextLines.{lines_left};
+    ghost use Rattle.std.specs.Prelude.{◌≡◌, IfNone, IfSome};
+    ghost use Rattle.dvg_read.specs.EventLines.{spelled_as};
+    ghost use Rattle.dvg_read.specs.TextLines.{HasName, lines_left};
     ghost use Rattle.dvg_read.specs.Texts.{lines};
 
     /// The lines of this text.
@@ -25,6 +30,32 @@ impl<'a> TextLines<'a> {
         ensures { lines_left result ≡ lines text.now }
     {
         TextLines { rest: text }
+    }
+
+    /// Takes the next line, if it is the name of one of the events that come most often: this event.
+    /// Else nothing is taken.
+    #[inline(always)]
+    pub(crate) fn take_name(&mut self) -> Option<SpelledEvent>
+        ensures taken { IfSome result (λ event. HasName self.old.rest.now (spelled_as event) self.new.rest.now) }
+        ensures kept { IfNone result (lines_left self.new ≡ lines_left self.old) }
+    {
+        let (event, rest) = name_at_head(self.rest)?;
+        self.rest = rest;
+        Some(event)
+    }
+}
+
+// The event whose name is the first line of a text, if it is one of those that come most often, and
+// what stands after that line.
+#[inline(always)]
+fn name_at_head(text: &[u8]) -> Option<(SpelledEvent, &[u8])>
+    ensures { IfSome result (λ head. HasName text.now (spelled_as head.0) head.1.now) }
+{
+    match text {
+        [b't', b'i', b'c', b'k', b'\n', rest @ ..] => Some((Event::Tick, rest)),
+        [b'f', b'e', b't', b'c', b'h', b'\n', rest @ ..] => Some((Event::Fetch, rest)),
+        [b's', b't', b'r', b'o', b'b', b'e', b'\n', rest @ ..] => Some((Event::Strobe, rest)),
+        _ => None,
     }
 }
 

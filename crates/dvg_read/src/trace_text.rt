@@ -1,9 +1,11 @@
 //! Texts of traces.
 ghost use Rattle.std.specs.Prelude.{◌≡◌, ◌↔◌, ◌+◌, ◌^◌, ◌<◌, ◌≤◌, ◌∷◌, [], ◌++◌, ℕ, List, codes};
-ghost use Rattle.std.specs.Prelude.{length, replicate, IfErr, IfOk, IsFalse, IsTrue, OnOk};
+ghost use Rattle.std.specs.Prelude.{length, replicate, IfErr, IfNone, IfOk, IfSome, IsFalse, IsTrue};
+ghost use Rattle.std.specs.Prelude.{OnOk};
 ghost use Rattle.dvg_frame.specs.declared.op.OpKind.{OpKind};
-ghost use Rattle.dvg_read.specs.EventLines.{happenings, spelled_as};
+ghost use Rattle.dvg_read.specs.EventLines.{IsNamed, happenings, spelled_as};
 ghost use Rattle.dvg_read.specs.OpLines.{IsOpLine};
+ghost use Rattle.dvg_read.specs.TextLines.{HasName, lines_left};
 ghost use Rattle.dvg_read.specs.TraceGives.{AreResets, GivesTrace, IsHeld, ReadsLine, StopsEvents};
 ghost use Rattle.dvg_read.specs.TraceGives.{StopsLine, StopsOperation, StopsReading, events_read};
 ghost use Rattle.dvg_read.specs.TraceGives.{fault_at, opened_of};
@@ -57,9 +59,19 @@ pub fn read_trace<A: Allocator + Copy>(alloc: A, text: &[u8]) -> Result<TraceTex
         is_open: false,
         resets: [None; 256],
     };
+    let mut lines = TextLines::new(text);
     let mut number = 0;
-    for line in TextLines::new(text) {
+    loop {
         number += 1;
+        if let Some(event) = reading.name_ahead(&mut lines) {
+            match reading.take_name(event) {
+                Ok(()) => continue,
+                Err(fault) => return Err(at_line(fault, number)),
+            }
+        }
+        let Some(line) = lines.next() else {
+            break;
+        };
         if is_passed(line) {
             continue;
         }
@@ -117,6 +129,37 @@ struct Reading<A: Allocator> {
 }
 
 impl<A: Allocator + Copy> Reading<A> {
+    // Takes the next line, if it is the name of an event and no offer is open: this event. Else
+    // nothing is taken.
+    #[inline(always)]
+    fn name_ahead(&self, lines: &mut TextLines) -> Option<SpelledEvent>
+        ensures outside { IfSome result (λ _. IsFalse self.now.is_open) }
+        ensures taken { IfSome result (λ event. HasName lines.old.rest.now
+            (spelled_as event) lines.new.rest.now) }
+        ensures kept { IfNone result (lines_left lines.new ≡ lines_left lines.old) }
+    {
+        if self.is_open {
+            return None;
+        }
+        lines.take_name()
+    }
+
+    // Reads one more line, which is the name of this event, where no offer is open.
+    #[inline(always)]
+    fn take_name(&mut self, event: SpelledEvent) -> Result<(), LineFault>
+        requires outside { IsFalse self.old.is_open }
+        requires held { IsHeld self.old }
+        ensures taken { (name : List ℕ) → IsNamed (spelled_as event) name
+            → OnOk result (ReadsLine self.old name self.new) }
+        ensures held { OnOk result (IsHeld self.new) }
+        ensures fault { (name : List ℕ) → IsNamed (spelled_as event) name
+            → IfErr result (λ fault. StopsLine fault (events_read self.old)
+            (opened_of self.old) self.old.rom name) }
+    {
+        let line = EventLine { event, count: 1 };
+        add_events(self.alloc, line, &mut self.resets, &mut self.events)
+    }
+
     // Reads one more line, which isn't passed over.
     fn take(&mut self, line: &[u8]) -> Result<(), LineFault>
         requires held { IsHeld self.old }
@@ -202,6 +245,7 @@ pub(crate) fn add_op(draft: &mut Draft, line: &[u8]) -> Result<(), LineFault>
 }
 
 // Adds the events of a line.
+#[inline(always)]
 fn add_events<A: Allocator>(
     alloc: A,
     repeated: EventLine,
@@ -233,6 +277,7 @@ pub(crate) fn count(repeated: &EventLine) -> usize
 }
 
 // Adds an event, this many times in a row: itself, and then the same again.
+#[inline(always)]
 fn add_times<A: Allocator>(
     alloc: A,
     event: SpelledEvent,
@@ -255,6 +300,7 @@ fn add_times<A: Allocator>(
 }
 
 // Adds an event.
+#[inline(always)]
 fn add_once<A: Allocator>(
     alloc: A,
     event: SpelledEvent,

@@ -1,5 +1,4 @@
 use Rattle.std.proofs.Common.{◌≡◌, ◌-◌, ◌++◌, OnOk, Some, replicate, slice_get}
-use Rattle.dvg_log.specs.Events.{Happening}
 use Rattle.dvg_read.specs.EventLines.{spelled_as}
 use Rattle.dvg_read.proofs.TraceMoves.{all_times, resets_stay_on, stands_last}
 use Rattle.dvg_read.proofs.trace_text.add_times.Goals as goal
