@@ -12,17 +12,17 @@ use dvg_print::Line;
 use std::alloc::Allocator;
 use std::io::Write;
 
-// Writes the line, and after it those of strokes, which are made in its place.
+// Writes the line, and after it those of strokes.
 fn write_with_strokes<W: Write>(
-    line: &mut Line,
+    line: &Line,
     strokes: &[Stroke],
     writer: &mut Watched<W>,
 ) -> Result<(), StreamFailed>
-    ensures { Writes W.contents (line.old ++ flat_map stroke_line strokes.now)
+    ensures { Writes W.contents (line.now ++ flat_map stroke_line strokes.now)
         result writer.old writer.new }
 {
     write_whole(writer, line.as_bytes())?;
-    write_strokes(line, strokes, writer)
+    write_strokes(strokes, writer)
 }
 
 // Writes the lines of an instruction that was run. They are made in `line`.

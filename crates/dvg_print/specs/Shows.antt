@@ -37,6 +37,10 @@ entry_parts (Broke address fault) = codes "broke" ∷ hex_3 address ∷ decimal 
 entry_parts Still = codes "still" ∷ []
 entry_parts Cleared = codes "cleared" ∷ []
 
+-- the text of a position (for a private contract)
+abbrev pub position_text : ℕ → ℕ → List ℕ
+position_text x y = decimal x ++ spaced (decimal y ∷ [])
+
 -- the line of a stroke, positions in 1/512 units; 10 is LF
 abbrev pub stroke_line : Stroke → List ℕ
 stroke_line stroke = decimal stroke.x0

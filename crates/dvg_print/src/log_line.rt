@@ -2,11 +2,10 @@
 ghost use Rattle.std.specs.Prelude.{◌≡◌, ◌≤◌, ◌+◌, ◌++◌, ◌∷◌, [], length, codes, decimal};
 ghost use Rattle.dvg_log.specs.Entries.{map_entry};
 ghost use Rattle.dvg_print.specs.Lines.{hex_3, hex_4, spaced};
-ghost use Rattle.dvg_print.specs.Shows.{action_parts, entry_parts, stroke_line};
+ghost use Rattle.dvg_print.specs.Shows.{action_parts, entry_parts, position_text};
 
 use crate::line::Line;
 use dvg_driver::Action;
-use dvg_gen::Stroke;
 use dvg_log::Entry;
 
 impl Line {
@@ -91,15 +90,12 @@ impl Line {
         self.text(b"\n");
     }
 
-    /// Becomes the line of a stroke.
-    pub fn become_stroke(&mut self, stroke: Stroke)
-        ensures { self.new ≡ stroke_line stroke }
+    // Becomes a position.
+    pub(crate) fn become_position(&mut self, x: u32, y: u32)
+        ensures text { self.new ≡ position_text x y }
+        ensures grew { length self.new ≤ 21 }
     {
-        self.become_number(stroke.x0);
-        self.number(stroke.y0);
-        self.number(stroke.x1);
-        self.number(stroke.y1);
-        self.number(stroke.z);
-        self.text(b"\n");
+        self.become_number(x);
+        self.number(y);
     }
 }

@@ -10,7 +10,7 @@ use dvg_log::{OwnEntry, Trace, TraceEvent};
 use dvg_mem::Store;
 
 // Takes these operations in place of a draft's own.
-fn fill(draft: &mut Draft, ops: &[Op])
+pub(crate) fn fill(draft: &mut Draft, ops: &[Op])
     requires { length ops.now ≤ 511 }
     ensures { draft.new ≡ ops.now }
 {

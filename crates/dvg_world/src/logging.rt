@@ -1,19 +1,19 @@
 //! The entries of a trace.
-ghost use Rattle.std.specs.Prelude.{◌≡◌, ◌+◌, ◌≤◌, ◌∷◌, [], false, length, map};
-ghost use Rattle.dvg_log.specs.Entries.{shown_of};
-ghost use Rattle.dvg_log.specs.Events.{Happening};
-ghost use Rattle.dvg_log.specs.Log.{Log, ◌⟼◌};
+ghost use Rattle.std.specs.Prelude.{◌≡◌, ◌+◌, ◌<◌, ◌≤◌, [], false, length, map, OnErr, OnOk};
+ghost use Rattle.dvg_log.specs.Entries.{Shown, shown_of};
 ghost use Rattle.dvg_world.specs.Keeping.{entry_among};
 ghost use Rattle.dvg_world.specs.Kept.{Logs};
 ghost use Rattle.dvg_world.specs.own.Entries.{AreEntries};
-ghost use Rattle.dvg_world.specs.own.Logging.{AreKept, room_left};
+ghost use Rattle.dvg_world.specs.own.Logging.{KeepsEntry, room_left};
+ghost use Rattle.dvg_world.specs.own.Stepping.{AddsEvent, WantsMemory};
 
 use crate::entries::Entries;
-use crate::happens::happen_of;
+use crate::happens::fill;
 use crate::world::World;
+use dvg_code::OutOfMemory;
 use dvg_frame::Draft;
 use dvg_gen::Stroke;
-use dvg_log::{Entry, OwnEntry, Trace};
+use dvg_log::{Entry, OwnEntry, Trace, TraceEvent};
 use dvg_mem::{Image, Rom, Store};
 use std::alloc::{Allocator, Global};
 
@@ -54,8 +54,7 @@ impl<A: Allocator> EntriesKept<A> {
     #[inline(always)]
     fn keep(&mut self, entry: OwnEntry<A>)
         requires { 1 ≤ room_left self.old }
-        ensures kept { (event : Happening) (log : Log) → AreKept self.old log
-            → AreKept self.new ((event ⟼ shown_of entry) ∷ log) }
+        ensures kept { KeepsEntry self.old (shown_of entry) self.new }
         ensures left { room_left self.old ≤ room_left self.new + 1 }
     {
         let (entry, drew) = entry.replace(self.drawn.len() as u16);
@@ -80,6 +79,44 @@ impl<A: Allocator> EntriesKept<A> {
             is_whole,
         }
     }
+}
+
+// Lets the event of this number of a trace happen to a world, as `happen_of` does, and keeps its
+// entry. It is kept where it comes about, so that the code knows which entries there may be.
+#[inline(always)]
+fn keep_next<S: Store>(
+    entries: &mut EntriesKept<S::Alloc>,
+    trace: &Trace<S::Alloc>,
+    number: usize,
+    draft: &mut Draft,
+    world: &mut World<S>,
+) -> Result<(), OutOfMemory>
+    requires inside { number < length trace.now }
+    requires left { 1 ≤ room_left entries.old }
+    ensures kept { OnOk result ((entry : Shown)
+        × AddsEvent trace.now number world.old entry world.new
+        × KeepsEntry entries.old entry entries.new) }
+    ensures left { OnOk result (room_left entries.old ≤ room_left entries.new + 1) }
+    ensures room { OnErr result (WantsMemory trace.now number world.old) }
+    ensures refused { OnErr result (entries.new ≡ entries.old) }
+{
+    match trace.event(number) {
+        TraceEvent::Offer(ops) => {
+            fill(draft, ops);
+            entries.keep(world.offer(draft));
+        }
+        TraceEvent::Redraw => entries.keep(world.redraw()),
+        TraceEvent::Tick => entries.keep(world.tick()),
+        TraceEvent::Strobe => entries.keep(world.strobe()),
+        TraceEvent::Fetch => match world.fetch() {
+            Ok(entry) => entries.keep(entry),
+            Err(refused) => return Err(refused),
+        },
+        TraceEvent::ResetGen => entries.keep(world.reset_generator()),
+        TraceEvent::ResetCpu => entries.keep(world.reset_processor()),
+        TraceEvent::ResetAll(image) => entries.keep(world.reset_all(image)),
+    }
+    Ok(())
 }
 
 /// Lets the events of a trace happen to a new world, as `run_trace` does, and keeps their entries
@@ -111,10 +148,10 @@ pub fn log_trace<S: Store>(
     let mut entries = EntriesKept { kept, drawn };
     let mut draft = Draft::new();
     for number in 0..trace.len() {
-        let Ok(entry) = happen_of(trace, number, &mut draft, &mut world) else {
-            return entries.logged(false);
-        };
-        entries.keep(entry);
+        match keep_next(&mut entries, trace, number, &mut draft, &mut world) {
+            Ok(()) => {}
+            Err(_) => return entries.logged(false),
+        }
     }
     entries.logged(true)
 }

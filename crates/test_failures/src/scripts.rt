@@ -2,7 +2,7 @@
 use dvg_code::{Code, Instr};
 use dvg_frame::{Draft, Op, OpKind};
 use dvg_mem::{Image, Rom, Store};
-use dvg_print::{EntryLine, Line};
+use dvg_print::{EntryLine, StrokeLine};
 use dvg_world::{Entry, Event, MOST_EVENTS, OwnEntry, OwnEvent, Trace, run, run_trace};
 use std::alloc::{Allocator, Global};
 use std::test::Fail;
@@ -152,7 +152,7 @@ fn trace(alloc: Global, steps: &[Step]) -> Result<Trace, Fail> {
 /// picture below it.
 pub fn entries_text<A: Allocator>(alloc: Global, entries: &[OwnEntry<A>]) -> Result<Vec<u8>, Fail> {
     let mut text = Vec::new(alloc);
-    let mut line = Line::new();
+    let mut line = StrokeLine::new();
     // There are no more entries than a number of 64 bits tells.
     let _ = entries.len();
     for (number, entry) in entries.iter().enumerate() {
@@ -165,7 +165,7 @@ pub fn entries_text<A: Allocator>(alloc: Global, entries: &[OwnEntry<A>]) -> Res
         text.extend_from_slice(entry_line.as_bytes())?;
         if let Entry::Done(_, _, strokes) = entry {
             for stroke in strokes.as_slice() {
-                line.become_stroke(*stroke);
+                line.become_next(stroke);
                 text.extend_from_slice(line.as_bytes())?;
             }
         }

@@ -1,6 +1,8 @@
 -- What is kept where all entries are.
-use Rattle.std.specs.Prelude.{◌≡◌, ◌-◌, ℕ, length, map, min, vec_capacity, vec_len}
-use Rattle.dvg_log.specs.Log.{Log}
+use Rattle.std.specs.Prelude.{◌≡◌, ◌-◌, ◌∷◌, ℕ, length, map, min, vec_capacity, vec_len}
+use Rattle.dvg_log.specs.Entries.{Shown}
+use Rattle.dvg_log.specs.Events.{Happening}
+use Rattle.dvg_log.specs.Log.{Log, ◌⟼◌}
 use Rattle.dvg_world.specs.declared.logging.EntriesKept.{EntriesKept}
 use Rattle.dvg_world.specs.Keeping.{entries_in, entry_among}
 use Rattle.dvg_world.specs.own.Entries.{AreEntries}
@@ -14,3 +16,7 @@ AreKept entries log = AreEntries entries.kept.items (length entries.drawn.items)
 abbrev pub room_left : {A : Type 0} → EntriesKept A → ℕ
 room_left entries = min (min (vec_capacity entries.kept) 65536 - vec_len entries.kept)
     (min (vec_capacity entries.drawn) 65536 - vec_len entries.drawn)
+
+-- one entry more is kept: that of the next line of a log
+abbrev pub KeepsEntry : {A : Type 0} → EntriesKept A → Shown → EntriesKept A → Type 0
+KeepsEntry old entry new = (event : Happening) (log : Log) → AreKept old log → AreKept new ((event ⟼ entry) ∷ log)
