@@ -6,14 +6,14 @@ use dvg_print::Line;
 use std::alloc::Allocator;
 use std::io::Write;
 
-// Writes the line, and after it those of strokes, which are made in its place.
+// Writes the line, and after it those of strokes.
 fn write_with_strokes<W: Write>(
-    line: &mut Line,
+    line: &Line,
     strokes: &[Stroke],
     writer: &mut Watched<W>,
 ) -> Result<(), StreamFailed> {
     write_whole(writer, line.as_bytes())?;
-    write_strokes(line, strokes, writer)
+    write_strokes(strokes, writer)
 }
 
 // Writes the lines of an instruction that was run. They are made in `line`.

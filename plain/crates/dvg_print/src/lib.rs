@@ -10,10 +10,12 @@ mod line;
 mod log_line;
 mod log_verdict;
 mod run_line;
+mod stroke_line;
 mod svg_line;
 mod verdict;
 
 pub use entry_line::EntryLine;
 pub use line::Line;
 pub use log_verdict::{LogCounts, LogFinding, LogVerdict};
+pub use stroke_line::StrokeLine;
 pub use verdict::{BoundedVerdict, Verdict};

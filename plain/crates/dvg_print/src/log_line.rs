@@ -1,7 +1,6 @@
 //! Lines of what a log shows.
 use crate::line::Line;
 use dvg_driver::Action;
-use dvg_gen::Stroke;
 use dvg_log::Entry;
 
 impl Line {
@@ -70,13 +69,9 @@ impl Line {
         self.text(b"\n");
     }
 
-    /// Becomes the line of a stroke.
-    pub fn become_stroke(&mut self, stroke: Stroke) {
-        self.become_number(stroke.x0);
-        self.number(stroke.y0);
-        self.number(stroke.x1);
-        self.number(stroke.y1);
-        self.number(stroke.z);
-        self.text(b"\n");
+    // Becomes a position.
+    pub(crate) fn become_position(&mut self, x: u32, y: u32) {
+        self.become_number(x);
+        self.number(y);
     }
 }

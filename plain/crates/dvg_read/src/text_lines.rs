@@ -1,4 +1,6 @@
 //! The lines of a text.
+use crate::event_line::SpelledEvent;
+use dvg_log::Event;
 use memchr::memchr;
 
 /// How many bytes are looked at one by one for the end of a line.
@@ -14,6 +16,27 @@ impl<'a> TextLines<'a> {
     /// The lines of this text.
     pub fn new(text: &'a [u8]) -> TextLines<'a> {
         TextLines { rest: text }
+    }
+
+    /// Takes the next line, if it is the name of one of the events that come most often: this event.
+    /// Else nothing is taken.
+    #[inline(always)]
+    pub(crate) fn take_name(&mut self) -> Option<SpelledEvent> {
+        let (event, rest) = name_at_head(self.rest)?;
+        self.rest = rest;
+        Some(event)
+    }
+}
+
+// The event whose name is the first line of a text, if it is one of those that come most often, and
+// what stands after that line.
+#[inline(always)]
+fn name_at_head(text: &[u8]) -> Option<(SpelledEvent, &[u8])> {
+    match text {
+        [b't', b'i', b'c', b'k', b'\n', rest @ ..] => Some((Event::Tick, rest)),
+        [b'f', b'e', b't', b'c', b'h', b'\n', rest @ ..] => Some((Event::Fetch, rest)),
+        [b's', b't', b'r', b'o', b'b', b'e', b'\n', rest @ ..] => Some((Event::Strobe, rest)),
+        _ => None,
     }
 }
 

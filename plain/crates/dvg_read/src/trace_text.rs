@@ -43,9 +43,19 @@ pub fn read_trace<A: Allocator + Copy>(alloc: A, text: &[u8]) -> Result<TraceTex
         is_open: false,
         resets: [None; 256],
     };
+    let mut lines = TextLines::new(text);
     let mut number = 0;
-    for line in TextLines::new(text) {
+    loop {
         number += 1;
+        if let Some(event) = reading.name_ahead(&mut lines) {
+            match reading.take_name(event) {
+                Ok(()) => continue,
+                Err(fault) => return Err(at_line(fault, number)),
+            }
+        }
+        let Some(line) = lines.next() else {
+            break;
+        };
         if is_passed(line) {
             continue;
         }
@@ -100,6 +110,23 @@ struct Reading<A: Allocator> {
 }
 
 impl<A: Allocator + Copy> Reading<A> {
+    // Takes the next line, if it is the name of an event and no offer is open: this event. Else
+    // nothing is taken.
+    #[inline(always)]
+    fn name_ahead(&self, lines: &mut TextLines) -> Option<SpelledEvent> {
+        if self.is_open {
+            return None;
+        }
+        lines.take_name()
+    }
+
+    // Reads one more line, which is the name of this event, where no offer is open.
+    #[inline(always)]
+    fn take_name(&mut self, event: SpelledEvent) -> Result<(), LineFault> {
+        let line = EventLine { event, count: 1 };
+        add_events(self.alloc, line, &mut self.resets, &mut self.events)
+    }
+
     // Reads one more line, which isn't passed over.
     fn take(&mut self, line: &[u8]) -> Result<(), LineFault> {
         if !self.is_open {
@@ -158,6 +185,7 @@ pub(crate) fn add_op(draft: &mut Draft, line: &[u8]) -> Result<(), LineFault> {
 }
 
 // Adds the events of a line.
+#[inline(always)]
 fn add_events<A: Allocator>(
     alloc: A,
     repeated: EventLine,
@@ -179,6 +207,7 @@ pub(crate) fn count(repeated: &EventLine) -> usize {
 }
 
 // Adds an event, this many times in a row: itself, and then the same again.
+#[inline(always)]
 fn add_times<A: Allocator>(
     alloc: A,
     event: SpelledEvent,
@@ -195,6 +224,7 @@ fn add_times<A: Allocator>(
 }
 
 // Adds an event.
+#[inline(always)]
 fn add_once<A: Allocator>(
     alloc: A,
     event: SpelledEvent,

@@ -25,7 +25,7 @@ fn write_picture<A: Allocator, W: Write>(
 ) -> Result<(), StreamFailed> {
     line.become_picture(picture.event, picture.strokes.len());
     write_whole(writer, line.as_bytes())?;
-    write_strokes(line, picture.strokes.as_slice(), writer)
+    write_strokes(picture.strokes.as_slice(), writer)
 }
 
 // Writes pictures, one after the other.

@@ -2,16 +2,15 @@
 use dvg_gen::Stroke;
 use dvg_io::{StreamFailed, Watched, write_strokes, write_whole};
 use dvg_log::Entry;
-use dvg_print::{EntryLine, Line};
+use dvg_print::EntryLine;
 use dvg_world::Entries;
 use std::alloc::Allocator;
 use std::io::Write;
 
 // Writes what is shown of the next entry, whose run drew these strokes, if it finished. Its line is
-// made in `entry_line`, and those of the strokes in `line`.
+// made in `entry_line`.
 fn write_next<W: Write>(
     entry_line: &mut EntryLine,
-    line: &mut Line,
     entry: &Entry<u16>,
     strokes: &[Stroke],
     writer: &mut Watched<W>,
@@ -21,7 +20,7 @@ fn write_next<W: Write>(
     if strokes.is_empty() {
         return Ok(());
     }
-    write_strokes(line, strokes, writer)
+    write_strokes(strokes, writer)
 }
 
 /// Writes what is shown of each of these entries, the first of which is that of event 0.
@@ -30,10 +29,9 @@ pub fn write_entries<A: Allocator, W: Write>(
     writer: &mut Watched<W>,
 ) -> Result<(), StreamFailed> {
     let mut entry_line = EntryLine::new(0);
-    let mut line = Line::new();
     for number in 0..entries.len() {
         let (entry, strokes) = entries.entry(number);
-        write_next(&mut entry_line, &mut line, entry, strokes, writer)?;
+        write_next(&mut entry_line, entry, strokes, writer)?;
     }
     Ok(())
 }

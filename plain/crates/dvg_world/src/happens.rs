@@ -6,7 +6,7 @@ use dvg_log::{OwnEntry, Trace, TraceEvent};
 use dvg_mem::Store;
 
 // Takes these operations in place of a draft's own.
-fn fill(draft: &mut Draft, ops: &[Op]) {
+pub(crate) fn fill(draft: &mut Draft, ops: &[Op]) {
     draft.clear();
     draft.try_extend_from_slice(ops).unwrap();
 }

@@ -2,11 +2,12 @@
 use std::prelude::*;
 
 use crate::entries::Entries;
-use crate::happens::happen_of;
+use crate::happens::fill;
 use crate::world::World;
+use dvg_code::OutOfMemory;
 use dvg_frame::Draft;
 use dvg_gen::Stroke;
-use dvg_log::{Entry, OwnEntry, Trace};
+use dvg_log::{Entry, OwnEntry, Trace, TraceEvent};
 use dvg_mem::{Image, Rom, Store};
 use std::alloc::{Allocator, Global};
 
@@ -60,6 +61,35 @@ impl<A: Allocator> EntriesKept<A> {
     }
 }
 
+// Lets the event of this number of a trace happen to a world, as `happen_of` does, and keeps its
+// entry. It is kept where it comes about, so that the code knows which entries there may be.
+#[inline(always)]
+fn keep_next<S: Store>(
+    entries: &mut EntriesKept<S::Alloc>,
+    trace: &Trace<S::Alloc>,
+    number: usize,
+    draft: &mut Draft,
+    world: &mut World<S>,
+) -> Result<(), OutOfMemory> {
+    match trace.event(number) {
+        TraceEvent::Offer(ops) => {
+            fill(draft, ops);
+            entries.keep(world.offer(draft));
+        }
+        TraceEvent::Redraw => entries.keep(world.redraw()),
+        TraceEvent::Tick => entries.keep(world.tick()),
+        TraceEvent::Strobe => entries.keep(world.strobe()),
+        TraceEvent::Fetch => match world.fetch() {
+            Ok(entry) => entries.keep(entry),
+            Err(refused) => return Err(refused),
+        },
+        TraceEvent::ResetGen => entries.keep(world.reset_generator()),
+        TraceEvent::ResetCpu => entries.keep(world.reset_processor()),
+        TraceEvent::ResetAll(image) => entries.keep(world.reset_all(image)),
+    }
+    Ok(())
+}
+
 /// Lets the events of a trace happen to a new world, as `run_trace` does, and keeps their entries
 /// in little room: those of the one legal log of these events, of which each line keeps the
 /// headline.
@@ -87,10 +117,10 @@ pub fn log_trace<S: Store>(
     let mut entries = EntriesKept { kept, drawn };
     let mut draft = Draft::new();
     for number in 0..trace.len() {
-        let Ok(entry) = happen_of(trace, number, &mut draft, &mut world) else {
-            return entries.logged(false);
-        };
-        entries.keep(entry);
+        match keep_next(&mut entries, trace, number, &mut draft, &mut world) {
+            Ok(()) => {}
+            Err(_) => return entries.logged(false),
+        }
     }
     entries.logged(true)
 }

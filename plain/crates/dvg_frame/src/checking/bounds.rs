@@ -81,8 +81,8 @@ fn draw(table: &Table, way: Way) -> Drawn {
 // Notes what is drawn from a place that leads on in this way, unless the table has it.
 #[inline(always)]
 fn put_drawn(table: &mut Table, place: Place, way: Way) {
+    let drawn = draw(table, way);
     if table.at(place).is_none() {
-        let drawn = draw(table, way);
         table.put(place, drawn);
     }
 }
@@ -110,8 +110,9 @@ fn follow<A: Allocator>(
         let Ok(way) = look(draft, rom, pair) else {
             return false;
         };
+        let next = onward(way);
         chain.push(pair);
-        match onward(way) {
+        match next {
             Some(next) => place = next,
             None => return true,
         }

@@ -1,6 +1,6 @@
 //! What is wrong at a pair of place and depth.
 use crate::checking::pair::{DEEPEST, Pair};
-use crate::checking::way::{Way, way_at};
+use crate::checking::way::{Way, is_outside, way_at};
 use crate::draft::Draft;
 use crate::fault::FrameFault;
 use crate::place::Place;
@@ -24,21 +24,24 @@ fn last_op(count: usize, place: Place) -> Option<u16> {
 // The fault of least number at a pair among this many operations, where this is the way on.
 #[inline(always)]
 fn fault_at<A: Allocator>(rom: &Rom<A>, count: usize, pair: Pair, seen: Way) -> Option<FrameFault> {
-    if seen.goes_on() {
-        if let Some(i) = last_op(count, pair.place) {
-            return Some(FrameFault::RunsOff(i));
-        }
+    match seen {
+        Way::Move(after, _) => match last_op(count, pair.place) {
+            Some(i) => Some(FrameFault::RunsOff(i)),
+            None if is_outside(rom, after) => Some(FrameFault::OutOfRom(pair.place)),
+            None => None,
+        },
+        Way::Jump(to) if is_outside(rom, to) => Some(FrameFault::OutOfRom(pair.place)),
+        Way::Call(to, after) => match last_op(count, pair.place) {
+            Some(i) => Some(FrameFault::RunsOff(i)),
+            None if is_outside(rom, to) || is_outside(rom, after) => {
+                Some(FrameFault::OutOfRom(pair.place))
+            }
+            None if pair.depth == DEEPEST => Some(FrameFault::TooDeep(pair.place)),
+            None => None,
+        },
+        Way::Return if pair.depth == 0 => Some(FrameFault::NoCaller(pair.place)),
+        Way::Jump(_) | Way::Return | Way::Halt => None,
     }
-    if seen.leads_outside(rom) {
-        return Some(FrameFault::OutOfRom(pair.place));
-    }
-    if seen.is_call() && pair.depth == DEEPEST {
-        return Some(FrameFault::TooDeep(pair.place));
-    }
-    if seen.is_return() && pair.depth == 0 {
-        return Some(FrameFault::NoCaller(pair.place));
-    }
-    None
 }
 
 // The way on from a pair without a fault, or the fault of least number there.

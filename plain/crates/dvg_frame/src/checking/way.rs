@@ -21,34 +21,8 @@ pub(crate) enum Way {
     Halt,
 }
 
-impl Way {
-    // Whether it leads to the place after it.
-    pub(crate) fn goes_on(self) -> bool {
-        matches!(self, Way::Move(_, _) | Way::Call(_, _))
-    }
-
-    // Whether it leads to an address outside the ROM.
-    pub(crate) fn leads_outside<A: Allocator>(self, rom: &Rom<A>) -> bool {
-        match self {
-            Way::Move(next, _) | Way::Jump(next) => is_outside(rom, next),
-            Way::Call(target, after) => is_outside(rom, target) || is_outside(rom, after),
-            Way::Return | Way::Halt => false,
-        }
-    }
-
-    // Whether it is a call.
-    pub(crate) fn is_call(self) -> bool {
-        matches!(self, Way::Call(_, _))
-    }
-
-    // Whether it is a return.
-    pub(crate) fn is_return(self) -> bool {
-        matches!(self, Way::Return)
-    }
-}
-
 // Whether a place is at an address outside the ROM.
-fn is_outside<A: Allocator>(rom: &Rom<A>, place: Place) -> bool {
+pub(crate) fn is_outside<A: Allocator>(rom: &Rom<A>, place: Place) -> bool {
     match place {
         Place::InFrame(_) => false,
         Place::InRom(a) => a < rom.first() || ROM_END <= a,
