@@ -13,6 +13,10 @@ is_blank byte = byte == 32 || byte == 9
 abbrev pub uncommented : List ℕ → List ℕ
 uncommented = before_first (λ byte. byte == 35)
 
+-- a blank ends a token, and so does a comment
+abbrev pub ends_token : ℕ → Bool
+ends_token byte = is_blank byte || byte == 35
+
 -- there is a byte
 abbrev pub is_some_byte : List ℕ → Bool
 is_some_byte [] = false

@@ -1,13 +1,14 @@
 //! The tokens of a line.
-ghost use Rattle.std.specs.Prelude.{◌≡◌, ◌<◌, filter, length, IfErr, IfNone, IfSome, OnErr, OnOk};
+ghost use Rattle.std.specs.Prelude.{◌≡◌, ◌<◌, ◌≤◌, ◌++◌, ◌∷◌, [], IfErr, IfNone, IfSome, OnErr};
+ghost use Rattle.std.specs.Prelude.{false, true, All, OnOk, filter, length, slice_index, take};
 ghost use Rattle.std.specs.List.{slice_split};
 ghost use Rattle.std.specs.Str.Lines.{strip_carriage_return};
 ghost use Rattle.dvg_read.specs.LineParts.{bytes_of};
-ghost use Rattle.dvg_rows.specs.PlainLines.{is_blank, is_some_byte, tokens, uncommented};
+ghost use Rattle.dvg_rows.specs.PlainLines.{ends_token, is_blank, is_some_byte, tokens};
+ghost use Rattle.dvg_rows.specs.PlainLines.{uncommented};
 
 use crate::line_fault::LineFault;
 use arrayvec::ArrayVec;
-use memchr::memchr;
 
 /// The most tokens that a line of a sketch has: those of a line `rom` that gives eight words.
 pub const MAX_TOKENS: usize = 10;
@@ -35,39 +36,57 @@ pub fn find_tokens<'a>(
     ensures many { OnErr result (MAX_TOKENS < length (tokens line.now)) }
     ensures fault { IfErr result (λ fault. fault ≡ LineFault.Syntax) }
 {
-    let content = without_indent(without_comment(without_cr(line)));
-    let parted = content.split(
-        |byte|
-            ensures { result ≡ is_blank byte.now }
-        { is_blank(*byte) },
-    );
-    let kept = parted.filter(
-        |token|
-            ensures { result ≡ is_some_byte token.now.now }
-        { has_bytes(token) },
-    );
+    let mut rest = without_indent(without_cr(line));
     found.clear();
-    match found.extend(kept) {
-        Ok(()) => Ok(()),
-        Err(_) => Err(LineFault::Syntax),
+    while let Some(end) = token_end(rest) {
+        keep(&rest[..end], found)?;
+        if rest[end] == b'#' {
+            return Ok(());
+        }
+        rest = &rest[end + 1..];
     }
+    keep(rest, found)
 }
 
-// Whether there is a byte.
-fn has_bytes(token: &[u8]) -> bool
-    ensures { result ≡ is_some_byte token.now }
+// Puts a token at the end of those that were found, unless it has no byte. It is refused where
+// there are ten already.
+fn keep<'a>(token: &'a [u8], found: &mut ArrayVec<&'a [u8], MAX_TOKENS>) -> Result<(), LineFault>
+    ensures kept { OnOk result (bytes_of found.new.items
+        ≡ bytes_of found.old.items ++ filter is_some_byte (token.now ∷ [])) }
+    ensures many { OnErr result (MAX_TOKENS
+        < length (bytes_of found.old.items ++ filter is_some_byte (token.now ∷ []))) }
+    ensures fault { IfErr result (λ fault. fault ≡ LineFault.Syntax) }
 {
-    match token {
-        [] => false,
-        _ => true,
+    if !token.is_empty() && found.try_push(token).is_err() {
+        return Err(LineFault::Syntax);
     }
+    Ok(())
 }
 
-// Whether this byte is a space or a tab.
-fn is_blank(byte: u8) -> bool
-    ensures { result ≡ is_blank byte }
+// Where the first byte stands that ends a token. None where the whole text is one.
+fn token_end(text: &[u8]) -> Option<usize>
+    ensures within { IfSome result (λ end. end < length text.now) }
+    ensures fits { IfSome result (λ end. end < usize.MAX) }
+    ensures inside { IfSome result (λ end.
+        All (λ byte. ends_token byte ≡ false) (take end text.now)) }
+    ensures ended { IfSome result (λ end. ends_token (slice_index text.now end) ≡ true) }
+    ensures whole { IfNone result (All (λ byte. ends_token byte ≡ false) text.now) }
 {
-    byte == b' ' || byte == b'\t'
+    let mut place = 0;
+    while place < text.len() {
+        if ends_token(text[place]) {
+            return Some(place);
+        }
+        place += 1;
+    }
+    None
+}
+
+// Whether this byte is a space, a tab or the `#` of a comment. Most are above all three.
+fn ends_token(byte: u8) -> bool
+    ensures { result ≡ ends_token byte }
+{
+    byte <= b'#' && (byte == b' ' || byte == b'\t' || byte == b'#')
 }
 
 // What stands before a CR at the end.
@@ -81,24 +100,14 @@ fn without_cr(line: &[u8]) -> &[u8]
     }
 }
 
-// What stands before the first `#`.
-fn without_comment(line: &[u8]) -> &[u8]
-    ensures { result.now ≡ uncommented line.now }
-{
-    match memchr(b'#', line) {
-        Some(end) => &line[..end],
-        None => line,
-    }
-}
-
-// What stands after the blanks at the beginning.
+// What stands after the eight spaces at the beginning, where most rows have them.
 fn without_indent(line: &[u8]) -> &[u8]
-    ensures { filter is_some_byte (slice_split is_blank result.now)
-        ≡ filter is_some_byte (slice_split is_blank line.now) }
+    ensures { filter is_some_byte (slice_split is_blank (uncommented result.now))
+        ≡ filter is_some_byte (slice_split is_blank (uncommented line.now)) }
 {
-    let mut rest = line;
-    while let [b' ' | b'\t', after @ ..] = rest {
-        rest = after;
+    if line.starts_with(b"        ") {
+        &line[8..]
+    } else {
+        line
     }
-    rest
 }

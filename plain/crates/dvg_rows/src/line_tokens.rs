@@ -1,7 +1,6 @@
 //! The tokens of a line.
 use crate::line_fault::LineFault;
 use arrayvec::ArrayVec;
-use memchr::memchr;
 
 /// The most tokens that a line of a sketch has: those of a line `rom` that gives eight words.
 pub const MAX_TOKENS: usize = 10;
@@ -22,31 +21,42 @@ pub fn find_tokens<'a>(
     line: &'a [u8],
     found: &mut ArrayVec<&'a [u8], MAX_TOKENS>,
 ) -> Result<(), LineFault> {
-    let content = without_indent(without_comment(without_cr(line)));
-    let parted = content.split(
-        |byte| { is_blank(*byte) },
-    );
-    let kept = parted.filter(
-        |token| { has_bytes(token) },
-    );
+    let mut rest = without_indent(without_cr(line));
     found.clear();
-    match found.extend(kept) {
-        Ok(()) => Ok(()),
-        Err(_) => Err(LineFault::Syntax),
+    while let Some(end) = token_end(rest) {
+        keep(&rest[..end], found)?;
+        if rest[end] == b'#' {
+            return Ok(());
+        }
+        rest = &rest[end + 1..];
     }
+    keep(rest, found)
 }
 
-// Whether there is a byte.
-fn has_bytes(token: &[u8]) -> bool {
-    match token {
-        [] => false,
-        _ => true,
+// Puts a token at the end of those that were found, unless it has no byte. It is refused where
+// there are ten already.
+fn keep<'a>(token: &'a [u8], found: &mut ArrayVec<&'a [u8], MAX_TOKENS>) -> Result<(), LineFault> {
+    if !token.is_empty() && found.try_push(token).is_err() {
+        return Err(LineFault::Syntax);
     }
+    Ok(())
 }
 
-// Whether this byte is a space or a tab.
-fn is_blank(byte: u8) -> bool {
-    byte == b' ' || byte == b'\t'
+// Where the first byte stands that ends a token. None where the whole text is one.
+fn token_end(text: &[u8]) -> Option<usize> {
+    let mut place = 0;
+    while place < text.len() {
+        if ends_token(text[place]) {
+            return Some(place);
+        }
+        place += 1;
+    }
+    None
+}
+
+// Whether this byte is a space, a tab or the `#` of a comment. Most are above all three.
+fn ends_token(byte: u8) -> bool {
+    byte <= b'#' && (byte == b' ' || byte == b'\t' || byte == b'#')
 }
 
 // What stands before a CR at the end.
@@ -58,19 +68,11 @@ fn without_cr(line: &[u8]) -> &[u8] {
     }
 }
 
-// What stands before the first `#`.
-fn without_comment(line: &[u8]) -> &[u8] {
-    match memchr(b'#', line) {
-        Some(end) => &line[..end],
-        None => line,
-    }
-}
-
-// What stands after the blanks at the beginning.
+// What stands after the eight spaces at the beginning, where most rows have them.
 fn without_indent(line: &[u8]) -> &[u8] {
-    let mut rest = line;
-    while let [b' ' | b'\t', after @ ..] = rest {
-        rest = after;
+    if line.starts_with(b"        ") {
+        &line[8..]
+    } else {
+        line
     }
-    rest
 }
