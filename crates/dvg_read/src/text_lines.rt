@@ -32,11 +32,12 @@ impl<'a> TextLines<'a> {
         TextLines { rest: text }
     }
 
-    /// Takes the next line, if it is the name of one of the events that come most often: this event.
-    /// Else nothing is taken.
+    /// Takes the next line, if it is the name of one of the events that come most often, and answers
+    /// the event. Else nothing is taken.
     #[inline(always)]
     pub(crate) fn take_name(&mut self) -> Option<SpelledEvent>
-        ensures taken { IfSome result (λ event. HasName self.old.rest.now (spelled_as event) self.new.rest.now) }
+        ensures taken { IfSome result (λ event. HasName self.old.rest.now
+            (spelled_as event) self.new.rest.now) }
         ensures kept { IfNone result (lines_left self.new ≡ lines_left self.old) }
     {
         let (event, rest) = name_at_head(self.rest)?;

@@ -129,8 +129,8 @@ struct Reading<A: Allocator> {
 }
 
 impl<A: Allocator + Copy> Reading<A> {
-    // Takes the next line, if it is the name of an event and no offer is open: this event. Else
-    // nothing is taken.
+    // Takes the next line, if it is the name of an event and no offer is open, and answers the
+    // event. Else nothing is taken.
     #[inline(always)]
     fn name_ahead(&self, lines: &mut TextLines) -> Option<SpelledEvent>
         ensures outside { IfSome result (λ _. IsFalse self.now.is_open) }

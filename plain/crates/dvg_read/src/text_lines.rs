@@ -18,8 +18,8 @@ impl<'a> TextLines<'a> {
         TextLines { rest: text }
     }
 
-    /// Takes the next line, if it is the name of one of the events that come most often: this event.
-    /// Else nothing is taken.
+    /// Takes the next line, if it is the name of one of the events that come most often, and answers
+    /// the event. Else nothing is taken.
     #[inline(always)]
     pub(crate) fn take_name(&mut self) -> Option<SpelledEvent> {
         let (event, rest) = name_at_head(self.rest)?;
