@@ -1,9 +1,12 @@
 -- The events of traces.
-use Rattle.std.specs.Prelude.{◌+◌, ◌≤◌, ℕ, List, [], get_or, length, map, slice_range}
+use Rattle.std.specs.Prelude.{◌≡◌, ◌+◌, ◌++◌, ◌≤◌, ℕ, List, [], get_or, length, replicate, slice_range}
+use Rattle.std.specs.Prelude.{Option, Some, None}
+use Rattle.std.specs.List.{flat_map}
 use Rattle.std.specs.Borrow.{Bor}
 use Rattle.dvg_frame.specs.declared.op.OpKind.{OpKind}
 use Rattle.dvg_log.specs.declared.event.Event.{Event}
 use Rattle.dvg_log.specs.declared.event.Event.TheVariants.{Offer}
+use Rattle.dvg_log.specs.declared.runs.Run.{Run}
 use Rattle.dvg_log.specs.Events.{Happening, map_event}
 
 -- an event that says which offer it is, and which image it has
@@ -19,9 +22,13 @@ abbrev pub step_event : List (List OpKind) → List (List ℕ) → Step → Happ
 step_event offers images step =
     map_event (λ number. get_or offers number []) (λ number. get_or images number []) step
 
--- the events of steps
-abbrev pub step_events : List Step → List (List OpKind) → List (List ℕ) → List Happening
-step_events steps offers images = map (step_event offers images) steps
+-- the events of a run: one, so many times
+abbrev pub run_events : List (List OpKind) → List (List ℕ) → Run → List Happening
+run_events offers images run = replicate run.times (step_event offers images run.step)
+
+-- the events of runs
+abbrev pub all_events : List Run → List (List OpKind) → List (List ℕ) → List Happening
+all_events runs offers images = flat_map (run_events offers images) runs
 
 -- an event whose draft and image lie elsewhere
 abbrev pub Seen : Type 0
@@ -35,3 +42,9 @@ seen_as event = map_event (λ ops. ops.now) (λ image. image.now) event
 abbrev pub FitsInDraft : Seen → Type 0
 FitsInDraft (Offer ops) = length ops.now ≤ 511
 FitsInDraft event = Unit {0}
+
+-- the next run of the events that are left: None exactly where there is none, else an event, and how many times it
+-- comes before the others
+abbrev pub NextRun : List Happening → Option (Seen × ℕ) → List Happening → Type 0
+NextRun old None new = (old ≡ []) × (new ≡ [])
+NextRun old (Some run) new = FitsInDraft run.0 × (1 ≤ run.1) × (old ≡ replicate run.1 (seen_as run.0) ++ new)

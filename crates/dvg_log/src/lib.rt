@@ -6,8 +6,10 @@
 
 mod entry;
 mod event;
+mod runs;
 mod trace;
 
 pub use entry::{Entry, OwnEntry};
 pub use event::{Event, OwnEvent, TraceEvent};
+pub use runs::Runs;
 pub use trace::{MOST_EVENTS, Trace};

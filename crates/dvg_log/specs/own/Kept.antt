@@ -1,7 +1,10 @@
 -- What a trace keeps.
-use Rattle.std.specs.Prelude.{◌+◌, ◌*◌, ◌<◌, ◌≤◌, ℕ, List, All, length}
+use Rattle.std.specs.Prelude.{◌≡◌, ◌+◌, ◌*◌, ◌<◌, ◌≤◌, ℕ, List, All, length, get_or, replicate, slice_get}
+use Rattle.std.specs.Prelude.{Option, Some, None}
+use Rattle.std.specs.List.{sum_by}
 use Rattle.dvg_frame.specs.declared.op.OpKind.{OpKind}
 use Rattle.dvg_log.specs.declared.event.Event.TheVariants.{Offer, ResetAll}
+use Rattle.dvg_log.specs.declared.runs.Run.{Run}
 use Rattle.dvg_log.specs.Traces.{Step}
 
 -- an offer's operations are among all of them, and a draft can hold them
@@ -14,12 +17,27 @@ IsWithin offers images (Offer number) = number < offers
 IsWithin offers images (ResetAll number) = number < images
 IsWithin offers images step = Unit {0}
 
--- steps, where the operations of their offers lie, these operations, and the images of their resets
-pub record IsTrace (steps : List Step) (offers : List (ℕ × ℕ)) (ops : List OpKind) (images : List (List ℕ))
-    : Type 0 where
-  pub count : length steps ≤ 65536
-  pub offered : length offers ≤ length steps
-  pub few : length ops ≤ 511 * length steps
-  pub reset : length images ≤ length steps
+-- an event that happens, among so many offers and images
+abbrev pub IsRunIn : (offers images : ℕ) → Run → Type 0
+IsRunIn offers images run = (1 ≤ run.times) × IsWithin offers images run.step
+
+-- runs, where the operations of their offers lie, these operations, and the images of their resets
+pub record AreRuns (runs : List Run) (offers : List (ℕ × ℕ)) (ops : List OpKind) (images : List (List ℕ)) : Type 0 where
   pub lie : All (IsOfferIn ops) offers
-  pub within : All (IsWithin (length offers) (length images)) steps
+  pub within : All (IsRunIn (length offers) (length images)) runs
+
+-- where a byte has a number, the image of this number has the byte everywhere
+pub record AreFilled (numbers : List (Option ℕ)) (images : List (List ℕ)) : Type 0 where
+  pub found : (byte n : ℕ) → get_or numbers byte None ≡ Some n → slice_get images n ≡ Some (replicate 2048 byte)
+
+-- what a trace of so many events keeps
+pub record IsTrace (count : ℕ) (runs : List Run) (offers : List (ℕ × ℕ)) (ops : List OpKind) (images : List (List ℕ))
+    (numbers : List (Option ℕ)) : Type 0 where
+  pub are : AreRuns runs offers ops images
+  pub total : count ≡ sum_by (λ run. run.times) runs
+  pub most : count ≤ 65536
+  pub some : length runs ≤ count
+  pub offered : length offers ≤ length runs
+  pub few : length ops ≤ 511 * length runs
+  pub reset : length images ≤ length runs
+  pub filled : AreFilled numbers images
