@@ -173,6 +173,7 @@ impl Driver {
             → IsLife (Did result ∷ life) }
         ensures told { Tells result halted }
         ensures in_ram { IsInRam result }
+        ensures idle { result ≡ Action.Idle → self.new ≡ self.old }
     {
         self.act(halted, byte1)
     }
@@ -184,6 +185,7 @@ impl Driver {
             StandsAfter self.new (peeked_after result byte1 peeked) (Did result ∷ life) }
         ensures told { Tells result halted }
         ensures in_ram { IsInRam result }
+        ensures idle { result ≡ Action.Idle → self.new ≡ self.old }
     {
         match self.phase {
             Phase::Start => {

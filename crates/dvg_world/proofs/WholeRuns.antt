@@ -1,16 +1,15 @@
 -- The log of a run, one entry after the other.
-use Rattle.std.proofs.Common.{◌≡◌, ℕ, ◌+◌, ◌<◌, List, [], ◌∷◌, ◌++◌, map, reverse, length, get_or, slice_get, Some, refl, sym, ap, ◌∙◌, subst, inr, length-append, not-suc-le-zero, le_of_suc-le-suc, Vec, vec_len, vec_capacity}
+use Rattle.std.proofs.Common.{◌≡◌, ℕ, zero, suc, ◌+◌, ◌-◌, ◌≤◌, replicate, ◌<◌, List, [], ◌∷◌, ◌++◌, map, reverse, length, get_or, slice_get, drop, Some, refl, arith, sym, ap, ◌∙◌, subst, inr, length-append, not-suc-le-zero, le_of_suc-le-suc, Vec, vec_len, vec_capacity}
 use Rattle.std.proofs.lemmas.List.{reverse-append, map-append}
-use Rattle.std.proofs.lemmas.Option.{get_or_from_slice_get, slice_get-get_or}
+use Rattle.std.proofs.lemmas.Option.{get_or_from_slice_get, slice_get_within}
 use Rattle.std.specs.List.{zip}
 use Rattle.dvg_log.specs.Events.{Happening}
-use Rattle.dvg_log.specs.declared.event.Event.TheVariants.{Tick}
 use Rattle.dvg_log.specs.Entries.{OwnEntry, shown_of}
 use Rattle.dvg_log.specs.Log.{◌⟼◌}
 use Rattle.dvg_log.specs.Legal.{IsLegal}
 use Rattle.dvg_world.specs.Runs.{log_of, IsStop}
-use Rattle.dvg_world.specs.Standing.{State, WorldAfter}
-use Rattle.dvg_world.specs.own.Stepping.{AddsEvent, WantsMemory}
+use Rattle.dvg_world.specs.Standing.{AddsLine, State, WorldAfter}
+use Rattle.dvg_world.specs.own.Stepping.{WantsMemory}
 
 -- one more item on the right takes the next one on the left
 zip-more : {A B : Type 0} (xs : List A) (ys : List B) (x : A) (y : B) → length ys < length xs → x ≡ get_or xs (length ys) x → zip xs (ys ++ y ∷ []) ≡ zip xs ys ++ (x, y) ∷ []
@@ -52,17 +51,14 @@ begins_so_far {R = R} {image = image} {events = events} {world = world} after no
   room = room;
 }
 
--- the event of a number
-at : (events : List Happening) (n : ℕ) → n < length events → slice_get events n ≡ Some (get_or events n Tick)
-at events n inside = slice_get-get_or events n Tick inside
-
-pub one_more : {A : Type 0} {R image : List ℕ} {events : List Happening} {entries entries' : Vec (OwnEntry A) A} {n : ℕ} {world world' : State} (entry : OwnEntry A) → IsSoFar R image events entries n world
-    → n < length events → AddsEvent events n world (shown_of entry) world' → entries'.items ≡ entries.items ++ entry ∷ [] → vec_len entries' ≡ vec_len entries + 1 → vec_capacity entries' ≡ vec_capacity entries
+-- one entry more, of the event that has its number
+pub one_more : {A : Type 0} {R image : List ℕ} {events : List Happening} {entries entries' : Vec (OwnEntry A) A} {n : ℕ} {world world' : State} (event : Happening) (entry : OwnEntry A) → IsSoFar R image events entries n world
+    → slice_get events n ≡ Some event → AddsLine world event (shown_of entry) world' → entries'.items ≡ entries.items ++ entry ∷ [] → vec_len entries' ≡ vec_len entries + 1 → vec_capacity entries' ≡ vec_capacity entries
     → IsSoFar R image events entries' (n + 1) world'
-one_more {R = R} {image = image} {events = events} {entries = entries} {n = n} {world' = world'} entry so_far inside adds pushed longer same =
-    let event = get_or events n Tick in
-    let item : event ≡ get_or events n event = sym (get_or_from_slice_get events n event event (at events n inside)) in
-    let after = adds event (at events n inside) R image (log_of events entries.items) so_far.after in
+one_more {R = R} {image = image} {events = events} {entries = entries} {n = n} {world' = world'} event entry so_far at adds pushed longer same =
+    let inside = slice_get_within events n event at in
+    let item : event ≡ get_or events n event = sym (get_or_from_slice_get events n event event at) in
+    let after = adds R image (log_of events entries.items) so_far.after in
     let within : length entries.items < length events = subst (λ k. k < length events) (sym so_far.count) inside in
     let here : event ≡ get_or events (length entries.items) event = subst (λ k. event ≡ get_or events k event) (sym so_far.count) item in
     record {
@@ -72,8 +68,27 @@ one_more {R = R} {image = image} {events = events} {entries = entries} {n = n} {
       room = same ∙ so_far.room;
     }
 
-pub stops_at : {A : Type 0} {R image : List ℕ} {events : List Happening} {entries : Vec (OwnEntry A) A} {n : ℕ} {world : State} → IsSoFar R image events entries n world → n < length events → WantsMemory events n world
+pub stops_at : {A : Type 0} {R image : List ℕ} {events : List Happening} {entries : Vec (OwnEntry A) A} {n : ℕ} {world : State} (event : Happening) → IsSoFar R image events entries n world → slice_get events n ≡ Some event → WantsMemory event world
     → IsStop R image events (record { entries = entries; event = n })
-stops_at {R = R} {image = image} {events = events} {entries = entries} {n = n} so_far inside wants =
-    let event = get_or events n Tick in
-    inr (event, at events n inside, wants R image (log_of events entries.items) event so_far.after (at events n inside))
+stops_at {R = R} {image = image} {events = events} {entries = entries} event so_far at wants = inr (event, at, wants R image (log_of events entries.items) so_far.after)
+
+-- of the events that are left, the first one has this number, and the others come after it
+pub next_left : (events : List Happening) (n : ℕ) (event : Happening) (rest : List Happening) → drop n events ≡ event ∷ rest → (slice_get events n ≡ Some event) × (drop (n + 1) events ≡ rest)
+next_left events zero event rest left = (ap (λ events. slice_get events 0) left, ap (λ events. drop 1 events) left)
+next_left [] (suc n) event rest left = absurd cc
+next_left (first ∷ events) (suc n) event rest left =
+    let next = next_left events n event rest left in
+    (next.0, ap (λ k. drop k (first ∷ events)) (let k : suc n + 1 ≡ suc (n + 1) = omega arith in k) ∙ next.1)
+
+-- the event of an item is the one that its number has
+pub mapped_at : {X : Type 0} (f : X → Happening) (xs : List X) (n : ℕ) (d : X) → n < length xs → slice_get (map f xs) n ≡ Some (f (get_or xs n d))
+mapped_at f [] n d inside = absurd (not-suc-le-zero inside)
+mapped_at f (x ∷ xs) zero d inside = refl
+mapped_at f (x ∷ xs) (suc n) d inside = mapped_at f xs n d (le_of_suc-le-suc inside)
+
+-- an event that comes so many times, and then the others
+pub first_left : (event : Happening) (times again : ℕ) (rest : List Happening) → again < times → replicate (times - again) event ++ rest ≡ event ∷ (replicate (times - (again + 1)) event ++ rest)
+first_left event times again rest inside = ap (λ k. replicate k event ++ rest) (let k : times - again ≡ suc (times - (again + 1)) = omega arith in k)
+
+pub none_left : (event : Happening) (times again : ℕ) (rest : List Happening) → times ≤ again → replicate (times - again) event ++ rest ≡ rest
+none_left event times again rest all = ap (λ k. replicate k event ++ rest) (let k : times - again ≡ 0 = omega arith in k)

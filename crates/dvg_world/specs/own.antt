@@ -3,3 +3,4 @@ pub mod Stepping
 pub mod Leaving
 pub mod Entries
 pub mod Logging
+pub mod Running

@@ -99,6 +99,7 @@ impl<A: Allocator> Desk<A> {
     pub fn tick(&mut self, halted: bool, byte1: u8) -> Action
         ensures rom { self.new.rom ≡ self.old.rom }
         ensures answers { TickAnswers halted byte1 self.old.stage self.new.stage result }
+        ensures idle { result ≡ Action.Idle → self.new ≡ self.old }
     {
         self.driver.tick(halted, byte1)
     }

@@ -1,12 +1,14 @@
 //! Events of traces that happen to a world.
-ghost use Rattle.std.specs.Prelude.{◌≡◌, ◌<◌, ◌≤◌, length, IfOk, OnErr};
+ghost use Rattle.std.specs.Prelude.{◌≡◌, ◌≤◌, length, IfOk, OnErr};
 ghost use Rattle.dvg_log.specs.Entries.{shown_of};
-ghost use Rattle.dvg_world.specs.own.Stepping.{AddsEvent, WantsMemory};
+ghost use Rattle.dvg_log.specs.Traces.{FitsInDraft, seen_as};
+ghost use Rattle.dvg_world.specs.Standing.{AddsLine};
+ghost use Rattle.dvg_world.specs.own.Stepping.{WantsMemory};
 
 use crate::world::World;
 use dvg_code::OutOfMemory;
 use dvg_frame::{Draft, Op};
-use dvg_log::{OwnEntry, Trace, TraceEvent};
+use dvg_log::{OwnEntry, TraceEvent};
 use dvg_mem::Store;
 
 // Takes these operations in place of a draft's own.
@@ -18,21 +20,20 @@ pub(crate) fn fill(draft: &mut Draft, ops: &[Op])
     draft.try_extend_from_slice(ops).unwrap();
 }
 
-// Lets the event of this number of a trace happen to a world. The draft of an offer is made in
-// `draft`.
+// Lets an event of a trace happen to a world. The draft of an offer is made in `draft`.
 #[inline(always)]
-pub(crate) fn happen_of<S: Store>(
-    trace: &Trace<S::Alloc>,
-    number: usize,
+pub(crate) fn happen<S: Store>(
+    event: TraceEvent<'_, S::Alloc>,
     draft: &mut Draft,
     world: &mut World<S>,
 ) -> Result<OwnEntry<S::Alloc>, OutOfMemory>
-    requires { number < length trace.now }
-    ensures stands { IfOk result (λ entry. AddsEvent trace.now number world.old
+    requires { FitsInDraft event }
+    ensures stands { IfOk result (λ entry. AddsLine world.old (seen_as event.entry)
         (shown_of entry) world.new) }
-    ensures room { OnErr result (WantsMemory trace.now number world.old) }
+    ensures room { OnErr result (WantsMemory (seen_as event.entry) world.old) }
+    ensures refused { OnErr result (world.new ≡ world.old) }
 {
-    match trace.event(number) {
+    match event {
         TraceEvent::Offer(ops) => {
             fill(draft, ops);
             Ok(world.offer(draft))

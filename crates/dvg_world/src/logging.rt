@@ -1,16 +1,20 @@
 //! The entries of a trace.
-ghost use Rattle.std.specs.Prelude.{◌≡◌, ◌+◌, ◌<◌, ◌≤◌, [], false, length, map, OnErr, OnOk};
+ghost use Rattle.std.specs.Prelude.{◌≡◌, ◌+◌, ◌≤◌, [], false, length, map, OnErr, OnOk};
 ghost use Rattle.dvg_log.specs.Entries.{Shown, shown_of};
+ghost use Rattle.dvg_log.specs.Traces.{FitsInDraft, seen_as};
+ghost use Rattle.dvg_log.specs.declared.event.Event.TheVariants.{Fetch, Tick};
 ghost use Rattle.dvg_world.specs.Keeping.{entry_among};
 ghost use Rattle.dvg_world.specs.Kept.{Logs};
 ghost use Rattle.dvg_world.specs.own.Entries.{AreEntries};
-ghost use Rattle.dvg_world.specs.own.Logging.{KeepsEntry, room_left};
-ghost use Rattle.dvg_world.specs.own.Stepping.{AddsEvent, WantsMemory};
+ghost use Rattle.dvg_world.specs.Standing.{AddsLine};
+ghost use Rattle.dvg_world.specs.own.Logging.{KeepsEntry, LogsRun, StopsLogging, room_left};
+ghost use Rattle.dvg_world.specs.own.Stepping.{WantsMemory};
 
 use crate::entries::Entries;
 use crate::happens::fill;
 use crate::world::World;
 use dvg_code::OutOfMemory;
+use dvg_driver::Action;
 use dvg_frame::Draft;
 use dvg_gen::Stroke;
 use dvg_log::{Entry, OwnEntry, Trace, TraceEvent};
@@ -81,26 +85,25 @@ impl<A: Allocator> EntriesKept<A> {
     }
 }
 
-// Lets the event of this number of a trace happen to a world, as `happen_of` does, and keeps its
-// entry. It is kept where it comes about, so that the code knows which entries there may be.
+// Lets an event happen to a world, as `happen` does, and keeps its entry. It is kept where it comes
+// about, so that the code knows which entries there may be.
 #[inline(always)]
 fn keep_next<S: Store>(
+    event: TraceEvent<'_, S::Alloc>,
     entries: &mut EntriesKept<S::Alloc>,
-    trace: &Trace<S::Alloc>,
-    number: usize,
     draft: &mut Draft,
     world: &mut World<S>,
 ) -> Result<(), OutOfMemory>
-    requires inside { number < length trace.now }
+    requires fits { FitsInDraft event }
     requires left { 1 ≤ room_left entries.old }
     ensures kept { OnOk result ((entry : Shown)
-        × AddsEvent trace.now number world.old entry world.new
+        × AddsLine world.old (seen_as event.entry) entry world.new
         × KeepsEntry entries.old entry entries.new) }
     ensures left { OnOk result (room_left entries.old ≤ room_left entries.new + 1) }
-    ensures room { OnErr result (WantsMemory trace.now number world.old) }
-    ensures refused { OnErr result (entries.new ≡ entries.old) }
+    ensures room { OnErr result (WantsMemory (seen_as event.entry) world.old) }
+    ensures refused { OnErr result ((entries.new ≡ entries.old) × (world.new ≡ world.old)) }
 {
-    match trace.event(number) {
+    match event {
         TraceEvent::Offer(ops) => {
             fill(draft, ops);
             entries.keep(world.offer(draft));
@@ -115,6 +118,86 @@ fn keep_next<S: Store>(
         TraceEvent::ResetGen => entries.keep(world.reset_generator()),
         TraceEvent::ResetCpu => entries.keep(world.reset_processor()),
         TraceEvent::ResetAll(image) => entries.keep(world.reset_all(image)),
+    }
+    Ok(())
+}
+
+// Lets so many ticks happen to a world, and keeps their entries. After one that finds the driver
+// idle, so do all, and nothing changes.
+fn log_ticks<S: Store>(entries: &mut EntriesKept<S::Alloc>, times: usize, world: &mut World<S>)
+    requires { times ≤ room_left entries.old }
+    ensures kept { LogsRun world.old entries.old Tick times world.new entries.new }
+    ensures left { room_left entries.old ≤ room_left entries.new + times }
+{
+    for done in 0..times {
+        let action = world.act();
+        entries.keep(Entry::Acted(action));
+        if let Action::Idle = action {
+            for _again in done + 1..times {
+                entries.keep(Entry::Acted(Action::Idle));
+            }
+            return;
+        }
+    }
+}
+
+// Lets so many fetches happen to a world, and keeps their entries. After one that finds the
+// generator halted, so do all, and nothing changes.
+fn log_fetches<S: Store>(
+    entries: &mut EntriesKept<S::Alloc>,
+    times: usize,
+    world: &mut World<S>,
+) -> Result<(), OutOfMemory>
+    requires { times ≤ room_left entries.old }
+    ensures kept { OnOk result (LogsRun world.old entries.old Fetch times world.new entries.new) }
+    ensures left { OnOk result (room_left entries.old ≤ room_left entries.new + times) }
+    ensures stops { OnErr result (StopsLogging world.old entries.old Fetch times
+        world.new entries.new) }
+{
+    for done in 0..times {
+        match world.fetch() {
+            Ok(Entry::Still) => {
+                for _again in done..times {
+                    entries.keep(Entry::Still);
+                }
+                return Ok(());
+            }
+            Ok(entry) => entries.keep(entry),
+            Err(refused) => return Err(refused),
+        }
+    }
+    Ok(())
+}
+
+// Lets an event happen to a world so many times in a row, and keeps its entries.
+fn log_run<S: Store>(
+    run: (TraceEvent<'_, S::Alloc>, usize),
+    entries: &mut EntriesKept<S::Alloc>,
+    draft: &mut Draft,
+    world: &mut World<S>,
+) -> Result<(), OutOfMemory>
+    requires fits { FitsInDraft run.0 }
+    requires room { run.1 ≤ room_left entries.old }
+    ensures kept { OnOk result (LogsRun world.old entries.old (seen_as run.entry.0) run.entry.1
+        world.new entries.new) }
+    ensures left { OnOk result (room_left entries.old ≤ room_left entries.new + run.entry.1) }
+    ensures stops { OnErr result (StopsLogging world.old entries.old (seen_as run.entry.0)
+        run.entry.1 world.new entries.new) }
+{
+    let (event, times) = run;
+    match event {
+        TraceEvent::Tick => {
+            log_ticks(entries, times, world);
+            return Ok(());
+        }
+        TraceEvent::Fetch => return log_fetches(entries, times, world),
+        _ => {}
+    }
+    for _again in 0..times {
+        match keep_next(event, entries, draft, world) {
+            Ok(()) => {}
+            Err(refused) => return Err(refused),
+        }
     }
     Ok(())
 }
@@ -147,8 +230,8 @@ pub fn log_trace<S: Store>(
     };
     let mut entries = EntriesKept { kept, drawn };
     let mut draft = Draft::new();
-    for number in 0..trace.len() {
-        match keep_next(&mut entries, trace, number, &mut draft, &mut world) {
+    for run in trace.runs() {
+        match log_run(run, &mut entries, &mut draft, &mut world) {
             Ok(()) => {}
             Err(_) => return entries.logged(false),
         }

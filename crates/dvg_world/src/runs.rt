@@ -1,17 +1,14 @@
 //! Whole runs.
-ghost use Rattle.std.specs.Prelude.{◌≡◌, ◌<◌, List, length, map, IfErr, IfOk, OnErr};
-ghost use Rattle.dvg_log.specs.Entries.{shown_of};
-ghost use Rattle.dvg_log.specs.Events.{Happening, happening_of};
+ghost use Rattle.std.specs.Prelude.{◌≡◌, [], length, map, IfErr, IfOk};
+ghost use Rattle.dvg_log.specs.Events.{happening_of};
 ghost use Rattle.dvg_log.specs.Headline.{KeepsHeadline};
 ghost use Rattle.dvg_log.specs.Legal.{IsLegal};
 ghost use Rattle.dvg_log.specs.Log.{Throughout};
 ghost use Rattle.dvg_world.specs.Runs.{IsStop, log_by};
-ghost use Rattle.dvg_world.specs.own.Stepping.{AddsEvent, WantsMemory};
 
-use crate::happens::happen_of;
+use crate::happens::happen;
 use crate::stopped::Stopped;
 use crate::world::World;
-use dvg_code::OutOfMemory;
 use dvg_frame::Draft;
 use dvg_log::{OwnEntry, OwnEvent, Trace};
 use dvg_mem::{Image, Rom, Store};
@@ -60,7 +57,24 @@ pub fn run<S: Store>(
     ensures stopped { IfErr result (λ stopped. length stopped.entries.items ≡ stopped.event) }
     ensures early { IfErr result (IsStop rom image.now (map happening_of events.now)) }
 {
-    run_each::<S, Listed<S::Alloc>>(alloc, rom, image, Listed { events })
+    let Ok(mut world) = World::<S>::new(alloc, rom, image) else {
+        return Err(unstarted(alloc));
+    };
+    let Ok(mut entries) = Vec::with_capacity(alloc, events.len()) else {
+        return Err(unstarted(alloc));
+    };
+    for number in 0..events.len() {
+        match world.apply(&events[number]) {
+            Ok(entry) => entries.push_reserved(entry),
+            Err(_) => {
+                return Err(Stopped {
+                    entries,
+                    event: number,
+                });
+            }
+        }
+    }
+    Ok(entries)
 }
 
 /// Lets the events of a trace happen to a new world, as `run` does with a list of them: each line
@@ -79,109 +93,38 @@ pub fn run_trace<S: Store>(
     ensures stopped { IfErr result (λ stopped. length stopped.entries.items ≡ stopped.event) }
     ensures early { IfErr result (IsStop rom image.now trace.now) }
 {
-    let draft = Draft::new();
-    run_each::<S, Playing<S::Alloc>>(alloc, rom, image, Playing { trace, draft })
-}
-
-// Events in order, however they are kept.
-trait Events<S: Store>: Drop {
-    ghost told: { Self → List Happening };
-
-    // How many there are.
-    fn count(&self) -> usize
-        ensures { result ≡ length (told self.now) };
-
-    // Lets the event of this number happen to a world.
-    fn happen(
-        &mut self,
-        number: usize,
-        world: &mut World<S>,
-    ) -> Result<OwnEntry<S::Alloc>, OutOfMemory>
-        requires inside { number < length (told self.old) }
-        ensures same { told self.new ≡ told self.old }
-        ensures stands { IfOk result (λ entry. AddsEvent (told self.old) number world.old
-            (shown_of entry) world.new) }
-        ensures room { OnErr result (WantsMemory (told self.old) number world.old) };
-}
-
-// A list of events.
-#[derive(Drop)]
-struct Listed<'a, A: Allocator> {
-    events: &'a [OwnEvent<A>],
-}
-
-impl<'a, S: Store> Events<S> for Listed<'a, S::Alloc> {
-    ghost told = { λ listed. map happening_of listed.events.now };
-
-    fn count(&self) -> usize {
-        self.events.len()
-    }
-
-    fn happen(
-        &mut self,
-        number: usize,
-        world: &mut World<S>,
-    ) -> Result<OwnEntry<S::Alloc>, OutOfMemory> {
-        world.apply(&self.events[number])
-    }
-}
-
-// A trace, and the draft in which those of its offers are made.
-#[derive(Drop)]
-struct Playing<'a, A: Allocator> {
-    trace: &'a Trace<A>,
-    draft: Draft,
-}
-
-impl<'a, S: Store> Events<S> for Playing<'a, S::Alloc> {
-    ghost told = { λ playing. playing.trace.now };
-
-    fn count(&self) -> usize {
-        self.trace.len()
-    }
-
-    fn happen(
-        &mut self,
-        number: usize,
-        world: &mut World<S>,
-    ) -> Result<OwnEntry<S::Alloc>, OutOfMemory> {
-        happen_of(self.trace, number, &mut self.draft, world)
-    }
-}
-
-// Lets events happen to a new world. What their log shows follows from its being legal.
-fn run_each<S: Store, E: Events<S>>(
-    alloc: S::Alloc,
-    rom: Rom<S::Alloc>,
-    image: &Image<S::Alloc>,
-    events: E,
-) -> Result<Vec<OwnEntry<S::Alloc>, S::Alloc>, Stopped<S::Alloc>>
-    ensures legal { IsLegal rom image.now (log_by (E.told events) result) }
-    ensures whole { IfOk result (λ entries. length entries.items ≡ length (E.told events)) }
-    ensures stopped { IfErr result (λ stopped. length stopped.entries.items ≡ stopped.event) }
-    ensures early { IfErr result (IsStop rom image.now (E.told events)) }
-{
     let Ok(mut world) = World::<S>::new(alloc, rom, image) else {
-        return Err(Stopped {
-            entries: Vec::new(alloc),
-            event: 0,
-        });
+        return Err(unstarted(alloc));
     };
-    let mut events = events;
-    let Ok(mut entries) = Vec::with_capacity(alloc, events.count()) else {
-        return Err(Stopped {
-            entries: Vec::new(alloc),
-            event: 0,
-        });
+    let Ok(mut entries) = Vec::with_capacity(alloc, trace.len()) else {
+        return Err(unstarted(alloc));
     };
-    for number in 0..events.count() {
-        let Ok(entry) = events.happen(number, &mut world) else {
-            return Err(Stopped {
-                entries,
-                event: number,
-            });
-        };
-        entries.push_reserved(entry);
+    let mut draft = Draft::new();
+    let mut number = 0;
+    for run in trace.runs() {
+        for _again in 0..run.1 {
+            match happen(run.0, &mut draft, &mut world) {
+                Ok(entry) => entries.push_reserved(entry),
+                Err(_) => {
+                    return Err(Stopped {
+                        entries,
+                        event: number,
+                    });
+                }
+            }
+            number += 1;
+        }
     }
     Ok(entries)
+}
+
+// A run that stopped before its first event.
+fn unstarted<A: Allocator + Copy>(alloc: A) -> Stopped<A>
+    ensures entries { result.entries.items ≡ [] }
+    ensures event { result.event ≡ 0 }
+{
+    Stopped {
+        entries: Vec::new(alloc),
+        event: 0,
+    }
 }

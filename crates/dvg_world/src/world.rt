@@ -1,5 +1,5 @@
 //! The world: both ends of the vector RAM, one event at a time.
-ghost use Rattle.std.specs.Prelude.{◌≡◌, ◌≢◌, ◌↔◌, ℕ, List, [], length, IfOk, IsErrOf, IsOk, OnErr};
+ghost use Rattle.std.specs.Prelude.{◌≡◌, ◌≢◌, ◌↔◌, ℕ, List, [], length, IfOk, IsErrOf, IsOk, Ok, OnErr};
 ghost use Rattle.std.specs.Prelude.{OnOk};
 ghost use Rattle.dvg_driver.specs.Stands.{IsInRam};
 ghost use Rattle.dvg_log.specs.Entries.{shown_of};
@@ -7,6 +7,7 @@ ghost use Rattle.dvg_log.specs.Events.{happening_of};
 ghost use Rattle.dvg_log.specs.declared.event.Event.TheVariants.{Offer, Redraw, Tick, Strobe};
 ghost use Rattle.dvg_log.specs.declared.event.Event.TheVariants.{Fetch, ResetGen, ResetCpu};
 ghost use Rattle.dvg_log.specs.declared.event.Event.TheVariants.{ResetAll};
+ghost use Rattle.dvg_log.specs.declared.entry.Entry.TheVariants.{Acted, Still};
 ghost use Rattle.dvg_log.specs.Legal.{IsLegal};
 ghost use Rattle.dvg_log.specs.Log.{Log};
 ghost use Rattle.dvg_world.specs.Standing.{AddsLine, DrawsNow, KeepsHeadlineAfter, WorldAfter};
@@ -169,10 +170,19 @@ impl<S: Store> World<S> {
         ensures stands { AddsLine self.old Tick (shown_of result) self.new }
         ensures headline { KeepsHeadlineAfter self.old Tick (shown_of result) }
     {
+        Entry::Acted(self.act())
+    }
+
+    // The driver does one action, which is answered. Where it is idle, nothing changes.
+    #[inline(always)]
+    pub(crate) fn act(&mut self) -> Action
+        ensures stands { AddsLine self.old Tick (Acted result) self.new }
+        ensures idle { result ≡ Action.Idle → self.new ≡ self.old }
+    {
         let byte1 = self.store.read(1);
         let action = self.desk.tick(self.generator.halted(), byte1);
         self.perform(action);
-        Entry::Acted(action)
+        action
     }
 
     // Does a write in the store, and puts a strobe under way.
@@ -210,6 +220,7 @@ impl<S: Store> World<S> {
         ensures stands { IfOk result (λ entry. AddsLine self.old Fetch (shown_of entry) self.new) }
         ensures headline { IfOk result
             (λ entry. KeepsHeadlineAfter self.old Fetch (shown_of entry)) }
+        ensures still { result ≡ Ok Still → self.new ≡ self.old }
         ensures refused { OnErr result (self.new ≡ self.old) }
         ensures room { OnErr result (DrawsNow self.old) }
     {

@@ -1,11 +1,13 @@
 -- What is kept where all entries are.
-use Rattle.std.specs.Prelude.{◌≡◌, ◌-◌, ◌∷◌, ℕ, length, map, min, vec_capacity, vec_len}
+use Rattle.std.specs.Prelude.{◌≡◌, ◌-◌, ◌∷◌, ℕ, List, length, map, min, vec_capacity, vec_len}
 use Rattle.dvg_log.specs.Entries.{Shown}
 use Rattle.dvg_log.specs.Events.{Happening}
 use Rattle.dvg_log.specs.Log.{Log, ◌⟼◌}
 use Rattle.dvg_world.specs.declared.logging.EntriesKept.{EntriesKept}
 use Rattle.dvg_world.specs.Keeping.{entries_in, entry_among}
+use Rattle.dvg_world.specs.Standing.{State, WorldAfter}
 use Rattle.dvg_world.specs.own.Entries.{AreEntries}
+use Rattle.dvg_world.specs.own.Running.{AddsRun, StopsRun}
 
 -- they are the entries of a log, and the strokes of its pictures
 abbrev pub AreKept : {A : Type 0} → EntriesKept A → Log → Type 0
@@ -20,3 +22,13 @@ room_left entries = min (min (vec_capacity entries.kept) 65536 - vec_len entries
 -- one entry more is kept: that of the next line of a log
 abbrev pub KeepsEntry : {A : Type 0} → EntriesKept A → Shown → EntriesKept A → Type 0
 KeepsEntry old entry new = (event : Happening) (log : Log) → AreKept old log → AreKept new ((event ⟼ entry) ∷ log)
+
+-- after each log that the world stands after and of which the entries are kept, so many lines more are added
+abbrev pub LogsRun : {A : Type 0} → State → EntriesKept A → Happening → (times : ℕ) → State → EntriesKept A → Type 0
+LogsRun old entries event times new more = (R image : List ℕ) (log : Log) → WorldAfter R image log old
+    → AreKept entries log → AddsRun R image log event times (AreKept more) new
+
+-- or fewer, and then the event takes memory
+abbrev pub StopsLogging : {A : Type 0} → State → EntriesKept A → Happening → (times : ℕ) → State → EntriesKept A → Type 0
+StopsLogging old entries event times new more = (R image : List ℕ) (log : Log) → WorldAfter R image log old
+    → AreKept entries log → StopsRun R image log event times (AreKept more) new

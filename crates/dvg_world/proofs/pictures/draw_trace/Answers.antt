@@ -1,40 +1,33 @@
-use Rattle.std.proofs.Common.{rules, ◌≡◌, ◌<◌, ◌≤◌, ◌∷◌, length, map, subst, sym}
-use Rattle.dvg_log.specs.Entries.{shown_of}
-use Rattle.dvg_log.specs.Log.{◌⟼◌}
-use Rattle.dvg_world.specs.Keeping.{pictures_of}
-use Rattle.dvg_world.specs.Kept.{picture_seen}
-use Rattle.dvg_world.proofs.KeptSoFar.{happened_all, happened_part, keeps_more}
-use Rattle.dvg_world.proofs.PicturesKept.{no_picture, one_picture}
-use Rattle.dvg_world.proofs.pictures.draw_trace.Goals.{in-Done, in_default-entry}
+use Rattle.std.proofs.Common.{◌≡◌, ◌+◌, ◌≤◌, length, replicate, ap, ◌∙◌, arith, length-append}
+use Rattle.std.proofs.lemmas.List.{length-replicate}
+use Rattle.dvg_log.specs.Traces.{seen_as}
+use Rattle.dvg_world.proofs.KeptSoFar.{happened_all, happened_part, keeps_run}
 use Rattle.dvg_world.proofs.pictures.draw_trace.Goals as goal
 
-pub returns-in_default-happen_of : goal.returns-in_default-happen_of
-returns-in_default-happen_of g c =
-    let inside : c.loop-number.number < length c.args.trace.now = search rules in
-    happened_part c.loop-number.invariant.so_far inside c.in_default-happen_of.ensures.room
+pub loop-run-preserved : goal.loop-run-preserved
+loop-run-preserved g c =
+    let run = c.in-Some.run' in
+    let event = seen_as run.0 in
+    let steps = c.in-Some.ensures.steps in
+    let rest = c.next.new.self in
+    let so_far = c.loop-run.invariant.so_far in
+    let longer = ap length steps.2 in
+    let sum = length-append (replicate run.1 event) rest in
+    let times = length-replicate run.1 event in
+    let all = c.loop-run.invariant.all in
+    let few = c.loop-run.invariant.few in
+    let len = c.draw_run.ensures.len in
+    record {
+      so_far = keeps_run event run.1 so_far steps.2 (λ log after kept count. c.in-Ok-draw_run.ensures.draws c.args.rom c.args.image.now log after kept count);
+      all = omega (arith, all, longer, sum, times);
+      few = omega (arith, few, len);
+      room = c.draw_run.ensures.capacity ∙ c.loop-run.invariant.room;
+    }
 
-pub loop-number-preserved : goal.loop-number-preserved
-loop-number-preserved g c =
-    let entry = c.in-Ok-happen_of.entry in
-    let n = c.loop-number.number in
-    let before = c.loop-number.pictures.items in
-    let inside : n < length c.args.trace.now = search rules in
-    elim c.match-entry.branch [
-      | in-Done w ↦ record {
-        so_far = keeps_more (shown_of entry) c.loop-number.invariant.so_far inside c.in-Ok-happen_of.ensures.stands
-            (one_picture before c.match-entry.pictures.items n entry w.in-Done.field-0 w.in-Done.field-1 w.in-Done.strokes w.in-Done.is (search rules));
-        few = search rules;
-        room = search rules;
-      }
-      | in_default-entry w ↦ record {
-        so_far = keeps_more (shown_of entry) c.loop-number.invariant.so_far inside c.in-Ok-happen_of.ensures.stands
-            (λ event log kept count. subst (λ pictures. map picture_seen pictures.items ≡ pictures_of ((event ⟼ shown_of entry) ∷ log)) (sym w.pictures-is) (no_picture (map picture_seen before) entry w.in_default-entry.not-Done event log kept));
-        few = search rules;
-        room = search rules;
-      }
-    ]
+pub returns-in-Err : goal.returns-in-Err
+returns-in-Err g c =
+    let run = c.in-Some.run' in
+    happened_part (seen_as run.0) run.1 c.next.new.self c.loop-run.invariant.so_far c.in-Some.ensures.steps.2 (λ log after kept count. c.in-Err.ensures.stops c.args.rom c.args.image.now log after kept count)
 
 pub returns : goal.returns
-returns g c =
-    let all : length c.args.trace.now ≤ c.loop-number.number = search rules in
-    happened_all c.loop-number.invariant.so_far all
+returns g c = happened_all c.loop-run.invariant.so_far c.in-None.ensures.steps.0

@@ -1,10 +1,12 @@
-use Rattle.std.proofs.Common.{refl, sym, ap, ◌∙◌, subst}
+use Rattle.std.proofs.Common.{◌≡◌, refl, sym, ap, ◌∙◌, subst}
 use Rattle.std.specs.Prelude.{is_some}
 use Rattle.dvg_log.specs.declared.event.Event.TheVariants.{Fetch}
+use Rattle.dvg_gen.specs.Bytes.{met}
 use Rattle.dvg_log.specs.Entries.{shown_of}
 use Rattle.dvg_log.specs.declared.entry.Entry.TheVariants.{Still}
 use Rattle.dvg_world.specs.Standing.{DrawsNow}
 use Rattle.dvg_world.proofs.Standing.{adds_between, keeps_headline, fetch_still, fetch_takes, draws_now, open_of, on_err}
+use Rattle.dvg_world.proofs.Fetching.{never_still}
 use Rattle.dvg_world.proofs.world.World.fetch.Goals as goal
 
 pub returns-in_default-clause-stands : goal.returns-in_default-clause-stands
@@ -28,3 +30,8 @@ returns-in_default-clause-headline g c = keeps_headline Fetch Still (returns-in_
 
 pub returns-clause-headline : goal.returns-clause-headline
 returns-clause-headline g c = keeps_headline Fetch (shown_of c.of_fetch.result) (returns-clause-stands g c)
+
+pub returns-clause-still : goal.returns-clause-still
+returns-clause-still g c is =
+    let same : c.of_fetch.result ≡ Still = cc in
+    absurd (never_still c.in-Some.address (met c.low_byte-low.result c.fetch_byte-byte.result) c.in_ok-taken.taken (sym c.of_fetch.ensures ∙ ap shown_of same))
