@@ -1,5 +1,5 @@
 //! Operations at the head of a text, each read in one pass with the end of its line.
-ghost use Rattle.std.specs.Prelude.{◌++◌, codes, IfSome};
+ghost use Rattle.std.specs.Prelude.{◌≡◌, ◌∷◌, ◌++◌, codes, IfSome};
 ghost use Rattle.dvg_read.specs.TextLines.{HasOp};
 
 use crate::number::{
@@ -14,25 +14,36 @@ use dvg_frame::{Op, OpKind};
 pub(crate) fn op_at_head(text: &[u8]) -> Option<(Op, &[u8])>
     ensures { IfSome result (λ head. HasOp text.now head.0 head.1.now) }
 {
-    if let Some(rest) = text.strip_prefix(b"svec ") {
-        return svec(rest);
+    if let Some(rest) = text.strip_prefix(b"svec") {
+        return svec(after_space(rest)?);
     }
-    if let Some(rest) = text.strip_prefix(b"vctr ") {
-        return vctr(rest);
+    if let Some(rest) = text.strip_prefix(b"vctr") {
+        return vctr(after_space(rest)?);
     }
-    if let Some(rest) = text.strip_prefix(b"labs ") {
-        return labs(rest);
+    if let Some(rest) = text.strip_prefix(b"labs") {
+        return labs(after_space(rest)?);
     }
-    if let Some(rest) = text.strip_prefix(b"call ") {
-        return call(rest);
+    if let Some(rest) = text.strip_prefix(b"call") {
+        return call(after_space(rest)?);
     }
-    if let Some(rest) = text.strip_prefix(b"jump ") {
-        return jump(rest);
+    if let Some(rest) = text.strip_prefix(b"jump") {
+        return jump(after_space(rest)?);
     }
     None
 }
 
-// An SVEC, after its name.
+// What stands after the space that a text begins with.
+#[inline(always)]
+fn after_space(text: &[u8]) -> Option<&[u8]>
+    ensures { IfSome result (λ rest. text.now ≡ 32 ∷ rest.now) }
+{
+    match text {
+        [b' ', rest @ ..] => Some(rest),
+        _ => None,
+    }
+}
+
+// An SVEC, after its name and a space.
 #[inline(always)]
 fn svec(text: &[u8]) -> Option<(Op, &[u8])>
     ensures { IfSome result (λ head. HasOp (codes "svec " ++ text.now) head.0 head.1.now) }
@@ -48,7 +59,7 @@ fn svec(text: &[u8]) -> Option<(Op, &[u8])>
     Some((Op::new(OpKind::Draw(code))?, rest))
 }
 
-// A VCTR, after its name.
+// A VCTR, after its name and a space.
 #[inline(always)]
 fn vctr(text: &[u8]) -> Option<(Op, &[u8])>
     ensures { IfSome result (λ head. HasOp (codes "vctr " ++ text.now) head.0 head.1.now) }
@@ -61,7 +72,7 @@ fn vctr(text: &[u8]) -> Option<(Op, &[u8])>
     Some((Op::new(OpKind::Draw(code))?, rest))
 }
 
-// A LABS, after its name.
+// A LABS, after its name and a space.
 #[inline(always)]
 fn labs(text: &[u8]) -> Option<(Op, &[u8])>
     ensures { IfSome result (λ head. HasOp (codes "labs " ++ text.now) head.0 head.1.now) }
@@ -73,7 +84,7 @@ fn labs(text: &[u8]) -> Option<(Op, &[u8])>
     Some((Op::new(OpKind::Draw(code))?, rest))
 }
 
-// A call, after its name.
+// A call, after its name and a space.
 #[inline(always)]
 fn call(text: &[u8]) -> Option<(Op, &[u8])>
     ensures { IfSome result (λ head. HasOp (codes "call " ++ text.now) head.0 head.1.now) }
@@ -82,7 +93,7 @@ fn call(text: &[u8]) -> Option<(Op, &[u8])>
     Some((Op::new(OpKind::Call(target))?, rest))
 }
 
-// A jump, after its name.
+// A jump, after its name and a space.
 #[inline(always)]
 fn jump(text: &[u8]) -> Option<(Op, &[u8])>
     ensures { IfSome result (λ head. HasOp (codes "jump " ++ text.now) head.0 head.1.now) }
