@@ -1,5 +1,5 @@
 -- Lines at the head of a text, by their parts.
-use Rattle.std.proofs.Common.{◌≡◌, ◌<◌, ◌≤◌, ◌^◌, ◌+◌, ◌*◌, ◌-◌, ◌/◌, ◌%◌, ℕ, zero, suc, ℤ, pos, negsuc, List, [], ◌∷◌, ◌++◌, length, get_or, take, drop, decimal, unsigned_abs, refl, sym, ap, subst, ◌∙◌, arith, All, true, false, eqb, append_assoc, codes, lit<, add-one, Some}
+use Rattle.std.proofs.Common.{◌≡◌, ◌<◌, ◌≤◌, ◌+◌, ◌*◌, ◌/◌, ◌%◌, ℕ, zero, suc, ℤ, pos, negsuc, List, [], ◌∷◌, ◌++◌, length, get_or, take, drop, decimal, unsigned_abs, refl, sym, ap, subst, ◌∙◌, arith, All, true, false, eqb, append_assoc, codes, lit<, add-one, Some}
 use Rattle.std.specs.Borrow.{Bor}
 use Rattle.std.specs.List.{onto_first, join_with_byte, AllByRecursion}
 use Rattle.std.specs.Fmt.{signed_decimal}
@@ -10,13 +10,13 @@ use Rattle.std.proofs.lemmas.Slice.Eq.{strip_prefix_is}
 use Rattle.std.proofs.lemmas.Bool.{false_from_ne_true, eqb-true}
 use Rattle.std.proofs.lemmas.Fmt.{decimal_digit, decimal_step}
 use Rattle.std.proofs.lemmas.List.{get_or_default, take_rest}
-use Rattle.std.proofs.lemmas.List.Elements.{All-head, All-tail, All-nil, All-from_recursion}
+use Rattle.std.proofs.lemmas.List.Elements.{All-head, All-tail, All-from_recursion}
 use Rattle.std.proofs.lemmas.List.Splits.{slice_split_none, slice_split_at, join_with_byte-slice_split}
 use Rattle.std.proofs.lemmas.Str.Parse.{digit_at}
 use Rattle.dvg_code.specs.Ranges.{InRange}
 use Rattle.dvg_code.specs.declared.instr.Instr.TheVariants.{Vctr, Svec, Labs}
 use Rattle.dvg_frame.specs.declared.op.OpKind.{OpKind}
-use Rattle.dvg_frame.specs.declared.op.OpKind.TheVariants.{Draw, Call, Jump}
+use Rattle.dvg_frame.specs.declared.op.OpKind.TheVariants.{Draw, Call, Jump, Halt}
 use Rattle.dvg_read.specs.OpLines.{IsOpLine, OpParts, vctr, svec, labs, callrom, jumprom, call, jump, return, halt}
 use Rattle.dvg_read.specs.TextLines.{HasOp}
 use Rattle.dvg_read.specs.Texts.{is_passed, lines, parts}
@@ -163,6 +163,11 @@ call_head text rest op n is small a =
 pub jump_head : (text rest : List ℕ) (op : OpKind) (n : ℕ) → op ≡ Jump n → n < 65536 → text ≡ decimal n ++ 10 ∷ rest → HasOp (codes "jump " ++ text) op rest
 jump_head text rest op n is small a =
     rw is (op_made (named_parts text rest _ 106 117 109 112 (lit< tt, (lit< tt, (lit< tt, (lit< tt, tt)))) (last_part text (decimal n) rest (decimal_part n small) a)) (jump small))
+
+pub halt_head : (text rest : List ℕ) (op : OpKind) → op ≡ Halt → text ≡ 10 ∷ rest → HasOp (codes "halt" ++ text) op rest
+halt_head text rest op is end =
+    let name = All-from_recursion (λ byte. 32 < byte) (codes "halt") (lit< tt, (lit< tt, (lit< tt, (lit< tt, tt)))) in
+    rw is (op_made (last_part (codes "halt" ++ text) (codes "halt") rest name (ap (λ text. codes "halt" ++ text) end)) halt)
 
 -- a line of an operation isn't passed over
 

@@ -1,6 +1,6 @@
 //! Numbers in a line of a text.
-ghost use Rattle.std.specs.Prelude.{◌≡◌, ◌+◌, ◌<◌, ◌≤◌, ◌^◌, ◌∷◌, ◌++◌, ℕ, ℤ, IfSome, Some, length, min};
-ghost use Rattle.std.specs.Prelude.{decimal, unsigned_abs};
+ghost use Rattle.std.specs.Prelude.{◌≡◌, ◌+◌, ◌<◌, ◌≤◌, ◌^◌, ◌∷◌, ◌++◌, ℕ, ℤ, IfSome, Some};
+ghost use Rattle.std.specs.Prelude.{decimal, length, min, unsigned_abs};
 ghost use Rattle.std.specs.Char.{digit_value};
 ghost use Rattle.std.specs.Fmt.{signed_decimal};
 ghost use Rattle.std.specs.Str.Parse.{AllDigits, digits_value};
@@ -69,6 +69,51 @@ pub fn natural(part: &[u8]) -> Option<u16>
         return None;
     }
     u16::try_from(value_of(part, 10)?).ok()
+}
+
+/// A decimal number of at most 8 bits, without a sign and without leading zeros.
+pub fn small_natural(part: &[u8]) -> Option<u8>
+    ensures found { IfSome result (λ n. part.now ≡ decimal n) }
+    ensures only { (n : ℕ) → n < 2 ^ 8 → part.now ≡ decimal n → result ≡ Some n }
+{
+    u8::try_from(natural(part)?).ok()
+}
+
+/// A decimal number from -32,767 to 32,767, without leading zeros, with `-` before it exactly where
+/// it is negative.
+pub fn integer(part: &[u8]) -> Option<i16>
+    ensures found { IfSome result (λ n. part.now ≡ signed_decimal n) }
+    ensures only { (n : ℤ) → unsigned_abs n < 2 ^ 15 → part.now ≡ signed_decimal n
+        → result ≡ Some n }
+{
+    let (first, digits) = part.split_first()?;
+    if *first != b'-' {
+        return i16::try_from(natural(part)?).ok();
+    }
+    let size = i16::try_from(natural(digits)?).ok()?;
+    if size > 0 { Some(-size) } else { None }
+}
+
+/// The same, from -128 to 127.
+pub fn small_integer(part: &[u8]) -> Option<i8>
+    ensures found { IfSome result (λ n. part.now ≡ signed_decimal n) }
+    ensures only { (n : ℤ) → unsigned_abs n < 2 ^ 7 → part.now ≡ signed_decimal n
+        → result ≡ Some n }
+{
+    i8::try_from(integer(part)?).ok()
+}
+
+/// A number of exactly this many hexadecimal digits, at most four, of either case.
+#[inline]
+pub fn hex(part: &[u8], count: usize) -> Option<u16>
+    requires { count ≤ 4 }
+    ensures found { IfSome result (λ n. IsHex count n part.now) }
+    ensures only { (n : ℕ) → IsHex count n part.now → result ≡ Some n }
+{
+    if part.len() != count {
+        return None;
+    }
+    u16::try_from(value_of(part, 16)?).ok()
 }
 
 // The value of a decimal digit.
@@ -143,29 +188,6 @@ pub(crate) fn natural_before(text: &[u8], end: u8, most: u16) -> Option<(u16, &[
     None
 }
 
-/// A decimal number of at most 8 bits, without a sign and without leading zeros.
-pub fn small_natural(part: &[u8]) -> Option<u8>
-    ensures found { IfSome result (λ n. part.now ≡ decimal n) }
-    ensures only { (n : ℕ) → n < 2 ^ 8 → part.now ≡ decimal n → result ≡ Some n }
-{
-    u8::try_from(natural(part)?).ok()
-}
-
-/// A decimal number from -32,767 to 32,767, without leading zeros, with `-` before it exactly where
-/// it is negative.
-pub fn integer(part: &[u8]) -> Option<i16>
-    ensures found { IfSome result (λ n. part.now ≡ signed_decimal n) }
-    ensures only { (n : ℤ) → unsigned_abs n < 2 ^ 15 → part.now ≡ signed_decimal n
-        → result ≡ Some n }
-{
-    let (first, digits) = part.split_first()?;
-    if *first != b'-' {
-        return i16::try_from(natural(part)?).ok();
-    }
-    let size = i16::try_from(natural(digits)?).ok()?;
-    if size > 0 { Some(-size) } else { None }
-}
-
 /// The decimal number that a text begins with, before a space, and what comes after that. It is at
 /// most this large, without leading zeros, with `-` before it exactly where it is negative.
 #[inline(always)]
@@ -209,26 +231,4 @@ pub(crate) fn tiny_before_space(text: &[u8]) -> Option<(i8, &[u8])>
     } else {
         None
     }
-}
-
-/// The same, from -128 to 127.
-pub fn small_integer(part: &[u8]) -> Option<i8>
-    ensures found { IfSome result (λ n. part.now ≡ signed_decimal n) }
-    ensures only { (n : ℤ) → unsigned_abs n < 2 ^ 7 → part.now ≡ signed_decimal n
-        → result ≡ Some n }
-{
-    i8::try_from(integer(part)?).ok()
-}
-
-/// A number of exactly this many hexadecimal digits, at most four, of either case.
-#[inline]
-pub fn hex(part: &[u8], count: usize) -> Option<u16>
-    requires { count ≤ 4 }
-    ensures found { IfSome result (λ n. IsHex count n part.now) }
-    ensures only { (n : ℕ) → IsHex count n part.now → result ≡ Some n }
-{
-    if part.len() != count {
-        return None;
-    }
-    u16::try_from(value_of(part, 16)?).ok()
 }

@@ -29,6 +29,9 @@ pub(crate) fn op_at_head(text: &[u8]) -> Option<(Op, &[u8])>
     if let Some(rest) = text.strip_prefix(b"jump") {
         return jump(after_space(rest)?);
     }
+    if let Some(rest) = text.strip_prefix(b"halt") {
+        return halt(rest);
+    }
     None
 }
 
@@ -100,4 +103,15 @@ fn jump(text: &[u8]) -> Option<(Op, &[u8])>
 {
     let (target, rest) = natural_before(text, b'\n', u16::MAX)?;
     Some((Op::new(OpKind::Jump(target))?, rest))
+}
+
+// A halt, after its name.
+#[inline(always)]
+fn halt(text: &[u8]) -> Option<(Op, &[u8])>
+    ensures { IfSome result (λ head. HasOp (codes "halt" ++ text.now) head.0 head.1.now) }
+{
+    match text {
+        [b'\n', rest @ ..] => Some((Op::new(OpKind::Halt)?, rest)),
+        _ => None,
+    }
 }

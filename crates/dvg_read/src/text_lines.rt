@@ -47,8 +47,8 @@ impl<'a> TextLines<'a> {
         Some(event)
     }
 
-    /// Takes the next line, if it spells one of the operations that come most often, and answers the
-    /// operation. None says nothing of the line, and nothing is taken then.
+    /// Takes the next line, if it spells one of the operations that come most often, and answers
+    /// that operation. None says nothing of the line, and nothing is taken then.
     #[inline(always)]
     pub(crate) fn take_op(&mut self) -> Option<Op>
         ensures taken { IfSome result (λ op. HasOp self.old.rest.now op self.new.rest.now) }

@@ -1,4 +1,4 @@
-use Rattle.std.proofs.Common.{◌≡◌, get_or, ◌∙◌, refl, arith, rules}
+use Rattle.std.proofs.Common.{◌≡◌, get_or, rules}
 use Rattle.dvg_read.proofs.Heads.{digit_alone, two_bytes}
 use Rattle.dvg_read.proofs.number.digit_before.Goals as goal
 

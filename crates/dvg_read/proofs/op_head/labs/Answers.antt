@@ -1,4 +1,4 @@
-use Rattle.std.proofs.Common.{◌≡◌, ◌∙◌, ap, rules}
+use Rattle.std.proofs.Common.{◌∙◌, ap, rules}
 use Rattle.dvg_frame.specs.declared.op.OpKind.TheVariants.{Draw}
 use Rattle.dvg_read.proofs.Heads.{labs_head}
 use Rattle.dvg_read.proofs.op_head.labs.Goals as goal
