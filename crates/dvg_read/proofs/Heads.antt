@@ -68,10 +68,6 @@ digit_more text rest n digit byte more some small few is sum spelled =
     let grown : decimal more ≡ decimal n ++ byte ∷ [] = decimal_step more (omega arith) (omega arith) ∙ rw (front, last, is) refl in
     spelled ∙ sym (ap (λ front. front ++ rest) grown ∙ append_assoc (decimal n) (byte ∷ []) rest)
 
--- a minus and a number above 0
-pub minus_before : (text digits rest : List ℕ) (n : ℕ) → text ≡ 45 ∷ digits → digits ≡ decimal (suc n) ++ 32 ∷ rest → text ≡ signed_decimal (negsuc n) ++ 32 ∷ rest
-minus_before text digits rest n is spelled = is ∙ ap (λ digits. 45 ∷ digits) spelled
-
 -- ---- parts
 
 -- each byte is above the space, so none is a space or a line end
