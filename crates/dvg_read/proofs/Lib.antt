@@ -22,4 +22,4 @@ pub mod HeldRom
 pub mod ReadTo
 pub mod Spaces
 pub mod HexDigits
-pub mod Ahead
+pub mod Heads

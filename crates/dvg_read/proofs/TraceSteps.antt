@@ -167,7 +167,7 @@ no_events_rom rest = no_rom
 tells_no_events : {rom now : RomText} {more : List Happening} {l : List ℕ} → TellsRom rom l now → EventParts more (parts l) → ⊥
 tells_no_events {more = more} t p = stated_by_name (EventParts more) p no_events_map no_events_rom t
 
-end_is_no_op : (op : OpKind) → IsOpLine op (codes "end") → ⊥
+pub end_is_no_op : (op : OpKind) → IsOpLine op (codes "end") → ⊥
 end_is_no_op op h = elim h [ ]
 
 one_way : {rom now also : RomText} {old new next : List Happening} {opened left kept : Option (List OpKind)} {l : List ℕ}

@@ -4,6 +4,8 @@ use Rattle.std.specs.Borrow.{Bor}
 use Rattle.dvg_read.specs.declared.text_lines.TextLines.{TextLines}
 use Rattle.dvg_log.specs.Events.{Happening}
 use Rattle.dvg_read.specs.EventLines.{IsNamed}
+use Rattle.dvg_frame.specs.declared.op.OpKind.{OpKind}
+use Rattle.dvg_read.specs.OpLines.{IsOpLine}
 use Rattle.dvg_read.specs.Texts.{lines}
 
 -- the lines that are left
@@ -20,3 +22,9 @@ pub record HasName (text : List ℕ) (event : Happening) (rest : List ℕ) : Typ
   pub name : List ℕ
   pub named : IsNamed event name
   pub cut : lines text ≡ name ∷ lines rest
+
+-- the first line of a text spells this operation, and this text stands after it
+pub record HasOp (text : List ℕ) (op : OpKind) (rest : List ℕ) : Type 0 where
+  pub line : List ℕ
+  pub spelled : IsOpLine op line
+  pub cut : lines text ≡ line ∷ lines rest

@@ -8,6 +8,7 @@ mod fault;
 pub mod laws;
 mod line_parts;
 mod number;
+mod op_head;
 mod op_line;
 mod rom_line;
 mod rom_text;

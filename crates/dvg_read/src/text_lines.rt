@@ -6,6 +6,8 @@ ghost use Rattle.dvg_read.specs.Texts.{is_passed};
 ghost use Rattle.memchr.specs.Find.{IsFirstByte, is_byte};
 
 use crate::event_line::SpelledEvent;
+use crate::op_head::op_at_head;
+use dvg_frame::Op;
 use dvg_log::Event;
 use memchr::memchr;
 
@@ -22,7 +24,7 @@ pub struct TextLines<'a> {
 impl<'a> TextLines<'a> {
     ghost use Rattle.std.specs.Prelude.{◌≡◌, IfNone, IfSome};
     ghost use Rattle.dvg_read.specs.EventLines.{spelled_as};
-    ghost use Rattle.dvg_read.specs.TextLines.{HasName, lines_left};
+    ghost use Rattle.dvg_read.specs.TextLines.{HasName, HasOp, lines_left};
     ghost use Rattle.dvg_read.specs.Texts.{lines};
 
     /// The lines of this text.
@@ -43,6 +45,20 @@ impl<'a> TextLines<'a> {
         let (event, rest) = name_at_head(self.rest)?;
         self.rest = rest;
         Some(event)
+    }
+
+    /// Takes the next line, if it spells one of the operations that come most often, and answers
+    /// that operation. None says nothing of the line, and nothing is taken then.
+    #[inline(always)]
+    pub(crate) fn take_op(&mut self) -> Option<Op>
+        ensures taken { IfSome result (λ op. HasOp self.old.rest.now op self.new.rest.now) }
+        ensures kept { IfNone result (lines_left self.new ≡ lines_left self.old) }
+    {
+        let Some((op, rest)) = op_at_head(self.rest) else {
+            return None;
+        };
+        self.rest = rest;
+        Some(op)
     }
 }
 

@@ -5,7 +5,7 @@ ghost use Rattle.std.specs.Prelude.{OnOk};
 ghost use Rattle.dvg_frame.specs.declared.op.OpKind.{OpKind};
 ghost use Rattle.dvg_read.specs.EventLines.{IsNamed, happenings, spelled_as};
 ghost use Rattle.dvg_read.specs.OpLines.{IsOpLine};
-ghost use Rattle.dvg_read.specs.TextLines.{HasName, lines_left};
+ghost use Rattle.dvg_read.specs.TextLines.{HasName, HasOp, lines_left};
 ghost use Rattle.dvg_read.specs.TraceGives.{AreResets, GivesTrace, IsHeld, ReadsLine, StopsEvents};
 ghost use Rattle.dvg_read.specs.TraceGives.{StopsLine, StopsOperation, StopsReading, events_read};
 ghost use Rattle.dvg_read.specs.TraceGives.{fault_at, opened_of};
@@ -19,7 +19,7 @@ use crate::rom_text::RomReading;
 use crate::text_lines::{TextLines, is_passed};
 use arrayvec::ArrayVec;
 use dvg_code::OutOfMemory;
-use dvg_frame::Draft;
+use dvg_frame::{Draft, Op};
 use dvg_log::{Event, MOST_EVENTS, Trace};
 use dvg_mem::{Image, LARGE_ROM_BYTES, MEMORY_BYTES};
 use std::alloc::{Allocator, Global};
@@ -65,6 +65,12 @@ pub fn read_trace<A: Allocator + Copy>(alloc: A, text: &[u8]) -> Result<TraceTex
         number += 1;
         if let Some(event) = reading.name_ahead(&mut lines) {
             match reading.take_name(event) {
+                Ok(()) => continue,
+                Err(fault) => return Err(at_line(fault, number)),
+            }
+        }
+        if let Some(op) = reading.op_ahead(&mut lines) {
+            match reading.take_op(op) {
                 Ok(()) => continue,
                 Err(fault) => return Err(at_line(fault, number)),
             }
@@ -160,6 +166,35 @@ impl<A: Allocator + Copy> Reading<A> {
         add_events(self.alloc, line, &mut self.resets, &mut self.events)
     }
 
+    // Takes the next line, if it spells one of the operations that come most often and an offer is
+    // open, and answers the operation. Else nothing is taken.
+    #[inline(always)]
+    fn op_ahead(&self, lines: &mut TextLines) -> Option<Op>
+        ensures inside { IfSome result (λ _. IsTrue self.now.is_open) }
+        ensures taken { IfSome result (λ op. HasOp lines.old.rest.now op lines.new.rest.now) }
+        ensures kept { IfNone result (lines_left lines.new ≡ lines_left lines.old) }
+    {
+        if !self.is_open {
+            return None;
+        }
+        lines.take_op()
+    }
+
+    // Reads one more line, which spells this operation, where an offer is open.
+    #[inline(always)]
+    fn take_op(&mut self, op: Op) -> Result<(), LineFault>
+        requires inside { IsTrue self.old.is_open }
+        requires held { IsHeld self.old }
+        ensures taken { (line : List ℕ) → IsOpLine op line
+            → OnOk result (ReadsLine self.old line self.new) }
+        ensures held { OnOk result (IsHeld self.new) }
+        ensures fault { (line : List ℕ) → IsOpLine op line
+            → IfErr result (λ fault. StopsLine fault (events_read self.old)
+            (opened_of self.old) self.old.rom line) }
+    {
+        push_op(&mut self.draft, op)
+    }
+
     // Reads one more line, which isn't passed over.
     fn take(&mut self, line: &[u8]) -> Result<(), LineFault>
         requires held { IsHeld self.old }
@@ -238,6 +273,17 @@ pub(crate) fn add_op(draft: &mut Draft, line: &[u8]) -> Result<(), LineFault>
     let Some(op) = read_op(line) else {
         return Err(LineFault::Syntax);
     };
+    push_op(draft, op)
+}
+
+// Adds an operation.
+#[inline(always)]
+fn push_op(draft: &mut Draft, op: Op) -> Result<(), LineFault>
+    ensures added { OnOk result (draft.new ≡ draft.old ++ op ∷ []) }
+    ensures room { OnOk result (length draft.old < 511) }
+    ensures fault { (line : List ℕ) → IsOpLine op line
+        → IfErr result (λ fault. StopsOperation fault draft.old line) }
+{
     match draft.push(op) {
         Ok(_) => Ok(()),
         Err(_) => Err(LineFault::Full),

@@ -4,11 +4,12 @@ use Rattle.dvg_read.specs.TextLines.{lines_left}
 use Rattle.dvg_read.proofs.ReadTo.{ReadTo}
 use Rattle.dvg_read.proofs.draft_text.read_draft.Given as goal
 
-abbrev pub invariant-loop-line : goal.invariant-loop-line
-invariant-loop-line l = record {
-  next : (goal.iterator-loop-line).can_next l.line-iterator;
-  ends : (goal.iterator-loop-line).is_finite l.line-iterator;
+abbrev pub invariant-loop-op : goal.invariant-loop-op
+invariant-loop-op l = record {
   short : IsShort l.text;
   count : length l.draft ≤ 511;
-  read : ReadTo l.text (lines_left l.line-iterator) l.number l.draft l.rom;
+  read : ReadTo l.text (lines_left l.lines) l.number l.draft l.rom;
 }
+
+abbrev pub decreases-loop-op : goal.decreases-loop-op
+decreases-loop-op l = length (lines_left l.lines)
