@@ -1,23 +1,29 @@
 -- Numbers that are counted on in place: nines at the end become zeros, and the digit before them one more.
-use Rattle.std.proofs.Common.{◌≡◌, ℕ, zero, suc, ◌+◌, ◌-◌, ◌/◌, ◌%◌, ◌^◌, ◌<◌, ◌≤◌, List, [], ◌∷◌, ◌++◌, length, set, get_or, take, drop, replicate, decimal, refl, sym, ap, ◌∙◌, ⊎_elim, subst, arith, append-nil, append_assoc, length-append}
+use Rattle.std.proofs.Common.{◌≡◌, ℕ, zero, suc, ◌+◌, ◌-◌, ◌/◌, ◌%◌, ◌^◌, ◌<◌, ◌≤◌, List, [], ◌∷◌, ◌++◌, length, set}
+use Rattle.std.proofs.Common.{get_or, take, drop, replicate, decimal, refl, sym, ap, ◌∙◌, ⊎_elim, subst, arith}
+use Rattle.std.proofs.Common.{append-nil, append_assoc, length-append}
 use Rattle.std.proofs.lemmas.Bool.{cases_lt}
 use Rattle.std.proofs.lemmas.Fmt.{decimal_digit, decimal_step, length-decimal-le}
-use Rattle.std.proofs.lemmas.List.{get_or_append_left, length-replicate, length-take-le, same_from_push, set_at, take-append-drop, take_all, take_at, take_more, drop_at}
+use Rattle.std.proofs.lemmas.List.{get_or_append_left, length-replicate, length-take-le, same_from_push, set_at}
+use Rattle.std.proofs.lemmas.List.{take-append-drop, take_all, take_at, take_more, drop_at}
 use Rattle.dvg_print.specs.Numbering.{ComesBefore, CountsUp}
 
 -- the number after one that ends with a lower digit than 9
-next_digit : (n d : ℕ) (front : List ℕ) → n + 1 < 2 ^ 64 → decimal n ≡ front ++ d ∷ [] → d < 57 → decimal (n + 1) ≡ front ++ (d + 1) ∷ []
+next_digit : (n d : ℕ) (front : List ℕ) → n + 1 < 2 ^ 64 → decimal n ≡ front ++ d ∷ [] → d < 57
+    → decimal (n + 1) ≡ front ++ (d + 1) ∷ []
 next_digit n d front small is low = ⊎_elim short long (cases_lt n 10)
   where
     short : n < 10 → decimal (n + 1) ≡ front ++ (d + 1) ∷ []
     short few =
         let same = same_from_push [] front (48 + n) d (sym (decimal_digit n few) ∙ is) in
         let more : 48 + (n + 1) ≡ d + 1 = (let digit = same.1 in omega (arith, digit)) in
-        decimal_digit (n + 1) (let digit = same.1 in omega (arith, digit, low)) ∙ ap (λ xs. xs ++ (48 + (n + 1)) ∷ []) same.0 ∙ ap (λ x. front ++ x ∷ []) more
+        decimal_digit (n + 1) (let digit = same.1 in omega (arith, digit, low))
+        ∙ ap (λ xs. xs ++ (48 + (n + 1)) ∷ []) same.0 ∙ ap (λ x. front ++ x ∷ []) more
 
     long : 10 ≤ n → decimal (n + 1) ≡ front ++ (d + 1) ∷ []
     long many =
-        let same = same_from_push (decimal (n / 10)) front (48 + n % 10) d (sym (decimal_step n many (omega (arith, small))) ∙ is) in
+        let same = same_from_push (decimal (n / 10)) front (48 + n % 10) d
+        (sym (decimal_step n many (omega (arith, small))) ∙ is) in
         let digit = same.1 in
         let tens : (n + 1) / 10 ≡ n / 10 = omega (arith, digit, low) in
         let more : 48 + (n + 1) % 10 ≡ d + 1 = omega (arith, digit, low) in
@@ -34,7 +40,8 @@ pushed front d x k =
     more (suc n) = ap (λ xs. x ∷ xs) (more n)
 
 -- the number after one that ends with k nines
-carried : (k n d : ℕ) (front : List ℕ) → n + 1 < 2 ^ 64 → decimal n ≡ front ++ d ∷ replicate k 57 → d < 57 → decimal (n + 1) ≡ front ++ (d + 1) ∷ replicate k 48
+carried : (k n d : ℕ) (front : List ℕ) → n + 1 < 2 ^ 64 → decimal n ≡ front ++ d ∷ replicate k 57 → d < 57
+    → decimal (n + 1) ≡ front ++ (d + 1) ∷ replicate k 48
 carried zero n d front small is low = next_digit n d front small is low
 carried (suc k) n d front small is low = ⊎_elim short (long (carried k (n / 10) d front)) (cases_lt n 10)
   where
@@ -47,14 +54,17 @@ carried (suc k) n d front small is low = ⊎_elim short (long (carried k (n / 10
         let none = ap length same.0 in
         absurd (let len = length-append front (d ∷ replicate k 57) in omega (arith, none, len))
 
-    long : (n / 10 + 1 < 2 ^ 64 → decimal (n / 10) ≡ front ++ d ∷ replicate k 57 → d < 57 → decimal (n / 10 + 1) ≡ front ++ (d + 1) ∷ replicate k 48)
+    long : (n / 10 + 1 < 2 ^ 64 → decimal (n / 10) ≡ front ++ d ∷ replicate k 57 → d < 57
+        → decimal (n / 10 + 1) ≡ front ++ (d + 1) ∷ replicate k 48)
         → 10 ≤ n → decimal (n + 1) ≡ front ++ (d + 1) ∷ replicate (suc k) 48
     long shorter many =
-        let same = same_from_push (decimal (n / 10)) (front ++ d ∷ replicate k 57) (48 + n % 10) 57 (sym (decimal_step n many (omega (arith, small))) ∙ ends) in
+        let same = same_from_push (decimal (n / 10)) (front ++ d ∷ replicate k 57) (48 + n % 10) 57
+        (sym (decimal_step n many (omega (arith, small))) ∙ ends) in
         let nine = same.1 in
         let tens : (n + 1) / 10 ≡ n / 10 + 1 = omega (arith, nine) in
         let ones : 48 + (n + 1) % 10 ≡ 48 = omega (arith, nine) in
-        decimal_step (n + 1) (omega (arith, many)) small ∙ ap (λ t. decimal t ++ (48 + (n + 1) % 10) ∷ []) tens ∙ ap (λ o. decimal (n / 10 + 1) ++ o ∷ []) ones
+        decimal_step (n + 1) (omega (arith, many)) small ∙ ap (λ t. decimal t ++ (48 + (n + 1) % 10) ∷ []) tens
+        ∙ ap (λ o. decimal (n / 10 + 1) ++ o ∷ []) ones
         ∙ ap (λ xs. xs ++ 48 ∷ []) (shorter (omega (arith, small)) same.0 low)
         ∙ sym (pushed front (d + 1) 48 k)
 
@@ -78,13 +88,15 @@ none_carried old count inside = record {
 }
 
 -- the last byte of the front, and those before it
-last_of : (front rest : List ℕ) (at : ℕ) → length front ≡ at → 0 < at → front ≡ take (at - 1) front ++ get_or (front ++ rest) (at - 1) 0 ∷ []
+last_of : (front rest : List ℕ) (at : ℕ) → length front ≡ at → 0 < at
+    → front ≡ take (at - 1) front ++ get_or (front ++ rest) (at - 1) 0 ∷ []
 last_of front rest at here some =
     let end : at - 1 + 1 ≡ at = omega arith in
     sym (take_all at front (omega (arith, here)))
     ∙ sym (ap (λ n. take n front) end)
     ∙ take_more front (at - 1) 0 (omega (arith, here, some))
-    ∙ ap (λ d. take (at - 1) front ++ d ∷ []) (sym (get_or_append_left front rest 0 (at - 1) (omega (arith, here, some))))
+    ∙ ap (λ d. take (at - 1) front ++ d ∷ [])
+    (sym (get_or_append_left front rest 0 (at - 1) (omega (arith, here, some))))
 
 module _ (old bytes : List ℕ) (count at : ℕ) (so_far : Carrying old bytes count at) (some : 0 < at) where
   abbrev zeros : List ℕ
@@ -97,17 +109,20 @@ module _ (old bytes : List ℕ) (count at : ℕ) (so_far : Carrying old bytes co
   digit = get_or bytes (at - 1) 0
 
   split : so_far.front ≡ before ++ digit ∷ []
-  split = last_of so_far.front zeros at so_far.here some ∙ ap (λ bs. before ++ get_or bs (at - 1) 0 ∷ []) (sym so_far.now)
+  split = last_of so_far.front zeros at so_far.here some
+      ∙ ap (λ bs. before ++ get_or bs (at - 1) 0 ∷ []) (sym so_far.now)
 
   len : length before ≡ at - 1
   len = length-take-le (at - 1) so_far.front (let here = so_far.here in omega (arith, here))
 
   ones : take count old ≡ before ++ digit ∷ replicate so_far.nines 57
-  ones = so_far.were ∙ ap (λ xs. xs ++ replicate so_far.nines 57) split ∙ append_assoc before (digit ∷ []) (replicate so_far.nines 57)
+  ones = so_far.were ∙ ap (λ xs. xs ++ replicate so_far.nines 57) split
+      ∙ append_assoc before (digit ∷ []) (replicate so_far.nines 57)
 
   put : (x : ℕ) → set bytes (at - 1) x ≡ before ++ x ∷ zeros
   put x =
-      let are : bytes ≡ before ++ digit ∷ zeros = so_far.now ∙ ap (λ xs. xs ++ zeros) split ∙ append_assoc before (digit ∷ []) zeros in
+      let are : bytes ≡ before ++ digit ∷ zeros = so_far.now ∙ ap (λ xs. xs ++ zeros) split
+      ∙ append_assoc before (digit ∷ []) zeros in
       ap (λ bs. set bs (at - 1) x) are ∙ set_at before digit zeros x (at - 1) len
 
   -- one more nine
@@ -155,7 +170,8 @@ rest_stays old bytes count at so_far =
     ∙ drop_at first (drop count old) count (omega (arith, here, all, add, rep))
 
 -- the digits of the number before, counted up
-pub counted_on : (digits more : List ℕ) (number : ℕ) → number < 2 ^ 64 → 0 < length digits → ComesBefore digits number → CountsUp digits more → more ≡ decimal number
+pub counted_on : (digits more : List ℕ) (number : ℕ) → number < 2 ^ 64 → 0 < length digits → ComesBefore digits number
+    → CountsUp digits more → more ≡ decimal number
 counted_on digits more number small some before counts = ⊎_elim none one before
   where
     none : digits ≡ [] → more ≡ decimal number
@@ -166,4 +182,5 @@ counted_on digits more number small some before counts = ⊎_elim none one befor
 
 -- the digits of a number of 64 bits
 pub few_digits : (number : ℕ) (text : List ℕ) → number < 2 ^ 64 → text ≡ decimal number → length text ≤ 20
-few_digits number text small is = subst (λ l. length l ≤ 20) (sym is) (length-decimal-le 20 number (omega arith) (omega (arith, small)) small)
+few_digits number text small is =
+    subst (λ l. length l ≤ 20) (sym is) (length-decimal-le 20 number (omega arith) (omega (arith, small)) small)

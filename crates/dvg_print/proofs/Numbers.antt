@@ -1,5 +1,6 @@
 -- The number at the front of a line.
-use Rattle.std.proofs.Common.{◌≡◌, ℕ, ◌+◌, ◌^◌, ◌<◌, List, [], ◌∷◌, ◌++◌, length, take, drop, decimal, sym, ap, ◌∙◌, ⊎_elim, arith, append_assoc, length-append}
+use Rattle.std.proofs.Common.{◌≡◌, ℕ, ◌+◌, ◌^◌, ◌<◌, List, [], ◌∷◌, ◌++◌, length, take, drop, decimal, sym, ap, ◌∙◌}
+use Rattle.std.proofs.Common.{⊎_elim, arith, append_assoc, length-append}
 use Rattle.std.proofs.lemmas.List.{append_cancel_left, take-append-drop}
 use Rattle.dvg_log.specs.declared.entry.Entry.{Entry}
 use Rattle.dvg_print.specs.Lines.{spaced}
@@ -24,7 +25,8 @@ module _ (n : ℕ) (entry : Entry ℕ) where
       omega (arith, gone, first, last)
 
   -- the line of the next number is that number and the same rest
-  pub renumbered : (line more : List ℕ) (digits next : ℕ) → BeginsWith line digits next → more ≡ decimal next ++ drop digits line → next ≡ n + 1 → line ≡ entry_line n entry
+  pub renumbered : (line more : List ℕ) (digits next : ℕ) → BeginsWith line digits next
+      → more ≡ decimal next ++ drop digits line → next ≡ n + 1 → line ≡ entry_line n entry
       → more ≡ entry_line next entry
   renumbered line more digits next begins is number text = ⊎_elim none one begins
     where
@@ -36,11 +38,13 @@ module _ (n : ℕ) (entry : Entry ℕ) where
           let same : known.0 ≡ n = (let other = known.1 in omega (arith, number, other)) in
           let front : take digits line ≡ decimal n = known.2 ∙ ap decimal same in
           let after : drop digits line ≡ rest =
-          append_cancel_left (decimal n) (drop digits line) rest (ap (λ ds. ds ++ drop digits line) (sym front) ∙ take-append-drop digits line ∙ text ∙ parts n) in
+          append_cancel_left (decimal n) (drop digits line) rest
+          (ap (λ ds. ds ++ drop digits line) (sym front) ∙ take-append-drop digits line ∙ text ∙ parts n) in
           is ∙ ap (λ r. decimal next ++ r) after ∙ sym (parts next)
 
   -- so is one whose digits were counted up
-  pub counted_line : (line more : List ℕ) (digits next : ℕ) → next < 2 ^ 64 → BeginsWith line digits next → CountsUp (take digits line) (take digits more) → drop digits more ≡ drop digits line
+  pub counted_line : (line more : List ℕ) (digits next : ℕ) → next < 2 ^ 64 → BeginsWith line digits next
+      → CountsUp (take digits line) (take digits more) → drop digits more ≡ drop digits line
       → next ≡ n + 1 → line ≡ entry_line n entry → more ≡ entry_line next entry
   counted_line line more digits next small begins counts stays number text = ⊎_elim none one begins
     where
@@ -50,7 +54,9 @@ module _ (n : ℕ) (entry : Entry ℕ) where
       one : (m : ℕ) × (next ≡ m + 1) × (take digits line ≡ decimal m) → more ≡ entry_line next entry
       one known =
           let is = known.1 in
-          let now : take digits more ≡ decimal next = counts known.0 (omega (arith, is, small)) known.2 ∙ ap decimal (sym is) in
+          let now : take digits more ≡ decimal next = counts known.0 (omega (arith, is, small)) known.2
+          ∙ ap decimal (sym is) in
           let all : more ≡ decimal next ++ drop digits line =
-          sym (take-append-drop digits more) ∙ ap (λ ds. ds ++ drop digits more) now ∙ ap (λ r. decimal next ++ r) stays in
+          sym (take-append-drop digits more) ∙ ap (λ ds. ds ++ drop digits more) now
+          ∙ ap (λ r. decimal next ++ r) stays in
           renumbered line more digits next begins all number text

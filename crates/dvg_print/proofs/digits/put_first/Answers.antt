@@ -16,7 +16,8 @@ returns-then-number-lt10-clause-start c = omega (arith, length_one c.args.number
 pub returns-then-number-lt10-clause-text : goal.returns-then-number-lt10-clause-text
 returns-then-number-lt10-clause-text c =
     let one = length_one c.args.number c.if-number-lt10.true in
-    rw (decimal_digit c.args.number c.if-number-lt10.true) (one_put c.args.bytes.now c.args.end _ (omega (arith, one)) (search rules))
+    rw (decimal_digit c.args.number c.if-number-lt10.true)
+    (one_put c.args.bytes.now c.args.end _ (omega (arith, one)) (search rules))
 
 pub put_pair-requires-clause-room : goal.put_pair-requires-clause-room
 put_pair-requires-clause-room c = omega (arith, length_two c.args.number c.if-number-lt10.false c.requires.number)

@@ -12,10 +12,12 @@ loop-left-init c = record {
 }
 
 pub put_pair-requires-clause-room : goal.put_pair-requires-clause-room
-put_pair-requires-clause-room c = omega (arith, length_pair c.loop-left.left c.loop-left-test.true (omega arith), c.loop-left.invariant.room)
+put_pair-requires-clause-room c =
+    omega (arith, length_pair c.loop-left.left c.loop-left-test.true (omega arith), c.loop-left.invariant.room)
 
 pub overflow_sub-at : goal.overflow_sub-at
-overflow_sub-at c = omega (arith, length_pair c.loop-left.left c.loop-left-test.true (omega arith), c.loop-left.invariant.room)
+overflow_sub-at c =
+    omega (arith, length_pair c.loop-left.left c.loop-left-test.true (omega arith), c.loop-left.invariant.room)
 
 pub loop-left-preserved : goal.loop-left-preserved
 loop-left-preserved c =
@@ -25,8 +27,15 @@ loop-left-preserved c =
       room = omega (arith, long, l.invariant.room);
       inside = omega (arith, l.invariant.inside);
       start = omega (arith, long, l.invariant.start, l.invariant.room);
-      text = rw c.put_pair.ensures (rw (decimal_pair l.left c.loop-left-test.true (omega arith), append_assoc) at l.invariant.text);
+      text = rw c.put_pair.ensures
+          (rw (decimal_pair l.left c.loop-left-test.true (omega arith), append_assoc) at l.invariant.text);
     }
 
 pub returns-clause-few : goal.returns-clause-few
-returns-clause-few c = omega (arith, length-decimal-le 10 c.args.number (omega arith) (omega arith) (omega arith), c.put_first.ensures.start, c.loop-left.invariant.start)
+returns-clause-few c =
+    omega (
+      arith,
+      length-decimal-le 10 c.args.number (omega arith) (omega arith) (omega arith),
+      c.put_first.ensures.start,
+      c.loop-left.invariant.start,
+    )

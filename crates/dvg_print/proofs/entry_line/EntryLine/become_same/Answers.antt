@@ -20,6 +20,8 @@ returns-clause-text c n entry number text =
           w.renumber-self-inside.ensures.text ∙ ap (λ rest. decimal next ++ rest) c.count_up.ensures.rest in
           rw w.self-inside-is (renumbered n entry line _ digits next c.self.invariant.2 put after is)
       | else-not-count_up w ↦
-          rw w.self-inside-is (counted_line n entry line _ digits next (search rules) c.self.invariant.2 (search rules) c.count_up.ensures.rest after is)
+          rw w.self-inside-is
+          (counted_line n entry line _ digits next (search rules) c.self.invariant.2 (search rules)
+          c.count_up.ensures.rest after is)
     ] in
     more ∙ ap (λ k. entry_line k entry) same

@@ -9,7 +9,8 @@ invariant_of-result c =
     let put = c.put_position-start in
     let size : length (position_text 0 0) ≡ 64 - put.result = omega (arith, put.ensures.start) in
     let few : 64 - put.result ≤ 24 = omega (arith, put.ensures.few) in
-    let kept = kept_text put.new.bytes [] (position_text 0 0) _ put.result 64 (64 - put.result) put.ensures.text (omega (arith, put.ensures.start)) size few (omega arith) in
+    let kept = kept_text put.new.bytes [] (position_text 0 0) _ put.result 64 (64 - put.result) put.ensures.text
+    (omega (arith, put.ensures.start)) size few (omega arith) in
     (omega arith, omega arith, omega arith, few, kept)
 
 pub returns : goal.returns
