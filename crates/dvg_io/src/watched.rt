@@ -77,6 +77,7 @@ impl<R: Read> Watched<R> {
 impl<W: Write> Watched<W> {
     /// One write of a part of a text, which answers how many bytes were taken. At an error no byte
     /// went out, and the failure is counted.
+    #[inline(always)]
     pub fn write(&mut self, part: &[u8]) -> Result<usize, StreamFailed>
         ensures bound { WritesAtMost result part.now }
         ensures bytes { WriteAppends (W.contents (stream_of self.old))

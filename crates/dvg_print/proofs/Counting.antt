@@ -1,80 +1,186 @@
--- Numbers that are counted on by their last digit.
-use Rattle.std.proofs.Common.{◌≡◌, ℕ, zero, suc, ◌+◌, ◌-◌, ◌/◌, ◌%◌, ◌^◌, ◌<◌, ◌≤◌, List, [], ◌∷◌, ◌++◌, length, set, get_or, decimal, refl, sym, ap, ◌∙◌, ⊎_elim, take, subst, arith, length-append}
+-- Numbers that are counted on in place: nines at the end become zeros, and the digit before them one more.
+use Rattle.std.proofs.Common.{◌≡◌, ℕ, zero, suc, ◌+◌, ◌-◌, ◌/◌, ◌%◌, ◌^◌, ◌<◌, ◌≤◌, List, [], ◌∷◌, ◌++◌, length, set}
+use Rattle.std.proofs.Common.{get_or, take, drop, replicate, decimal, refl, sym, ap, ◌∙◌, ⊎_elim, subst, arith}
+use Rattle.std.proofs.Common.{append-nil, append_assoc, length-append}
 use Rattle.std.proofs.lemmas.Bool.{cases_lt}
 use Rattle.std.proofs.lemmas.Fmt.{decimal_digit, decimal_step, length-decimal-le}
-use Rattle.std.proofs.lemmas.List.{get_or-take, length-take-le}
-use Rattle.std.proofs.Math.Seq.{take-set-lt}
-use Rattle.dvg_print.specs.Numbering.{ComesBefore}
+use Rattle.std.proofs.lemmas.List.{get_or_append_left, length-replicate, length-take-le, same_from_push, set_at}
+use Rattle.std.proofs.lemmas.List.{take-append-drop, take_all, take_at, take_more, drop_at}
+use Rattle.dvg_print.specs.Numbering.{ComesBefore, CountsUp}
 
--- the last item of a list is another one
-set_last : (xs : List ℕ) (x y : ℕ) → set (xs ++ x ∷ []) (length xs) y ≡ xs ++ y ∷ []
-set_last [] x y = refl
-set_last (first ∷ xs) x y = ap (λ rest. first ∷ rest) (set_last xs x y)
-
-get_last : (xs : List ℕ) (x : ℕ) → get_or (xs ++ x ∷ []) (length xs) 0 ≡ x
-get_last [] x = refl
-get_last (first ∷ xs) x = get_last xs x
-
--- digits that end with this one
-one_more : (front digits more : List ℕ) (last next at : ℕ) → digits ≡ front ++ (48 + last) ∷ [] → more ≡ front ++ (48 + next) ∷ [] → next ≡ last + 1 → at + 1 ≡ length digits
-    → set digits at (get_or digits at 0 + 1) ≡ more
-one_more front digits more last next at is then after ends =
-    let place : at ≡ length front = (let len = length-append front ((48 + last) ∷ []) in let same = ap length is in omega (arith, len, same, ends)) in
-    let digit : get_or digits at 0 ≡ 48 + last = ap (λ k. get_or digits k 0) place ∙ ap (λ ds. get_or ds (length front) 0) is ∙ get_last front (48 + last) in
-    ap (λ k. set digits k (get_or digits at 0 + 1)) place
-    ∙ ap (λ ds. set ds (length front) (get_or digits at 0 + 1)) is
-    ∙ set_last front (48 + last) (get_or digits at 0 + 1)
-    ∙ ap (λ d. front ++ d ∷ []) (let d : get_or digits at 0 + 1 ≡ 48 + next = omega (arith, digit, after) in d)
-    ∙ sym then
-
--- where the last digit isn't 9, the next number has one more there
-pub next_digit : (n at : ℕ) → n + 1 < 2 ^ 64 → at + 1 ≡ length (decimal n) → get_or (decimal n) at 0 < 57 → set (decimal n) at (get_or (decimal n) at 0 + 1) ≡ decimal (n + 1)
-next_digit n at small ends low = ⊎_elim short long (cases_lt n 10)
+-- the number after one that ends with a lower digit than 9
+next_digit : (n d : ℕ) (front : List ℕ) → n + 1 < 2 ^ 64 → decimal n ≡ front ++ d ∷ [] → d < 57
+    → decimal (n + 1) ≡ front ++ (d + 1) ∷ []
+next_digit n d front small is low = ⊎_elim short long (cases_lt n 10)
   where
-    short : n < 10 → set (decimal n) at (get_or (decimal n) at 0 + 1) ≡ decimal (n + 1)
+    short : n < 10 → decimal (n + 1) ≡ front ++ (d + 1) ∷ []
     short few =
-        let one = decimal_digit n few in
-        let place : at ≡ 0 = (let len = ap length one in omega (arith, ends, len)) in
-        let digit : get_or (decimal n) at 0 ≡ 48 + n = ap (λ k. get_or (decimal n) k 0) place ∙ ap (λ ds. get_or ds 0 0) one in
-        one_more [] (decimal n) (decimal (n + 1)) n (n + 1) at one (decimal_digit (n + 1) (omega (arith, low, digit))) refl ends
+        let same = same_from_push [] front (48 + n) d (sym (decimal_digit n few) ∙ is) in
+        let more : 48 + (n + 1) ≡ d + 1 = (let digit = same.1 in omega (arith, digit)) in
+        decimal_digit (n + 1) (let digit = same.1 in omega (arith, digit, low))
+        ∙ ap (λ xs. xs ++ (48 + (n + 1)) ∷ []) same.0 ∙ ap (λ x. front ++ x ∷ []) more
 
-    long : 10 ≤ n → set (decimal n) at (get_or (decimal n) at 0 + 1) ≡ decimal (n + 1)
+    long : 10 ≤ n → decimal (n + 1) ≡ front ++ (d + 1) ∷ []
     long many =
-        let front = decimal (n / 10) in
-        let is = decimal_step n many (omega (arith, small)) in
-        let place : at ≡ length front = (let len = ap length is in let more = length-append front ((48 + n % 10) ∷ []) in omega (arith, len, more, ends)) in
-        let digit : get_or (decimal n) at 0 ≡ 48 + n % 10 = ap (λ k. get_or (decimal n) k 0) place ∙ ap (λ ds. get_or ds (length front) 0) is ∙ get_last front (48 + n % 10) in
-        let quotient : (n + 1) / 10 ≡ n / 10 = omega (arith, low, digit) in
-        let then = decimal_step (n + 1) (omega (arith, many)) small ∙ ap (λ k. decimal k ++ (48 + (n + 1) % 10) ∷ []) quotient in
-        one_more front (decimal n) (decimal (n + 1)) (n % 10) ((n + 1) % 10) at is then (omega (arith, low, digit)) ends
+        let same = same_from_push (decimal (n / 10)) front (48 + n % 10) d
+        (sym (decimal_step n many (omega (arith, small))) ∙ is) in
+        let digit = same.1 in
+        let tens : (n + 1) / 10 ≡ n / 10 = omega (arith, digit, low) in
+        let more : 48 + (n + 1) % 10 ≡ d + 1 = omega (arith, digit, low) in
+        decimal_step (n + 1) (omega (arith, many)) small ∙ ap (λ k. decimal k ++ (48 + (n + 1) % 10) ∷ []) tens
+        ∙ ap (λ xs. xs ++ (48 + (n + 1) % 10) ∷ []) same.0 ∙ ap (λ x. front ++ x ∷ []) more
 
--- the bytes of a line that held the number before, with one more in the last place
-pub counted_on : (bytes : List ℕ) (count number : ℕ) → 0 < count → count ≤ length bytes → number < 2 ^ 64 → get_or bytes (count - 1) 0 < 57 → ComesBefore (take count bytes) number
-    → take count (set bytes (count - 1) (get_or bytes (count - 1) 0 + 1)) ≡ decimal number
-counted_on bytes count number some inside small low before = ⊎_elim none one before
+-- some items before k of one kind, and one more at the end
+pushed : (front : List ℕ) (d x k : ℕ) → front ++ d ∷ replicate (suc k) x ≡ (front ++ d ∷ replicate k x) ++ x ∷ []
+pushed front d x k =
+    ap (λ xs. front ++ d ∷ xs) (sym (more k)) ∙ sym (append_assoc front (d ∷ replicate k x) (x ∷ []))
   where
-    digits : List ℕ
-    digits = take count bytes
+    more : (n : ℕ) → replicate n x ++ x ∷ [] ≡ replicate (suc n) x
+    more zero = refl
+    more (suc n) = ap (λ xs. x ∷ xs) (more n)
 
-    len : length digits ≡ count
-    len = length-take-le count bytes inside
+-- the number after one that ends with k nines
+carried : (k n d : ℕ) (front : List ℕ) → n + 1 < 2 ^ 64 → decimal n ≡ front ++ d ∷ replicate k 57 → d < 57
+    → decimal (n + 1) ≡ front ++ (d + 1) ∷ replicate k 48
+carried zero n d front small is low = next_digit n d front small is low
+carried (suc k) n d front small is low = ⊎_elim short (long (carried k (n / 10) d front)) (cases_lt n 10)
+  where
+    ends : decimal n ≡ (front ++ d ∷ replicate k 57) ++ 57 ∷ []
+    ends = is ∙ pushed front d 57 k
 
-    none : digits ≡ [] → take count (set bytes (count - 1) (get_or bytes (count - 1) 0 + 1)) ≡ decimal number
-    none empty = absurd (let gone = ap length empty in omega (arith, some, len, gone))
+    short : n < 10 → decimal (n + 1) ≡ front ++ (d + 1) ∷ replicate (suc k) 48
+    short few =
+        let same = same_from_push [] (front ++ d ∷ replicate k 57) (48 + n) 57 (sym (decimal_digit n few) ∙ ends) in
+        let none = ap length same.0 in
+        absurd (let len = length-append front (d ∷ replicate k 57) in omega (arith, none, len))
 
-    one : (n : ℕ) × (number ≡ n + 1) × (digits ≡ decimal n) → take count (set bytes (count - 1) (get_or bytes (count - 1) 0 + 1)) ≡ decimal number
-    one known =
-        let n = known.0 in
-        let is = known.1 in
-        let digit : get_or digits (count - 1) 0 ≡ get_or bytes (count - 1) 0 = get_or-take count bytes (count - 1) 0 (omega (arith, some)) in
-        let same : get_or (decimal n) (count - 1) 0 ≡ get_or digits (count - 1) 0 = ap (λ ds. get_or ds (count - 1) 0) (sym known.2) in
-        let ends : count - 1 + 1 ≡ length (decimal n) = (let size = ap length known.2 in omega (arith, some, len, size)) in
-        take-set-lt count bytes (count - 1) (get_or bytes (count - 1) 0 + 1) (omega (arith, some))
-        ∙ ap (λ d. set digits (count - 1) (d + 1)) (sym digit ∙ sym same)
-        ∙ ap (λ ds. set ds (count - 1) (get_or (decimal n) (count - 1) 0 + 1)) known.2
-        ∙ next_digit n (count - 1) (omega (arith, is, small)) ends (let d = same ∙ digit in omega (arith, low, d))
-        ∙ ap decimal (sym is)
+    long : (n / 10 + 1 < 2 ^ 64 → decimal (n / 10) ≡ front ++ d ∷ replicate k 57 → d < 57
+        → decimal (n / 10 + 1) ≡ front ++ (d + 1) ∷ replicate k 48)
+        → 10 ≤ n → decimal (n + 1) ≡ front ++ (d + 1) ∷ replicate (suc k) 48
+    long shorter many =
+        let same = same_from_push (decimal (n / 10)) (front ++ d ∷ replicate k 57) (48 + n % 10) 57
+        (sym (decimal_step n many (omega (arith, small))) ∙ ends) in
+        let nine = same.1 in
+        let tens : (n + 1) / 10 ≡ n / 10 + 1 = omega (arith, nine) in
+        let ones : 48 + (n + 1) % 10 ≡ 48 = omega (arith, nine) in
+        decimal_step (n + 1) (omega (arith, many)) small ∙ ap (λ t. decimal t ++ (48 + (n + 1) % 10) ∷ []) tens
+        ∙ ap (λ o. decimal (n / 10 + 1) ++ o ∷ []) ones
+        ∙ ap (λ xs. xs ++ 48 ∷ []) (shorter (omega (arith, small)) same.0 low)
+        ∙ sym (pushed front (d + 1) 48 k)
+
+-- so far: of the first bytes, this many, those from `at` on were nines and are zeros
+pub record Carrying (old bytes : List ℕ) (count at : ℕ) : Type 0 where
+  pub front : List ℕ
+  pub nines : ℕ
+  pub here : length front ≡ at
+  pub all : at + nines ≡ count
+  pub were : take count old ≡ front ++ replicate nines 57
+  pub now : bytes ≡ front ++ (replicate nines 48 ++ drop count old)
+
+pub none_carried : (old : List ℕ) (count : ℕ) → count ≤ length old → Carrying old old count count
+none_carried old count inside = record {
+  front = take count old;
+  nines = 0;
+  here = length-take-le count old inside;
+  all = omega arith;
+  were = sym (append-nil (take count old));
+  now = sym (take-append-drop count old);
+}
+
+-- the last byte of the front, and those before it
+last_of : (front rest : List ℕ) (at : ℕ) → length front ≡ at → 0 < at
+    → front ≡ take (at - 1) front ++ get_or (front ++ rest) (at - 1) 0 ∷ []
+last_of front rest at here some =
+    let end : at - 1 + 1 ≡ at = omega arith in
+    sym (take_all at front (omega (arith, here)))
+    ∙ sym (ap (λ n. take n front) end)
+    ∙ take_more front (at - 1) 0 (omega (arith, here, some))
+    ∙ ap (λ d. take (at - 1) front ++ d ∷ [])
+    (sym (get_or_append_left front rest 0 (at - 1) (omega (arith, here, some))))
+
+module _ (old bytes : List ℕ) (count at : ℕ) (so_far : Carrying old bytes count at) (some : 0 < at) where
+  abbrev zeros : List ℕ
+  zeros = replicate so_far.nines 48 ++ drop count old
+
+  abbrev before : List ℕ
+  before = take (at - 1) so_far.front
+
+  abbrev digit : ℕ
+  digit = get_or bytes (at - 1) 0
+
+  split : so_far.front ≡ before ++ digit ∷ []
+  split = last_of so_far.front zeros at so_far.here some
+      ∙ ap (λ bs. before ++ get_or bs (at - 1) 0 ∷ []) (sym so_far.now)
+
+  len : length before ≡ at - 1
+  len = length-take-le (at - 1) so_far.front (let here = so_far.here in omega (arith, here))
+
+  ones : take count old ≡ before ++ digit ∷ replicate so_far.nines 57
+  ones = so_far.were ∙ ap (λ xs. xs ++ replicate so_far.nines 57) split
+      ∙ append_assoc before (digit ∷ []) (replicate so_far.nines 57)
+
+  put : (x : ℕ) → set bytes (at - 1) x ≡ before ++ x ∷ zeros
+  put x =
+      let are : bytes ≡ before ++ digit ∷ zeros = so_far.now ∙ ap (λ xs. xs ++ zeros) split
+      ∙ append_assoc before (digit ∷ []) zeros in
+      ap (λ bs. set bs (at - 1) x) are ∙ set_at before digit zeros x (at - 1) len
+
+  -- one more nine
+  pub one_carried : digit ≡ 57 → Carrying old (set bytes (at - 1) 48) count (at - 1)
+  one_carried nine = record {
+    front = before;
+    nines = suc so_far.nines;
+    here = len;
+    all = (let all = so_far.all in omega (arith, all, some));
+    were = ones ∙ ap (λ d. before ++ d ∷ replicate so_far.nines 57) nine;
+    now = put 48;
+  }
+
+  -- one more in place of another digit
+  abbrev more : List ℕ
+  more = before ++ (digit + 1) ∷ replicate so_far.nines 48
+
+  parts : set bytes (at - 1) (digit + 1) ≡ more ++ drop count old
+  parts = put (digit + 1) ∙ sym (append_assoc before ((digit + 1) ∷ replicate so_far.nines 48) (drop count old))
+
+  size : length more ≡ count
+  size =
+      let all = so_far.all in
+      let add = length-append before ((digit + 1) ∷ replicate so_far.nines 48) in
+      let rep = length-replicate {A = ℕ} so_far.nines 48 in
+      omega (arith, len, all, add, rep, some)
+
+  pub counts_up : digit < 57 → CountsUp (take count old) (take count (set bytes (at - 1) (digit + 1)))
+  counts_up low n small is =
+      ap (take count) parts ∙ take_at more (drop count old) count size
+      ∙ sym (carried so_far.nines n digit before small (sym is ∙ ones) low)
+
+  pub rest_after : drop count (set bytes (at - 1) (digit + 1)) ≡ drop count old
+  rest_after = ap (drop count) parts ∙ drop_at more (drop count old) count size
+
+-- what is after those bytes stays
+pub rest_stays : (old bytes : List ℕ) (count at : ℕ) → Carrying old bytes count at → drop count bytes ≡ drop count old
+rest_stays old bytes count at so_far =
+    let first = so_far.front ++ replicate so_far.nines 48 in
+    let here = so_far.here in
+    let all = so_far.all in
+    let add = length-append so_far.front (replicate so_far.nines 48) in
+    let rep = length-replicate {A = ℕ} so_far.nines 48 in
+    ap (drop count) (so_far.now ∙ sym (append_assoc so_far.front (replicate so_far.nines 48) (drop count old)))
+    ∙ drop_at first (drop count old) count (omega (arith, here, all, add, rep))
+
+-- the digits of the number before, counted up
+pub counted_on : (digits more : List ℕ) (number : ℕ) → number < 2 ^ 64 → 0 < length digits → ComesBefore digits number
+    → CountsUp digits more → more ≡ decimal number
+counted_on digits more number small some before counts = ⊎_elim none one before
+  where
+    none : digits ≡ [] → more ≡ decimal number
+    none empty = absurd (let gone = ap length empty in omega (arith, some, gone))
+
+    one : (n : ℕ) × (number ≡ n + 1) × (digits ≡ decimal n) → more ≡ decimal number
+    one known = counts known.0 (let is = known.1 in omega (arith, is, small)) known.2 ∙ ap decimal (sym known.1)
 
 -- the digits of a number of 64 bits
 pub few_digits : (number : ℕ) (text : List ℕ) → number < 2 ^ 64 → text ≡ decimal number → length text ≤ 20
-few_digits number text small is = subst (λ l. length l ≤ 20) (sym is) (length-decimal-le 20 number (omega arith) (omega (arith, small)) small)
+few_digits number text small is =
+    subst (λ l. length l ≤ 20) (sym is) (length-decimal-le 20 number (omega arith) (omega (arith, small)) small)

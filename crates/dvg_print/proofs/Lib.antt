@@ -1,3 +1,6 @@
 mod Spaced
 mod Joined
 mod Counting
+mod Numbers
+mod PutDigits
+mod StrokeTexts

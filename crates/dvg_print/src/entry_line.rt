@@ -1,6 +1,7 @@
 //! Lines of entries, which are numbered.
 ghost use Rattle.std.specs.Prelude.{◌≡◌, ◌+◌, ◌^◌, ◌<◌, []};
 ghost use Rattle.dvg_log.specs.Entries.{map_entry};
+ghost use Rattle.dvg_print.specs.Numbering.{Repeats};
 ghost use Rattle.dvg_print.specs.Shows.{entry_line};
 
 use crate::line::Line;
@@ -20,15 +21,16 @@ pub struct EntryLine {
 
 /// Contracts see the line, and the number of the next one.
 impl Model for EntryLine {
-    ghost use Rattle.std.specs.Prelude.{◌≤◌, length, take};
-    ghost use Rattle.dvg_print.specs.Numbering.{ComesBefore, Numbered};
+    ghost use Rattle.std.specs.Prelude.{◌≤◌, ◌+◌, length};
+    ghost use Rattle.dvg_print.specs.Numbering.{BeginsWith, Numbered};
 
     ghost Value = { Numbered };
 
     ghost view = { λ entry_line. record { text = entry_line.line; next = entry_line.next } };
 
     ghost invariant = { λ entry_line. (entry_line.digits ≤ length entry_line.line)
-        × ComesBefore (take entry_line.digits entry_line.line) entry_line.next };
+        × (length entry_line.line ≤ entry_line.digits + 37)
+        × BeginsWith entry_line.line entry_line.digits entry_line.next };
 }
 
 impl EntryLine {
@@ -63,6 +65,20 @@ impl EntryLine {
         self.digits = self.line.as_bytes().len();
         self.line.entry(entry, drew);
         self.line.text(b"\n");
+        self.next += 1;
+    }
+
+    /// Becomes the line of the next event, which led to the same entry as the last one: nine times
+    /// in ten another digit is all that changes.
+    #[inline(always)]
+    pub fn become_same(&mut self)
+        requires { self.old.next + 1 < 2 ^ 64 }
+        ensures text { Repeats self.old self.new }
+        ensures next { self.new.next ≡ self.old.next + 1 }
+    {
+        if !self.line.count_up(self.digits) {
+            self.digits = self.line.renumber(self.digits, self.next);
+        }
         self.next += 1;
     }
 }

@@ -3,6 +3,7 @@
 //! memory.
 #![tactic(auto)]
 
+mod digits;
 mod entry_line;
 mod line;
 mod log_line;

@@ -1,12 +1,13 @@
 //! Lines of output, made without taking memory.
 ghost use Rattle.std.specs.Prelude.{◌≡◌, ◌≤◌, ◌<◌, ◌+◌, ◌++◌, ◌∷◌, [], length, codes};
-ghost use Rattle.std.specs.Prelude.{decimal, take, true};
+ghost use Rattle.std.specs.Prelude.{decimal, drop, take, true, IsTrue};
 ghost use Rattle.std.specs.Fmt.{digit_glyph};
 ghost use Rattle.dvg_print.specs.Lines.{hex_2, hex_3, hex_4, instr_parts, line_text, listed_parts};
 ghost use Rattle.dvg_print.specs.Lines.{rom_line, spaced, vector_parts};
-ghost use Rattle.dvg_print.specs.Numbering.{ComesBefore};
+ghost use Rattle.dvg_print.specs.Numbering.{ComesBefore, CountsUp};
 ghost use Rattle.dvg_print.specs.Verdicts.{bounded_line, fault_parts, place_parts, verdict_line};
 
+use crate::digits::count_up;
 use crate::verdict::{BoundedVerdict, Verdict};
 use dvg_code::{Code, Instr};
 use dvg_frame::{FrameFault, Place};
@@ -14,7 +15,7 @@ use itoa::{Buffer, Integer};
 use std::marker::Model;
 
 /// The most bytes of a line.
-const MOST_BYTES: usize = 64;
+pub(crate) const MOST_BYTES: usize = 64;
 
 // A hexadecimal digit in upper case.
 #[inline(always)]
@@ -86,11 +87,39 @@ impl Line {
         ensures text { self.new ≡ decimal number }
         ensures grew { length self.new ≤ 20 }
     {
-        if self.count > 0 && self.bytes[self.count - 1] < b'9' {
-            self.bytes[self.count - 1] += 1;
-        } else {
+        if !count_up(&mut self.bytes, self.count) {
             self.become_number(number);
         }
+    }
+
+    // Adds one to the number that its first bytes are, this many, where the next number has as many
+    // digits; else it answers false.
+    #[inline(always)]
+    pub(crate) fn count_up(&mut self, digits: usize) -> bool
+        requires { digits ≤ length self.old }
+        ensures text { IsTrue result → CountsUp (take digits self.old) (take digits self.new) }
+        ensures some { IsTrue result → 0 < digits }
+        ensures rest { drop digits self.new ≡ drop digits self.old }
+        ensures kept { length self.new ≡ length self.old }
+    {
+        count_up(&mut self.bytes, digits)
+    }
+
+    // Puts a number in place of its first bytes, this many, and answers how many digits it has.
+    #[inline(never)]
+    pub(crate) fn renumber(&mut self, digits: usize, number: usize) -> usize
+        requires inside { digits ≤ length self.old }
+        requires room { length self.old ≤ digits + 44 }
+        ensures text { self.new ≡ decimal number ++ drop digits self.old }
+        ensures count { result ≡ length (decimal number) }
+        ensures few { result ≤ 20 }
+    {
+        let mut rest = Line::new();
+        rest.text(&self.as_bytes()[digits..]);
+        self.become_number(number);
+        let count = self.count;
+        self.text(rest.as_bytes());
+        count
     }
 
     // Becomes a number in decimal.
@@ -136,6 +165,7 @@ impl Line {
     }
 
     // Appends a space and two hexadecimal digits.
+    #[inline(always)]
     pub(crate) fn hex_2(&mut self, byte: u8)
         requires { length self.old + 3 ≤ 64 }
         ensures text { self.new ≡ self.old ++ spaced (hex_2 byte ∷ []) }
@@ -146,6 +176,7 @@ impl Line {
     }
 
     // Appends three hexadecimal digits.
+    #[inline(always)]
     pub(crate) fn hex_3(&mut self, n: usize)
         requires { length self.old + 3 ≤ 64 }
         ensures text { self.new ≡ self.old ++ hex_3 n }
@@ -155,6 +186,7 @@ impl Line {
     }
 
     // Appends a space and four hexadecimal digits.
+    #[inline(always)]
     pub(crate) fn hex_4(&mut self, word: u16)
         requires { length self.old + 5 ≤ 64 }
         ensures text { self.new ≡ self.old ++ spaced (hex_4 word ∷ []) }
@@ -197,6 +229,7 @@ impl Line {
     }
 
     // Appends the name of an instruction and a word address.
+    #[inline(always)]
     pub(crate) fn with_address(&mut self, name: &[u8], address: u16)
         requires { length self.old + length name.now + 5 ≤ 64 }
         ensures text { self.new ≡ self.old ++ spaced (name.now ∷ hex_3 address ∷ []) }

@@ -30,6 +30,7 @@ impl Line {
     }
 
     // Appends what a fetch led to, its word address, and the word there.
+    #[inline(always)]
     fn fetched(&mut self, name: &[u8], address: u16, word: u16)
         requires { length self.old + length name.now + 10 ≤ 64 }
         ensures text { self.new ≡ self.old ++ spaced (name.now ∷ hex_3 address ∷ hex_4 word ∷ []) }

@@ -1,5 +1,5 @@
-use Rattle.std.proofs.Common.{◌∷◌, ◌++◌, [], codes, decimal}
-use Rattle.dvg_print.specs.Lines.{hex_3, hex_4, spaced}
+use Rattle.std.proofs.Common.{◌∷◌, [], codes, decimal}
+use Rattle.dvg_print.specs.Lines.{hex_3, hex_4}
 use Rattle.dvg_print.proofs.Spaced.{spaced_more}
 use Rattle.dvg_print.proofs.line.Line.entry.Goals as goal
 
