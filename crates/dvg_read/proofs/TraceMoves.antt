@@ -19,7 +19,7 @@ use Rattle.dvg_read.specs.RomReading.{HoldsRom, TellsMore, TellsRom}
 use Rattle.dvg_read.specs.TraceTexts.{EventParts, FitsTrace, FitsDraft, redraw, tick, strobe, fetch, resetgen, resetcpu, resetall}
 use Rattle.dvg_read.specs.TraceReading.{Takes, does, ends, events, opens, tells}
 use Rattle.dvg_read.specs.declared.trace_text.Reading.{Reading}
-use Rattle.dvg_read.specs.TraceGives.{AreResets, IsHeld, StopsEvents, StopsLine, StopsOperation, TakesLine, events_read, opened_by, opened_of}
+use Rattle.dvg_read.specs.TraceGives.{StopsEvents, StopsLine, StopsOperation, TakesLine, events_read, opened_by, opened_of}
 use Rattle.dvg_read.proofs.EventRows.{some_events}
 use Rattle.dvg_read.proofs.TraceSteps.{end_is_no_op}
 
@@ -37,62 +37,6 @@ some_opened b F e = rw e refl
 pub any_opened : (b : Bool) (F : List OpKind) → b ≡ is_some (opened_by b F)
 any_opened true F = refl
 any_opened false F = refl
-
--- what is held, where it is taken
-pub held_on : {A E B : Type 0} (answer : Result A E) (reading : Reading B) → OnOk answer (FitsTrace (events_read reading) (opened_of reading)) → OnOk answer (AreResets reading.resets (events_read reading)) → OnOk answer (IsHeld reading)
-held_on (Ok x) reading fits known = record { fits = fits; known = known }
-held_on (Err x) reading fits known = tt
-
--- the numbers of resets
-
-none_there : (size byte : ℕ) → get_or (replicate {A = Option ℕ} size None) byte None ≡ None
-none_there zero byte = refl
-none_there (suc size) zero = refl
-none_there (suc size) (suc byte) = none_there size byte
-
-get_front : {X : Type 0} (xs ys : List X) (n : ℕ) (x : X) → slice_get xs n ≡ Some x → slice_get (xs ++ ys) n ≡ Some x
-get_front [] ys n x at = absurd (none-some x at)
-get_front (y ∷ xs) ys zero x at = at
-get_front (y ∷ xs) ys (suc n) x at = get_front xs ys n x at
-
-get_last : {X : Type 0} (xs : List X) (x : X) → slice_get (xs ++ x ∷ []) (length xs) ≡ Some x
-get_last [] x = refl
-get_last (y ∷ xs) x = get_last xs x
-
--- an event that was added stands at the end
-pub stands_last : (old now : List Happening) (event : Happening) → now ≡ old ++ event ∷ [] → slice_get now (length old) ≡ Some event
-stands_last old now event is = rw is (get_last old event)
-
--- an event and all its repetitions
-pub all_times : {A E : Type 0} (answer : Result A E) (old first now : List Happening) (event : Happening) (count : ℕ) → 1 ≤ count → first ≡ old ++ event ∷ [] → OnOk answer (now ≡ first ++ replicate (count - 1) event) → OnOk answer (now ≡ old ++ replicate count event)
-all_times (Ok x) old first now event zero some is more = absurd (omega arith)
-all_times (Ok x) old first now event (suc n) some is more = more ∙ rw is (append_assoc old (event ∷ []) (replicate (suc n - 1) event)) ∙ ap (λ k. old ++ event ∷ replicate k event) (let k : suc n - 1 ≡ n = omega arith in k)
-all_times (Err x) old first now event count some is more = tt
-
--- no number says nothing
-pub no_resets : (numbers : List (Option ℕ)) (happened : List Happening) → numbers ≡ replicate 256 None → AreResets numbers happened
-no_resets numbers happened e = record { found = λ byte n at. absurd (none-some n (sym (ap (λ numbers. get_or numbers byte None) e ∙ none_there 256 byte) ∙ at)) }
-
--- more events change none before them
-pub resets_stay : (numbers : List (Option ℕ)) (old more new : List Happening) → new ≡ old ++ more → AreResets numbers old → AreResets numbers new
-resets_stay numbers old more new e known = record { found = λ byte n at. rw e (get_front old more n (ResetAll (replicate 2048 byte)) (known.found byte n at)) }
-
-pub resets_stay_on : {A E : Type 0} (answer : Result A E) (numbers : List (Option ℕ)) (old more new : List Happening) → OnOk answer (new ≡ old ++ more) → AreResets numbers old → OnOk answer (AreResets numbers new)
-resets_stay_on (Ok x) numbers old more new e known = resets_stay numbers old more new e known
-resets_stay_on (Err x) numbers old more new e known = tt
-
--- a byte's first reset, at the end
-pub reset_more : (numbers : List (Option ℕ)) (old new : List Happening) (byte n : ℕ) → byte < length numbers → n ≡ length old → new ≡ old ++ ResetAll (replicate 2048 byte) ∷ [] → AreResets numbers old → AreResets (set numbers byte (Some n)) new
-reset_more numbers old new byte n low counts e known = record { found = λ other m at. ⊎_elim (λ h. this other m h.1 at) (λ h. another other m h.1 at) (eqb_tells other byte) }
-  where
-    this : (other m : ℕ) → other ≡ byte → get_or (set numbers byte (Some n)) other None ≡ Some m → slice_get new m ≡ Some (ResetAll (replicate 2048 other))
-    this other m same at =
-        let number : m ≡ length old = sym (same_Some n m (sym (get_or-set_at numbers byte other (Some n) None same low) ∙ at)) ∙ counts in
-        ap (slice_get new) number ∙ (ap (λ all. slice_get all (length old)) e ∙ (get_last old (ResetAll (replicate 2048 byte)) ∙ ap (λ b. Some (ResetAll (replicate 2048 b))) (sym same)))
-
-    another : (other m : ℕ) → other ≢ byte → get_or (set numbers byte (Some n)) other None ≡ Some m → slice_get new m ≡ Some (ResetAll (replicate 2048 other))
-    another other m apart at =
-        rw e (get_front old (ResetAll (replicate 2048 byte) ∷ []) m (ResetAll (replicate 2048 other)) (known.found other m (sym (get_or-set_other numbers byte other (Some n) None apart) ∙ at)))
 
 -- the end of an offer
 

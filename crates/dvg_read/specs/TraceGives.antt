@@ -3,7 +3,6 @@ use Rattle.std.specs.Prelude.{ℕ, ◌+◌, ◌<◌, ◌≤◌, List, ◌∷◌,
 use Rattle.std.specs.Prelude.{true, false, Option, Some, None}
 use Rattle.dvg_frame.specs.declared.op.OpKind.{OpKind}
 use Rattle.dvg_log.specs.Events.{Happening}
-use Rattle.dvg_log.specs.declared.event.Event.TheVariants.{ResetAll}
 use Rattle.dvg_read.specs.declared.fault.TextFault.TheVariants.{Syntax, Full, Many}
 use Rattle.dvg_read.specs.declared.fault.TraceFault.{TraceFault}
 use Rattle.dvg_read.specs.declared.fault.TraceFault.TheVariants.{Text, Memory}
@@ -63,15 +62,9 @@ opened_by false F = None
 abbrev pub opened_of : {A : Type 0} → Reading A → Option (List OpKind)
 opened_of reading = opened_by reading.is_open reading.draft
 
--- where a byte has a number, the event of this number is a reset of the whole system with this byte
-pub record AreResets (numbers : List (Option ℕ)) (events : List Happening) : Type 0 where
-  pub found : (byte n : ℕ) → get_or numbers byte None ≡ Some n
-      → slice_get events n ≡ Some (ResetAll (replicate 2048 byte))
-
--- what was read is within the limits, and the resets of its bytes are known
-pub record IsHeld {A : Type 0} (reading : Reading A) : Type 0 where
-  pub fits : FitsTrace (events_read reading) (opened_of reading)
-  pub known : AreResets reading.resets (events_read reading)
+-- what was read is within the limits
+abbrev pub IsHeld : {A : Type 0} → Reading A → Type 0
+IsHeld reading = FitsTrace (events_read reading) (opened_of reading)
 
 -- one more line was read, after lines that gave this ROM
 pub record TakesLine (rom : RomText) (old : List Happening) (opened : Option (List OpKind)) (line : List ℕ)

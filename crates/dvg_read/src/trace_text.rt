@@ -6,10 +6,9 @@ ghost use Rattle.dvg_frame.specs.declared.op.OpKind.{OpKind};
 ghost use Rattle.dvg_read.specs.EventLines.{IsNamed, happenings, spelled_as};
 ghost use Rattle.dvg_read.specs.OpLines.{IsOpLine};
 ghost use Rattle.dvg_read.specs.TextLines.{HasName, HasOp, lines_left};
-ghost use Rattle.dvg_read.specs.TraceGives.{AreResets, GivesTrace, IsHeld, ReadsLine, StopsEvents};
+ghost use Rattle.dvg_read.specs.TraceGives.{GivesTrace, IsHeld, ReadsLine, StopsEvents};
 ghost use Rattle.dvg_read.specs.TraceGives.{StopsLine, StopsOperation, StopsReading, events_read};
 ghost use Rattle.dvg_read.specs.TraceGives.{fault_at, opened_of};
-ghost use Rattle.dvg_log.specs.declared.event.Event.TheVariants.{ResetAll};
 
 use crate::draft_text::MOST_TEXT_BYTES;
 use crate::event_line::{EventLine, SpelledEvent, read_event_line};
@@ -21,7 +20,7 @@ use arrayvec::ArrayVec;
 use dvg_code::OutOfMemory;
 use dvg_frame::{Draft, Op};
 use dvg_log::{Event, MOST_EVENTS, Trace};
-use dvg_mem::{Image, LARGE_ROM_BYTES, MEMORY_BYTES};
+use dvg_mem::LARGE_ROM_BYTES;
 use std::alloc::{Allocator, Global};
 
 /// What the text of a trace denotes.
@@ -57,7 +56,6 @@ pub fn read_trace<A: Allocator + Copy>(alloc: A, text: &[u8]) -> Result<TraceTex
         events: Trace::new(alloc),
         draft: Draft::new(),
         is_open: false,
-        resets: [None; 256],
     };
     let mut lines = TextLines::new(text);
     let mut number = 0;
@@ -130,8 +128,6 @@ struct Reading<A: Allocator> {
     draft: Draft,
     // Whether that offer isn't ended.
     is_open: bool,
-    // For each byte the number of the first event that resets the system with it.
-    resets: [Option<u32>; 256],
 }
 
 impl<A: Allocator + Copy> Reading<A> {
@@ -163,7 +159,7 @@ impl<A: Allocator + Copy> Reading<A> {
             (opened_of self.old) self.old.rom name) }
     {
         let line = EventLine { event, count: 1 };
-        add_events(self.alloc, line, &mut self.resets, &mut self.events)
+        add_events(self.alloc, line, &mut self.events)
     }
 
     // Takes the next line, if it spells one of the operations that come most often and an offer is
@@ -227,7 +223,7 @@ impl<A: Allocator + Copy> Reading<A> {
             return Ok(());
         }
         if let Some(repeated) = read_event_line(line) {
-            return add_events(self.alloc, repeated, &mut self.resets, &mut self.events);
+            return add_events(self.alloc, repeated, &mut self.events);
         }
         if self.events.is_empty() && self.rom.take(line) {
             return Ok(());
@@ -295,20 +291,17 @@ fn push_op(draft: &mut Draft, op: Op) -> Result<(), LineFault>
 fn add_events<A: Allocator>(
     alloc: A,
     repeated: EventLine,
-    resets: &mut [Option<u32>; 256],
     events: &mut Trace<A>,
 ) -> Result<(), LineFault>
-    requires some { 1 ≤ length (happenings repeated) }
-    requires resets { AreResets resets.old events.old }
+    requires { 1 ≤ length (happenings repeated) }
     ensures added { OnOk result (events.new ≡ events.old ++ happenings repeated) }
     ensures room { OnOk result (length events.new ≤ 65536) }
-    ensures resets { OnOk result (AreResets resets.new events.new) }
     ensures fault { IfErr result (λ fault. StopsEvents fault events.old (happenings repeated)) }
 {
     if events.len() + count(&repeated) > MOST_EVENTS {
         return Err(LineFault::Many);
     }
-    if add_times(alloc, repeated.event, repeated.count, resets, events).is_err() {
+    if add_times(alloc, repeated.event, repeated.count, events).is_err() {
         return Err(LineFault::Memory);
     }
     Ok(())
@@ -322,75 +315,25 @@ pub(crate) fn count(repeated: &EventLine) -> usize
     usize::from(repeated.count)
 }
 
-// Adds an event, this many times in a row: itself, and then the same again.
+// Adds an event, this many times in a row.
 #[inline(always)]
 fn add_times<A: Allocator>(
     alloc: A,
     event: SpelledEvent,
     count: u16,
-    resets: &mut [Option<u32>; 256],
     events: &mut Trace<A>,
 ) -> Result<(), OutOfMemory>
     requires some { 1 ≤ count }
     requires room { length events.old + count ≤ 65536 }
-    requires resets { AreResets resets.old events.old }
-    ensures added { OnOk result (events.new ≡ events.old ++ replicate count (spelled_as event)) }
-    ensures resets { OnOk result (AreResets resets.new events.new) }
+    ensures { OnOk result (events.new ≡ events.old ++ replicate count (spelled_as event)) }
 {
-    let first = events.len();
-    add_once(alloc, event, resets, events)?;
-    if count == 1 {
-        return Ok(());
+    match event {
+        Event::Redraw => events.push_times(Event::Redraw, count),
+        Event::Tick => events.push_times(Event::Tick, count),
+        Event::Strobe => events.push_times(Event::Strobe, count),
+        Event::Fetch => events.push_times(Event::Fetch, count),
+        Event::ResetGen => events.push_times(Event::ResetGen, count),
+        Event::ResetCpu => events.push_times(Event::ResetCpu, count),
+        Event::ResetAll(byte) => events.push_filled(alloc, byte, count),
     }
-    events.push_again(first, usize::from(count) - 1)
-}
-
-// Adds an event.
-#[inline(always)]
-fn add_once<A: Allocator>(
-    alloc: A,
-    event: SpelledEvent,
-    resets: &mut [Option<u32>; 256],
-    events: &mut Trace<A>,
-) -> Result<(), OutOfMemory>
-    requires room { length events.old < 65536 }
-    requires resets { AreResets resets.old events.old }
-    ensures added { OnOk result (events.new ≡ events.old ++ spelled_as event ∷ []) }
-    ensures resets { OnOk result (AreResets resets.new events.new) }
-{
-    let own = match event {
-        Event::Redraw => Event::Redraw,
-        Event::Tick => Event::Tick,
-        Event::Strobe => Event::Strobe,
-        Event::Fetch => Event::Fetch,
-        Event::ResetGen => Event::ResetGen,
-        Event::ResetCpu => Event::ResetCpu,
-        Event::ResetAll(byte) => return add_reset(alloc, byte, resets, events),
-    };
-    events.push(own)
-}
-
-// Adds a reset of the whole system, after which each byte is this one. Its image is made where it
-// is the first such reset.
-fn add_reset<A: Allocator>(
-    alloc: A,
-    byte: u8,
-    resets: &mut [Option<u32>; 256],
-    events: &mut Trace<A>,
-) -> Result<(), OutOfMemory>
-    requires room { length events.old < 65536 }
-    requires resets { AreResets resets.old events.old }
-    ensures added { OnOk result (events.new ≡ events.old ++ ResetAll (replicate 2048 byte) ∷ []) }
-    ensures resets { OnOk result (AreResets resets.new events.new) }
-{
-    if let Some(first) = resets[usize::from(byte)] {
-        return events.push_again(first as usize, 1);
-    }
-    let Ok(image) = Image::new(alloc, &[byte; MEMORY_BYTES]) else {
-        return Err(OutOfMemory);
-    };
-    let number = events.len() as u32;
-    events.push(Event::ResetAll(image))?;
-    resets[usize::from(byte)] = Some(number);
-    Ok(())
 }

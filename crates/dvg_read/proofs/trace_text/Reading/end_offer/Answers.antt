@@ -2,7 +2,7 @@ use Rattle.std.proofs.Common.{◌≡◌, ◌<◌, ◌∷◌, ◌++◌, [], None,
 use Rattle.std.proofs.lemmas.Grind.{common_steps}
 use Rattle.dvg_log.specs.declared.event.Event.TheVariants.{Offer}
 use Rattle.dvg_read.specs.TraceGives.{events_read, opened_of}
-use Rattle.dvg_read.proofs.TraceMoves.{end_fits, end_stops, end_taken, end_wants, resets_stay, some_opened}
+use Rattle.dvg_read.proofs.TraceMoves.{end_fits, end_stops, end_taken, end_wants, some_opened}
 use Rattle.dvg_read.proofs.trace_text.Reading.end_offer.Goals as goal
 
 pub returns-then-len-eq-MOST_EVENTS-clause-fault : goal.returns-then-len-eq-MOST_EVENTS-clause-fault
@@ -25,10 +25,7 @@ returns-clause-held g c =
     let inside = some_opened reading.is_open reading.draft (search rules) in
     let pushed : c.push_offer.new.self ≡ events_read reading ++ Offer reading.draft ∷ [] = search rules in
     let room : length (events_read reading) < 65536 = grind (arith, common_steps) in
-    record {
-      fits = end_fits (events_read reading) c.push_offer.new.self (opened_of reading) None reading.draft inside refl pushed room c.requires.held.fits;
-      known = resets_stay reading.resets (events_read reading) (Offer reading.draft ∷ []) c.push_offer.new.self pushed c.requires.held.known;
-    }
+    end_fits (events_read reading) c.push_offer.new.self (opened_of reading) None reading.draft inside refl pushed room c.requires.held
 
 pub returns-clause-taken : goal.returns-clause-taken
 returns-clause-taken g c =

@@ -5,7 +5,7 @@ use Rattle.dvg_read.specs.EventLines.{happenings}
 use Rattle.dvg_read.specs.Texts.{parts}
 use Rattle.dvg_read.specs.TraceTexts.{EventParts, FitsTrace}
 use Rattle.dvg_read.specs.TraceGives.{events_read, opened_of}
-use Rattle.dvg_read.proofs.TraceMoves.{events_fit, events_stop, events_taken, held_on, none_opened, offer_fits, offer_taken, outside_stops, rom_taken}
+use Rattle.dvg_read.proofs.TraceMoves.{events_fit, events_stop, events_taken, none_opened, offer_fits, offer_taken, outside_stops, rom_taken}
 use Rattle.dvg_read.proofs.EventRows.{some_events}
 use Rattle.dvg_read.proofs.trace_text.Reading.take_outside.Goals as goal
 use Rattle.dvg_read.proofs.trace_text.Reading.take_outside.Goals.{else-is_empty-via-else-is_empty, else-is_empty-via-then-is_empty+else-take}
@@ -29,10 +29,7 @@ returns-in-Some-clause-taken g c =
 
 pub returns-in-Some-clause-held : goal.returns-in-Some-clause-held
 returns-in-Some-clause-held g c =
-    let new : Reading g.row.A.Denot = record { alloc = c.args.self.now.alloc; rom = c.args.self.now.rom; events = c.add_events.new.events; draft = c.args.self.now.draft; is_open = c.args.self.now.is_open; resets = c.add_events.new.resets } in
-    held_on c.add_events.result new
-    (events_fit c.add_events.result (events_read c.args.self.now) (happenings c.in-Some.repeated) (events_read new) (opened_of c.args.self.now) (parts c.args.line.now) c.in-Some.ensures.found c.add_events.ensures.added c.add_events.ensures.room c.requires.held.fits)
-    c.add_events.ensures.resets
+    events_fit c.add_events.result (events_read c.args.self.now) (happenings c.in-Some.repeated) c.add_events.new.events (opened_of c.args.self.now) (parts c.args.line.now) c.in-Some.ensures.found c.add_events.ensures.added c.add_events.ensures.room c.requires.held
 
 pub returns-in-Some-clause-fault : goal.returns-in-Some-clause-fault
 returns-in-Some-clause-fault g c = events_stop c.add_events.result (events_read c.args.self.now) (happenings c.in-Some.repeated) (opened_of c.args.self.now) c.args.line.now c.args.self.now.rom (none_opened c.args.self.now.is_open c.args.self.now.draft c.requires.outside) c.in-Some.ensures.found c.add_events.ensures.fault
@@ -53,5 +50,5 @@ returns-clause-fault g c =
     ] in
     outside_stops (events_read c.args.self.now) (opened_of c.args.self.now) c.args.line.now c.args.self.now.rom (none_opened c.args.self.now.is_open c.args.self.now.draft c.requires.outside) other no_events no_rom
 
-pub add_events-requires-clause-some : goal.add_events-requires-clause-some
-add_events-requires-clause-some g c = some_events c.in-Some.ensures.found
+pub add_events-requires : goal.add_events-requires
+add_events-requires g c = some_events c.in-Some.ensures.found
