@@ -1,5 +1,5 @@
 -- What was served, described in an engine's own terms.
-use Rattle.std.proofs.Common.{◌≡◌, ℕ, List, Option, None, Some, IfSome, Result, Ok, Err, IsErrOf, ◌⊎◌, ⊎_elim, inl, inr, refl, sym, ap, subst}
+use Rattle.std.proofs.Common.{◌≡◌, ℕ, List, Option, None, Some, IfSome, Result, Ok, Err, IsErrOf, ◌⊎◌, ⊎_elim, inl, inr, sym, ap, subst}
 use Rattle.dvg_io.specs.Serving.{Meaning, Serves}
 use Rattle.dvg_io.specs.Watching.{stream_of}
 use Rattle.dvg_io.specs.declared.fault.ToolFault.{ToolFault}

@@ -1,5 +1,5 @@
 -- Where nothing is found of an input, it is served all the same.
-use Rattle.std.proofs.Common.{◌≡◌, ℕ, ◌+◌, ◌≤◌, ◌↔◌, List, length, take, take_all, Option, None, Some, IfSome, Result, Ok, Err, IsErrOf, refl, sym, subst, arith}
+use Rattle.std.proofs.Common.{◌≡◌, ℕ, ◌+◌, ◌≤◌, List, length, take_all, Option, None, Some, IfSome, Result, Err, IsErrOf, refl, sym, subst, arith}
 use Rattle.dvg_read.specs.declared.fault.TextFault.{TextFault}
 use Rattle.dvg_io.specs.Faults.{ComesBeforeText}
 use Rattle.dvg_io.specs.Serving.{Answers, IsFinding, OfInput, Serves}
