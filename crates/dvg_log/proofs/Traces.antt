@@ -1,8 +1,8 @@
 -- The events of traces.
-use Rattle.std.proofs.Common.{◌≡◌, ℕ, zero, suc, ◌+◌, ◌-◌, ◌*◌, ◌<◌, ◌≤◌, ◌≢◌, ⊎_elim, List, [], ◌∷◌, ◌++◌, map, replicate, length, take, drop, get_or, set, slice_get, All, Option, Some, None, refl, sym, ap, ◌∙◌, subst, arith, length-append}
+use Rattle.std.proofs.Common.{◌≡◌, ℕ, zero, suc, ◌+◌, ◌-◌, ◌*◌, ◌<◌, ◌≤◌, ◌≢◌, ⊎_elim, List, [], ◌∷◌, ◌++◌, map, replicate, length, take, drop, get_or, set, slice_get, All, Option, Some, None, refl, sym, ap, ◌∙◌, subst, arith, append_assoc, length-append}
 use Rattle.std.proofs.lemmas.Bool.Decides.{eqb_tells}
 use Rattle.std.proofs.lemmas.Grind.{flat_map-append, get_or-set_at}
-use Rattle.std.proofs.lemmas.List.{append-nil, get_or_append_left, get_or-set_other, length-replicate, map-append, take-append-le, drop-append-le, length-drop, length-map}
+use Rattle.std.proofs.lemmas.List.{append-nil, replicate-append-replicate, get_or_append_left, get_or-set_other, length-replicate, map-append, take-append-le, drop-append-le, length-drop, length-map}
 use Rattle.std.proofs.lemmas.List.Elements.{All-head, All-nil, All-push, All-tail}
 use Rattle.std.proofs.lemmas.List.Sums.{sum_by-append, sum_by-cons}
 use Rattle.std.proofs.lemmas.Option.{get_or_from_slice_get, none-some, same_Some, slice_get_within}
@@ -13,7 +13,7 @@ use Rattle.dvg_log.specs.Events.{Happening}
 use Rattle.dvg_log.specs.declared.event.Event.TheVariants.{Offer, Redraw, Tick, Strobe, Fetch, ResetGen, ResetCpu, ResetAll}
 use Rattle.dvg_log.specs.declared.runs.Run.{Run}
 use Rattle.dvg_log.specs.Traces.{Step, all_events, ops_in, run_events, step_event}
-use Rattle.dvg_log.specs.own.Kept.{AreFilled, AreRuns, IsOfferIn, IsRunIn, IsTrace, IsWithin}
+use Rattle.dvg_log.specs.own.Kept.{AreFilled, AreRuns, IsLonger, IsOfferIn, IsRunIn, IsTrace, IsWithin}
 
 -- there are as many events as all runs have
 pub length-all_events : (runs : List Run) (offers : List (List OpKind)) (images : List (List ℕ)) → length (all_events runs offers images) ≡ sum_by (λ run. run.times) runs
@@ -295,3 +295,56 @@ filled_more runs offers images numbers byte number times filled at =
 -- and it is among them
 pub filled_within : (images : List (List ℕ)) (numbers : List (Option ℕ)) (byte number : ℕ) → AreFilled numbers images → get_or numbers byte None ≡ Some number → number < length images
 filled_within images numbers byte number filled at = slice_get_within images number (replicate 2048 byte) (filled.found byte number at)
+
+-- the last of a list, and another in its place
+pub last_of : {X : Type 0} (xs : List X) (n : ℕ) (x y d : X) → length xs ≡ n + 1 → x ≡ get_or xs n d → (xs ≡ take n xs ++ x ∷ []) × (set xs n y ≡ take n xs ++ y ∷ [])
+last_of [] n x y d size is = absurd (omega (arith, size))
+last_of (a ∷ []) zero x y d size is = (ap (λ z. z ∷ []) (sym is), refl)
+last_of (a ∷ b ∷ xs) zero x y d size is = absurd (omega (arith, size))
+last_of (a ∷ xs) (suc n) x y d size is =
+    let rest = last_of xs n x y d (omega (arith, size)) is in
+    (ap (λ xs. a ∷ xs) rest.0, ap (λ xs. a ∷ xs) rest.1)
+
+-- a last run that is longer has its events more
+pub longer_more : (old new : List Run) (step : Step) (times : ℕ) (offers : List (List OpKind)) (images : List (List ℕ)) → IsLonger old new step times → IsWithin 0 0 step
+    → all_events new offers images ≡ all_events old offers images ++ replicate times (step_event [] [] step)
+longer_more old new step times offers images longer within =
+    let event = step_event [] [] step in
+    let front = all_events longer.front offers images in
+    ap (λ runs. all_events runs offers images) longer.is
+    ∙ simple_more longer.front offers images step (longer.before + times) within
+    ∙ ap (λ events. front ++ events) (sym (replicate-append-replicate longer.before times event))
+    ∙ sym (append_assoc front (replicate longer.before event) (replicate times event))
+    ∙ ap (λ events. events ++ replicate times event) (sym (ap (λ runs. all_events runs offers images) longer.was ∙ simple_more longer.front offers images step longer.before within))
+
+-- and the trace is kept
+pub keeps_longer : {count : ℕ} {offers : List (ℕ × ℕ)} {ops : List OpKind} {images : List (List ℕ)} {numbers : List (Option ℕ)} (old new : List Run) (step : Step) (times : ℕ) → IsTrace count old offers ops images numbers
+    → count + times ≤ 65536 → IsLonger old new step times → IsTrace (count + times) new offers ops images numbers
+keeps_longer {offers = offers} {images = images} old new step times trace room longer =
+    let last : Run = record { step = step; times = longer.before } in
+    let run : Run = record { step = step; times = longer.before + times } in
+    let front = longer.front in
+    let is_within = IsRunIn (length offers) (length images) in
+    let before = subst (All is_within) longer.was trace.are.within in
+    let old_size = ap length longer.was ∙ length-append front (last ∷ []) in
+    let new_size = ap length longer.is ∙ length-append front (run ∷ []) in
+    let old_sum = ap (sum_by (λ (run : Run). run.times)) longer.was ∙ sum_by-append (λ (run : Run). run.times) front (last ∷ []) in
+    let new_sum = ap (sum_by (λ (run : Run). run.times)) longer.is ∙ sum_by-append (λ (run : Run). run.times) front (run ∷ []) in
+    let total = trace.total in
+    let some = trace.some in
+    let offered = trace.offered in
+    let few = trace.few in
+    let reset = trace.reset in
+    let end : is_within last = subst is_within (get_or-append_seam front last [] last) (before (length front) last (let size = length-append front (last ∷ []) in omega (arith, size))) in
+    let first : All is_within front = λ k d low. subst is_within (get_or_append_left front (last ∷ []) d k low) (before k d (let size = length-append front (last ∷ []) in omega (arith, size, low))) in
+    let ends : 1 ≤ longer.before + times = (let some = end.0 in omega (arith, some)) in
+    record {
+      are = record { lie = trace.are.lie; within = subst (All is_within) (sym longer.is) (All-push is_within front run first (ends, end.1)) };
+      total = omega (arith, old_sum, new_sum, total);
+      most = room;
+      some = omega (arith, old_size, new_size, some);
+      offered = omega (arith, old_size, new_size, offered);
+      few = omega (arith, old_size, new_size, few);
+      reset = omega (arith, old_size, new_size, reset);
+      filled = trace.filled;
+    }

@@ -1,10 +1,10 @@
 //! Lists of events that take little room.
 ghost use Rattle.std.specs.Prelude.{◌≡◌, ◌+◌, ◌<◌, ◌≤◌, ◌↔◌, ◌++◌, ◌∷◌, [], length, replicate};
-ghost use Rattle.std.specs.Prelude.{IfOk, IsTrue, OnErr, OnOk};
+ghost use Rattle.std.specs.Prelude.{IfOk, IsFalse, IsTrue, OnErr, OnOk};
 ghost use Rattle.dvg_log.specs.Events.{happening_of};
 ghost use Rattle.dvg_log.specs.declared.event.Event.TheVariants.{Offer, ResetAll};
 ghost use Rattle.dvg_log.specs.Traces.{step_event};
-ghost use Rattle.dvg_log.specs.own.Kept.{IsWithin};
+ghost use Rattle.dvg_log.specs.own.Kept.{IsLonger, IsWithin};
 
 use crate::event::{Event, OwnEvent};
 use crate::runs::{Run, Runs, Step};
@@ -162,7 +162,7 @@ impl<A: Allocator> Trace<A> {
         Ok(())
     }
 
-    // Adds events that bring nothing.
+    // Adds events that bring nothing. They join the last run where that is of the same event.
     #[inline(always)]
     fn push_step(&mut self, step: Step, times: u16) -> Result<(), OutOfMemory>
         requires some { 1 ≤ times }
@@ -172,6 +172,10 @@ impl<A: Allocator> Trace<A> {
             ≡ self.old ++ replicate times (step_event [] [] step)) }
         ensures refused { OnErr result (self.new ≡ self.old) }
     {
+        if lengthen(&mut self.runs, step, times) {
+            self.count += usize::from(times);
+            return Ok(());
+        }
         self.runs.push(Run { step, times })?;
         self.count += usize::from(times);
         Ok(())
@@ -234,4 +238,39 @@ fn add_image<A: Allocator>(
     let step = Step::ResetAll(number);
     runs.push_reserved(Run { step, times });
     Ok(number)
+}
+
+// Whether one of two steps joins the other: they are of the same event, which comes often.
+#[inline(always)]
+fn joins(last: Step, step: Step) -> bool
+    ensures { IsTrue result → last ≡ step }
+{
+    match last {
+        Step::Tick => matches!(step, Step::Tick),
+        Step::Strobe => matches!(step, Step::Strobe),
+        Step::Fetch => matches!(step, Step::Fetch),
+        _ => false,
+    }
+}
+
+// Makes the last run longer, if a step joins it and there is room for the number. Answers whether
+// it did.
+#[inline(always)]
+fn lengthen<A: Allocator>(runs: &mut Vec<Run, A>, step: Step, times: u16) -> bool
+    ensures longer { IsTrue result → IsLonger runs.old.items runs.new.items step times }
+    ensures same { IsFalse result → runs.new.items ≡ runs.old.items }
+{
+    let count = runs.len();
+    if count == 0 {
+        return false;
+    }
+    let last = runs[count - 1];
+    if !joins(last.step, step) || last.times > u16::MAX - times {
+        return false;
+    }
+    runs[count - 1] = Run {
+        step,
+        times: last.times + times,
+    };
+    true
 }

@@ -30,8 +30,10 @@ fn own_event(rt: &HostRuntime, event: TraceEvent) -> Option<Event> {
 /// The events of a trace, one by one.
 fn events(rt: &HostRuntime, trace: &Trace) -> Option<Vec<Event>> {
     let mut events = Vec::new(rt.alloc());
-    for number in 0..trace.len() {
-        events.push(own_event(rt, trace.event(number))?).ok()?;
+    for run in trace.runs() {
+        for _again in 0..run.1 {
+            events.push(own_event(rt, run.0)?).ok()?;
+        }
     }
     Some(events)
 }

@@ -1,4 +1,4 @@
-//! Traces that push an event again, and entries and events that are compared and cloned.
+//! Traces in runs, and entries and events that are compared and cloned.
 use crate::drafts::behind_labs;
 use crate::images::image;
 use dvg_frame::OpKind;
@@ -22,33 +22,49 @@ enum Shown {
     Other,
 }
 
-/// What a trace's event is.
-fn event_shown(trace: &Trace, number: usize) -> Shown {
-    if number >= trace.len() {
-        return Shown::Other;
-    }
-    match trace.event(number) {
+/// What an event of a trace is.
+fn event_shown(event: TraceEvent) -> Shown {
+    match event {
         TraceEvent::Offer(ops) => Shown::Offer(ops.len()),
         TraceEvent::ResetAll(image) => Shown::ResetAll(image.bytes()[0]),
         _ => Shown::Other,
     }
 }
 
-/// The trace of an offer and a reset, and of the offer again.
-fn pushed_again(alloc: Global) -> Result<Trace, Fail> {
+/// Whether the run of this number is of such an event, so many times.
+fn is_run(trace: &Trace, number: usize, shown: Shown, times: usize) -> bool {
+    let mut left = number;
+    for run in trace.runs() {
+        if left == 0 {
+            return event_shown(run.0) == shown && run.1 == times;
+        }
+        left -= 1;
+    }
+    false
+}
+
+/// The trace of an offer, a reset, three strobes, three resets of another byte, and the offer again.
+fn pushed(alloc: Global) -> Result<Trace, Fail> {
     let mut trace = Trace::new(alloc);
     trace.push(offer(alloc)?)?;
     trace.push(Event::ResetAll(image(alloc, 0x0F)?))?;
-    trace.push_again(0, 1)?;
+    trace.push_times(Event::Strobe, 3)?;
+    trace.push_filled(alloc, 0x7F, 2)?;
+    trace.push_filled(alloc, 0x7F, 1)?;
+    trace.push(offer(alloc)?)?;
     Ok(trace)
 }
 
 #[test]
-fn events_are_pushed_again(rt: HostRuntime) -> Result<(), Fail> {
-    let trace = pushed_again(rt.alloc())?;
-    assert_eq!(rt; trace.len(), 3);
-    assert_eq!(rt; event_shown(&trace, 1), Shown::ResetAll(0x0F));
-    assert_eq!(rt; event_shown(&trace, 2), Shown::Offer(2));
+fn events_come_in_runs(rt: HostRuntime) -> Result<(), Fail> {
+    let trace = pushed(rt.alloc())?;
+    assert_eq!(rt; trace.len(), 9);
+    assert!(rt; is_run(&trace, 0, Shown::Offer(2), 1));
+    assert!(rt; is_run(&trace, 1, Shown::ResetAll(0x0F), 1));
+    assert!(rt; is_run(&trace, 2, Shown::Other, 3));
+    assert!(rt; is_run(&trace, 3, Shown::ResetAll(0x7F), 2));
+    assert!(rt; is_run(&trace, 4, Shown::ResetAll(0x7F), 1));
+    assert!(rt; is_run(&trace, 5, Shown::Offer(2), 1));
     Ok(())
 }
 

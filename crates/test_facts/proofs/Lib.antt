@@ -10,3 +10,4 @@ pub mod Redraws
 pub mod Alone
 pub mod Laying
 pub mod FourFrames
+pub mod TraceRuns

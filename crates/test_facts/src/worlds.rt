@@ -6,6 +6,7 @@ ghost use Rattle.dvg_world.specs.Kept.{picture_seen};
 ghost use Rattle.dvg_tool.specs.Plays.{zeros};
 ghost use Rattle.dvg_log.specs.Entries.{shown_of};
 ghost use Rattle.dvg_log.specs.declared.entry.Entry.TheVariants.{Acted};
+ghost use Rattle.dvg_log.specs.declared.event.Event.TheVariants.{Strobe, Tick};
 ghost use Rattle.dvg_log.specs.Events.{happening_of};
 
 use dvg_driver::Action;
@@ -77,25 +78,25 @@ pub fn runs_a_trace_of_two_ticks(
     }
 }
 
-/// A trace keeps its events in order.
-pub fn trace_keeps_its_events(alloc: Global) -> Option<bool>
-    ensures { IfSome result (λ is_strobe. is_strobe ≡ true) }
+/// A trace keeps its events in order. None where memory was refused.
+pub fn trace_keeps_its_events(alloc: Global) -> Option<Trace<Global>>
+    ensures { IfSome result (λ trace. trace ≡ Tick ∷ Strobe ∷ Strobe ∷ []) }
 {
     let mut trace = Trace::new(alloc);
     trace.push(Event::Tick).ok()?;
-    trace.push(Event::Strobe).ok()?;
-    Some(matches!(trace.event(1), TraceEvent::Strobe))
+    trace.push_times(Event::Strobe, 2).ok()?;
+    Some(trace)
 }
 
-/// An event that is pushed again stands at the end.
-pub fn trace_keeps_what_is_pushed_again(alloc: Global) -> Option<bool>
+/// Its first run is of its first event. None where memory was refused.
+pub fn trace_begins_with_its_first_event(alloc: Global) -> Option<bool>
     ensures { IfSome result (λ is_strobe. is_strobe ≡ true) }
 {
     let mut trace = Trace::new(alloc);
     trace.push(Event::Strobe).ok()?;
     trace.push(Event::Tick).ok()?;
-    trace.push_again(0, 1).ok()?;
-    Some(matches!(trace.event(2), TraceEvent::Strobe))
+    let run = trace.runs().next()?;
+    Some(matches!(run.0, TraceEvent::Strobe))
 }
 
 /// The first picture: over a ROM and a RAM of zeros a frame of one vector is offered, written,

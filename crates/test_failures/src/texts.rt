@@ -53,7 +53,12 @@ fn a_trace_gives_events_and_a_rom(rt: HostRuntime) -> Result<(), Fail> {
     if trace.events.len() != 4 {
         return Err("not four events".into());
     }
-    let TraceEvent::Offer(ops) = trace.events.event(2) else {
+    let mut runs = trace.events.runs();
+    let _ticks = runs.next();
+    let Some(run) = runs.next() else {
+        return Err("no second run".into());
+    };
+    let TraceEvent::Offer(ops) = run.0 else {
         return Err("not an offer".into());
     };
     assert_eq!(rt; ops.len(), 3);

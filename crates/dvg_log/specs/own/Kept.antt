@@ -1,5 +1,5 @@
 -- What a trace keeps.
-use Rattle.std.specs.Prelude.{◌≡◌, ◌+◌, ◌*◌, ◌<◌, ◌≤◌, ℕ, List, All, length, get_or, replicate, slice_get}
+use Rattle.std.specs.Prelude.{◌≡◌, ◌+◌, ◌*◌, ◌<◌, ◌≤◌, ◌∷◌, [], ◌++◌, ℕ, List, All, length, get_or, replicate, slice_get}
 use Rattle.std.specs.Prelude.{Option, Some, None}
 use Rattle.std.specs.List.{sum_by}
 use Rattle.dvg_frame.specs.declared.op.OpKind.{OpKind}
@@ -41,3 +41,10 @@ pub record IsTrace (count : ℕ) (runs : List Run) (offers : List (ℕ × ℕ)) 
   pub few : length ops ≤ 511 * length runs
   pub reset : length images ≤ length runs
   pub filled : AreFilled numbers images
+
+-- the last run, which is of this step, comes so many times more
+pub record IsLonger (old new : List Run) (step : Step) (times : ℕ) : Type 0 where
+  pub front : List Run
+  pub before : ℕ
+  pub was : old ≡ front ++ record { step = step; times = before } ∷ []
+  pub is : new ≡ front ++ record { step = step; times = before + times } ∷ []

@@ -55,6 +55,7 @@ impl<R: Read> Watched<R> {
 impl<W: Write> Watched<W> {
     /// One write of a part of a text, which answers how many bytes were taken. At an error no byte
     /// went out, and the failure is counted.
+    #[inline(always)]
     pub fn write(&mut self, part: &[u8]) -> Result<usize, StreamFailed> {
         match self.stream.write(part) {
             Ok(0) if !part.is_empty() => Err(self.failed()),

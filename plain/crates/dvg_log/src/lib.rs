@@ -8,8 +8,10 @@ extern crate plain_std as std;
 
 mod entry;
 mod event;
+mod runs;
 mod trace;
 
 pub use entry::{Entry, OwnEntry};
 pub use event::{Event, OwnEvent, TraceEvent};
+pub use runs::Runs;
 pub use trace::{MOST_EVENTS, Trace};

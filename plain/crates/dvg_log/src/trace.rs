@@ -1,41 +1,44 @@
 //! Lists of events that take little room.
 use std::prelude::*;
 
-use crate::event::{Event, OwnEvent, TraceEvent};
+use crate::event::{Event, OwnEvent};
+use crate::runs::{Run, Runs, Step};
 use dvg_code::OutOfMemory;
 use dvg_frame::{Draft, Op};
-use dvg_mem::Image;
+use dvg_mem::{Image, MEMORY_BYTES};
 use std::alloc::{Allocator, Global};
 
 /// The most events of a trace (this project's own choice).
 pub const MOST_EVENTS: usize = 65_536;
 
-/// Events in order, at most 65,536 of them, in little room: the operations of all its offers lie in
-/// one list, so an offer takes only what its own operations need, where a `Draft` has room for 511.
-/// The images of its resets lie in another, and an event that is pushed again shares the operations
-/// or the image of the earlier one.
+/// Events in order, at most 65,536 of them, in little room: an event that happens several times in
+/// a row is kept once, with that number. The operations of all offers lie in one list, so an offer
+/// takes only what its own operations need, where a `Draft` has room for 511. The images of resets
+/// lie in another.
 pub struct Trace<A: Allocator = Global> {
-    steps: Vec<Step, A>,
+    runs: Vec<Run, A>,
+    /// How many events there are.
+    count: usize,
     /// Where the operations of each offer begin among those of all, and how many they are.
     offers: Vec<(u32, u16), A>,
     /// The operations of all offers.
     ops: Vec<Op, A>,
     /// The images of the resets of the whole system.
     images: Vec<Image<A>, A>,
+    /// For each byte the number of the image that has it everywhere, if one was made.
+    filled: [Option<u16>; 256],
 }
-
-/// An event of a trace, in four bytes: an offer has its number among all offers, and a reset of the
-/// whole system that of its image among all.
-pub(crate) type Step = Event<u16, u16>;
 
 impl<A: Allocator + Copy> Trace<A> {
     /// No events.
     pub fn new(alloc: A) -> Trace<A> {
         Trace {
-            steps: Vec::new(alloc),
+            runs: Vec::new(alloc),
+            count: 0,
             offers: Vec::new(alloc),
             ops: Vec::new(alloc),
             images: Vec::new(alloc),
+            filled: [None; 256],
         }
     }
 }
@@ -43,82 +46,150 @@ impl<A: Allocator + Copy> Trace<A> {
 impl<A: Allocator> Trace<A> {
     /// How many events there are.
     pub fn len(&self) -> usize {
-        self.steps.len()
+        self.count
     }
 
     /// Whether there is no event.
     pub fn is_empty(&self) -> bool {
-        self.steps.is_empty()
+        self.count == 0
     }
 
-    /// The event of this number, counted from 0. An offer has at most 511 operations.
-    #[inline(always)]
-    pub fn event(&self, number: usize) -> TraceEvent<'_, A> {
-        match &self.steps[number] {
-            Step::Offer(offer) => {
-                let (first, count) = self.offers[usize::from(*offer)];
-                let first = first as usize;
-                TraceEvent::Offer(&self.ops[first..first + usize::from(count)])
-            }
-            Step::Redraw => TraceEvent::Redraw,
-            Step::Tick => TraceEvent::Tick,
-            Step::Strobe => TraceEvent::Strobe,
-            Step::Fetch => TraceEvent::Fetch,
-            Step::ResetGen => TraceEvent::ResetGen,
-            Step::ResetCpu => TraceEvent::ResetCpu,
-            Step::ResetAll(image) => TraceEvent::ResetAll(&self.images[usize::from(*image)]),
-        }
+    /// The events, from the first on, as runs of equal ones.
+    pub fn runs(&self) -> Runs<'_, A> {
+        Runs::of(
+            self.runs.as_slice(),
+            self.offers.as_slice(),
+            self.ops.as_slice(),
+            self.images.as_slice(),
+        )
     }
 
     /// Adds an event at the end of a trace of fewer than 65,536. The only error is lack of memory,
     /// and then nothing has changed.
-    #[inline(always)]
     pub fn push(&mut self, event: OwnEvent<A>) -> Result<(), OutOfMemory> {
-        let step = match event {
-            Event::Offer(draft) => return self.push_offer(&draft),
-            Event::Redraw => Step::Redraw,
-            Event::Tick => Step::Tick,
-            Event::Strobe => Step::Strobe,
-            Event::Fetch => Step::Fetch,
-            Event::ResetGen => Step::ResetGen,
-            Event::ResetCpu => Step::ResetCpu,
-            Event::ResetAll(image) => return self.push_reset(image),
-        };
-        self.steps.push(step)?;
-        Ok(())
+        self.push_times(event, 1)
+    }
+
+    /// Adds an event at the end, so many times in a row, where the trace has room for them. The
+    /// only error is lack of memory, and then nothing has changed.
+    #[inline(always)]
+    pub fn push_times(&mut self, event: OwnEvent<A>, times: u16) -> Result<(), OutOfMemory> {
+        match event {
+            Event::Offer(draft) => self.push_draft(&draft, times),
+            Event::Redraw => self.push_step(Step::Redraw, times),
+            Event::Tick => self.push_step(Step::Tick, times),
+            Event::Strobe => self.push_step(Step::Strobe, times),
+            Event::Fetch => self.push_step(Step::Fetch, times),
+            Event::ResetGen => self.push_step(Step::ResetGen, times),
+            Event::ResetCpu => self.push_step(Step::ResetCpu, times),
+            Event::ResetAll(image) => self.push_image(image, times),
+        }
     }
 
     /// Adds an offer of a draft, which is copied, at the end of fewer than 65,536 events. The only
     /// error is lack of memory, and then nothing has changed.
     pub fn push_offer(&mut self, draft: &Draft) -> Result<(), OutOfMemory> {
+        self.push_draft(draft, 1)
+    }
+
+    /// Adds a reset of the whole system, after which each byte is this one, so many times in a row.
+    /// The image is made where it is the first such reset, in memory of this allocator. The only
+    /// error is lack of memory, and then nothing has changed.
+    pub fn push_filled(&mut self, alloc: A, byte: u8, times: u16) -> Result<(), OutOfMemory> {
+        if let Some(number) = self.filled[usize::from(byte)] {
+            let step = Step::ResetAll(number);
+            self.runs.push(Run { step, times })?;
+            self.count += usize::from(times);
+            return Ok(());
+        }
+        let Ok(image) = Image::new(alloc, &[byte; MEMORY_BYTES]) else {
+            return Err(OutOfMemory);
+        };
+        let number = add_image(&mut self.images, &mut self.runs, image, times)?;
+        self.count += usize::from(times);
+        self.filled[usize::from(byte)] = Some(number);
+        Ok(())
+    }
+
+    // Adds events that bring nothing. They join the last run where that is of the same event.
+    #[inline(always)]
+    fn push_step(&mut self, step: Step, times: u16) -> Result<(), OutOfMemory> {
+        if lengthen(&mut self.runs, step, times) {
+            self.count += usize::from(times);
+            return Ok(());
+        }
+        self.runs.push(Run { step, times })?;
+        self.count += usize::from(times);
+        Ok(())
+    }
+
+    // Adds offers of a draft, which is copied once.
+    fn push_draft(&mut self, draft: &Draft, times: u16) -> Result<(), OutOfMemory> {
         let first = self.ops.len() as u32;
         let count = draft.len();
         let number = self.offers.len() as u16;
         self.ops.reserve(count)?;
         self.offers.reserve(1)?;
-        self.steps.reserve(1)?;
+        self.runs.reserve(1)?;
         self.ops.extend_from_slice(draft.ops()).unwrap();
         self.offers.push_reserved((first, count as u16));
-        self.steps.push_reserved(Step::Offer(number));
+        let step = Step::Offer(number);
+        self.runs.push_reserved(Run { step, times });
+        self.count += usize::from(times);
         Ok(())
     }
 
-    /// Adds the event of this number, counted from 0, so many times more at the end of a trace that
-    /// has room for them. Its draft or image isn't copied. The only error is lack of memory, and
-    /// then nothing has changed.
-    pub fn push_again(&mut self, number: usize, times: usize) -> Result<(), OutOfMemory> {
-        let step = self.steps[number];
-        self.steps.resize(self.steps.len() + times, step)?;
+    // Adds resets of the whole system, and keeps their image.
+    fn push_image(&mut self, image: Image<A>, times: u16) -> Result<(), OutOfMemory> {
+        add_image(&mut self.images, &mut self.runs, image, times)?;
+        self.count += usize::from(times);
         Ok(())
     }
+}
 
-    // Adds a reset of the whole system, and keeps its image.
-    fn push_reset(&mut self, image: Image<A>) -> Result<(), OutOfMemory> {
-        let number = self.images.len() as u16;
-        self.images.reserve(1)?;
-        self.steps.reserve(1)?;
-        self.images.push_reserved(image);
-        self.steps.push_reserved(Step::ResetAll(number));
-        Ok(())
+// Adds an image, and so many resets with it, and answers its number. The only error is lack of
+// memory, and then nothing is added.
+fn add_image<A: Allocator>(
+    images: &mut Vec<Image<A>, A>,
+    runs: &mut Vec<Run, A>,
+    image: Image<A>,
+    times: u16,
+) -> Result<u16, OutOfMemory> {
+    let number = images.len() as u16;
+    images.reserve(1)?;
+    runs.reserve(1)?;
+    images.push_reserved(image);
+    let step = Step::ResetAll(number);
+    runs.push_reserved(Run { step, times });
+    Ok(number)
+}
+
+// Whether one of two steps joins the other: they are of the same event, which comes often.
+#[inline(always)]
+fn joins(last: Step, step: Step) -> bool {
+    match last {
+        Step::Tick => matches!(step, Step::Tick),
+        Step::Strobe => matches!(step, Step::Strobe),
+        Step::Fetch => matches!(step, Step::Fetch),
+        _ => false,
     }
+}
+
+// Makes the last run longer, if a step joins it and there is room for the number. Answers whether
+// it did.
+#[inline(always)]
+fn lengthen<A: Allocator>(runs: &mut Vec<Run, A>, step: Step, times: u16) -> bool {
+    let count = runs.len();
+    if count == 0 {
+        return false;
+    }
+    let last = runs[count - 1];
+    if !joins(last.step, step) || last.times > u16::MAX - times {
+        return false;
+    }
+    runs[count - 1] = Run {
+        step,
+        times: last.times + times,
+    };
+    true
 }

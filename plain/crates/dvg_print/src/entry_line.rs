@@ -36,4 +36,14 @@ impl EntryLine {
         self.line.text(b"\n");
         self.next += 1;
     }
+
+    /// Becomes the line of the next event, which led to the same entry as the last one: nine times
+    /// in ten another digit is all that changes.
+    #[inline(always)]
+    pub fn become_same(&mut self) {
+        if !self.line.count_up(self.digits) {
+            self.digits = self.line.renumber(self.digits, self.next);
+        }
+        self.next += 1;
+    }
 }

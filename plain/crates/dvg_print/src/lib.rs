@@ -5,6 +5,7 @@
 
 extern crate plain_std as std;
 
+mod digits;
 mod entry_line;
 mod line;
 mod log_line;

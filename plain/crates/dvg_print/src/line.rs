@@ -1,11 +1,12 @@
 //! Lines of output, made without taking memory.
+use crate::digits::count_up;
 use crate::verdict::{BoundedVerdict, Verdict};
 use dvg_code::{Code, Instr};
 use dvg_frame::{FrameFault, Place};
 use itoa::{Buffer, Integer};
 
 /// The most bytes of a line.
-const MOST_BYTES: usize = 64;
+pub(crate) const MOST_BYTES: usize = 64;
 
 // A hexadecimal digit in upper case.
 #[inline(always)]
@@ -49,11 +50,27 @@ impl Line {
     // alone; or from no bytes.
     #[inline(always)]
     pub(crate) fn count_on(&mut self, number: usize) {
-        if self.count > 0 && self.bytes[self.count - 1] < b'9' {
-            self.bytes[self.count - 1] += 1;
-        } else {
+        if !count_up(&mut self.bytes, self.count) {
             self.become_number(number);
         }
+    }
+
+    // Adds one to the number that its first bytes are, this many, where the next number has as many
+    // digits; else it answers false.
+    #[inline(always)]
+    pub(crate) fn count_up(&mut self, digits: usize) -> bool {
+        count_up(&mut self.bytes, digits)
+    }
+
+    // Puts a number in place of its first bytes, this many, and answers how many digits it has.
+    #[inline(never)]
+    pub(crate) fn renumber(&mut self, digits: usize, number: usize) -> usize {
+        let mut rest = Line::new();
+        rest.text(&self.as_bytes()[digits..]);
+        self.become_number(number);
+        let count = self.count;
+        self.text(rest.as_bytes());
+        count
     }
 
     // Becomes a number in decimal.
@@ -83,17 +100,20 @@ impl Line {
     }
 
     // Appends a space and two hexadecimal digits.
+    #[inline(always)]
     pub(crate) fn hex_2(&mut self, byte: u8) {
         let n = usize::from(byte);
         self.text(&[b' ', glyph(n / 16), glyph(n % 16)]);
     }
 
     // Appends three hexadecimal digits.
+    #[inline(always)]
     pub(crate) fn hex_3(&mut self, n: usize) {
         self.text(&[glyph(n / 256 % 16), glyph(n / 16 % 16), glyph(n % 16)]);
     }
 
     // Appends a space and four hexadecimal digits.
+    #[inline(always)]
     pub(crate) fn hex_4(&mut self, word: u16) {
         let n = usize::from(word);
         self.text(&[
@@ -123,6 +143,7 @@ impl Line {
     }
 
     // Appends the name of an instruction and a word address.
+    #[inline(always)]
     pub(crate) fn with_address(&mut self, name: &[u8], address: u16) {
         self.part(name);
         self.text(b" ");

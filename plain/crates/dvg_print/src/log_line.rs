@@ -21,6 +21,7 @@ impl Line {
     }
 
     // Appends what a fetch led to, its word address, and the word there.
+    #[inline(always)]
     fn fetched(&mut self, name: &[u8], address: u16, word: u16) {
         self.with_address(name, address);
         self.hex_4(word);

@@ -33,8 +33,18 @@ pub fn read_draft(text: &[u8]) -> Result<DraftText, TextFault> {
     let mut draft = Draft::new();
     let mut rom = RomReading::new();
     let mut number = 0;
-    for line in TextLines::new(text) {
+    let mut lines = TextLines::new(text);
+    loop {
         number += 1;
+        if let Some(op) = lines.take_op() {
+            if draft.push(op).is_err() {
+                return Err(TextFault::Full(number));
+            }
+            continue;
+        }
+        let Some(line) = lines.next() else {
+            break;
+        };
         if is_passed(line) {
             continue;
         }

@@ -9,6 +9,7 @@ mod event_line;
 mod fault;
 mod line_parts;
 mod number;
+mod op_head;
 mod op_line;
 mod rom_line;
 mod rom_text;

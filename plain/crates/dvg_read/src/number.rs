@@ -52,35 +52,6 @@ pub fn natural(part: &[u8]) -> Option<u16> {
     u16::try_from(value_of(part, 10)?).ok()
 }
 
-/// The decimal number at the head of a text, up to a space, and what comes after that.
-#[inline(always)]
-pub(crate) fn natural_ahead(text: &[u8]) -> Option<(u16, &[u8])> {
-    // Most numbers have one digit.
-    if let [first, b' ', rest @ ..] = text {
-        let digit = digit_of(*first);
-        return if digit < 10 {
-            Some((u16::from(digit), rest))
-        } else {
-            None
-        };
-    }
-    let mut number = 0;
-    for (place, byte) in text.iter().enumerate() {
-        let digit = u32::from(digit_of(*byte));
-        if digit >= 10 {
-            if *byte != b' ' || place == 0 || (text[0] == b'0' && place > 1) {
-                return None;
-            }
-            return Some((u16::try_from(number).ok()?, &text[place + 1..]));
-        }
-        if place == MAX_DIGITS {
-            return None;
-        }
-        number = number * 10 + digit;
-    }
-    None
-}
-
 /// A decimal number of at most 8 bits, without a sign and without leading zeros.
 pub fn small_natural(part: &[u8]) -> Option<u8> {
     u8::try_from(natural(part)?).ok()
@@ -97,19 +68,6 @@ pub fn integer(part: &[u8]) -> Option<i16> {
     if size > 0 { Some(-size) } else { None }
 }
 
-/// The same at the head of a text, up to a space, and what comes after that.
-#[inline(always)]
-pub(crate) fn integer_ahead(text: &[u8]) -> Option<(i16, &[u8])> {
-    let (first, digits) = text.split_first()?;
-    if *first != b'-' {
-        let (size, rest) = natural_ahead(text)?;
-        return Some((i16::try_from(size).ok()?, rest));
-    }
-    let (size, rest) = natural_ahead(digits)?;
-    let size = i16::try_from(size).ok()?;
-    if size > 0 { Some((-size, rest)) } else { None }
-}
-
 /// The same, from -128 to 127.
 pub fn small_integer(part: &[u8]) -> Option<i8> {
     i8::try_from(integer(part)?).ok()
@@ -122,4 +80,100 @@ pub fn hex(part: &[u8], count: usize) -> Option<u16> {
         return None;
     }
     u16::try_from(value_of(part, 16)?).ok()
+}
+
+// The value of a decimal digit.
+#[inline(always)]
+fn decimal_digit(byte: u8) -> Option<u8> {
+    match byte {
+        b'0'..=b'9' => Some(byte - b'0'),
+        _ => None,
+    }
+}
+
+/// The decimal number of one digit that a text begins with, before this byte, and what comes after
+/// that.
+#[inline(always)]
+pub(crate) fn digit_before(text: &[u8], end: u8) -> Option<(u8, &[u8])> {
+    if let [first, then, rest @ ..] = text {
+        if *then != end {
+            return None;
+        }
+        return Some((decimal_digit(*first)?, rest));
+    }
+    None
+}
+
+/// The same, of a number from 0 to 15.
+#[inline(always)]
+pub(crate) fn nibble_before(text: &[u8], end: u8) -> Option<(u8, &[u8])> {
+    if let Some(ahead) = digit_before(text, end) {
+        return Some(ahead);
+    }
+    let [b'1', rest @ ..] = text else {
+        return None;
+    };
+    let (ones, rest) = digit_before(rest, end)?;
+    if ones <= 5 {
+        Some((10 + ones, rest))
+    } else {
+        None
+    }
+}
+
+/// The same, of a number that is at most this one, without leading zeros.
+#[inline(always)]
+pub(crate) fn natural_before(text: &[u8], end: u8, most: u16) -> Option<(u16, &[u8])> {
+    let (first, mut rest) = text.split_first()?;
+    let mut number = u32::from(decimal_digit(*first)?);
+    while let Some((byte, after)) = rest.split_first() {
+        if *byte == end {
+            return Some((number as u16, after));
+        }
+        if number == 0 {
+            return None;
+        }
+        number = number * 10 + u32::from(decimal_digit(*byte)?);
+        if number > u32::from(most) {
+            return None;
+        }
+        rest = after;
+    }
+    None
+}
+
+/// The decimal number that a text begins with, before a space, and what comes after that. It is at
+/// most this large, without leading zeros, with `-` before it exactly where it is negative.
+#[inline(always)]
+pub(crate) fn integer_before_space(text: &[u8], most: u16) -> Option<(i16, &[u8])> {
+    let (first, digits) = text.split_first()?;
+    if *first != b'-' {
+        let (size, rest) = natural_before(text, b' ', most)?;
+        return Some((size as i16, rest));
+    }
+    let (size, rest) = natural_before(digits, b' ', most)?;
+    if size > 0 {
+        Some((-(size as i16), rest))
+    } else {
+        None
+    }
+}
+
+/// The same, of a number from -3 to 3.
+#[inline(always)]
+pub(crate) fn tiny_before_space(text: &[u8]) -> Option<(i8, &[u8])> {
+    if let [b'-', rest @ ..] = text {
+        let (size, rest) = digit_before(rest, b' ')?;
+        return if 1 <= size && size <= 3 {
+            Some((-(size as i8), rest))
+        } else {
+            None
+        };
+    }
+    let (size, rest) = digit_before(text, b' ')?;
+    if size <= 3 {
+        Some((size as i8, rest))
+    } else {
+        None
+    }
 }

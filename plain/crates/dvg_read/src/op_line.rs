@@ -1,62 +1,13 @@
 //! Lines of operations.
 use crate::line_parts::parts_of;
-use crate::number::{
-    hex, integer, integer_ahead, natural, natural_ahead, small_integer, small_natural,
-};
+use crate::number::{hex, integer, natural, small_integer, small_natural};
 use dvg_code::{Code, Instr};
 use dvg_frame::{Op, OpKind};
 
 /// The operation that a line spells. None exactly where it spells none.
 pub fn read_op(line: &[u8]) -> Option<Op> {
-    if let Some(op) = common(line) {
-        return Op::new(op);
-    }
     let parts = parts_of(line)?;
     read_op_parts(parts.as_slice())
-}
-
-// The operation that a line spells, where it is one of the usual ones, read in one pass. None says
-// nothing of the line.
-#[inline(always)]
-fn common(line: &[u8]) -> Option<OpKind> {
-    match line {
-        [b'v', b'c', b't', b'r', b' ', rest @ ..] => vctr_ahead(rest),
-        [b's', b'v', b'e', b'c', b' ', rest @ ..] => svec_ahead(rest),
-        [b'l', b'a', b'b', b's', b' ', rest @ ..] => labs_ahead(rest),
-        [b'c', b'a', b'l', b'l', b' ', rest @ ..] => Some(OpKind::Call(natural(rest)?)),
-        [b'j', b'u', b'm', b'p', b' ', rest @ ..] => Some(OpKind::Jump(natural(rest)?)),
-        _ => None,
-    }
-}
-
-// A VCTR of the numbers that this text spells.
-fn vctr_ahead(text: &[u8]) -> Option<OpKind> {
-    let (scale, rest) = natural_ahead(text)?;
-    let scale = u8::try_from(scale).ok()?;
-    let (dx, rest) = integer_ahead(rest)?;
-    let (dy, rest) = integer_ahead(rest)?;
-    let z = small_natural(rest)?;
-    draw(Instr::Vctr { scale, dx, dy, z })
-}
-
-// An SVEC of the numbers that this text spells.
-fn svec_ahead(text: &[u8]) -> Option<OpKind> {
-    let (scale, rest) = natural_ahead(text)?;
-    let scale = u8::try_from(scale).ok()?;
-    let (dx, rest) = integer_ahead(rest)?;
-    let dx = i8::try_from(dx).ok()?;
-    let (dy, rest) = integer_ahead(rest)?;
-    let dy = i8::try_from(dy).ok()?;
-    let z = small_natural(rest)?;
-    draw(Instr::Svec { scale, dx, dy, z })
-}
-
-// A LABS of the numbers that this text spells.
-fn labs_ahead(text: &[u8]) -> Option<OpKind> {
-    let (x, rest) = natural_ahead(text)?;
-    let (y, rest) = natural_ahead(rest)?;
-    let scale = small_natural(rest)?;
-    draw(Instr::Labs { x, y, scale })
 }
 
 /// The operation that these parts of a line spell. None exactly where they spell none.

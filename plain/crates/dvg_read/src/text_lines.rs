@@ -1,5 +1,7 @@
 //! The lines of a text.
 use crate::event_line::SpelledEvent;
+use crate::op_head::op_at_head;
+use dvg_frame::Op;
 use dvg_log::Event;
 use memchr::memchr;
 
@@ -25,6 +27,17 @@ impl<'a> TextLines<'a> {
         let (event, rest) = name_at_head(self.rest)?;
         self.rest = rest;
         Some(event)
+    }
+
+    /// Takes the next line, if it spells one of the operations that come most often, and answers
+    /// that operation. None says nothing of the line, and nothing is taken then.
+    #[inline(always)]
+    pub(crate) fn take_op(&mut self) -> Option<Op> {
+        let Some((op, rest)) = op_at_head(self.rest) else {
+            return None;
+        };
+        self.rest = rest;
+        Some(op)
     }
 }
 

@@ -7,9 +7,9 @@ use crate::rom_text::RomReading;
 use crate::text_lines::{TextLines, is_passed};
 use arrayvec::ArrayVec;
 use dvg_code::OutOfMemory;
-use dvg_frame::Draft;
+use dvg_frame::{Draft, Op};
 use dvg_log::{Event, MOST_EVENTS, Trace};
-use dvg_mem::{Image, LARGE_ROM_BYTES, MEMORY_BYTES};
+use dvg_mem::LARGE_ROM_BYTES;
 use std::alloc::{Allocator, Global};
 
 /// What the text of a trace denotes.
@@ -41,7 +41,6 @@ pub fn read_trace<A: Allocator + Copy>(alloc: A, text: &[u8]) -> Result<TraceTex
         events: Trace::new(alloc),
         draft: Draft::new(),
         is_open: false,
-        resets: [None; 256],
     };
     let mut lines = TextLines::new(text);
     let mut number = 0;
@@ -49,6 +48,12 @@ pub fn read_trace<A: Allocator + Copy>(alloc: A, text: &[u8]) -> Result<TraceTex
         number += 1;
         if let Some(event) = reading.name_ahead(&mut lines) {
             match reading.take_name(event) {
+                Ok(()) => continue,
+                Err(fault) => return Err(at_line(fault, number)),
+            }
+        }
+        if let Some(op) = reading.op_ahead(&mut lines) {
+            match reading.take_op(op) {
                 Ok(()) => continue,
                 Err(fault) => return Err(at_line(fault, number)),
             }
@@ -105,8 +110,6 @@ struct Reading<A: Allocator> {
     draft: Draft,
     // Whether that offer isn't ended.
     is_open: bool,
-    // For each byte the number of the first event that resets the system with it.
-    resets: [Option<u32>; 256],
 }
 
 impl<A: Allocator + Copy> Reading<A> {
@@ -124,7 +127,23 @@ impl<A: Allocator + Copy> Reading<A> {
     #[inline(always)]
     fn take_name(&mut self, event: SpelledEvent) -> Result<(), LineFault> {
         let line = EventLine { event, count: 1 };
-        add_events(self.alloc, line, &mut self.resets, &mut self.events)
+        add_events(self.alloc, line, &mut self.events)
+    }
+
+    // Takes the next line, if it spells one of the operations that come most often and an offer is
+    // open, and answers the operation. Else nothing is taken.
+    #[inline(always)]
+    fn op_ahead(&self, lines: &mut TextLines) -> Option<Op> {
+        if !self.is_open {
+            return None;
+        }
+        lines.take_op()
+    }
+
+    // Reads one more line, which spells this operation, where an offer is open.
+    #[inline(always)]
+    fn take_op(&mut self, op: Op) -> Result<(), LineFault> {
+        push_op(&mut self.draft, op)
     }
 
     // Reads one more line, which isn't passed over.
@@ -146,7 +165,7 @@ impl<A: Allocator + Copy> Reading<A> {
             return Ok(());
         }
         if let Some(repeated) = read_event_line(line) {
-            return add_events(self.alloc, repeated, &mut self.resets, &mut self.events);
+            return add_events(self.alloc, repeated, &mut self.events);
         }
         if self.events.is_empty() && self.rom.take(line) {
             return Ok(());
@@ -178,6 +197,12 @@ pub(crate) fn add_op(draft: &mut Draft, line: &[u8]) -> Result<(), LineFault> {
     let Some(op) = read_op(line) else {
         return Err(LineFault::Syntax);
     };
+    push_op(draft, op)
+}
+
+// Adds an operation.
+#[inline(always)]
+fn push_op(draft: &mut Draft, op: Op) -> Result<(), LineFault> {
     match draft.push(op) {
         Ok(_) => Ok(()),
         Err(_) => Err(LineFault::Full),
@@ -189,13 +214,12 @@ pub(crate) fn add_op(draft: &mut Draft, line: &[u8]) -> Result<(), LineFault> {
 fn add_events<A: Allocator>(
     alloc: A,
     repeated: EventLine,
-    resets: &mut [Option<u32>; 256],
     events: &mut Trace<A>,
 ) -> Result<(), LineFault> {
     if events.len() + count(&repeated) > MOST_EVENTS {
         return Err(LineFault::Many);
     }
-    if add_times(alloc, repeated.event, repeated.count, resets, events).is_err() {
+    if add_times(alloc, repeated.event, repeated.count, events).is_err() {
         return Err(LineFault::Memory);
     }
     Ok(())
@@ -206,59 +230,21 @@ pub(crate) fn count(repeated: &EventLine) -> usize {
     usize::from(repeated.count)
 }
 
-// Adds an event, this many times in a row: itself, and then the same again.
+// Adds an event, this many times in a row.
 #[inline(always)]
 fn add_times<A: Allocator>(
     alloc: A,
     event: SpelledEvent,
     count: u16,
-    resets: &mut [Option<u32>; 256],
     events: &mut Trace<A>,
 ) -> Result<(), OutOfMemory> {
-    let first = events.len();
-    add_once(alloc, event, resets, events)?;
-    if count == 1 {
-        return Ok(());
+    match event {
+        Event::Redraw => events.push_times(Event::Redraw, count),
+        Event::Tick => events.push_times(Event::Tick, count),
+        Event::Strobe => events.push_times(Event::Strobe, count),
+        Event::Fetch => events.push_times(Event::Fetch, count),
+        Event::ResetGen => events.push_times(Event::ResetGen, count),
+        Event::ResetCpu => events.push_times(Event::ResetCpu, count),
+        Event::ResetAll(byte) => events.push_filled(alloc, byte, count),
     }
-    events.push_again(first, usize::from(count) - 1)
-}
-
-// Adds an event.
-#[inline(always)]
-fn add_once<A: Allocator>(
-    alloc: A,
-    event: SpelledEvent,
-    resets: &mut [Option<u32>; 256],
-    events: &mut Trace<A>,
-) -> Result<(), OutOfMemory> {
-    let own = match event {
-        Event::Redraw => Event::Redraw,
-        Event::Tick => Event::Tick,
-        Event::Strobe => Event::Strobe,
-        Event::Fetch => Event::Fetch,
-        Event::ResetGen => Event::ResetGen,
-        Event::ResetCpu => Event::ResetCpu,
-        Event::ResetAll(byte) => return add_reset(alloc, byte, resets, events),
-    };
-    events.push(own)
-}
-
-// Adds a reset of the whole system, after which each byte is this one. Its image is made where it
-// is the first such reset.
-fn add_reset<A: Allocator>(
-    alloc: A,
-    byte: u8,
-    resets: &mut [Option<u32>; 256],
-    events: &mut Trace<A>,
-) -> Result<(), OutOfMemory> {
-    if let Some(first) = resets[usize::from(byte)] {
-        return events.push_again(first as usize, 1);
-    }
-    let Ok(image) = Image::new(alloc, &[byte; MEMORY_BYTES]) else {
-        return Err(OutOfMemory);
-    };
-    let number = events.len() as u32;
-    events.push(Event::ResetAll(image))?;
-    resets[usize::from(byte)] = Some(number);
-    Ok(())
 }

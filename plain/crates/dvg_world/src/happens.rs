@@ -2,7 +2,7 @@
 use crate::world::World;
 use dvg_code::OutOfMemory;
 use dvg_frame::{Draft, Op};
-use dvg_log::{OwnEntry, Trace, TraceEvent};
+use dvg_log::{OwnEntry, TraceEvent};
 use dvg_mem::Store;
 
 // Takes these operations in place of a draft's own.
@@ -11,16 +11,14 @@ pub(crate) fn fill(draft: &mut Draft, ops: &[Op]) {
     draft.try_extend_from_slice(ops).unwrap();
 }
 
-// Lets the event of this number of a trace happen to a world. The draft of an offer is made in
-// `draft`.
+// Lets an event of a trace happen to a world. The draft of an offer is made in `draft`.
 #[inline(always)]
-pub(crate) fn happen_of<S: Store>(
-    trace: &Trace<S::Alloc>,
-    number: usize,
+pub(crate) fn happen<S: Store>(
+    event: TraceEvent<'_, S::Alloc>,
     draft: &mut Draft,
     world: &mut World<S>,
 ) -> Result<OwnEntry<S::Alloc>, OutOfMemory> {
-    match trace.event(number) {
+    match event {
         TraceEvent::Offer(ops) => {
             fill(draft, ops);
             Ok(world.offer(draft))

@@ -5,6 +5,7 @@ use crate::entries::Entries;
 use crate::happens::fill;
 use crate::world::World;
 use dvg_code::OutOfMemory;
+use dvg_driver::Action;
 use dvg_frame::Draft;
 use dvg_gen::Stroke;
 use dvg_log::{Entry, OwnEntry, Trace, TraceEvent};
@@ -61,17 +62,16 @@ impl<A: Allocator> EntriesKept<A> {
     }
 }
 
-// Lets the event of this number of a trace happen to a world, as `happen_of` does, and keeps its
-// entry. It is kept where it comes about, so that the code knows which entries there may be.
+// Lets an event happen to a world, as `happen` does, and keeps its entry. It is kept where it comes
+// about, so that the code knows which entries there may be.
 #[inline(always)]
 fn keep_next<S: Store>(
+    event: TraceEvent<'_, S::Alloc>,
     entries: &mut EntriesKept<S::Alloc>,
-    trace: &Trace<S::Alloc>,
-    number: usize,
     draft: &mut Draft,
     world: &mut World<S>,
 ) -> Result<(), OutOfMemory> {
-    match trace.event(number) {
+    match event {
         TraceEvent::Offer(ops) => {
             fill(draft, ops);
             entries.keep(world.offer(draft));
@@ -86,6 +86,68 @@ fn keep_next<S: Store>(
         TraceEvent::ResetGen => entries.keep(world.reset_generator()),
         TraceEvent::ResetCpu => entries.keep(world.reset_processor()),
         TraceEvent::ResetAll(image) => entries.keep(world.reset_all(image)),
+    }
+    Ok(())
+}
+
+// Lets so many ticks happen to a world, and keeps their entries. After one that finds the driver
+// idle, so do all, and nothing changes.
+fn log_ticks<S: Store>(entries: &mut EntriesKept<S::Alloc>, times: usize, world: &mut World<S>) {
+    for done in 0..times {
+        let action = world.act();
+        entries.keep(Entry::Acted(action));
+        if let Action::Idle = action {
+            for _again in done + 1..times {
+                entries.keep(Entry::Acted(Action::Idle));
+            }
+            return;
+        }
+    }
+}
+
+// Lets so many fetches happen to a world, and keeps their entries. After one that finds the
+// generator halted, so do all, and nothing changes.
+fn log_fetches<S: Store>(
+    entries: &mut EntriesKept<S::Alloc>,
+    times: usize,
+    world: &mut World<S>,
+) -> Result<(), OutOfMemory> {
+    for done in 0..times {
+        match world.fetch() {
+            Ok(Entry::Still) => {
+                for _again in done..times {
+                    entries.keep(Entry::Still);
+                }
+                return Ok(());
+            }
+            Ok(entry) => entries.keep(entry),
+            Err(refused) => return Err(refused),
+        }
+    }
+    Ok(())
+}
+
+// Lets an event happen to a world so many times in a row, and keeps its entries.
+fn log_run<S: Store>(
+    run: (TraceEvent<'_, S::Alloc>, usize),
+    entries: &mut EntriesKept<S::Alloc>,
+    draft: &mut Draft,
+    world: &mut World<S>,
+) -> Result<(), OutOfMemory> {
+    let (event, times) = run;
+    match event {
+        TraceEvent::Tick => {
+            log_ticks(entries, times, world);
+            return Ok(());
+        }
+        TraceEvent::Fetch => return log_fetches(entries, times, world),
+        _ => {}
+    }
+    for _again in 0..times {
+        match keep_next(event, entries, draft, world) {
+            Ok(()) => {}
+            Err(refused) => return Err(refused),
+        }
     }
     Ok(())
 }
@@ -116,8 +178,8 @@ pub fn log_trace<S: Store>(
     };
     let mut entries = EntriesKept { kept, drawn };
     let mut draft = Draft::new();
-    for number in 0..trace.len() {
-        match keep_next(&mut entries, trace, number, &mut draft, &mut world) {
+    for run in trace.runs() {
+        match log_run(run, &mut entries, &mut draft, &mut world) {
             Ok(()) => {}
             Err(_) => return entries.logged(false),
         }

@@ -1,11 +1,13 @@
 //! The pictures of a trace.
 use std::prelude::*;
 
-use crate::happens::happen_of;
+use crate::happens::happen;
 use crate::world::World;
+use dvg_code::OutOfMemory;
+use dvg_driver::Action;
 use dvg_frame::Draft;
 use dvg_gen::Stroke;
-use dvg_log::{Entry, Trace};
+use dvg_log::{Entry, OwnEntry, Trace, TraceEvent};
 use dvg_mem::{Image, Rom, Store};
 use std::alloc::{Allocator, Global};
 
@@ -35,6 +37,70 @@ impl<A: Allocator> Drawn<A> {
     }
 }
 
+// Lets so many ticks happen to a world. No picture comes of them. After one that finds the driver
+// idle, so do all, and nothing changes.
+fn tick_times<S: Store>(world: &mut World<S>, times: usize) {
+    for _tick in 0..times {
+        match world.act() {
+            Action::Idle => return,
+            _ => {}
+        }
+    }
+}
+
+// Keeps the picture of the event of this number, if its entry is that of a finished run.
+#[inline(always)]
+fn keep_picture<A: Allocator>(pictures: &mut Vec<Picture<A>, A>, event: usize, entry: OwnEntry<A>) {
+    if let Entry::Done(_, _, strokes) = entry {
+        pictures.push_reserved(Picture { event, strokes });
+    }
+}
+
+// Lets so many fetches happen to a world, of which the first is the event of this number, and keeps
+// the pictures. After one that finds the generator halted, so do all, and nothing changes.
+fn fetch_times<S: Store>(
+    world: &mut World<S>,
+    number: usize,
+    times: usize,
+    pictures: &mut Vec<Picture<S::Alloc>, S::Alloc>,
+) -> Result<(), OutOfMemory> {
+    for done in 0..times {
+        match world.fetch() {
+            Ok(Entry::Still) => return Ok(()),
+            Ok(entry) => keep_picture(pictures, number + done, entry),
+            Err(refused) => return Err(refused),
+        }
+    }
+    Ok(())
+}
+
+// Lets an event happen to a world so many times in a row, of which the first has this number, and
+// keeps the pictures. The draft of an offer is made in `draft`.
+fn draw_run<S: Store>(
+    run: (TraceEvent<'_, S::Alloc>, usize),
+    number: usize,
+    draft: &mut Draft,
+    world: &mut World<S>,
+    pictures: &mut Vec<Picture<S::Alloc>, S::Alloc>,
+) -> Result<(), OutOfMemory> {
+    let (event, times) = run;
+    match event {
+        TraceEvent::Tick => {
+            tick_times(world, times);
+            return Ok(());
+        }
+        TraceEvent::Fetch => return fetch_times(world, number, times, pictures),
+        _ => {}
+    }
+    for done in 0..times {
+        match happen(event, draft, world) {
+            Ok(entry) => keep_picture(pictures, number + done, entry),
+            Err(refused) => return Err(refused),
+        }
+    }
+    Ok(())
+}
+
 /// Lets the events of a trace happen to a new world, as `run_trace` does, and keeps the pictures
 /// alone: those of the one legal log of these events, of which each line keeps the headline.
 ///
@@ -56,18 +122,17 @@ pub fn draw_trace<S: Store>(
         return Drawn::unstarted(alloc);
     };
     let mut draft = Draft::new();
-    for number in 0..trace.len() {
-        let Ok(entry) = happen_of(trace, number, &mut draft, &mut world) else {
-            return Drawn {
-                pictures,
-                is_whole: false,
-            };
-        };
-        if let Entry::Done(_, _, strokes) = entry {
-            pictures.push_reserved(Picture {
-                event: number,
-                strokes,
-            });
+    let mut number = 0;
+    for run in trace.runs() {
+        let times = run.1;
+        match draw_run(run, number, &mut draft, &mut world, &mut pictures) {
+            Ok(()) => number += times,
+            Err(_) => {
+                return Drawn {
+                    pictures,
+                    is_whole: false,
+                };
+            }
         }
     }
     Drawn {

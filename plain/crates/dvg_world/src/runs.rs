@@ -1,10 +1,9 @@
 //! Whole runs.
 use std::prelude::*;
 
-use crate::happens::happen_of;
+use crate::happens::happen;
 use crate::stopped::Stopped;
 use crate::world::World;
-use dvg_code::OutOfMemory;
 use dvg_frame::Draft;
 use dvg_log::{OwnEntry, OwnEvent, Trace};
 use dvg_mem::{Image, Rom, Store};
@@ -39,7 +38,24 @@ pub fn run<S: Store>(
     image: &Image<S::Alloc>,
     events: &[OwnEvent<S::Alloc>],
 ) -> Result<Vec<OwnEntry<S::Alloc>, S::Alloc>, Stopped<S::Alloc>> {
-    run_each::<S, Listed<S::Alloc>>(alloc, rom, image, Listed { events })
+    let Ok(mut world) = World::<S>::new(alloc, rom, image) else {
+        return Err(unstarted(alloc));
+    };
+    let Ok(mut entries) = Vec::with_capacity(alloc, events.len()) else {
+        return Err(unstarted(alloc));
+    };
+    for number in 0..events.len() {
+        match world.apply(&events[number]) {
+            Ok(entry) => entries.push_reserved(entry),
+            Err(_) => {
+                return Err(Stopped {
+                    entries,
+                    event: number,
+                });
+            }
+        }
+    }
+    Ok(entries)
 }
 
 /// Lets the events of a trace happen to a new world, as `run` does with a list of them: each line
@@ -51,90 +67,35 @@ pub fn run_trace<S: Store>(
     image: &Image<S::Alloc>,
     trace: &Trace<S::Alloc>,
 ) -> Result<Vec<OwnEntry<S::Alloc>, S::Alloc>, Stopped<S::Alloc>> {
-    let draft = Draft::new();
-    run_each::<S, Playing<S::Alloc>>(alloc, rom, image, Playing { trace, draft })
-}
-
-// Events in order, however they are kept.
-trait Events<S: Store>: Drop {
-    // How many there are.
-    fn count(&self) -> usize;
-
-    // Lets the event of this number happen to a world.
-    fn happen(
-        &mut self,
-        number: usize,
-        world: &mut World<S>,
-    ) -> Result<OwnEntry<S::Alloc>, OutOfMemory>;
-}
-
-// A list of events.
-struct Listed<'a, A: Allocator> {
-    events: &'a [OwnEvent<A>],
-}
-
-impl<'a, S: Store> Events<S> for Listed<'a, S::Alloc> {
-    fn count(&self) -> usize {
-        self.events.len()
-    }
-
-    fn happen(
-        &mut self,
-        number: usize,
-        world: &mut World<S>,
-    ) -> Result<OwnEntry<S::Alloc>, OutOfMemory> {
-        world.apply(&self.events[number])
-    }
-}
-
-// A trace, and the draft in which those of its offers are made.
-struct Playing<'a, A: Allocator> {
-    trace: &'a Trace<A>,
-    draft: Draft,
-}
-
-impl<'a, S: Store> Events<S> for Playing<'a, S::Alloc> {
-    fn count(&self) -> usize {
-        self.trace.len()
-    }
-
-    fn happen(
-        &mut self,
-        number: usize,
-        world: &mut World<S>,
-    ) -> Result<OwnEntry<S::Alloc>, OutOfMemory> {
-        happen_of(self.trace, number, &mut self.draft, world)
-    }
-}
-
-// Lets events happen to a new world. What their log shows follows from its being legal.
-fn run_each<S: Store, E: Events<S>>(
-    alloc: S::Alloc,
-    rom: Rom<S::Alloc>,
-    image: &Image<S::Alloc>,
-    events: E,
-) -> Result<Vec<OwnEntry<S::Alloc>, S::Alloc>, Stopped<S::Alloc>> {
     let Ok(mut world) = World::<S>::new(alloc, rom, image) else {
-        return Err(Stopped {
-            entries: Vec::new(alloc),
-            event: 0,
-        });
+        return Err(unstarted(alloc));
     };
-    let mut events = events;
-    let Ok(mut entries) = Vec::with_capacity(alloc, events.count()) else {
-        return Err(Stopped {
-            entries: Vec::new(alloc),
-            event: 0,
-        });
+    let Ok(mut entries) = Vec::with_capacity(alloc, trace.len()) else {
+        return Err(unstarted(alloc));
     };
-    for number in 0..events.count() {
-        let Ok(entry) = events.happen(number, &mut world) else {
-            return Err(Stopped {
-                entries,
-                event: number,
-            });
-        };
-        entries.push_reserved(entry);
+    let mut draft = Draft::new();
+    let mut number = 0;
+    for run in trace.runs() {
+        for _again in 0..run.1 {
+            match happen(run.0, &mut draft, &mut world) {
+                Ok(entry) => entries.push_reserved(entry),
+                Err(_) => {
+                    return Err(Stopped {
+                        entries,
+                        event: number,
+                    });
+                }
+            }
+            number += 1;
+        }
     }
     Ok(entries)
+}
+
+// A run that stopped before its first event.
+fn unstarted<A: Allocator + Copy>(alloc: A) -> Stopped<A> {
+    Stopped {
+        entries: Vec::new(alloc),
+        event: 0,
+    }
 }

@@ -110,10 +110,16 @@ impl<S: Store> World<S> {
     /// The driver does one action, as by `Event::Tick`.
     #[inline(always)]
     pub fn tick(&mut self) -> OwnEntry<S::Alloc> {
+        Entry::Acted(self.act())
+    }
+
+    // The driver does one action, which is answered. Where it is idle, nothing changes.
+    #[inline(always)]
+    pub(crate) fn act(&mut self) -> Action {
         let byte1 = self.store.read(1);
         let action = self.desk.tick(self.generator.halted(), byte1);
         self.perform(action);
-        Entry::Acted(action)
+        action
     }
 
     // Does a write in the store, and puts a strobe under way.

@@ -21,7 +21,7 @@ returns-then-is_offer-clause-taken g c =
 pub returns-then-is_offer-clause-held : goal.returns-then-is_offer-clause-held
 returns-then-is_offer-clause-held g c =
     let reading = c.args.self.now in
-    record { fits = subst (λ F. FitsTrace (events_read reading) (Some F)) (sym c.clear.ensures) (offer_fits (events_read reading) (opened_of reading) c.requires.held.fits); known = c.requires.held.known }
+    subst (λ F. FitsTrace (events_read reading) (Some F)) (sym c.clear.ensures) (offer_fits (events_read reading) (opened_of reading) c.requires.held)
 
 pub returns-in-Some-clause-taken : goal.returns-in-Some-clause-taken
 returns-in-Some-clause-taken g c =

@@ -1,0 +1,82 @@
+//! Runs of equal events in a trace.
+use crate::event::{Event, TraceEvent};
+use dvg_frame::Op;
+use dvg_mem::Image;
+use std::alloc::{Allocator, Global};
+
+/// An event of a trace: an offer has its number among all offers, and a reset of the whole system
+/// that of its image among all.
+pub(crate) type Step = Event<u16, u16>;
+
+/// An event of a trace, so many times in a row, in six bytes.
+#[derive(Clone, Copy)]
+pub(crate) struct Run {
+    pub(crate) step: Step,
+    pub(crate) times: u16,
+}
+
+/// An iterator over the events of a trace, as runs of equal ones: an event, and how many times in a
+/// row it comes. An offer has at most 511 operations.
+pub struct Runs<'a, A: Allocator = Global> {
+    runs: &'a [Run],
+    offers: &'a [(u32, u16)],
+    ops: &'a [Op],
+    images: &'a [Image<A>],
+}
+
+impl<'a, A: Allocator> Runs<'a, A> {
+    // The events of these runs.
+    pub(crate) fn of(
+        runs: &'a [Run],
+        offers: &'a [(u32, u16)],
+        ops: &'a [Op],
+        images: &'a [Image<A>],
+    ) -> Runs<'a, A> {
+        Runs {
+            runs,
+            offers,
+            ops,
+            images,
+        }
+    }
+}
+
+impl<'a, A: Allocator> Iterator for Runs<'a, A> {
+    type Item = (TraceEvent<'a, A>, usize);
+
+    #[inline(always)]
+    fn next(&mut self) -> Option<(TraceEvent<'a, A>, usize)> {
+        let runs = self.runs;
+        if runs.is_empty() {
+            return None;
+        }
+        let run = runs[0];
+        self.runs = &runs[1..];
+        let event = event_of(self.offers, self.ops, self.images, run.step);
+        Some((event, usize::from(run.times)))
+    }
+}
+
+// The event of a step.
+#[inline(always)]
+fn event_of<'a, A: Allocator>(
+    offers: &'a [(u32, u16)],
+    ops: &'a [Op],
+    images: &'a [Image<A>],
+    step: Step,
+) -> TraceEvent<'a, A> {
+    match step {
+        Step::Offer(offer) => {
+            let (first, count) = offers[usize::from(offer)];
+            let first = first as usize;
+            TraceEvent::Offer(&ops[first..first + usize::from(count)])
+        }
+        Step::Redraw => TraceEvent::Redraw,
+        Step::Tick => TraceEvent::Tick,
+        Step::Strobe => TraceEvent::Strobe,
+        Step::Fetch => TraceEvent::Fetch,
+        Step::ResetGen => TraceEvent::ResetGen,
+        Step::ResetCpu => TraceEvent::ResetCpu,
+        Step::ResetAll(image) => TraceEvent::ResetAll(&images[usize::from(image)]),
+    }
+}

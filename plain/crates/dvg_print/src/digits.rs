@@ -1,0 +1,76 @@
+//! Digits of numbers, in the bytes of a line.
+use crate::line::MOST_BYTES;
+
+/// The digits of each number below 100, two by two.
+static PAIRS: [u8; 200] = *b"0001020304050607080910111213141516171819\
+    2021222324252627282930313233343536373839404142434445464748495051525354555657585960616263646566\
+    676869707172737475767778798081828384858687888990919293949596979899";
+
+// Puts the two digits of a number below 100 before `end`.
+#[inline(always)]
+fn put_pair(bytes: &mut [u8; MOST_BYTES], end: usize, pair: u32) {
+    let from = 2 * pair as usize;
+    let (tens, ones) = (PAIRS[from], PAIRS[from + 1]);
+    bytes[end - 2] = tens;
+    bytes[end - 1] = ones;
+}
+
+// Puts the digits of a number below 100 before `end`, and answers where they begin.
+#[inline(always)]
+fn put_first(bytes: &mut [u8; MOST_BYTES], end: usize, number: u32) -> usize {
+    if number < 10 {
+        bytes[end - 1] = b'0' + number as u8;
+        return end - 1;
+    }
+    put_pair(bytes, end, number);
+    end - 2
+}
+
+// Puts a number before `end`, and answers where it begins.
+#[inline(always)]
+fn put_number(bytes: &mut [u8; MOST_BYTES], end: usize, number: u32) -> usize {
+    let mut left = number;
+    let mut at = end;
+    while left >= 100 {
+        put_pair(bytes, at, left % 100);
+        left /= 100;
+        at -= 2;
+    }
+    put_first(bytes, at, left)
+}
+
+// Puts a byte before `end`, and answers where it is.
+#[inline(always)]
+pub(crate) fn put_byte(bytes: &mut [u8; MOST_BYTES], end: usize, byte: u8) -> usize {
+    bytes[end - 1] = byte;
+    end - 1
+}
+
+// Puts a space and a number before `end`, and answers where the space is.
+#[inline(always)]
+pub(crate) fn put_part(bytes: &mut [u8; MOST_BYTES], end: usize, number: u32) -> usize {
+    let at = put_number(bytes, end, number);
+    put_byte(bytes, at, b' ')
+}
+
+// Puts a position before `end`, and answers where it begins.
+pub(crate) fn put_position(bytes: &mut [u8; MOST_BYTES], end: usize, x: u32, y: u32) -> usize {
+    let at = put_part(bytes, end, y);
+    put_number(bytes, at, x)
+}
+
+// Adds one to the number that the first bytes are, this many, where the next number has as many
+// digits. Else it answers false, and zeros stand there.
+#[inline(always)]
+pub(crate) fn count_up(bytes: &mut [u8; MOST_BYTES], count: usize) -> bool {
+    let mut at = count;
+    while at > 0 && bytes[at - 1] == b'9' {
+        at -= 1;
+        bytes[at] = b'0';
+    }
+    if at > 0 && bytes[at - 1] < b'9' {
+        bytes[at - 1] += 1;
+        return true;
+    }
+    false
+}
