@@ -1,10 +1,7 @@
 -- What one more line makes of a trace that is read.
-use Rattle.std.proofs.Common.{append_assoc, ◌≡◌, ◌≢◌, ⊎_elim, get_or, set, slice_get, ◌<◌, ◌≤◌, ◌-◌, ℕ, zero, suc, List, [], ◌∷◌, ◌++◌, length, replicate, refl, sym, ap, subst, ◌∙◌, arith, length-append, codes, All, Option, Some, None, Result, Ok, Err, OnOk, IfErr, Bool, true, false}
+use Rattle.std.proofs.Common.{◌≡◌, ◌<◌, ◌≤◌, ℕ, zero, suc, List, [], ◌∷◌, ◌++◌, length, replicate, refl, sym, subst, arith, length-append, codes, All, Option, Some, None, Result, Ok, Err, OnOk, IfErr, Bool, true, false}
 use Rattle.std.specs.Option.{is_some}
-use Rattle.std.proofs.lemmas.Bool.Decides.{eqb_tells}
-use Rattle.std.proofs.lemmas.Grind.{get_or-set_at}
-use Rattle.std.proofs.lemmas.List.{get_or-set_other}
-use Rattle.std.proofs.lemmas.Option.{none-some, same_Some}
+use Rattle.std.proofs.lemmas.Option.{none-some}
 use Rattle.std.proofs.lemmas.List.Elements.{All-append, All-replicate}
 use Rattle.dvg_frame.specs.declared.op.OpKind.{OpKind}
 use Rattle.dvg_log.specs.Events.{Happening}
@@ -18,8 +15,7 @@ use Rattle.dvg_read.specs.declared.rom_text.RomReading.{RomReading}
 use Rattle.dvg_read.specs.RomReading.{HoldsRom, TellsMore, TellsRom}
 use Rattle.dvg_read.specs.TraceTexts.{EventParts, FitsTrace, FitsDraft, redraw, tick, strobe, fetch, resetgen, resetcpu, resetall}
 use Rattle.dvg_read.specs.TraceReading.{Takes, does, ends, events, opens, tells}
-use Rattle.dvg_read.specs.declared.trace_text.Reading.{Reading}
-use Rattle.dvg_read.specs.TraceGives.{StopsEvents, StopsLine, StopsOperation, TakesLine, events_read, opened_by, opened_of}
+use Rattle.dvg_read.specs.TraceGives.{StopsEvents, StopsLine, StopsOperation, TakesLine, opened_by}
 use Rattle.dvg_read.proofs.EventRows.{some_events}
 use Rattle.dvg_read.proofs.TraceSteps.{end_is_no_op}
 

@@ -1,5 +1,5 @@
 -- What the reader of traces answers.
-use Rattle.std.specs.Prelude.{ℕ, ◌+◌, ◌<◌, ◌≤◌, List, ◌∷◌, [], ◌++◌, length, get_or, slice_get, replicate, ◌≡◌, Bool}
+use Rattle.std.specs.Prelude.{ℕ, ◌+◌, ◌<◌, ◌≤◌, List, ◌∷◌, [], ◌++◌, length, Bool}
 use Rattle.std.specs.Prelude.{true, false, Option, Some, None}
 use Rattle.dvg_frame.specs.declared.op.OpKind.{OpKind}
 use Rattle.dvg_log.specs.Events.{Happening}

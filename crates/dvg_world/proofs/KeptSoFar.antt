@@ -1,11 +1,11 @@
 -- What is kept of the events of a trace, one run after the other.
-use Rattle.std.proofs.Common.{◌≡◌, ℕ, zero, suc, ◌+◌, ◌-◌, ◌<◌, ◌≤◌, List, [], ◌∷◌, ◌++◌, replicate, reverse, length, refl, sym, ap, ◌∙◌, subst, inl, inr, Bool, true, false, append_assoc, arith, add-one}
-use Rattle.std.proofs.lemmas.List.{append-nil, replicate-append-replicate, reverse-append}
+use Rattle.std.proofs.Common.{◌≡◌, ℕ, zero, suc, ◌+◌, ◌-◌, ◌<◌, List, [], ◌∷◌, ◌++◌, replicate, reverse, length, refl, sym, ap, ◌∙◌, inl, inr, Bool, true, false, append_assoc, arith}
+use Rattle.std.proofs.lemmas.List.{replicate-append-replicate, reverse-append}
 use Rattle.dvg_log.specs.Events.{Happening}
 use Rattle.dvg_log.specs.Legal.{IsLegal}
 use Rattle.dvg_log.specs.Log.{Log, events_of}
 use Rattle.dvg_theorem.proofs.Headline.{headline}
-use Rattle.dvg_world.specs.Keeping.{Happened, TakesMemoryNext}
+use Rattle.dvg_world.specs.Keeping.{Happened}
 use Rattle.dvg_world.specs.Standing.{State, WorldAfter}
 use Rattle.dvg_world.specs.own.Running.{AddsRun, StopsRun}
 

@@ -1,9 +1,9 @@
-use Rattle.std.proofs.Common.{◌≡◌, ◌+◌, ◌≤◌, Ok, sym, ap, ◌∙◌, subst, arith}
+use Rattle.std.proofs.Common.{◌≡◌, Ok, sym, ap, ◌∙◌, subst, arith}
 use Rattle.dvg_log.specs.Entries.{shown_of}
 use Rattle.dvg_log.specs.declared.entry.Entry.TheVariants.{Still}
 use Rattle.dvg_log.specs.declared.event.Event.TheVariants.{Fetch}
 use Rattle.dvg_world.specs.Standing.{AddsLine}
-use Rattle.dvg_world.specs.own.Logging.{LogsRun, room_left}
+use Rattle.dvg_world.specs.own.Logging.{LogsRun}
 use Rattle.dvg_world.proofs.Running.{adds_none, logs_more, stops_logging}
 use Rattle.dvg_world.proofs.logging.log_fetches.Goals as goal
 

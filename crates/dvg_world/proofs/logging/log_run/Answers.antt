@@ -1,4 +1,4 @@
-use Rattle.std.proofs.Common.{◌≡◌, ◌+◌, ◌≤◌, sym, subst, arith}
+use Rattle.std.proofs.Common.{sym, subst, arith}
 use Rattle.dvg_log.specs.Traces.{seen_as}
 use Rattle.dvg_world.specs.own.Logging.{StopsLogging}
 use Rattle.dvg_world.proofs.Running.{logs_more, stops_logging}

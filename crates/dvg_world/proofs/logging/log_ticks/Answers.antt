@@ -1,9 +1,8 @@
-use Rattle.std.proofs.Common.{◌≡◌, ◌+◌, ◌≤◌, sym, subst, arith}
+use Rattle.std.proofs.Common.{◌≡◌, sym, subst, arith}
 use Rattle.dvg_driver.specs.declared.action.Action.TheVariants.{Idle}
 use Rattle.dvg_log.specs.declared.entry.Entry.TheVariants.{Acted}
 use Rattle.dvg_log.specs.declared.event.Event.TheVariants.{Tick}
 use Rattle.dvg_world.specs.Standing.{AddsLine}
-use Rattle.dvg_world.specs.own.Logging.{room_left}
 use Rattle.dvg_world.proofs.Running.{adds_none, logs_more}
 use Rattle.dvg_world.proofs.logging.log_ticks.Goals as goal
 

@@ -1,7 +1,6 @@
-use Rattle.std.proofs.Common.{rules, ◌≡◌, ◌+◌, ◌≤◌, [], length, replicate, ap, ◌∙◌, arith, length-append}
+use Rattle.std.proofs.Common.{rules, ◌+◌, length, replicate, ap, ◌∙◌, arith, length-append}
 use Rattle.std.proofs.lemmas.List.{length-replicate}
 use Rattle.dvg_log.specs.Traces.{seen_as}
-use Rattle.dvg_world.specs.own.Logging.{AreKept, room_left}
 use Rattle.dvg_world.proofs.KeptSoFar.{happened_all, happened_part, happened_so, keeps_none, keeps_run}
 use Rattle.dvg_world.proofs.logging.log_trace.Goals as goal
 

@@ -1,4 +1,4 @@
-use Rattle.std.proofs.Common.{◌≡◌, ◌+◌, ◌≤◌, ◌∙◌, arith}
+use Rattle.std.proofs.Common.{◌∙◌, arith}
 use Rattle.dvg_log.specs.Entries.{shown_of}
 use Rattle.dvg_world.proofs.Running.{draws_more, stops_drawing}
 use Rattle.dvg_world.proofs.pictures.draw_run.Goals as goal

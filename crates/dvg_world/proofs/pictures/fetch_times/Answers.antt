@@ -1,10 +1,10 @@
-use Rattle.std.proofs.Common.{◌≡◌, ◌+◌, ◌≤◌, Ok, refl, sym, ap, ◌∙◌, subst, arith, rules}
+use Rattle.std.proofs.Common.{◌≡◌, ◌≤◌, Ok, refl, sym, ap, ◌∙◌, subst, arith}
 use Rattle.dvg_log.specs.Entries.{shown_of}
 use Rattle.dvg_log.specs.declared.entry.Entry.TheVariants.{Still}
 use Rattle.dvg_log.specs.declared.event.Event.TheVariants.{Fetch}
 use Rattle.dvg_world.specs.Standing.{AddsLine}
 use Rattle.dvg_world.specs.own.Running.{AddsRun, AreDrawn}
-use Rattle.dvg_world.proofs.Running.{adds_more, adds_none, draws_more, repeats_to, stops_drawing}
+use Rattle.dvg_world.proofs.Running.{adds_none, draws_more, repeats_to, stops_drawing}
 use Rattle.dvg_world.proofs.pictures.fetch_times.Goals as goal
 
 pub loop-done-init : goal.loop-done-init

@@ -1,4 +1,4 @@
-use Rattle.std.proofs.Common.{◌<◌, Some, length, map, ap, sym, ◌∙◌}
+use Rattle.std.proofs.Common.{Some, map, ap, sym, ◌∙◌}
 use Rattle.std.proofs.lemmas.List.{length-map}
 use Rattle.dvg_log.specs.Events.{happening_of}
 use Rattle.dvg_theorem.proofs.Headline.{headline}

@@ -1,6 +1,5 @@
 use Rattle.std.proofs.Common.{◌≡◌, List, [], Some, codes, ap, sym, subst, rules}
 use Rattle.dvg_log.specs.Events.{Happening}
-use Rattle.dvg_read.specs.declared.trace_text.Reading.{Reading}
 use Rattle.dvg_read.specs.EventLines.{happenings}
 use Rattle.dvg_read.specs.Texts.{parts}
 use Rattle.dvg_read.specs.TraceTexts.{EventParts, FitsTrace}
