@@ -10,6 +10,7 @@
 
 mod desk;
 mod entries;
+mod fetched;
 mod happens;
 mod judge;
 mod logging;

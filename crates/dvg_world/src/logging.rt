@@ -1,16 +1,18 @@
 //! The entries of a trace.
 ghost use Rattle.std.specs.Prelude.{◌≡◌, ◌+◌, ◌≤◌, [], false, length, map, OnErr, OnOk};
-ghost use Rattle.dvg_log.specs.Entries.{Shown, shown_of};
+ghost use Rattle.dvg_log.specs.Entries.{Shown, map_entry, shown_of};
 ghost use Rattle.dvg_log.specs.Traces.{FitsInDraft, seen_as};
 ghost use Rattle.dvg_log.specs.declared.event.Event.TheVariants.{Fetch, Tick};
 ghost use Rattle.dvg_world.specs.Keeping.{entry_among};
 ghost use Rattle.dvg_world.specs.Kept.{Logs};
 ghost use Rattle.dvg_world.specs.own.Entries.{AreEntries};
 ghost use Rattle.dvg_world.specs.Standing.{AddsLine};
+ghost use Rattle.dvg_world.specs.own.Fetched.{IsDrawnBy, entry_of};
 ghost use Rattle.dvg_world.specs.own.Logging.{KeepsEntry, LogsRun, StopsLogging, room_left};
 ghost use Rattle.dvg_world.specs.own.Stepping.{WantsMemory};
 
 use crate::entries::Entries;
+use crate::fetched::FetchedByte;
 use crate::happens::fill;
 use crate::world::World;
 use dvg_code::OutOfMemory;
@@ -61,7 +63,40 @@ impl<A: Allocator> EntriesKept<A> {
         ensures kept { KeepsEntry self.old (shown_of entry) self.new }
         ensures left { room_left self.old ≤ room_left self.new + 1 }
     {
-        let (entry, drew) = entry.replace(self.drawn.len() as u16);
+        let (entry, drew) = entry.replace(self.number());
+        self.keep_parts(entry, drew);
+    }
+
+    // Keeps the entry of one fetch more.
+    #[inline(always)]
+    fn keep_fetched(&mut self, fetched: FetchedByte<A>)
+        requires { 1 ≤ room_left self.old }
+        ensures kept { KeepsEntry self.old (entry_of fetched) self.new }
+        ensures left { room_left self.old ≤ room_left self.new + 1 }
+    {
+        let (entry, drew) = fetched.replace(self.number());
+        self.keep_parts(entry, drew);
+    }
+
+    // The number of the next picture.
+    #[inline(always)]
+    fn number(&self) -> u16
+        requires { 1 ≤ room_left self.now }
+        ensures { result ≡ length self.now.drawn.items }
+    {
+        self.drawn.len() as u16
+    }
+
+    // Keeps one entry more, with the number of the next picture in place of what its run drew, and
+    // what that is, if it finished.
+    #[inline(always)]
+    fn keep_parts(&mut self, entry: Entry<u16>, drew: Option<Vec<Stroke, A>>)
+        requires { 1 ≤ room_left self.old }
+        ensures kept { (shown : Shown) → IsDrawnBy shown drew
+            → entry ≡ map_entry (λ _. length self.old.drawn.items) shown
+            → KeepsEntry self.old shown self.new }
+        ensures left { room_left self.old ≤ room_left self.new + 1 }
+    {
         if let Some(strokes) = drew {
             self.drawn.push_reserved(strokes);
         }
@@ -155,14 +190,14 @@ fn log_fetches<S: Store>(
         world.new entries.new) }
 {
     for done in 0..times {
-        match world.fetch() {
-            Ok(Entry::Still) => {
+        match world.feed() {
+            Ok(None) => {
                 for _again in done..times {
                     entries.keep(Entry::Still);
                 }
                 return Ok(());
             }
-            Ok(entry) => entries.keep(entry),
+            Ok(Some(fetched)) => entries.keep_fetched(fetched),
             Err(refused) => return Err(refused),
         }
     }

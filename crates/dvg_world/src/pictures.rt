@@ -1,13 +1,14 @@
 //! The pictures of a trace.
 ghost use Rattle.std.specs.Prelude.{◌≡◌, ◌+◌, ◌^◌, ◌<◌, ◌≤◌, [], ℕ, List, false, vec_capacity, vec_len};
 ghost use Rattle.std.specs.Prelude.{OnErr, OnOk};
-ghost use Rattle.dvg_log.specs.Entries.{shown_of};
+ghost use Rattle.dvg_log.specs.Entries.{Shown};
 ghost use Rattle.dvg_log.specs.Log.{Log};
 ghost use Rattle.dvg_log.specs.Traces.{FitsInDraft, seen_as};
 ghost use Rattle.dvg_log.specs.declared.event.Event.TheVariants.{Fetch, Tick};
 ghost use Rattle.dvg_world.specs.Keeping.{pictures_of};
 ghost use Rattle.dvg_world.specs.Kept.{Draws};
 ghost use Rattle.dvg_world.specs.Standing.{WorldAfter};
+ghost use Rattle.dvg_world.specs.own.Fetched.{IsDrawnBy};
 ghost use Rattle.dvg_world.specs.own.Running.{AddsRun, DrawsRun, KeepsPicture, StopsDrawing};
 
 use crate::happens::happen;
@@ -16,7 +17,7 @@ use dvg_code::OutOfMemory;
 use dvg_driver::Action;
 use dvg_frame::Draft;
 use dvg_gen::Stroke;
-use dvg_log::{Entry, OwnEntry, Trace, TraceEvent};
+use dvg_log::{Trace, TraceEvent};
 use dvg_mem::{Image, Rom, Store};
 use std::alloc::{Allocator, Global};
 
@@ -65,15 +66,20 @@ fn tick_times<S: Store>(world: &mut World<S>, times: usize)
     }
 }
 
-// Keeps the picture of the event of this number, if its entry is that of a finished run.
+// Keeps the picture of the event of this number, if a run finished by it, which drew this.
 #[inline(always)]
-fn keep_picture<A: Allocator>(pictures: &mut Vec<Picture<A>, A>, event: usize, entry: OwnEntry<A>)
+fn keep_picture<A: Allocator>(
+    pictures: &mut Vec<Picture<A>, A>,
+    event: usize,
+    drew: Option<Vec<Stroke, A>>,
+)
     requires { vec_len pictures.old < vec_capacity pictures.old }
-    ensures kept { KeepsPicture pictures.old.items event (shown_of entry) pictures.new.items }
+    ensures kept { (entry : Shown) → IsDrawnBy entry drew
+        → KeepsPicture pictures.old.items event entry pictures.new.items }
     ensures len { vec_len pictures.new ≤ vec_len pictures.old + 1 }
     ensures capacity { vec_capacity pictures.new ≡ vec_capacity pictures.old }
 {
-    if let Entry::Done(_, _, strokes) = entry {
+    if let Some(strokes) = drew {
         pictures.push_reserved(Picture { event, strokes });
     }
 }
@@ -96,9 +102,9 @@ fn fetch_times<S: Store>(
     ensures capacity { vec_capacity pictures.new ≡ vec_capacity pictures.old }
 {
     for done in 0..times {
-        match world.fetch() {
-            Ok(Entry::Still) => return Ok(()),
-            Ok(entry) => keep_picture(pictures, number + done, entry),
+        match world.feed() {
+            Ok(None) => return Ok(()),
+            Ok(Some(fetched)) => keep_picture(pictures, number + done, fetched.drew()),
             Err(refused) => return Err(refused),
         }
     }
@@ -135,7 +141,7 @@ fn draw_run<S: Store>(
     }
     for done in 0..times {
         match happen(event, draft, world) {
-            Ok(entry) => keep_picture(pictures, number + done, entry),
+            Ok(entry) => keep_picture(pictures, number + done, entry.replace(()).1),
             Err(refused) => return Err(refused),
         }
     }

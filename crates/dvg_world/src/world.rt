@@ -1,5 +1,5 @@
 //! The world: both ends of the vector RAM, one event at a time.
-ghost use Rattle.std.specs.Prelude.{◌≡◌, ◌≢◌, ◌↔◌, ℕ, List, [], length, IfOk, IsErrOf, IsOk, Ok, OnErr};
+ghost use Rattle.std.specs.Prelude.{◌≡◌, ◌≢◌, ◌↔◌, ℕ, List, [], length, IfOk, IsErrOf, IsOk, None, Ok, OnErr};
 ghost use Rattle.std.specs.Prelude.{OnOk};
 ghost use Rattle.dvg_driver.specs.Stands.{IsInRam};
 ghost use Rattle.dvg_log.specs.Entries.{shown_of};
@@ -11,10 +11,12 @@ ghost use Rattle.dvg_log.specs.declared.entry.Entry.TheVariants.{Acted, Still};
 ghost use Rattle.dvg_log.specs.Legal.{IsLegal};
 ghost use Rattle.dvg_log.specs.Log.{Log};
 ghost use Rattle.dvg_world.specs.Standing.{AddsLine, DrawsNow, KeepsHeadlineAfter, WorldAfter};
+ghost use Rattle.dvg_world.specs.own.Fetched.{entry_of_fetch};
 ghost use Rattle.dvg_world.specs.own.Stepping.{ram_by, sent_by};
 ghost use Rattle.dvg_world.specs.Wanting.{TakesMemory};
 
 use crate::desk::Desk;
+use crate::fetched::FetchedByte;
 use dvg_code::OutOfMemory;
 use dvg_driver::Action;
 use dvg_frame::Draft;
@@ -224,13 +226,34 @@ impl<S: Store> World<S> {
         ensures refused { OnErr result (self.new ≡ self.old) }
         ensures room { OnErr result (DrawsNow self.old) }
     {
+        match self.feed() {
+            Ok(None) => Ok(Entry::Still),
+            Ok(Some(fetched)) => Ok(fetched.entry()),
+            Err(refused) => Err(refused),
+        }
+    }
+
+    // The generator fetches one byte, if a run is open. No entry is made of it.
+    #[inline(always)]
+    pub(crate) fn feed(&mut self) -> Result<Option<FetchedByte<S::Alloc>>, OutOfMemory>
+        ensures stands { IfOk result (λ fetched. AddsLine self.old Fetch (entry_of_fetch fetched)
+            self.new) }
+        ensures still { result ≡ Ok None → self.new ≡ self.old }
+        ensures refused { OnErr result (self.new ≡ self.old) }
+        ensures room { OnErr result (DrawsNow self.old) }
+    {
         let Some(address) = self.generator.wants() else {
-            return Ok(Entry::Still);
+            return Ok(None);
         };
         let low = self.generator.low_byte();
         let byte = fetch_byte(&self.store, self.desk.rom(), address, low.is_some());
         let taken = self.generator.take_byte(byte)?;
-        Ok(Entry::of_fetch(address, low, byte, taken))
+        Ok(Some(FetchedByte {
+            address,
+            low,
+            byte,
+            taken,
+        }))
     }
 
     /// The generator is reset, as by `Event::ResetGen`.

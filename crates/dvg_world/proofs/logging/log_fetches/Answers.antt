@@ -1,8 +1,8 @@
 use Rattle.std.proofs.Common.{◌≡◌, Ok, sym, ap, ◌∙◌, subst, arith}
-use Rattle.dvg_log.specs.Entries.{shown_of}
 use Rattle.dvg_log.specs.declared.entry.Entry.TheVariants.{Still}
 use Rattle.dvg_log.specs.declared.event.Event.TheVariants.{Fetch}
 use Rattle.dvg_world.specs.Standing.{AddsLine}
+use Rattle.dvg_world.specs.own.Fetched.{entry_of, entry_of_fetch}
 use Rattle.dvg_world.specs.own.Logging.{LogsRun}
 use Rattle.dvg_world.proofs.Running.{adds_none, logs_more, stops_logging}
 use Rattle.dvg_world.proofs.logging.log_fetches.Goals as goal
@@ -12,8 +12,7 @@ loop-done-init g c = record { kept = λ R image log after kept. adds_none Fetch 
 
 pub loop-again-init : goal.loop-again-init
 loop-again-init g c =
-    let still : c.fetch.result ≡ Ok Still = c.in-Ok-Still.is ∙ ap Ok c.in-Ok-Still.field-0-is in
-    let same : c.fetch.new.self ≡ c.loop-done.world = c.fetch.ensures.still still in
+    let same : c.feed.new.self ≡ c.loop-done.world = c.feed.ensures.still (c.in-Ok-None.is ∙ ap Ok c.in-Ok-None.field-0-is) in
     record {
       kept = subst (λ world. LogsRun c.args.world.now c.args.entries.now Fetch c.loop-done.done world c.loop-done.entries) (sym same) c.loop-done.invariant.kept;
       left = c.loop-done.invariant.left;
@@ -21,10 +20,9 @@ loop-again-init g c =
 
 pub loop-again-preserved : goal.loop-again-preserved
 loop-again-preserved g c =
-    let world = c.fetch.new.self in
-    let still : c.fetch.result ≡ Ok Still = c.in-Ok-Still.is ∙ ap Ok c.in-Ok-Still.field-0-is in
-    let same : world ≡ c.loop-done.world = c.fetch.ensures.still still in
-    let here = subst (λ entry. AddsLine c.loop-done.world Fetch (shown_of entry) world) c.in-Ok-Still.field-0-is c.in-Ok-Still.ensures.stands in
+    let world = c.feed.new.self in
+    let same : world ≡ c.loop-done.world = c.feed.ensures.still (c.in-Ok-None.is ∙ ap Ok c.in-Ok-None.field-0-is) in
+    let here = subst (λ fetched. AddsLine c.loop-done.world Fetch (entry_of_fetch fetched) world) c.in-Ok-None.field-0-is c.in-Ok-None.ensures.stands in
     let line = subst (λ old. AddsLine old Fetch Still world) (sym same) here in
     let left = c.loop-again.invariant.left in
     let more = c.keep.ensures.left in
@@ -36,9 +34,10 @@ loop-again-preserved g c =
 pub loop-done-preserved : goal.loop-done-preserved
 loop-done-preserved g c =
     let left = c.loop-done.invariant.left in
-    let more = c.keep-in-Ok.ensures.left in
+    let more = c.keep_fetched.ensures.left in
+    let line = subst (λ fetched. AddsLine c.loop-done.world Fetch (entry_of_fetch fetched) c.feed.new.self) c.in-Ok-Some.field-0-is c.in-Ok-Some.ensures.stands in
     record {
-      kept = logs_more c.args.entries.now c.loop-done.entries c.keep-in-Ok.new.self (shown_of c.in-Ok.entry) c.loop-done.invariant.kept c.in-Ok.ensures.stands c.keep-in-Ok.ensures.kept;
+      kept = logs_more c.args.entries.now c.loop-done.entries c.keep_fetched.new.self (entry_of c.in-Ok-Some.fetched) c.loop-done.invariant.kept line c.keep_fetched.ensures.kept;
       left = omega (arith, left, more);
     }
 

@@ -1,8 +1,8 @@
 use Rattle.std.proofs.Common.{◌≡◌, ◌≤◌, Ok, refl, sym, ap, ◌∙◌, subst, arith}
-use Rattle.dvg_log.specs.Entries.{shown_of}
 use Rattle.dvg_log.specs.declared.entry.Entry.TheVariants.{Still}
 use Rattle.dvg_log.specs.declared.event.Event.TheVariants.{Fetch}
 use Rattle.dvg_world.specs.Standing.{AddsLine}
+use Rattle.dvg_world.specs.own.Fetched.{entry_of, entry_of_fetch}
 use Rattle.dvg_world.specs.own.Running.{AddsRun, AreDrawn}
 use Rattle.dvg_world.proofs.Running.{adds_none, draws_more, repeats_to, stops_drawing}
 use Rattle.dvg_world.proofs.pictures.fetch_times.Goals as goal
@@ -14,26 +14,27 @@ loop-done-init g c = record {
   capacity = refl;
 }
 
-pub returns-in-Ok-Still-clause-draws : goal.returns-in-Ok-Still-clause-draws
-returns-in-Ok-Still-clause-draws g c = λ R image log after drawn count.
+pub returns-in-Ok-None-clause-draws : goal.returns-in-Ok-None-clause-draws
+returns-in-Ok-None-clause-draws g c = λ R image log after drawn count.
     let world = c.loop-done.world in
-    let still : c.fetch.result ≡ Ok Still = c.in-Ok-Still.is ∙ ap Ok c.in-Ok-Still.field-0-is in
-    let same : c.fetch.new.self ≡ world = c.fetch.ensures.still still in
-    let here = subst (λ entry. AddsLine world Fetch (shown_of entry) c.fetch.new.self) c.in-Ok-Still.field-0-is c.in-Ok-Still.ensures.stands in
+    let same : c.feed.new.self ≡ world = c.feed.ensures.still (c.in-Ok-None.is ∙ ap Ok c.in-Ok-None.field-0-is) in
+    let here = subst (λ fetched. AddsLine world Fetch (entry_of_fetch fetched) c.feed.new.self) c.in-Ok-None.field-0-is c.in-Ok-None.ensures.stands in
     let line = subst (AddsLine world Fetch Still) same here in
     let le : c.loop-done.done ≤ c.args.times = omega arith in
     subst (AddsRun R image log Fetch c.args.times (AreDrawn c.loop-done.pictures.items)) (sym same)
     (repeats_to Still c.args.times le (c.loop-done.invariant.drawn R image log after drawn count) line (λ log' kept. kept))
 
-pub returns-in-Ok-Still-clause-len : goal.returns-in-Ok-Still-clause-len
-returns-in-Ok-Still-clause-len g c = let len = c.loop-done.invariant.len in omega (arith, len)
+pub returns-in-Ok-None-clause-len : goal.returns-in-Ok-None-clause-len
+returns-in-Ok-None-clause-len g c = let len = c.loop-done.invariant.len in omega (arith, len)
 
 pub loop-done-preserved : goal.loop-done-preserved
 loop-done-preserved g c =
     let len = c.loop-done.invariant.len in
     let more = c.keep_picture.ensures.len in
+    let entry = entry_of c.in-Ok-Some.fetched in
+    let line = subst (λ fetched. AddsLine c.loop-done.world Fetch (entry_of_fetch fetched) c.feed.new.self) c.in-Ok-Some.field-0-is c.in-Ok-Some.ensures.stands in
     record {
-      drawn = draws_more c.args.pictures.now.items c.loop-done.pictures.items c.keep_picture.new.pictures.items (shown_of c.in-Ok.entry) c.loop-done.invariant.drawn c.in-Ok.ensures.stands c.keep_picture.ensures.kept;
+      drawn = draws_more c.args.pictures.now.items c.loop-done.pictures.items c.keep_picture.new.pictures.items entry c.loop-done.invariant.drawn line (c.keep_picture.ensures.kept entry c.drew.ensures);
       len = omega (arith, len, more);
       capacity = c.keep_picture.ensures.capacity ∙ c.loop-done.invariant.capacity;
     }

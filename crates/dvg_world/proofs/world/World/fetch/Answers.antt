@@ -1,37 +1,35 @@
-use Rattle.std.proofs.Common.{◌≡◌, refl, sym, ap, ◌∙◌, subst}
-use Rattle.std.specs.Prelude.{is_some}
-use Rattle.dvg_log.specs.declared.event.Event.TheVariants.{Fetch}
+use Rattle.std.proofs.Common.{◌≡◌, ap, sym, ◌∙◌, subst}
+use Rattle.std.specs.Prelude.{Ok, Some, None}
 use Rattle.dvg_gen.specs.Bytes.{met}
 use Rattle.dvg_log.specs.Entries.{shown_of}
+use Rattle.dvg_log.specs.declared.event.Event.TheVariants.{Fetch}
 use Rattle.dvg_log.specs.declared.entry.Entry.TheVariants.{Still}
-use Rattle.dvg_world.specs.Standing.{DrawsNow}
-use Rattle.dvg_world.proofs.Standing.{adds_between, keeps_headline, fetch_still, fetch_takes, draws_now, open_of, on_err}
+use Rattle.dvg_world.specs.Standing.{AddsLine}
+use Rattle.dvg_world.specs.own.Fetched.{entry_of, entry_of_fetch}
+use Rattle.dvg_world.proofs.Standing.{keeps_headline}
 use Rattle.dvg_world.proofs.Fetching.{never_still}
 use Rattle.dvg_world.proofs.world.World.fetch.Goals as goal
 
-pub returns-in_default-clause-stands : goal.returns-in_default-clause-stands
-returns-in_default-clause-stands g c = adds_between Fetch Still c.self.view_is (sym c.self.view_is) (fetch_still (c.wants.ensures.halted.0 (ap is_some c.in_default.is)))
+pub returns-in-Ok-None-clause-stands : goal.returns-in-Ok-None-clause-stands
+returns-in-Ok-None-clause-stands g c =
+    subst (λ fetched. AddsLine c.args.self.now Fetch (entry_of_fetch fetched) c.feed.new.self) c.in-Ok-None.field-0-is c.in-Ok-None.ensures.stands
 
-pub returns-in_err-taken-clause-room : goal.returns-in_err-taken-clause-room
-returns-in_err-taken-clause-room g c =
-    let is_open = open_of c.wants.result c.in-Some.address _ c.in-Some.is c.wants.ensures.halted in
-    on_err c.from_residual.result (subst DrawsNow c.self.view_is
-    (draws_now c.in-Some.address c.low_byte-low.result c.fetch_byte-byte.result c.is_some.result is_open (λ told low after. sym c.in-Some.is ∙ c.wants.ensures.address told low after) c.low_byte-low.ensures c.is_some.ensures c.rom.ensures c.fetch_byte-byte.ensures.byte
-    (λ nothing. let given = c.in_err-taken.ensures.room nothing in absurd (cc))))
+pub returns-in-Ok-None-clause-headline : goal.returns-in-Ok-None-clause-headline
+returns-in-Ok-None-clause-headline g c = keeps_headline Fetch Still (returns-in-Ok-None-clause-stands g c)
 
-pub returns-clause-stands : goal.returns-clause-stands
-returns-clause-stands g c =
-    adds_between Fetch (shown_of c.of_fetch.result) c.self.view_is refl
-    (fetch_takes c.in-Some.address c.low_byte-low.result c.fetch_byte-byte.result c.is_some.result c.in_ok-taken.taken (shown_of c.of_fetch.result) (λ told low after. sym c.in-Some.is ∙ c.wants.ensures.address told low after) c.low_byte-low.ensures c.is_some.ensures c.rom.ensures c.fetch_byte-byte.ensures.byte
-    c.in_ok-taken.ensures.answers c.of_fetch.ensures)
+pub returns-in-Ok-None-clause-still : goal.returns-in-Ok-None-clause-still
+returns-in-Ok-None-clause-still g c is = c.feed.ensures.still (c.in-Ok-None.is ∙ ap Ok c.in-Ok-None.field-0-is)
 
-pub returns-in_default-clause-headline : goal.returns-in_default-clause-headline
-returns-in_default-clause-headline g c = keeps_headline Fetch Still (returns-in_default-clause-stands g c)
+pub returns-in-Ok-Some-clause-stands : goal.returns-in-Ok-Some-clause-stands
+returns-in-Ok-Some-clause-stands g c =
+    let here = subst (λ fetched. AddsLine c.args.self.now Fetch (entry_of_fetch fetched) c.feed.new.self) c.in-Ok-Some.field-0-is c.in-Ok-Some.ensures.stands in
+    subst (λ entry. AddsLine c.args.self.now Fetch entry c.feed.new.self) (sym c.entry.ensures) here
 
-pub returns-clause-headline : goal.returns-clause-headline
-returns-clause-headline g c = keeps_headline Fetch (shown_of c.of_fetch.result) (returns-clause-stands g c)
+pub returns-in-Ok-Some-clause-headline : goal.returns-in-Ok-Some-clause-headline
+returns-in-Ok-Some-clause-headline g c = keeps_headline Fetch (shown_of c.entry.result) (returns-in-Ok-Some-clause-stands g c)
 
-pub returns-clause-still : goal.returns-clause-still
-returns-clause-still g c is =
-    let same : c.of_fetch.result ≡ Still = cc in
-    absurd (never_still c.in-Some.address (met c.low_byte-low.result c.fetch_byte-byte.result) c.in_ok-taken.taken (sym c.of_fetch.ensures ∙ ap shown_of same))
+pub returns-in-Ok-Some-clause-still : goal.returns-in-Ok-Some-clause-still
+returns-in-Ok-Some-clause-still g c is =
+    let fetched = c.in-Ok-Some.fetched in
+    let same : c.entry.result ≡ Still = cc in
+    absurd (never_still fetched.address (met fetched.low fetched.byte) fetched.taken (sym c.entry.ensures ∙ ap shown_of same))
