@@ -6,7 +6,7 @@ use Rattle.std.proofs.lemmas.Bool.{cases_lt}
 use Rattle.std.proofs.lemmas.Fmt.{decimal_digit, decimal_step, length-decimal-le}
 use Rattle.std.proofs.lemmas.List.{get_or_append_left, length-replicate, length-take-le, same_from_push, set_at}
 use Rattle.std.proofs.lemmas.List.{take-append-drop, take_all, take_at, take_more, drop_at}
-use Rattle.dvg_print.specs.Numbering.{ComesBefore, CountsUp}
+use Rattle.dvg_print.specs.Numbering.{CountsUp}
 
 -- the number after one that ends with a lower digit than 9
 next_digit : (n d : ℕ) (front : List ℕ) → n + 1 < 2 ^ 64 → decimal n ≡ front ++ d ∷ [] → d < 57
@@ -154,31 +154,6 @@ module _ (old bytes : List ℕ) (count at : ℕ) (so_far : Carrying old bytes co
   counts_up low n small is =
       ap (take count) parts ∙ take_at more (drop count old) count size
       ∙ sym (carried so_far.nines n digit before small (sym is ∙ ones) low)
-
-  pub rest_after : drop count (set bytes (at - 1) (digit + 1)) ≡ drop count old
-  rest_after = ap (drop count) parts ∙ drop_at more (drop count old) count size
-
--- what is after those bytes stays
-pub rest_stays : (old bytes : List ℕ) (count at : ℕ) → Carrying old bytes count at → drop count bytes ≡ drop count old
-rest_stays old bytes count at so_far =
-    let first = so_far.front ++ replicate so_far.nines 48 in
-    let here = so_far.here in
-    let all = so_far.all in
-    let add = length-append so_far.front (replicate so_far.nines 48) in
-    let rep = length-replicate {A = ℕ} so_far.nines 48 in
-    ap (drop count) (so_far.now ∙ sym (append_assoc so_far.front (replicate so_far.nines 48) (drop count old)))
-    ∙ drop_at first (drop count old) count (omega (arith, here, all, add, rep))
-
--- the digits of the number before, counted up
-pub counted_on : (digits more : List ℕ) (number : ℕ) → number < 2 ^ 64 → 0 < length digits → ComesBefore digits number
-    → CountsUp digits more → more ≡ decimal number
-counted_on digits more number small some before counts = ⊎_elim none one before
-  where
-    none : digits ≡ [] → more ≡ decimal number
-    none empty = absurd (let gone = ap length empty in omega (arith, some, gone))
-
-    one : (n : ℕ) × (number ≡ n + 1) × (digits ≡ decimal n) → more ≡ decimal number
-    one known = counts known.0 (let is = known.1 in omega (arith, is, small)) known.2 ∙ ap decimal (sym known.1)
 
 -- the digits of a number of 64 bits
 pub few_digits : (number : ℕ) (text : List ℕ) → number < 2 ^ 64 → text ≡ decimal number → length text ≤ 20

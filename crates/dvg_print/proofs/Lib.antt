@@ -1,6 +1,5 @@
 mod Spaced
 mod Joined
 mod Counting
-mod Numbers
 mod PutDigits
 mod StrokeTexts

@@ -5,7 +5,11 @@ ghost use Rattle.dvg_print.specs.Lines.{spaced};
 ghost use Rattle.dvg_print.specs.Numbering.{CountsUp};
 ghost use Rattle.dvg_print.specs.Shows.{position_text};
 
-use crate::line::MOST_BYTES;
+/// The bytes in which a line is made from its end to its front.
+pub(crate) const LINE_BYTES: usize = 64;
+
+/// The bytes in which a number is counted up. No number of 64 bits has more digits.
+pub(crate) const NUMBER_BYTES: usize = 24;
 
 /// The digits of each number below 100, two by two.
 static PAIRS: [u8; 200] = *b"0001020304050607080910111213141516171819\
@@ -14,7 +18,7 @@ static PAIRS: [u8; 200] = *b"0001020304050607080910111213141516171819\
 
 // Puts the two digits of a number below 100 before `end`.
 #[inline(always)]
-fn put_pair(bytes: &mut [u8; MOST_BYTES], end: usize, pair: u32)
+fn put_pair(bytes: &mut [u8; LINE_BYTES], end: usize, pair: u32)
     requires pair { pair < 100 }
     requires room { 2 ≤ end }
     requires inside { end ≤ 64 }
@@ -29,7 +33,7 @@ fn put_pair(bytes: &mut [u8; MOST_BYTES], end: usize, pair: u32)
 
 // Puts the digits of a number below 100 before `end`, and answers where they begin.
 #[inline(always)]
-fn put_first(bytes: &mut [u8; MOST_BYTES], end: usize, number: u32) -> usize
+fn put_first(bytes: &mut [u8; LINE_BYTES], end: usize, number: u32) -> usize
     requires number { number < 100 }
     requires room { length (decimal number) ≤ end }
     requires inside { end ≤ 64 }
@@ -46,7 +50,7 @@ fn put_first(bytes: &mut [u8; MOST_BYTES], end: usize, number: u32) -> usize
 
 // Puts a number before `end`, and answers where it begins.
 #[inline(always)]
-fn put_number(bytes: &mut [u8; MOST_BYTES], end: usize, number: u32) -> usize
+fn put_number(bytes: &mut [u8; LINE_BYTES], end: usize, number: u32) -> usize
     requires room { 10 ≤ end }
     requires inside { end ≤ 64 }
     ensures start { result + length (decimal number) ≡ end }
@@ -65,7 +69,7 @@ fn put_number(bytes: &mut [u8; MOST_BYTES], end: usize, number: u32) -> usize
 
 // Puts a byte before `end`, and answers where it is.
 #[inline(always)]
-pub(crate) fn put_byte(bytes: &mut [u8; MOST_BYTES], end: usize, byte: u8) -> usize
+pub(crate) fn put_byte(bytes: &mut [u8; LINE_BYTES], end: usize, byte: u8) -> usize
     requires room { 1 ≤ end }
     requires inside { end ≤ 64 }
     ensures start { result + 1 ≡ end }
@@ -77,7 +81,7 @@ pub(crate) fn put_byte(bytes: &mut [u8; MOST_BYTES], end: usize, byte: u8) -> us
 
 // Puts a space and a number before `end`, and answers where the space is.
 #[inline(always)]
-pub(crate) fn put_part(bytes: &mut [u8; MOST_BYTES], end: usize, number: u32) -> usize
+pub(crate) fn put_part(bytes: &mut [u8; LINE_BYTES], end: usize, number: u32) -> usize
     requires room { 11 ≤ end }
     requires inside { end ≤ 64 }
     ensures start { result + length (spaced (decimal number ∷ [])) ≡ end }
@@ -89,7 +93,7 @@ pub(crate) fn put_part(bytes: &mut [u8; MOST_BYTES], end: usize, number: u32) ->
 }
 
 // Puts a position before `end`, and answers where it begins.
-pub(crate) fn put_position(bytes: &mut [u8; MOST_BYTES], end: usize, x: u32, y: u32) -> usize
+pub(crate) fn put_position(bytes: &mut [u8; LINE_BYTES], end: usize, x: u32, y: u32) -> usize
     requires room { 21 ≤ end }
     requires inside { end ≤ 64 }
     ensures start { result + length (position_text x y) ≡ end }
@@ -103,11 +107,9 @@ pub(crate) fn put_position(bytes: &mut [u8; MOST_BYTES], end: usize, x: u32, y: 
 // Adds one to the number that the first bytes are, this many, where the next number has as many
 // digits. Else it answers false, and zeros stand there.
 #[inline(always)]
-pub(crate) fn count_up(bytes: &mut [u8; MOST_BYTES], count: usize) -> bool
-    requires { count ≤ 64 }
-    ensures text { IsTrue result → CountsUp (take count bytes.old) (take count bytes.new) }
-    ensures some { IsTrue result → 0 < count }
-    ensures rest { drop count bytes.new ≡ drop count bytes.old }
+pub(crate) fn count_up(bytes: &mut [u8; NUMBER_BYTES], count: usize) -> bool
+    requires { count ≤ 24 }
+    ensures { IsTrue result → CountsUp (take count bytes.old) (take count bytes.new) }
 {
     let mut at = count;
     while at > 0 && bytes[at - 1] == b'9' {

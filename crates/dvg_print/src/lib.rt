@@ -4,7 +4,7 @@
 #![tactic(auto)]
 
 mod digits;
-mod entry_line;
+mod entry_lines;
 mod line;
 mod log_line;
 mod log_verdict;
@@ -13,7 +13,7 @@ mod stroke_line;
 mod svg_line;
 mod verdict;
 
-pub use entry_line::EntryLine;
+pub use entry_lines::EntryLines;
 pub use line::Line;
 pub use log_verdict::{LogCounts, LogFinding, LogVerdict};
 pub use stroke_line::StrokeLine;

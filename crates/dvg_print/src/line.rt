@@ -1,21 +1,20 @@
 //! Lines of output, made without taking memory.
 ghost use Rattle.std.specs.Prelude.{◌≡◌, ◌≤◌, ◌<◌, ◌+◌, ◌++◌, ◌∷◌, [], length, codes};
-ghost use Rattle.std.specs.Prelude.{decimal, drop, take, true, IsTrue};
+ghost use Rattle.std.specs.Prelude.{decimal, take, true};
 ghost use Rattle.std.specs.Fmt.{digit_glyph};
 ghost use Rattle.dvg_print.specs.Lines.{hex_2, hex_3, hex_4, instr_parts, line_text, listed_parts};
 ghost use Rattle.dvg_print.specs.Lines.{rom_line, spaced, vector_parts};
-ghost use Rattle.dvg_print.specs.Numbering.{ComesBefore, CountsUp};
 ghost use Rattle.dvg_print.specs.Verdicts.{bounded_line, fault_parts, place_parts, verdict_line};
 
-use crate::digits::count_up;
+use crate::digits::NUMBER_BYTES;
 use crate::verdict::{BoundedVerdict, Verdict};
 use dvg_code::{Code, Instr};
 use dvg_frame::{FrameFault, Place};
 use itoa::{Buffer, Integer};
 use std::marker::Model;
 
-/// The most bytes of a line.
-pub(crate) const MOST_BYTES: usize = 64;
+/// The most bytes of a line, or of lines that are written together.
+pub(crate) const MOST_BYTES: usize = 4096;
 
 // A hexadecimal digit in upper case.
 #[inline(always)]
@@ -26,7 +25,7 @@ fn glyph(digit: usize) -> u8
     b"0123456789ABCDEF"[digit]
 }
 
-/// A line of output, of at most 64 bytes.
+/// A line of output, or lines that are written together, of at most 4,096 bytes.
 #[derive(Drop)]
 pub struct Line {
     // The bytes of the line, and after them those of earlier lines, which are never cleared.
@@ -42,7 +41,7 @@ impl Model for Line {
 
     ghost view = { λ line. take line.count line.bytes };
 
-    ghost invariant = { λ line. line.count ≤ 64 };
+    ghost invariant = { λ line. line.count ≤ 4096 };
 }
 
 impl Line {
@@ -64,62 +63,23 @@ impl Line {
     }
 
     // Becomes a line with no bytes.
+    #[inline(always)]
     pub(crate) fn clear(&mut self)
         ensures { self.new ≡ [] }
     {
         self.count = 0;
     }
 
-    // Keeps this many of its first bytes.
+    // Appends the first of these bytes, this many. All of them are moved, as that takes less time.
     #[inline(always)]
-    pub(crate) fn keep(&mut self, count: usize)
-        requires { count ≤ length self.old }
-        ensures { self.new ≡ take count self.old }
+    pub(crate) fn front(&mut self, text: &[u8; NUMBER_BYTES], count: usize)
+        requires room { length self.old + 24 ≤ 4096 }
+        requires inside { count ≤ 24 }
+        ensures text { self.new ≡ self.old ++ take count text.now }
+        ensures grew { length self.new ≡ length self.old + count }
     {
-        self.count = count;
-    }
-
-    // Becomes a number from the one before it, which nine times in ten has another last digit
-    // alone; or from no bytes.
-    #[inline(always)]
-    pub(crate) fn count_on(&mut self, number: usize)
-        requires { ComesBefore self.old number }
-        ensures text { self.new ≡ decimal number }
-        ensures grew { length self.new ≤ 20 }
-    {
-        if !count_up(&mut self.bytes, self.count) {
-            self.become_number(number);
-        }
-    }
-
-    // Adds one to the number that its first bytes are, this many, where the next number has as many
-    // digits; else it answers false.
-    #[inline(always)]
-    pub(crate) fn count_up(&mut self, digits: usize) -> bool
-        requires { digits ≤ length self.old }
-        ensures text { IsTrue result → CountsUp (take digits self.old) (take digits self.new) }
-        ensures some { IsTrue result → 0 < digits }
-        ensures rest { drop digits self.new ≡ drop digits self.old }
-        ensures kept { length self.new ≡ length self.old }
-    {
-        count_up(&mut self.bytes, digits)
-    }
-
-    // Puts a number in place of its first bytes, this many, and answers how many digits it has.
-    #[inline(never)]
-    pub(crate) fn renumber(&mut self, digits: usize, number: usize) -> usize
-        requires inside { digits ≤ length self.old }
-        requires room { length self.old ≤ digits + 44 }
-        ensures text { self.new ≡ decimal number ++ drop digits self.old }
-        ensures count { result ≡ length (decimal number) }
-        ensures few { result ≤ 20 }
-    {
-        let mut rest = Line::new();
-        rest.text(&self.as_bytes()[digits..]);
-        self.become_number(number);
-        let count = self.count;
-        self.text(rest.as_bytes());
-        count
+        self.bytes[self.count..self.count + NUMBER_BYTES].copy_from_slice(text);
+        self.count += count;
     }
 
     // Becomes a number in decimal.
@@ -135,7 +95,7 @@ impl Line {
     // Appends a text.
     #[inline(always)]
     pub(crate) fn text(&mut self, text: &[u8])
-        requires { length self.old + length text.now ≤ 64 }
+        requires { length self.old + length text.now ≤ 4096 }
         ensures text { self.new ≡ self.old ++ text.now }
         ensures grew { length self.new ≡ length self.old + length text.now }
     {
@@ -147,7 +107,7 @@ impl Line {
     // Appends a space and a part of the line.
     #[inline(always)]
     pub(crate) fn part(&mut self, part: &[u8])
-        requires { length self.old + length part.now < 64 }
+        requires { length self.old + length part.now < 4096 }
         ensures text { self.new ≡ self.old ++ spaced (part.now ∷ []) }
         ensures grew { length self.new ≡ length self.old + length part.now + 1 }
     {
@@ -157,7 +117,7 @@ impl Line {
 
     // Appends a space and a number in decimal.
     pub(crate) fn number<I: Integer>(&mut self, n: I)
-        requires { length self.old + I.MAX_STR_LEN < 64 }
+        requires { length self.old + I.MAX_STR_LEN < 4096 }
         ensures text { self.new ≡ self.old ++ spaced (I.text n ∷ []) }
         ensures grew { length self.new ≤ length self.old + I.MAX_STR_LEN + 1 }
     {
@@ -167,7 +127,7 @@ impl Line {
     // Appends a space and two hexadecimal digits.
     #[inline(always)]
     pub(crate) fn hex_2(&mut self, byte: u8)
-        requires { length self.old + 3 ≤ 64 }
+        requires { length self.old + 3 ≤ 4096 }
         ensures text { self.new ≡ self.old ++ spaced (hex_2 byte ∷ []) }
         ensures grew { length self.new ≡ length self.old + 3 }
     {
@@ -178,7 +138,7 @@ impl Line {
     // Appends three hexadecimal digits.
     #[inline(always)]
     pub(crate) fn hex_3(&mut self, n: usize)
-        requires { length self.old + 3 ≤ 64 }
+        requires { length self.old + 3 ≤ 4096 }
         ensures text { self.new ≡ self.old ++ hex_3 n }
         ensures grew { length self.new ≡ length self.old + 3 }
     {
@@ -188,7 +148,7 @@ impl Line {
     // Appends a space and four hexadecimal digits.
     #[inline(always)]
     pub(crate) fn hex_4(&mut self, word: u16)
-        requires { length self.old + 5 ≤ 64 }
+        requires { length self.old + 5 ≤ 4096 }
         ensures text { self.new ≡ self.old ++ spaced (hex_4 word ∷ []) }
         ensures grew { length self.new ≡ length self.old + 5 }
     {
@@ -204,7 +164,7 @@ impl Line {
 
     // Appends the name of a vector and its numbers.
     fn vector(&mut self, name: &[u8], scale: u8, dx: i16, dy: i16, z: u8)
-        requires { length self.old + length name.now + 23 ≤ 64 }
+        requires { length self.old + length name.now + 23 ≤ 4096 }
         ensures text { self.new ≡ self.old ++ spaced (vector_parts name.now scale dx dy z) }
         ensures grew { length self.new ≤ length self.old + length name.now + 23 }
     {
@@ -217,7 +177,7 @@ impl Line {
 
     // Appends the name of a LABS and its numbers.
     fn labs(&mut self, x: u16, y: u16, scale: u8)
-        requires { length self.old + 21 ≤ 64 }
+        requires { length self.old + 21 ≤ 4096 }
         ensures text { self.new ≡ self.old
             ++ spaced (codes "LABS" ∷ decimal x ∷ decimal y ∷ decimal scale ∷ []) }
         ensures grew { length self.new ≤ length self.old + 21 }
@@ -231,7 +191,7 @@ impl Line {
     // Appends the name of an instruction and a word address.
     #[inline(always)]
     pub(crate) fn with_address(&mut self, name: &[u8], address: u16)
-        requires { length self.old + length name.now + 5 ≤ 64 }
+        requires { length self.old + length name.now + 5 ≤ 4096 }
         ensures text { self.new ≡ self.old ++ spaced (name.now ∷ hex_3 address ∷ []) }
         ensures grew { length self.new ≡ length self.old + length name.now + 5 }
     {
@@ -242,7 +202,7 @@ impl Line {
 
     // Appends the name of an instruction and its operands.
     fn instr(&mut self, instr: Instr)
-        requires { length self.old + 27 ≤ 64 }
+        requires { length self.old + 27 ≤ 4096 }
         ensures text { self.new ≡ self.old ++ spaced (instr_parts instr) }
         ensures grew { length self.new ≤ length self.old + 27 }
     {
@@ -261,7 +221,7 @@ impl Line {
 
     // Appends a place: an operation's number, or a ROM word's address.
     fn place(&mut self, place: Place)
-        requires { length self.old + 9 ≤ 64 }
+        requires { length self.old + 9 ≤ 4096 }
         ensures text { self.new ≡ self.old ++ spaced (place_parts place) }
         ensures grew { length self.new ≤ length self.old + 9 }
     {
@@ -276,7 +236,7 @@ impl Line {
 
     // Appends a fault's number and name, and a place.
     fn fault_at(&mut self, name: &[u8], place: Place)
-        requires { length self.old + length name.now + 10 ≤ 64 }
+        requires { length self.old + length name.now + 10 ≤ 4096 }
         ensures text { self.new ≡ self.old ++ spaced (name.now ∷ place_parts place) }
         ensures grew { length self.new ≤ length self.old + length name.now + 10 }
     {
@@ -286,7 +246,7 @@ impl Line {
 
     // Appends a fault's number and name, and the number of an operation.
     fn fault_of(&mut self, name: &[u8], i: u16)
-        requires { length self.old + length name.now + 7 ≤ 64 }
+        requires { length self.old + length name.now + 7 ≤ 4096 }
         ensures text { self.new ≡ self.old ++ spaced (name.now ∷ decimal i ∷ []) }
         ensures grew { length self.new ≤ length self.old + length name.now + 7 }
     {
@@ -296,7 +256,7 @@ impl Line {
 
     // Appends the parts of a fault's text.
     pub(crate) fn fault(&mut self, fault: FrameFault)
-        requires { length self.old + 22 ≤ 64 }
+        requires { length self.old + 22 ≤ 4096 }
         ensures text { self.new ≡ self.old ++ spaced (fault_parts fault) }
         ensures grew { length self.new ≤ length self.old + 22 }
     {

@@ -12,7 +12,7 @@ impl Line {
     // Appends what an action did.
     #[inline(always)]
     pub(crate) fn action(&mut self, action: Action)
-        requires { length self.old + 13 ≤ 64 }
+        requires { length self.old + 13 ≤ 4096 }
         ensures text { self.new ≡ self.old ++ spaced (action_parts action) }
         ensures grew { length self.new ≤ length self.old + 13 }
     {
@@ -32,7 +32,7 @@ impl Line {
     // Appends what a fetch led to, its word address, and the word there.
     #[inline(always)]
     fn fetched(&mut self, name: &[u8], address: u16, word: u16)
-        requires { length self.old + length name.now + 10 ≤ 64 }
+        requires { length self.old + length name.now + 10 ≤ 4096 }
         ensures text { self.new ≡ self.old ++ spaced (name.now ∷ hex_3 address ∷ hex_4 word ∷ []) }
         ensures grew { length self.new ≡ length self.old + length name.now + 10 }
     {
@@ -43,7 +43,7 @@ impl Line {
     // Appends what an event led to. A finished run drew this many strokes.
     #[inline(always)]
     pub(crate) fn entry<S>(&mut self, entry: &Entry<S>, drew: usize)
-        requires { length self.old + 36 ≤ 64 }
+        requires { length self.old + 36 ≤ 4096 }
         ensures text { self.new
             ≡ self.old ++ spaced (entry_parts (map_entry (λ _. drew) entry.now)) }
         ensures grew { length self.new ≤ length self.old + 36 }

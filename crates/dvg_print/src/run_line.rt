@@ -10,7 +10,7 @@ use dvg_gen::{Beam, GenFault};
 impl Line {
     // Appends where the beam is.
     fn beam(&mut self, beam: &Beam)
-        requires { length self.old + 29 ≤ 64 }
+        requires { length self.old + 29 ≤ 4096 }
         ensures text { self.new ≡ self.old ++ spaced (beam_parts beam.now) }
         ensures grew { length self.new ≤ length self.old + 29 }
     {

@@ -37,7 +37,7 @@ impl Line {
     // Appends a place or a way along an axis.
     fn signed(&mut self, n: i32)
         requires small { mag n ≤ 1048576 }
-        requires room { length self.old + 8 ≤ 64 }
+        requires room { length self.old + 8 ≤ 4096 }
         ensures text { self.new ≡ self.old ++ signed_decimal n }
         ensures grew { length self.new ≤ length self.old + 8 }
     {
@@ -48,7 +48,7 @@ impl Line {
     fn pair(&mut self, x: i32, y: i32)
         requires x { mag x ≤ 1048576 }
         requires y { mag y ≤ 1048576 }
-        requires room { length self.old + 17 ≤ 64 }
+        requires room { length self.old + 17 ≤ 4096 }
         ensures text { self.new ≡ self.old ++ pair_text x y }
         ensures grew { length self.new ≤ length self.old + 17 }
     {
@@ -59,7 +59,7 @@ impl Line {
 
     // Appends how bright an intensity is.
     fn opacity(&mut self, z: u8)
-        requires { length self.old + 3 ≤ 64 }
+        requires { length self.old + 3 ≤ 4096 }
         ensures text { self.new ≡ self.old ++ spec.opacity z }
         ensures grew { length self.new ≡ length self.old + 3 }
     {

@@ -114,9 +114,9 @@ pub fn writer(_rt: &HostRuntime) -> Stream {
 pub struct BufWriter<W: Write>(host::io::BufWriter<W>);
 
 impl<W: Write> BufWriter<W> {
-    /// A writer behind a buffer.
-    pub fn new(_alloc: Global, writer: W) -> Result<BufWriter<W>> {
-        Ok(BufWriter(host::io::BufWriter::new(writer)))
+    /// A writer behind a buffer of this many bytes.
+    pub fn with_capacity(_alloc: Global, capacity: usize, writer: W) -> Result<BufWriter<W>> {
+        Ok(BufWriter(host::io::BufWriter::with_capacity(capacity, writer)))
     }
 }
 

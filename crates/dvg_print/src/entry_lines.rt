@@ -1,0 +1,120 @@
+//! Lines of entries, which are numbered.
+ghost use Rattle.std.specs.Prelude.{◌≡◌, ◌+◌, ◌^◌, ◌<◌, ◌≤◌, ◌++◌, [], decimal, length, take, IsFalse};
+ghost use Rattle.dvg_log.specs.Entries.{map_entry};
+ghost use Rattle.dvg_print.specs.Shows.{entry_line};
+
+use crate::digits::{NUMBER_BYTES, count_up};
+use crate::line::{Line, MOST_BYTES};
+use dvg_log::Entry;
+use itoa::Buffer;
+use std::marker::Model;
+
+/// The room that a line of an entry wants.
+const LINE_ROOM: usize = 64;
+
+/// The lines that `play --all` writes of entries, one after the other, as many as are written
+/// together. The digits of the next event's number are kept, and counted up in place.
+#[derive(Drop)]
+pub struct EntryLines {
+    lines: Line,
+    // The first of these bytes, this many, are the digits of the next entry's number.
+    number: [u8; NUMBER_BYTES],
+    digits: usize,
+    // The number of the next entry's event.
+    next: usize,
+}
+
+/// Contracts see the bytes of all lines, and the number of the next one.
+impl Model for EntryLines {
+    ghost use Rattle.std.specs.Prelude.{◌≡◌, ◌≤◌, decimal, take};
+    ghost use Rattle.dvg_print.specs.Numbering.{Numbered};
+
+    ghost Value = { Numbered };
+
+    ghost view = { λ entry_lines. record { text = entry_lines.lines; next = entry_lines.next } };
+
+    ghost invariant = { λ entry_lines. (entry_lines.digits ≤ 20)
+        × (take entry_lines.digits entry_lines.number ≡ decimal entry_lines.next) };
+}
+
+// The bytes of a number, and how many digits it has.
+fn digits_of(number: usize) -> ([u8; NUMBER_BYTES], usize)
+    ensures digits { take result.1 result.0 ≡ decimal number }
+    ensures few { result.1 ≤ 20 }
+{
+    let mut buffer = Buffer::new();
+    let text = buffer.format(number).as_bytes();
+    let mut bytes = [0; NUMBER_BYTES];
+    bytes[..text.len()].copy_from_slice(text);
+    (bytes, text.len())
+}
+
+impl EntryLines {
+    /// No lines. The next entry's event has this number.
+    pub fn new(next: usize) -> EntryLines
+        ensures text { result.text ≡ [] }
+        ensures next { result.next ≡ next }
+    {
+        let (number, digits) = digits_of(next);
+        EntryLines {
+            lines: Line::new(),
+            number,
+            digits,
+            next,
+        }
+    }
+
+    /// The bytes.
+    pub fn as_bytes(&self) -> &[u8]
+        ensures { result.now ≡ self.now.text }
+    {
+        self.lines.as_bytes()
+    }
+
+    /// Whether there may be no room for another line.
+    #[inline(always)]
+    pub fn is_full(&self) -> bool
+        ensures { IsFalse result → length self.now.text + 64 ≤ 4096 }
+    {
+        self.lines.as_bytes().len() > MOST_BYTES - LINE_ROOM
+    }
+
+    /// Forgets the lines. The next entry's event has the number that it had.
+    #[inline(always)]
+    pub fn clear(&mut self)
+        ensures text { self.new.text ≡ [] }
+        ensures next { self.new.next ≡ self.old.next }
+    {
+        self.lines.clear();
+    }
+
+    /// Adds the line of the next entry. A finished run drew this many strokes.
+    #[inline(always)]
+    pub fn add<S>(&mut self, entry: &Entry<S>, drew: usize)
+        requires room { length self.old.text + 64 ≤ 4096 }
+        requires next { self.old.next + 1 < 2 ^ 64 }
+        ensures text { self.new.text ≡ self.old.text
+            ++ entry_line self.old.next (map_entry (λ _. drew) entry.now) }
+        ensures next { self.new.next ≡ self.old.next + 1 }
+    {
+        self.lines.front(&self.number, self.digits);
+        self.lines.entry(entry, drew);
+        self.lines.text(b"\n");
+        self.count_on();
+    }
+
+    // Goes on to the next number, which nine times in ten has another last digit alone.
+    #[inline(always)]
+    fn count_on(&mut self)
+        requires { self.old.next + 1 < 2 ^ 64 }
+        ensures text { self.new.text ≡ self.old.text }
+        ensures next { self.new.next ≡ self.old.next + 1 }
+    {
+        self.next += 1;
+        if !count_up(&mut self.number, self.digits) {
+            let (number, digits) = digits_of(self.next);
+            self.number = number;
+            self.digits = digits;
+        }
+    }
+}
