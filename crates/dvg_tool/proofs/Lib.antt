@@ -8,3 +8,4 @@ pub mod DrawnPlayed
 pub mod JobsDone
 mod OneVerdict
 pub mod PicturesPlayed
+pub mod Pending

@@ -6,3 +6,4 @@ pub mod Checks
 pub mod Plays
 pub mod CheckLaws
 pub mod PlaysSvg
+pub mod Pending

@@ -1,38 +1,42 @@
 //! What is written of entries.
-ghost use Rattle.std.specs.Prelude.{◌≡◌, ◌+◌, ◌^◌, ◌<◌, true};
+ghost use Rattle.std.specs.Prelude.{◌≡◌, ◌+◌, ◌^◌, ◌++◌, ◌<◌, ◌≤◌, length, true, OnOk};
 ghost use Rattle.dvg_log.specs.Entries.{map_entry};
 ghost use Rattle.dvg_print.specs.Shows.{shown, shown_entry};
 ghost use Rattle.dvg_io.specs.Watching.{Writes};
+ghost use Rattle.dvg_tool.specs.Pending.{WritesBut};
 ghost use Rattle.dvg_world.specs.Keeping.{strokes_in};
 
 use dvg_gen::Stroke;
 use dvg_io::{StreamFailed, Watched, write_strokes, write_whole};
 use dvg_log::Entry;
-use dvg_print::EntryLine;
+use dvg_print::EntryLines;
 use dvg_world::Entries;
 use std::alloc::Allocator;
 use std::io::Write;
 
 // Writes what is shown of the next entry, whose run drew these strokes, if it finished. Its line is
-// made in `entry_line`.
+// added to `lines`, which are written where strokes come after them, or where they are full.
 fn write_next<W: Write>(
-    entry_line: &mut EntryLine,
+    lines: &mut EntryLines,
     entry: &Entry<u16>,
     strokes: &[Stroke],
     writer: &mut Watched<W>,
 ) -> Result<(), StreamFailed>
-    requires room { entry_line.old.next + 1 < 2 ^ 64 }
+    requires room { length lines.old.text + 64 ≤ 4096 }
+    requires next { lines.old.next + 1 < 2 ^ 64 }
     requires drawn { strokes.now ≡ strokes_in (map_entry (λ _. strokes.now) entry.now) }
-    ensures written { Writes W.contents
-        (shown_entry true entry_line.old.next (map_entry (λ _. strokes.now) entry.now))
-        result writer.old writer.new }
-    ensures next { entry_line.new.next ≡ entry_line.old.next + 1 }
+    ensures written { WritesBut W.contents (lines.old.text
+        ++ shown_entry true lines.old.next (map_entry (λ _. strokes.now) entry.now))
+        lines.new.text result writer.old writer.new }
+    ensures next { lines.new.next ≡ lines.old.next + 1 }
+    ensures room { OnOk result (length lines.new.text + 64 ≤ 4096) }
 {
-    entry_line.become_next(entry, strokes.len());
-    write_whole(writer, entry_line.as_bytes())?;
-    if strokes.is_empty() {
+    lines.add(entry, strokes.len());
+    if strokes.is_empty() && !lines.is_full() {
         return Ok(());
     }
+    write_whole(writer, lines.as_bytes())?;
+    lines.clear();
     write_strokes(strokes, writer)
 }
 
@@ -43,10 +47,10 @@ pub fn write_entries<A: Allocator, W: Write>(
 ) -> Result<(), StreamFailed>
     ensures { Writes W.contents (shown true 0 entries.now) result writer.old writer.new }
 {
-    let mut entry_line = EntryLine::new(0);
+    let mut lines = EntryLines::new(0);
     for number in 0..entries.len() {
         let (entry, strokes) = entries.entry(number);
-        write_next(&mut entry_line, entry, strokes, writer)?;
+        write_next(&mut lines, entry, strokes, writer)?;
     }
-    Ok(())
+    write_whole(writer, lines.as_bytes())
 }

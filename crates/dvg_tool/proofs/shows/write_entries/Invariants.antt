@@ -1,4 +1,4 @@
-use Rattle.std.proofs.Common.{◌≡◌, drop, true}
+use Rattle.std.proofs.Common.{◌≡◌, ◌+◌, ◌≤◌, ◌++◌, drop, length, true}
 use Rattle.dvg_print.specs.Shows.{shown}
 use Rattle.dvg_io.specs.Watching.{failures_of, stream_of}
 use Rattle.dvg_io.proofs.Went.{Went}
@@ -7,6 +7,8 @@ use Rattle.dvg_tool.proofs.shows.write_entries.Given as goal
 abbrev pub invariant-loop-number : goal.invariant-loop-number
 invariant-loop-number g l = record {
   counted : failures_of l.writer ≡ failures_of l.initial.writer;
-  next : l.entry_line.next ≡ l.number;
-  went : Went (shown true 0 l.entries) (shown true l.number (drop l.number l.entries)) (g.W.Write.contents (stream_of l.initial.writer)) (g.W.Write.contents (stream_of l.writer));
+  next : l.lines.next ≡ l.number;
+  room : length l.lines.text + 64 ≤ 4096;
+  went : Went (shown true 0 l.entries) (l.lines.text ++ shown true l.number (drop l.number l.entries))
+      (g.W.Write.contents (stream_of l.initial.writer)) (g.W.Write.contents (stream_of l.writer));
 }
