@@ -1,4 +1,5 @@
 //! Laws of the definitions alone. Each is the contract of a function that does nothing.
+ghost use Rattle.dvg_theorem.specs.Answers.{Answered};
 ghost use Rattle.dvg_theorem.specs.Fetches.{DrewInRange, IsInMemory, IsPaired, KeepsNext};
 ghost use Rattle.dvg_theorem.specs.Fetches.{ReadsOneFrame, WithinBound};
 ghost use Rattle.dvg_log.specs.Headline.{DrawsAHalf, DrewHeld, DrewPublished, IsNoOlder};
@@ -118,4 +119,10 @@ pub fn words_are_whole()
 /// fetched matters for word zero alone.
 pub fn next_word_stays()
     ensures { Always KeepsNext }
+{}
+
+/// Each draft, of any length, is accepted over each ROM, or a fault of it is picked: the check has
+/// an answer. `one_fault` and `accepted_stays`, in `dvg_frame`, say that it has no other.
+pub fn always_answered()
+    ensures { Answered }
 {}
