@@ -46,7 +46,10 @@ names_none count _ = inr (λ never. never)
 misses_or : (F : List OpKind) (i : ℕ) → i < length F → Decided (Misses F i)
 misses_or F i below =
     ⊎_elim
-    (λ it. ⊎_elim (λ none. inl (misses_at F i (length F) it.0 it.0 it.2 refl refl none)) (λ some. inr (no_miss_at F i (length F) it.0 it.0 it.2 refl refl some)) (names_none (length F) it.0))
+    (λ it.
+    ⊎_elim (λ none. inl (misses_at F i (length F) it.0 it.0 it.2 refl refl none))
+    (λ some. inr (no_miss_at F i (length F) it.0 it.0 it.2 refl refl some))
+    (names_none (length F) it.0))
     (λ past. let far = past.0 in absurd (omega arith))
     (slice_get_cases F i).1
 
@@ -72,7 +75,9 @@ leads_on (Calls to) after = inl (after, refl)
 leads_on Returns after = inr (λ q never. never)
 leads_on Halts after = inr (λ q never. never)
 
-by_best : (F : List OpKind) (R : List ℕ) (best : Option Found) → MatchOption best (AllFine F R) (λ first. Least F R first.fault) → AllFine F R ⊎ ((fault : FrameFault) × Least F R fault)
+by_best : (F : List OpKind) (R : List ℕ) (best : Option Found)
+    → MatchOption best (AllFine F R) (λ first. Least F R first.fault)
+    → AllFine F R ⊎ ((fault : FrameFault) × Least F R fault)
 by_best F R None fine = inl fine
 by_best F R (Some first) least = inr (first.fault, least)
 
@@ -95,8 +100,10 @@ module _ (F : List OpKind) (R : List ℕ) where
         let so = seen.1.1 in
         ⊎_elim
         (λ next.
-        let leads = leads_from F R p next.0 d (record { act = so.act; after = so.after; stands = so.stands; next = next.1 }) in
-        ⊎_elim (λ walk. inl (walk.0, more leads walk.1)) (λ never. inr (λ walk. never (walk.0, rest_of leads walk.1))) (walks_or n d next.0 (step reached seen.0 leads)))
+        let goes : StepsOn F R p next.0 = record { act = so.act; after = so.after; stands = so.stands; next = next.1 } in
+        let leads = leads_from F R p next.0 d goes in
+        ⊎_elim (λ walk. inl (walk.0, more leads walk.1)) (λ never. inr (λ walk. never (walk.0, rest_of leads walk.1)))
+        (walks_or n d next.0 (step reached seen.0 leads)))
         (λ stops. inr (λ walk.
         let on = steps_on walk.1 in
         let same = same_standing on.1.stands so.stands in
@@ -141,12 +148,27 @@ module _ (F : List OpKind) (R : List ℕ) where
       closed_answered : Accepts F R ⊎ ((fault : FrameFault) × Refuses F R fault)
       closed_answered =
           ⊎_elim
-          (λ found. let it = found.1 in inr (Loops, (closed, record { place = it.pair.place; depth = it.pair.depth; end = it.end; reached = reached_at found.0 it.pair it.read; walk = it.walk })))
+          (λ found.
+          let it = found.1 in
+          inr (
+            Loops,
+            (
+              closed,
+              record {
+                place = it.pair.place;
+                depth = it.pair.depth;
+                end = it.end;
+                reached = reached_at found.0 it.pair it.read;
+                walk = it.walk;
+              },
+            ),
+          ))
           (λ none. inl (record {
             closed = closed;
             ends = λ loop.
-                let (j, within, read) = contains_read swept.items (pair_of loop.place loop.depth) (held loop.reached) in
-                none j within (record { pair = pair_of loop.place loop.depth; read = read; end = loop.end; walk = loop.walk });
+                let pair = pair_of loop.place loop.depth in
+                let (j, within, read) = contains_read swept.items pair (held loop.reached) in
+                none j within (record { pair = pair; read = read; end = loop.end; walk = loop.walk });
           }))
           (least_below LoopsAt (length swept.items) loops_or)
 
@@ -154,10 +176,11 @@ module _ (F : List OpKind) (R : List ℕ) where
   begun_answered image begins =
       let all = swept F R image begins in
       let few = few_ops F begins in
+      let first = all_up_to F R few begins all.items all.best all.done all.sweeps all.all in
       ⊎_elim
       (λ fine. closed_answered image begins fine all)
       (λ least. inr (least.0, refuses_by F R least.0 begins least.1))
-      (by_best F R all.best (finish F R few begins all.best all.sweeps.found (all_up_to F R few begins all.items all.best all.done all.sweeps all.all)))
+      (by_best F R all.best (finish F R few begins all.best all.sweeps.found first))
 
 pub answered : (F : List OpKind) (R : List ℕ) → IsRom R → Accepts F R ⊎ ((fault : FrameFault) × Refuses F R fault)
 answered F R image = ⊎_elim (begun_answered F R image) (λ early. inr (early.0, early.1 R)) (begins_or F)

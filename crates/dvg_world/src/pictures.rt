@@ -65,9 +65,9 @@ fn tick_times<S: Store>(world: &mut World<S>, times: usize)
     }
 }
 
-// Lets so many offers of these operations happen to a world. No picture comes of them. Only the
-// first one can be taken, and only where the driver is idle. No other changes anything, whatever
-// the check answers, so it isn't asked.
+// Lets so many offers of these operations happen to a world. No picture comes of them. The first
+// is taken where the driver is idle and the check accepts the draft. Any other changes nothing,
+// whatever the check would answer, so the draft is checked once, and only where the driver is idle.
 fn offer_times<S: Store>(world: &mut World<S>, ops: &[Op], draft: &mut Draft, times: usize)
     requires fits { length ops.now ≤ 511 }
     requires some { 1 ≤ times }
@@ -173,6 +173,9 @@ fn draw_run<S: Store>(
 /// before.
 ///
 /// The list of pictures is grown once, for as many as there are events, before the first happens.
+///
+/// A draft is checked only where the driver is idle, and once for a run of offers of it. Any other
+/// offer is refused or meets a busy driver. Either way nothing changes, and no picture comes of it.
 pub fn draw_trace<S: Store>(
     alloc: S::Alloc,
     rom: Rom<S::Alloc>,
