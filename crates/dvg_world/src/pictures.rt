@@ -67,7 +67,7 @@ fn tick_times<S: Store>(world: &mut World<S>, times: usize)
 
 // Lets so many offers of these operations happen to a world. No picture comes of them. The first
 // is taken where the driver is idle and the check accepts the draft. Any other changes nothing,
-// whatever the check would answer, so the draft is checked once, and only where the driver is idle.
+// whatever the check would answer. So the draft is checked at most once, where the driver is idle.
 fn offer_times<S: Store>(world: &mut World<S>, ops: &[Op], draft: &mut Draft, times: usize)
     requires fits { length ops.now ≤ 511 }
     requires some { 1 ≤ times }
@@ -79,6 +79,7 @@ fn offer_times<S: Store>(world: &mut World<S>, ops: &[Op], draft: &mut Draft, ti
         fill(draft, ops);
         let _answer = world.offer(draft);
     } else {
+        // The draft is refused, or the driver is busy.
         are_ops(ops);
     }
 }
@@ -174,8 +175,8 @@ fn draw_run<S: Store>(
 ///
 /// The list of pictures is grown once, for as many as there are events, before the first happens.
 ///
-/// A draft is checked only where the driver is idle, and once for a run of offers of it. Any other
-/// offer is refused or meets a busy driver. Either way nothing changes, and no picture comes of it.
+/// A draft is checked only where the driver is idle, and once where it is offered many times in a
+/// row. Any other offer is refused, or the driver is busy: nothing changes, and no picture comes.
 pub fn draw_trace<S: Store>(
     alloc: S::Alloc,
     rom: Rom<S::Alloc>,
