@@ -61,7 +61,9 @@ begins_or (op ∷ ops) =
     let begins = begins_with (op ∷ ops) op op refl refl is in
     ⊎_elim (λ long. inr (TooLong, λ R. (begins, long)))
     (λ fits. ⊎_elim (λ missed. inr (Target missed.0, λ R. (begins, fits, missed.1, missed.2)))
-    (λ hit. inl (record { begins = begins; fits = fits; targets = no_miss (op ∷ ops) (length (op ∷ ops)) (omega arith) hit }))
+    (λ hit.
+    let targets = no_miss (op ∷ ops) (length (op ∷ ops)) (omega arith) hit in
+    inl (record { begins = begins; fits = fits; targets = targets }))
     (least_below (Misses (op ∷ ops)) (length (op ∷ ops)) (misses_or (op ∷ ops))))
     (cases_lt 511 (size (op ∷ ops))))
     (λ is_not. inr (NoLabs, λ R. (omega arith, begins_not (op ∷ ops) op op refl refl is_not)))
@@ -84,7 +86,8 @@ by_best F R (Some first) least = inr (first.fault, least)
 module _ (F : List OpKind) (R : List ℕ) where
   -- a walk without its first step, and that step
   rest_of : {d n : ℕ} {p q end : Place} → Leads F R p d q d → Walks F R d p (suc n) end → Walks F R d q n end
-  rest_of {d} {n} {end = end} leads (more leads' walk) = subst (λ x. Walks F R d x n end) (leads_once F R leads' leads) walk
+  rest_of {d} {n} {end = end} leads (more leads' walk) =
+      subst (λ x. Walks F R d x n end) (leads_once F R leads' leads) walk
 
   steps_on : {d n : ℕ} {p end : Place} → Walks F R d p (suc n) end → (q : Place) × StepsOn F R p q
   steps_on (more {q = q} leads walk) = (q, goes_from F R leads)
@@ -100,7 +103,8 @@ module _ (F : List OpKind) (R : List ℕ) where
         let so = seen.1.1 in
         ⊎_elim
         (λ next.
-        let goes : StepsOn F R p next.0 = record { act = so.act; after = so.after; stands = so.stands; next = next.1 } in
+        let goes : StepsOn F R p next.0 =
+        record { act = so.act; after = so.after; stands = so.stands; next = next.1 } in
         let leads = leads_from F R p next.0 d goes in
         ⊎_elim (λ walk. inl (walk.0, more leads walk.1)) (λ never. inr (λ walk. never (walk.0, rest_of leads walk.1)))
         (walks_or n d next.0 (step reached seen.0 leads)))

@@ -192,16 +192,19 @@ module _ (F : List OpKind) (R : List ℕ) where
     judge : HasLeast (Has pair seen) ⊎ ((fault : FrameFault) → ¬ Has pair seen fault)
     judge =
         ⊎_elim
-        (λ it. inl (RunsOff it.number, record { holds = (it.place, it.last, it.goes); least = greater 5 pair seen none_5 }))
+        (λ it.
+        inl (RunsOff it.number, record { holds = (it.place, it.last, it.goes); least = greater 5 pair seen none_5 }))
         (λ runs.
         let six = none_6 runs in
         ⊎_elim (λ it. inl (OutOfRom pair.place, record { holds = (refl, it); least = greater 6 pair seen six }))
         (λ leaves.
         let seven = none_7 six leaves in
-        ⊎_elim (λ it. inl (TooDeep pair.place, record { holds = (refl, it.0, it.1); least = greater 7 pair seen seven }))
+        ⊎_elim
+        (λ it. inl (TooDeep pair.place, record { holds = (refl, it.0, it.1); least = greater 7 pair seen seven }))
         (λ deep.
         let eight = none_8 seven deep in
-        ⊎_elim (λ it. inl (NoCaller pair.place, record { holds = (refl, it.0, it.1); least = greater 8 pair seen eight }))
+        ⊎_elim
+        (λ it. inl (NoCaller pair.place, record { holds = (refl, it.0, it.1); least = greater 8 pair seen eight }))
         (λ bare. inr (never (none_9 eight bare)))
         (both (is_return seen) (cases_eq pair.depth 0)))
         (both (is_call seen) (cases_eq pair.depth DEEPEST)))

@@ -108,7 +108,9 @@ module _ (F : List OpKind) (R : List ℕ) (image : IsRom R) (begins : Begins F) 
         → (first : Found) × Sweeps F R items (Some first) (done + 1)
     bad_next items best done sweeps pair is fault least =
         let (first, one, new, old) = first_of best (record { pair = pair; fault = fault }) in
-        (first, bad_step F R few begins items best done sweeps pair is fault first items (Some first) least one new old refl refl)
+        let found = Some first in
+        let step = bad_step F R few begins items best done sweeps pair is fault first items found least in
+        (first, step one new old refl refl)
 
     fine_next : (listed : Listed) (best : Option Found) (done : ℕ) → Sweeps F R listed.pairs best done → (pair : Pair)
         → slice_get listed.pairs done ≡ Some pair → FinePair F R pair → (seen : Way) → StandsSo F R pair.place seen
@@ -118,7 +120,8 @@ module _ (F : List OpKind) (R : List ℕ) (image : IsRom R) (begins : Begins F) 
         let valid = reached_pair F R few begins pair (is_reached F R few begins items best done sweeps pair is) in
         let added = spread listed seen pair.depth valid.depth (stays F R few begins pair seen valid fine so) in
         let later = added.new.pairs in
-        (added.new, fine_step F R few begins items best done sweeps pair is seen later later best fine so added.grows refl refl)
+        let step = fine_step F R few begins items best done sweeps pair is seen later later best fine so in
+        (added.new, step added.grows refl refl)
 
     sweep : (left done : ℕ) (listed : Listed) (best : Option Found) → Sweeps F R listed.pairs best done
         → PAIRS ≤ done + left → Finished

@@ -1,6 +1,6 @@
 //! The pictures of a trace.
-ghost use Rattle.std.specs.Prelude.{◌≡◌, ◌+◌, ◌^◌, ◌<◌, ◌≤◌, [], ℕ, List, false, length, vec_capacity};
-ghost use Rattle.std.specs.Prelude.{vec_len, OnErr, OnOk};
+ghost use Rattle.std.specs.Prelude.{◌≡◌, ◌+◌, ◌^◌, ◌<◌, ◌≤◌, [], ℕ, List, false, length};
+ghost use Rattle.std.specs.Prelude.{vec_capacity, vec_len, OnErr, OnOk};
 ghost use Rattle.dvg_log.specs.Entries.{shown_of};
 ghost use Rattle.dvg_log.specs.Log.{Log};
 ghost use Rattle.dvg_log.specs.Traces.{FitsInDraft, seen_as};
