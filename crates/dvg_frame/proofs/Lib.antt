@@ -19,3 +19,6 @@ pub mod Tabled
 pub mod Notes
 pub mod Settled
 pub mod Numbered
+pub mod Looked
+pub mod Reaching
+pub mod Answered

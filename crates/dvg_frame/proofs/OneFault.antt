@@ -10,7 +10,6 @@ use Rattle.dvg_frame.specs.Layout.{size}
 use Rattle.dvg_frame.specs.Steps.{Bad, last, target, second, past, deep, bare, BeginsWithLabs, Closed, Misses}
 use Rattle.dvg_frame.specs.own.Firsts.{number}
 use Rattle.dvg_frame.specs.Faults.{rank, Precedes, Least, Refuses, Accepts, FrameState, IsChecked}
-use Rattle.dvg_frame.specs.Laws.{OneAnswer}
 use Rattle.dvg_frame.proofs.Pictures.{one_picture}
 
 same_frame : (one other : FrameState) → other.operations ≡ one.operations → other.bound ≡ one.bound → other ≡ one
@@ -189,11 +188,8 @@ module _ (F : List OpKind) (R : List ℕ) where
   accepted_stays fault accepts picked = accepts.ends (subst (Refuses F R) (only_loops fault accepts.closed picked) picked).1
 
   -- one answer at most holds
-  one_checked : (one other : Result FrameState FrameFault) → IsChecked F R one → IsChecked F R other → other ≡ one
+  pub one_checked : (one other : Result FrameState FrameFault) → IsChecked F R one → IsChecked F R other → other ≡ one
   one_checked (Ok frame) (Ok other) a b = ap Ok (same_frame frame other (b.1 ∙ sym a.1) (one_picture F R a.2.0 b.2.0 frame.bound other.bound a.2.1 b.2.1).1)
   one_checked (Ok frame) (Err fault) a b = absurd (accepted_stays fault a.0 b)
   one_checked (Err fault) (Ok frame) a b = absurd (accepted_stays fault b.0 a)
   one_checked (Err one) (Err other) a b = ap Err (one_fault one other a b)
-
-  pub one_answer : (answer : Result FrameState FrameFault) → IsChecked F R answer → OneAnswer F R
-  one_answer answer checked = (answer, checked, λ other. one_checked answer other checked)

@@ -17,9 +17,9 @@ OneFault = (F : List OpKind) (R : List ℕ) (one other : FrameFault) → Refuses
 abbrev pub AcceptedStays : Type 0
 AcceptedStays = (F : List OpKind) (R : List ℕ) → Accepts F R → (fault : FrameFault) → ¬ Refuses F R fault
 
--- exactly one answer holds of this draft and this ROM
-abbrev pub OneAnswer : List OpKind → List ℕ → Type 0
-OneAnswer F R = (answer : Result FrameState FrameFault) × IsChecked F R answer
+-- exactly one answer holds of each draft over each ROM
+abbrev pub OneAnswer : Type 0
+OneAnswer = (F : List OpKind) (R : List ℕ) → IsRom R → (answer : Result FrameState FrameFault) × IsChecked F R answer
     × ((other : Result FrameState FrameFault) → IsChecked F R other → other ≡ answer)
 
 -- a draft with no fault and no loop has exactly one picture, of fewer than 2^63 words

@@ -24,7 +24,7 @@ use Rattle.dvg_theorem.proofs.Least.{finished_picture}
 use Rattle.dvg_theorem.proofs.Linked.{added, fetching}
 
 -- the ROM of a legal log
-rom_of : (R image : List ℕ) (log : Log) → IsLegal R image log → IsRom R
+pub rom_of : (R image : List ℕ) (log : Log) → IsLegal R image log → IsRom R
 rom_of R image [] legal = legal.0
 rom_of R image ((event ⟼ entry) ∷ log) legal = rom_of R image log legal.2
 

@@ -1,6 +1,8 @@
 //! A driver at its desk.
-ghost use Rattle.std.specs.Prelude.{◌≡◌, ◌≢◌, ◌↔◌, length, IfOk, IsErrOf, IsOk, OnErr, OnOk};
-ghost use Rattle.dvg_world.specs.Desks.{IsFresh, OfferAnswers, RedrawAnswers, TickAnswers};
+ghost use Rattle.std.specs.Prelude.{◌≡◌, ◌≢◌, ◌↔◌, length, IfOk, IsErrOf, IsOk, IsTrue, OnErr};
+ghost use Rattle.std.specs.Prelude.{OnOk};
+ghost use Rattle.dvg_driver.specs.Script.{IsWhole};
+ghost use Rattle.dvg_world.specs.Desks.{IsFresh, OfferAnswers, OfLives, RedrawAnswers, TickAnswers};
 
 use dvg_driver::{Action, Driver, DriverFault};
 use dvg_frame::{Checker, Draft};
@@ -64,6 +66,13 @@ impl<A: Allocator> Desk<A> {
         ensures { result.now ≡ self.now.rom }
     {
         &self.rom
+    }
+
+    /// Whether the driver is idle, and so would take a draft that the check accepts.
+    pub(crate) fn is_idle(&self) -> bool
+        ensures { OfLives self.now.stage (λ peeked life. IsTrue result ↔ IsWhole life) }
+    {
+        self.driver.is_idle()
     }
 
     /// The driver is handed a draft to show.

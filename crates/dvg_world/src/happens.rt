@@ -1,5 +1,6 @@
 //! Events of traces that happen to a world.
-ghost use Rattle.std.specs.Prelude.{◌≡◌, ◌≤◌, length, IfOk, OnErr};
+ghost use Rattle.std.specs.Prelude.{◌≡◌, ◌≤◌, All, length, IfOk, OnErr};
+ghost use Rattle.dvg_frame.specs.Ops.{IsOp};
 ghost use Rattle.dvg_log.specs.Entries.{shown_of};
 ghost use Rattle.dvg_log.specs.Traces.{FitsInDraft, seen_as};
 ghost use Rattle.dvg_world.specs.Standing.{AddsLine};
@@ -18,6 +19,15 @@ pub(crate) fn fill(draft: &mut Draft, ops: &[Op])
 {
     draft.clear();
     draft.try_extend_from_slice(ops).unwrap();
+}
+
+// A draft may hold each of them, as their type says. Nothing is done.
+pub(crate) fn are_ops(ops: &[Op])
+    ensures { All IsOp ops.now }
+{
+    for op in ops {
+        let _ = op.kind();
+    }
 }
 
 // Lets an event of a trace happen to a world. The draft of an offer is made in `draft`.

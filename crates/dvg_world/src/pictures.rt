@@ -1,21 +1,21 @@
 //! The pictures of a trace.
-ghost use Rattle.std.specs.Prelude.{◌≡◌, ◌+◌, ◌^◌, ◌<◌, ◌≤◌, [], ℕ, List, false, vec_capacity, vec_len};
-ghost use Rattle.std.specs.Prelude.{OnErr, OnOk};
+ghost use Rattle.std.specs.Prelude.{◌≡◌, ◌+◌, ◌^◌, ◌<◌, ◌≤◌, [], ℕ, List, false, length};
+ghost use Rattle.std.specs.Prelude.{vec_capacity, vec_len, OnErr, OnOk};
 ghost use Rattle.dvg_log.specs.Entries.{Shown};
 ghost use Rattle.dvg_log.specs.Log.{Log};
 ghost use Rattle.dvg_log.specs.Traces.{FitsInDraft, seen_as};
-ghost use Rattle.dvg_log.specs.declared.event.Event.TheVariants.{Fetch, Tick};
+ghost use Rattle.dvg_log.specs.declared.event.Event.TheVariants.{Fetch, Offer, Tick};
 ghost use Rattle.dvg_world.specs.Keeping.{pictures_of};
 ghost use Rattle.dvg_world.specs.Kept.{Draws};
 ghost use Rattle.dvg_world.specs.Standing.{WorldAfter};
 ghost use Rattle.dvg_world.specs.own.Fetched.{IsDrawnBy};
 ghost use Rattle.dvg_world.specs.own.Running.{AddsRun, DrawsRun, KeepsPicture, StopsDrawing};
 
-use crate::happens::happen;
+use crate::happens::{are_ops, fill, happen};
 use crate::world::World;
 use dvg_code::OutOfMemory;
 use dvg_driver::Action;
-use dvg_frame::Draft;
+use dvg_frame::{Draft, Op};
 use dvg_gen::Stroke;
 use dvg_log::{Trace, TraceEvent};
 use dvg_mem::{Image, Rom, Store};
@@ -63,6 +63,25 @@ fn tick_times<S: Store>(world: &mut World<S>, times: usize)
             Action::Idle => return,
             _ => {}
         }
+    }
+}
+
+// Lets so many offers of these operations happen to a world. No picture comes of them. The first
+// is taken where the driver is idle and the check accepts the draft. Any other changes nothing,
+// whatever the check would answer. So the draft is checked at most once, where the driver is idle.
+fn offer_times<S: Store>(world: &mut World<S>, ops: &[Op], draft: &mut Draft, times: usize)
+    requires fits { length ops.now ≤ 511 }
+    requires some { 1 ≤ times }
+    ensures { (R image : List ℕ) (log : Log) → WorldAfter R image log world.old
+        → AddsRun R image log (Offer ops.now) times (λ later. pictures_of later ≡ pictures_of log)
+        world.new }
+{
+    if world.is_idle() {
+        fill(draft, ops);
+        let _answer = world.offer(draft);
+    } else {
+        // The draft is refused, or the driver is busy.
+        are_ops(ops);
     }
 }
 
@@ -121,6 +140,7 @@ fn draw_run<S: Store>(
     pictures: &mut Vec<Picture<S::Alloc>, S::Alloc>,
 ) -> Result<(), OutOfMemory>
     requires fits { FitsInDraft run.0 }
+    requires some { 1 ≤ run.1 }
     requires numbers { number + run.1 < 2 ^ 64 }
     requires room { vec_len pictures.old + run.1 ≤ vec_capacity pictures.old }
     ensures draws { OnOk result (DrawsRun world.old pictures.old.items number
@@ -132,6 +152,10 @@ fn draw_run<S: Store>(
 {
     let (event, times) = run;
     match event {
+        TraceEvent::Offer(ops) => {
+            offer_times(world, ops, draft, times);
+            return Ok(());
+        }
         TraceEvent::Tick => {
             tick_times(world, times);
             return Ok(());
@@ -156,6 +180,9 @@ fn draw_run<S: Store>(
 /// before.
 ///
 /// The list of pictures is grown once, for as many as there are events, before the first happens.
+///
+/// A draft is checked only where the driver is idle, and once where it is offered many times in a
+/// row. Any other offer is refused, or the driver is busy: nothing changes, and no picture comes.
 pub fn draw_trace<S: Store>(
     alloc: S::Alloc,
     rom: Rom<S::Alloc>,

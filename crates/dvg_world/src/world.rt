@@ -1,6 +1,7 @@
 //! The world: both ends of the vector RAM, one event at a time.
-ghost use Rattle.std.specs.Prelude.{◌≡◌, ◌≢◌, ◌↔◌, ℕ, List, [], length, IfOk, IsErrOf, IsOk, None, Ok, OnErr};
-ghost use Rattle.std.specs.Prelude.{OnOk};
+ghost use Rattle.std.specs.Prelude.{◌≡◌, ◌≢◌, ◌↔◌, ℕ, List, [], length, IfOk, IsErrOf, IsOk};
+ghost use Rattle.std.specs.Prelude.{IsTrue, None, Ok, OnErr, OnOk};
+ghost use Rattle.dvg_driver.specs.Script.{IsWhole};
 ghost use Rattle.dvg_driver.specs.Stands.{IsInRam};
 ghost use Rattle.dvg_log.specs.Entries.{shown_of};
 ghost use Rattle.dvg_log.specs.Events.{happening_of};
@@ -10,6 +11,7 @@ ghost use Rattle.dvg_log.specs.declared.event.Event.TheVariants.{ResetAll};
 ghost use Rattle.dvg_log.specs.declared.entry.Entry.TheVariants.{Acted, Still};
 ghost use Rattle.dvg_log.specs.Legal.{IsLegal};
 ghost use Rattle.dvg_log.specs.Log.{Log};
+ghost use Rattle.dvg_world.specs.Desks.{OfLives};
 ghost use Rattle.dvg_world.specs.Standing.{AddsLine, DrawsNow, KeepsHeadlineAfter, WorldAfter};
 ghost use Rattle.dvg_world.specs.own.Fetched.{entry_of_fetch};
 ghost use Rattle.dvg_world.specs.own.Stepping.{ram_by, sent_by};
@@ -144,6 +146,13 @@ impl<S: Store> World<S> {
             Event::ResetCpu => Ok(self.reset_processor()),
             Event::ResetAll(image) => Ok(self.reset_all(image)),
         }
+    }
+
+    // Whether the driver is idle, and so would take a draft that the check accepts.
+    pub(crate) fn is_idle(&self) -> bool
+        ensures { OfLives self.now.stage (λ peeked life. IsTrue result ↔ IsWhole life) }
+    {
+        self.desk.is_idle()
     }
 
     /// The driver is handed a draft to show, as by `Event::Offer`.

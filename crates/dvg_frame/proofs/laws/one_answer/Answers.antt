@@ -1,5 +1,18 @@
-use Rattle.dvg_frame.proofs.OneFault.{one_answer}
+use Rattle.std.proofs.Common.{⊎_elim, Err, Ok, refl}
+use Rattle.dvg_frame.proofs.Answered.{answered}
+use Rattle.dvg_frame.proofs.Bounded.{some_picture}
+use Rattle.dvg_frame.proofs.OneFault.{one_checked}
 use Rattle.dvg_frame.proofs.laws.one_answer.Goals as goal
 
 pub returns : goal.returns
-returns g c = one_answer _ _ _ c.check-answer.ensures
+returns c = λ F R image.
+    ⊎_elim
+    (λ accepts.
+    let it = some_picture F R image accepts.closed accepts.ends in
+    let checked = (accepts, refl, (it.0, it.2)) in
+    let answer = Ok (record { operations = F; bound = it.1 }) in
+    (answer, checked, λ other holds. one_checked F R answer other checked holds))
+    (λ refused.
+    let answer = Err refused.0 in
+    (answer, refused.1, λ other holds. one_checked F R answer other refused.1 holds))
+    (answered F R image)
