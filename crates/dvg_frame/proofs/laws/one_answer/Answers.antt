@@ -1,4 +1,6 @@
-use Rattle.std.proofs.Common.{⊎_elim, Err, Ok, refl}
+use Rattle.std.proofs.Common.{⊎_elim, Err, Ok, Result, refl}
+use Rattle.dvg_frame.specs.declared.fault.FrameFault.{FrameFault}
+use Rattle.dvg_frame.specs.Faults.{FrameState, IsChecked}
 use Rattle.dvg_frame.proofs.Answered.{answered}
 use Rattle.dvg_frame.proofs.Bounded.{some_picture}
 use Rattle.dvg_frame.proofs.OneFault.{one_checked}
@@ -9,10 +11,10 @@ returns c = λ F R image.
     ⊎_elim
     (λ accepts.
     let it = some_picture F R image accepts.closed accepts.ends in
-    let checked = (accepts, refl, (it.0, it.2)) in
-    let answer = Ok (record { operations = F; bound = it.1 }) in
+    let answer : Result FrameState FrameFault = Ok (record { operations = F; bound = it.1 }) in
+    let checked : IsChecked F R answer = (accepts, refl, (it.0, it.2)) in
     (answer, checked, λ other holds. one_checked F R answer other checked holds))
     (λ refused.
-    let answer = Err refused.0 in
+    let answer : Result FrameState FrameFault = Err refused.0 in
     (answer, refused.1, λ other holds. one_checked F R answer other refused.1 holds))
     (answered F R image)
