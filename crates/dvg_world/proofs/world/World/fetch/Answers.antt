@@ -1,11 +1,11 @@
 use Rattle.std.proofs.Common.{◌≡◌, ap, sym, ◌∙◌, subst}
-use Rattle.std.specs.Prelude.{Ok, Some, None}
+use Rattle.std.specs.Prelude.{Ok}
 use Rattle.dvg_gen.specs.Bytes.{met}
 use Rattle.dvg_log.specs.Entries.{shown_of}
 use Rattle.dvg_log.specs.declared.event.Event.TheVariants.{Fetch}
 use Rattle.dvg_log.specs.declared.entry.Entry.TheVariants.{Still}
 use Rattle.dvg_world.specs.Standing.{AddsLine}
-use Rattle.dvg_world.specs.own.Fetched.{entry_of, entry_of_fetch}
+use Rattle.dvg_world.specs.own.Fetched.{entry_of_fetch}
 use Rattle.dvg_world.proofs.Standing.{keeps_headline}
 use Rattle.dvg_world.proofs.Fetching.{never_still}
 use Rattle.dvg_world.proofs.world.World.fetch.Goals as goal
