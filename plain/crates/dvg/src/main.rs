@@ -26,6 +26,9 @@ use std::{env, io};
 /// The exit status of arguments that can't be read as text.
 const MISUSE: u8 = 64;
 
+/// The most bytes of output that are kept, to be written together.
+const OUTPUT_BYTES: usize = 65_536;
+
 /// The program's arguments. They need not be text, and memory may be refused.
 fn arguments(rt: &HostRuntime) -> io::Result<Vec<String>> {
     Ok(env::args(rt)?.collect(rt.alloc())?)
@@ -72,7 +75,7 @@ fn answer_arguments(rt: &HostRuntime, error: &Error) -> u8 {
 
 /// Does a job from a reader to standard output.
 fn run<R: Read + Drop>(rt: &HostRuntime, job: Job, input: R) -> Result<Done<Global>, ToolFault> {
-    let Ok(output) = BufWriter::new(rt.alloc(), io::writer(rt)) else {
+    let Ok(output) = BufWriter::with_capacity(rt.alloc(), OUTPUT_BYTES, io::writer(rt)) else {
         return Err(ToolFault::Memory);
     };
     let mut reader = Watched::new(input);

@@ -6,7 +6,7 @@
 extern crate plain_std as std;
 
 mod digits;
-mod entry_line;
+mod entry_lines;
 mod line;
 mod log_line;
 mod log_verdict;
@@ -15,7 +15,7 @@ mod stroke_line;
 mod svg_line;
 mod verdict;
 
-pub use entry_line::EntryLine;
+pub use entry_lines::EntryLines;
 pub use line::Line;
 pub use log_verdict::{LogCounts, LogFinding, LogVerdict};
 pub use stroke_line::StrokeLine;

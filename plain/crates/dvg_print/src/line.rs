@@ -1,12 +1,12 @@
 //! Lines of output, made without taking memory.
-use crate::digits::count_up;
+use crate::digits::NUMBER_BYTES;
 use crate::verdict::{BoundedVerdict, Verdict};
 use dvg_code::{Code, Instr};
 use dvg_frame::{FrameFault, Place};
 use itoa::{Buffer, Integer};
 
-/// The most bytes of a line.
-pub(crate) const MOST_BYTES: usize = 64;
+/// The most bytes of a line, or of lines that are written together.
+pub(crate) const MOST_BYTES: usize = 4096;
 
 // A hexadecimal digit in upper case.
 #[inline(always)]
@@ -14,7 +14,7 @@ fn glyph(digit: usize) -> u8 {
     b"0123456789ABCDEF"[digit]
 }
 
-/// A line of output, of at most 64 bytes.
+/// A line of output, or lines that are written together, of at most 4,096 bytes.
 pub struct Line {
     // The bytes of the line, and after them those of earlier lines, which are never cleared.
     bytes: [u8; MOST_BYTES],
@@ -36,41 +36,16 @@ impl Line {
     }
 
     // Becomes a line with no bytes.
+    #[inline(always)]
     pub(crate) fn clear(&mut self) {
         self.count = 0;
     }
 
-    // Keeps this many of its first bytes.
+    // Appends the first of these bytes, this many. All of them are moved, as that takes less time.
     #[inline(always)]
-    pub(crate) fn keep(&mut self, count: usize) {
-        self.count = count;
-    }
-
-    // Becomes a number from the one before it, which nine times in ten has another last digit
-    // alone; or from no bytes.
-    #[inline(always)]
-    pub(crate) fn count_on(&mut self, number: usize) {
-        if !count_up(&mut self.bytes, self.count) {
-            self.become_number(number);
-        }
-    }
-
-    // Adds one to the number that its first bytes are, this many, where the next number has as many
-    // digits; else it answers false.
-    #[inline(always)]
-    pub(crate) fn count_up(&mut self, digits: usize) -> bool {
-        count_up(&mut self.bytes, digits)
-    }
-
-    // Puts a number in place of its first bytes, this many, and answers how many digits it has.
-    #[inline(never)]
-    pub(crate) fn renumber(&mut self, digits: usize, number: usize) -> usize {
-        let mut rest = Line::new();
-        rest.text(&self.as_bytes()[digits..]);
-        self.become_number(number);
-        let count = self.count;
-        self.text(rest.as_bytes());
-        count
+    pub(crate) fn front(&mut self, text: &[u8; NUMBER_BYTES], count: usize) {
+        self.bytes[self.count..self.count + NUMBER_BYTES].copy_from_slice(text);
+        self.count += count;
     }
 
     // Becomes a number in decimal.

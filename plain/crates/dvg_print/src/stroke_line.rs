@@ -1,6 +1,5 @@
 //! Lines of strokes, of which most begin where the one before ended.
-use crate::digits::{put_byte, put_part, put_position};
-use crate::line::MOST_BYTES;
+use crate::digits::{LINE_BYTES, put_byte, put_part, put_position};
 use dvg_gen::Stroke;
 
 /// How many bytes of a position are moved at once: no position has more.
@@ -18,7 +17,7 @@ struct End {
 /// end stays in it, as the next stroke mostly begins there.
 pub struct StrokeLine {
     // The line is at the end of these bytes.
-    bytes: [u8; MOST_BYTES],
+    bytes: [u8; LINE_BYTES],
     start: usize,
     // A position, the end of the last stroke; where its text ends in the bytes, and how long it is.
     x: u32,
@@ -30,7 +29,7 @@ pub struct StrokeLine {
 // Puts the last bytes of a text before `end`, this many, and answers where they begin.
 #[inline(always)]
 fn put_last(
-    bytes: &mut [u8; MOST_BYTES],
+    bytes: &mut [u8; LINE_BYTES],
     end: usize,
     text: &[u8; MOST_OF_POSITION],
     count: usize,
@@ -42,7 +41,7 @@ fn put_last(
 // Puts the position where a stroke begins before `end`, and answers where it begins: mostly it is
 // the end of the last stroke.
 #[inline(always)]
-fn put_begin(bytes: &mut [u8; MOST_BYTES], end: usize, x: u32, y: u32, last: &End) -> usize {
+fn put_begin(bytes: &mut [u8; LINE_BYTES], end: usize, x: u32, y: u32, last: &End) -> usize {
     if x == last.x && y == last.y {
         return put_last(bytes, end, &last.bytes, last.count);
     }
@@ -52,15 +51,15 @@ fn put_begin(bytes: &mut [u8; MOST_BYTES], end: usize, x: u32, y: u32, last: &En
 impl StrokeLine {
     /// No bytes.
     pub fn new() -> StrokeLine {
-        let mut bytes = [0; MOST_BYTES];
-        let start = put_position(&mut bytes, MOST_BYTES, 0, 0);
+        let mut bytes = [0; LINE_BYTES];
+        let start = put_position(&mut bytes, LINE_BYTES, 0, 0);
         StrokeLine {
             bytes,
-            start: MOST_BYTES,
+            start: LINE_BYTES,
             x: 0,
             y: 0,
-            end: MOST_BYTES,
-            count: MOST_BYTES - start,
+            end: LINE_BYTES,
+            count: LINE_BYTES - start,
         }
     }
 
@@ -86,7 +85,7 @@ impl StrokeLine {
     #[inline(always)]
     pub fn become_next(&mut self, stroke: &Stroke) {
         let last = self.last_end();
-        let newline = put_byte(&mut self.bytes, MOST_BYTES, b'\n');
+        let newline = put_byte(&mut self.bytes, LINE_BYTES, b'\n');
         let end = put_part(&mut self.bytes, newline, u32::from(stroke.z));
         let from = put_position(&mut self.bytes, end, stroke.x1, stroke.y1);
         let space = put_byte(&mut self.bytes, from, b' ');

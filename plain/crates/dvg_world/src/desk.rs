@@ -44,6 +44,11 @@ impl<A: Allocator> Desk<A> {
         &self.rom
     }
 
+    /// Whether the driver is idle, and so would take a draft that the check accepts.
+    pub(crate) fn is_idle(&self) -> bool {
+        self.driver.is_idle()
+    }
+
     /// The driver is handed a draft to show.
     pub fn offer<S>(&mut self, draft: &Draft) -> Entry<S> {
         let checked = match self.checker.check(draft, &self.rom) {

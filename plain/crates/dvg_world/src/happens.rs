@@ -11,6 +11,13 @@ pub(crate) fn fill(draft: &mut Draft, ops: &[Op]) {
     draft.try_extend_from_slice(ops).unwrap();
 }
 
+// A draft may hold each of them, as their type says. Nothing is done.
+pub(crate) fn are_ops(ops: &[Op]) {
+    for op in ops {
+        let _ = op.kind();
+    }
+}
+
 // Lets an event of a trace happen to a world. The draft of an offer is made in `draft`.
 #[inline(always)]
 pub(crate) fn happen<S: Store>(

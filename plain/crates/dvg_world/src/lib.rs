@@ -12,6 +12,7 @@ extern crate plain_std as std;
 
 mod desk;
 mod entries;
+mod fetched;
 mod happens;
 mod judge;
 mod logging;

@@ -2,6 +2,7 @@
 use std::prelude::*;
 
 use crate::entries::Entries;
+use crate::fetched::FetchedByte;
 use crate::happens::fill;
 use crate::world::World;
 use dvg_code::OutOfMemory;
@@ -43,7 +44,27 @@ impl<A: Allocator> EntriesKept<A> {
     // Keeps one entry more.
     #[inline(always)]
     fn keep(&mut self, entry: OwnEntry<A>) {
-        let (entry, drew) = entry.replace(self.drawn.len() as u16);
+        let (entry, drew) = entry.replace(self.number());
+        self.keep_parts(entry, drew);
+    }
+
+    // Keeps the entry of one fetch more.
+    #[inline(always)]
+    fn keep_fetched(&mut self, fetched: FetchedByte<A>) {
+        let (entry, drew) = fetched.replace(self.number());
+        self.keep_parts(entry, drew);
+    }
+
+    // The number of the next picture.
+    #[inline(always)]
+    fn number(&self) -> u16 {
+        self.drawn.len() as u16
+    }
+
+    // Keeps one entry more, with the number of the next picture in place of what its run drew, and
+    // what that is, if it finished.
+    #[inline(always)]
+    fn keep_parts(&mut self, entry: Entry<u16>, drew: Option<Vec<Stroke, A>>) {
         if let Some(strokes) = drew {
             self.drawn.push_reserved(strokes);
         }
@@ -113,14 +134,14 @@ fn log_fetches<S: Store>(
     world: &mut World<S>,
 ) -> Result<(), OutOfMemory> {
     for done in 0..times {
-        match world.fetch() {
-            Ok(Entry::Still) => {
+        match world.feed() {
+            Ok(None) => {
                 for _again in done..times {
                     entries.keep(Entry::Still);
                 }
                 return Ok(());
             }
-            Ok(entry) => entries.keep(entry),
+            Ok(Some(fetched)) => entries.keep_fetched(fetched),
             Err(refused) => return Err(refused),
         }
     }

@@ -1,13 +1,13 @@
 //! The pictures of a trace.
 use std::prelude::*;
 
-use crate::happens::happen;
+use crate::happens::{are_ops, fill, happen};
 use crate::world::World;
 use dvg_code::OutOfMemory;
 use dvg_driver::Action;
-use dvg_frame::Draft;
+use dvg_frame::{Draft, Op};
 use dvg_gen::Stroke;
-use dvg_log::{Entry, OwnEntry, Trace, TraceEvent};
+use dvg_log::{Trace, TraceEvent};
 use dvg_mem::{Image, Rom, Store};
 use std::alloc::{Allocator, Global};
 
@@ -48,10 +48,27 @@ fn tick_times<S: Store>(world: &mut World<S>, times: usize) {
     }
 }
 
-// Keeps the picture of the event of this number, if its entry is that of a finished run.
+// Lets so many offers of these operations happen to a world. No picture comes of them. The first
+// is taken where the driver is idle and the check accepts the draft. Any other changes nothing,
+// whatever the check would answer. So the draft is checked at most once, where the driver is idle.
+fn offer_times<S: Store>(world: &mut World<S>, ops: &[Op], draft: &mut Draft, times: usize) {
+    if world.is_idle() {
+        fill(draft, ops);
+        let _answer = world.offer(draft);
+    } else {
+        // The draft is refused, or the driver is busy.
+        are_ops(ops);
+    }
+}
+
+// Keeps the picture of the event of this number, if a run finished by it, which drew this.
 #[inline(always)]
-fn keep_picture<A: Allocator>(pictures: &mut Vec<Picture<A>, A>, event: usize, entry: OwnEntry<A>) {
-    if let Entry::Done(_, _, strokes) = entry {
+fn keep_picture<A: Allocator>(
+    pictures: &mut Vec<Picture<A>, A>,
+    event: usize,
+    drew: Option<Vec<Stroke, A>>,
+) {
+    if let Some(strokes) = drew {
         pictures.push_reserved(Picture { event, strokes });
     }
 }
@@ -65,9 +82,9 @@ fn fetch_times<S: Store>(
     pictures: &mut Vec<Picture<S::Alloc>, S::Alloc>,
 ) -> Result<(), OutOfMemory> {
     for done in 0..times {
-        match world.fetch() {
-            Ok(Entry::Still) => return Ok(()),
-            Ok(entry) => keep_picture(pictures, number + done, entry),
+        match world.feed() {
+            Ok(None) => return Ok(()),
+            Ok(Some(fetched)) => keep_picture(pictures, number + done, fetched.drew()),
             Err(refused) => return Err(refused),
         }
     }
@@ -85,6 +102,10 @@ fn draw_run<S: Store>(
 ) -> Result<(), OutOfMemory> {
     let (event, times) = run;
     match event {
+        TraceEvent::Offer(ops) => {
+            offer_times(world, ops, draft, times);
+            return Ok(());
+        }
         TraceEvent::Tick => {
             tick_times(world, times);
             return Ok(());
@@ -94,7 +115,7 @@ fn draw_run<S: Store>(
     }
     for done in 0..times {
         match happen(event, draft, world) {
-            Ok(entry) => keep_picture(pictures, number + done, entry),
+            Ok(entry) => keep_picture(pictures, number + done, entry.replace(()).1),
             Err(refused) => return Err(refused),
         }
     }
@@ -109,6 +130,9 @@ fn draw_run<S: Store>(
 /// before.
 ///
 /// The list of pictures is grown once, for as many as there are events, before the first happens.
+///
+/// A draft is checked only where the driver is idle, and once where it is offered many times in a
+/// row. Any other offer is refused, or the driver is busy: nothing changes, and no picture comes.
 pub fn draw_trace<S: Store>(
     alloc: S::Alloc,
     rom: Rom<S::Alloc>,

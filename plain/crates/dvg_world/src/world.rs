@@ -1,5 +1,6 @@
 //! The world: both ends of the vector RAM, one event at a time.
 use crate::desk::Desk;
+use crate::fetched::FetchedByte;
 use dvg_code::OutOfMemory;
 use dvg_driver::Action;
 use dvg_frame::Draft;
@@ -93,6 +94,11 @@ impl<S: Store> World<S> {
         }
     }
 
+    // Whether the driver is idle, and so would take a draft that the check accepts.
+    pub(crate) fn is_idle(&self) -> bool {
+        self.desk.is_idle()
+    }
+
     /// The driver is handed a draft to show, as by `Event::Offer`.
     #[inline(always)]
     pub fn offer(&mut self, draft: &Draft) -> OwnEntry<S::Alloc> {
@@ -147,13 +153,28 @@ impl<S: Store> World<S> {
     /// of memory, and then the world is as it was.
     #[inline(always)]
     pub fn fetch(&mut self) -> Result<OwnEntry<S::Alloc>, OutOfMemory> {
+        match self.feed() {
+            Ok(None) => Ok(Entry::Still),
+            Ok(Some(fetched)) => Ok(fetched.entry()),
+            Err(refused) => Err(refused),
+        }
+    }
+
+    // The generator fetches one byte, if a run is open. No entry is made of it.
+    #[inline(always)]
+    pub(crate) fn feed(&mut self) -> Result<Option<FetchedByte<S::Alloc>>, OutOfMemory> {
         let Some(address) = self.generator.wants() else {
-            return Ok(Entry::Still);
+            return Ok(None);
         };
         let low = self.generator.low_byte();
         let byte = fetch_byte(&self.store, self.desk.rom(), address, low.is_some());
         let taken = self.generator.take_byte(byte)?;
-        Ok(Entry::of_fetch(address, low, byte, taken))
+        Ok(Some(FetchedByte {
+            address,
+            low,
+            byte,
+            taken,
+        }))
     }
 
     /// The generator is reset, as by `Event::ResetGen`.
