@@ -1,5 +1,5 @@
 -- Lines of events at the head of a text.
-use Rattle.std.proofs.Common.{◌≡◌, ◌<◌, ◌≤◌, ◌+◌, ◌*◌, ◌-◌, ℕ, suc, List, [], ◌∷◌, ◌++◌, length, get_or, take, drop, min, replicate, refl, sym, ap, subst, ◌∙◌, arith, All, true, false, Bool, eqb, append_assoc, codes, Option, Some, None, IfSome, MatchOption, lit<}
+use Rattle.std.proofs.Common.{◌≡◌, ◌<◌, ◌≤◌, ◌+◌, ◌*◌, ◌-◌, ℕ, zero, suc, List, [], ◌∷◌, ◌++◌, length, get_or, take, drop, min, replicate, refl, sym, ap, subst, ◌∙◌, arith, All, true, false, Bool, eqb, append_assoc, append-nil, length-append, codes, Result, Ok, Err, OnErr, Option, Some, None, IfSome, MatchOption, lit<}
 use Rattle.std.specs.Borrow.{Bor}
 use Rattle.std.specs.List.{AllZip, AllByRecursion}
 use Rattle.std.specs.Char.{digit_value}
@@ -112,3 +112,46 @@ reset_event text body high low named fits space end is_high is_low few small =
     let y = get_or body 2 0 in
     let h = reset_parts text body (x ∷ y ∷ []) (behind 3 body) named (digits_from body 32 10 fits space end) (two_parts x y high low is_high is_low few small) in
     event_made text (behind 3 body) _ _ h (resetall_made (16 * high + low) (codes "resetall") (x ∷ y ∷ []) refl (two_digits x y high low is_high is_low few small))
+
+-- ---- events that are added
+
+first_in : (left rest ahead : List (List ℕ)) (event : Happening) (more : List Happening) → AllZip SpellsEvent (event ∷ more) ahead → left ≡ ahead ++ rest → BeginsWithEvent left
+first_in left rest [] event more h cut = absurd h
+first_in left rest (line ∷ ahead) event more h cut = record { event = event; rest = ahead ++ rest; ahead = one_event left (ahead ++ rest) event line cut h.0 }
+
+pub begins_run : (left rest : List (List ℕ)) (event : Happening) (n : ℕ) → HasEvents left (replicate n event) rest → 0 < n → BeginsWithEvent left
+begins_run left rest event zero h some = absurd (omega arith)
+begins_run left rest event (suc n) h some = first_in left rest h.ahead event (replicate n event) h.spelled h.cut
+
+begins_in : (left then ahead : List (List ℕ)) (more : List Happening) → AllZip SpellsEvent more ahead → left ≡ ahead ++ then → BeginsWithEvent then → BeginsWithEvent left
+begins_in left then [] [] h cut b = subst BeginsWithEvent (sym cut) b
+begins_in left then (line ∷ ahead) [] h cut b = absurd h
+begins_in left then ahead (event ∷ more) h cut b = first_in left then ahead event more h cut
+
+pub begins_later : (left then : List (List ℕ)) (old new : List Happening) (n : ℕ) → AddsEvents left old n then new → BeginsWithEvent then → BeginsWithEvent left
+begins_later left then old new n a b = begins_in left then a.ahead.ahead a.more a.ahead.spelled a.ahead.cut b
+
+pub adds_nothing : (left : List (List ℕ)) (old : List Happening) → AddsEvents left old 0 left old
+adds_nothing left old = record { more = []; ahead = no_events left; added = sym (append-nil old); counted = refl }
+
+pub adds_run : (left rest : List (List ℕ)) (old new : List Happening) (event : Happening) (n : ℕ) → HasEvents left (replicate n event) rest → new ≡ old ++ replicate n event → AddsEvents left old n rest new
+adds_run left rest old new event n h is = record { more = replicate n event; ahead = h; added = is; counted = length-replicate n event }
+
+pub adds_no_run : (left rest : List (List ℕ)) (old : List Happening) (event : Happening) (n : ℕ) → HasEvents left (replicate n event) rest → n ≤ 0 → AddsEvents left old n rest old
+adds_no_run left rest old event zero h none = adds_run left rest old old event 0 h (sym (append-nil old))
+adds_no_run left rest old event (suc n) h none = absurd (omega arith)
+
+pub adds_more : (left then rest : List (List ℕ)) (old mid new : List Happening) (n m total : ℕ) → AddsEvents left old n then mid → AddsEvents then mid m rest new → total ≡ n + m → AddsEvents left old total rest new
+adds_more left then rest old mid new n m total a b is = record {
+  more = a.more ++ b.more;
+  ahead = events_after left then rest a.more b.more a.ahead b.ahead;
+  added = b.added ∙ ap (λ events. events ++ b.more) a.added ∙ append_assoc old a.more b.more;
+  counted = omega (arith, length-append a.more b.more, a.counted, b.counted, is);
+}
+
+pub adds_length : (left rest : List (List ℕ)) (old new : List Happening) (n : ℕ) → AddsEvents left old n rest new → length new ≡ length old + n
+adds_length left rest old new n a = omega (arith, ap length a.added, length-append old a.more, a.counted)
+
+pub on_err : {A E : Type 0} (P : Type 0) (answer : Result A E) → P → OnErr answer P
+on_err P (Ok x) h = tt
+on_err P (Err x) h = h
