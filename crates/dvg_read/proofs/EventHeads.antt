@@ -1,5 +1,5 @@
 -- Lines of events at the head of a text.
-use Rattle.std.proofs.Common.{◌≡◌, ◌<◌, ◌≤◌, ◌+◌, ◌*◌, ◌-◌, ℕ, zero, suc, List, [], ◌∷◌, ◌++◌, length, get_or, take, drop, min, replicate, refl, sym, ap, subst, ◌∙◌, arith, All, true, false, Bool, eqb, append_assoc, append-nil, length-append, codes, Result, Ok, Err, OnErr, Option, Some, None, IfSome, MatchOption, lit<}
+use Rattle.std.proofs.Common.{◌≡◌, ◌<◌, ◌≤◌, ◌+◌, ◌*◌, ◌-◌, ℕ, zero, suc, List, [], ◌∷◌, ◌++◌, length, get_or, take, drop, min, replicate, refl, sym, ap, subst, ◌∙◌, arith, All, true, false, Bool, eqb, append_assoc, append-nil, length-append, codes, Result, Ok, Err, IfOk, OnOk, OnErr, Option, Some, None, IfSome, MatchOption, lit<}
 use Rattle.std.specs.Borrow.{Bor}
 use Rattle.std.specs.List.{AllZip, AllByRecursion}
 use Rattle.std.specs.Char.{digit_value}
@@ -9,17 +9,19 @@ use Rattle.std.proofs.lemmas.Bool.Decides.{Decides-eqb}
 use Rattle.std.proofs.lemmas.Bool.{cases_lt}
 use Rattle.std.proofs.lemmas.Slice.Eq.{strip_prefix_is}
 use Rattle.std.proofs.lemmas.List.{length-replicate, replicate-append-replicate}
-use Rattle.std.proofs.lemmas.List.Elements.{All-from_recursion}
+use Rattle.std.proofs.lemmas.List.Elements.{All-append, All-from_recursion, All-nil}
+use Rattle.dvg_frame.specs.declared.op.OpKind.{OpKind}
 use Rattle.dvg_log.specs.Events.{Happening}
 use Rattle.dvg_log.specs.declared.event.Event.TheVariants.{Offer, Redraw, Tick, Strobe, Fetch, ResetGen, ResetCpu, ResetAll}
 use Rattle.dvg_read.specs.EventLines.{IsNamed}
 use Rattle.dvg_read.specs.Texts.{IsHex, lines, parts}
 use Rattle.dvg_read.specs.TraceEvents.{AddsEvents, BeginsWithEvent, HasEvents, IsNameLine, SpellsEvent}
-use Rattle.dvg_read.specs.TraceTexts.{EventParts}
+use Rattle.dvg_read.specs.TraceTexts.{EventParts, FitsDraft, FitsTrace}
 use Rattle.dvg_read.proofs.EventRows.{named_made, resetall_made}
 use Rattle.dvg_read.proofs.FirstBytes.{HasNone, behind}
 use Rattle.dvg_read.proofs.Heads.{HasParts, IsPart, after_name, halves, last_part, next_part}
 use Rattle.dvg_read.proofs.LineEnds.{line_at}
+use Rattle.dvg_read.proofs.TraceMoves.{fine_events}
 
 -- ---- names
 
@@ -155,3 +157,14 @@ adds_length left rest old new n a = omega (arith, ap length a.added, length-appe
 pub on_err : {A E : Type 0} (P : Type 0) (answer : Result A E) → P → OnErr answer P
 on_err P (Ok x) h = tt
 on_err P (Err x) h = h
+
+-- what is added is held
+
+fine_ahead : (more : List Happening) (ahead : List (List ℕ)) → AllZip SpellsEvent more ahead → All FitsDraft more
+fine_ahead [] ahead h = All-nil FitsDraft
+fine_ahead (event ∷ more) [] h = absurd h
+fine_ahead (event ∷ more) (line ∷ ahead) h = All-append FitsDraft (event ∷ []) more (fine_events h.0) (fine_ahead more ahead h.1)
+
+pub adds_fit : {E : Type 0} (answer : Result ℕ E) (left rest : List (List ℕ)) (old new : List Happening) (opened : Option (List OpKind)) → IfOk answer (λ count. AddsEvents left old count rest new) → OnOk answer (length new ≤ 65536) → FitsTrace old opened → OnOk answer (FitsTrace new opened)
+adds_fit (Ok count) left rest old new opened a room fits = record { count = room; drafts = subst (All FitsDraft) (sym a.added) (All-append FitsDraft old a.more fits.drafts (fine_ahead a.more a.ahead.ahead a.ahead.spelled)); last = fits.last }
+adds_fit (Err x) left rest old new opened a room fits = tt
