@@ -159,24 +159,6 @@ wants_memory text left n old opened held r short fits closed room b =
 pub all_spelled : (text : List ℕ) (left : List (List ℕ)) (n : ℕ) (events : List Happening) (opened : Option (List OpKind)) (held : RomReading) → left ≡ [] → (r : ReadTrace text left n events opened held) → SpellsTrace r.rom events opened (unpassed (lines text))
 all_spelled text left n events opened held none r = subst (SpellsTrace r.rom events opened) (ap unpassed (sym (r.cut ∙ ap (λ l. r.before ++ l) none ∙ append-nil r.before))) r.spelled
 
-pub gives_all : (text : List ℕ) (rom : RomText) (events : List Happening) (opened : Option (List OpKind)) (held : RomReading) → SpellsTrace rom events opened (unpassed (lines text)) → IsShort text → FitsTrace events opened → HoldsRom rom held → opened ≡ None → (bytes : List ℕ) → bytes ≡ held.bytes.items
-    → GivesTrace text events bytes
-gives_all text rom events opened held spelled short fits holds closed bytes is = record {
-  rom = rom;
-  denotes = record { short = short; spelled = subst (λ kept. SpellsTrace rom events kept (unpassed (lines text))) closed spelled; fits = subst (FitsTrace events) closed fits };
-  bytes = rw is holds.is_rom;
-}
-
-pub ends_inside : (text : List ℕ) (rom : RomText) (events : List Happening) (opened : Option (List OpKind)) (F : List OpKind) → SpellsTrace rom events opened (unpassed (lines text)) → IsShort text → FitsTrace events opened → opened ≡ Some F → EndsInside text
-ends_inside text rom events opened F spelled short fits inside = record {
-  short = short;
-  rom = rom;
-  events = events;
-  F = F;
-  spelled = subst (λ kept. SpellsTrace rom events kept (unpassed (lines text))) inside spelled;
-  fits = subst (FitsTrace events) inside fits;
-}
-
 -- no text has more lines than bytes
 pub bounded : (text : List ℕ) (left : List (List ℕ)) (n : ℕ) (events : List Happening) (opened : Option (List OpKind)) (held : RomReading) → ReadTrace text left n events opened held → IsShort text → n ≤ 1048576
 bounded text left n events opened held r short = omega (arith, r.number, ap length r.cut, length-append r.before left, lines_length text)
