@@ -1,20 +1,16 @@
 -- Lines of events at the head of a text.
-use Rattle.std.proofs.Common.{◌≡◌, ◌<◌, ◌≤◌, ◌+◌, ◌*◌, ◌-◌, ℕ, zero, suc, List, [], ◌∷◌, ◌++◌, length, get_or, take, drop, min, replicate, refl, sym, ap, subst, ◌∙◌, arith, All, true, false, Bool, eqb, append_assoc, append-nil, length-append, codes, Result, Ok, Err, IfOk, OnOk, OnErr, Option, Some, None, IfSome, MatchOption, lit<}
+use Rattle.std.proofs.Common.{◌≡◌, ◌<◌, ◌≤◌, ◌+◌, ◌*◌, ℕ, zero, suc, List, [], ◌∷◌, ◌++◌, length, get_or, take, drop, min, replicate, refl, sym, ap, subst, ◌∙◌, arith, All, true, false, eqb, append_assoc, append-nil, length-append, codes, Result, Ok, Err, IfOk, OnOk, OnErr, Option, Some, None, IfSome, MatchOption, lit<}
 use Rattle.std.specs.Borrow.{Bor}
-use Rattle.std.specs.List.{AllZip, AllByRecursion}
+use Rattle.std.specs.List.{AllZip}
 use Rattle.std.specs.Char.{digit_value}
 use Rattle.std.specs.Cmp.Lexicographic.{pointwise}
-use Rattle.std.proofs.Math.Seq.{split_at}
-use Rattle.std.proofs.lemmas.Bool.Decides.{Decides-eqb}
-use Rattle.std.proofs.lemmas.Bool.{cases_lt}
-use Rattle.std.proofs.lemmas.Slice.Eq.{strip_prefix_is}
 use Rattle.std.proofs.lemmas.List.{length-replicate, replicate-append-replicate}
 use Rattle.std.proofs.lemmas.List.Elements.{All-append, All-from_recursion, All-nil}
 use Rattle.dvg_frame.specs.declared.op.OpKind.{OpKind}
 use Rattle.dvg_log.specs.Events.{Happening}
 use Rattle.dvg_log.specs.declared.event.Event.TheVariants.{Offer, Redraw, Tick, Strobe, Fetch, ResetGen, ResetCpu, ResetAll}
 use Rattle.dvg_read.specs.EventLines.{IsNamed}
-use Rattle.dvg_read.specs.Texts.{IsHex, lines, parts}
+use Rattle.dvg_read.specs.Texts.{IsHex, lines}
 use Rattle.dvg_read.specs.TraceEvents.{AddsEvents, BeginsWithEvent, HasEvents, IsNameLine, SpellsEvent}
 use Rattle.dvg_read.specs.TraceTexts.{EventParts, FitsDraft, FitsTrace}
 use Rattle.dvg_read.proofs.EventRows.{named_made, resetall_made}

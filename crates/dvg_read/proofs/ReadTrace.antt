@@ -1,6 +1,7 @@
 -- The text of a trace, read up to some line.
 use Rattle.std.proofs.Common.{◌≡◌, ◌<◌, ◌≤◌, ◌+◌, ℕ, zero, suc, List, [], ◌∷◌, ◌++◌, length, refl, sym, ap, subst, ◌∙◌, arith, append-nil, append_assoc, length-append, Bool, true, false, Option, Some, None}
 use Rattle.std.specs.List.{AllZip}
+use Rattle.std.specs.Option.{is_some}
 use Rattle.dvg_frame.specs.declared.op.OpKind.{OpKind}
 use Rattle.dvg_log.specs.Events.{Happening}
 use Rattle.dvg_read.specs.declared.trace_text.LineFault.{LineFault}
@@ -156,8 +157,40 @@ wants_memory text left n old opened held r short fits closed room b =
 
 -- at the text's end
 
+all_unpassed : (text : List ℕ) (left before : List (List ℕ)) → left ≡ [] → lines text ≡ before ++ left → unpassed before ≡ unpassed (lines text)
+all_unpassed text left before none cut = ap unpassed (sym (cut ∙ ap (λ l. before ++ l) none ∙ append-nil before))
+
 pub all_spelled : (text : List ℕ) (left : List (List ℕ)) (n : ℕ) (events : List Happening) (opened : Option (List OpKind)) (held : RomReading) → left ≡ [] → (r : ReadTrace text left n events opened held) → SpellsTrace r.rom events opened (unpassed (lines text))
-all_spelled text left n events opened held none r = subst (SpellsTrace r.rom events opened) (ap unpassed (sym (r.cut ∙ ap (λ l. r.before ++ l) none ∙ append-nil r.before))) r.spelled
+all_spelled text left n events opened held none r = subst (SpellsTrace r.rom events opened) (all_unpassed text left r.before none r.cut) r.spelled
+
+pub gives_all : (text : List ℕ) (left : List (List ℕ)) (n : ℕ) (events : List Happening) (opened : Option (List OpKind)) (held : RomReading) → left ≡ [] → ReadTrace text left n events opened held → IsShort text → FitsTrace events opened → opened ≡ None → (bytes : List ℕ) → bytes ≡ held.bytes.items
+    → GivesTrace text events bytes
+gives_all text left n events opened held none r short fits closed bytes is = record {
+  rom = r.rom;
+  denotes = record { short = short; spelled = subst (λ kept. SpellsTrace r.rom events kept (unpassed (lines text))) closed (subst (SpellsTrace r.rom events opened) (all_unpassed text left r.before none r.cut) r.spelled); fits = subst (FitsTrace events) closed fits };
+  bytes = rw is r.holds.is_rom;
+}
+
+pub ends_inside : (text : List ℕ) (left : List (List ℕ)) (n : ℕ) (events : List Happening) (opened : Option (List OpKind)) (held : RomReading) (F : List OpKind) → left ≡ [] → ReadTrace text left n events opened held → IsShort text → FitsTrace events opened → opened ≡ Some F
+    → EndsInside text
+ends_inside text left n events opened held F none r short fits inside = record {
+  short = short;
+  rom = r.rom;
+  events = events;
+  F = F;
+  spelled = subst (λ kept. SpellsTrace r.rom events kept (unpassed (lines text))) inside (subst (SpellsTrace r.rom events opened) (all_unpassed text left r.before none r.cut) r.spelled);
+  fits = subst (FitsTrace events) inside fits;
+}
+
+pub ends_open : (text : List ℕ) (left : List (List ℕ)) (n : ℕ) (events : List Happening) (opened : Option (List OpKind)) (held : RomReading) → left ≡ [] → ReadTrace text left n events opened held → IsShort text → FitsTrace events opened
+    → (b : Bool) → b ≡ is_some opened → b ≡ true → EndsInside text
+ends_open text left n events (Some F) held none r short fits b e test = ends_inside text left n events (Some F) held F none r short fits refl
+ends_open text left n events None held none r short fits b e test = absurd (cc)
+
+pub closed_all : (text : List ℕ) (left : List (List ℕ)) (n : ℕ) (events : List Happening) (opened : Option (List OpKind)) (held : RomReading) → left ≡ [] → ReadTrace text left n events opened held → IsShort text → FitsTrace events opened
+    → (b : Bool) → b ≡ is_some opened → b ≡ false → (bytes : List ℕ) → bytes ≡ held.bytes.items → GivesTrace text events bytes
+closed_all text left n events None held none r short fits b e test bytes is = gives_all text left n events None held none r short fits refl bytes is
+closed_all text left n events (Some F) held none r short fits b e test bytes is = absurd (cc)
 
 -- no text has more lines than bytes
 pub bounded : (text : List ℕ) (left : List (List ℕ)) (n : ℕ) (events : List Happening) (opened : Option (List OpKind)) (held : RomReading) → ReadTrace text left n events opened held → IsShort text → n ≤ 1048576

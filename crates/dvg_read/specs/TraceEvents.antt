@@ -1,5 +1,5 @@
 -- Lines of events that are taken many at once (for private contracts).
-use Rattle.std.specs.Prelude.{◌≡◌, ℕ, ◌<◌, List, [], ◌∷◌, ◌++◌, length}
+use Rattle.std.specs.Prelude.{◌≡◌, ℕ, List, [], ◌∷◌, ◌++◌, length}
 use Rattle.std.specs.List.{AllZip}
 use Rattle.dvg_log.specs.Events.{Happening}
 use Rattle.dvg_read.specs.EventLines.{IsNamed}

@@ -8,22 +8,48 @@ use crate::event_line::SpelledEvent;
 use crate::number::digit_of;
 use dvg_log::Event;
 
-/// A text with fewer bytes is not looked at: the longest line that is read here has so many, with
-/// its end.
+/// How many bytes the longest line has that is read here, with its end. A text with fewer is read
+/// otherwise.
 pub(crate) const HEAD: usize = 12;
 
-/// The letters `tick`, `fetc`, `stro`, `redr` and `rese` as numbers, as `letters_at_head` has them.
-pub(crate) const TICK: u32 = 0x6B63_6974;
+/// A name of events with its line's end: its first four letters, and what stands after them.
+pub(crate) type Name = (&'static [u8], &'static [u8]);
 
-pub(crate) const FETC: u32 = 0x6374_6566;
+/// The name `tick`.
+pub(crate) const TICK: Name = (b"tick", b"\n");
 
-pub(crate) const STRO: u32 = 0x6F72_7473;
+/// The name `fetch`.
+pub(crate) const FETCH: Name = (b"fetc", b"h\n");
 
-pub(crate) const REDR: u32 = 0x7264_6572;
+/// The name `strobe`.
+pub(crate) const STROBE: Name = (b"stro", b"be\n");
 
-pub(crate) const RESE: u32 = 0x6573_6572;
+/// The name `redraw`.
+pub(crate) const REDRAW: Name = (b"redr", b"aw\n");
 
-/// The first four bytes of a text, as a number.
+/// The name `resetgen`.
+pub(crate) const RESETGEN: Name = (b"rese", b"tgen\n");
+
+/// The name `resetcpu`.
+pub(crate) const RESETCPU: Name = (b"rese", b"tcpu\n");
+
+/// The letters `tick`, as a number.
+pub(crate) const TICK_LETTERS: u32 = 0x6B63_6974;
+
+/// The letters `fetc`, as a number.
+pub(crate) const FETCH_LETTERS: u32 = 0x6374_6566;
+
+/// The letters `stro`, as a number.
+pub(crate) const STROBE_LETTERS: u32 = 0x6F72_7473;
+
+/// The letters `redr`, as a number.
+pub(crate) const REDRAW_LETTERS: u32 = 0x7264_6572;
+
+/// The letters `rese`, as a number.
+pub(crate) const RESET_LETTERS: u32 = 0x6573_6572;
+
+/// The first four bytes of a text as a number, the first of them the lowest. They only tell which
+/// name to look for, so nothing is claimed of them.
 #[inline(always)]
 pub(crate) fn letters_at_head(text: &[u8]) -> Option<u32> {
     let head = text.first_chunk::<HEAD>()?;

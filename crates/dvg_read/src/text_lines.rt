@@ -48,14 +48,16 @@ impl<'a> TextLines<'a> {
             → HasEvents (lines_left self.old) (replicate result event) (lines_left self.new) }
         ensures most { result ≤ most }
     {
+        let mut rest = self.rest;
         let mut count = 0;
-        while count < most && self.rest.len() >= HEAD {
-            let Some(rest) = after_name(self.rest, letters, ending) else {
+        while count < most && rest.len() >= HEAD {
+            let Some(after) = after_name(rest, letters, ending) else {
                 break;
             };
-            self.rest = rest;
+            rest = after;
             count += 1;
         }
+        self.rest = rest;
         count
     }
 

@@ -4,7 +4,10 @@ ghost use Rattle.dvg_read.specs.EventLines.{spelled_as};
 ghost use Rattle.dvg_read.specs.TextLines.{lines_left};
 ghost use Rattle.dvg_read.specs.TraceEvents.{AddsEvents, BeginsWithEvent, IsNameLine};
 
-use crate::event_head::{FETC, REDR, RESE, STRO, TICK};
+use crate::event_head::{
+    FETCH, FETCH_LETTERS, Name, REDRAW, REDRAW_LETTERS, RESET_LETTERS, RESETCPU, RESETGEN, STROBE,
+    STROBE_LETTERS, TICK, TICK_LETTERS,
+};
 use crate::event_line::SpelledEvent;
 use crate::text_lines::TextLines;
 use dvg_code::OutOfMemory;
@@ -59,25 +62,11 @@ fn take_run<A: Allocator + Copy>(
         return Ok(0);
     };
     match letters {
-        TICK => take_names(alloc, Event::Tick, (b"tick", b"\n"), most, lines, events),
-        FETC => take_names(alloc, Event::Fetch, (b"fetc", b"h\n"), most, lines, events),
-        STRO => take_names(
-            alloc,
-            Event::Strobe,
-            (b"stro", b"be\n"),
-            most,
-            lines,
-            events,
-        ),
-        REDR => take_names(
-            alloc,
-            Event::Redraw,
-            (b"redr", b"aw\n"),
-            most,
-            lines,
-            events,
-        ),
-        RESE => take_resets(alloc, most, lines, events),
+        TICK_LETTERS => take_names(alloc, Event::Tick, TICK, most, lines, events),
+        FETCH_LETTERS => take_names(alloc, Event::Fetch, FETCH, most, lines, events),
+        STROBE_LETTERS => take_names(alloc, Event::Strobe, STROBE, most, lines, events),
+        REDRAW_LETTERS => take_names(alloc, Event::Redraw, REDRAW, most, lines, events),
+        RESET_LETTERS => take_resets(alloc, most, lines, events),
         _ => Ok(0),
     }
 }
@@ -101,33 +90,19 @@ fn take_resets<A: Allocator + Copy>(
         add_times(alloc, event, 1, events)?;
         return Ok(1);
     }
-    let count = take_names(
-        alloc,
-        Event::ResetGen,
-        (b"rese", b"tgen\n"),
-        most,
-        lines,
-        events,
-    )?;
+    let count = take_names(alloc, Event::ResetGen, RESETGEN, most, lines, events)?;
     if count > 0 {
         return Ok(count);
     }
-    take_names(
-        alloc,
-        Event::ResetCpu,
-        (b"rese", b"tcpu\n"),
-        most,
-        lines,
-        events,
-    )
+    take_names(alloc, Event::ResetCpu, RESETCPU, most, lines, events)
 }
 
-// The same, where they are the name of this event: its letters and its ending.
+// The same, where they are the name of this event.
 #[inline(always)]
 fn take_names<A: Allocator>(
     alloc: A,
     event: SpelledEvent,
-    name: (&[u8], &[u8]),
+    name: Name,
     most: u16,
     lines: &mut TextLines,
     events: &mut Trace<A>,

@@ -1,4 +1,3 @@
-use Rattle.std.proofs.Common.{arith}
 use Rattle.dvg_read.specs.EventLines.{spelled_as}
 use Rattle.dvg_read.specs.TextLines.{lines_left}
 use Rattle.dvg_read.specs.TraceEvents.{BeginsWithEvent}

@@ -7,7 +7,7 @@ use Rattle.dvg_read.proofs.text_lines.TextLines.take_names.Given as goal
 abbrev pub invariant-loop-count : goal.invariant-loop-count
 invariant-loop-count l = record {
   few : l.count ≤ l.most;
-  taken : (event : Happening) → IsNameLine event (l.letters ++ l.ending) → HasEvents (lines l.initial.self.rest.now) (replicate l.count event) (lines l.self.rest.now);
+  taken : (event : Happening) → IsNameLine event (l.letters ++ l.ending) → HasEvents (lines l.self.rest.now) (replicate l.count event) (lines l.rest);
 }
 
 abbrev pub decreases-loop-count : goal.decreases-loop-count
