@@ -1,7 +1,9 @@
 -- A line spells one list of events at most, and what it spells shows by its name.
-use Rattle.std.proofs.Common.{◌≡◌, ◌<◌, ◌≤◌, ℕ, List, [], ◌∷◌, false, Some, ◌⊎◌, inl, inr, length, replicate, get_or, refl, sym, ap, subst, ◌∙◌, arith, codes, decimal}
+use Rattle.std.proofs.Common.{◌≡◌, ◌<◌, ◌≤◌, ℕ, List, [], ◌∷◌, false, eqb, Some, ◌⊎◌, inl, inr, length, replicate, get_or, refl, sym, ap, subst, ◌∙◌, arith, codes, decimal}
 use Rattle.std.proofs.lemmas.Fmt.{decimal_injective}
 use Rattle.std.proofs.lemmas.List.{length-replicate}
+use Rattle.std.specs.List.{join_with_byte}
+use Rattle.std.proofs.lemmas.List.Splits.{join_with_byte-slice_split}
 use Rattle.dvg_log.specs.Events.{Happening}
 use Rattle.dvg_log.specs.declared.event.Event.TheVariants.{Offer, Redraw, Tick, Strobe, Fetch, ResetGen, ResetCpu, ResetAll}
 use Rattle.std.proofs.lemmas.Int.Digits.{digits_value-lt}
@@ -294,13 +296,24 @@ few (resets_all h) = omega arith
 pub few_parts : {events : List Happening} {ps : List (List ℕ)} → EventParts events ps → length ps ≤ 2
 few_parts h = few (row h)
 
--- the name of an event isn't passed over
-pub named_unpassed : (event : Happening) (name : List ℕ) → IsNamed event name → is_passed name ≡ false
-named_unpassed (Offer F) name named = absurd named
-named_unpassed Redraw name named = rw named
-named_unpassed Tick name named = rw named
-named_unpassed Strobe name named = rw named
-named_unpassed Fetch name named = rw named
-named_unpassed ResetGen name named = rw named
-named_unpassed ResetCpu name named = rw named
-named_unpassed (ResetAll image) name named = absurd named
+-- a line of events isn't passed over
+
+count_unpassed : {name : List ℕ} {n : ℕ} {ps : List (List ℕ)} → ((rest : List (List ℕ)) → is_passed (join_with_byte 32 (name ∷ rest)) ≡ false) → Counts name n ps → is_passed (join_with_byte 32 ps) ≡ false
+count_unpassed h once = h []
+count_unpassed h (times {n = n} some most) = h (decimal n ∷ [])
+
+join_unpassed : (byte : ℕ) (name : List ℕ) → eqb byte 35 ≡ false → (rest : List (List ℕ)) → is_passed (join_with_byte 32 ((byte ∷ name) ∷ rest)) ≡ false
+join_unpassed byte name e [] = e
+join_unpassed byte name e (part ∷ rest) = e
+
+unpassed_row : {fill : ℕ → List ℕ} {events : List Happening} {ps : List (List ℕ)} → Row fill events ps → is_passed (join_with_byte 32 ps) ≡ false
+unpassed_row redraws = refl
+unpassed_row (ticks c) = count_unpassed (join_unpassed 116 (codes "ick") refl) c
+unpassed_row (strobes c) = count_unpassed (join_unpassed 115 (codes "trobe") refl) c
+unpassed_row (fetches c) = count_unpassed (join_unpassed 102 (codes "etch") refl) c
+unpassed_row resets_gen = refl
+unpassed_row resets_cpu = refl
+unpassed_row (resets_all h) = refl
+
+pub events_unpassed : {events : List Happening} (line : List ℕ) → EventParts events (parts line) → is_passed line ≡ false
+events_unpassed line h = subst (λ line. is_passed line ≡ false) (join_with_byte-slice_split 32 line) (unpassed_row (row h))

@@ -26,7 +26,7 @@ use Rattle.dvg_read.proofs.LineEnds.{line_at}
 
 -- ---- the first bytes
 
-halves : (text : List ℕ) (i : ℕ) → i < length text → text ≡ take i text ++ get_or text i 0 ∷ behind i text
+pub halves : (text : List ℕ) (i : ℕ) → i < length text → text ≡ take i text ++ get_or text i 0 ∷ behind i text
 halves text i inside = rw (take_rest text (i + 1)) (rw add-one (split_at text i 0 inside))
 
 pub first_byte : (text : List ℕ) (a : ℕ) → 1 ≤ length text → get_or text 0 0 ≡ a → text ≡ a ∷ behind 0 text

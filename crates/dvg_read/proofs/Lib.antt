@@ -23,3 +23,4 @@ pub mod ReadTo
 pub mod Spaces
 pub mod HexDigits
 pub mod Heads
+pub mod EventHeads

@@ -69,6 +69,10 @@ pub events_taken : {A E : Type 0} (answer : Result A E) (old more new : List Hap
 events_taken (Ok x) old more new opened l held e p g = λ rom holds. record { now = rom; takes = rw (e, g) (events p); holds = holds }
 events_taken (Err x) old more new opened l held e p g = tt
 
+-- one event outside of offers
+pub event_taken : (old : List Happening) (event : Happening) (l : List ℕ) (held : RomReading) → EventParts (event ∷ []) (parts l) → (rom : RomText) → HoldsRom rom held → TakesLine rom old None l (old ++ event ∷ []) None held
+event_taken old event l held p rom holds = record { now = rom; takes = events p; holds = holds }
+
 pub fine_events : {more : List Happening} {ps : List (List ℕ)} → EventParts more ps → All FitsDraft more
 fine_events redraw = all_one FitsDraft Redraw tt
 fine_events (tick {n = n} c) = All-replicate FitsDraft n Tick tt
@@ -83,7 +87,7 @@ pub events_fit : {A E : Type 0} (answer : Result A E) (old more new : List Happe
 events_fit (Ok x) old more new opened ps p g room fits = record { count = room; drafts = subst (All FitsDraft) (sym g) (All-append FitsDraft old more fits.drafts (fine_events p)); last = fits.last }
 events_fit (Err x) old more new opened ps p g room fits = tt
 
-many_events : (fault : LineFault) (old more : List Happening) (l : List ℕ) (held : RomReading) → EventParts more (parts l) → StopsEvents fault old more → StopsLine fault old None held l
+pub many_events : (fault : LineFault) (old more : List Happening) (l : List ℕ) (held : RomReading) → EventParts more (parts l) → StopsEvents fault old more → StopsLine fault old None held l
 many_events Many old more l held p h = (old ++ more, omega (arith, length-append old more), λ rom. events p)
 many_events Memory old more l held p h =
     let count = length-append old more in

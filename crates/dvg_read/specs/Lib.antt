@@ -14,3 +14,4 @@ pub mod TraceReading
 pub mod TraceGives
 pub mod TraceLaws
 pub mod TraceFollowing
+pub mod TraceEvents

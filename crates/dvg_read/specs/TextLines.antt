@@ -2,8 +2,6 @@
 use Rattle.std.specs.Prelude.{◌≡◌, ℕ, List, [], ◌∷◌, Option, Some, None}
 use Rattle.std.specs.Borrow.{Bor}
 use Rattle.dvg_read.specs.declared.text_lines.TextLines.{TextLines}
-use Rattle.dvg_log.specs.Events.{Happening}
-use Rattle.dvg_read.specs.EventLines.{IsNamed}
 use Rattle.dvg_frame.specs.declared.op.OpKind.{OpKind}
 use Rattle.dvg_read.specs.OpLines.{IsOpLine}
 use Rattle.dvg_read.specs.Texts.{lines}
@@ -16,12 +14,6 @@ lines_left text = lines text.rest.now
 abbrev pub NextLine : TextLines → Option (Bor (List ℕ)) → TextLines → Type 0
 NextLine old None new = (lines_left old ≡ []) × (lines_left new ≡ [])
 NextLine old (Some line) new = lines_left old ≡ line.now ∷ lines_left new
-
--- the first line of a text is the name of this event, and this text stands after it
-pub record HasName (text : List ℕ) (event : Happening) (rest : List ℕ) : Type 0 where
-  pub name : List ℕ
-  pub named : IsNamed event name
-  pub cut : lines text ≡ name ∷ lines rest
 
 -- the first line of a text spells this operation, and this text stands after it
 pub record HasOp (text : List ℕ) (op : OpKind) (rest : List ℕ) : Type 0 where

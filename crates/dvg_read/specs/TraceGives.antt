@@ -1,5 +1,5 @@
 -- What the reader of traces answers.
-use Rattle.std.specs.Prelude.{ℕ, ◌+◌, ◌<◌, ◌≤◌, List, ◌∷◌, [], ◌++◌, length, Bool}
+use Rattle.std.specs.Prelude.{◌≡◌, ℕ, ◌+◌, ◌<◌, ◌≤◌, List, ◌∷◌, [], ◌++◌, length, Bool}
 use Rattle.std.specs.Prelude.{true, false, Option, Some, None}
 use Rattle.dvg_frame.specs.declared.op.OpKind.{OpKind}
 use Rattle.dvg_log.specs.Events.{Happening}
@@ -15,7 +15,8 @@ use Rattle.dvg_read.specs.declared.rom_text.RomReading.{RomReading}
 use Rattle.dvg_read.specs.RomReading.{HoldsRom}
 use Rattle.dvg_read.specs.TraceReading.{Takes}
 use Rattle.dvg_read.specs.FirstFaults.{Reaches}
-use Rattle.dvg_read.specs.Texts.{unpassed}
+use Rattle.dvg_read.specs.TraceEvents.{AddsEvents, BeginsWithEvent}
+use Rattle.dvg_read.specs.Texts.{lines, unpassed}
 use Rattle.dvg_read.specs.TraceTexts.{DenotesTrace, FitsTrace, HasTraceFault, IsFineTrace, SpellsTrace}
 
 -- the text denotes these events and a ROM of these bytes
@@ -77,6 +78,27 @@ pub record TakesLine (rom : RomText) (old : List Happening) (opened : Option (Li
 abbrev pub ReadsLine : {A : Type 0} → Reading A → List ℕ → Reading A → Type 0
 ReadsLine old line new = (rom : RomText) → HoldsRom rom old.rom
     → TakesLine rom (events_read old) (opened_of old) line (events_read new) (opened_of new) new.rom
+
+-- lines that spell an event each were read, so many, where no offer is open, and these are left
+pub record ReadsEvents {A : Type 0} (old : Reading A) (left : List (List ℕ)) (count : ℕ) (new : Reading A)
+    (rest : List (List ℕ)) : Type 0 where
+  pub adds : AddsEvents left (events_read old) count rest (events_read new)
+  pub outside : 1 ≤ count → opened_of old ≡ None
+  pub opened : opened_of new ≡ opened_of old
+  pub rom : new.rom ≡ old.rom
+
+-- memory was wanted for one of these lines, which begin with an event that a trace has room for
+pub record WantsMemory {A : Type 0} (reading : Reading A) (left : List (List ℕ)) : Type 0 where
+  pub outside : opened_of reading ≡ None
+  pub room : length (events_read reading) < 65536
+  pub begins : BeginsWithEvent left
+
+-- all lines of a text were read, and this is held of them
+pub record ReadsText {A : Type 0} (text : List ℕ) (reading : Reading A) : Type 0 where
+  pub rom : RomText
+  pub spelled : SpellsTrace rom (events_read reading) (opened_of reading) (unpassed (lines text))
+  pub fits : IsHeld reading
+  pub holds : HoldsRom rom reading.rom
 
 -- why one more line isn't read
 abbrev pub StopsLine : LineFault → List Happening → Option (List OpKind) → RomReading → List ℕ → Type 0

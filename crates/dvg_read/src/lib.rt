@@ -3,6 +3,7 @@
 #![tactic(auto)]
 
 mod draft_text;
+mod event_head;
 mod event_line;
 mod fault;
 pub mod laws;
@@ -13,6 +14,7 @@ mod op_line;
 mod rom_line;
 mod rom_text;
 mod text_lines;
+mod trace_events;
 mod trace_following;
 mod trace_text;
 

@@ -1,14 +1,12 @@
 //! The lines of a text.
-ghost use Rattle.std.specs.Prelude.{◌≡◌, IfSome};
-ghost use Rattle.dvg_read.specs.EventLines.{spelled_as};
-ghost use Rattle.dvg_read.specs.TextLines.{HasName};
+ghost use Rattle.std.specs.Prelude.{◌≡◌};
 ghost use Rattle.dvg_read.specs.Texts.{is_passed};
 ghost use Rattle.memchr.specs.Find.{IsFirstByte, is_byte};
 
+use crate::event_head::{HEAD, after_name, letters_at_head, reset_at_head};
 use crate::event_line::SpelledEvent;
 use crate::op_head::op_at_head;
 use dvg_frame::Op;
-use dvg_log::Event;
 use memchr::memchr;
 
 /// How many bytes are looked at one by one for the end of a line.
@@ -22,9 +20,11 @@ pub struct TextLines<'a> {
 }
 
 impl<'a> TextLines<'a> {
-    ghost use Rattle.std.specs.Prelude.{◌≡◌, IfNone, IfSome};
+    ghost use Rattle.std.specs.Prelude.{◌≡◌, ◌≤◌, ◌∷◌, ◌++◌, [], IfNone, IfSome, replicate};
+    ghost use Rattle.dvg_log.specs.Events.{Happening};
     ghost use Rattle.dvg_read.specs.EventLines.{spelled_as};
-    ghost use Rattle.dvg_read.specs.TextLines.{HasName, HasOp, lines_left};
+    ghost use Rattle.dvg_read.specs.TextLines.{HasOp, lines_left};
+    ghost use Rattle.dvg_read.specs.TraceEvents.{HasEvents, IsNameLine};
     ghost use Rattle.dvg_read.specs.Texts.{lines};
 
     /// The lines of this text.
@@ -34,15 +34,44 @@ impl<'a> TextLines<'a> {
         TextLines { rest: text }
     }
 
-    /// Takes the next line, if it is the name of one of the events that come most often, and answers
-    /// the event. Else nothing is taken.
+    /// The first four bytes that are left, as a number.
     #[inline(always)]
-    pub(crate) fn take_name(&mut self) -> Option<SpelledEvent>
-        ensures taken { IfSome result (λ event. HasName self.old.rest.now
-            (spelled_as event) self.new.rest.now) }
+    pub(crate) fn letters(&self) -> Option<u32> {
+        letters_at_head(self.rest)
+    }
+
+    /// Takes the next lines as long as they are these letters and this ending, which has the line's
+    /// end too, and answers how many it took, at most this many.
+    #[inline(always)]
+    pub(crate) fn take_names(&mut self, letters: &[u8], ending: &[u8], most: u16) -> u16
+        ensures taken { (event : Happening) → IsNameLine event (letters.now ++ ending.now)
+            → HasEvents (lines_left self.old) (replicate result event) (lines_left self.new) }
+        ensures most { result ≤ most }
+    {
+        let mut rest = self.rest;
+        let mut count = 0;
+        while count < most && rest.len() >= HEAD {
+            let Some(after) = after_name(rest, letters, ending) else {
+                break;
+            };
+            rest = after;
+            count += 1;
+        }
+        self.rest = rest;
+        count
+    }
+
+    /// Takes the next line, if it is a reset of the whole system, and answers that. None says
+    /// nothing of the line, and nothing is taken then.
+    #[inline(always)]
+    pub(crate) fn take_reset(&mut self) -> Option<SpelledEvent>
+        ensures taken { IfSome result (λ event. HasEvents (lines_left self.old)
+            (spelled_as event ∷ []) (lines_left self.new)) }
         ensures kept { IfNone result (lines_left self.new ≡ lines_left self.old) }
     {
-        let (event, rest) = name_at_head(self.rest)?;
+        let Some((event, rest)) = reset_at_head(self.rest) else {
+            return None;
+        };
         self.rest = rest;
         Some(event)
     }
@@ -59,20 +88,6 @@ impl<'a> TextLines<'a> {
         };
         self.rest = rest;
         Some(op)
-    }
-}
-
-// The event whose name is the first line of a text, if it is one of those that come most often, and
-// what stands after that line.
-#[inline(always)]
-fn name_at_head(text: &[u8]) -> Option<(SpelledEvent, &[u8])>
-    ensures { IfSome result (λ head. HasName text.now (spelled_as head.0) head.1.now) }
-{
-    match text {
-        [b't', b'i', b'c', b'k', b'\n', rest @ ..] => Some((Event::Tick, rest)),
-        [b'f', b'e', b't', b'c', b'h', b'\n', rest @ ..] => Some((Event::Fetch, rest)),
-        [b's', b't', b'r', b'o', b'b', b'e', b'\n', rest @ ..] => Some((Event::Strobe, rest)),
-        _ => None,
     }
 }
 

@@ -1,25 +1,28 @@
 //! Texts of traces.
 ghost use Rattle.std.specs.Prelude.{◌≡◌, ◌↔◌, ◌+◌, ◌^◌, ◌<◌, ◌≤◌, ◌∷◌, [], ◌++◌, ℕ, List, codes};
-ghost use Rattle.std.specs.Prelude.{length, replicate, IfErr, IfNone, IfOk, IfSome, IsFalse, IsTrue};
-ghost use Rattle.std.specs.Prelude.{OnOk};
+ghost use Rattle.std.specs.Prelude.{length, IfErr, IfNone, IfOk, IfSome, IsFalse, IsTrue};
+ghost use Rattle.std.specs.Prelude.{OnErr, OnOk};
 ghost use Rattle.dvg_frame.specs.declared.op.OpKind.{OpKind};
-ghost use Rattle.dvg_read.specs.EventLines.{IsNamed, happenings, spelled_as};
+ghost use Rattle.dvg_read.specs.EventLines.{happenings};
+ghost use Rattle.dvg_read.specs.FirstFaults.{IsShort};
 ghost use Rattle.dvg_read.specs.OpLines.{IsOpLine};
-ghost use Rattle.dvg_read.specs.TextLines.{HasName, HasOp, lines_left};
-ghost use Rattle.dvg_read.specs.TraceGives.{GivesTrace, IsHeld, ReadsLine, StopsEvents};
+ghost use Rattle.dvg_read.specs.TextLines.{HasOp, lines_left};
+ghost use Rattle.dvg_read.specs.TraceGives.{GivesTrace, IsHeld, ReadsEvents, ReadsLine, ReadsText};
+ghost use Rattle.dvg_read.specs.TraceGives.{StopsEvents, WantsMemory};
 ghost use Rattle.dvg_read.specs.TraceGives.{StopsLine, StopsOperation, StopsReading, events_read};
 ghost use Rattle.dvg_read.specs.TraceGives.{fault_at, opened_of};
 
 use crate::draft_text::MOST_TEXT_BYTES;
-use crate::event_line::{EventLine, SpelledEvent, read_event_line};
+use crate::event_line::{EventLine, read_event_line};
 use crate::fault::{TextFault, TraceFault};
 use crate::op_line::read_op;
 use crate::rom_text::RomReading;
 use crate::text_lines::{TextLines, is_passed};
+use crate::trace_events::{add_times, take_events};
 use arrayvec::ArrayVec;
 use dvg_code::OutOfMemory;
 use dvg_frame::{Draft, Op};
-use dvg_log::{Event, MOST_EVENTS, Trace};
+use dvg_log::{MOST_EVENTS, Trace};
 use dvg_mem::LARGE_ROM_BYTES;
 use std::alloc::{Allocator, Global};
 
@@ -50,6 +53,23 @@ pub fn read_trace<A: Allocator + Copy>(alloc: A, text: &[u8]) -> Result<TraceTex
     if text.len() > MOST_TEXT_BYTES {
         return Err(TraceFault::Text(TextFault::TooLong));
     }
+    let reading = read_lines(alloc, text)?;
+    if reading.is_open {
+        return Err(TraceFault::Text(TextFault::Unended));
+    }
+    Ok(TraceText {
+        events: reading.events,
+        rom: reading.rom.into_bytes(),
+    })
+}
+
+// Reads all lines of a text. The last of them may leave an offer open.
+#[inline(always)]
+fn read_lines<A: Allocator + Copy>(alloc: A, text: &[u8]) -> Result<Reading<A>, TraceFault>
+    requires { IsShort text.now }
+    ensures read { IfOk result (λ reading. ReadsText text.now reading) }
+    ensures fault { IfErr result (λ fault. StopsReading fault text.now) }
+{
     let mut reading = Reading {
         alloc,
         rom: RomReading::new(),
@@ -60,13 +80,10 @@ pub fn read_trace<A: Allocator + Copy>(alloc: A, text: &[u8]) -> Result<TraceTex
     let mut lines = TextLines::new(text);
     let mut number = 0;
     loop {
-        number += 1;
-        if let Some(event) = reading.name_ahead(&mut lines) {
-            match reading.take_name(event) {
-                Ok(()) => continue,
-                Err(fault) => return Err(at_line(fault, number)),
-            }
-        }
+        let Ok(count) = reading.take_events(&mut lines) else {
+            return Err(TraceFault::Memory);
+        };
+        number += usize::from(count) + 1;
         if let Some(op) = reading.op_ahead(&mut lines) {
             match reading.take_op(op) {
                 Ok(()) => continue,
@@ -74,7 +91,7 @@ pub fn read_trace<A: Allocator + Copy>(alloc: A, text: &[u8]) -> Result<TraceTex
             }
         }
         let Some(line) = lines.next() else {
-            break;
+            return Ok(reading);
         };
         if is_passed(line) {
             continue;
@@ -84,13 +101,6 @@ pub fn read_trace<A: Allocator + Copy>(alloc: A, text: &[u8]) -> Result<TraceTex
             Err(fault) => return Err(at_line(fault, number)),
         }
     }
-    if reading.is_open {
-        return Err(TraceFault::Text(TextFault::Unended));
-    }
-    Ok(TraceText {
-        events: reading.events,
-        rom: reading.rom.into_bytes(),
-    })
 }
 
 // Why a line was not taken.
@@ -131,35 +141,20 @@ struct Reading<A: Allocator> {
 }
 
 impl<A: Allocator + Copy> Reading<A> {
-    // Takes the next line, if it is the name of an event and no offer is open, and answers the
-    // event. Else nothing is taken.
+    // Reads the lines that come next and spell an event each, where no offer is open, and answers
+    // how many it read.
     #[inline(always)]
-    fn name_ahead(&self, lines: &mut TextLines) -> Option<SpelledEvent>
-        ensures outside { IfSome result (λ _. IsFalse self.now.is_open) }
-        ensures taken { IfSome result (λ event. HasName lines.old.rest.now
-            (spelled_as event) lines.new.rest.now) }
-        ensures kept { IfNone result (lines_left lines.new ≡ lines_left lines.old) }
+    fn take_events(&mut self, lines: &mut TextLines) -> Result<u16, OutOfMemory>
+        requires held { IsHeld self.old }
+        ensures taken { IfOk result (λ count. ReadsEvents self.old (lines_left lines.old) count
+            self.new (lines_left lines.new)) }
+        ensures held { OnOk result (IsHeld self.new) }
+        ensures fault { OnErr result (WantsMemory self.old (lines_left lines.old)) }
     {
         if self.is_open {
-            return None;
+            return Ok(0);
         }
-        lines.take_name()
-    }
-
-    // Reads one more line, which is the name of this event, where no offer is open.
-    #[inline(always)]
-    fn take_name(&mut self, event: SpelledEvent) -> Result<(), LineFault>
-        requires outside { IsFalse self.old.is_open }
-        requires held { IsHeld self.old }
-        ensures taken { (name : List ℕ) → IsNamed (spelled_as event) name
-            → OnOk result (ReadsLine self.old name self.new) }
-        ensures held { OnOk result (IsHeld self.new) }
-        ensures fault { (name : List ℕ) → IsNamed (spelled_as event) name
-            → IfErr result (λ fault. StopsLine fault (events_read self.old)
-            (opened_of self.old) self.old.rom name) }
-    {
-        let line = EventLine { event, count: 1 };
-        add_events(self.alloc, line, &mut self.events)
+        take_events(self.alloc, lines, &mut self.events)
     }
 
     // Takes the next line, if it spells one of the operations that come most often and an offer is
@@ -313,27 +308,4 @@ pub(crate) fn count(repeated: &EventLine) -> usize
     ensures bound { result < 2 ^ 16 }
 {
     usize::from(repeated.count)
-}
-
-// Adds an event, this many times in a row.
-#[inline(always)]
-fn add_times<A: Allocator>(
-    alloc: A,
-    event: SpelledEvent,
-    count: u16,
-    events: &mut Trace<A>,
-) -> Result<(), OutOfMemory>
-    requires some { 1 ≤ count }
-    requires room { length events.old + count ≤ 65536 }
-    ensures { OnOk result (events.new ≡ events.old ++ replicate count (spelled_as event)) }
-{
-    match event {
-        Event::Redraw => events.push_times(Event::Redraw, count),
-        Event::Tick => events.push_times(Event::Tick, count),
-        Event::Strobe => events.push_times(Event::Strobe, count),
-        Event::Fetch => events.push_times(Event::Fetch, count),
-        Event::ResetGen => events.push_times(Event::ResetGen, count),
-        Event::ResetCpu => events.push_times(Event::ResetCpu, count),
-        Event::ResetAll(byte) => events.push_filled(alloc, byte, count),
-    }
 }

@@ -1,0 +1,14 @@
+use Rattle.std.proofs.Common.{◌+◌, ◌-◌, ◌≤◌, length}
+use Rattle.dvg_read.specs.Texts.{lines}
+use Rattle.dvg_read.specs.TraceEvents.{AddsEvents}
+use Rattle.dvg_read.proofs.trace_events.take_events.Given as goal
+
+abbrev pub invariant-loop-room : goal.invariant-loop-room
+invariant-loop-room g l = record {
+  few : l.room ≤ l.most;
+  fits : length l.events + l.room ≤ 65536;
+  adds : AddsEvents (lines l.initial.lines.rest.now) l.initial.events (l.most - l.room) (lines l.lines.rest.now) l.events;
+}
+
+abbrev pub decreases-loop-room : goal.decreases-loop-room
+decreases-loop-room g l = l.room
