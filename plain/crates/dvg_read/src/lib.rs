@@ -5,6 +5,7 @@
 extern crate plain_std as std;
 
 mod draft_text;
+mod event_head;
 mod event_line;
 mod fault;
 mod line_parts;
@@ -14,6 +15,7 @@ mod op_line;
 mod rom_line;
 mod rom_text;
 mod text_lines;
+mod trace_events;
 mod trace_following;
 mod trace_text;
 

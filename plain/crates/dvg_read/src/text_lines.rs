@@ -1,8 +1,8 @@
 //! The lines of a text.
+use crate::event_head::{HEAD, after_name, letters_at_head, reset_at_head};
 use crate::event_line::SpelledEvent;
 use crate::op_head::op_at_head;
 use dvg_frame::Op;
-use dvg_log::Event;
 use memchr::memchr;
 
 /// How many bytes are looked at one by one for the end of a line.
@@ -20,11 +20,36 @@ impl<'a> TextLines<'a> {
         TextLines { rest: text }
     }
 
-    /// Takes the next line, if it is the name of one of the events that come most often, and answers
-    /// the event. Else nothing is taken.
+    /// The first four bytes that are left, as a number.
     #[inline(always)]
-    pub(crate) fn take_name(&mut self) -> Option<SpelledEvent> {
-        let (event, rest) = name_at_head(self.rest)?;
+    pub(crate) fn letters(&self) -> Option<u32> {
+        letters_at_head(self.rest)
+    }
+
+    /// Takes the next lines as long as they are these letters and this ending, which has the line's
+    /// end too, and answers how many it took, at most this many.
+    #[inline(always)]
+    pub(crate) fn take_names(&mut self, letters: &[u8], ending: &[u8], most: u16) -> u16 {
+        let mut rest = self.rest;
+        let mut count = 0;
+        while count < most && rest.len() >= HEAD {
+            let Some(after) = after_name(rest, letters, ending) else {
+                break;
+            };
+            rest = after;
+            count += 1;
+        }
+        self.rest = rest;
+        count
+    }
+
+    /// Takes the next line, if it is a reset of the whole system, and answers that. None says
+    /// nothing of the line, and nothing is taken then.
+    #[inline(always)]
+    pub(crate) fn take_reset(&mut self) -> Option<SpelledEvent> {
+        let Some((event, rest)) = reset_at_head(self.rest) else {
+            return None;
+        };
         self.rest = rest;
         Some(event)
     }
@@ -38,18 +63,6 @@ impl<'a> TextLines<'a> {
         };
         self.rest = rest;
         Some(op)
-    }
-}
-
-// The event whose name is the first line of a text, if it is one of those that come most often, and
-// what stands after that line.
-#[inline(always)]
-fn name_at_head(text: &[u8]) -> Option<(SpelledEvent, &[u8])> {
-    match text {
-        [b't', b'i', b'c', b'k', b'\n', rest @ ..] => Some((Event::Tick, rest)),
-        [b'f', b'e', b't', b'c', b'h', b'\n', rest @ ..] => Some((Event::Fetch, rest)),
-        [b's', b't', b'r', b'o', b'b', b'e', b'\n', rest @ ..] => Some((Event::Strobe, rest)),
-        _ => None,
     }
 }
 

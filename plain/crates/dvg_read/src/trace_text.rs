@@ -1,14 +1,15 @@
 //! Texts of traces.
 use crate::draft_text::MOST_TEXT_BYTES;
-use crate::event_line::{EventLine, SpelledEvent, read_event_line};
+use crate::event_line::{EventLine, read_event_line};
 use crate::fault::{TextFault, TraceFault};
 use crate::op_line::read_op;
 use crate::rom_text::RomReading;
 use crate::text_lines::{TextLines, is_passed};
+use crate::trace_events::{add_times, take_events};
 use arrayvec::ArrayVec;
 use dvg_code::OutOfMemory;
 use dvg_frame::{Draft, Op};
-use dvg_log::{Event, MOST_EVENTS, Trace};
+use dvg_log::{MOST_EVENTS, Trace};
 use dvg_mem::LARGE_ROM_BYTES;
 use std::alloc::{Allocator, Global};
 
@@ -35,6 +36,19 @@ pub fn read_trace<A: Allocator + Copy>(alloc: A, text: &[u8]) -> Result<TraceTex
     if text.len() > MOST_TEXT_BYTES {
         return Err(TraceFault::Text(TextFault::TooLong));
     }
+    let reading = read_lines(alloc, text)?;
+    if reading.is_open {
+        return Err(TraceFault::Text(TextFault::Unended));
+    }
+    Ok(TraceText {
+        events: reading.events,
+        rom: reading.rom.into_bytes(),
+    })
+}
+
+// Reads all lines of a text. The last of them may leave an offer open.
+#[inline(always)]
+fn read_lines<A: Allocator + Copy>(alloc: A, text: &[u8]) -> Result<Reading<A>, TraceFault> {
     let mut reading = Reading {
         alloc,
         rom: RomReading::new(),
@@ -45,13 +59,10 @@ pub fn read_trace<A: Allocator + Copy>(alloc: A, text: &[u8]) -> Result<TraceTex
     let mut lines = TextLines::new(text);
     let mut number = 0;
     loop {
-        number += 1;
-        if let Some(event) = reading.name_ahead(&mut lines) {
-            match reading.take_name(event) {
-                Ok(()) => continue,
-                Err(fault) => return Err(at_line(fault, number)),
-            }
-        }
+        let Ok(count) = reading.take_events(&mut lines) else {
+            return Err(TraceFault::Memory);
+        };
+        number += usize::from(count) + 1;
         if let Some(op) = reading.op_ahead(&mut lines) {
             match reading.take_op(op) {
                 Ok(()) => continue,
@@ -59,7 +70,7 @@ pub fn read_trace<A: Allocator + Copy>(alloc: A, text: &[u8]) -> Result<TraceTex
             }
         }
         let Some(line) = lines.next() else {
-            break;
+            return Ok(reading);
         };
         if is_passed(line) {
             continue;
@@ -69,13 +80,6 @@ pub fn read_trace<A: Allocator + Copy>(alloc: A, text: &[u8]) -> Result<TraceTex
             Err(fault) => return Err(at_line(fault, number)),
         }
     }
-    if reading.is_open {
-        return Err(TraceFault::Text(TextFault::Unended));
-    }
-    Ok(TraceText {
-        events: reading.events,
-        rom: reading.rom.into_bytes(),
-    })
 }
 
 // Why a line was not taken.
@@ -113,21 +117,14 @@ struct Reading<A: Allocator> {
 }
 
 impl<A: Allocator + Copy> Reading<A> {
-    // Takes the next line, if it is the name of an event and no offer is open, and answers the
-    // event. Else nothing is taken.
+    // Reads the lines that come next and spell an event each, where no offer is open, and answers
+    // how many it read.
     #[inline(always)]
-    fn name_ahead(&self, lines: &mut TextLines) -> Option<SpelledEvent> {
+    fn take_events(&mut self, lines: &mut TextLines) -> Result<u16, OutOfMemory> {
         if self.is_open {
-            return None;
+            return Ok(0);
         }
-        lines.take_name()
-    }
-
-    // Reads one more line, which is the name of this event, where no offer is open.
-    #[inline(always)]
-    fn take_name(&mut self, event: SpelledEvent) -> Result<(), LineFault> {
-        let line = EventLine { event, count: 1 };
-        add_events(self.alloc, line, &mut self.events)
+        take_events(self.alloc, lines, &mut self.events)
     }
 
     // Takes the next line, if it spells one of the operations that come most often and an offer is
@@ -228,23 +225,4 @@ fn add_events<A: Allocator>(
 // How many events a line has.
 pub(crate) fn count(repeated: &EventLine) -> usize {
     usize::from(repeated.count)
-}
-
-// Adds an event, this many times in a row.
-#[inline(always)]
-fn add_times<A: Allocator>(
-    alloc: A,
-    event: SpelledEvent,
-    count: u16,
-    events: &mut Trace<A>,
-) -> Result<(), OutOfMemory> {
-    match event {
-        Event::Redraw => events.push_times(Event::Redraw, count),
-        Event::Tick => events.push_times(Event::Tick, count),
-        Event::Strobe => events.push_times(Event::Strobe, count),
-        Event::Fetch => events.push_times(Event::Fetch, count),
-        Event::ResetGen => events.push_times(Event::ResetGen, count),
-        Event::ResetCpu => events.push_times(Event::ResetCpu, count),
-        Event::ResetAll(byte) => events.push_filled(alloc, byte, count),
-    }
 }

@@ -1,0 +1,108 @@
+//! Events at the head of a trace's text, of which many lines are taken at once.
+use crate::event_head::{
+    FETCH, FETCH_LETTERS, Name, REDRAW, REDRAW_LETTERS, RESET_LETTERS, RESETCPU, RESETGEN, STROBE,
+    STROBE_LETTERS, TICK, TICK_LETTERS,
+};
+use crate::event_line::SpelledEvent;
+use crate::text_lines::TextLines;
+use dvg_code::OutOfMemory;
+use dvg_log::{Event, MOST_EVENTS, Trace};
+use std::alloc::Allocator;
+
+/// Takes the lines that come next, as long as each is the name of an event or a reset of the whole
+/// system, and adds their events. Answers how many lines it took: at most 65,535, and as many as
+/// there is room for. The only error is lack of memory.
+#[inline(always)]
+pub(crate) fn take_events<A: Allocator + Copy>(
+    alloc: A,
+    lines: &mut TextLines,
+    events: &mut Trace<A>,
+) -> Result<u16, OutOfMemory> {
+    let most = u16::try_from(MOST_EVENTS - events.len()).unwrap_or(u16::MAX);
+    let mut room = most;
+    while room > 0 {
+        let count = take_run(alloc, room, lines, events)?;
+        if count == 0 {
+            break;
+        }
+        room -= count;
+    }
+    Ok(most - room)
+}
+
+// Takes the lines that come next and are the name of one event, at most this many, or a reset of
+// the whole system.
+#[inline(always)]
+fn take_run<A: Allocator + Copy>(
+    alloc: A,
+    most: u16,
+    lines: &mut TextLines,
+    events: &mut Trace<A>,
+) -> Result<u16, OutOfMemory> {
+    let Some(letters) = lines.letters() else {
+        return Ok(0);
+    };
+    match letters {
+        TICK_LETTERS => take_names(alloc, Event::Tick, TICK, most, lines, events),
+        FETCH_LETTERS => take_names(alloc, Event::Fetch, FETCH, most, lines, events),
+        STROBE_LETTERS => take_names(alloc, Event::Strobe, STROBE, most, lines, events),
+        REDRAW_LETTERS => take_names(alloc, Event::Redraw, REDRAW, most, lines, events),
+        RESET_LETTERS => take_resets(alloc, most, lines, events),
+        _ => Ok(0),
+    }
+}
+
+// The same, where they are resets.
+#[inline(always)]
+fn take_resets<A: Allocator + Copy>(
+    alloc: A,
+    most: u16,
+    lines: &mut TextLines,
+    events: &mut Trace<A>,
+) -> Result<u16, OutOfMemory> {
+    if let Some(event) = lines.take_reset() {
+        add_times(alloc, event, 1, events)?;
+        return Ok(1);
+    }
+    let count = take_names(alloc, Event::ResetGen, RESETGEN, most, lines, events)?;
+    if count > 0 {
+        return Ok(count);
+    }
+    take_names(alloc, Event::ResetCpu, RESETCPU, most, lines, events)
+}
+
+// The same, where they are the name of this event.
+#[inline(always)]
+fn take_names<A: Allocator>(
+    alloc: A,
+    event: SpelledEvent,
+    name: Name,
+    most: u16,
+    lines: &mut TextLines,
+    events: &mut Trace<A>,
+) -> Result<u16, OutOfMemory> {
+    let count = lines.take_names(name.0, name.1, most);
+    if count > 0 {
+        add_times(alloc, event, count, events)?;
+    }
+    Ok(count)
+}
+
+/// Adds an event, this many times in a row.
+#[inline(always)]
+pub(crate) fn add_times<A: Allocator>(
+    alloc: A,
+    event: SpelledEvent,
+    count: u16,
+    events: &mut Trace<A>,
+) -> Result<(), OutOfMemory> {
+    match event {
+        Event::Redraw => events.push_times(Event::Redraw, count),
+        Event::Tick => events.push_times(Event::Tick, count),
+        Event::Strobe => events.push_times(Event::Strobe, count),
+        Event::Fetch => events.push_times(Event::Fetch, count),
+        Event::ResetGen => events.push_times(Event::ResetGen, count),
+        Event::ResetCpu => events.push_times(Event::ResetCpu, count),
+        Event::ResetAll(byte) => events.push_filled(alloc, byte, count),
+    }
+}
