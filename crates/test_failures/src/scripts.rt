@@ -2,7 +2,7 @@
 use dvg_code::{Code, Instr};
 use dvg_frame::{Draft, Op, OpKind};
 use dvg_mem::{Image, Rom, Store};
-use dvg_print::{EntryLine, StrokeLine};
+use dvg_print::{EntryLines, StrokeLine};
 use dvg_world::{Entry, Event, MOST_EVENTS, OwnEntry, OwnEvent, Trace, run, run_trace};
 use std::alloc::{Allocator, Global};
 use std::test::Fail;
@@ -160,9 +160,9 @@ pub fn entries_text<A: Allocator>(alloc: Global, entries: &[OwnEntry<A>]) -> Res
             Entry::Done(_, _, strokes) => strokes.len(),
             _ => 0,
         };
-        let mut entry_line = EntryLine::new(number);
-        entry_line.become_next(entry, drew);
-        text.extend_from_slice(entry_line.as_bytes())?;
+        let mut lines = EntryLines::new(number);
+        lines.add(entry, drew);
+        text.extend_from_slice(lines.as_bytes())?;
         if let Entry::Done(_, _, strokes) = entry {
             for stroke in strokes.as_slice() {
                 line.become_next(stroke);
