@@ -5,7 +5,7 @@ use Rattle.std.proofs.Common.{append-nil, append_assoc, length-append}
 use Rattle.std.proofs.lemmas.Bool.{cases_lt}
 use Rattle.std.proofs.lemmas.Fmt.{decimal_digit, decimal_step, length-decimal-le}
 use Rattle.std.proofs.lemmas.List.{get_or_append_left, length-replicate, length-take-le, same_from_push, set_at}
-use Rattle.std.proofs.lemmas.List.{take-append-drop, take_all, take_at, take_more, drop_at}
+use Rattle.std.proofs.lemmas.List.{take-append-drop, take_all, take_at, take_more}
 use Rattle.dvg_print.specs.Numbering.{CountsUp}
 
 -- the number after one that ends with a lower digit than 9
