@@ -1,9 +1,9 @@
 -- Text that is kept for a while, and how far it has gone out.
 use Rattle.std.proofs.Common.{◌≡◌, ℕ, List, [], ◌++◌, Option, Result, Ok, Err, refl, sym, ap, ◌∙◌, append_assoc, append-nil}
 use Rattle.dvg_io.specs.declared.watched.Watched.{Watched}
-use Rattle.dvg_io.specs.Watching.{BeginsToWrite, Writes}
+use Rattle.dvg_io.specs.Watching.{BeginsToWrite, Writes, failures_of, one_more, stream_of}
 use Rattle.dvg_io.proofs.Known.{Appends-nil}
-use Rattle.dvg_io.proofs.Went.{Went, piece_begun, piece_more}
+use Rattle.dvg_io.proofs.Went.{Went, all_of_it, piece_begun, piece_more}
 use Rattle.dvg_tool.specs.Pending.{WentBut, WritesBut}
 
 -- nothing of a text went out: all of it is kept
@@ -32,3 +32,13 @@ pub kept_begun : {text rest : List ℕ} {old now new : Option (List ℕ)} (befor
     → BeginsToWrite text old new
 kept_begun before piece later went is begun =
     piece_begun (before ++ piece) later went (ap (λ l. before ++ l) is ∙ sym (append_assoc before piece later)) begun
+
+-- what was kept is written, and nothing comes later
+pub writes_last : {W V E : Type 0} (contents : W → Option (List ℕ)) (text kept rest : List ℕ) (answer : Result V E)
+    (old now new : Watched W) → Went text (kept ++ rest) (contents (stream_of old)) (contents (stream_of now))
+    → failures_of now ≡ failures_of old → rest ≡ [] → Writes contents kept answer now new
+    → Writes contents text answer old new
+writes_last contents text kept rest (Ok done) old now new went same none wrote =
+    (all_of_it (piece_more kept [] went (ap (λ l. kept ++ l) none) wrote.0) refl, wrote.1 ∙ same)
+writes_last contents text kept rest (Err fault) old now new went same none wrote =
+    (piece_begun kept [] went (ap (λ l. kept ++ l) none) wrote.0, wrote.1 ∙ ap one_more same)
