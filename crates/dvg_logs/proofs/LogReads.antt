@@ -1,5 +1,5 @@
 -- How a log's text is read, line by line.
-use Rattle.std.proofs.Common.{◌≡◌, ◌<◌, ◌≤◌, ◌+◌, ℕ, List, [], ◌∷◌, ◌++◌, Option, reverse, length, refl, sym, ap, ◌∙◌, subst, arith, eqb, false, append_assoc, append-nil, length-append, Bool, Result, Ok, Err, IfErr, OnOk, ◌^◌, true, true≢false, ⊎_elim, None, Some, take}
+use Rattle.std.proofs.Common.{◌≡◌, ◌<◌, ◌≤◌, ◌+◌, ℕ, List, [], ◌∷◌, ◌++◌, Option, reverse, length, refl, sym, ap, ◌∙◌, subst, arith, eqb, false, append_assoc, append-nil, length-append, Bool, Result, Ok, Err, IfErr, OnOk, true, true≢false, ⊎_elim, None, Some, take}
 use Rattle.std.specs.List.{AllZip, onto_first}
 use Rattle.std.proofs.lemmas.List.{reverse-append, length-reverse}
 use Rattle.std.proofs.lemmas.List.Elements.{All-head, All-tail, All-append}

@@ -1,5 +1,5 @@
 -- What is counted in a log.
-use Rattle.std.specs.Prelude.{ℕ, Bool, true, false, not, cond, ◌==◌}
+use Rattle.std.specs.Prelude.{Bool, true, false, not, cond, ◌==◌}
 use Rattle.std.specs.List.{count_by}
 use Rattle.dvg_driver.specs.declared.action.Action.TheVariants.{Wrote}
 use Rattle.dvg_log.specs.declared.entry.Entry.TheVariants.{Acted, Started, Fetched, Done}

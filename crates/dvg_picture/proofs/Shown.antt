@@ -1,5 +1,5 @@
 -- From the run that is recorded to what is shown of the input.
-use Rattle.std.proofs.Common.{◌≡◌, ℕ, ◌+◌, ◌<◌, ◌≤◌, List, ◌++◌, inl, inr, Bool, Option, Result, Ok, Err, IfOk, IfErr, length, take, take_all, drop, get_or, flat_map, ap, sym, ◌∙◌, subst, arith}
+use Rattle.std.proofs.Common.{◌≡◌, ℕ, ◌+◌, ◌<◌, ◌≤◌, List, ◌++◌, inl, inr, Bool, Option, Result, Ok, Err, IfOk, IfErr, length, take, drop, get_or, flat_map, ap, sym, ◌∙◌, subst, arith}
 use Rattle.std.proofs.lemmas.List.{drop_more, length-take}
 use Rattle.std.specs.Io.KnownBytes.{Appends}
 use Rattle.dvg_read.specs.declared.fault.TextFault.{TextFault}

@@ -1,5 +1,5 @@
 -- From what is kept of a trace that was read to what is shown of its log.
-use Rattle.std.proofs.Common.{◌≡◌, ℕ, ◌+◌, ◌<◌, List, [], ◌∷◌, ◌++◌, map, flat_map, reverse, length, drop, take, get_or, refl, sym, ap, ◌∙◌, subst, suc, Bool, true, false, Vec, append_assoc, append-nil, add-one, arith}
+use Rattle.std.proofs.Common.{◌≡◌, ℕ, ◌+◌, ◌<◌, List, [], ◌∷◌, ◌++◌, map, flat_map, reverse, length, drop, take, get_or, refl, sym, ap, ◌∙◌, subst, suc, Bool, true, false, append_assoc, append-nil, arith}
 use Rattle.std.proofs.lemmas.List.{drop_more, length-map, length-reverse, map-append, reverse-append}
 use Rattle.std.proofs.lemmas.Grind.{flat_map-append}
 use Rattle.dvg_gen.specs.declared.stroke.Stroke.{Stroke}

@@ -1,5 +1,5 @@
 -- From what an engine answers to what is answered of it.
-use Rattle.std.proofs.Common.{◌≡◌, List, ℕ, Option, Some, None, Result, Ok, subst}
+use Rattle.std.proofs.Common.{◌≡◌, List, ℕ, Option, Some, None, Ok, subst}
 use Rattle.std.specs.Prelude.{◌↔◌, All, Bool, IfSome, IsTrue}
 use Rattle.dvg_draw.specs.Checks.{ChecksSketch, IsGoodVerdict}
 use Rattle.dvg_draw.specs.Sketches.{Draws}

@@ -1,5 +1,5 @@
 -- From the log of a trace to its pictures.
-use Rattle.std.proofs.Common.{◌≡◌, ℕ, List, [], ◌∷◌, ◌++◌, Bool, true, Option, Result, Ok, Err, IfErr, IfOk, Vec, map, ap, refl, subst, sym, ◌∙◌}
+use Rattle.std.proofs.Common.{◌≡◌, ℕ, List, [], ◌∷◌, ◌++◌, true, Option, Result, Ok, Err, IfErr, IfOk, Vec, map, ap, refl, subst, sym, ◌∙◌}
 use Rattle.dvg_gen.specs.declared.stroke.Stroke.{Stroke}
 use Rattle.dvg_log.specs.Events.{Happening}
 use Rattle.dvg_world.specs.declared.pictures.Drawn.{Drawn}

@@ -1,5 +1,5 @@
 -- From what was read of a trace to what the reader had.
-use Rattle.std.proofs.Common.{◌≡◌, ℕ, List, [], inl, inr, ⊎_elim, Bool, true, false, Option, Result, Ok, Err, IfErr, IfOk, Vec, length, take, drop, length-take, ap, refl, subst, sym, arith}
+use Rattle.std.proofs.Common.{◌≡◌, ℕ, List, [], inl, inr, ⊎_elim, Bool, true, false, Option, Result, Ok, Err, length, take, length-take, ap, subst, sym, arith}
 use Rattle.std.specs.Io.KnownBytes.{Appends}
 use Rattle.dvg_read.specs.declared.fault.TextFault.{TextFault}
 use Rattle.dvg_read.specs.declared.fault.TextFault.TheVariants.{TooLong, Syntax, Full, Many, Unended}

@@ -1,4 +1,4 @@
-use Rattle.std.proofs.Common.{arith, rules, subst}
+use Rattle.std.proofs.Common.{arith}
 use Rattle.dvg_logs.proofs.NumberLines.{four_hex}
 use Rattle.dvg_logs.proofs.number_line.of_four.Goals as goal
 

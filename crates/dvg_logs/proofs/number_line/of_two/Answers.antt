@@ -1,4 +1,4 @@
-use Rattle.std.proofs.Common.{arith, rules}
+use Rattle.std.proofs.Common.{arith}
 use Rattle.dvg_logs.proofs.NumberLines.{two_hex}
 use Rattle.dvg_logs.proofs.number_line.of_two.Goals as goal
 

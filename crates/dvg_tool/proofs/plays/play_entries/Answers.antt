@@ -1,10 +1,10 @@
 use Rattle.std.proofs.Common.{ap, ◌∙◌, Err, true, subst}
 use Rattle.std.specs.Io.KnownBytes.{Appends}
 use Rattle.std.proofs.lemmas.Result.{err_from_is_err_and}
-use Rattle.dvg_io.proofs.Served.{served, served_wanting, unserved}
+use Rattle.dvg_io.proofs.Served.{served_wanting, unserved}
 use Rattle.dvg_io.specs.Watching.{stream_of}
 use Rattle.dvg_tool.specs.Plays.{IsLogged, IsShown, logged_shown}
-use Rattle.dvg_tool.proofs.TracesPlayed.{earlier, plays_part, plays_whole, stops}
+use Rattle.dvg_tool.proofs.TracesPlayed.{earlier, plays_part, stops}
 use Rattle.dvg_tool.proofs.plays.play_entries.Goals as goal
 
 pub returns-in_err-serve : goal.returns-in_err-serve

@@ -1,4 +1,4 @@
-use Rattle.std.proofs.Common.{◌∷◌, [], arith, refl, length-append, rules, ◌≡◌, IsNone}
+use Rattle.std.proofs.Common.{◌∷◌, [], arith, length-append, rules, IsNone}
 use Rattle.dvg_logs.specs.LogLineTells.{line_of}
 use Rattle.dvg_logs.proofs.LogReads.{fine_more, log_length}
 use Rattle.dvg_logs.proofs.log_reading.JudgedLines.take_logged.Goals as goal

@@ -1,4 +1,4 @@
-use Rattle.std.proofs.Common.{◌≡◌, ◌∙◌, ap, [], ◌∷◌, ◌++◌, ◌-◌, codes, get_or, length, take, drop, refl, arith, rules}
+use Rattle.std.proofs.Common.{◌≡◌, ◌∙◌, ap, [], ◌∷◌, ◌++◌, ◌-◌, codes, get_or, length, take, drop, refl, rules}
 use Rattle.dvg_logs.proofs.NumberLines.{firsts, head_of, line_taken, low_head}
 use Rattle.dvg_logs.proofs.log_reading.JudgedLines.take_low.Goals as goal
 

@@ -1,7 +1,6 @@
 use Rattle.std.proofs.Common.{[], ◌∷◌, ◌++◌, ◌∙◌, sym, subst}
-use Rattle.std.proofs.lemmas.Result.{on_ok_weaker}
 use Rattle.dvg_logs.specs.LogReading.{HasJudged, StopsAt}
-use Rattle.dvg_logs.proofs.LogReads.{all_ended, all_judged, last_ended, if_err_weaker, none_left, on_ok_all, some_left}
+use Rattle.dvg_logs.proofs.LogReads.{all_ended, all_judged, last_ended, none_left, some_left}
 use Rattle.dvg_logs.proofs.log_reading.LogReading.finish.Goals as goal
 
 pub returns-then-is_empty-clause-read : goal.returns-then-is_empty-clause-read
