@@ -116,43 +116,42 @@ fn each_read_fails_in_turn(rt: HostRuntime) -> Result<(), Fail> {
     Ok(())
 }
 
-/// How many writes these bytes take, of this many bytes each or of a line.
-fn writes(bytes: &[u8], step: usize) -> usize {
-    if step == 1 {
-        bytes.len()
-    } else {
-        bytes.iter().filter(|byte| **byte == b'\n').count()
-    }
+/// How many writes a task makes, where none of them fails.
+fn writes(alloc: Global, task: Task) -> u32 {
+    let mut reader = Watched::new(task.input);
+    let mut writer = Watched::new(stream(alloc, &[], task.step, u32::MAX, WAYS[0]));
+    let _ = perform(alloc, task.job, &mut reader, &mut writer);
+    u32::MAX - writer.into_inner().calls_before
 }
 
-/// Whether a write after this many others fails a task, and what went out before is a beginning of
-/// what is written where none fails.
-fn write_fails(
-    alloc: Global,
-    task: Task,
-    wanted: &[u8],
-    calls_before: usize,
-    way: Way,
-) -> Result<bool, Fail> {
+/// Whether a write after this many others fails a task, which makes no other one then, and what
+/// went out before is a beginning of what is written where none fails.
+fn write_fails(alloc: Global, task: Task, wanted: &[u8], calls_before: u32, way: Way) -> bool {
     let mut reader = Watched::new(task.input);
-    let mut writer = Watched::new(stream(alloc, &[], task.step, u32::try_from(calls_before)?, way));
+    let mut writer = Watched::new(stream(alloc, &[], task.step, calls_before, way));
     let answer = answered(&perform(alloc, task.job, &mut reader, &mut writer));
     let failures = writer.failures();
-    let taken = writer.into_inner().taken;
-    Ok(
-        answer == Err(ToolFault::Writer)
-            && failures == 1
-            && wanted.starts_with(taken.as_slice())
-            && writes(taken.as_slice(), task.step) == calls_before,
-    )
+    let stream = writer.into_inner();
+    let left = if way.1 { 0 } else { u32::MAX };
+    answer == Err(ToolFault::Writer)
+        && failures == 1
+        && stream.calls_before == left
+        && wanted.starts_with(stream.taken.as_slice())
+        && stream.taken.len() < wanted.len()
 }
 
-/// Whether each write of a task fails it, in each way.
+/// Whether each write of a task fails it, in each way. Where a write takes one byte, there is one
+/// for each of them.
 fn each_write_fails(alloc: Global, task: Task) -> Result<bool, Fail> {
     let wanted = written(alloc, task)?;
-    for calls_before in 0..writes(wanted.as_slice(), task.step) {
+    let count = writes(alloc, task);
+    let is_none = wanted.is_empty();
+    if is_none != (count == 0) || (task.step == 1 && u32::try_from(wanted.len())? != count) {
+        return Ok(false);
+    }
+    for calls_before in 0..count {
         for way in WAYS {
-            if !write_fails(alloc, task, wanted.as_slice(), calls_before, way)? {
+            if !write_fails(alloc, task, wanted.as_slice(), calls_before, way) {
                 return Ok(false);
             }
         }

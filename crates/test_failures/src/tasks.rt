@@ -35,7 +35,7 @@ pub const BANKED_ENTRIES: Job = Job::Play {
 pub struct Task<'a> {
     pub job: Job,
     pub input: &'a [u8],
-    /// How many bytes a stream moves by a call: one, or as many as a whole line that is written.
+    /// How many bytes a stream moves by a call: one, or as many as a whole line.
     pub step: usize,
     /// What is answered where nothing fails.
     pub answer: Answer,
