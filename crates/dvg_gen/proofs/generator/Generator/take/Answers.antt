@@ -12,14 +12,14 @@ use Rattle.dvg_gen.proofs.generator.Generator.take.Goals as goal
 pub returns-then-first-lt40960-clause-answers : goal.returns-then-first-lt40960-clause-answers
 returns-then-first-lt40960-clause-answers g c =
     let held = ap (λ m. m.held) (sym c.self.view_is) ∙ c.in-Some.is in
-    let completes = subst (λ h. Completes h c.args.word c.of_two-code.result) (sym held) c.of_two-code.ensures in
-    claim_result c.draw.result c.args.word c.args.self.now c.draw.new.self c.of_two-code.result c.requires completes c.draw.ensures.obeyed
+    let completes = subst (λ h. Completes h c.args.word c.of_two.result) (sym held) c.of_two.ensures in
+    claim_result c.draw.result c.args.word c.args.self.now c.draw.new.self c.of_two.result c.requires completes c.draw.ensures.obeyed
 
 pub returns-else-first-lt40960-clause-answers : goal.returns-else-first-lt40960-clause-answers
 returns-else-first-lt40960-clause-answers g c =
     let held = ap (λ m. m.held) (sym c.self.view_is) ∙ c.in-Some.is in
-    let completes = subst (λ h. Completes h c.args.word c.of_two-code.result) (sym held) c.of_two-code.ensures in
-    claim_result {E = OutOfMemory} (Ok c.place.result) c.args.word c.args.self.now c.place.new.self c.of_two-code.result c.requires completes c.place.ensures
+    let completes = subst (λ h. Completes h c.args.word c.of_two-else-first-lt40960.result) (sym held) c.of_two-else-first-lt40960.ensures in
+    claim_result {E = OutOfMemory} (Ok c.place.result) c.args.word c.args.self.now c.place.new.self c.of_two-else-first-lt40960.result c.requires completes c.place.ensures
 
 pub returns-then-word-lt45056-clause-answers : goal.returns-then-word-lt45056-clause-answers
 returns-then-word-lt45056-clause-answers g c =
