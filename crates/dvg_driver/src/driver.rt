@@ -249,6 +249,7 @@ fn begin(cursor: &mut Option<Cursor>, checked: &Checked, half: Half)
 }
 
 // The next byte, if one is still to come, with its address.
+#[inline(always)]
 fn next_of(cursor: &mut Option<Cursor>) -> Option<(u16, u8)>
     ensures given { IfSome result (λ item. items_of cursor.old ≡ item ∷ items_of cursor.new) }
     ensures ended { IfNone result ((items_of cursor.old ≡ []) × (items_of cursor.new ≡ [])) }

@@ -83,6 +83,7 @@ impl Iterator for Cursor {
 
     ghost remaining = { item_count (λ items. items) };
 
+    #[inline(always)]
     fn next(&mut self) -> Option<(u16, u8)> {
         if self.given == self.bytes.len() {
             return None;

@@ -2,39 +2,33 @@
 use Rattle.std.proofs.Common.{◌≡◌, ℕ, List, [], ◌++◌, Option, OnErr, Result, Ok, Err, refl, sym, ap, ◌∙◌, subst, append_assoc, append-nil}
 use Rattle.std.specs.Io.KnownBytes.{Appends}
 use Rattle.dvg_io.specs.declared.watched.Watched.{Watched}
-use Rattle.dvg_io.specs.Watching.{BeginsToWrite, Writes, failures_of, one_more, stream_of}
+use Rattle.dvg_io.specs.Watching.{BeginsToWrite, Went, Writes, failures_of, one_more, stream_of}
 use Rattle.dvg_io.proofs.Known.{Appends-nil, Appends-trans}
 
--- the text went out but for this rest
-pub record Went (text rest : List ℕ) (old now : Option (List ℕ)) : Type 0 where
-  pub done : List ℕ
-  pub parts : text ≡ done ++ rest
-  pub wrote : Appends old now done
-
 pub nothing : (text : List ℕ) (known : Option (List ℕ)) → Went text text known known
-nothing text known = record { done = []; parts = refl; wrote = Appends-nil known }
+nothing text known = record { front = []; parts = refl; wrote = Appends-nil known }
 
 -- one more piece
 pub piece_more : {text rest : List ℕ} {old now new : Option (List ℕ)} (piece later : List ℕ) → Went text rest old now → rest ≡ piece ++ later → Appends now new piece → Went text later old new
 piece_more {old = old} {now = now} {new = new} piece later went is wrote = record {
-  done = went.done ++ piece;
-  parts = went.parts ∙ ap (λ l. went.done ++ l) is ∙ sym (append_assoc went.done piece later);
+  front = went.front ++ piece;
+  parts = went.parts ∙ ap (λ l. went.front ++ l) is ∙ sym (append_assoc went.front piece later);
   wrote = Appends-trans old now new _ _ went.wrote wrote;
 }
 
 -- a beginning of one more piece
 pub piece_begun : {text rest : List ℕ} {old now new : Option (List ℕ)} (piece later : List ℕ) → Went text rest old now → rest ≡ piece ++ later → BeginsToWrite piece now new → BeginsToWrite text old new
 piece_begun {old = old} {now = now} {new = new} piece later went is begun = record {
-  front = went.done ++ begun.front;
+  front = went.front ++ begun.front;
   rest = begun.rest ++ later;
-  parts = went.parts ∙ ap (λ l. went.done ++ l) (is ∙ ap (λ l. l ++ later) begun.parts ∙ append_assoc begun.front begun.rest later)
-      ∙ sym (append_assoc went.done begun.front (begun.rest ++ later));
+  parts = went.parts ∙ ap (λ l. went.front ++ l) (is ∙ ap (λ l. l ++ later) begun.parts ∙ append_assoc begun.front begun.rest later)
+      ∙ sym (append_assoc went.front begun.front (begun.rest ++ later));
   wrote = Appends-trans old now new _ _ went.wrote begun.wrote;
 }
 
 -- nothing is left
 pub all_of_it : {text rest : List ℕ} {old now : Option (List ℕ)} → Went text rest old now → rest ≡ [] → Appends old now text
-all_of_it {old = old} {now = now} went none = subst (Appends old now) (sym (went.parts ∙ ap (λ l. went.done ++ l) none ∙ append-nil went.done)) went.wrote
+all_of_it {old = old} {now = now} went none = subst (Appends old now) (sym (went.parts ∙ ap (λ l. went.front ++ l) none ∙ append-nil went.front)) went.wrote
 
 -- one text after another, of which both went out, or a beginning of the second
 pub both : (first second : List ℕ) (old now new : Option (List ℕ)) → Appends old now first → Appends now new second → Appends old new (first ++ second)

@@ -31,6 +31,12 @@ pub record BeginsToWrite (text : List ℕ) (old new : Option (List ℕ)) : Type 
   pub parts : text ≡ front ++ rest
   pub wrote : Appends old new front
 
+-- the text went out but for this end of it
+pub record Went (text left : List ℕ) (old new : Option (List ℕ)) : Type 0 where
+  pub front : List ℕ
+  pub parts : text ≡ front ++ left
+  pub wrote : Appends old new front
+
 -- the text went out, or a beginning of it with one more failure
 abbrev pub Writes : {W V E : Type 0} → (contents : W → Option (List ℕ)) → (text : List ℕ)
     → Result V E → (old new : Watched W) → Type 0

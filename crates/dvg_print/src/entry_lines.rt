@@ -1,5 +1,6 @@
 //! Lines of entries, which are numbered.
-ghost use Rattle.std.specs.Prelude.{◌≡◌, ◌+◌, ◌^◌, ◌<◌, ◌≤◌, ◌++◌, [], decimal, length, take, IsFalse};
+ghost use Rattle.std.specs.Prelude.{◌≡◌, ◌↔◌, ◌+◌, ◌^◌, ◌<◌, ◌≤◌, ◌++◌, [], decimal, length, take};
+ghost use Rattle.std.specs.Prelude.{IsFalse};
 ghost use Rattle.dvg_log.specs.Entries.{map_entry};
 ghost use Rattle.dvg_print.specs.Shows.{entry_line};
 
@@ -74,7 +75,7 @@ impl EntryLines {
     /// Whether there may be no room for another line.
     #[inline(always)]
     pub fn is_full(&self) -> bool
-        ensures { IsFalse result → length self.now.text + 64 ≤ 4096 }
+        ensures { IsFalse result ↔ (length self.now.text + 64 ≤ 4096) }
     {
         self.lines.as_bytes().len() > MOST_BYTES - LINE_ROOM
     }

@@ -1,13 +1,13 @@
 -- Text that is kept for a while, and how far it has gone out.
 use Rattle.std.proofs.Common.{◌≡◌, ℕ, List, [], ◌++◌, Option, Result, Ok, Err, refl, sym, ap, ◌∙◌, append_assoc, append-nil}
 use Rattle.dvg_io.specs.declared.watched.Watched.{Watched}
-use Rattle.dvg_io.specs.Watching.{BeginsToWrite, Writes, failures_of, one_more, stream_of}
+use Rattle.dvg_io.specs.Watching.{BeginsToWrite, Went, Writes, failures_of, one_more, stream_of}
 use Rattle.dvg_io.proofs.Known.{Appends-nil}
-use Rattle.dvg_io.proofs.Went.{Went, all_of_it, piece_begun, piece_more}
-use Rattle.dvg_tool.specs.Pending.{WentBut, WritesBut}
+use Rattle.dvg_io.proofs.Went.{all_of_it, piece_begun, piece_more}
+use Rattle.dvg_tool.specs.Pending.{Went, WritesBut}
 
 -- nothing of a text went out: all of it is kept
-pub all_kept : (text kept : List ℕ) (known : Option (List ℕ)) → kept ≡ text → WentBut text kept known known
+pub all_kept : (text kept : List ℕ) (known : Option (List ℕ)) → kept ≡ text → Went text kept known known
 all_kept text kept known is = record { front = []; parts = sym is; wrote = Appends-nil known }
 
 -- nothing of it is kept
@@ -19,7 +19,7 @@ none_kept contents text kept (Err fault) old new none wrote = wrote
 
 -- what was kept, one piece more and what comes later: again some of it is kept
 pub kept_more : {text rest : List ℕ} {old now new : Option (List ℕ)} (before piece kept later : List ℕ)
-    → Went text (before ++ rest) old now → rest ≡ piece ++ later → WentBut (before ++ piece) kept now new
+    → Went text (before ++ rest) old now → rest ≡ piece ++ later → Went (before ++ piece) kept now new
     → Went text (kept ++ later) old new
 kept_more before piece kept later went is but =
     piece_more but.front (kept ++ later) went

@@ -1,7 +1,6 @@
 use Rattle.std.proofs.Common.{◌≡◌, drop, flat_map}
 use Rattle.dvg_print.specs.Shows.{stroke_line}
-use Rattle.dvg_io.specs.Watching.{failures_of, stream_of}
-use Rattle.dvg_io.proofs.Went.{Went}
+use Rattle.dvg_io.specs.Watching.{Went, failures_of, stream_of}
 use Rattle.dvg_io.proofs.strokes.write_strokes.Given as goal
 
 abbrev pub invariant-loop-stroke : goal.invariant-loop-stroke

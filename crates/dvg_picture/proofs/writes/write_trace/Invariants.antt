@@ -1,6 +1,5 @@
 use Rattle.std.proofs.Common.{◌≡◌, drop, flat_map}
-use Rattle.dvg_io.specs.Watching.{failures_of, stream_of}
-use Rattle.dvg_io.proofs.Went.{Went}
+use Rattle.dvg_io.specs.Watching.{Went, failures_of, stream_of}
 use Rattle.dvg_picture.specs.Texts.{ran_text}
 use Rattle.dvg_picture.proofs.writes.write_trace.Given as goal
 

@@ -1,6 +1,5 @@
 use Rattle.std.proofs.Common.{◌≡◌, drop}
-use Rattle.dvg_io.specs.Watching.{failures_of, stream_of}
-use Rattle.dvg_io.proofs.Went.{Went}
+use Rattle.dvg_io.specs.Watching.{Went, failures_of, stream_of}
 use Rattle.dvg_svg.specs.Parts.{joined}
 use Rattle.dvg_svg.proofs.parts.write_parts.Given as goal
 

@@ -1,7 +1,6 @@
 use Rattle.std.proofs.Common.{◌≡◌, drop, flat_map, map}
 use Rattle.dvg_world.specs.Kept.{picture_seen}
-use Rattle.dvg_io.specs.Watching.{failures_of, stream_of}
-use Rattle.dvg_io.proofs.Went.{Went}
+use Rattle.dvg_io.specs.Watching.{Went, failures_of, stream_of}
 use Rattle.dvg_tool.specs.Plays.{picture_text}
 use Rattle.dvg_tool.proofs.plays_pictures.write_pictures.Given as goal
 

@@ -3,7 +3,6 @@ use Rattle.std.proofs.lemmas.List.{drop_all}
 use Rattle.dvg_log.specs.Entries.{map_entry}
 use Rattle.dvg_print.specs.Shows.{shown, shown_entry}
 use Rattle.dvg_io.specs.Watching.{BeginsToWrite, Writes, stream_of}
-use Rattle.dvg_tool.specs.Pending.{WentBut}
 use Rattle.dvg_tool.proofs.Pending.{kept_begun, kept_more, writes_last}
 use Rattle.dvg_tool.proofs.Shown.{next_entry}
 use Rattle.dvg_tool.proofs.shows.write_entries.Goals as goal
@@ -30,7 +29,7 @@ loop-number-preserved g c =
     let later = shown true (n + 1) (drop (n + 1) c.args.entries.now) in
     let next = subst (λ m. shown true n (drop n c.args.entries.now) ≡ shown_entry true m entry ++ later) (sym c.loop-number.invariant.next)
     (next_entry true c.args.entries.now n entry c.entry.ensures.value) in
-    let but : WentBut (before ++ shown_entry true k entry) c.write_next.new.lines.text (g.W.Write.contents (stream_of c.loop-number.writer)) (g.W.Write.contents (stream_of c.write_next.new.writer)) = search rules in
+    let but : Went (before ++ shown_entry true k entry) c.write_next.new.lines.text (g.W.Write.contents (stream_of c.loop-number.writer)) (g.W.Write.contents (stream_of c.write_next.new.writer)) = search rules in
     record {
       counted = search rules;
       next = search rules;

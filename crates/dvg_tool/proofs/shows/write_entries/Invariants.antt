@@ -1,7 +1,6 @@
 use Rattle.std.proofs.Common.{◌≡◌, ◌+◌, ◌≤◌, ◌++◌, drop, length, true}
 use Rattle.dvg_print.specs.Shows.{shown}
-use Rattle.dvg_io.specs.Watching.{failures_of, stream_of}
-use Rattle.dvg_io.proofs.Went.{Went}
+use Rattle.dvg_io.specs.Watching.{Went, failures_of, stream_of}
 use Rattle.dvg_tool.proofs.shows.write_entries.Given as goal
 
 abbrev pub invariant-loop-number : goal.invariant-loop-number
