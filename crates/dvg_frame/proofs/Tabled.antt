@@ -1,6 +1,6 @@
 -- The table of what is drawn from each place, and how it grows.
-use Rattle.std.proofs.Common.{◌≡◌, ℕ, suc, ◌+◌, ◌-◌, ◌<◌, ◌≤◌, ◌⊎◌, inl, inr, ⊎_elim, List, [], ◌∷◌, ◌++◌, length, set, length-append, append_assoc, Option, Some, None, refl, sym, ap, ◌∙◌, subst, arith, Bool, true, false}
-use Rattle.std.specs.Option.{is_some}
+use Rattle.std.proofs.Common.{◌≡◌, ℕ, suc, ◌+◌, ◌-◌, ◌<◌, ◌≤◌, ◌⊎◌, inl, inr, ⊎_elim, List, [], ◌∷◌, ◌++◌, length, set, length-append, append_assoc, Option, Some, None, refl, sym, ap, ◌∙◌, subst, arith, true, false}
+use Rattle.std.specs.Prelude.{IsSome}
 use Rattle.std.proofs.lemmas.Bool.{cases_lt, cases_eq}
 use Rattle.dvg_code.specs.Spelling.{word_count}
 use Rattle.dvg_code.specs.Acts.{Act, Moves, Jumps, Calls, Returns as GoesBack, Halts as Stops}
@@ -22,7 +22,7 @@ use Rattle.dvg_frame.specs.Steps.{Stands, last, target, second, past, deep, bare
 use Rattle.dvg_frame.specs.Picture.{End, AtHalt, AtReturn}
 use Rattle.dvg_frame.specs.Loops.{Walks, none, more, HasLoop}
 use Rattle.dvg_frame.specs.own.Ways.{way, StandsSo, IsPlaceOf, EndsWithin}
-use Rattle.dvg_frame.specs.own.Tables.{AllFine, known_at, HasPlace, KeepsKnown, end_of, FitsAt, IsDrawnFrom, IsKnown, IsTable, Next, StepsOn, IsGood, IsReady, Linked, IsChain, HasChain, onward, IsLonger, IsCalled, places}
+use Rattle.dvg_frame.specs.own.Tables.{AllFine, Knows, known_at, HasPlace, KeepsKnown, end_of, FitsAt, IsDrawnFrom, IsKnown, IsTable, Next, StepsOn, IsGood, IsReady, Linked, IsChain, HasChain, onward, IsLonger, IsCalled, places}
 use Rattle.dvg_frame.proofs.Judged.{same_standing}
 use Rattle.dvg_frame.proofs.Marks.{same_place}
 use Rattle.dvg_frame.proofs.Knowing.{put_here, put_other}
@@ -142,14 +142,17 @@ fits_called inside rest new d called deeper fits =
     let calls = called.least (4 - d) (omega arith) (omega arith) in
     record { deep = omega arith; back = λ is. fits.back (sym called.returns ∙ is) }
 
-module _ (F : List OpKind) (R : List ℕ) (table : List (Option Drawn)) (p : Place) (d : ℕ) (ready : IsReady F R table p d) where
+module _ (F : List OpKind) (R : List ℕ) (table : List (Option Drawn)) (p : Place) (d : ℕ) (rest : Drawn) (ready : IsReady F R table p d rest) where
   goes_place : (q : Place) → StepsOn F R p q → IsPlace q
   goes_place q goes = (ready.next q goes).0
 
   -- from an act that leads to one place alone
-  module _ (act : Act Place) (after q : Place) (rest new : Drawn) (longer_by : ℕ) (stands : Stands F R p act after) (no_call : (to : Place) → act ≡ Calls to → ⊥) (no_back : act ≡ GoesBack → ⊥) (goes : StepsOn F R p q)
-      (is : known_at table q ≡ Some rest) (longer : IsLonger rest longer_by new)
+  module _ (act : Act Place) (after q : Place) (new : Drawn) (longer_by : ℕ) (stands : Stands F R p act after) (no_call : (to : Place) → act ≡ Calls to → ⊥) (no_back : act ≡ GoesBack → ⊥) (goes : StepsOn F R p q)
+      (longer : IsLonger rest longer_by new)
       (counted : (end : End) (n : ℕ) → DrawnSo F R q end n → DrawnSo F R p end (n + longer_by)) where
+    is : known_at table q ≡ Some rest
+    is = (ready.next q goes).1
+
     below : IsKnown F R table q rest
     below = ready.entries q rest (goes_place q goes) is
 
@@ -174,9 +177,12 @@ module _ (F : List OpKind) (R : List ℕ) (table : List (Option Drawn)) (p : Pla
     }
 
   -- from a call
-  module _ (to after : Place) (inside rest new : Drawn) (stands : Stands F R p (Calls to) after) (inside_is : known_at table to ≡ Some inside) (rest_is : known_at table after ≡ Some rest) (called : IsCalled inside rest new) where
+  module _ (to after : Place) (inside new : Drawn) (stands : Stands F R p (Calls to) after) (inside_is : known_at table to ≡ Some inside) (called : IsCalled inside rest new) where
     deeper : IsKnown F R table to inside
     deeper = ready.entries to inside (ready.inside to after stands).0 inside_is
+
+    rest_is : known_at table after ≡ Some rest
+    rest_is = (ready.next after (goes_call F R stands)).1
 
     behind : IsKnown F R table after rest
     behind = ready.entries after rest (goes_place after (goes_call F R stands)) rest_is
@@ -275,32 +281,23 @@ module _ (F : List OpKind) (R : List ℕ) (table : List (Option Drawn)) (p : Pla
     seen_as : (other : Way) → seen ≡ other → StandsAs F R p other
     seen_as other is = subst (StandsAs F R p) is (stands_as F R p seen so)
 
-    pub move_has : (after : Place) (words : ℕ) → seen ≡ Move after words → HasPlace table after
-    move_has after words is = ready.next after (goes_move F R (seen_as (Move after words) is).1)
-
-    pub jump_has : (to : Place) → seen ≡ Jump to → HasPlace table to
-    jump_has to is = ready.next to (goes_jump F R (seen_as (Jump to) is).1)
-
     pub call_has : (to after : Place) → seen ≡ Call to after → HasPlace table to
     call_has to after is = ready.inside to after (seen_as (Call to after) is)
 
-    pub behind_has : (to after : Place) → seen ≡ Call to after → HasPlace table after
-    behind_has to after is = ready.next after (goes_call F R (seen_as (Call to after) is))
-
-    pub by_move : (after : Place) (words : ℕ) (rest new : Drawn) → seen ≡ Move after words → known_at table after ≡ Some rest → IsLonger rest words new → IsKnown F R table p new
-    by_move after words rest new is has longer =
+    pub by_move : (after : Place) (words : ℕ) (new : Drawn) → seen ≡ Move after words → IsLonger rest words new → IsKnown F R table p new
+    by_move after words new is longer =
         let it = seen_as (Move after words) is in
-        known_on (Moves it.0) after after rest new words it.1 (λ to same. cc) (λ same. cc) (goes_move F R it.1) has longer
+        known_on (Moves it.0) after after new words it.1 (λ to same. cc) (λ same. cc) (goes_move F R it.1) longer
         (λ end n drawn. let sum : word_count it.0 + n ≡ n + words = let count = it.2 in omega arith in subst (DrawnSo F R p end) sum (drawn_moves F R end n it.1 drawn))
 
-    pub by_jump : (to : Place) (rest new : Drawn) → seen ≡ Jump to → known_at table to ≡ Some rest → IsLonger rest 1 new → IsKnown F R table p new
-    by_jump to rest new is has longer =
+    pub by_jump : (to : Place) (new : Drawn) → seen ≡ Jump to → IsLonger rest 1 new → IsKnown F R table p new
+    by_jump to new is longer =
         let it = seen_as (Jump to) is in
-        known_on (Jumps to) it.0 to rest new 1 it.1 (λ other same. cc) (λ same. cc) (goes_jump F R it.1) has longer
+        known_on (Jumps to) it.0 to new 1 it.1 (λ other same. cc) (λ same. cc) (goes_jump F R it.1) longer
         (λ end n drawn. let sum : suc n ≡ n + 1 = omega arith in subst (DrawnSo F R p end) sum (drawn_jumps F R end n it.1 drawn))
 
-    pub by_call : (to after : Place) (inside rest new : Drawn) → seen ≡ Call to after → known_at table to ≡ Some inside → known_at table after ≡ Some rest → IsCalled inside rest new → IsKnown F R table p new
-    by_call to after inside rest new is inside_is rest_is called = known_call to after inside rest new (seen_as (Call to after) is) inside_is rest_is called
+    pub by_call : (to after : Place) (inside new : Drawn) → seen ≡ Call to after → known_at table to ≡ Some inside → IsCalled inside rest new → IsKnown F R table p new
+    by_call to after inside new is inside_is called = known_call to after inside new (seen_as (Call to after) is) inside_is called
 
     pub by_return : (new : Drawn) → seen ≡ Return → new ≡ record { words = 1; end = Returns; returns = true; calls = 0 } → IsKnown F R table p new
     by_return new is new_is = let it = seen_as Return is in known_return it.0 new it.1 new_is
@@ -320,8 +317,8 @@ known_keeps F R old new p drawn keeps known = record {
   draws = known.draws;
 }
 
-pub has_keeps : (old new : List (Option Drawn)) (p : Place) → KeepsKnown old new → HasPlace old p → HasPlace new p
-has_keeps old new p keeps has = (has.0, (has.1.0, keeps p has.1.0 has.0 has.1.1))
+pub knows_keeps : (old new : List (Option Drawn)) (p : Place) (drawn : Drawn) → KeepsKnown old new → Knows old p drawn → Knows new p drawn
+knows_keeps old new p drawn keeps knows = (knows.0, keeps p drawn knows.0 knows.1)
 
 pub keeps_same : (table : List (Option Drawn)) → KeepsKnown table table
 keeps_same table p drawn inside is = is
@@ -334,8 +331,8 @@ module _ (table new : List (Option Drawn)) (p : Place) (drawn : Drawn) (inside :
   here_is : known_at new p ≡ Some drawn
   here_is = put_here table new p (Some drawn) inside size is
 
-  pub put_has : HasPlace new p
-  put_has = (inside, (drawn, here_is))
+  pub put_has : Knows new p drawn
+  put_has = (inside, here_is)
 
   pub put_keeps : KeepsKnown table new
   put_keeps q other there had =
@@ -391,9 +388,9 @@ module _ (F : List OpKind) (R : List ℕ) (d : ℕ) where
   pub good_by : (p : Place) → IsPlaceOf F R p → IsFine F R p d → (AllFine F R → Reached F R p d) → IsGood F R d p
   good_by p inside fine reached = record { inside = inside; fine = fine; reached = reached }
 
-pub has_some : (F : List OpKind) (R : List ℕ) (table : List (Option Drawn)) (p : Place) → IsPlaceOf F R p → (known : Option Drawn) (some : Bool) → known_at table p ≡ known → some ≡ is_some known → some ≡ true → HasPlace table p
-has_some F R table p inside None some is some_is holds = let never : false ≡ true = sym some_is ∙ holds in absurd cc
-has_some F R table p inside (Some drawn) some is some_is holds = (in_place F R p inside, (drawn, is))
+pub has_some : (table : List (Option Drawn)) (p : Place) (known : Option Drawn) → IsPlace p → known_at table p ≡ known → IsSome known → HasPlace table p
+has_some table p None inside at some = absurd cc
+has_some table p (Some drawn) inside at some = (inside, (drawn, at))
 
 module _ (F : List OpKind) (R : List ℕ) (begins : Begins F) (d : ℕ) where
   -- where a place without a fault leads on to, there is a place
@@ -439,38 +436,38 @@ module _ (F : List OpKind) (R : List ℕ) (begins : Begins F) (d : ℕ) where
       record { place = start; depth = d; end = end; reached = reached all; walk = subst (λ k. Walks F R d start k end) count (linked_walk start end pairs linked) }
 
   -- pairs up to a place that the table has, or to one that leads nowhere
-  pub chain_to : (table : List (Option Drawn)) (start end : Place) (pairs : List Pair) → Linked F R d start pairs end → HasPlace table end → IsChain F R table d start pairs
-  chain_to table start end [] linked has = subst (HasPlace table) (sym linked) has
-  chain_to table start end (pair ∷ pairs) linked has = let rest = linked.2 in (linked.0, linked.1, inl (rest.0, rest.1, chain_to table rest.0 end pairs rest.2 has))
+  pub chain_to : (table : List (Option Drawn)) (drawn : Drawn) (start end : Place) (pairs : List Pair) → Linked F R d start pairs end → Knows table end drawn → IsChain F R table d drawn start pairs
+  chain_to table drawn start end [] linked knows = subst (λ x. Knows table x drawn) (sym linked) knows
+  chain_to table drawn start end (pair ∷ pairs) linked knows = let rest = linked.2 in (linked.0, linked.1, inl (rest.0, rest.1, chain_to table drawn rest.0 end pairs rest.2 knows))
 
-  pub chain_ends : (table : List (Option Drawn)) (start end : Place) (pairs : List Pair) (pair : Pair) → pair.place ≡ end → Linked F R d start pairs end → IsGood F R d end → ((q : Place) → ¬ StepsOn F R end q)
-      → IsChain F R table d start (pairs ++ pair ∷ [])
-  chain_ends table start end [] pair same linked good nowhere =
+  pub chain_ends : (table : List (Option Drawn)) (drawn : Drawn) (start end : Place) (pairs : List Pair) (pair : Pair) → pair.place ≡ end → Linked F R d start pairs end → IsGood F R d end → ((q : Place) → ¬ StepsOn F R end q)
+      → IsChain F R table d drawn start (pairs ++ pair ∷ [])
+  chain_ends table drawn start end [] pair same linked good nowhere =
       (linked ∙ sym same, subst (IsGood F R d) (sym same) good, inr (subst (λ x. (q : Place) → ¬ StepsOn F R x q) (sym same) nowhere, refl))
-  chain_ends table start end (first ∷ pairs) pair same linked good nowhere =
-      let rest = linked.2 in (linked.0, linked.1, inl (rest.0, rest.1, chain_ends table rest.0 end pairs pair same rest.2 good nowhere))
+  chain_ends table drawn start end (first ∷ pairs) pair same linked good nowhere =
+      let rest = linked.2 in (linked.0, linked.1, inl (rest.0, rest.1, chain_ends table drawn rest.0 end pairs pair same rest.2 good nowhere))
 
-  -- the last place of a chain: the table has what it leads on to
-  pub record IsLast (table : List (Option Drawn)) (p : Place) : Type 0 where
+  -- the last place of a chain: the table has this of what it leads on to
+  pub record IsLast (table : List (Option Drawn)) (drawn : Drawn) (p : Place) : Type 0 where
     pub good : IsGood F R d p
-    pub next : (q : Place) → StepsOn F R p q → HasPlace table q
+    pub next : (q : Place) → StepsOn F R p q → Knows table q drawn
 
   not_none : (pairs : List Pair) (pair : Pair) → pairs ++ pair ∷ [] ≡ [] → ⊥
   not_none pairs pair is = let never = ap length is in let sum = length-append pairs (pair ∷ []) in omega arith
 
-  pub chain_last : (table : List (Option Drawn)) (start : Place) (pairs : List Pair) (pair : Pair) → IsChain F R table d start (pairs ++ pair ∷ []) → IsLast table pair.place
-  chain_last table start [] pair chain =
+  pub chain_last : (table : List (Option Drawn)) (drawn : Drawn) (start : Place) (pairs : List Pair) (pair : Pair) → IsChain F R table d drawn start (pairs ++ pair ∷ []) → IsLast table drawn pair.place
+  chain_last table drawn start [] pair chain =
       record {
         good = chain.1;
-        next = λ q goes. ⊎_elim (λ on. subst (HasPlace table) (goes_once F R pair.place on.0 q on.1 goes) on.2) (λ nowhere. absurd (nowhere.0 q goes)) chain.2;
+        next = λ q goes. ⊎_elim (λ on. subst (λ x. Knows table x drawn) (goes_once F R pair.place on.0 q on.1 goes) on.2) (λ nowhere. absurd (nowhere.0 q goes)) chain.2;
       }
-  chain_last table start (first ∷ pairs) pair chain =
-      ⊎_elim (λ on. chain_last table on.0 pairs pair on.2) (λ nowhere. absurd (not_none pairs pair nowhere.1)) chain.2
+  chain_last table drawn start (first ∷ pairs) pair chain =
+      ⊎_elim (λ on. chain_last table drawn on.0 pairs pair on.2) (λ nowhere. absurd (not_none pairs pair nowhere.1)) chain.2
 
-  pub chain_front : (table new : List (Option Drawn)) (start : Place) (pairs : List Pair) (pair : Pair) → IsChain F R table d start (pairs ++ pair ∷ []) → HasPlace new pair.place → IsChain F R new d start pairs
-  chain_front table new start [] pair chain has = subst (HasPlace new) (sym chain.0) has
-  chain_front table new start (first ∷ pairs) pair chain has =
-      (chain.0, chain.1, ⊎_elim (λ on. inl (on.0, on.1, chain_front table new on.0 pairs pair on.2 has)) (λ nowhere. absurd (not_none pairs pair nowhere.1)) chain.2)
+  pub chain_front : (table new : List (Option Drawn)) (old drawn : Drawn) (start : Place) (pairs : List Pair) (pair : Pair) → IsChain F R table d old start (pairs ++ pair ∷ []) → Knows new pair.place drawn → IsChain F R new d drawn start pairs
+  chain_front table new old drawn start [] pair chain knows = subst (λ x. Knows new x drawn) (sym chain.0) knows
+  chain_front table new old drawn start (first ∷ pairs) pair chain knows =
+      (chain.0, chain.1, ⊎_elim (λ on. inl (on.0, on.1, chain_front table new old drawn on.0 pairs pair on.2 knows)) (λ nowhere. absurd (not_none pairs pair nowhere.1)) chain.2)
 
   -- a chain after what was there before
   pub has_linked_more : (start end next : Place) (before old new pairs : List Pair) (pair : Pair) → pair.place ≡ end → old ≡ before ++ pairs → Linked F R d start pairs end → IsGood F R d end → new ≡ old ++ pair ∷ [] → StepsOn F R end next
@@ -478,12 +475,12 @@ module _ (F : List OpKind) (R : List ℕ) (begins : Begins F) (d : ℕ) where
   has_linked_more start end next before old new pairs pair same old_is linked good new_is goes =
       (new_is ∙ ap (λ xs. xs ++ pair ∷ []) old_is ∙ append_assoc before pairs (pair ∷ []), linked_push start end next pairs pair same linked good goes)
 
-  pub has_chain_ends : (table : List (Option Drawn)) (start end : Place) (before old new pairs : List Pair) (pair : Pair) → pair.place ≡ end → old ≡ before ++ pairs → Linked F R d start pairs end → IsGood F R d end → new ≡ old ++ pair ∷ []
-      → ((q : Place) → ¬ StepsOn F R end q) → HasChain F R table d start before new
-  has_chain_ends table start end before old new pairs pair same old_is linked good new_is nowhere = record {
+  pub has_chain_ends : (table : List (Option Drawn)) (drawn : Drawn) (start end : Place) (before old new pairs : List Pair) (pair : Pair) → pair.place ≡ end → old ≡ before ++ pairs → Linked F R d start pairs end → IsGood F R d end → new ≡ old ++ pair ∷ []
+      → ((q : Place) → ¬ StepsOn F R end q) → HasChain F R table d start drawn before new
+  has_chain_ends table drawn start end before old new pairs pair same old_is linked good new_is nowhere = record {
     pairs = pairs ++ pair ∷ [];
     is = new_is ∙ ap (λ xs. xs ++ pair ∷ []) old_is ∙ append_assoc before pairs (pair ∷ []);
-    chain = chain_ends table start end pairs pair same linked good nowhere;
+    chain = chain_ends table drawn start end pairs pair same linked good nowhere;
   }
 
 -- the last pair of a list that is longer than what was there before
@@ -516,37 +513,39 @@ call_is F R p to after seen so stands =
 
 module _ (F : List OpKind) (R : List ℕ) (begins : Begins F) (d : ℕ) where
   -- what a chain is once its last pair is taken out
-  pub record Popped (table : List (Option Drawn)) (start : Place) (before rest : List Pair) (pair : Pair) : Type 0 where
+  pub record Popped (table : List (Option Drawn)) (old : Drawn) (start : Place) (before rest : List Pair) (pair : Pair) : Type 0 where
     pub front : List Pair
     pub left : rest ≡ before ++ front
-    pub last : IsLast F R begins d table pair.place
-    pub kept : (new : List (Option Drawn)) → HasPlace new pair.place → IsChain F R new d start front
+    pub last : IsLast F R begins d table old pair.place
+    pub kept : (new : List (Option Drawn)) (drawn : Drawn) → Knows new pair.place drawn → IsChain F R new d drawn start front
 
-  pub popped : (table : List (Option Drawn)) (start : Place) (before all rest : List Pair) (pair : Pair) → HasChain F R table d start before all → all ≡ rest ++ pair ∷ [] → length before < length all → Popped table start before rest pair
-  popped table start before all rest pair has is longer =
+  pub popped : (table : List (Option Drawn)) (old : Drawn) (start : Place) (before all rest : List Pair) (pair : Pair) → HasChain F R table d start old before all → all ≡ rest ++ pair ∷ [] → length before < length all
+      → Popped table old start before rest pair
+  popped table old start before all rest pair has is longer =
       let count = ap length has.is in
       let it = split before has.pairs rest pair (sym has.is ∙ is) (omega arith) in
-      let chain : IsChain F R table d start (it.front ++ pair ∷ []) = subst (IsChain F R table d start) it.is has.chain in
+      let chain : IsChain F R table d old start (it.front ++ pair ∷ []) = subst (IsChain F R table d old start) it.is has.chain in
       record {
         front = it.front;
         left = it.left;
-        last = chain_last F R begins d table start it.front pair chain;
-        kept = λ new here. chain_front F R begins d table new start it.front pair chain here;
+        last = chain_last F R begins d table old start it.front pair chain;
+        kept = λ new drawn here. chain_front F R begins d table new old drawn start it.front pair chain here;
       }
 
-  pub left_chain : (table new : List (Option Drawn)) (start : Place) (before rest now : List Pair) (pair : Pair) → Popped table start before rest pair → now ≡ rest → HasPlace new pair.place → HasChain F R new d start before now
-  left_chain table new start before rest now pair out same here = record { pairs = out.front; is = same ∙ out.left; chain = out.kept new here }
+  pub left_chain : (table new : List (Option Drawn)) (old drawn : Drawn) (start : Place) (before rest now : List Pair) (pair : Pair) → Popped table old start before rest pair → now ≡ rest → Knows new pair.place drawn
+      → HasChain F R new d start drawn before now
+  left_chain table new old drawn start before rest now pair out same here = record { pairs = out.front; is = same ∙ out.left; chain = out.kept new drawn here }
 
   -- the place that was taken out is ready
-  module _ (table : List (Option Drawn)) (p : Place) (last : IsLast F R begins d table p) (seen : Way) (so : StandsSo F R p seen) where
-    pub ready_call : (to after : Place) (mid new : List (Option Drawn)) (way : Way) → seen ≡ Call to after → KeepsKnown table mid → IsTable F R mid → HasPlace mid to → new ≡ mid → way ≡ seen → StandsSo F R p way × IsReady F R new p d
+  module _ (table : List (Option Drawn)) (drawn : Drawn) (p : Place) (last : IsLast F R begins d table drawn p) (seen : Way) (so : StandsSo F R p seen) where
+    pub ready_call : (to after : Place) (mid new : List (Option Drawn)) (way : Way) → seen ≡ Call to after → KeepsKnown table mid → IsTable F R mid → HasPlace mid to → new ≡ mid → way ≡ seen → StandsSo F R p way × IsReady F R new p d drawn
     ready_call to after mid new way is keeps entries has new_is way_is = (
       subst (StandsSo F R p) (sym way_is) so,
-      subst (λ t. IsReady F R t p d) (sym new_is) (record {
+      subst (λ t. IsReady F R t p d drawn) (sym new_is) (record {
         begins = begins;
         good = last.good;
         entries = entries;
-        next = λ q goes. has_keeps table mid q keeps (last.next q goes);
+        next = λ q goes. knows_keeps table mid q drawn keeps (last.next q goes);
         inside = λ other behind stands.
             let two : Call to after ≡ Call other behind = sym is ∙ call_is F R p other behind seen so stands in
             let same : to ≡ other = cc in
@@ -554,10 +553,10 @@ module _ (F : List OpKind) (R : List ℕ) (begins : Begins F) (d : ℕ) where
       }),
     )
 
-    pub ready_other : (new : List (Option Drawn)) (way : Way) → ((to after : Place) → seen ≡ Call to after → ⊥) → IsTable F R table → new ≡ table → way ≡ seen → StandsSo F R p way × IsReady F R new p d
+    pub ready_other : (new : List (Option Drawn)) (way : Way) → ((to after : Place) → seen ≡ Call to after → ⊥) → IsTable F R table → new ≡ table → way ≡ seen → StandsSo F R p way × IsReady F R new p d drawn
     ready_other new way no_call entries new_is way_is = (
       subst (StandsSo F R p) (sym way_is) so,
-      subst (λ t. IsReady F R t p d) (sym new_is) (record {
+      subst (λ t. IsReady F R t p d drawn) (sym new_is) (record {
         begins = begins;
         good = last.good;
         entries = entries;

@@ -43,6 +43,10 @@ places F R = length F + length R / 2
 abbrev pub known_at : List (Option Drawn) → Place → Option Drawn
 known_at table p = slice_index_or table (place_index p) None
 
+-- the table has this of a place
+abbrev pub Knows : List (Option Drawn) → Place → Drawn → Type 0
+Knows table p drawn = IsPlace p × (known_at table p ≡ Some drawn)
+
 -- the table has what is drawn from a place
 abbrev pub HasPlace : List (Option Drawn) → Place → Type 0
 HasPlace table p = IsPlace p × ((drawn : Drawn) × (known_at table p ≡ Some drawn))
@@ -124,12 +128,13 @@ pub record IsGood (F : List OpKind) (R : List ℕ) (d : ℕ) (p : Place) : Type 
   pub fine : IsFine F R p d
   pub reached : AllFine F R → Reached F R p d
 
--- such a place, where the table has each place that it leads on to or calls
-pub record IsReady (F : List OpKind) (R : List ℕ) (table : List (Option Drawn)) (p : Place) (d : ℕ) : Type 0 where
+-- such a place, where the table has this of where it leads on, and has each place that it calls
+pub record IsReady (F : List OpKind) (R : List ℕ) (table : List (Option Drawn)) (p : Place) (d : ℕ)
+    (rest : Drawn) : Type 0 where
   pub begins : Begins F
   pub good : IsGood F R d p
   pub entries : IsTable F R table
-  pub next : (q : Place) → StepsOn F R p q → HasPlace table q
+  pub next : (q : Place) → StepsOn F R p q → Knows table q rest
   pub inside : (to after : Place) → Stands F R p (Calls to) after → HasPlace table to
 
 -- where a way leads on at its own depth
@@ -146,20 +151,20 @@ Linked F R d start [] last = start ≡ last
 Linked F R d start (pair ∷ pairs) last = (start ≡ pair.place) × IsGood F R d pair.place
     × ((next : Place) × StepsOn F R pair.place next × Linked F R d next pairs last)
 
--- the same, where the table has what is drawn from the last place, or the last of these pairs leads nowhere
-abbrev pub IsChain : List OpKind → List ℕ → List (Option Drawn) → ℕ → Place → List Pair → Type 0
-IsChain F R table d start [] = HasPlace table start
-IsChain F R table d start (pair ∷ pairs) =
+-- the same, where the table has this of the last place, or the last of these pairs leads nowhere
+abbrev pub IsChain : List OpKind → List ℕ → List (Option Drawn) → ℕ → Drawn → Place → List Pair → Type 0
+IsChain F R table d rest start [] = Knows table start rest
+IsChain F R table d rest start (pair ∷ pairs) =
     (start ≡ pair.place) × IsGood F R d pair.place
-    × (((next : Place) × StepsOn F R pair.place next × IsChain F R table d next pairs)
+    × (((next : Place) × StepsOn F R pair.place next × IsChain F R table d rest next pairs)
     ⊎ (((q : Place) → ¬ StepsOn F R pair.place q) × (pairs ≡ [])))
 
 -- a list has such a chain after what was there before
 pub record HasChain (F : List OpKind) (R : List ℕ) (table : List (Option Drawn)) (d : ℕ) (start : Place)
-    (before all : List Pair) : Type 0 where
+    (rest : Drawn) (before all : List Pair) : Type 0 where
   pub pairs : List Pair
   pub is : all ≡ before ++ pairs
-  pub chain : IsChain F R table d start pairs
+  pub chain : IsChain F R table d rest start pairs
 
 -- the same is drawn, with this many more words
 pub record IsLonger (rest : Drawn) (more : ℕ) (new : Drawn) : Type 0 where

@@ -10,7 +10,7 @@ abbrev pub invariant-loop-start : goal.invariant-loop-start
 invariant-loop-start g l = record {
   entries : IsTable l.draft l.rom l.table;
   kept : KeepsKnown l.fn.table l.table;
-  left : HasChain l.draft l.rom l.table l.fn.start.depth l.fn.start.place l.fn.chain l.chain;
+  left : HasChain l.draft l.rom l.table l.fn.start.depth l.fn.start.place l.rest l.fn.chain l.chain;
   room : length l.chain ≤ length l.fn.chain + LONGEST;
 }
 

@@ -5,7 +5,7 @@ use Rattle.dvg_frame.specs.declared.checking.pair.Pair.{Pair}
 use Rattle.dvg_frame.specs.declared.checking.chain.TheConstants.{LONGEST, ROOM}
 use Rattle.dvg_frame.specs.Ops.{IsDraft}
 use Rattle.dvg_frame.proofs.Swept.{in_place}
-use Rattle.dvg_frame.proofs.Tabled.{good_by, has_some, goes_in, goes_good, linked_loops, chain_to, has_linked_more, has_chain_ends, onward_goes, onward_nowhere}
+use Rattle.dvg_frame.proofs.Tabled.{good_by, goes_in, goes_good, linked_loops, chain_to, has_linked_more, has_chain_ends, onward_goes, onward_nowhere}
 use Rattle.dvg_frame.proofs.checking.bounds.follow.Goals as goal
 
 few_words : (R : List ℕ) (words : ℕ) → (length R ≡ 2048) ⊎ (length R ≡ 4096) → length R ≡ 2 * words → words ≤ 2048
@@ -42,26 +42,26 @@ module _ (old new pairs : List Pair) (step end : ℕ) (is : new ≡ old ++ pairs
 pub loop-step-init : goal.loop-step-init
 loop-step-init g c = record { pairs = []; is = sym (append-nil _); linked = refl; count = refl; inside = c.requires.inside; reached = c.requires.reached }
 
-pub returns-then-is_some-clause-followed : goal.returns-then-is_some-clause-followed
-returns-then-is_some-clause-followed g c =
+pub returns-in-Some-clause-followed : goal.returns-in-Some-clause-followed
+returns-in-Some-clause-followed g c =
     let i = c.loop-step.invariant in
     record {
       pairs = i.pairs;
       is = i.is;
-      chain = chain_to _ _ c.requires.begins _ _ _ _ i.pairs i.linked (has_some _ _ _ _ i.inside _ _ c.at.ensures c.is_some.ensures c.if-is_some.true);
+      chain = chain_to _ _ c.requires.begins _ _ _ _ _ i.pairs i.linked (in_place _ _ _ i.inside, c.at.ensures ∙ c.in-Some.is);
     }
 
 pub returns-in-None-clause-followed : goal.returns-in-None-clause-followed
 returns-in-None-clause-followed g c =
     let i = c.loop-step.invariant in
-    has_chain_ends _ _ c.requires.begins _ _ _ _ _ _ _ i.pairs _ refl i.is i.linked (good_by _ _ _ _ i.inside c.in-Ok.ensures.0 i.reached) c.push.ensures
+    has_chain_ends _ _ c.requires.begins _ _ _ _ _ _ _ _ i.pairs _ refl i.is i.linked (good_by _ _ _ _ i.inside c.in-Ok.ensures.0 i.reached) c.push.ensures
     (onward_nowhere _ _ _ _ c.in-Ok.ensures.1 (sym c.onward-next.ensures ∙ c.in-None.is))
 
 pub loop-step-preserved : goal.loop-step-preserved
 loop-step-preserved g c =
     let i = c.loop-step.invariant in
     let good = good_by _ _ _ _ i.inside c.in-Ok.ensures.0 i.reached in
-    let goes = onward_goes _ _ _ _ _ c.in-Ok.ensures.1 (sym c.onward-next.ensures ∙ c.in-Some.is) in
+    let goes = onward_goes _ _ _ _ _ c.in-Ok.ensures.1 (sym c.onward-next.ensures ∙ c.in-Some-next.is) in
     let both = has_linked_more _ _ c.requires.begins _ _ _ _ _ _ _ i.pairs _ refl i.is i.linked good c.push.ensures goes in
     record {
       pairs = _;
@@ -83,8 +83,8 @@ overflow_add-step-end g c = fits_below _ (few_steps _ _ _ _ _ c.len.ensures.draf
 pub overflow_add-step-end-2 : goal.overflow_add-step-end-2
 overflow_add-step-end-2 g c = fits _ (few_steps _ _ _ _ _ c.len.ensures.draft c.requires.rom c.len.ensures.value c.len_words.ensures.count c.from.ensures)
 
-pub returns-then-is_some-clause-room : goal.returns-then-is_some-clause-room
-returns-then-is_some-clause-room g c = let i = c.loop-step.invariant in in_room _ _ _ _ _ i.is i.count c.loop-step.auto.step-end (few_steps _ _ _ _ _ c.len.ensures.draft c.requires.rom c.len.ensures.value c.len_words.ensures.count c.from.ensures)
+pub returns-in-Some-clause-room : goal.returns-in-Some-clause-room
+returns-in-Some-clause-room g c = let i = c.loop-step.invariant in in_room _ _ _ _ _ i.is i.count c.loop-step.auto.step-end (few_steps _ _ _ _ _ c.len.ensures.draft c.requires.rom c.len.ensures.value c.len_words.ensures.count c.from.ensures)
 
 pub look-requires-clause-rom : goal.look-requires-clause-rom
 look-requires-clause-rom g c = c.requires.rom
@@ -92,8 +92,8 @@ look-requires-clause-rom g c = c.requires.rom
 pub look-requires-clause-inside : goal.look-requires-clause-inside
 look-requires-clause-inside g c = c.loop-step.invariant.inside
 
-pub returns-in_default-clause-room : goal.returns-in_default-clause-room
-returns-in_default-clause-room g c = let i = c.loop-step.invariant in in_room _ _ _ _ _ i.is i.count c.loop-step.auto.step-end (few_steps _ _ _ _ _ c.len.ensures.draft c.requires.rom c.len.ensures.value c.len_words.ensures.count c.from.ensures)
+pub returns-in_default-look-clause-room : goal.returns-in_default-look-clause-room
+returns-in_default-look-clause-room g c = let i = c.loop-step.invariant in in_room _ _ _ _ _ i.is i.count c.loop-step.auto.step-end (few_steps _ _ _ _ _ c.len.ensures.draft c.requires.rom c.len.ensures.value c.len_words.ensures.count c.from.ensures)
 
 pub push-requires : goal.push-requires
 push-requires g c =
