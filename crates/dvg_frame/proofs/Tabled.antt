@@ -536,12 +536,17 @@ module _ (F : List OpKind) (R : List ℕ) (begins : Begins F) (d : ℕ) where
       → HasChain F R new d start drawn before now
   left_chain table new old drawn start before rest now pair out same here = record { pairs = out.front; is = same ∙ out.left; chain = out.kept new drawn here }
 
-  -- the place that was taken out is ready
+  -- the place that was taken out is ready, in a table that keeps what it had
+  pub record IsTurn (old new : List (Option Drawn)) (drawn : Drawn) (p : Place) (way : Way) : Type 0 where
+    pub so : StandsSo F R p way
+    pub ready : IsReady F R new p d drawn
+    pub keeps : KeepsKnown old new
+
   module _ (table : List (Option Drawn)) (drawn : Drawn) (p : Place) (last : IsLast F R begins d table drawn p) (seen : Way) (so : StandsSo F R p seen) where
-    pub ready_call : (to after : Place) (mid new : List (Option Drawn)) (way : Way) → seen ≡ Call to after → KeepsKnown table mid → IsTable F R mid → HasPlace mid to → new ≡ mid → way ≡ seen → StandsSo F R p way × IsReady F R new p d drawn
-    ready_call to after mid new way is keeps entries has new_is way_is = (
-      subst (StandsSo F R p) (sym way_is) so,
-      subst (λ t. IsReady F R t p d drawn) (sym new_is) (record {
+    pub turn_call : (to after : Place) (mid new : List (Option Drawn)) (way : Way) → seen ≡ Call to after → KeepsKnown table mid → IsTable F R mid → HasPlace mid to → new ≡ mid → way ≡ seen → IsTurn table new drawn p way
+    turn_call to after mid new way is keeps entries has new_is way_is = record {
+      so = subst (StandsSo F R p) (sym way_is) so;
+      ready = subst (λ t. IsReady F R t p d drawn) (sym new_is) (record {
         begins = begins;
         good = last.good;
         entries = entries;
@@ -550,20 +555,22 @@ module _ (F : List OpKind) (R : List ℕ) (begins : Begins F) (d : ℕ) where
             let two : Call to after ≡ Call other behind = sym is ∙ call_is F R p other behind seen so stands in
             let same : to ≡ other = cc in
             subst (HasPlace mid) same has;
-      }),
-    )
+      });
+      keeps = subst (KeepsKnown table) (sym new_is) keeps;
+    }
 
-    pub ready_other : (new : List (Option Drawn)) (way : Way) → ((to after : Place) → seen ≡ Call to after → ⊥) → IsTable F R table → new ≡ table → way ≡ seen → StandsSo F R p way × IsReady F R new p d drawn
-    ready_other new way no_call entries new_is way_is = (
-      subst (StandsSo F R p) (sym way_is) so,
-      subst (λ t. IsReady F R t p d drawn) (sym new_is) (record {
+    pub turn_other : (new : List (Option Drawn)) (way : Way) → ((to after : Place) → seen ≡ Call to after → ⊥) → IsTable F R table → new ≡ table → way ≡ seen → IsTurn table new drawn p way
+    turn_other new way no_call entries new_is way_is = record {
+      so = subst (StandsSo F R p) (sym way_is) so;
+      ready = subst (λ t. IsReady F R t p d drawn) (sym new_is) (record {
         begins = begins;
         good = last.good;
         entries = entries;
         next = last.next;
         inside = λ to after stands. absurd (no_call to after (call_is F R p to after seen so stands));
-      }),
-    )
+      });
+      keeps = subst (KeepsKnown table) (sym new_is) (keeps_same table);
+    }
 
     -- what it calls
     module _ (to after : Place) (is : seen ≡ Call to after) where
@@ -572,6 +579,9 @@ module _ (F : List OpKind) (R : List ℕ) (begins : Begins F) (d : ℕ) where
 
       pub to_in : IsPlaceOf F R to
       to_in = call_in F R begins d p to after last.good stands
+
+      pub to_place : IsPlace to
+      to_place = in_place F R to to_in
 
       pub to_low : d ≡ 4 → ⊥
       to_low = call_low F R begins d p to after last.good stands

@@ -1,23 +1,9 @@
 use Rattle.std.proofs.lemmas.Bool.{cases_lt}
 use Rattle.dvg_frame.specs.declared.checking.chain.TheConstants.{LONGEST}
-use Rattle.std.proofs.Common.{length-append, [], ◌∷◌, ◌≡◌, ◌≤◌, ◌+◌, ◌*◌, ⊎_elim, ◌∙◌, sym, subst, arith, ap, length, refl, List, ℕ, Option}
-use Rattle.dvg_frame.specs.declared.op.OpKind.{OpKind}
-use Rattle.dvg_frame.specs.declared.place.Place.{Place}
-use Rattle.dvg_frame.specs.declared.checking.pair.Pair.{Pair}
-use Rattle.dvg_frame.specs.declared.checking.table.Drawn.{Drawn}
-use Rattle.dvg_frame.specs.declared.checking.way.Way.{Way}
-use Rattle.dvg_frame.specs.own.Ways.{StandsSo}
-use Rattle.dvg_frame.specs.own.Tables.{IsReady, KeepsKnown}
-use Rattle.dvg_frame.proofs.Swept.{in_place}
-use Rattle.dvg_frame.proofs.Tabled.{not_within, popped, left_chain, ready_call, ready_other, to_in, to_low, to_reached, has_some, keeps_same, keeps_both}
+use Rattle.std.proofs.Common.{length-append, [], ◌∷◌, ◌≡◌, ◌≤◌, ◌+◌, ◌*◌, ⊎_elim, ◌∙◌, sym, arith, ap, length, refl}
+use Rattle.dvg_frame.proofs.Tabled.{IsTurn, not_within, popped, left_chain, turn_call, turn_other, to_in, to_low, to_place, to_reached, has_some, keeps_same, keeps_both}
 use Rattle.dvg_frame.proofs.checking.bounds.+settle.Goals as goal
 use Rattle.dvg_frame.proofs.checking.bounds.+settle.Goals.{in-Call+else-not-has, else-not-has-via-then-not-has+else-not-settle, else-not-has-via-else-not-has, in_default-way}
-
--- the place that was taken out is ready, with the table that the call from it left, and the chain is as it was before
-record IsLed (F : List OpKind) (R : List ℕ) (old new : List (Option Drawn)) (p : Place) (d : ℕ) (rest : Drawn) (way : Way) (before now : List Pair) : Type 0 where
-  ready : StandsSo F R p way × IsReady F R new p d rest
-  keeps : KeepsKnown old new
-  same : now ≡ before
 
 pub way_at-requires-clause-inside : goal.way_at-requires-clause-inside
 way_at-requires-clause-inside g t c =
@@ -30,7 +16,7 @@ unreachable-requires g t c =
 pub has-requires : goal.has-requires
 has-requires g t c =
     let out = popped _ _ c.requires.begins _ _ _ _ _ _ _ _ c.loop-start.invariant.left c.pop-place.ensures.value (let base = c.len-base.ensures.value in let now = c.len.ensures.value in omega arith) in
-    in_place _ _ _ (to_in _ _ c.requires.begins _ _ _ _ out.last _ c.in-Some-way_at.ensures _ _ c.in-Call.is)
+    to_place _ _ c.requires.begins _ _ _ _ out.last _ c.in-Some-way_at.ensures _ _ c.in-Call.is
 
 pub settle-requires : goal.settle-requires
 settle-requires g t c κs within =
@@ -62,58 +48,40 @@ settle-requires g t c κs within =
 pub put_drawn-rest-requires : goal.put_drawn-rest-requires
 put_drawn-rest-requires g t c =
     let out = popped _ _ c.requires.begins _ _ _ _ _ _ _ _ c.loop-start.invariant.left c.pop-place.ensures.value (let base = c.len-base.ensures.value in let now = c.len.ensures.value in omega arith) in
-    let led : IsLed c.args.draft.now c.args.rom.now c.loop-start.table c.match-way.table c.pop-place.result.place c.args.start.depth c.loop-start.rest c.match-way.way' c.pop-place.new.self c.match-way.chain =
+    let turn : IsTurn c.args.draft.now c.args.rom.now c.requires.begins c.args.start.depth c.loop-start.table c.match-way.table c.loop-start.rest c.pop-place.result.place c.match-way.way' =
     elim c.match-way.branch [
       | in-Call+else-not-has w ↦ elim w.else-not-has.branch [
-        | else-not-has-via-then-not-has+else-not-settle w' ↦ record {
-          ready = ready_call _ _ c.requires.begins _ _ _ _ out.last _ c.in-Some-way_at.ensures _ _ _ _ _ w.in-Call.is w'.settle.ensures.kept w'.settle.ensures.entries w'.if-not-settle.ensures.settled.0 (w.table-is ∙ w'.table-is) (w.way'-is ∙ sym w.in-Call.is);
-          keeps = subst (KeepsKnown c.loop-start.table) (sym (w.table-is ∙ w'.table-is)) w'.settle.ensures.kept;
-          same = w.chain-is ∙ w'.chain-is ∙ w'.if-not-settle.ensures.settled.1;
-        }
-        | else-not-has-via-else-not-has w' ↦ record {
-          ready = ready_call _ _ c.requires.begins _ _ _ _ out.last _ c.in-Some-way_at.ensures _ _ _ _ _ w.in-Call.is (keeps_same _) c.loop-start.invariant.entries
-              (has_some _ _ _ (in_place _ _ _ (to_in _ _ c.requires.begins _ _ _ _ out.last _ c.in-Some-way_at.ensures _ _ w.in-Call.is)) refl (w.has.ensures.0 w'.if-not-has.false))
-              (w.table-is ∙ w'.table-is) (w.way'-is ∙ sym w.in-Call.is);
-          keeps = subst (KeepsKnown c.loop-start.table) (sym (w.table-is ∙ w'.table-is)) (keeps_same _);
-          same = w.chain-is ∙ w'.chain-is;
-        }
+        | else-not-has-via-then-not-has+else-not-settle w' ↦ turn_call _ _ c.requires.begins _ _ _ _ out.last _ c.in-Some-way_at.ensures _ _ _ _ _ w.in-Call.is w'.settle.ensures.kept w'.settle.ensures.entries w'.if-not-settle.ensures.settled.0 (w.table-is ∙ w'.table-is) (w.way'-is ∙ sym w.in-Call.is)
+        | else-not-has-via-else-not-has w' ↦ turn_call _ _ c.requires.begins _ _ _ _ out.last _ c.in-Some-way_at.ensures _ _ _ _ _ w.in-Call.is (keeps_same _) c.loop-start.invariant.entries
+            (has_some _ _ _ (to_place _ _ c.requires.begins _ _ _ _ out.last _ c.in-Some-way_at.ensures _ _ w.in-Call.is) refl (w.has.ensures.0 w'.if-not-has.false)) (w.table-is ∙ w'.table-is) (w.way'-is ∙ sym w.in-Call.is)
       ]
-      | in_default-way w ↦ record {
-        ready = ready_other _ _ c.requires.begins _ _ _ _ out.last _ c.in-Some-way_at.ensures _ _ w.in_default-way.not-Call c.loop-start.invariant.entries w.table-is w.way'-is;
-        keeps = subst (KeepsKnown c.loop-start.table) (sym w.table-is) (keeps_same _);
-        same = w.chain-is;
-      }
+      | in_default-way w ↦ turn_other _ _ c.requires.begins _ _ _ _ out.last _ c.in-Some-way_at.ensures _ _ w.in_default-way.not-Call c.loop-start.invariant.entries w.table-is w.way'-is
     ] in
-    (_, _, _, led.ready.0, led.ready.1)
+    (_, _, _, turn.so, turn.ready)
 
 pub loop-start-preserved : goal.loop-start-preserved
 loop-start-preserved g t c =
     let out = popped _ _ c.requires.begins _ _ _ _ _ _ _ _ c.loop-start.invariant.left c.pop-place.ensures.value (let base = c.len-base.ensures.value in let now = c.len.ensures.value in omega arith) in
-    let led : IsLed c.args.draft.now c.args.rom.now c.loop-start.table c.match-way.table c.pop-place.result.place c.args.start.depth c.loop-start.rest c.match-way.way' c.pop-place.new.self c.match-way.chain =
+    let turn : IsTurn c.args.draft.now c.args.rom.now c.requires.begins c.args.start.depth c.loop-start.table c.match-way.table c.loop-start.rest c.pop-place.result.place c.match-way.way' =
     elim c.match-way.branch [
       | in-Call+else-not-has w ↦ elim w.else-not-has.branch [
-        | else-not-has-via-then-not-has+else-not-settle w' ↦ record {
-          ready = ready_call _ _ c.requires.begins _ _ _ _ out.last _ c.in-Some-way_at.ensures _ _ _ _ _ w.in-Call.is w'.settle.ensures.kept w'.settle.ensures.entries w'.if-not-settle.ensures.settled.0 (w.table-is ∙ w'.table-is) (w.way'-is ∙ sym w.in-Call.is);
-          keeps = subst (KeepsKnown c.loop-start.table) (sym (w.table-is ∙ w'.table-is)) w'.settle.ensures.kept;
-          same = w.chain-is ∙ w'.chain-is ∙ w'.if-not-settle.ensures.settled.1;
-        }
-        | else-not-has-via-else-not-has w' ↦ record {
-          ready = ready_call _ _ c.requires.begins _ _ _ _ out.last _ c.in-Some-way_at.ensures _ _ _ _ _ w.in-Call.is (keeps_same _) c.loop-start.invariant.entries
-              (has_some _ _ _ (in_place _ _ _ (to_in _ _ c.requires.begins _ _ _ _ out.last _ c.in-Some-way_at.ensures _ _ w.in-Call.is)) refl (w.has.ensures.0 w'.if-not-has.false))
-              (w.table-is ∙ w'.table-is) (w.way'-is ∙ sym w.in-Call.is);
-          keeps = subst (KeepsKnown c.loop-start.table) (sym (w.table-is ∙ w'.table-is)) (keeps_same _);
-          same = w.chain-is ∙ w'.chain-is;
-        }
+        | else-not-has-via-then-not-has+else-not-settle w' ↦ turn_call _ _ c.requires.begins _ _ _ _ out.last _ c.in-Some-way_at.ensures _ _ _ _ _ w.in-Call.is w'.settle.ensures.kept w'.settle.ensures.entries w'.if-not-settle.ensures.settled.0 (w.table-is ∙ w'.table-is) (w.way'-is ∙ sym w.in-Call.is)
+        | else-not-has-via-else-not-has w' ↦ turn_call _ _ c.requires.begins _ _ _ _ out.last _ c.in-Some-way_at.ensures _ _ _ _ _ w.in-Call.is (keeps_same _) c.loop-start.invariant.entries
+            (has_some _ _ _ (to_place _ _ c.requires.begins _ _ _ _ out.last _ c.in-Some-way_at.ensures _ _ w.in-Call.is) refl (w.has.ensures.0 w'.if-not-has.false)) (w.table-is ∙ w'.table-is) (w.way'-is ∙ sym w.in-Call.is)
       ]
-      | in_default-way w ↦ record {
-        ready = ready_other _ _ c.requires.begins _ _ _ _ out.last _ c.in-Some-way_at.ensures _ _ w.in_default-way.not-Call c.loop-start.invariant.entries w.table-is w.way'-is;
-        keeps = subst (KeepsKnown c.loop-start.table) (sym w.table-is) (keeps_same _);
-        same = w.chain-is;
-      }
+      | in_default-way w ↦ turn_other _ _ c.requires.begins _ _ _ _ out.last _ c.in-Some-way_at.ensures _ _ w.in_default-way.not-Call c.loop-start.invariant.entries w.table-is w.way'-is
+    ] in
+    let chain : c.match-way.chain ≡ c.pop-place.new.self =
+    elim c.match-way.branch [
+      | in-Call+else-not-has w ↦ elim w.else-not-has.branch [
+        | else-not-has-via-then-not-has+else-not-settle w' ↦ w.chain-is ∙ w'.chain-is ∙ w'.if-not-settle.ensures.settled.1
+        | else-not-has-via-else-not-has w' ↦ w.chain-is ∙ w'.chain-is
+      ]
+      | in_default-way w ↦ w.chain-is
     ] in
     record {
-      entries = c.put_drawn-rest.ensures.entries _ _ _ led.ready.0 led.ready.1;
-      kept = keeps_both _ _ _ c.loop-start.invariant.kept (keeps_both _ _ _ led.keeps c.put_drawn-rest.ensures.kept);
-      left = left_chain _ _ c.requires.begins _ _ _ _ _ _ _ _ _ _ out led.same c.put_drawn-rest.ensures.has;
-      room = let room = c.loop-start.invariant.room in let taken = ap length c.pop-place.ensures.value in let sum = length-append c.pop-place.new.self (c.pop-place.result ∷ []) in let same = ap length led.same in omega arith;
+      entries = c.put_drawn-rest.ensures.entries _ _ _ turn.so turn.ready;
+      kept = keeps_both _ _ _ c.loop-start.invariant.kept (keeps_both _ _ _ turn.keeps c.put_drawn-rest.ensures.kept);
+      left = left_chain _ _ c.requires.begins _ _ _ _ _ _ _ _ _ _ out chain c.put_drawn-rest.ensures.has;
+      room = let room = c.loop-start.invariant.room in let taken = ap length c.pop-place.ensures.value in let sum = length-append c.pop-place.new.self (c.pop-place.result ∷ []) in let same = ap length chain in omega arith;
     }
