@@ -10,7 +10,7 @@ use Rattle.std.proofs.lemmas.List.Elements.{All-cons}
 use Rattle.dvg_log.specs.Log.{Line}
 use Rattle.dvg_read.specs.Texts.{IsHex, is_passed, parts}
 use Rattle.dvg_logs.specs.LogLines.{LogRow, Tells, logged}
-use Rattle.dvg_logs.specs.LogLineTells.{AreNumbers}
+use Rattle.dvg_logs.specs.LogLineTells.{AreNumbers, BeginsWithNumbers}
 use Rattle.dvg_logs.specs.declared.log_reading.JudgedLines.{JudgedLines}
 use Rattle.dvg_logs.specs.LogReading.{HasJudged, HeadLine, IsOpen, IsRead, TakesLine, TakesLines}
 use Rattle.dvg_logs.proofs.LogReads.{first_read, line_off}
@@ -19,32 +19,54 @@ use Rattle.dvg_logs.proofs.LogRows.{fetched_line, fetched_made, low_line, low_ma
 -- ---- digits
 
 -- a byte whose value in the table is a digit's is that digit
-digit : (byte value all : ℕ) → value ≡ min 16 (digit_value byte) → value ≤ all → all < 16 → (digit_value byte < 16) × (digit_value byte ≡ value)
-digit byte value all is within few = (omega (arith, is, within, few), omega (arith, is, within, few))
+digit : (byte value : ℕ) → value ≡ min 16 (digit_value byte) → value < 16
+    → (digit_value byte < 16) × (digit_value byte ≡ value)
+digit byte value is few = (omega (arith, is, few), omega (arith, is, few))
 
-pub two_hex : (a b x y : ℕ) → x ≡ min 16 (digit_value a) → y ≡ min 16 (digit_value b) → bit_or x y < 16 → (x < 16) × (y < 16) × IsHex 2 (16 * x + y) (a ∷ b ∷ [])
-two_hex a b x y e f few =
-    let i = digit a x (bit_or x y) e (le_or_l x y) few in
-    let j = digit b y (bit_or x y) f (le_or_r x y) few in
-    (omega (arith, i.0, i.1), omega (arith, j.0, j.1), record { size = refl; digits = (i.0, (j.0, tt)); value = omega (arith, i.1, j.1) })
+pub two_hex : (a b x y : ℕ) → x ≡ min 16 (digit_value a) → y ≡ min 16 (digit_value b) → x < 16 → y < 16
+    → IsHex 2 (16 * x + y) (a ∷ b ∷ [])
+two_hex a b x y e f s t =
+    let i = digit a x e s in
+    let j = digit b y f t in
+    record { size = refl; digits = (i.0, (j.0, tt)); value = omega (arith, i.1, j.1) }
 
-pub three_hex : (a b d x y z : ℕ) → x ≡ min 16 (digit_value a) → y ≡ min 16 (digit_value b) → z ≡ min 16 (digit_value d) → bit_or (bit_or x y) z < 16
-    → (x < 16) × (y < 16) × (z < 16) × IsHex 3 (256 * x + (16 * y + z)) (a ∷ b ∷ d ∷ [])
-three_hex a b d x y z e f g few =
-    let more = le_or_l (bit_or x y) z in
-    let i = digit a x (bit_or (bit_or x y) z) e (omega (arith, le_or_l x y, more)) few in
-    let j = digit b y (bit_or (bit_or x y) z) f (omega (arith, le_or_r x y, more)) few in
-    let k = digit d z (bit_or (bit_or x y) z) g (le_or_r (bit_or x y) z) few in
-    (omega (arith, i.0, i.1), omega (arith, j.0, j.1), omega (arith, k.0, k.1), record { size = refl; digits = (i.0, (j.0, (k.0, tt))); value = omega (arith, i.1, j.1, k.1) })
+pub three_hex : (a b d x y z : ℕ) → x ≡ min 16 (digit_value a) → y ≡ min 16 (digit_value b) → z ≡ min 16 (digit_value d)
+    → x < 16 → y < 16 → z < 16 → IsHex 3 (256 * x + (16 * y + z)) (a ∷ b ∷ d ∷ [])
+three_hex a b d x y z e f g s t u =
+    let i = digit a x e s in
+    let j = digit b y f t in
+    let k = digit d z g u in
+    record { size = refl; digits = (i.0, (j.0, (k.0, tt))); value = omega (arith, i.1, j.1, k.1) }
 
-pub four_hex : (a b d q x y z w : ℕ) → x ≡ min 16 (digit_value a) → y ≡ min 16 (digit_value b) → z ≡ min 16 (digit_value d) → w ≡ min 16 (digit_value q) → bit_or (bit_or (bit_or x y) z) w < 16
-    → (x < 16) × (y < 16) × (z < 16) × (w < 16) × IsHex 4 (256 * (16 * x + y) + (16 * z + w)) (a ∷ b ∷ d ∷ q ∷ [])
-four_hex a b d q x y z w e f g h few =
-    let more = le_or_l (bit_or (bit_or x y) z) w in
-    let (small, tiny, little, front) = three_hex a b d x y z e f g (omega (arith, more, few)) in
-    let l = digit q w (bit_or (bit_or (bit_or x y) z) w) h (le_or_r (bit_or (bit_or x y) z) w) few in
+pub four_hex : (a b d q x y z w : ℕ) → x ≡ min 16 (digit_value a) → y ≡ min 16 (digit_value b)
+    → z ≡ min 16 (digit_value d) → w ≡ min 16 (digit_value q) → x < 16 → y < 16 → z < 16 → w < 16
+    → IsHex 4 (256 * (16 * x + y) + (16 * z + w)) (a ∷ b ∷ d ∷ q ∷ [])
+four_hex a b d q x y z w e f g h s t u v =
+    let front = three_hex a b d x y z e f g s t u in
+    let l = digit q w h v in
     let (i, (j, (k, none))) = front.digits in
-    (small, tiny, little, omega (arith, l.0, l.1), record { size = refl; digits = (i, (j, (k, (l.0, tt)))); value = omega (arith, front.value, l.1) })
+    record { size = refl; digits = (i, (j, (k, (l.0, tt)))); value = omega (arith, front.value, l.1) }
+
+-- what is below 16 together is below it alone
+both_below : (x y : ℕ) → bit_or x y < 16 → (x < 16) × (y < 16)
+both_below x y few = (omega (arith, le_or_l x y, few), omega (arith, le_or_r x y, few))
+
+pub five_below : (a b d x y : ℕ) → bit_or (bit_or (bit_or (bit_or a b) d) x) y < 16
+    → ((a < 16) × (b < 16) × (d < 16)) × ((x < 16) × (y < 16))
+five_below a b d x y few =
+    let (four, fifth) = both_below (bit_or (bit_or (bit_or a b) d) x) y few in
+    let (three, fourth) = both_below (bit_or (bit_or a b) d) x four in
+    let (two, third) = both_below (bit_or a b) d three in
+    let (first, second) = both_below a b two in
+    ((first, second, third), (fourth, fifth))
+
+pub seven_below : (a b d x y z w : ℕ) → bit_or (bit_or (bit_or (bit_or (bit_or (bit_or a b) d) x) y) z) w < 16
+    → ((a < 16) × (b < 16) × (d < 16)) × ((x < 16) × (y < 16)) × ((z < 16) × (w < 16))
+seven_below a b d x y z w few =
+    let (six, seventh) = both_below (bit_or (bit_or (bit_or (bit_or (bit_or a b) d) x) y) z) w few in
+    let (five, sixth) = both_below (bit_or (bit_or (bit_or (bit_or a b) d) x) y) z six in
+    let (front, back) = five_below a b d x y five in
+    (front, back, (sixth, seventh))
 
 -- ---- the head of a text
 
@@ -84,34 +106,60 @@ no_ends : (one other : List ℕ) → NoEnds one → NoEnds other → NoEnds (one
 no_ends [] other none h = h
 no_ends (byte ∷ bytes) other (none, more) h = (none, no_ends bytes other more h)
 
+pub numbers : {count a n : ℕ} {front back : List ℕ} → IsHex 3 a front → IsHex count n back
+    → AreNumbers count a n (front ++ 32 ∷ back)
+numbers {front = front} {back = back} address number =
+    record { front = front; back = back; split = refl; address = address; number = number }
+
+numbers_open : {count a n : ℕ} {bytes : List ℕ} → AreNumbers count a n bytes → NoEnds bytes
+numbers_open numbers =
+    let back = no_end numbers.back numbers.number.digits in
+    subst NoEnds (sym numbers.split)
+    (no_ends numbers.front (32 ∷ numbers.back) (no_end numbers.front numbers.address.digits) (refl, back))
+
 -- so a name with its space, numbers and an end are a line at a text's head
-number_head : {count a n : ℕ} (logged : Line) (name front back text rest : List ℕ) → text ≡ (name ++ (front ++ 32 ∷ back)) ++ 10 ∷ rest
-    → NoEnds name → IsHex 3 a front → IsHex count n back → length name + count ≤ 60 → is_passed (name ++ (front ++ 32 ∷ back)) ≡ false
-    → LogRow logged (parts (name ++ (front ++ 32 ∷ back))) → HeadLine logged text rest
-number_head line name front back text rest is none address number few not row = record {
-  line = name ++ (front ++ 32 ∷ back);
-  split = is;
-  unended = open_of (name ++ (front ++ 32 ∷ back)) (no_ends name (front ++ 32 ∷ back) none (no_ends front (32 ∷ back) (no_end front address.digits) (refl, no_end back number.digits)));
-  tells = logged (omega (arith, length-append name (front ++ 32 ∷ back), length-append front (32 ∷ back), address.size, number.size, few)) not row;
-}
+number_head : {count a n : ℕ} {text rest : List ℕ} (line : Line) (name : List ℕ)
+    (begins : BeginsWithNumbers count a n text rest) → NoEnds name → length name + count ≤ 60
+    → is_passed (name ++ begins.bytes) ≡ false
+    → LogRow line (parts (name ++ begins.bytes)) → HeadLine line (name ++ text) rest
+number_head {rest = rest} line name begins none few not row =
+    let bytes = begins.bytes in
+    let numbers = begins.numbers in
+    let size = length-append numbers.front (32 ∷ numbers.back) in
+    record {
+      line = name ++ bytes;
+      split = ap (λ l. name ++ l) begins.split ∙ sym (append_assoc name bytes (10 ∷ rest));
+      unended = open_of (name ++ bytes) (no_ends name bytes none (numbers_open numbers));
+      tells = logged (omega (
+        arith,
+        length-append name bytes,
+        ap length numbers.split,
+        size,
+        numbers.address.size,
+        numbers.number.size,
+        few,
+      )) not row;
+    }
 
-numbers : {count a n : ℕ} {front back : List ℕ} → IsHex 3 a front → IsHex count n back → AreNumbers count a n (front ++ 32 ∷ back)
-numbers {front = front} {back = back} address number = record { front = front; back = back; split = refl; address = address; number = number }
+pub wrote_head : {a n : ℕ} {text rest : List ℕ} → BeginsWithNumbers 2 a n text rest → a < 0x800
+    → HeadLine (wrote_line a n) (codes "wrote " ++ text) rest
+wrote_head {a} {n} begins ram =
+    let ends : NoEnds (codes "wrote ") = (refl, (refl, (refl, (refl, (refl, (refl, tt)))))) in
+    number_head (wrote_line a n) (codes "wrote ") begins ends (omega arith) refl
+    (wrote_made (codes "wrote " ++ begins.bytes) begins.bytes refl ram begins.numbers)
 
-pub wrote_head : {a n : ℕ} (text rest front back : List ℕ) → text ≡ (codes "wrote " ++ (front ++ 32 ∷ back)) ++ 10 ∷ rest → a < 0x800 → IsHex 3 a front → IsHex 2 n back → HeadLine (wrote_line a n) text rest
-wrote_head {a} {n} text rest front back is ram address number =
-    number_head (wrote_line a n) (codes "wrote ") front back text rest is (refl, (refl, (refl, (refl, (refl, (refl, tt)))))) address number (omega arith) refl
-    (wrote_made (codes "wrote " ++ (front ++ 32 ∷ back)) (front ++ 32 ∷ back) refl ram (numbers address number))
+pub low_head : {a n : ℕ} {text rest : List ℕ} → BeginsWithNumbers 2 a n text rest
+    → HeadLine (low_line a n) (codes "low " ++ text) rest
+low_head {a} {n} begins =
+    number_head (low_line a n) (codes "low ") begins (refl, (refl, (refl, (refl, tt)))) (omega arith) refl
+    (low_made (codes "low " ++ begins.bytes) begins.bytes refl begins.numbers)
 
-pub low_head : {a n : ℕ} (text rest front back : List ℕ) → text ≡ (codes "low " ++ (front ++ 32 ∷ back)) ++ 10 ∷ rest → IsHex 3 a front → IsHex 2 n back → HeadLine (low_line a n) text rest
-low_head {a} {n} text rest front back is address number =
-    number_head (low_line a n) (codes "low ") front back text rest is (refl, (refl, (refl, (refl, tt)))) address number (omega arith) refl
-    (low_made (codes "low " ++ (front ++ 32 ∷ back)) (front ++ 32 ∷ back) refl (numbers address number))
-
-pub fetched_head : {a n : ℕ} (text rest front back : List ℕ) → text ≡ (codes "fetched " ++ (front ++ 32 ∷ back)) ++ 10 ∷ rest → IsHex 3 a front → IsHex 4 n back → HeadLine (fetched_line a n) text rest
-fetched_head {a} {n} text rest front back is address number =
-    number_head (fetched_line a n) (codes "fetched ") front back text rest is (refl, (refl, (refl, (refl, (refl, (refl, (refl, (refl, tt)))))))) address number (omega arith) refl
-    (fetched_made (codes "fetched " ++ (front ++ 32 ∷ back)) (front ++ 32 ∷ back) refl (numbers address number))
+pub fetched_head : {a n : ℕ} {text rest : List ℕ} → BeginsWithNumbers 4 a n text rest
+    → HeadLine (fetched_line a n) (codes "fetched " ++ text) rest
+fetched_head {a} {n} begins =
+    let ends : NoEnds (codes "fetched ") = (refl, (refl, (refl, (refl, (refl, (refl, (refl, (refl, tt)))))))) in
+    number_head (fetched_line a n) (codes "fetched ") begins ends (omega arith) refl
+    (fetched_made (codes "fetched " ++ begins.bytes) begins.bytes refl begins.numbers)
 
 -- ---- lines that are taken
 

@@ -25,3 +25,9 @@ pub record AreNumbers (count a n : ℕ) (bytes : List ℕ) : Type 0 where
   pub split : bytes ≡ front ++ 32 ∷ back
   pub address : IsHex 3 a front
   pub number : IsHex count n back
+
+-- such numbers and a line's end stand at the head of a text, and then comes the rest; 10 is LF
+pub record BeginsWithNumbers (count a n : ℕ) (text rest : List ℕ) : Type 0 where
+  pub bytes : List ℕ
+  pub split : text ≡ bytes ++ 10 ∷ rest
+  pub numbers : AreNumbers count a n bytes

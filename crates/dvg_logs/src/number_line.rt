@@ -1,85 +1,87 @@
 //! Lines of logs that have numbers, as most do: each is read at the head of a text, with no search
 //! for its end.
-ghost use Rattle.std.specs.Prelude.{[], ◌∷◌, IfSome};
-ghost use Rattle.dvg_read.specs.Texts.{IsHex};
+ghost use Rattle.std.specs.Prelude.{◌≡◌, ◌+◌, ◌*◌, ◌<◌, IfSome};
+ghost use Rattle.dvg_logs.specs.LogLineTells.{BeginsWithNumbers};
 
 use crate::log_line::{LogLine, RAM_END};
 use crate::log_reading::JudgedLines;
 use dvg_read::digit_of;
 
-// The number of two hexadecimal digits. None where a byte isn't a digit.
+/// The most bytes of a line that has numbers, with its end. Where a text has fewer, what is left of
+/// it is read otherwise.
+const MOST_NUMBER_BYTES: usize = 17;
+
+// The number of two hexadecimal digits, by their values.
 #[inline(always)]
-fn of_two(a: u8, b: u8) -> Option<u8>
-    ensures { IfSome result (λ number. IsHex 2 number (a ∷ b ∷ [])) }
+fn of_two(a: u8, b: u8) -> u8
+    requires { (a < 16) × (b < 16) }
+    ensures { result ≡ 16 * a + b }
 {
-    let (a, b) = (digit_of(a), digit_of(b));
-    let all = a | b;
-    if all >= 16 {
-        return None;
-    }
-    Some(16 * a + b)
+    16 * a + b
 }
 
 // The number of three.
 #[inline(always)]
-fn of_three(a: u8, b: u8, c: u8) -> Option<u16>
-    ensures { IfSome result (λ number. IsHex 3 number (a ∷ b ∷ c ∷ [])) }
+fn of_three(a: u8, b: u8, c: u8) -> u16
+    requires { (a < 16) × (b < 16) × (c < 16) }
+    ensures { result ≡ 256 * a + (16 * b + c) }
 {
-    let (a, b, c) = (digit_of(a), digit_of(b), digit_of(c));
-    let all = a | b | c;
-    if all >= 16 {
-        return None;
-    }
-    Some(256 * u16::from(a) + u16::from(16 * b + c))
+    256 * u16::from(a) + u16::from(of_two(b, c))
 }
 
-// The number of four.
+// The address and the byte that a text begins with, and what comes after the line's end. All digits
+// are tested at once.
 #[inline(always)]
-fn of_four(a: u8, b: u8, c: u8, d: u8) -> Option<u16>
-    ensures { IfSome result (λ number. IsHex 4 number (a ∷ b ∷ c ∷ d ∷ [])) }
+fn address_and_byte(text: &[u8]) -> Option<(u16, u8, &[u8])>
+    ensures { IfSome result (λ found. BeginsWithNumbers 2 found.0 found.1 text.now found.2.now) }
 {
-    let (a, b, c, d) = (digit_of(a), digit_of(b), digit_of(c), digit_of(d));
-    let all = a | b | c | d;
+    let [a, b, c, b' ', d, e, b'\n', rest @ ..] = text else {
+        return None;
+    };
+    let (a, b, c) = (digit_of(*a), digit_of(*b), digit_of(*c));
+    let (d, e) = (digit_of(*d), digit_of(*e));
+    let all = a | b | c | d | e;
     if all >= 16 {
         return None;
     }
-    Some(256 * u16::from(16 * a + b) + u16::from(16 * c + d))
+    Some((of_three(a, b, c), of_two(d, e), rest))
+}
+
+// The same, of an address and a word.
+#[inline(always)]
+fn address_and_word(text: &[u8]) -> Option<(u16, u16, &[u8])>
+    ensures { IfSome result (λ found. BeginsWithNumbers 4 found.0 found.1 text.now found.2.now) }
+{
+    let [a, b, c, b' ', d, e, f, g, b'\n', rest @ ..] = text else {
+        return None;
+    };
+    let (a, b, c) = (digit_of(*a), digit_of(*b), digit_of(*c));
+    let (d, e, f, g) = (digit_of(*d), digit_of(*e), digit_of(*f), digit_of(*g));
+    let all = a | b | c | d | e | f | g;
+    if all >= 16 {
+        return None;
+    }
+    let word = 256 * u16::from(of_two(d, e)) + u16::from(of_two(f, g));
+    Some((of_three(a, b, c), word, rest))
 }
 
 // Most lines of a log have numbers. Each is taken from the head of a text, if it ends there and
 // isn't torn. What comes after it is the answer.
 impl JudgedLines {
-    ghost use Rattle.std.specs.Prelude.{◌≡◌, ◌+◌, ◌-◌, ◌^◌, ◌<◌, IfSome, IsNone, IsSome};
+    ghost use Rattle.std.specs.Prelude.{◌≡◌, ◌+◌, ◌-◌, ◌^◌, ◌<◌, ◌++◌, IfSome, IsNone, IsSome};
+    ghost use Rattle.std.specs.Prelude.{codes};
     ghost use Rattle.dvg_logs.specs.LogReading.{TakesLine, TakesLines};
 
+    // Takes a line `wrote`, of which this comes after the name.
     #[inline(always)]
     fn take_wrote<'a>(&mut self, text: &'a [u8]) -> Option<&'a [u8]>
         requires room { self.old.count < 2 ^ 64 - 1 }
-        ensures taken { IfSome result (λ rest. TakesLine self.old self.new text.now rest.now) }
+        ensures taken { IfSome result (λ rest.
+            TakesLine self.old self.new (codes "wrote " ++ text.now) rest.now) }
         ensures count { IsSome result → self.new.count ≡ self.old.count + 1 }
         ensures none { IsNone result → self.new ≡ self.old }
     {
-        let [
-            b'w',
-            b'r',
-            b'o',
-            b't',
-            b'e',
-            b' ',
-            a,
-            b,
-            c,
-            b' ',
-            d,
-            e,
-            b'\n',
-            rest @ ..,
-        ] = text
-        else {
-            return None;
-        };
-        let address = of_three(*a, *b, *c)?;
-        let byte = of_two(*d, *e)?;
+        let (address, byte, rest) = address_and_byte(text)?;
         if address < RAM_END && self.take_logged(LogLine::Wrote(address, byte)) {
             Some(rest)
         } else {
@@ -87,32 +89,16 @@ impl JudgedLines {
         }
     }
 
+    // The same, of a line `low`.
     #[inline(always)]
     fn take_low<'a>(&mut self, text: &'a [u8]) -> Option<&'a [u8]>
         requires room { self.old.count < 2 ^ 64 - 1 }
-        ensures taken { IfSome result (λ rest. TakesLine self.old self.new text.now rest.now) }
+        ensures taken { IfSome result (λ rest.
+            TakesLine self.old self.new (codes "low " ++ text.now) rest.now) }
         ensures count { IsSome result → self.new.count ≡ self.old.count + 1 }
         ensures none { IsNone result → self.new ≡ self.old }
     {
-        let [
-            b'l',
-            b'o',
-            b'w',
-            b' ',
-            a,
-            b,
-            c,
-            b' ',
-            d,
-            e,
-            b'\n',
-            rest @ ..,
-        ] = text
-        else {
-            return None;
-        };
-        let address = of_three(*a, *b, *c)?;
-        let byte = of_two(*d, *e)?;
+        let (address, byte, rest) = address_and_byte(text)?;
         if self.take_logged(LogLine::Low(address, byte)) {
             Some(rest)
         } else {
@@ -120,38 +106,16 @@ impl JudgedLines {
         }
     }
 
+    // The same, of a line `fetched`.
     #[inline(always)]
     fn take_fetched<'a>(&mut self, text: &'a [u8]) -> Option<&'a [u8]>
         requires room { self.old.count < 2 ^ 64 - 1 }
-        ensures taken { IfSome result (λ rest. TakesLine self.old self.new text.now rest.now) }
+        ensures taken { IfSome result (λ rest.
+            TakesLine self.old self.new (codes "fetched " ++ text.now) rest.now) }
         ensures count { IsSome result → self.new.count ≡ self.old.count + 1 }
         ensures none { IsNone result → self.new ≡ self.old }
     {
-        let [
-            b'f',
-            b'e',
-            b't',
-            b'c',
-            b'h',
-            b'e',
-            b'd',
-            b' ',
-            a,
-            b,
-            c,
-            b' ',
-            d,
-            e,
-            f,
-            g,
-            b'\n',
-            rest @ ..,
-        ] = text
-        else {
-            return None;
-        };
-        let address = of_three(*a, *b, *c)?;
-        let word = of_four(*d, *e, *f, *g)?;
+        let (address, word, rest) = address_and_word(text)?;
         if self.take_logged(LogLine::Fetched(address, word)) {
             Some(rest)
         } else {
@@ -159,6 +123,7 @@ impl JudgedLines {
         }
     }
 
+    // The name that comes most often is looked for first.
     #[inline(always)]
     fn take_number_line<'a>(&mut self, text: &'a [u8]) -> Option<&'a [u8]>
         requires room { self.old.count < 2 ^ 64 - 1 }
@@ -166,16 +131,21 @@ impl JudgedLines {
         ensures count { IsSome result → self.new.count ≡ self.old.count + 1 }
         ensures none { IsNone result → self.new ≡ self.old }
     {
-        match text.first()? {
-            b'w' => self.take_wrote(text),
-            b'l' => self.take_low(text),
-            b'f' => self.take_fetched(text),
-            _ => None,
+        if text.len() < MOST_NUMBER_BYTES {
+            return None;
+        }
+        if let Some(rest) = text.strip_prefix(b"wrote ") {
+            self.take_wrote(rest)
+        } else if let Some(rest) = text.strip_prefix(b"fetched ") {
+            self.take_fetched(rest)
+        } else {
+            self.take_low(text.strip_prefix(b"low ")?)
         }
     }
 
     /// Takes lines that have numbers from the head of a text, up to the first line that has none,
-    /// that is torn or that doesn't end. Answers what comes after them.
+    /// that is torn or that doesn't end. It stops, too, where a text has less than the longest such
+    /// line. Answers what comes after them.
     #[inline(never)]
     pub fn take_number_lines<'a>(&mut self, text: &'a [u8]) -> &'a [u8]
         ensures { TakesLines self.old self.new text.now result.now }

@@ -1,20 +1,7 @@
-use Rattle.std.proofs.Common.{◌≡◌, ◌∙◌, ap, [], ◌∷◌, ◌++◌, ◌-◌, codes, get_or, length, take, drop, refl, arith, rules}
-use Rattle.dvg_logs.proofs.NumberLines.{firsts, head_of, line_taken, wrote_head}
+use Rattle.std.proofs.Common.{arith}
+use Rattle.dvg_logs.proofs.NumberLines.{line_taken, wrote_head}
 use Rattle.dvg_logs.proofs.log_reading.JudgedLines.take_wrote.Goals as goal
 
 pub returns-then-take_logged-clause-taken : goal.returns-then-take_logged-clause-taken
 returns-then-take_logged-clause-taken c =
-    let text = c.args.text.now in
-    let b0 : get_or text 0 0 ≡ 119 = search rules in
-    let b1 : get_or text 1 0 ≡ 114 = search rules in
-    let b2 : get_or text 2 0 ≡ 111 = search rules in
-    let b3 : get_or text 3 0 ≡ 116 = search rules in
-    let b4 : get_or text 4 0 ≡ 101 = search rules in
-    let b5 : get_or text 5 0 ≡ 32 = search rules in
-    let b9 : get_or text 9 0 ≡ 32 = search rules in
-    let b12 : get_or text 12 0 ≡ 10 = search rules in
-    let rest = take (length text - 13) (drop 13 text) in
-    let front = get_or text 6 0 ∷ get_or text 7 0 ∷ get_or text 8 0 ∷ [] in
-    let back = get_or text 10 0 ∷ get_or text 11 0 ∷ [] in
-    let is : firsts 0 13 text ≡ (codes "wrote " ++ (front ++ 32 ∷ back)) ++ 10 ∷ [] = rw (b0, b1, b2, b3, b4, b5, b9, b12) refl in
-    line_taken (wrote_head text rest front back (head_of text 13 c.in-119.len_at_least ∙ ap (λ l. l ++ rest) is) (omega (arith, c.if-address-lt-RAM_END.true)) c.in_ok-address.ensures c.in_ok-byte.ensures) (c.take_logged.ensures.taken c.if-take_logged.true)
+    line_taken (wrote_head c.in_ok-address.ensures (omega (arith, c.if-address-lt-RAM_END.true))) (c.take_logged.ensures.taken c.if-take_logged.true)
