@@ -72,16 +72,17 @@ impl JudgedLines {
     ghost use Rattle.std.specs.Prelude.{codes};
     ghost use Rattle.dvg_logs.specs.LogReading.{TakesLine, TakesLines};
 
-    // Takes a line `wrote`, of which this comes after the name.
+    // Takes a line `wrote`, of which this comes after `wrot`: four letters are compared as one
+    // number, and six are not.
     #[inline(always)]
     fn take_wrote<'a>(&mut self, text: &'a [u8]) -> Option<&'a [u8]>
         requires room { self.old.count < 2 ^ 64 - 1 }
         ensures taken { IfSome result (λ rest.
-            TakesLine self.old self.new (codes "wrote " ++ text.now) rest.now) }
+            TakesLine self.old self.new (codes "wrot" ++ text.now) rest.now) }
         ensures count { IsSome result → self.new.count ≡ self.old.count + 1 }
         ensures none { IsNone result → self.new ≡ self.old }
     {
-        let (address, byte, rest) = address_and_byte(text)?;
+        let (address, byte, rest) = address_and_byte(text.strip_prefix(b"e ")?)?;
         if address < RAM_END && self.take_logged(LogLine::Wrote(address, byte)) {
             Some(rest)
         } else {
@@ -89,7 +90,7 @@ impl JudgedLines {
         }
     }
 
-    // The same, of a line `low`.
+    // Takes a line `low`, of which this comes after the name.
     #[inline(always)]
     fn take_low<'a>(&mut self, text: &'a [u8]) -> Option<&'a [u8]>
         requires room { self.old.count < 2 ^ 64 - 1 }
@@ -134,7 +135,7 @@ impl JudgedLines {
         if text.len() < MOST_NUMBER_BYTES {
             return None;
         }
-        if let Some(rest) = text.strip_prefix(b"wrote ") {
+        if let Some(rest) = text.strip_prefix(b"wrot") {
             self.take_wrote(rest)
         } else if let Some(rest) = text.strip_prefix(b"fetched ") {
             self.take_fetched(rest)

@@ -55,10 +55,11 @@ fn address_and_word(text: &[u8]) -> Option<(u16, u16, &[u8])> {
 // Most lines of a log have numbers. Each is taken from the head of a text, if it ends there and
 // isn't torn. What comes after it is the answer.
 impl JudgedLines {
-    // Takes a line `wrote`, of which this comes after the name.
+    // Takes a line `wrote`, of which this comes after `wrot`: four letters are compared as one
+    // number, and six are not.
     #[inline(always)]
     fn take_wrote<'a>(&mut self, text: &'a [u8]) -> Option<&'a [u8]> {
-        let (address, byte, rest) = address_and_byte(text)?;
+        let (address, byte, rest) = address_and_byte(text.strip_prefix(b"e ")?)?;
         if address < RAM_END && self.take_logged(LogLine::Wrote(address, byte)) {
             Some(rest)
         } else {
@@ -66,7 +67,7 @@ impl JudgedLines {
         }
     }
 
-    // The same, of a line `low`.
+    // Takes a line `low`, of which this comes after the name.
     #[inline(always)]
     fn take_low<'a>(&mut self, text: &'a [u8]) -> Option<&'a [u8]> {
         let (address, byte, rest) = address_and_byte(text)?;
@@ -94,7 +95,7 @@ impl JudgedLines {
         if text.len() < MOST_NUMBER_BYTES {
             return None;
         }
-        if let Some(rest) = text.strip_prefix(b"wrote ") {
+        if let Some(rest) = text.strip_prefix(b"wrot") {
             self.take_wrote(rest)
         } else if let Some(rest) = text.strip_prefix(b"fetched ") {
             self.take_fetched(rest)

@@ -1,7 +1,15 @@
-use Rattle.std.proofs.Common.{arith}
+use Rattle.std.proofs.Common.{◌++◌, arith, codes, subst, sym}
+use Rattle.dvg_read.proofs.Heads.{after_name}
+use Rattle.dvg_logs.specs.LogReading.{HeadLine}
+use Rattle.dvg_logs.proofs.LogRows.{wrote_line}
 use Rattle.dvg_logs.proofs.NumberLines.{line_taken, wrote_head}
 use Rattle.dvg_logs.proofs.log_reading.JudgedLines.take_wrote.Goals as goal
 
 pub returns-then-take_logged-clause-taken : goal.returns-then-take_logged-clause-taken
 returns-then-take_logged-clause-taken c =
-    line_taken (wrote_head c.in_ok-address.ensures (omega (arith, c.if-address-lt-RAM_END.true))) (c.take_logged.ensures.taken c.if-take_logged.true)
+    let text = c.args.text.now in
+    let named = after_name text (codes "e ") c.in_ok-strip_prefix.field-0 c.in_ok-strip_prefix.ensures.cases in
+    let line = wrote_line c.in_ok-address.address c.in_ok-address.byte in
+    let head = wrote_head c.in_ok-address.ensures (omega (arith, c.if-address-lt-RAM_END.true)) in
+    line_taken (subst (λ text. HeadLine line (codes "wrot" ++ text) c.in_ok-address.rest.now) (sym named) head)
+    (c.take_logged.ensures.taken c.if-take_logged.true)
