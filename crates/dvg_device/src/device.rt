@@ -310,7 +310,9 @@ impl Device {
             Part::Nothing => unopened(request).number(),
             Part::World(world) => {
                 let staged = self.staged.as_slice();
-                world.ask(request, &self.draft, staged, &mut self.picture).number()
+                world
+                    .ask(request, &self.draft, staged, &mut self.picture)
+                    .number()
             }
             Part::Driver(desk) => ask_driver(desk, request, &self.draft).number(),
             Part::Generator(generator) => {
