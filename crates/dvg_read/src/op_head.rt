@@ -8,40 +8,42 @@ use crate::number::{
 use dvg_code::{Code, Instr};
 use dvg_frame::{Op, OpKind};
 
+/// How many bytes the longest line has that is read here, with its end. A text with fewer is read
+/// otherwise.
+const HEAD: usize = 24;
+
+/// The letters `svec`, as a number.
+const SVEC_LETTERS: u32 = 0x6365_7673;
+
+/// The letters `vctr`, as a number.
+const VCTR_LETTERS: u32 = 0x7274_6376;
+
+/// The letters `labs`, as a number.
+const LABS_LETTERS: u32 = 0x7362_616C;
+
+/// The letters `call`, as a number.
+const CALL_LETTERS: u32 = 0x6C6C_6163;
+
+/// The letters `jump`, as a number.
+const JUMP_LETTERS: u32 = 0x706D_756A;
+
+/// The letters `halt`, as a number.
+const HALT_LETTERS: u32 = 0x746C_6168;
+
 /// The operation that the first line of a text spells, if it is one of those that come most often,
 /// and what stands after that line. None says nothing of the text.
 #[inline(always)]
 pub(crate) fn op_at_head(text: &[u8]) -> Option<(Op, &[u8])>
     ensures { IfSome result (λ head. HasOp text.now head.0 head.1.now) }
 {
-    if let Some(rest) = text.strip_prefix(b"svec") {
-        return svec(after_space(rest)?);
-    }
-    if let Some(rest) = text.strip_prefix(b"vctr") {
-        return vctr(after_space(rest)?);
-    }
-    if let Some(rest) = text.strip_prefix(b"labs") {
-        return labs(after_space(rest)?);
-    }
-    if let Some(rest) = text.strip_prefix(b"call") {
-        return call(after_space(rest)?);
-    }
-    if let Some(rest) = text.strip_prefix(b"jump") {
-        return jump(after_space(rest)?);
-    }
-    if let Some(rest) = text.strip_prefix(b"halt") {
-        return halt(rest);
-    }
-    None
-}
-
-// What stands after the space that a text begins with.
-#[inline(always)]
-fn after_space(text: &[u8]) -> Option<&[u8]>
-    ensures { IfSome result (λ rest. text.now ≡ 32 ∷ rest.now) }
-{
-    match text {
-        [b' ', rest @ ..] => Some(rest),
+    let head = text.first_chunk::<HEAD>()?;
+    match u32::from_le_bytes([head[0], head[1], head[2], head[3]]) {
+        SVEC_LETTERS => svec(text.strip_prefix(b"svec ")?),
+        VCTR_LETTERS => vctr(text.strip_prefix(b"vctr ")?),
+        LABS_LETTERS => labs(text.strip_prefix(b"labs ")?),
+        CALL_LETTERS => call(text.strip_prefix(b"call ")?),
+        JUMP_LETTERS => jump(text.strip_prefix(b"jump ")?),
+        HALT_LETTERS => halt(text.strip_prefix(b"halt")?),
         _ => None,
     }
 }

@@ -1,11 +1,9 @@
-use Rattle.std.proofs.Common.{◌≡◌, ◌≤◌, ◌++◌, decimal, length}
+use Rattle.std.proofs.Common.{◌≡◌, ◌<◌, ◌≤◌, ◌++◌, decimal}
 use Rattle.dvg_read.proofs.number.natural_before.Given as goal
 
-abbrev pub invariant-loop-byte : goal.invariant-loop-byte
-invariant-loop-byte l = record {
+abbrev pub invariant-loop : goal.invariant-loop
+invariant-loop l = record {
   spelled : l.text ≡ decimal l.number ++ l.rest;
+  some : 0 < l.number;
   few : l.number ≤ l.most;
 }
-
-abbrev pub decreases-loop-byte : goal.decreases-loop-byte
-decreases-loop-byte l = length l.rest
