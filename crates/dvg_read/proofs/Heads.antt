@@ -3,6 +3,8 @@ use Rattle.std.proofs.Common.{◌≡◌, ◌<◌, ◌≤◌, ◌+◌, ◌*◌, �
 use Rattle.std.specs.Borrow.{Bor}
 use Rattle.std.specs.List.{onto_first, join_with_byte, AllByRecursion}
 use Rattle.std.specs.Fmt.{signed_decimal}
+use Rattle.std.specs.Int.{from_le_bytes, to_le_bytes, w32}
+use Rattle.std.proofs.lemmas.Nat.{le_bytes_4}
 use Rattle.std.specs.Cmp.Lexicographic.{pointwise}
 use Rattle.std.proofs.Math.Seq.{split_at}
 use Rattle.std.proofs.lemmas.Bool.Decides.{Decides-eqb}
@@ -36,6 +38,22 @@ pub two_bytes : (text : List ℕ) (a b : ℕ) → 2 ≤ length text → get_or t
 two_bytes [] a b fits is then = absurd (omega arith)
 two_bytes (x ∷ []) a b fits is then = absurd (omega arith)
 two_bytes (x ∷ y ∷ text) a b fits is then = rw (sym is, sym then) (halves (x ∷ y ∷ text) 1 (omega arith))
+
+-- four bytes, and the number of which they are the bytes
+pub four_bytes : (text : List ℕ) (n : ℕ) → 4 ≤ length text → ((i : ℕ) → get_or text i 0 < 256) → n ≡ from_le_bytes w32 (get_or text 0 0 ∷ get_or text 1 0 ∷ get_or text 2 0 ∷ get_or text 3 0 ∷ []) → text ≡ to_le_bytes w32 n ++ behind 3 text
+four_bytes [] n fits bytes is = absurd (omega arith)
+four_bytes (x ∷ []) n fits bytes is = absurd (omega arith)
+four_bytes (x ∷ y ∷ []) n fits bytes is = absurd (omega arith)
+four_bytes (x ∷ y ∷ z ∷ []) n fits bytes is = absurd (omega arith)
+four_bytes (x ∷ y ∷ z ∷ w ∷ text) n fits bytes is =
+    halves (x ∷ y ∷ z ∷ w ∷ text) 3 (omega arith) ∙ ap (λ front. front ++ behind 3 (x ∷ y ∷ z ∷ w ∷ text)) (sym (le_bytes_4 (x ∷ y ∷ z ∷ w ∷ []) n refl below is))
+  where
+    below : (i : ℕ) → get_or (x ∷ y ∷ z ∷ w ∷ []) i 0 < 256
+    below zero = bytes 0
+    below (suc zero) = bytes 1
+    below (suc (suc zero)) = bytes 2
+    below (suc (suc (suc zero))) = bytes 3
+    below (suc (suc (suc (suc i)))) = omega arith
 
 -- what stands after a name
 pub after_name : (text name : List ℕ) (rest : Bor (List ℕ)) → (pointwise eqb (take (length name) text) name ≡ true) × (rest.now ≡ drop (length name) text) × (length rest.now + length name ≡ length text) → text ≡ name ++ rest.now

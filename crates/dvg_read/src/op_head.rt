@@ -1,5 +1,6 @@
 //! Operations at the head of a text, each read in one pass with the end of its line.
 ghost use Rattle.std.specs.Prelude.{◌≡◌, ◌∷◌, ◌++◌, codes, IfSome};
+ghost use Rattle.std.specs.Int.{to_le_bytes, w32};
 ghost use Rattle.dvg_read.specs.TextLines.{HasOp};
 
 use crate::number::{
@@ -36,14 +37,38 @@ const HALT_LETTERS: u32 = 0x746C_6168;
 pub(crate) fn op_at_head(text: &[u8]) -> Option<(Op, &[u8])>
     ensures { IfSome result (λ head. HasOp text.now head.0 head.1.now) }
 {
-    let head = text.first_chunk::<HEAD>()?;
-    match u32::from_le_bytes([head[0], head[1], head[2], head[3]]) {
-        SVEC_LETTERS => svec(text.strip_prefix(b"svec ")?),
-        VCTR_LETTERS => vctr(text.strip_prefix(b"vctr ")?),
-        LABS_LETTERS => labs(text.strip_prefix(b"labs ")?),
-        CALL_LETTERS => call(text.strip_prefix(b"call ")?),
-        JUMP_LETTERS => jump(text.strip_prefix(b"jump ")?),
-        HALT_LETTERS => halt(text.strip_prefix(b"halt")?),
+    let (letters, rest) = letters_at_head(text)?;
+    match letters {
+        SVEC_LETTERS => svec(after_space(rest)?),
+        VCTR_LETTERS => vctr(after_space(rest)?),
+        LABS_LETTERS => labs(after_space(rest)?),
+        CALL_LETTERS => call(after_space(rest)?),
+        JUMP_LETTERS => jump(after_space(rest)?),
+        HALT_LETTERS => halt(rest),
+        _ => None,
+    }
+}
+
+// The first four bytes of a text as a number, the first of them the lowest, and what stands after
+// them.
+#[inline(always)]
+fn letters_at_head(text: &[u8]) -> Option<(u32, &[u8])>
+    ensures { IfSome result (λ head. text.now ≡ to_le_bytes w32 head.0 ++ head.1.now) }
+{
+    if text.len() < HEAD {
+        return None;
+    }
+    let letters = u32::from_le_bytes([text[0], text[1], text[2], text[3]]);
+    Some((letters, &text[4..]))
+}
+
+// What stands after the space that a text begins with.
+#[inline(always)]
+fn after_space(text: &[u8]) -> Option<&[u8]>
+    ensures { IfSome result (λ rest. text.now ≡ 32 ∷ rest.now) }
+{
+    match text {
+        [b' ', rest @ ..] => Some(rest),
         _ => None,
     }
 }
