@@ -24,3 +24,4 @@ pub mod Spaces
 pub mod HexDigits
 pub mod Heads
 pub mod EventHeads
+pub mod OpsAhead

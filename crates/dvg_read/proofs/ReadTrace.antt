@@ -13,7 +13,12 @@ use Rattle.dvg_read.specs.RomReading.{HoldsRom, unstated}
 use Rattle.dvg_read.specs.FirstFaults.{IsShort, Reaches}
 use Rattle.dvg_read.specs.TraceTexts.{EndsInside, FitsTrace, IsFineTrace, SpellsTrace}
 use Rattle.dvg_read.specs.TraceEvents.{AddsEvents, BeginsWithEvent, HasEvents, SpellsEvent}
-use Rattle.dvg_read.specs.TraceGives.{BringsEvents, GivesTrace, StopsLine, StopsReading, TakesLine, fault_at}
+use Rattle.dvg_read.specs.TraceGives.{BringsEvents, GivesTrace, ReadsAhead, StopsLine, StopsReading, TakesLine, events_read, fault_at, opened_of, reads_events, reads_ops}
+use Rattle.dvg_read.specs.TextLines.{AddsOps}
+use Rattle.dvg_read.specs.OpLines.{IsOpLine}
+use Rattle.dvg_read.specs.TraceReading.{does}
+use Rattle.dvg_read.specs.declared.trace_text.Reading.{Reading}
+use Rattle.dvg_read.proofs.Heads.{op_unpassed}
 use Rattle.dvg_read.proofs.EventRows.{events_unpassed}
 use Rattle.dvg_read.proofs.ReadTo.{count_on, cut_on, lines_length, unpassed_more, unpassed_one}
 use Rattle.dvg_read.proofs.TraceMoves.{event_taken, many_events}
@@ -120,28 +125,37 @@ all_events text rest held (event ∷ more) left (line ∷ ahead) n old h cut r =
     let count : n + 1 + length more ≡ n + length (event ∷ more) = omega arith in
     subst (λ k. ReadTrace text rest k (old ++ event ∷ more) None held) count (subst (λ events. ReadTrace text rest (n + 1 + length more) events None held) (append_assoc old (event ∷ []) more) all)
 
-reads_some : (text : List ℕ) (left rest : List (List ℕ)) (n count : ℕ) (old new : List Happening) (opened : Option (List OpKind)) (held : RomReading) → ReadTrace text left n old opened held → AddsEvents left old count rest new → opened ≡ None
-    → ReadTrace text rest (n + count) new opened held
-reads_some text left rest n count old new opened held r a closed =
-    let all = all_events text rest held a.more left a.ahead.ahead n old a.ahead.spelled a.ahead.cut (subst (λ opened. ReadTrace text left n old opened held) closed r) in
-    rw (closed, a.added, sym a.counted) all
+-- lines that spell an operation each
+all_ops : (text : List ℕ) (rest : List (List ℕ)) (events : List Happening) (held : RomReading) (more : List OpKind) (left ahead : List (List ℕ)) (n : ℕ) (F : List OpKind)
+    → AllZip IsOpLine more ahead → left ≡ ahead ++ rest → ReadTrace text left n events (Some F) held → ReadTrace text rest (n + length more) events (Some (F ++ more)) held
+all_ops text rest events held [] left [] n F h cut r =
+    let count : n ≡ n + 0 = omega arith in
+    subst (λ k. ReadTrace text rest k events (Some (F ++ [])) held) count (subst (λ ls. ReadTrace text ls n events (Some (F ++ [])) held) cut (subst (λ F. ReadTrace text left n events (Some F) held) (sym (append-nil F)) r))
+all_ops text rest events held [] left (line ∷ ahead) n F h cut r = absurd h
+all_ops text rest events held (op ∷ more) left [] n F h cut r = absurd h
+all_ops text rest events held (op ∷ more) left (line ∷ ahead) n F h cut r =
+    let step = takes text left (ahead ++ rest) n events (Some F) held line cut r events (Some (F ++ op ∷ [])) held (op_unpassed op line h.0) (λ rom holds. record { now = rom; takes = does op h.0; holds = holds }) in
+    let all = all_ops text rest events held more (ahead ++ rest) ahead (n + 1) (F ++ op ∷ []) h.1 refl step in
+    let count : n + 1 + length more ≡ n + length (op ∷ more) = omega arith in
+    subst (λ k. ReadTrace text rest k events (Some (F ++ op ∷ more)) held) count (subst (λ F. ReadTrace text rest (n + 1 + length more) events (Some F) held) (append_assoc F (op ∷ []) more) all)
 
-reads_none : (text : List ℕ) (left rest : List (List ℕ)) (n : ℕ) (old new more : List Happening) (opened : Option (List OpKind)) (held : RomReading) → ReadTrace text left n old opened held → HasEvents left more rest → new ≡ old ++ more → length more ≡ 0
-    → ReadTrace text rest (n + 0) new opened held
-reads_none text left rest n old new [] opened held r h is none = none_ahead h.ahead h.spelled h.cut
-  where
-    none_ahead : (ahead : List (List ℕ)) → AllZip SpellsEvent [] ahead → left ≡ ahead ++ rest → ReadTrace text rest (n + 0) new opened held
-    none_ahead [] h cut =
-        let count : n ≡ n + 0 = omega arith in
-        subst (λ k. ReadTrace text rest k new opened held) count (subst (λ ls. ReadTrace text ls n new opened held) cut (subst (λ events. ReadTrace text left n events opened held) (sym (is ∙ append-nil old)) r))
-    none_ahead (line ∷ ahead) h cut = absurd h
-reads_none text left rest n old new (event ∷ more) opened held r h is none = absurd (omega (arith, none))
+some_events : (text : List ℕ) (left rest : List (List ℕ)) (n count : ℕ) (old new : List Happening) (opened kept : Option (List OpKind)) (held now : RomReading) → ReadTrace text left n old opened held → opened ≡ None → AddsEvents left old count rest new
+    → kept ≡ None → now ≡ held → ReadTrace text rest (n + count) new kept now
+some_events text left rest n count old new opened kept held now r outside a still same =
+    let all = all_events text rest held a.more left a.ahead.ahead n old a.ahead.spelled a.ahead.cut (subst (λ opened. ReadTrace text left n old opened held) outside r) in
+    rw (still, same, a.added, sym a.counted) all
 
--- none at all, or some outside of offers
-pub reads_events : (text : List ℕ) (left rest : List (List ℕ)) (n count : ℕ) (old new : List Happening) (opened kept : Option (List OpKind)) (held now : RomReading) → ReadTrace text left n old opened held → AddsEvents left old count rest new → (1 ≤ count → opened ≡ None) → kept ≡ opened → now ≡ held
-    → ReadTrace text rest (n + count) new kept now
-reads_events text left rest n zero old new opened kept held now r a outside same kept_rom = rw (same, kept_rom) (reads_none text left rest n old new a.more opened held r a.ahead a.added a.counted)
-reads_events text left rest n (suc count) old new opened kept held now r a outside same kept_rom = rw (same, kept_rom) (reads_some text left rest n (suc count) old new opened held r a (outside (omega arith)))
+some_ops : (text : List ℕ) (left rest : List (List ℕ)) (n count : ℕ) (old new : List Happening) (F G : List OpKind) (opened kept : Option (List OpKind)) (held now : RomReading) → ReadTrace text left n old opened held → opened ≡ Some F → AddsOps left F count rest G
+    → kept ≡ Some G → new ≡ old → now ≡ held → ReadTrace text rest (n + count) new kept now
+some_ops text left rest n count old new F G opened kept held now r inside a still none same =
+    let all = all_ops text rest old held a.more left a.ahead n F a.spelled a.cut (subst (λ opened. ReadTrace text left n old opened held) inside r) in
+    rw (still, none, same, a.added, sym a.counted) all
+
+-- lines of events, or of operations
+pub reads_ahead : {A : Type 0} (text : List ℕ) (left rest : List (List ℕ)) (n count : ℕ) (old new : Reading A) → ReadTrace text left n (events_read old) (opened_of old) old.rom → ReadsAhead old left count new rest
+    → ReadTrace text rest (n + count) (events_read new) (opened_of new) new.rom
+reads_ahead text left rest n count old new r (reads_events s) = some_events text left rest n count (events_read old) (events_read new) (opened_of old) (opened_of new) old.rom new.rom r s.outside s.adds s.opened s.rom
+reads_ahead text left rest n count old new r (reads_ops s) = some_ops text left rest n count (events_read old) (events_read new) old.draft new.draft (opened_of old) (opened_of new) old.rom new.rom r s.inside s.adds s.opened s.events s.rom
 
 -- memory is wanted for an event that there is room for
 first_brings : (text : List ℕ) (left rest ahead : List (List ℕ)) (n : ℕ) (old : List Happening) (held : RomReading) (event : Happening) → ReadTrace text left n old None held → IsShort text → FitsTrace old None → length old < 65536 → AllZip SpellsEvent (event ∷ []) ahead → left ≡ ahead ++ rest

@@ -1,5 +1,6 @@
 -- What a `TextLines` gives.
-use Rattle.std.specs.Prelude.{◌≡◌, ℕ, List, [], ◌∷◌, Option, Some, None}
+use Rattle.std.specs.Prelude.{◌≡◌, ℕ, List, [], ◌∷◌, ◌++◌, length, Option, Some, None}
+use Rattle.std.specs.List.{AllZip}
 use Rattle.std.specs.Borrow.{Bor}
 use Rattle.dvg_read.specs.declared.text_lines.TextLines.{TextLines}
 use Rattle.dvg_frame.specs.declared.op.OpKind.{OpKind}
@@ -20,3 +21,13 @@ pub record HasOp (text : List ℕ) (op : OpKind) (rest : List ℕ) : Type 0 wher
   pub line : List ℕ
   pub spelled : IsOpLine op line
   pub cut : lines text ≡ line ∷ lines rest
+
+-- the first of these lines, so many, spell one operation each, which was added to those before
+pub record AddsOps (left : List (List ℕ)) (old : List OpKind) (count : ℕ) (rest : List (List ℕ))
+    (new : List OpKind) : Type 0 where
+  pub more : List OpKind
+  pub ahead : List (List ℕ)
+  pub spelled : AllZip IsOpLine more ahead
+  pub cut : left ≡ ahead ++ rest
+  pub added : new ≡ old ++ more
+  pub counted : length more ≡ count

@@ -16,6 +16,7 @@ use Rattle.dvg_read.specs.RomReading.{HoldsRom}
 use Rattle.dvg_read.specs.TraceReading.{Takes}
 use Rattle.dvg_read.specs.FirstFaults.{Reaches}
 use Rattle.dvg_read.specs.TraceEvents.{AddsEvents, BeginsWithEvent}
+use Rattle.dvg_read.specs.TextLines.{AddsOps}
 use Rattle.dvg_read.specs.Texts.{lines, unpassed}
 use Rattle.dvg_read.specs.TraceTexts.{DenotesTrace, FitsTrace, HasTraceFault, IsFineTrace, SpellsTrace}
 
@@ -82,10 +83,25 @@ ReadsLine old line new = (rom : RomText) → HoldsRom rom old.rom
 -- lines that spell an event each were read, so many, where no offer is open, and these are left
 pub record ReadsEvents {A : Type 0} (old : Reading A) (left : List (List ℕ)) (count : ℕ) (new : Reading A)
     (rest : List (List ℕ)) : Type 0 where
+  pub outside : opened_of old ≡ None
   pub adds : AddsEvents left (events_read old) count rest (events_read new)
-  pub outside : 1 ≤ count → opened_of old ≡ None
-  pub opened : opened_of new ≡ opened_of old
+  pub opened : opened_of new ≡ None
   pub rom : new.rom ≡ old.rom
+
+-- lines that spell an operation each were read, so many, where an offer is open, and these are left
+pub record ReadsOps {A : Type 0} (old : Reading A) (left : List (List ℕ)) (count : ℕ) (new : Reading A)
+    (rest : List (List ℕ)) : Type 0 where
+  pub inside : opened_of old ≡ Some old.draft
+  pub adds : AddsOps left old.draft count rest new.draft
+  pub opened : opened_of new ≡ Some new.draft
+  pub events : events_read new ≡ events_read old
+  pub rom : new.rom ≡ old.rom
+
+-- lines were read, so many, and these are left: lines of events, or of operations
+pub data ReadsAhead {A : Type 0} (old : Reading A) (left : List (List ℕ)) (count : ℕ) (new : Reading A)
+    (rest : List (List ℕ)) : Type 0 where
+  reads_events : ReadsEvents old left count new rest → ReadsAhead old left count new rest
+  reads_ops : ReadsOps old left count new rest → ReadsAhead old left count new rest
 
 -- memory was wanted for one of these lines, which begin with an event that a trace has room for
 pub record WantsMemory {A : Type 0} (reading : Reading A) (left : List (List ℕ)) : Type 0 where

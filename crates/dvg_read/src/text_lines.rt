@@ -6,7 +6,7 @@ ghost use Rattle.memchr.specs.Find.{IsFirstByte, is_byte};
 use crate::event_head::{HEAD, after_name, letters_at_head, reset_at_head};
 use crate::event_line::SpelledEvent;
 use crate::op_head::op_at_head;
-use dvg_frame::Op;
+use dvg_frame::{Draft, Op};
 use memchr::memchr;
 
 /// How many bytes are looked at one by one for the end of a line.
@@ -20,10 +20,11 @@ pub struct TextLines<'a> {
 }
 
 impl<'a> TextLines<'a> {
-    ghost use Rattle.std.specs.Prelude.{◌≡◌, ◌≤◌, ◌∷◌, ◌++◌, [], IfNone, IfSome, replicate};
+    ghost use Rattle.std.specs.Prelude.{◌≡◌, ◌≤◌, ◌∷◌, ◌++◌, [], IfNone, IfSome, length};
+    ghost use Rattle.std.specs.Prelude.{replicate};
     ghost use Rattle.dvg_log.specs.Events.{Happening};
     ghost use Rattle.dvg_read.specs.EventLines.{spelled_as};
-    ghost use Rattle.dvg_read.specs.TextLines.{HasOp, lines_left};
+    ghost use Rattle.dvg_read.specs.TextLines.{AddsOps, HasOp, lines_left};
     ghost use Rattle.dvg_read.specs.TraceEvents.{HasEvents, IsNameLine};
     ghost use Rattle.dvg_read.specs.Texts.{lines};
 
@@ -88,6 +89,28 @@ impl<'a> TextLines<'a> {
         };
         self.rest = rest;
         Some(op)
+    }
+
+    /// Takes the next lines as long as they spell operations that come most often and the draft has
+    /// room, and adds those operations. Answers how many it took.
+    #[inline(always)]
+    pub(crate) fn take_ops(&mut self, draft: &mut Draft) -> u16
+        requires few { length draft.old ≤ 511 }
+        ensures taken { AddsOps (lines_left self.old) draft.old result (lines_left self.new)
+            draft.new }
+        ensures few { length draft.new ≤ 511 }
+    {
+        let mut rest = self.rest;
+        let mut count = 0;
+        while let Some(head) = op_at_head(rest) {
+            if draft.push(head.0).is_err() {
+                break;
+            }
+            rest = head.1;
+            count += 1;
+        }
+        self.rest = rest;
+        count
     }
 }
 

@@ -6,8 +6,8 @@ ghost use Rattle.dvg_frame.specs.declared.op.OpKind.{OpKind};
 ghost use Rattle.dvg_read.specs.EventLines.{happenings};
 ghost use Rattle.dvg_read.specs.FirstFaults.{IsShort};
 ghost use Rattle.dvg_read.specs.OpLines.{IsOpLine};
-ghost use Rattle.dvg_read.specs.TextLines.{HasOp, lines_left};
-ghost use Rattle.dvg_read.specs.TraceGives.{GivesTrace, IsHeld, ReadsEvents, ReadsLine, ReadsText};
+ghost use Rattle.dvg_read.specs.TextLines.{lines_left};
+ghost use Rattle.dvg_read.specs.TraceGives.{GivesTrace, IsHeld, ReadsAhead, ReadsLine, ReadsText};
 ghost use Rattle.dvg_read.specs.TraceGives.{StopsEvents, WantsMemory};
 ghost use Rattle.dvg_read.specs.TraceGives.{StopsLine, StopsOperation, StopsReading, events_read};
 ghost use Rattle.dvg_read.specs.TraceGives.{fault_at, opened_of};
@@ -80,16 +80,10 @@ fn read_lines<A: Allocator + Copy>(alloc: A, text: &[u8]) -> Result<Reading<A>, 
     let mut lines = TextLines::new(text);
     let mut number = 0;
     loop {
-        let Ok(count) = reading.take_events(&mut lines) else {
+        let Ok(count) = reading.take_ahead(&mut lines) else {
             return Err(TraceFault::Memory);
         };
         number += usize::from(count) + 1;
-        if let Some(op) = reading.op_ahead(&mut lines) {
-            match reading.take_op(op) {
-                Ok(()) => continue,
-                Err(fault) => return Err(at_line(fault, number)),
-            }
-        }
         let Some(line) = lines.next() else {
             return Ok(reading);
         };
@@ -141,49 +135,20 @@ struct Reading<A: Allocator> {
 }
 
 impl<A: Allocator + Copy> Reading<A> {
-    // Reads the lines that come next and spell an event each, where no offer is open, and answers
-    // how many it read.
+    // Reads lines that come next, and answers how many it read: lines of operations, where an offer
+    // is open, else lines that spell an event each.
     #[inline(always)]
-    fn take_events(&mut self, lines: &mut TextLines) -> Result<u16, OutOfMemory>
+    fn take_ahead(&mut self, lines: &mut TextLines) -> Result<u16, OutOfMemory>
         requires held { IsHeld self.old }
-        ensures taken { IfOk result (λ count. ReadsEvents self.old (lines_left lines.old) count
+        ensures taken { IfOk result (λ count. ReadsAhead self.old (lines_left lines.old) count
             self.new (lines_left lines.new)) }
         ensures held { OnOk result (IsHeld self.new) }
         ensures fault { OnErr result (WantsMemory self.old (lines_left lines.old)) }
     {
         if self.is_open {
-            return Ok(0);
+            return Ok(lines.take_ops(&mut self.draft));
         }
         take_events(self.alloc, lines, &mut self.events)
-    }
-
-    // Takes the next line, if it spells one of the operations that come most often and an offer is
-    // open, and answers the operation. Else nothing is taken.
-    #[inline(always)]
-    fn op_ahead(&self, lines: &mut TextLines) -> Option<Op>
-        ensures inside { IfSome result (λ _. IsTrue self.now.is_open) }
-        ensures taken { IfSome result (λ op. HasOp lines.old.rest.now op lines.new.rest.now) }
-        ensures kept { IfNone result (lines_left lines.new ≡ lines_left lines.old) }
-    {
-        if !self.is_open {
-            return None;
-        }
-        lines.take_op()
-    }
-
-    // Reads one more line, which spells this operation, where an offer is open.
-    #[inline(always)]
-    fn take_op(&mut self, op: Op) -> Result<(), LineFault>
-        requires inside { IsTrue self.old.is_open }
-        requires held { IsHeld self.old }
-        ensures taken { (line : List ℕ) → IsOpLine op line
-            → OnOk result (ReadsLine self.old line self.new) }
-        ensures held { OnOk result (IsHeld self.new) }
-        ensures fault { (line : List ℕ) → IsOpLine op line
-            → IfErr result (λ fault. StopsLine fault (events_read self.old)
-            (opened_of self.old) self.old.rom line) }
-    {
-        push_op(&mut self.draft, op)
     }
 
     // Reads one more line, which isn't passed over.

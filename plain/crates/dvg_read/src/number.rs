@@ -126,12 +126,14 @@ pub(crate) fn nibble_before(text: &[u8], end: u8) -> Option<(u8, &[u8])> {
 pub(crate) fn natural_before(text: &[u8], end: u8, most: u16) -> Option<(u16, &[u8])> {
     let (first, mut rest) = text.split_first()?;
     let mut number = u32::from(decimal_digit(*first)?);
-    while let Some((byte, after)) = rest.split_first() {
+    if number == 0 {
+        let (byte, after) = rest.split_first()?;
+        return if *byte == end { Some((0, after)) } else { None };
+    }
+    for _ in 0..MAX_DIGITS {
+        let (byte, after) = rest.split_first()?;
         if *byte == end {
             return Some((number as u16, after));
-        }
-        if number == 0 {
-            return None;
         }
         number = number * 10 + u32::from(decimal_digit(*byte)?);
         if number > u32::from(most) {

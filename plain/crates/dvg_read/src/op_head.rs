@@ -5,29 +5,53 @@ use crate::number::{
 use dvg_code::{Code, Instr};
 use dvg_frame::{Op, OpKind};
 
+/// How many bytes the longest line has that is read here, with its end. A text with fewer is read
+/// otherwise.
+const HEAD: usize = 24;
+
+/// The letters `svec`, as a number.
+const SVEC_LETTERS: u32 = 0x6365_7673;
+
+/// The letters `vctr`, as a number.
+const VCTR_LETTERS: u32 = 0x7274_6376;
+
+/// The letters `labs`, as a number.
+const LABS_LETTERS: u32 = 0x7362_616C;
+
+/// The letters `call`, as a number.
+const CALL_LETTERS: u32 = 0x6C6C_6163;
+
+/// The letters `jump`, as a number.
+const JUMP_LETTERS: u32 = 0x706D_756A;
+
+/// The letters `halt`, as a number.
+const HALT_LETTERS: u32 = 0x746C_6168;
+
 /// The operation that the first line of a text spells, if it is one of those that come most often,
 /// and what stands after that line. None says nothing of the text.
 #[inline(always)]
 pub(crate) fn op_at_head(text: &[u8]) -> Option<(Op, &[u8])> {
-    if let Some(rest) = text.strip_prefix(b"svec") {
-        return svec(after_space(rest)?);
+    let (letters, rest) = letters_at_head(text)?;
+    match letters {
+        SVEC_LETTERS => svec(after_space(rest)?),
+        VCTR_LETTERS => vctr(after_space(rest)?),
+        LABS_LETTERS => labs(after_space(rest)?),
+        CALL_LETTERS => call(after_space(rest)?),
+        JUMP_LETTERS => jump(after_space(rest)?),
+        HALT_LETTERS => halt(rest),
+        _ => None,
     }
-    if let Some(rest) = text.strip_prefix(b"vctr") {
-        return vctr(after_space(rest)?);
+}
+
+// The first four bytes of a text as a number, the first of them the lowest, and what stands after
+// them.
+#[inline(always)]
+fn letters_at_head(text: &[u8]) -> Option<(u32, &[u8])> {
+    if text.len() < HEAD {
+        return None;
     }
-    if let Some(rest) = text.strip_prefix(b"labs") {
-        return labs(after_space(rest)?);
-    }
-    if let Some(rest) = text.strip_prefix(b"call") {
-        return call(after_space(rest)?);
-    }
-    if let Some(rest) = text.strip_prefix(b"jump") {
-        return jump(after_space(rest)?);
-    }
-    if let Some(rest) = text.strip_prefix(b"halt") {
-        return halt(rest);
-    }
-    None
+    let letters = u32::from_le_bytes([text[0], text[1], text[2], text[3]]);
+    Some((letters, &text[4..]))
 }
 
 // What stands after the space that a text begins with.

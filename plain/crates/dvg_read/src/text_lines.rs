@@ -2,7 +2,7 @@
 use crate::event_head::{HEAD, after_name, letters_at_head, reset_at_head};
 use crate::event_line::SpelledEvent;
 use crate::op_head::op_at_head;
-use dvg_frame::Op;
+use dvg_frame::{Draft, Op};
 use memchr::memchr;
 
 /// How many bytes are looked at one by one for the end of a line.
@@ -63,6 +63,23 @@ impl<'a> TextLines<'a> {
         };
         self.rest = rest;
         Some(op)
+    }
+
+    /// Takes the next lines as long as they spell operations that come most often and the draft has
+    /// room, and adds those operations. Answers how many it took.
+    #[inline(always)]
+    pub(crate) fn take_ops(&mut self, draft: &mut Draft) -> u16 {
+        let mut rest = self.rest;
+        let mut count = 0;
+        while let Some(head) = op_at_head(rest) {
+            if draft.push(head.0).is_err() {
+                break;
+            }
+            rest = head.1;
+            count += 1;
+        }
+        self.rest = rest;
+        count
     }
 }
 

@@ -59,16 +59,10 @@ fn read_lines<A: Allocator + Copy>(alloc: A, text: &[u8]) -> Result<Reading<A>, 
     let mut lines = TextLines::new(text);
     let mut number = 0;
     loop {
-        let Ok(count) = reading.take_events(&mut lines) else {
+        let Ok(count) = reading.take_ahead(&mut lines) else {
             return Err(TraceFault::Memory);
         };
         number += usize::from(count) + 1;
-        if let Some(op) = reading.op_ahead(&mut lines) {
-            match reading.take_op(op) {
-                Ok(()) => continue,
-                Err(fault) => return Err(at_line(fault, number)),
-            }
-        }
         let Some(line) = lines.next() else {
             return Ok(reading);
         };
@@ -117,30 +111,14 @@ struct Reading<A: Allocator> {
 }
 
 impl<A: Allocator + Copy> Reading<A> {
-    // Reads the lines that come next and spell an event each, where no offer is open, and answers
-    // how many it read.
+    // Reads lines that come next, and answers how many it read: lines of operations, where an offer
+    // is open, else lines that spell an event each.
     #[inline(always)]
-    fn take_events(&mut self, lines: &mut TextLines) -> Result<u16, OutOfMemory> {
+    fn take_ahead(&mut self, lines: &mut TextLines) -> Result<u16, OutOfMemory> {
         if self.is_open {
-            return Ok(0);
+            return Ok(lines.take_ops(&mut self.draft));
         }
         take_events(self.alloc, lines, &mut self.events)
-    }
-
-    // Takes the next line, if it spells one of the operations that come most often and an offer is
-    // open, and answers the operation. Else nothing is taken.
-    #[inline(always)]
-    fn op_ahead(&self, lines: &mut TextLines) -> Option<Op> {
-        if !self.is_open {
-            return None;
-        }
-        lines.take_op()
-    }
-
-    // Reads one more line, which spells this operation, where an offer is open.
-    #[inline(always)]
-    fn take_op(&mut self, op: Op) -> Result<(), LineFault> {
-        push_op(&mut self.draft, op)
     }
 
     // Reads one more line, which isn't passed over.

@@ -5,7 +5,7 @@ use Rattle.dvg_read.specs.TextLines.{lines_left}
 use Rattle.dvg_read.specs.TraceTexts.{FitsDraft}
 use Rattle.dvg_read.specs.TraceGives.{StopsReading, events_read, fault_at, opened_of}
 use Rattle.dvg_read.proofs.Heads.{op_unpassed}
-use Rattle.dvg_read.proofs.ReadTrace.{ReadTrace, all_spelled, begins, bounded, passes, reads_events, stops, takes, wants_memory}
+use Rattle.dvg_read.proofs.ReadTrace.{ReadTrace, all_spelled, begins, bounded, passes, reads_ahead, stops, takes, wants_memory}
 use Rattle.dvg_read.proofs.trace_text.read_lines.Goals as goal
 
 pub loop-count-init : goal.loop-count-init
@@ -25,73 +25,47 @@ returns-in_default-clause-fault g c =
 
 pub overflow_add-number-in-loop-count : goal.overflow_add-number-in-loop-count
 overflow_add-number-in-loop-count g c =
-    let some = c.in-Ok.ensures.taken in
-    let r = reads_events c.args.text.now (lines_left c.loop-count.lines) (lines_left c.take_events.new.lines) c.loop-count.number c.in-Ok.count (events_read c.loop-count.reading) (events_read c.take_events.new.self) (opened_of c.loop-count.reading) (opened_of c.take_events.new.self) c.loop-count.reading.rom c.take_events.new.self.rom c.loop-count.invariant.read some.adds some.outside some.opened some.rom in
-    let few = bounded c.args.text.now (lines_left c.take_events.new.lines) (c.loop-count.number + c.in-Ok.count) (events_read c.take_events.new.self) (opened_of c.take_events.new.self) c.take_events.new.self.rom r c.requires in
+    let r = reads_ahead c.args.text.now (lines_left c.loop-count.lines) (lines_left c.take_ahead.new.lines) c.loop-count.number c.in-Ok.count c.loop-count.reading c.take_ahead.new.self c.loop-count.invariant.read c.in-Ok.ensures.taken in
+    let few = bounded c.args.text.now (lines_left c.take_ahead.new.lines) (c.loop-count.number + c.in-Ok.count) (events_read c.take_ahead.new.self) (opened_of c.take_ahead.new.self) c.take_ahead.new.self.rom r c.requires in
     omega (arith, few, c.from.ensures)
-
-pub loop-count-preserved-in-Ok-take_op : goal.loop-count-preserved-in-Ok-take_op
-loop-count-preserved-in-Ok-take_op g c =
-    let some = c.in-Ok.ensures.taken in
-    let r = reads_events c.args.text.now (lines_left c.loop-count.lines) (lines_left c.take_events.new.lines) c.loop-count.number c.in-Ok.count (events_read c.loop-count.reading) (events_read c.take_events.new.self) (opened_of c.loop-count.reading) (opened_of c.take_events.new.self) c.loop-count.reading.rom c.take_events.new.self.rom c.loop-count.invariant.read some.adds some.outside some.opened some.rom in
-    let count : c.loop-count.number + c.in-Ok.count + 1 ≡ c.loop-count.number + (c.from.result + 1) = omega (arith, c.from.ensures) in
-    let op = c.in-Some.ensures.taken in
-    let next = takes c.args.text.now (lines_left c.take_events.new.lines) (lines_left c.op_ahead.new.lines) (c.loop-count.number + c.in-Ok.count) (events_read c.take_events.new.self) (opened_of c.take_events.new.self) c.take_events.new.self.rom op.line op.cut r (events_read c.take_op.new.self) (opened_of c.take_op.new.self) c.take_op.new.self.rom (op_unpassed c.in-Some.op op.line op.spelled) (c.in-Ok-take_op.ensures.taken op.line op.spelled) in
-    record {
-      held = c.in-Ok-take_op.ensures.held;
-      read = subst (λ k. ReadTrace c.args.text.now (lines_left c.op_ahead.new.lines) k (events_read c.take_op.new.self) (opened_of c.take_op.new.self) c.take_op.new.self.rom) count next;
-    }
-
-pub returns-in-Err-clause-fault : goal.returns-in-Err-clause-fault
-returns-in-Err-clause-fault g c =
-    let some = c.in-Ok.ensures.taken in
-    let r = reads_events c.args.text.now (lines_left c.loop-count.lines) (lines_left c.take_events.new.lines) c.loop-count.number c.in-Ok.count (events_read c.loop-count.reading) (events_read c.take_events.new.self) (opened_of c.loop-count.reading) (opened_of c.take_events.new.self) c.loop-count.reading.rom c.take_events.new.self.rom c.loop-count.invariant.read some.adds some.outside some.opened some.rom in
-    let count : c.loop-count.number + c.in-Ok.count + 1 ≡ c.loop-count.number + (c.from.result + 1) = omega (arith, c.from.ensures) in
-    let op = c.in-Some.ensures.taken in
-    let stop = stops c.args.text.now (lines_left c.take_events.new.lines) (lines_left c.op_ahead.new.lines) (c.loop-count.number + c.in-Ok.count) (events_read c.take_events.new.self) (opened_of c.take_events.new.self) c.take_events.new.self.rom op.line op.cut r c.in-Err.fault c.requires c.in-Ok.ensures.held (op_unpassed c.in-Some.op op.line op.spelled) (c.in-Err.ensures.fault op.line op.spelled) in
-    rw c.at_line.ensures (subst (λ k. StopsReading (fault_at c.in-Err.fault k) c.args.text.now) count stop)
 
 pub returns-in_default-next-clause-read : goal.returns-in_default-next-clause-read
 returns-in_default-next-clause-read g c =
-    let some = c.in-Ok.ensures.taken in
-    let r = reads_events c.args.text.now (lines_left c.loop-count.lines) (lines_left c.take_events.new.lines) c.loop-count.number c.in-Ok.count (events_read c.loop-count.reading) (events_read c.take_events.new.self) (opened_of c.loop-count.reading) (opened_of c.take_events.new.self) c.loop-count.reading.rom c.take_events.new.self.rom c.loop-count.invariant.read some.adds some.outside some.opened some.rom in
-    let none : lines_left c.take_events.new.lines ≡ [] = sym c.in_default-op_ahead.ensures.kept ∙ c.in_default-next.ensures.steps.0 in
+    let r = reads_ahead c.args.text.now (lines_left c.loop-count.lines) (lines_left c.take_ahead.new.lines) c.loop-count.number c.in-Ok.count c.loop-count.reading c.take_ahead.new.self c.loop-count.invariant.read c.in-Ok.ensures.taken in
+    let none : lines_left c.take_ahead.new.lines ≡ [] = c.in_default-next.ensures.steps.0 in
     record {
       rom = r.rom;
-      spelled = all_spelled c.args.text.now (lines_left c.take_events.new.lines) (c.loop-count.number + c.in-Ok.count) (events_read c.take_events.new.self) (opened_of c.take_events.new.self) c.take_events.new.self.rom none r;
+      spelled = all_spelled c.args.text.now (lines_left c.take_ahead.new.lines) (c.loop-count.number + c.in-Ok.count) (events_read c.take_ahead.new.self) (opened_of c.take_ahead.new.self) c.take_ahead.new.self.rom none r;
       fits = c.in-Ok.ensures.held;
       holds = r.holds;
     }
 
 pub loop-count-preserved-then-is_passed : goal.loop-count-preserved-then-is_passed
 loop-count-preserved-then-is_passed g c =
-    let some = c.in-Ok.ensures.taken in
-    let r = reads_events c.args.text.now (lines_left c.loop-count.lines) (lines_left c.take_events.new.lines) c.loop-count.number c.in-Ok.count (events_read c.loop-count.reading) (events_read c.take_events.new.self) (opened_of c.loop-count.reading) (opened_of c.take_events.new.self) c.loop-count.reading.rom c.take_events.new.self.rom c.loop-count.invariant.read some.adds some.outside some.opened some.rom in
+    let r = reads_ahead c.args.text.now (lines_left c.loop-count.lines) (lines_left c.take_ahead.new.lines) c.loop-count.number c.in-Ok.count c.loop-count.reading c.take_ahead.new.self c.loop-count.invariant.read c.in-Ok.ensures.taken in
     let count : c.loop-count.number + c.in-Ok.count + 1 ≡ c.loop-count.number + (c.from.result + 1) = omega (arith, c.from.ensures) in
-    let next : lines_left c.take_events.new.lines ≡ c.in-Some-next.line.now ∷ lines_left c.next.new.self = sym c.in_default-op_ahead.ensures.kept ∙ c.in-Some-next.ensures.steps in
-    let more = passes c.args.text.now (lines_left c.take_events.new.lines) (lines_left c.next.new.self) (c.loop-count.number + c.in-Ok.count) (events_read c.take_events.new.self) (opened_of c.take_events.new.self) c.take_events.new.self.rom c.in-Some-next.line.now next r (search rules) in
+    let next : lines_left c.take_ahead.new.lines ≡ c.in-Some.line.now ∷ lines_left c.next.new.self = c.in-Some.ensures.steps in
+    let more = passes c.args.text.now (lines_left c.take_ahead.new.lines) (lines_left c.next.new.self) (c.loop-count.number + c.in-Ok.count) (events_read c.take_ahead.new.self) (opened_of c.take_ahead.new.self) c.take_ahead.new.self.rom c.in-Some.line.now next r (search rules) in
     record {
       held = c.in-Ok.ensures.held;
-      read = subst (λ k. ReadTrace c.args.text.now (lines_left c.next.new.self) k (events_read c.take_events.new.self) (opened_of c.take_events.new.self) c.take_events.new.self.rom) count more;
+      read = subst (λ k. ReadTrace c.args.text.now (lines_left c.next.new.self) k (events_read c.take_ahead.new.self) (opened_of c.take_ahead.new.self) c.take_ahead.new.self.rom) count more;
     }
 
 pub loop-count-preserved : goal.loop-count-preserved
 loop-count-preserved g c =
-    let some = c.in-Ok.ensures.taken in
-    let r = reads_events c.args.text.now (lines_left c.loop-count.lines) (lines_left c.take_events.new.lines) c.loop-count.number c.in-Ok.count (events_read c.loop-count.reading) (events_read c.take_events.new.self) (opened_of c.loop-count.reading) (opened_of c.take_events.new.self) c.loop-count.reading.rom c.take_events.new.self.rom c.loop-count.invariant.read some.adds some.outside some.opened some.rom in
+    let r = reads_ahead c.args.text.now (lines_left c.loop-count.lines) (lines_left c.take_ahead.new.lines) c.loop-count.number c.in-Ok.count c.loop-count.reading c.take_ahead.new.self c.loop-count.invariant.read c.in-Ok.ensures.taken in
     let count : c.loop-count.number + c.in-Ok.count + 1 ≡ c.loop-count.number + (c.from.result + 1) = omega (arith, c.from.ensures) in
-    let next : lines_left c.take_events.new.lines ≡ c.in-Some-next.line.now ∷ lines_left c.next.new.self = sym c.in_default-op_ahead.ensures.kept ∙ c.in-Some-next.ensures.steps in
-    let more = takes c.args.text.now (lines_left c.take_events.new.lines) (lines_left c.next.new.self) (c.loop-count.number + c.in-Ok.count) (events_read c.take_events.new.self) (opened_of c.take_events.new.self) c.take_events.new.self.rom c.in-Some-next.line.now next r (events_read c.take.new.self) (opened_of c.take.new.self) c.take.new.self.rom (search rules) c.in-Ok-take.ensures.taken in
+    let next : lines_left c.take_ahead.new.lines ≡ c.in-Some.line.now ∷ lines_left c.next.new.self = c.in-Some.ensures.steps in
+    let more = takes c.args.text.now (lines_left c.take_ahead.new.lines) (lines_left c.next.new.self) (c.loop-count.number + c.in-Ok.count) (events_read c.take_ahead.new.self) (opened_of c.take_ahead.new.self) c.take_ahead.new.self.rom c.in-Some.line.now next r (events_read c.take.new.self) (opened_of c.take.new.self) c.take.new.self.rom (search rules) c.in-Ok-take.ensures.taken in
     record {
       held = c.in-Ok-take.ensures.held;
       read = subst (λ k. ReadTrace c.args.text.now (lines_left c.next.new.self) k (events_read c.take.new.self) (opened_of c.take.new.self) c.take.new.self.rom) count more;
     }
 
-pub returns-in-Err-take-clause-fault : goal.returns-in-Err-take-clause-fault
-returns-in-Err-take-clause-fault g c =
-    let some = c.in-Ok.ensures.taken in
-    let r = reads_events c.args.text.now (lines_left c.loop-count.lines) (lines_left c.take_events.new.lines) c.loop-count.number c.in-Ok.count (events_read c.loop-count.reading) (events_read c.take_events.new.self) (opened_of c.loop-count.reading) (opened_of c.take_events.new.self) c.loop-count.reading.rom c.take_events.new.self.rom c.loop-count.invariant.read some.adds some.outside some.opened some.rom in
+pub returns-in-Err-clause-fault : goal.returns-in-Err-clause-fault
+returns-in-Err-clause-fault g c =
+    let r = reads_ahead c.args.text.now (lines_left c.loop-count.lines) (lines_left c.take_ahead.new.lines) c.loop-count.number c.in-Ok.count c.loop-count.reading c.take_ahead.new.self c.loop-count.invariant.read c.in-Ok.ensures.taken in
     let count : c.loop-count.number + c.in-Ok.count + 1 ≡ c.loop-count.number + (c.from.result + 1) = omega (arith, c.from.ensures) in
-    let next : lines_left c.take_events.new.lines ≡ c.in-Some-next.line.now ∷ lines_left c.next.new.self = sym c.in_default-op_ahead.ensures.kept ∙ c.in-Some-next.ensures.steps in
-    let stop = stops c.args.text.now (lines_left c.take_events.new.lines) (lines_left c.next.new.self) (c.loop-count.number + c.in-Ok.count) (events_read c.take_events.new.self) (opened_of c.take_events.new.self) c.take_events.new.self.rom c.in-Some-next.line.now next r c.in-Err-take.fault c.requires c.in-Ok.ensures.held (search rules) c.in-Err-take.ensures.fault in
-    rw c.at_line-in-Err-take.ensures (subst (λ k. StopsReading (fault_at c.in-Err-take.fault k) c.args.text.now) count stop)
+    let next : lines_left c.take_ahead.new.lines ≡ c.in-Some.line.now ∷ lines_left c.next.new.self = c.in-Some.ensures.steps in
+    let stop = stops c.args.text.now (lines_left c.take_ahead.new.lines) (lines_left c.next.new.self) (c.loop-count.number + c.in-Ok.count) (events_read c.take_ahead.new.self) (opened_of c.take_ahead.new.self) c.take_ahead.new.self.rom c.in-Some.line.now next r c.in-Err.fault c.requires c.in-Ok.ensures.held (search rules) c.in-Err.ensures.fault in
+    rw c.at_line.ensures (subst (λ k. StopsReading (fault_at c.in-Err.fault k) c.args.text.now) count stop)
