@@ -1,4 +1,4 @@
-use Rattle.std.proofs.Common.{◌≡◌, ◌<◌, ◌∷◌, decimal, ◌++◌, arith, rules}
+use Rattle.std.proofs.Common.{◌≡◌, ◌∷◌, decimal, ◌++◌, arith, rules}
 use Rattle.std.proofs.lemmas.Grind.{common_steps}
 use Rattle.dvg_read.proofs.Heads.{digit_first, digit_more}
 use Rattle.dvg_read.proofs.number.natural_before.Goals as goal

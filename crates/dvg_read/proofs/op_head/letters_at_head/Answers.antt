@@ -1,4 +1,4 @@
-use Rattle.std.proofs.Common.{arith, rules}
+use Rattle.std.proofs.Common.{arith}
 use Rattle.dvg_read.proofs.Heads.{four_bytes}
 use Rattle.dvg_read.proofs.op_head.letters_at_head.Goals as goal
 

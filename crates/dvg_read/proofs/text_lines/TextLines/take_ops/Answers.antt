@@ -1,6 +1,6 @@
 use Rattle.std.proofs.Common.{◌≡◌, ◌<◌, ◌∷◌, ◌++◌, [], ap, arith, length, length-append, rules}
 use Rattle.dvg_read.specs.TextLines.{lines_left}
-use Rattle.dvg_read.proofs.OpsAhead.{adds_length, adds_nothing, adds_one}
+use Rattle.dvg_read.proofs.OpsAhead.{adds_nothing, adds_one}
 use Rattle.dvg_read.proofs.text_lines.TextLines.take_ops.Goals as goal
 
 pub loop-head-init : goal.loop-head-init

@@ -1,4 +1,4 @@
-use Rattle.std.proofs.Common.{◌≡◌, refl, rules}
+use Rattle.std.proofs.Common.{refl}
 use Rattle.dvg_read.specs.TextLines.{lines_left}
 use Rattle.dvg_read.specs.TraceGives.{events_read, opened_by, opened_of, reads_events, reads_ops}
 use Rattle.dvg_read.specs.TraceEvents.{AddsEvents}
