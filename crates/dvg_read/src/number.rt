@@ -1,6 +1,6 @@
 //! Numbers in a line of a text.
-ghost use Rattle.std.specs.Prelude.{◌≡◌, ◌+◌, ◌<◌, ◌≤◌, ◌^◌, ◌∷◌, ◌++◌, ℕ, ℤ, IfSome, Some};
-ghost use Rattle.std.specs.Prelude.{decimal, length, min, unsigned_abs};
+ghost use Rattle.std.specs.Prelude.{◌≡◌, ◌+◌, ◌<◌, ◌≤◌, ◌^◌, ◌∷◌, ◌++◌, ℕ, ℤ, IfSome, List};
+ghost use Rattle.std.specs.Prelude.{Some, decimal, length, min, unsigned_abs};
 ghost use Rattle.std.specs.Char.{digit_value};
 ghost use Rattle.std.specs.Fmt.{signed_decimal};
 ghost use Rattle.std.specs.Str.Parse.{AllDigits, digits_value};
@@ -170,24 +170,68 @@ pub(crate) fn natural_before(text: &[u8], end: u8, most: u16) -> Option<(u16, &[
     ensures spelled { IfSome result (λ ahead. text.now ≡ decimal ahead.0 ++ end ∷ ahead.1.now) }
     ensures most { IfSome result (λ ahead. ahead.0 ≤ most) }
 {
-    let (first, mut rest) = text.split_first()?;
-    let mut number = u32::from(decimal_digit(*first)?);
+    let (number, rest) = first_digit(text)?;
+    if let Some(after) = after_byte(rest, end) {
+        return Some((number as u16, after));
+    }
     if number == 0 {
-        let (byte, after) = rest.split_first()?;
-        return if *byte == end { Some((0, after)) } else { None };
+        return None;
     }
-    for _ in 0..MAX_DIGITS {
-        let (byte, after) = rest.split_first()?;
-        if *byte == end {
-            return Some((number as u16, after));
-        }
-        number = number * 10 + u32::from(decimal_digit(*byte)?);
-        if number > u32::from(most) {
-            return None;
-        }
-        rest = after;
+    let (number, rest) = one_more(number, rest, most)?;
+    if let Some(after) = after_byte(rest, end) {
+        return Some((number as u16, after));
     }
-    None
+    let (number, rest) = one_more(number, rest, most)?;
+    if let Some(after) = after_byte(rest, end) {
+        return Some((number as u16, after));
+    }
+    let (number, rest) = one_more(number, rest, most)?;
+    if let Some(after) = after_byte(rest, end) {
+        return Some((number as u16, after));
+    }
+    let (number, rest) = one_more(number, rest, most)?;
+    Some((number as u16, after_byte(rest, end)?))
+}
+
+/// What stands after this byte, with which a text begins.
+#[inline(always)]
+pub(crate) fn after_byte(text: &[u8], byte: u8) -> Option<&[u8]>
+    ensures { IfSome result (λ rest. text.now ≡ byte ∷ rest.now) }
+{
+    match text {
+        [first, rest @ ..] if *first == byte => Some(rest),
+        _ => None,
+    }
+}
+
+// The number that the first digit of a text spells, and what comes after that.
+#[inline(always)]
+fn first_digit(text: &[u8]) -> Option<(u32, &[u8])>
+    ensures spelled { IfSome result (λ ahead. text.now ≡ decimal ahead.0 ++ ahead.1.now) }
+    ensures most { IfSome result (λ ahead. ahead.0 ≤ 9) }
+{
+    let (byte, rest) = text.split_first()?;
+    Some((u32::from(decimal_digit(*byte)?), rest))
+}
+
+// A number with one more digit, that which a text begins with, and what comes after that. It is at
+// most this one.
+#[inline(always)]
+fn one_more(number: u32, text: &[u8], most: u16) -> Option<(u32, &[u8])>
+    requires some { 0 < number }
+    requires few { number ≤ most }
+    ensures spelled { (all : List ℕ) → all ≡ decimal number ++ text.now
+        → IfSome result (λ ahead. all ≡ decimal ahead.0 ++ ahead.1.now) }
+    ensures some { IfSome result (λ ahead. 0 < ahead.0) }
+    ensures most { IfSome result (λ ahead. ahead.0 ≤ most) }
+{
+    let (byte, rest) = text.split_first()?;
+    let number = number * 10 + u32::from(decimal_digit(*byte)?);
+    if number <= u32::from(most) {
+        Some((number, rest))
+    } else {
+        None
+    }
 }
 
 /// The decimal number that a text begins with, before a space, and what comes after that. It is at
