@@ -4,7 +4,8 @@ ghost use Rattle.std.specs.Int.{to_le_bytes, w32};
 ghost use Rattle.dvg_read.specs.TextLines.{HasOp};
 
 use crate::number::{
-    after_byte, digit_before, integer_before_space, natural_before, nibble_before, tiny_before_space,
+    after_byte, digit_before, integer_before_space, natural_before, nibble_before,
+    tiny_before_space,
 };
 use dvg_code::{Code, Instr};
 use dvg_frame::{Op, OpKind};

@@ -1,4 +1,4 @@
-use Rattle.std.proofs.Common.{◌≡◌, arith, rules}
+use Rattle.std.proofs.Common.{arith}
 use Rattle.dvg_read.proofs.Heads.{digit_first}
 use Rattle.dvg_read.proofs.number.first_digit.Goals as goal
 

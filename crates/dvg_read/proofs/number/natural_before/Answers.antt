@@ -1,4 +1,3 @@
-use Rattle.std.proofs.Common.{◌∙◌, ap, decimal, ◌++◌}
 use Rattle.dvg_read.proofs.number.natural_before.Goals as goal
 
 pub returns-in-Some-after_byte-clause-spelled : goal.returns-in-Some-after_byte-clause-spelled
