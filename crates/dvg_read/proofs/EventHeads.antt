@@ -150,11 +150,6 @@ adds_more left then rest old mid new n m total a b is = record {
 pub adds_length : (left rest : List (List ℕ)) (old new : List Happening) (n : ℕ) → AddsEvents left old n rest new → length new ≡ length old + n
 adds_length left rest old new n a = omega (arith, ap length a.added, length-append old a.more, a.counted)
 
--- what follows from what an answer ensures
-pub map_ok : {A E : Type 0} (answer : Result A E) (P Q : A → Type 0) → IfOk answer P → ((x : A) → P x → Q x) → IfOk answer Q
-map_ok (Ok x) P Q h f = f x h
-map_ok (Err e) P Q h f = tt
-
 pub on_err : {A E : Type 0} (P : Type 0) (answer : Result A E) → P → OnErr answer P
 on_err P (Ok x) h = tt
 on_err P (Err x) h = h

@@ -1,5 +1,5 @@
 -- The text of a trace, read up to some line.
-use Rattle.std.proofs.Common.{◌≡◌, ◌<◌, ◌≤◌, ◌+◌, ℕ, List, [], ◌∷◌, ◌++◌, length, refl, sym, ap, subst, ◌∙◌, arith, append-nil, append_assoc, length-append, Bool, true, false, Option, Some, None}
+use Rattle.std.proofs.Common.{◌≡◌, ◌<◌, ◌≤◌, ◌+◌, ℕ, List, [], ◌∷◌, ◌++◌, length, refl, sym, ap, subst, ◌∙◌, arith, append-nil, append_assoc, length-append, Bool, true, false, Option, Some, None, Result, Ok, Err, IfOk}
 use Rattle.std.specs.List.{AllZip}
 use Rattle.std.specs.Option.{is_some}
 use Rattle.dvg_frame.specs.declared.op.OpKind.{OpKind}
@@ -156,6 +156,12 @@ pub reads_ahead : {A : Type 0} (text : List ℕ) (left rest : List (List ℕ)) (
     → ReadTrace text rest (n + count) (events_read new) (opened_of new) new.rom
 reads_ahead text left rest n count old new r (reads_events s) = some_events text left rest n count (events_read old) (events_read new) (opened_of old) (opened_of new) old.rom new.rom r s.outside s.adds s.opened s.rom
 reads_ahead text left rest n count old new r (reads_ops s) = some_ops text left rest n count (events_read old) (events_read new) old.draft new.draft (opened_of old) (opened_of new) old.rom new.rom r s.inside s.adds s.opened s.events s.rom
+
+-- lines of events, as they are taken where no offer is open
+pub ahead_events : {A E : Type 0} (answer : Result ℕ E) (old new : Reading A) (left rest : List (List ℕ)) → opened_of old ≡ None → opened_of new ≡ None → new.rom ≡ old.rom → IfOk answer (λ count. AddsEvents left (events_read old) count rest (events_read new))
+    → IfOk answer (λ count. ReadsAhead old left count new rest)
+ahead_events (Ok count) old new left rest outside still same a = reads_events (record { outside = outside; adds = a; opened = still; rom = same })
+ahead_events (Err e) old new left rest outside still same a = tt
 
 -- memory is wanted for an event that there is room for
 first_brings : (text : List ℕ) (left rest ahead : List (List ℕ)) (n : ℕ) (old : List Happening) (held : RomReading) (event : Happening) → ReadTrace text left n old None held → IsShort text → FitsTrace old None → length old < 65536 → AllZip SpellsEvent (event ∷ []) ahead → left ≡ ahead ++ rest

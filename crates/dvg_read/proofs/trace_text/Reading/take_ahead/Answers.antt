@@ -1,9 +1,9 @@
 use Rattle.std.proofs.Common.{refl}
 use Rattle.dvg_read.specs.TextLines.{lines_left}
-use Rattle.dvg_read.specs.TraceGives.{events_read, opened_by, opened_of, reads_events, reads_ops}
-use Rattle.dvg_read.specs.TraceEvents.{AddsEvents}
-use Rattle.dvg_read.proofs.EventHeads.{adds_fit, map_ok}
+use Rattle.dvg_read.specs.TraceGives.{events_read, opened_by, opened_of, reads_ops}
+use Rattle.dvg_read.proofs.EventHeads.{adds_fit}
 use Rattle.dvg_read.proofs.TraceMoves.{inside_fits, inside_room, none_opened, some_opened}
+use Rattle.dvg_read.proofs.ReadTrace.{ahead_events}
 use Rattle.dvg_read.proofs.trace_text.Reading.take_ahead.Goals as goal
 
 pub take_ops-requires : goal.take_ops-requires
@@ -32,8 +32,7 @@ pub returns-clause-taken : goal.returns-clause-taken
 returns-clause-taken g c =
     let reading = c.args.self.now in
     let closed = none_opened reading.is_open reading.draft c.if-self.false in
-    map_ok c.take_events.result (λ count. AddsEvents (lines_left c.args.lines.now) (events_read reading) count (lines_left c.take_events.new.lines) c.take_events.new.events) _ c.take_events.ensures.taken
-    (λ count adds. reads_events (record { outside = closed; adds = adds; opened = closed; rom = refl }))
+    ahead_events c.take_events.result reading (record reading { events = c.take_events.new.events }) (lines_left c.args.lines.now) (lines_left c.take_events.new.lines) closed closed refl c.take_events.ensures.taken
 
 pub returns-clause-held : goal.returns-clause-held
 returns-clause-held g c =
