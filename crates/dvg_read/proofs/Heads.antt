@@ -40,13 +40,16 @@ two_bytes (x ∷ []) a b fits is then = absurd (omega arith)
 two_bytes (x ∷ y ∷ text) a b fits is then = rw (sym is, sym then) (halves (x ∷ y ∷ text) 1 (omega arith))
 
 -- four bytes, and the number of which they are the bytes
-pub four_bytes : (text : List ℕ) (n : ℕ) → 4 ≤ length text → ((i : ℕ) → get_or text i 0 < 256) → n ≡ from_le_bytes w32 (get_or text 0 0 ∷ get_or text 1 0 ∷ get_or text 2 0 ∷ get_or text 3 0 ∷ []) → text ≡ to_le_bytes w32 n ++ behind 3 text
+pub four_bytes : (text : List ℕ) (n : ℕ) → 4 ≤ length text → ((i : ℕ) → get_or text i 0 < 256)
+    → n ≡ from_le_bytes w32 (get_or text 0 0 ∷ get_or text 1 0 ∷ get_or text 2 0 ∷ get_or text 3 0 ∷ [])
+    → text ≡ to_le_bytes w32 n ++ behind 3 text
 four_bytes [] n fits bytes is = absurd (omega arith)
 four_bytes (x ∷ []) n fits bytes is = absurd (omega arith)
 four_bytes (x ∷ y ∷ []) n fits bytes is = absurd (omega arith)
 four_bytes (x ∷ y ∷ z ∷ []) n fits bytes is = absurd (omega arith)
 four_bytes (x ∷ y ∷ z ∷ w ∷ text) n fits bytes is =
-    halves (x ∷ y ∷ z ∷ w ∷ text) 3 (omega arith) ∙ ap (λ front. front ++ behind 3 (x ∷ y ∷ z ∷ w ∷ text)) (sym (le_bytes_4 (x ∷ y ∷ z ∷ w ∷ []) n refl below is))
+    halves (x ∷ y ∷ z ∷ w ∷ text) 3 (omega arith) ∙ ap (λ front. front ++ behind 3 (x ∷ y ∷ z ∷ w ∷ text))
+    (sym (le_bytes_4 (x ∷ y ∷ z ∷ w ∷ []) n refl below is))
   where
     below : (i : ℕ) → get_or (x ∷ y ∷ z ∷ w ∷ []) i 0 < 256
     below zero = bytes 0

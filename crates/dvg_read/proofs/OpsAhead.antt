@@ -1,5 +1,6 @@
 -- Lines of operations at the head of a text.
-use Rattle.std.proofs.Common.{◌≡◌, ◌+◌, ℕ, List, [], ◌∷◌, ◌++◌, length, refl, sym, ap, ◌∙◌, arith, append_assoc, append-nil, length-append}
+use Rattle.std.proofs.Common.{◌≡◌, ◌+◌, ℕ, List, [], ◌∷◌, ◌++◌, length, refl, sym, ap, ◌∙◌, arith, append_assoc}
+use Rattle.std.proofs.Common.{append-nil, length-append}
 use Rattle.dvg_frame.specs.declared.op.OpKind.{OpKind}
 use Rattle.dvg_read.specs.OpLines.{IsOpLine}
 use Rattle.dvg_read.specs.TextLines.{AddsOps, HasOp}
@@ -7,10 +8,19 @@ use Rattle.dvg_read.specs.Texts.{lines}
 use Rattle.dvg_read.proofs.Zips.{zip_push}
 
 pub adds_nothing : (left : List (List ℕ)) (F : List OpKind) → AddsOps left F 0 left F
-adds_nothing left F = record { more = []; ahead = []; spelled = tt; cut = refl; added = sym (append-nil F); counted = refl }
+adds_nothing left F = record {
+  more = [];
+  ahead = [];
+  spelled = tt;
+  cut = refl;
+  added = sym (append-nil F);
+  counted = refl;
+}
 
 -- one more
-pub adds_one : (left : List (List ℕ)) (text rest : List ℕ) (old mid new : List OpKind) (op : OpKind) (n : ℕ) → AddsOps left old n (lines text) mid → HasOp text op rest → new ≡ mid ++ op ∷ [] → AddsOps left old (n + 1) (lines rest) new
+pub adds_one : (left : List (List ℕ)) (text rest : List ℕ) (old mid new : List OpKind) (op : OpKind) (n : ℕ)
+    → AddsOps left old n (lines text) mid → HasOp text op rest → new ≡ mid ++ op ∷ []
+    → AddsOps left old (n + 1) (lines rest) new
 adds_one left text rest old mid new op n a h is = record {
   more = a.more ++ op ∷ [];
   ahead = a.ahead ++ h.line ∷ [];
@@ -20,5 +30,6 @@ adds_one left text rest old mid new op n a h is = record {
   counted = omega (arith, length-append a.more (op ∷ []), a.counted);
 }
 
-pub adds_length : (left rest : List (List ℕ)) (old new : List OpKind) (n : ℕ) → AddsOps left old n rest new → length new ≡ length old + n
+pub adds_length : (left rest : List (List ℕ)) (old new : List OpKind) (n : ℕ) → AddsOps left old n rest new
+    → length new ≡ length old + n
 adds_length left rest old new n a = omega (arith, ap length a.added, length-append old a.more, a.counted)

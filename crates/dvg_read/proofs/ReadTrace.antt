@@ -1,5 +1,7 @@
 -- The text of a trace, read up to some line.
-use Rattle.std.proofs.Common.{◌≡◌, ◌<◌, ◌≤◌, ◌+◌, ℕ, List, [], ◌∷◌, ◌++◌, length, refl, sym, ap, subst, ◌∙◌, arith, append-nil, append_assoc, length-append, Bool, true, false, Option, Some, None, Result, Ok, Err, IfOk}
+use Rattle.std.proofs.Common.{◌≡◌, ◌<◌, ◌≤◌, ◌+◌, ℕ, List, [], ◌∷◌, ◌++◌, length, refl, sym, ap, subst, ◌∙◌, arith}
+use Rattle.std.proofs.Common.{append-nil, append_assoc, length-append, Bool, true, false, Option, Some, None}
+use Rattle.std.proofs.Common.{Result, Ok, Err, IfOk}
 use Rattle.std.specs.List.{AllZip}
 use Rattle.std.specs.Option.{is_some}
 use Rattle.dvg_frame.specs.declared.op.OpKind.{OpKind}
@@ -13,7 +15,8 @@ use Rattle.dvg_read.specs.RomReading.{HoldsRom, unstated}
 use Rattle.dvg_read.specs.FirstFaults.{IsShort, Reaches}
 use Rattle.dvg_read.specs.TraceTexts.{EndsInside, FitsTrace, IsFineTrace, SpellsTrace}
 use Rattle.dvg_read.specs.TraceEvents.{AddsEvents, BeginsWithEvent, SpellsEvent}
-use Rattle.dvg_read.specs.TraceGives.{BringsEvents, GivesTrace, ReadsAhead, StopsLine, StopsReading, TakesLine, events_read, fault_at, opened_of, reads_events, reads_ops}
+use Rattle.dvg_read.specs.TraceGives.{BringsEvents, GivesTrace, ReadsAhead, StopsLine, StopsReading, TakesLine}
+use Rattle.dvg_read.specs.TraceGives.{events_read, fault_at, opened_of, reads_events, reads_ops}
 use Rattle.dvg_read.specs.TextLines.{AddsOps}
 use Rattle.dvg_read.specs.OpLines.{IsOpLine}
 use Rattle.dvg_read.specs.TraceReading.{does}
@@ -126,41 +129,61 @@ all_events text rest held (event ∷ more) left (line ∷ ahead) n old h cut r =
     subst (λ k. ReadTrace text rest k (old ++ event ∷ more) None held) count (subst (λ events. ReadTrace text rest (n + 1 + length more) events None held) (append_assoc old (event ∷ []) more) all)
 
 -- lines that spell an operation each
-all_ops : (text : List ℕ) (rest : List (List ℕ)) (events : List Happening) (held : RomReading) (more : List OpKind) (left ahead : List (List ℕ)) (n : ℕ) (F : List OpKind)
-    → AllZip IsOpLine more ahead → left ≡ ahead ++ rest → ReadTrace text left n events (Some F) held → ReadTrace text rest (n + length more) events (Some (F ++ more)) held
+all_ops : (text : List ℕ) (rest : List (List ℕ)) (events : List Happening) (held : RomReading) (more : List OpKind)
+    (left ahead : List (List ℕ)) (n : ℕ) (F : List OpKind)
+    → AllZip IsOpLine more ahead → left ≡ ahead ++ rest → ReadTrace text left n events (Some F) held
+    → ReadTrace text rest (n + length more) events (Some (F ++ more)) held
 all_ops text rest events held [] left [] n F h cut r =
     let count : n ≡ n + 0 = omega arith in
-    subst (λ k. ReadTrace text rest k events (Some (F ++ [])) held) count (subst (λ ls. ReadTrace text ls n events (Some (F ++ [])) held) cut (subst (λ F. ReadTrace text left n events (Some F) held) (sym (append-nil F)) r))
+    subst (λ k. ReadTrace text rest k events (Some (F ++ [])) held) count
+    (subst (λ ls. ReadTrace text ls n events (Some (F ++ [])) held) cut
+    (subst (λ F. ReadTrace text left n events (Some F) held) (sym (append-nil F)) r))
 all_ops text rest events held [] left (line ∷ ahead) n F h cut r = absurd h
 all_ops text rest events held (op ∷ more) left [] n F h cut r = absurd h
 all_ops text rest events held (op ∷ more) left (line ∷ ahead) n F h cut r =
-    let step = takes text left (ahead ++ rest) n events (Some F) held line cut r events (Some (F ++ op ∷ [])) held (op_unpassed op line h.0) (λ rom holds. record { now = rom; takes = does op h.0; holds = holds }) in
+    let step = takes text left (ahead ++ rest) n events (Some F) held line cut r events (Some (F ++ op ∷ [])) held
+    (op_unpassed op line h.0) (λ rom holds. record { now = rom; takes = does op h.0; holds = holds }) in
     let all = all_ops text rest events held more (ahead ++ rest) ahead (n + 1) (F ++ op ∷ []) h.1 refl step in
     let count : n + 1 + length more ≡ n + length (op ∷ more) = omega arith in
-    subst (λ k. ReadTrace text rest k events (Some (F ++ op ∷ more)) held) count (subst (λ F. ReadTrace text rest (n + 1 + length more) events (Some F) held) (append_assoc F (op ∷ []) more) all)
+    subst (λ k. ReadTrace text rest k events (Some (F ++ op ∷ more)) held) count
+    (subst (λ F. ReadTrace text rest (n + 1 + length more) events (Some F) held) (append_assoc F (op ∷ []) more) all)
 
-some_events : (text : List ℕ) (left rest : List (List ℕ)) (n count : ℕ) (old new : List Happening) (opened kept : Option (List OpKind)) (held now : RomReading) → ReadTrace text left n old opened held → opened ≡ None → AddsEvents left old count rest new
+some_events : (text : List ℕ) (left rest : List (List ℕ)) (n count : ℕ) (old new : List Happening)
+    (opened kept : Option (List OpKind)) (held now : RomReading)
+    → ReadTrace text left n old opened held → opened ≡ None → AddsEvents left old count rest new
     → kept ≡ None → now ≡ held → ReadTrace text rest (n + count) new kept now
 some_events text left rest n count old new opened kept held now r outside a still same =
-    let all = all_events text rest held a.more left a.ahead.ahead n old a.ahead.spelled a.ahead.cut (subst (λ opened. ReadTrace text left n old opened held) outside r) in
+    let all = all_events text rest held a.more left a.ahead.ahead n old a.ahead.spelled a.ahead.cut
+    (subst (λ opened. ReadTrace text left n old opened held) outside r) in
     rw (still, same, a.added, sym a.counted) all
 
-some_ops : (text : List ℕ) (left rest : List (List ℕ)) (n count : ℕ) (old new : List Happening) (F G : List OpKind) (opened kept : Option (List OpKind)) (held now : RomReading) → ReadTrace text left n old opened held → opened ≡ Some F → AddsOps left F count rest G
+some_ops : (text : List ℕ) (left rest : List (List ℕ)) (n count : ℕ) (old new : List Happening) (F G : List OpKind)
+    (opened kept : Option (List OpKind)) (held now : RomReading)
+    → ReadTrace text left n old opened held → opened ≡ Some F → AddsOps left F count rest G
     → kept ≡ Some G → new ≡ old → now ≡ held → ReadTrace text rest (n + count) new kept now
 some_ops text left rest n count old new F G opened kept held now r inside a still none same =
-    let all = all_ops text rest old held a.more left a.ahead n F a.spelled a.cut (subst (λ opened. ReadTrace text left n old opened held) inside r) in
+    let all = all_ops text rest old held a.more left a.ahead n F a.spelled a.cut
+    (subst (λ opened. ReadTrace text left n old opened held) inside r) in
     rw (still, none, same, a.added, sym a.counted) all
 
 -- lines of events, or of operations
-pub reads_ahead : {A : Type 0} (text : List ℕ) (left rest : List (List ℕ)) (n count : ℕ) (old new : Reading A) → ReadTrace text left n (events_read old) (opened_of old) old.rom → ReadsAhead old left count new rest
+pub reads_ahead : {A : Type 0} (text : List ℕ) (left rest : List (List ℕ)) (n count : ℕ) (old new : Reading A)
+    → ReadTrace text left n (events_read old) (opened_of old) old.rom → ReadsAhead old left count new rest
     → ReadTrace text rest (n + count) (events_read new) (opened_of new) new.rom
-reads_ahead text left rest n count old new r (reads_events s) = some_events text left rest n count (events_read old) (events_read new) (opened_of old) (opened_of new) old.rom new.rom r s.outside s.adds s.opened s.rom
-reads_ahead text left rest n count old new r (reads_ops s) = some_ops text left rest n count (events_read old) (events_read new) old.draft new.draft (opened_of old) (opened_of new) old.rom new.rom r s.inside s.adds s.opened s.events s.rom
+reads_ahead text left rest n count old new r (reads_events s) =
+    some_events text left rest n count (events_read old) (events_read new) (opened_of old) (opened_of new)
+    old.rom new.rom r s.outside s.adds s.opened s.rom
+reads_ahead text left rest n count old new r (reads_ops s) =
+    some_ops text left rest n count (events_read old) (events_read new) old.draft new.draft (opened_of old)
+    (opened_of new) old.rom new.rom r s.inside s.adds s.opened s.events s.rom
 
 -- lines of events, as they are taken where no offer is open
-pub ahead_events : {A E : Type 0} (answer : Result ℕ E) (old new : Reading A) (left rest : List (List ℕ)) → opened_of old ≡ None → opened_of new ≡ None → new.rom ≡ old.rom → IfOk answer (λ count. AddsEvents left (events_read old) count rest (events_read new))
+pub ahead_events : {A E : Type 0} (answer : Result ℕ E) (old new : Reading A) (left rest : List (List ℕ))
+    → opened_of old ≡ None → opened_of new ≡ None → new.rom ≡ old.rom
+    → IfOk answer (λ count. AddsEvents left (events_read old) count rest (events_read new))
     → IfOk answer (λ count. ReadsAhead old left count new rest)
-ahead_events (Ok count) old new left rest outside still same a = reads_events (record { outside = outside; adds = a; opened = still; rom = same })
+ahead_events (Ok count) old new left rest outside still same a =
+    reads_events (record { outside = outside; adds = a; opened = still; rom = same })
 ahead_events (Err e) old new left rest outside still same a = tt
 
 -- memory is wanted for an event that there is room for

@@ -35,11 +35,13 @@ any_opened true F = refl
 any_opened false F = refl
 
 -- an offer that is open has room in its draft
-pub inside_room : (old : List Happening) (opened : Option (List OpKind)) (F : List OpKind) → opened ≡ Some F → FitsTrace old opened → length F ≤ 511
+pub inside_room : (old : List Happening) (opened : Option (List OpKind)) (F : List OpKind) → opened ≡ Some F
+    → FitsTrace old opened → length F ≤ 511
 inside_room old opened F e fits = let inside = rw e at fits in inside.last
 
 -- and with another draft
-pub inside_fits : (old : List Happening) (opened left : Option (List OpKind)) (G : List OpKind) → left ≡ Some G → length G ≤ 511 → FitsTrace old opened → FitsTrace old left
+pub inside_fits : (old : List Happening) (opened left : Option (List OpKind)) (G : List OpKind) → left ≡ Some G
+    → length G ≤ 511 → FitsTrace old opened → FitsTrace old left
 inside_fits old opened left G e few fits = rw e (record { count = fits.count; drafts = fits.drafts; last = few })
 
 -- the end of an offer

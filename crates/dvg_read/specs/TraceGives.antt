@@ -89,7 +89,8 @@ pub record ReadsEvents {A : Type 0} (old : Reading A) (left : List (List ℕ)) (
   pub rom : new.rom ≡ old.rom
 
 -- lines that spell an operation each were read, so many, where an offer is open, and these are left
-pub record ReadsOps {A : Type 0} (old : Reading A) (left : List (List ℕ)) (count : ℕ) (new : Reading A)
+pub record ReadsOps {A : Type 0} (old : Reading A) (left : List (List ℕ)) (count : ℕ)
+    (new : Reading A)
     (rest : List (List ℕ)) : Type 0 where
   pub inside : opened_of old ≡ Some old.draft
   pub adds : AddsOps left old.draft count rest new.draft
@@ -98,7 +99,8 @@ pub record ReadsOps {A : Type 0} (old : Reading A) (left : List (List ℕ)) (cou
   pub rom : new.rom ≡ old.rom
 
 -- lines were read, so many, and these are left: lines of events, or of operations
-pub data ReadsAhead {A : Type 0} (old : Reading A) (left : List (List ℕ)) (count : ℕ) (new : Reading A)
+pub data ReadsAhead {A : Type 0} (old : Reading A) (left : List (List ℕ)) (count : ℕ)
+    (new : Reading A)
     (rest : List (List ℕ)) : Type 0 where
   reads_events : ReadsEvents old left count new rest → ReadsAhead old left count new rest
   reads_ops : ReadsOps old left count new rest → ReadsAhead old left count new rest

@@ -124,24 +124,56 @@ pub(crate) fn nibble_before(text: &[u8], end: u8) -> Option<(u8, &[u8])> {
 /// The same, of a number that is at most this one, without leading zeros.
 #[inline(always)]
 pub(crate) fn natural_before(text: &[u8], end: u8, most: u16) -> Option<(u16, &[u8])> {
-    let (first, mut rest) = text.split_first()?;
-    let mut number = u32::from(decimal_digit(*first)?);
+    let (number, rest) = first_digit(text)?;
+    if let Some(after) = after_byte(rest, end) {
+        return Some((number as u16, after));
+    }
     if number == 0 {
-        let (byte, after) = rest.split_first()?;
-        return if *byte == end { Some((0, after)) } else { None };
+        return None;
     }
-    for _ in 0..MAX_DIGITS {
-        let (byte, after) = rest.split_first()?;
-        if *byte == end {
-            return Some((number as u16, after));
-        }
-        number = number * 10 + u32::from(decimal_digit(*byte)?);
-        if number > u32::from(most) {
-            return None;
-        }
-        rest = after;
+    let (number, rest) = one_more(number, rest, most)?;
+    if let Some(after) = after_byte(rest, end) {
+        return Some((number as u16, after));
     }
-    None
+    let (number, rest) = one_more(number, rest, most)?;
+    if let Some(after) = after_byte(rest, end) {
+        return Some((number as u16, after));
+    }
+    let (number, rest) = one_more(number, rest, most)?;
+    if let Some(after) = after_byte(rest, end) {
+        return Some((number as u16, after));
+    }
+    let (number, rest) = one_more(number, rest, most)?;
+    Some((number as u16, after_byte(rest, end)?))
+}
+
+/// What stands after this byte, with which a text begins.
+#[inline(always)]
+pub(crate) fn after_byte(text: &[u8], byte: u8) -> Option<&[u8]> {
+    match text {
+        [first, rest @ ..] if *first == byte => Some(rest),
+        _ => None,
+    }
+}
+
+// The number that the first digit of a text spells, and what comes after that.
+#[inline(always)]
+fn first_digit(text: &[u8]) -> Option<(u32, &[u8])> {
+    let (byte, rest) = text.split_first()?;
+    Some((u32::from(decimal_digit(*byte)?), rest))
+}
+
+// A number with one more digit, that which a text begins with, and what comes after that. It is at
+// most this one.
+#[inline(always)]
+fn one_more(number: u32, text: &[u8], most: u16) -> Option<(u32, &[u8])> {
+    let (byte, rest) = text.split_first()?;
+    let number = number * 10 + u32::from(decimal_digit(*byte)?);
+    if number <= u32::from(most) {
+        Some((number, rest))
+    } else {
+        None
+    }
 }
 
 /// The decimal number that a text begins with, before a space, and what comes after that. It is at

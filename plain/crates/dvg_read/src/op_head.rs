@@ -1,6 +1,7 @@
 //! Operations at the head of a text, each read in one pass with the end of its line.
 use crate::number::{
-    digit_before, integer_before_space, natural_before, nibble_before, tiny_before_space,
+    after_byte, digit_before, integer_before_space, natural_before, nibble_before,
+    tiny_before_space,
 };
 use dvg_code::{Code, Instr};
 use dvg_frame::{Op, OpKind};
@@ -33,11 +34,11 @@ const HALT_LETTERS: u32 = 0x746C_6168;
 pub(crate) fn op_at_head(text: &[u8]) -> Option<(Op, &[u8])> {
     let (letters, rest) = letters_at_head(text)?;
     match letters {
-        SVEC_LETTERS => svec(after_space(rest)?),
-        VCTR_LETTERS => vctr(after_space(rest)?),
-        LABS_LETTERS => labs(after_space(rest)?),
-        CALL_LETTERS => call(after_space(rest)?),
-        JUMP_LETTERS => jump(after_space(rest)?),
+        SVEC_LETTERS => svec(after_byte(rest, b' ')?),
+        VCTR_LETTERS => vctr(after_byte(rest, b' ')?),
+        LABS_LETTERS => labs(after_byte(rest, b' ')?),
+        CALL_LETTERS => call(after_byte(rest, b' ')?),
+        JUMP_LETTERS => jump(after_byte(rest, b' ')?),
         HALT_LETTERS => halt(rest),
         _ => None,
     }
@@ -52,15 +53,6 @@ fn letters_at_head(text: &[u8]) -> Option<(u32, &[u8])> {
     }
     let letters = u32::from_le_bytes([text[0], text[1], text[2], text[3]]);
     Some((letters, &text[4..]))
-}
-
-// What stands after the space that a text begins with.
-#[inline(always)]
-fn after_space(text: &[u8]) -> Option<&[u8]> {
-    match text {
-        [b' ', rest @ ..] => Some(rest),
-        _ => None,
-    }
 }
 
 // An SVEC, after its name and a space.

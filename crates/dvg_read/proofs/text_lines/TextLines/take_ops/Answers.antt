@@ -11,7 +11,9 @@ loop-head-preserved c =
     let added : c.push.new.self ≡ c.loop-head.draft ++ c.in-Some.head.0 ∷ [] = search rules in
     let room : length c.loop-head.draft < 511 = search rules in
     record {
-      adds = adds_one (lines_left c.args.self.now) c.loop-head.rest.now c.in-Some.head.1.now c.args.draft.now c.loop-head.draft c.push.new.self c.in-Some.head.0 c.loop-head.count c.loop-head.invariant.adds c.in-Some.ensures added;
+      adds = adds_one (lines_left c.args.self.now) c.loop-head.rest.now c.in-Some.head.1.now c.args.draft.now
+          c.loop-head.draft c.push.new.self c.in-Some.head.0 c.loop-head.count c.loop-head.invariant.adds
+          c.in-Some.ensures added;
       few = omega (arith, room, ap length added, length-append c.loop-head.draft (c.in-Some.head.0 ∷ []));
     }
 
