@@ -169,6 +169,7 @@ fn begin(cursor: &mut Option<Cursor>, checked: &Checked, half: Half) {
 }
 
 // The next byte, if one is still to come, with its address.
+#[inline(always)]
 fn next_of(cursor: &mut Option<Cursor>) -> Option<(u16, u8)> {
     match cursor {
         Some(cursor) => cursor.next(),

@@ -48,6 +48,7 @@ impl Cursor {
 impl Iterator for Cursor {
     type Item = (u16, u8);
 
+    #[inline(always)]
     fn next(&mut self) -> Option<(u16, u8)> {
         if self.given == self.bytes.len() {
             return None;

@@ -120,11 +120,10 @@ impl<A: Allocator + Copy> Generator<A> {
         // The opcode says which instruction it is. To look at the decoded ones once more would take
         // time.
         if let Some(first) = self.held {
-            let code = of_two(first, word);
             return if first < 0xA000 {
-                self.draw(code)
+                self.draw(of_two(first, word))
             } else {
-                Ok(self.place(code))
+                Ok(self.place(of_two(first, word)))
             };
         }
         if word < 0xB000 {

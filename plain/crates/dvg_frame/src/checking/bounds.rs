@@ -10,6 +10,14 @@ use crate::place::Place;
 use dvg_mem::Rom;
 use std::alloc::Allocator;
 
+/// What is drawn where nothing leads on.
+const NOTHING: Drawn = Drawn {
+    words: 0,
+    end: Ending::Halts,
+    returns: false,
+    calls: 0,
+};
+
 // Where a way leads on at its own depth.
 fn onward(way: Way) -> Option<Place> {
     match way {
@@ -56,13 +64,14 @@ fn entry(table: &Table, place: Place) -> Drawn {
     drawn
 }
 
-// What is drawn from a place that leads on in this way.
+// What is drawn from a place that leads on in this way, by what is drawn from where it leads on at
+// its own depth.
 #[inline(always)]
-fn draw(table: &Table, way: Way) -> Drawn {
+fn draw(table: &Table, way: Way, rest: Drawn) -> Drawn {
     match way {
-        Way::Move(after, words) => longer(entry(table, after), words),
-        Way::Jump(to) => longer(entry(table, to), 1),
-        Way::Call(to, after) => called(entry(table, to), entry(table, after)),
+        Way::Move(_, words) => longer(rest, words),
+        Way::Jump(_) => longer(rest, 1),
+        Way::Call(to, _) => called(entry(table, to), rest),
         Way::Return => Drawn {
             words: 1,
             end: Ending::Returns,
@@ -78,18 +87,23 @@ fn draw(table: &Table, way: Way) -> Drawn {
     }
 }
 
-// Notes what is drawn from a place that leads on in this way, unless the table has it.
+// Notes what is drawn from a place that leads on in this way, unless the table has it. Answers what
+// the table has then.
 #[inline(always)]
-fn put_drawn(table: &mut Table, place: Place, way: Way) {
-    let drawn = draw(table, way);
-    if table.at(place).is_none() {
-        table.put(place, drawn);
+fn put_drawn(table: &mut Table, place: Place, way: Way, rest: Drawn) -> Drawn {
+    let drawn = draw(table, way, rest);
+    match table.at(place) {
+        Some(known) => known,
+        None => {
+            table.put(place, drawn);
+            drawn
+        }
     }
 }
 
 // Follows the steps at one depth from a pair, up to a place that the table has an entry for, or
-// from which nothing leads on. The chain gets the pairs on the way. False where a pair has a fault,
-// or the steps come to no end.
+// from which nothing leads on. The chain gets the pairs on the way. Answers what is drawn after the
+// last of them. None where a pair has a fault, or the steps come to no end.
 #[inline(always)]
 fn follow<A: Allocator>(
     draft: &Draft,
@@ -97,27 +111,27 @@ fn follow<A: Allocator>(
     table: &Table,
     chain: &mut Chain,
     start: Pair,
-) -> bool {
+) -> Option<Drawn> {
     let mut place = start.place;
     for step in 0..draft.len() + usize::from(rom.len_words()) + 1 {
-        if table.at(place).is_some() {
-            return true;
+        if let Some(known) = table.at(place) {
+            return Some(known);
         }
         let pair = Pair {
             place,
             depth: start.depth,
         };
         let Ok(way) = look(draft, rom, pair) else {
-            return false;
+            return None;
         };
         let next = onward(way);
         chain.push(pair);
         match next {
             Some(next) => place = next,
-            None => return true,
+            None => return Some(NOTHING),
         }
     }
-    false
+    None // They come to no end.
 }
 
 // Finds what is drawn from a pair's place, and from each place on the way from it. False where a
@@ -130,13 +144,10 @@ fn settle<A: Allocator>(
     chain: &mut Chain,
     start: Pair,
 ) -> bool {
-    if table.at(start.place).is_some() {
-        return true;
-    }
     let base = chain.len();
-    if !follow(draft, rom, table, chain, start) {
+    let Some(mut rest) = follow(draft, rom, table, chain, start) else {
         return false;
-    }
+    };
     while chain.len() > base {
         let place = chain.pop().place;
         let Some(way) = way_at(draft, rom, place) else {
@@ -147,11 +158,11 @@ fn settle<A: Allocator>(
                 place: to,
                 depth: start.depth + 1,
             };
-            if !settle(draft, rom, table, chain, inside) {
+            if !table.has(to) && !settle(draft, rom, table, chain, inside) {
                 return false;
             }
         }
-        put_drawn(table, place, way);
+        rest = put_drawn(table, place, way, rest);
     }
     true
 }
