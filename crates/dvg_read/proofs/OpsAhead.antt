@@ -1,5 +1,5 @@
 -- Lines of operations at the head of a text.
-use Rattle.std.proofs.Common.{◌≡◌, ◌+◌, ℕ, List, [], ◌∷◌, ◌++◌, length, refl, sym, ap, ◌∙◌, arith, append_assoc}
+use Rattle.std.proofs.Common.{◌≡◌, ◌+◌, ℕ, List, [], ◌∷◌, ◌++◌, refl, sym, ap, ◌∙◌, arith, append_assoc}
 use Rattle.std.proofs.Common.{append-nil, length-append}
 use Rattle.dvg_frame.specs.declared.op.OpKind.{OpKind}
 use Rattle.dvg_read.specs.OpLines.{IsOpLine}
@@ -29,7 +29,3 @@ adds_one left text rest old mid new op n a h is = record {
   added = is ∙ ap (λ F. F ++ op ∷ []) a.added ∙ append_assoc old a.more (op ∷ []);
   counted = omega (arith, length-append a.more (op ∷ []), a.counted);
 }
-
-pub adds_length : (left rest : List (List ℕ)) (old new : List OpKind) (n : ℕ) → AddsOps left old n rest new
-    → length new ≡ length old + n
-adds_length left rest old new n a = omega (arith, ap length a.added, length-append old a.more, a.counted)

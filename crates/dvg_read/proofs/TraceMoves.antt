@@ -17,7 +17,6 @@ use Rattle.dvg_read.specs.TraceTexts.{EventParts, FitsTrace, FitsDraft, redraw, 
 use Rattle.dvg_read.specs.TraceReading.{Takes, does, ends, events, opens, tells}
 use Rattle.dvg_read.specs.TraceGives.{StopsEvents, StopsLine, StopsOperation, TakesLine, opened_by}
 use Rattle.dvg_read.proofs.EventRows.{some_events}
-use Rattle.dvg_read.proofs.TraceSteps.{end_is_no_op}
 
 all_one : {A : Type 0} (P : A → Type 0) (y : A) → P y → All P (y ∷ [])
 all_one P y h zero d l = h
@@ -133,13 +132,6 @@ pub op_taken : {A E : Type 0} (answer : Result A E) (old : List Happening) (F G 
     → OnOk answer ((op : OpKind) × IsOpLine op l × (G ≡ F ++ op ∷ [])) → OnOk answer ((rom : RomText) → HoldsRom rom held → TakesLine rom old opened l old left held)
 op_taken (Ok x) old F G opened left l held e f h = λ rom holds. let is = h.2 in record { now = rom; takes = rw (e, f, is) (does h.0 h.1); holds = holds }
 op_taken (Err x) old F G opened left l held e f h = tt
-
-pub op_added : {A E : Type 0} (answer : Result A E) (F G : List OpKind) (op : OpKind) (l : List ℕ) → IsOpLine op l → OnOk answer (G ≡ F ++ op ∷ []) → OnOk answer ((op : OpKind) × IsOpLine op l × (G ≡ F ++ op ∷ []))
-op_added (Ok x) F G op l h e = (op, h, e)
-op_added (Err x) F G op l h e = tt
-
-pub no_end : (op : OpKind) (l : List ℕ) → IsOpLine op l → l ≡ codes "end" → ⊥
-no_end op l h e = end_is_no_op op (subst (IsOpLine op) e h)
 
 nothing_inside : {rom now : RomText} {old new : List Happening} {opened left : Option (List OpKind)} {l : List ℕ} (F : List OpKind) → opened ≡ Some F → (l ≡ codes "end" → ⊥) → ((op : OpKind) → IsOpLine op l → ⊥)
     → Takes rom old opened l now new left → ⊥
