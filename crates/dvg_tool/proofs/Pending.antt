@@ -4,7 +4,7 @@ use Rattle.dvg_io.specs.declared.watched.Watched.{Watched}
 use Rattle.dvg_io.specs.Watching.{BeginsToWrite, Went, Writes, failures_of, one_more, stream_of}
 use Rattle.dvg_io.proofs.Known.{Appends-nil}
 use Rattle.dvg_io.proofs.Went.{all_of_it, piece_begun, piece_more}
-use Rattle.dvg_tool.specs.Pending.{Went, WritesBut}
+use Rattle.dvg_tool.specs.Pending.{WritesBut}
 
 -- nothing of a text went out: all of it is kept
 pub all_kept : (text kept : List ℕ) (known : Option (List ℕ)) → kept ≡ text → Went text kept known known

@@ -2,7 +2,7 @@ use Rattle.std.proofs.Common.{rules, true, ◌≡◌, ◌+◌, ◌≤◌, ◌++�
 use Rattle.std.proofs.lemmas.List.{drop_all}
 use Rattle.dvg_log.specs.Entries.{map_entry}
 use Rattle.dvg_print.specs.Shows.{shown, shown_entry}
-use Rattle.dvg_io.specs.Watching.{BeginsToWrite, Writes, stream_of}
+use Rattle.dvg_io.specs.Watching.{BeginsToWrite, Went, Writes, stream_of}
 use Rattle.dvg_tool.proofs.Pending.{kept_begun, kept_more, writes_last}
 use Rattle.dvg_tool.proofs.Shown.{next_entry}
 use Rattle.dvg_tool.proofs.shows.write_entries.Goals as goal
