@@ -4,8 +4,7 @@ ghost use Rattle.dvg_world.specs.Standing.{WorldAfter};
 ghost use Rattle.dvg_device.specs.Devices.{Answered, Driver, IsNewDriver, IsOneOf, PartAnswers};
 ghost use Rattle.dvg_device.specs.Devices.{PushAnswers, StageAnswers, Turned, closed, unopened};
 ghost use Rattle.dvg_device.specs.Parts.{open_of};
-ghost use Rattle.dvg_device.specs.Replies.{begins, ends, number_of, shines};
-ghost use Rattle.dvg_device.specs.declared.reply.Reply.{Reply};
+ghost use Rattle.dvg_device.specs.Replies.{begins, ends, shines};
 
 use crate::cabinet::Cabinet;
 use crate::desk::ask_driver;
@@ -87,8 +86,8 @@ impl Device {
     {
         // The most frequent ones are handled at once, so that what they bring stays in registers.
         match request % 0x100 {
-            2 => self.ask_number(Request::of(request)),
-            4 => self.ask_number(Request::of(request)),
+            2 => self.ask(Request::of(request)).number(),
+            4 => self.ask(Request::of(request)).number(),
             _ => self.answer(Request::of(request)).number(),
         }
     }
@@ -295,29 +294,6 @@ impl Device {
             }
             Part::Driver(desk) => ask_driver(desk, request, &self.draft),
             Part::Generator(generator) => ask_generator(generator, request, &mut self.picture),
-        }
-    }
-
-    // Asks what is open, and answers a number. Each answer becomes one where it is known, so that
-    // no reply is put together and taken apart.
-    #[inline(always)]
-    fn ask_number(&mut self, request: Request) -> u64
-        ensures { (reply : Reply)
-            × PartAnswers self.old.open_part request self.old self.new reply
-            × (result ≡ number_of reply) }
-    {
-        match &mut self.part {
-            Part::Nothing => unopened(request).number(),
-            Part::World(world) => {
-                let staged = self.staged.as_slice();
-                world
-                    .ask(request, &self.draft, staged, &mut self.picture)
-                    .number()
-            }
-            Part::Driver(desk) => ask_driver(desk, request, &self.draft).number(),
-            Part::Generator(generator) => {
-                ask_generator(generator, request, &mut self.picture).number()
-            }
         }
     }
 }

@@ -59,8 +59,8 @@ impl Device {
     pub fn turn(&mut self, request: u64) -> u64 {
         // The most frequent ones are handled at once, so that what they bring stays in registers.
         match request % 0x100 {
-            2 => self.ask_number(Request::of(request)),
-            4 => self.ask_number(Request::of(request)),
+            2 => self.ask(Request::of(request)).number(),
+            4 => self.ask(Request::of(request)).number(),
             _ => self.answer(Request::of(request)).number(),
         }
     }
@@ -230,25 +230,6 @@ impl Device {
             }
             Part::Driver(desk) => ask_driver(desk, request, &self.draft),
             Part::Generator(generator) => ask_generator(generator, request, &mut self.picture),
-        }
-    }
-
-    // Asks what is open, and answers a number. Each answer becomes one where it is known, so that
-    // no reply is put together and taken apart.
-    #[inline(always)]
-    fn ask_number(&mut self, request: Request) -> u64 {
-        match &mut self.part {
-            Part::Nothing => unopened(request).number(),
-            Part::World(world) => {
-                let staged = self.staged.as_slice();
-                world
-                    .ask(request, &self.draft, staged, &mut self.picture)
-                    .number()
-            }
-            Part::Driver(desk) => ask_driver(desk, request, &self.draft).number(),
-            Part::Generator(generator) => {
-                ask_generator(generator, request, &mut self.picture).number()
-            }
         }
     }
 }
