@@ -13,48 +13,59 @@ pub returns-then-first-lt40960-clause-answers : goal.returns-then-first-lt40960-
 returns-then-first-lt40960-clause-answers g c =
     let held = ap (λ m. m.held) (sym c.self.view_is) ∙ c.in-Some.is in
     let completes = subst (λ h. Completes h c.args.word c.of_two.result) (sym held) c.of_two.ensures in
-    claim_result c.draw.result c.args.word c.args.self.now c.draw.new.self c.of_two.result c.requires completes c.draw.ensures.obeyed
+    claim_result c.draw.result c.args.word c.args.self.now c.draw.new.self c.of_two.result c.requires completes
+    c.draw.ensures.obeyed
 
 pub returns-else-first-lt40960-clause-answers : goal.returns-else-first-lt40960-clause-answers
 returns-else-first-lt40960-clause-answers g c =
     let held = ap (λ m. m.held) (sym c.self.view_is) ∙ c.in-Some.is in
-    let completes = subst (λ h. Completes h c.args.word c.of_two-else-first-lt40960.result) (sym held) c.of_two-else-first-lt40960.ensures in
-    claim_result {E = OutOfMemory} (Ok c.place.result) c.args.word c.args.self.now c.place.new.self c.of_two-else-first-lt40960.result c.requires completes c.place.ensures
+    let instr = c.of_two-else-first-lt40960.result in
+    let completes = subst (λ h. Completes h c.args.word instr) (sym held) c.of_two-else-first-lt40960.ensures in
+    claim_result {E = OutOfMemory} (Ok c.place.result) c.args.word c.args.self.now c.place.new.self instr
+    c.requires completes c.place.ensures
 
 pub returns-then-word-lt45056-clause-answers : goal.returns-then-word-lt45056-clause-answers
 returns-then-word-lt45056-clause-answers g c =
     let held = ap (λ m. m.held) (sym c.self.view_is) ∙ c.in_default.is in
-    claim_first g.row.A.Denot c.args.word c.after-self-inside.result c.args.self.now _ c.requires held c.if-word-lt45056.true (c.after-self-inside.ensures ∙ ap (λ m. on m.at 1) c.self.view_is)
-    (ap {A = Machine} (λ m. record m { at = c.after-self-inside.result; held = Some c.args.word; low = None }) c.self.view_is)
+    let after = c.after-self-inside.result in
+    claim_first g.row.A.Denot c.args.word after c.args.self.now _ c.requires held c.if-word-lt45056.true
+    (c.after-self-inside.ensures ∙ ap (λ m. on m.at 1) c.self.view_is)
+    (ap {A = Machine} (λ m. record m { at = after; held = Some c.args.word; low = None }) c.self.view_is)
 
 pub returns-in-11-clause-answers : goal.returns-in-11-clause-answers
 returns-in-11-clause-answers g c =
     let held = ap (λ m. m.held) (sym c.self.view_is) ∙ c.in_default.is in
     let opcode = c.in-11.is in
-    claim_alone {E = OutOfMemory} (Ok c.finish.result) c.args.word c.args.self.now c.finish.new.self Halt c.requires held (halt (omega arith) (omega arith)) c.finish.ensures
+    claim_alone {E = OutOfMemory} (Ok c.finish.result) c.args.word c.args.self.now c.finish.new.self Halt
+    c.requires held (halt (omega arith) (omega arith)) c.finish.ensures
 
 pub returns-in-12-clause-answers : goal.returns-in-12-clause-answers
 returns-in-12-clause-answers g c =
     let held = ap (λ m. m.held) (sym c.self.view_is) ∙ c.in_default.is in
     let opcode = c.in-12.is in
     let address = c.args.word % 4096 in
-    claim_alone {E = OutOfMemory} (Ok c.call.result) c.args.word c.args.self.now c.call.new.self (Jsrl address) c.requires held (jsrl {address = address} (omega arith) (omega arith)) c.call.ensures
+    claim_alone {E = OutOfMemory} (Ok c.call.result) c.args.word c.args.self.now c.call.new.self (Jsrl address)
+    c.requires held (jsrl {address = address} (omega arith) (omega arith)) c.call.ensures
 
 pub returns-in-13-clause-answers : goal.returns-in-13-clause-answers
 returns-in-13-clause-answers g c =
     let held = ap (λ m. m.held) (sym c.self.view_is) ∙ c.in_default.is in
     let opcode = c.in-13.is in
-    claim_alone {E = OutOfMemory} (Ok c.come_back.result) c.args.word c.args.self.now c.come_back.new.self Rtsl c.requires held (rtsl (omega arith) (omega arith)) c.come_back.ensures
+    claim_alone {E = OutOfMemory} (Ok c.come_back.result) c.args.word c.args.self.now c.come_back.new.self Rtsl
+    c.requires held (rtsl (omega arith) (omega arith)) c.come_back.ensures
 
 pub returns-in-14-clause-answers : goal.returns-in-14-clause-answers
 returns-in-14-clause-answers g c =
     let held = ap (λ m. m.held) (sym c.self.view_is) ∙ c.in_default.is in
     let opcode = c.in-14.is in
     let address = c.args.word % 4096 in
-    claim_alone {E = OutOfMemory} (Ok c.jump.result) c.args.word c.args.self.now c.jump.new.self (Jmpl address) c.requires held (jmpl {address = address} (omega arith) (omega arith))
-    (jumped c.args.self.now c.jump.new.self c.jump.result address c.requires c.jump.ensures.moved c.jump.ensures.goes_on)
+    claim_alone {E = OutOfMemory} (Ok c.jump.result) c.args.word c.args.self.now c.jump.new.self (Jmpl address)
+    c.requires held (jmpl {address = address} (omega arith) (omega arith))
+    (jumped c.args.self.now c.jump.new.self c.jump.result address c.requires c.jump.ensures.moved
+    c.jump.ensures.goes_on)
 
 pub returns-in_default-2-clause-answers : goal.returns-in_default-2-clause-answers
 returns-in_default-2-clause-answers g c =
     let held = ap (λ m. m.held) (sym c.self.view_is) ∙ c.in_default.is in
-    claim_alone c.draw-in_default-2.result c.args.word c.args.self.now c.draw-in_default-2.new.self c.of_one.result c.requires held c.of_one.ensures c.draw-in_default-2.ensures.obeyed
+    claim_alone c.draw-in_default-2.result c.args.word c.args.self.now c.draw-in_default-2.new.self c.of_one.result
+    c.requires held c.of_one.ensures c.draw-in_default-2.ensures.obeyed
