@@ -1,5 +1,7 @@
 -- The table of what is drawn from each place, and how it grows.
-use Rattle.std.proofs.Common.{◌≡◌, ℕ, suc, ◌+◌, ◌-◌, ◌<◌, ◌≤◌, ◌⊎◌, inl, inr, ⊎_elim, List, [], ◌∷◌, ◌++◌, length, set, length-append, append_assoc, Option, Some, None, refl, sym, ap, ◌∙◌, subst, arith, true, false}
+use Rattle.std.proofs.Common.{◌≡◌, ℕ, suc, ◌+◌, ◌-◌, ◌<◌, ◌≤◌, ◌⊎◌, inl, inr, ⊎_elim, Option, Some, None, true, false}
+use Rattle.std.proofs.Common.{List, [], ◌∷◌, ◌++◌, length, set, length-append, append_assoc, refl, sym, ap, ◌∙◌, subst}
+use Rattle.std.proofs.Common.{arith}
 use Rattle.std.specs.Prelude.{IsSome}
 use Rattle.std.proofs.lemmas.Bool.{cases_lt, cases_eq}
 use Rattle.dvg_code.specs.Spelling.{word_count}
@@ -18,17 +20,21 @@ use Rattle.dvg_frame.specs.declared.checking.way.Way.{Way}
 use Rattle.dvg_frame.specs.declared.checking.way.Way.TheVariants.{Move, Jump, Call, Return, Halt}
 use Rattle.dvg_frame.specs.declared.fault.FrameFault.TheVariants.{RunsOff, OutOfRom, TooDeep, NoCaller}
 use Rattle.dvg_frame.specs.own.Pairs.{IsPlace, pair_of, place_index}
-use Rattle.dvg_frame.specs.Steps.{Stands, last, target, second, past, deep, bare, IsFine, Leads, on, jump, call, back, Reached, step, Begins}
+use Rattle.dvg_frame.specs.Steps.{Stands, last, target, second, past, deep, bare, IsFine, Leads, on, jump, call, back}
+use Rattle.dvg_frame.specs.Steps.{Reached, step, Begins}
 use Rattle.dvg_frame.specs.Picture.{End, AtHalt, AtReturn}
 use Rattle.dvg_frame.specs.Loops.{Walks, none, more, HasLoop}
 use Rattle.dvg_frame.specs.own.Ways.{way, StandsSo, IsPlaceOf, EndsWithin}
-use Rattle.dvg_frame.specs.own.Tables.{AllFine, Knows, known_at, HasPlace, KeepsKnown, end_of, FitsAt, IsDrawnFrom, IsKnown, IsTable, Next, StepsOn, IsGood, IsReady, Linked, IsChain, HasChain, onward, IsLonger, IsCalled, places}
+use Rattle.dvg_frame.specs.own.Tables.{AllFine, Knows, known_at, HasPlace, KeepsKnown, end_of, FitsAt, IsDrawnFrom}
+use Rattle.dvg_frame.specs.own.Tables.{IsKnown, IsTable, Next, StepsOn, IsGood, IsReady, Linked, IsChain, HasChain}
+use Rattle.dvg_frame.specs.own.Tables.{onward, IsLonger, IsCalled, places}
 use Rattle.dvg_frame.proofs.Judged.{same_standing}
 use Rattle.dvg_frame.proofs.Marks.{same_place}
 use Rattle.dvg_frame.proofs.Knowing.{put_here, put_other}
 use Rattle.dvg_frame.proofs.Swept.{few_ops, in_place, after_in, target_in, reached_pair}
 use Rattle.dvg_frame.proofs.Walks.{goes_from, goes_once, leads_from}
-use Rattle.dvg_frame.proofs.Bounded.{Drawn as DrawnSo, drawn_moves, drawn_jumps, drawn_call_halts, drawn_calls, drawn_returns, drawn_halts}
+use Rattle.dvg_frame.proofs.Bounded.{Drawn as DrawnSo, drawn_moves, drawn_jumps, drawn_call_halts, drawn_calls}
+use Rattle.dvg_frame.proofs.Bounded.{drawn_returns, drawn_halts}
 
 -- what stands where a way leads on
 abbrev pub StandsAs : (F : List OpKind) (R : List ℕ) → Place → Way → Type 0
@@ -53,7 +59,8 @@ module _ (F : List OpKind) (R : List ℕ) where
   abbrev pub Ends : Place → Type 0
   Ends p = (k : ℕ) × ((d : ℕ) (q : Place) → ¬ Walks F R d p k q)
 
-  first_step : {d k : ℕ} {p q : Place} → Walks F R d p (suc k) q → (next : Place) × Leads F R p d next d × Walks F R d next k q
+  first_step : {d k : ℕ} {p q : Place} → Walks F R d p (suc k) q
+      → (next : Place) × Leads F R p d next d × Walks F R d next k q
   first_step (more {q = next} leads walk) = (next, leads, walk)
 
   ends_more : (p q : Place) → StepsOn F R p q → Ends q → Ends p
@@ -78,32 +85,49 @@ module _ (F : List OpKind) (R : List ℕ) where
   goes_call {after = after} stands = record { act = _; after = after; stands = stands; next = refl }
 
   stops_back : {p after q : Place} → Stands F R p GoesBack after → StepsOn F R p q → ⊥
-  stops_back {q = q} stands goes = let same = same_standing goes.stands stands in subst (λ x. Next x goes.after q) same.0 goes.next
+  stops_back {q = q} stands goes =
+      let same = same_standing goes.stands stands in
+      subst (λ x. Next x goes.after q) same.0 goes.next
 
   stops_halt : {p after q : Place} → Stands F R p Stops after → StepsOn F R p q → ⊥
-  stops_halt {q = q} stands goes = let same = same_standing goes.stands stands in subst (λ x. Next x goes.after q) same.0 goes.next
+  stops_halt {q = q} stands goes =
+      let same = same_standing goes.stands stands in
+      subst (λ x. Next x goes.after q) same.0 goes.next
 
   -- a place that is fine at one depth, at another one
-  fine_at : {p : Place} {act : Act Place} {after : Place} (d e : ℕ) → Stands F R p act after → IsFine F R p d → ((to : Place) → act ≡ Calls to → e ≡ 4 → ⊥) → (act ≡ GoesBack → e ≡ 0 → ⊥) → IsFine F R p e
+  fine_at : {p : Place} {act : Act Place} {after : Place} (d e : ℕ) → Stands F R p act after → IsFine F R p d
+      → ((to : Place) → act ≡ Calls to → e ≡ 4 → ⊥) → (act ≡ GoesBack → e ≡ 0 → ⊥) → IsFine F R p e
   fine_at d e stands fine not_deep not_bare fault (last {i = i} stood goes end) = fine (RunsOff i) (last stood goes end)
-  fine_at {p} d e stands fine not_deep not_bare fault (target a stood named outside) = fine (OutOfRom p) (target a stood named outside)
-  fine_at {p} d e stands fine not_deep not_bare fault (second is first outside) = fine (OutOfRom p) (second is first outside)
-  fine_at {p} d e stands fine not_deep not_bare fault (past stood goes outside) = fine (OutOfRom p) (past stood goes outside)
-  fine_at d e stands fine not_deep not_bare fault (deep {to = to} stood depth) = not_deep to (same_standing stands stood).0 depth
+  fine_at {p} d e stands fine not_deep not_bare fault (target a stood named outside) =
+      fine (OutOfRom p) (target a stood named outside)
+  fine_at {p} d e stands fine not_deep not_bare fault (second is first outside) =
+      fine (OutOfRom p) (second is first outside)
+  fine_at {p} d e stands fine not_deep not_bare fault (past stood goes outside) =
+      fine (OutOfRom p) (past stood goes outside)
+  fine_at d e stands fine not_deep not_bare fault (deep {to = to} stood depth) =
+      not_deep to (same_standing stands stood).0 depth
   fine_at d e stands fine not_deep not_bare fault (bare stood depth) = not_bare (same_standing stands stood).0 depth
 
   -- a step of what calls nothing stays at its depth
-  stays : {p q r : Place} {act : Act Place} {after : Place} {d e : ℕ} → Stands F R p act after → ((to : Place) → act ≡ Calls to → ⊥) → StepsOn F R p q → Leads F R p d r e → (e ≡ d) × (q ≡ r)
-  stays {p = p} {q = q} {r = r} {d = d} stands no_call goes (on stood) = (refl, goes_once F R p q r goes (goes_from F R {d = d} (on stood)))
-  stays {p = p} {q = q} {r = r} {d = d} stands no_call goes (jump stood) = (refl, goes_once F R p q r goes (goes_from F R {d = d} (jump stood)))
+  stays : {p q r : Place} {act : Act Place} {after : Place} {d e : ℕ} → Stands F R p act after
+      → ((to : Place) → act ≡ Calls to → ⊥) → StepsOn F R p q → Leads F R p d r e → (e ≡ d) × (q ≡ r)
+  stays {p = p} {q = q} {r = r} {d = d} stands no_call goes (on stood) =
+      (refl, goes_once F R p q r goes (goes_from F R {d = d} (on stood)))
+  stays {p = p} {q = q} {r = r} {d = d} stands no_call goes (jump stood) =
+      (refl, goes_once F R p q r goes (goes_from F R {d = d} (jump stood)))
   stays stands no_call goes (call {q = to} stood) = absurd (no_call to (same_standing stands stood).0)
-  stays {p = p} {q = q} {r = r} {d = d} stands no_call goes (back stood) = (refl, goes_once F R p q r goes (goes_from F R {d = d} (back stood)))
+  stays {p = p} {q = q} {r = r} {d = d} stands no_call goes (back stood) =
+      (refl, goes_once F R p q r goes (goes_from F R {d = d} (back stood)))
 
   -- a step of a call leads to its target one deeper, or to the place after it
-  from_call : {p to after r : Place} {d e : ℕ} → Stands F R p (Calls to) after → Leads F R p d r e → ((e ≡ suc d) × (to ≡ r)) ⊎ ((e ≡ d) × (after ≡ r))
+  from_call : {p to after r : Place} {d e : ℕ} → Stands F R p (Calls to) after → Leads F R p d r e
+      → ((e ≡ suc d) × (to ≡ r)) ⊎ ((e ≡ d) × (after ≡ r))
   from_call stands (on stood) = let same = (same_standing stands stood).0 in absurd cc
   from_call stands (jump stood) = let same = (same_standing stands stood).0 in absurd cc
-  from_call {to = to} stands (call {q = other} stood) = let same = (same_standing stands stood).0 in let there : to ≡ other = cc in inl (refl, there)
+  from_call {to = to} stands (call {q = other} stood) =
+      let same = (same_standing stands stood).0 in
+      let there : to ≡ other = cc in
+      inl (refl, there)
   from_call stands (back stood) = inr (refl, (same_standing stands stood).1)
 
   -- nothing leads on from a return or a halt
@@ -121,13 +145,22 @@ module _ (F : List OpKind) (R : List ℕ) where
 
 -- what fits, by what it leads on to
 longer_fits : (rest : Drawn) (extra : ℕ) (new : Drawn) (d : ℕ) → IsLonger rest extra new → FitsAt new d → FitsAt rest d
-longer_fits rest extra new d longer fits = let calls = longer.calls in let low = fits.deep in record { deep = omega arith; back = λ is. fits.back (longer.returns ∙ is) }
+longer_fits rest extra new d longer fits =
+    let calls = longer.calls in
+    let low = fits.deep in
+    record { deep = omega arith; back = λ is. fits.back (longer.returns ∙ is) }
 
 fits_longer : (rest : Drawn) (extra : ℕ) (new : Drawn) (d : ℕ) → IsLonger rest extra new → FitsAt rest d → FitsAt new d
-fits_longer rest extra new d longer fits = let calls = longer.calls in let low = fits.deep in record { deep = omega arith; back = λ is. fits.back (sym longer.returns ∙ is) }
+fits_longer rest extra new d longer fits =
+    let calls = longer.calls in
+    let low = fits.deep in
+    record { deep = omega arith; back = λ is. fits.back (sym longer.returns ∙ is) }
 
 rest_fits : (inside rest new : Drawn) (d : ℕ) → IsCalled inside rest new → FitsAt new d → FitsAt rest d
-rest_fits inside rest new d called fits = let calls = called.behind in let low = fits.deep in record { deep = omega arith; back = λ is. fits.back (called.returns ∙ is) }
+rest_fits inside rest new d called fits =
+    let calls = called.behind in
+    let low = fits.deep in
+    record { deep = omega arith; back = λ is. fits.back (called.returns ∙ is) }
 
 inside_fits : (inside rest new : Drawn) (d : ℕ) → IsCalled inside rest new → FitsAt new d → FitsAt inside (suc d)
 inside_fits inside rest new d called fits =
@@ -135,19 +168,22 @@ inside_fits inside rest new d called fits =
     let calls = called.deeper (omega arith) in
     record { deep = omega arith; back = λ is. omega arith }
 
-fits_called : (inside rest new : Drawn) (d : ℕ) → IsCalled inside rest new → FitsAt inside (suc d) → FitsAt rest d → FitsAt new d
+fits_called : (inside rest new : Drawn) (d : ℕ) → IsCalled inside rest new → FitsAt inside (suc d) → FitsAt rest d
+    → FitsAt new d
 fits_called inside rest new d called deeper fits =
     let high = deeper.deep in
     let low = fits.deep in
     let calls = called.least (4 - d) (omega arith) (omega arith) in
     record { deep = omega arith; back = λ is. fits.back (sym called.returns ∙ is) }
 
-module _ (F : List OpKind) (R : List ℕ) (table : List (Option Drawn)) (p : Place) (d : ℕ) (rest : Drawn) (ready : IsReady F R table p d rest) where
+module _ (F : List OpKind) (R : List ℕ) (table : List (Option Drawn)) (p : Place) (d : ℕ) (rest : Drawn)
+    (ready : IsReady F R table p d rest) where
   goes_place : (q : Place) → StepsOn F R p q → IsPlace q
   goes_place q goes = (ready.next q goes).0
 
   -- from an act that leads to one place alone
-  module _ (act : Act Place) (after q : Place) (new : Drawn) (longer_by : ℕ) (stands : Stands F R p act after) (no_call : (to : Place) → act ≡ Calls to → ⊥) (no_back : act ≡ GoesBack → ⊥) (goes : StepsOn F R p q)
+  module _ (act : Act Place) (after q : Place) (new : Drawn) (longer_by : ℕ) (stands : Stands F R p act after)
+      (no_call : (to : Place) → act ≡ Calls to → ⊥) (no_back : act ≡ GoesBack → ⊥) (goes : StepsOn F R p q)
       (longer : IsLonger rest longer_by new)
       (counted : (end : End) (n : ℕ) → DrawnSo F R q end n → DrawnSo F R p end (n + longer_by)) where
     is : known_at table q ≡ Some rest
@@ -167,17 +203,21 @@ module _ (F : List OpKind) (R : List ℕ) (table : List (Option Drawn)) (p : Pla
             known = subst (λ x. known_at table x ≡ Some rest) same.1 is;
             fits = subst (FitsAt rest) (sym same.0) (longer_fits rest longer_by new e longer fits);
           };
-      tight = λ all e reached. fits_longer rest longer_by new e longer (below.tight all e (step reached (all p e reached) (leads_from F R p q e goes)));
+      tight = λ all e reached.
+          let next = step reached (all p e reached) (leads_from F R p q e goes) in
+          fits_longer rest longer_by new e longer (below.tight all e next);
       draws = record {
         count = below.draws.count + longer_by;
         few = λ low. let words = below.draws.few (omega arith) in let sum = longer.sum (omega arith) in omega arith;
-        draws = subst (λ e. DrawnSo F R p (end_of e) (below.draws.count + longer_by)) (sym longer.end) (counted (end_of rest.end) below.draws.count below.draws.draws);
+        draws = subst (λ e. DrawnSo F R p (end_of e) (below.draws.count + longer_by)) (sym longer.end)
+            (counted (end_of rest.end) below.draws.count below.draws.draws);
         ends = ends_more F R p q goes below.draws.ends;
       };
     }
 
   -- from a call
-  module _ (to after : Place) (inside new : Drawn) (stands : Stands F R p (Calls to) after) (inside_is : known_at table to ≡ Some inside) (called : IsCalled inside rest new) where
+  module _ (to after : Place) (inside new : Drawn) (stands : Stands F R p (Calls to) after)
+      (inside_is : known_at table to ≡ Some inside) (called : IsCalled inside rest new) where
     deeper : IsKnown F R table to inside
     deeper = ready.entries to inside (ready.inside to after stands).0 inside_is
 
@@ -190,26 +230,36 @@ module _ (F : List OpKind) (R : List ℕ) (table : List (Option Drawn)) (p : Pla
     call_draws : (end : Ending) → inside.end ≡ end → IsDrawnFrom F R p new
     call_draws Halts ends =
         let by = called.halts ends in
-        let drew : DrawnSo F R to AtHalt deeper.draws.count = subst (λ e. DrawnSo F R to (end_of e) deeper.draws.count) ends deeper.draws.draws in
+        let drew : DrawnSo F R to AtHalt deeper.draws.count =
+        subst (λ e. DrawnSo F R to (end_of e) deeper.draws.count) ends deeper.draws.draws in
         record {
           count = suc deeper.draws.count;
           few = λ low. let words = deeper.draws.few (omega arith) in let sum = by.1 (omega arith) in omega arith;
-          draws = subst (λ e. DrawnSo F R p (end_of e) (suc deeper.draws.count)) (sym by.0) (drawn_call_halts F R deeper.draws.count stands drew);
+          draws = subst (λ e. DrawnSo F R p (end_of e) (suc deeper.draws.count)) (sym by.0)
+              (drawn_call_halts F R deeper.draws.count stands drew);
           ends = ends_more F R p after (goes_call F R stands) behind.draws.ends;
         }
     call_draws Returns ends =
         let by = called.goes_on ends in
-        let drew : DrawnSo F R to AtReturn deeper.draws.count = subst (λ e. DrawnSo F R to (end_of e) deeper.draws.count) ends deeper.draws.draws in
+        let drew : DrawnSo F R to AtReturn deeper.draws.count =
+        subst (λ e. DrawnSo F R to (end_of e) deeper.draws.count) ends deeper.draws.draws in
         record {
           count = suc (deeper.draws.count + behind.draws.count);
-          few = λ low. let words = deeper.draws.few (omega arith) in let others = behind.draws.few (omega arith) in let sum = by.1 (omega arith) in omega arith;
-          draws = subst (λ e. DrawnSo F R p (end_of e) (suc (deeper.draws.count + behind.draws.count))) (sym by.0) (drawn_calls F R (end_of rest.end) deeper.draws.count behind.draws.count stands drew behind.draws.draws);
+          few = λ low.
+              let words = deeper.draws.few (omega arith) in
+              let others = behind.draws.few (omega arith) in
+              let sum = by.1 (omega arith) in
+              omega arith;
+          draws = subst (λ e. DrawnSo F R p (end_of e) (suc (deeper.draws.count + behind.draws.count))) (sym by.0)
+              (drawn_calls F R (end_of rest.end) deeper.draws.count behind.draws.count stands drew behind.draws.draws);
           ends = ends_more F R p after (goes_call F R stands) behind.draws.ends;
         }
 
     known_call : IsKnown F R table p new
     known_call = record {
-      fine = λ e fits. fine_at F R d e stands ready.good.fine (λ to is deepest. let low = (inside_fits inside rest new e called fits).deep in omega arith) (λ is bare. cc);
+      fine = λ e fits.
+          let low = (inside_fits inside rest new e called fits).deep in
+          fine_at F R d e stands ready.good.fine (λ to is deepest. omega arith) (λ is bare. cc);
       leads = λ e r k fits leads.
           ⊎_elim
           (λ same. record {
@@ -226,7 +276,9 @@ module _ (F : List OpKind) (R : List ℕ) (table : List (Option Drawn)) (p : Pla
           })
           (from_call F R stands leads);
       tight = λ all e reached.
-          fits_called inside rest new e called (deeper.tight all (suc e) (step reached (all p e reached) (call stands))) (behind.tight all e (step reached (all p e reached) (back stands)));
+          let fine = all p e reached in
+          fits_called inside rest new e called (deeper.tight all (suc e) (step reached fine (call stands)))
+          (behind.tight all e (step reached fine (back stands)));
       draws = call_draws inside.end refl;
     }
 
@@ -234,18 +286,23 @@ module _ (F : List OpKind) (R : List ℕ) (table : List (Option Drawn)) (p : Pla
   reached_low e reached = (reached_pair F R (few_ops F ready.begins) ready.begins (pair_of p e) reached).depth
 
   -- from a return, and from a halt
-  known_return : (after : Place) (new : Drawn) → Stands F R p GoesBack after → new ≡ record { words = 1; end = Returns; returns = true; calls = 0 } → IsKnown F R table p new
+  known_return : (after : Place) (new : Drawn) → Stands F R p GoesBack after
+      → new ≡ record { words = 1; end = Returns; returns = true; calls = 0 } → IsKnown F R table p new
   known_return after new stands is =
       let words = ap (λ x. x.words) is in
       let end = ap (λ x. x.end) is in
       let returns = ap (λ x. x.returns) is in
       let calls = ap (λ x. x.calls) is in
       record {
-        fine = λ e fits. fine_at F R d e stands ready.good.fine (λ to same. absurd cc) (λ same bare. let some = fits.back returns in omega arith);
+        fine = λ e fits.
+            let some = fits.back returns in
+            fine_at F R d e stands ready.good.fine (λ to same. absurd cc) (λ same bare. omega arith);
         leads = λ e r k fits leads. absurd (from_back F R stands leads);
         tight = λ all e reached. record {
           deep = let low = reached_low e reached in omega arith;
-          back = λ some. ⊎_elim (λ less. less) (λ no_less. absurd (all p e reached (NoCaller p) (bare stands (omega arith)))) (cases_lt 0 e);
+          back = λ some.
+              ⊎_elim (λ less. less) (λ no_less. absurd (all p e reached (NoCaller p) (bare stands (omega arith))))
+              (cases_lt 0 e);
         };
         draws = record {
           count = 1;
@@ -255,7 +312,8 @@ module _ (F : List OpKind) (R : List ℕ) (table : List (Option Drawn)) (p : Pla
         };
       }
 
-  known_halt : (after : Place) (new : Drawn) → Stands F R p Stops after → new ≡ record { words = 1; end = Halts; returns = false; calls = 0 } → IsKnown F R table p new
+  known_halt : (after : Place) (new : Drawn) → Stands F R p Stops after
+      → new ≡ record { words = 1; end = Halts; returns = false; calls = 0 } → IsKnown F R table p new
   known_halt after new stands is =
       let words = ap (λ x. x.words) is in
       let end = ap (λ x. x.end) is in
@@ -284,40 +342,54 @@ module _ (F : List OpKind) (R : List ℕ) (table : List (Option Drawn)) (p : Pla
     pub call_has : (to after : Place) → seen ≡ Call to after → HasPlace table to
     call_has to after is = ready.inside to after (seen_as (Call to after) is)
 
-    pub by_move : (after : Place) (words : ℕ) (new : Drawn) → seen ≡ Move after words → IsLonger rest words new → IsKnown F R table p new
+    pub by_move : (after : Place) (words : ℕ) (new : Drawn) → seen ≡ Move after words → IsLonger rest words new
+        → IsKnown F R table p new
     by_move after words new is longer =
         let it = seen_as (Move after words) is in
         known_on (Moves it.0) after after new words it.1 (λ to same. cc) (λ same. cc) (goes_move F R it.1) longer
-        (λ end n drawn. let sum : word_count it.0 + n ≡ n + words = let count = it.2 in omega arith in subst (DrawnSo F R p end) sum (drawn_moves F R end n it.1 drawn))
+        (λ end n drawn.
+        let count = it.2 in
+        let sum : word_count it.0 + n ≡ n + words = omega arith in
+        subst (DrawnSo F R p end) sum (drawn_moves F R end n it.1 drawn))
 
     pub by_jump : (to : Place) (new : Drawn) → seen ≡ Jump to → IsLonger rest 1 new → IsKnown F R table p new
     by_jump to new is longer =
         let it = seen_as (Jump to) is in
         known_on (Jumps to) it.0 to new 1 it.1 (λ other same. cc) (λ same. cc) (goes_jump F R it.1) longer
-        (λ end n drawn. let sum : suc n ≡ n + 1 = omega arith in subst (DrawnSo F R p end) sum (drawn_jumps F R end n it.1 drawn))
+        (λ end n drawn.
+        let sum : suc n ≡ n + 1 = omega arith in
+        subst (DrawnSo F R p end) sum (drawn_jumps F R end n it.1 drawn))
 
-    pub by_call : (to after : Place) (inside new : Drawn) → seen ≡ Call to after → known_at table to ≡ Some inside → IsCalled inside rest new → IsKnown F R table p new
-    by_call to after inside new is inside_is called = known_call to after inside new (seen_as (Call to after) is) inside_is called
+    pub by_call : (to after : Place) (inside new : Drawn) → seen ≡ Call to after → known_at table to ≡ Some inside
+        → IsCalled inside rest new → IsKnown F R table p new
+    by_call to after inside new is inside_is called =
+        known_call to after inside new (seen_as (Call to after) is) inside_is called
 
-    pub by_return : (new : Drawn) → seen ≡ Return → new ≡ record { words = 1; end = Returns; returns = true; calls = 0 } → IsKnown F R table p new
+    pub by_return : (new : Drawn) → seen ≡ Return → new ≡ record { words = 1; end = Returns; returns = true; calls = 0 }
+        → IsKnown F R table p new
     by_return new is new_is = let it = seen_as Return is in known_return it.0 new it.1 new_is
 
-    pub by_halt : (new : Drawn) → seen ≡ Halt → new ≡ record { words = 1; end = Halts; returns = false; calls = 0 } → IsKnown F R table p new
+    pub by_halt : (new : Drawn) → seen ≡ Halt → new ≡ record { words = 1; end = Halts; returns = false; calls = 0 }
+        → IsKnown F R table p new
     by_halt new is new_is = let it = seen_as Halt is in known_halt it.0 new it.1 new_is
 
   pub here_place : IsPlace p
   here_place = in_place F R p ready.good.inside
 
 -- what is known stays so where the table keeps what it has
-pub known_keeps : (F : List OpKind) (R : List ℕ) (old new : List (Option Drawn)) (p : Place) (drawn : Drawn) → KeepsKnown old new → IsKnown F R old p drawn → IsKnown F R new p drawn
+pub known_keeps : (F : List OpKind) (R : List ℕ) (old new : List (Option Drawn)) (p : Place) (drawn : Drawn)
+    → KeepsKnown old new → IsKnown F R old p drawn → IsKnown F R new p drawn
 known_keeps F R old new p drawn keeps known = record {
   fine = known.fine;
-  leads = λ d q e fits leads. let to = known.leads d q e fits leads in record { inside = to.inside; drawn = to.drawn; known = keeps q to.drawn to.inside to.known; fits = to.fits };
+  leads = λ d q e fits leads.
+      let to = known.leads d q e fits leads in
+      record { inside = to.inside; drawn = to.drawn; known = keeps q to.drawn to.inside to.known; fits = to.fits };
   tight = known.tight;
   draws = known.draws;
 }
 
-pub knows_keeps : (old new : List (Option Drawn)) (p : Place) (drawn : Drawn) → KeepsKnown old new → Knows old p drawn → Knows new p drawn
+pub knows_keeps : (old new : List (Option Drawn)) (p : Place) (drawn : Drawn) → KeepsKnown old new → Knows old p drawn
+    → Knows new p drawn
 knows_keeps old new p drawn keeps knows = (knows.0, keeps p drawn knows.0 knows.1)
 
 pub keeps_same : (table : List (Option Drawn)) → KeepsKnown table table
@@ -327,7 +399,9 @@ pub keeps_both : (a b c : List (Option Drawn)) → KeepsKnown a b → KeepsKnown
 keeps_both a b c one two p drawn inside is = two p drawn inside (one p drawn inside is)
 
 -- one more place
-module _ (table new : List (Option Drawn)) (p : Place) (drawn : Drawn) (inside : IsPlace p) (none_there : known_at table p ≡ None) (size : length table ≡ PLACES) (is : new ≡ set table (place_index p) (Some drawn)) where
+module _ (table new : List (Option Drawn)) (p : Place) (drawn : Drawn) (inside : IsPlace p)
+    (none_there : known_at table p ≡ None) (size : length table ≡ PLACES)
+    (is : new ≡ set table (place_index p) (Some drawn)) where
   here_is : known_at new p ≡ Some drawn
   here_is = put_here table new p (Some drawn) inside size is
 
@@ -351,12 +425,16 @@ module _ (table new : List (Option Drawn)) (p : Place) (drawn : Drawn) (inside :
       let same : p ≡ q = same_place p q inside there same_index in
       let one : Some drawn ≡ Some other = sym here_is ∙ ap (known_at new) same ∙ has in
       let one_drawn : drawn ≡ other = cc in
-      subst (λ x. IsKnown F R new x other) same (subst (IsKnown F R new p) one_drawn (known_keeps F R table new p drawn put_keeps known)))
-      (λ differ. known_keeps F R table new q other put_keeps (entries q other there (sym (put_other table new p q (Some drawn) inside there (λ same. differ (ap place_index same)) is) ∙ has)))
+      let kept = known_keeps F R table new p drawn put_keeps known in
+      subst (λ x. IsKnown F R new x other) same (subst (IsKnown F R new p) one_drawn kept))
+      (λ differ.
+      let before = put_other table new p q (Some drawn) inside there (λ same. differ (ap place_index same)) is in
+      known_keeps F R table new q other put_keeps (entries q other there (sym before ∙ has)))
       (cases_eq (place_index p) (place_index q))
 
 -- where a way leads on
-pub onward_goes : (F : List OpKind) (R : List ℕ) (p next : Place) (seen : Way) → StandsSo F R p seen → onward seen ≡ Some next → StepsOn F R p next
+pub onward_goes : (F : List OpKind) (R : List ℕ) (p next : Place) (seen : Way) → StandsSo F R p seen
+    → onward seen ≡ Some next → StepsOn F R p next
 onward_goes F R p next seen so is = by_way seen (stands_as F R p seen so) is
   where
     by_way : (seen : Way) → StandsAs F R p seen → onward seen ≡ Some next → StepsOn F R p next
@@ -366,7 +444,8 @@ onward_goes F R p next seen so is = by_way seen (stands_as F R p seen so) is
     by_way Return it is = absurd cc
     by_way Halt it is = absurd cc
 
-pub onward_nowhere : (F : List OpKind) (R : List ℕ) (p : Place) (seen : Way) → StandsSo F R p seen → onward seen ≡ None → ((q : Place) → ¬ StepsOn F R p q)
+pub onward_nowhere : (F : List OpKind) (R : List ℕ) (p : Place) (seen : Way) → StandsSo F R p seen → onward seen ≡ None
+    → ((q : Place) → ¬ StepsOn F R p q)
 onward_nowhere F R p seen so is = by_way seen (stands_as F R p seen so) is
   where
     by_way : (seen : Way) → StandsAs F R p seen → onward seen ≡ None → ((q : Place) → ¬ StepsOn F R p q)
@@ -377,18 +456,21 @@ onward_nowhere F R p seen so is = by_way seen (stands_as F R p seen so) is
     by_way Halt it is = λ q goes. stops_halt F R it.1 goes
 
 -- a place that calls, at a depth at which it has no fault
-pub call_stands : (F : List OpKind) (R : List ℕ) (p to after : Place) (seen : Way) → StandsSo F R p seen → seen ≡ Call to after → Stands F R p (Calls to) after
+pub call_stands : (F : List OpKind) (R : List ℕ) (p to after : Place) (seen : Way) → StandsSo F R p seen
+    → seen ≡ Call to after → Stands F R p (Calls to) after
 call_stands F R p to after seen so is = subst (StandsAs F R p) is (stands_as F R p seen so)
 
 module _ (F : List OpKind) (R : List ℕ) (d : ℕ) where
   pub not_within : (p : Place) → IsFine F R p d → EndsWithin R p → ⊥
   not_within (InFrame i) fine never = never
-  not_within (InRom a) fine it = fine (OutOfRom (InRom a)) (second it.1 it.2 (none_there R (a + 1) (inr (omega (arith, it.3)))))
+  not_within (InRom a) fine it =
+      fine (OutOfRom (InRom a)) (second it.1 it.2 (none_there R (a + 1) (inr (omega (arith, it.3)))))
 
   pub good_by : (p : Place) → IsPlaceOf F R p → IsFine F R p d → (AllFine F R → Reached F R p d) → IsGood F R d p
   good_by p inside fine reached = record { inside = inside; fine = fine; reached = reached }
 
-pub has_some : (table : List (Option Drawn)) (p : Place) (known : Option Drawn) → IsPlace p → known_at table p ≡ known → IsSome known → HasPlace table p
+pub has_some : (table : List (Option Drawn)) (p : Place) (known : Option Drawn) → IsPlace p → known_at table p ≡ known
+    → IsSome known → HasPlace table p
 has_some table p None inside at some = absurd cc
 has_some table p (Some drawn) inside at some = (inside, (drawn, at))
 
@@ -398,9 +480,12 @@ module _ (F : List OpKind) (R : List ℕ) (begins : Begins F) (d : ℕ) where
   goes_in p q fine goes = by_goes goes.act goes.after goes.stands goes.next
     where
       by_goes : (act : Act Place) (after : Place) → Stands F R p act after → Next act after q → IsPlaceOf F R q
-      by_goes (Moves instr) after stands is = subst (IsPlaceOf F R) is (after_in F R (few_ops F begins) begins d stands tt fine)
-      by_goes (Jumps to) after stands is = subst (IsPlaceOf F R) is (target_in F R (few_ops F begins) begins to d stands refl fine)
-      by_goes (Calls to) after stands is = subst (IsPlaceOf F R) is (after_in F R (few_ops F begins) begins d stands tt fine)
+      by_goes (Moves instr) after stands is =
+          subst (IsPlaceOf F R) is (after_in F R (few_ops F begins) begins d stands tt fine)
+      by_goes (Jumps to) after stands is =
+          subst (IsPlaceOf F R) is (target_in F R (few_ops F begins) begins to d stands refl fine)
+      by_goes (Calls to) after stands is =
+          subst (IsPlaceOf F R) is (after_in F R (few_ops F begins) begins d stands tt fine)
       by_goes GoesBack after stands is = absurd is
       by_goes Stops after stands is = absurd is
 
@@ -413,39 +498,54 @@ module _ (F : List OpKind) (R : List ℕ) (begins : Begins F) (d : ℕ) where
   pub call_low : (p to after : Place) → IsGood F R d p → Stands F R p (Calls to) after → d ≡ 4 → ⊥
   call_low p to after good stands deepest = good.fine (TooDeep p) (deep stands deepest)
 
-  pub call_reached : (p to after : Place) → IsGood F R d p → Stands F R p (Calls to) after → AllFine F R → Reached F R to (d + 1)
+  pub call_reached : (p to after : Place) → IsGood F R d p → Stands F R p (Calls to) after → AllFine F R
+      → Reached F R to (d + 1)
   call_reached p to after good stands all =
       let one : suc d ≡ d + 1 = omega arith in
       subst (Reached F R to) one (step (good.reached all) good.fine (call stands))
 
-  linked_walk : (start end : Place) (pairs : List Pair) → Linked F R d start pairs end → Walks F R d start (length pairs) end
+  linked_walk : (start end : Place) (pairs : List Pair) → Linked F R d start pairs end
+      → Walks F R d start (length pairs) end
   linked_walk start end [] linked = subst (λ x. Walks F R d start 0 x) linked none
   linked_walk start end (pair ∷ pairs) linked =
       let rest = linked.2 in
       let walk = linked_walk rest.0 end pairs rest.2 in
-      subst (λ x. Walks F R d x (suc (length pairs)) end) (sym linked.0) (more (leads_from F R pair.place rest.0 d rest.1) walk)
+      subst (λ x. Walks F R d x (suc (length pairs)) end) (sym linked.0)
+      (more (leads_from F R pair.place rest.0 d rest.1) walk)
 
-  pub linked_push : (start end next : Place) (pairs : List Pair) (pair : Pair) → pair.place ≡ end → Linked F R d start pairs end → IsGood F R d end → StepsOn F R end next → Linked F R d start (pairs ++ pair ∷ []) next
+  pub linked_push : (start end next : Place) (pairs : List Pair) (pair : Pair) → pair.place ≡ end
+      → Linked F R d start pairs end → IsGood F R d end → StepsOn F R end next
+      → Linked F R d start (pairs ++ pair ∷ []) next
   linked_push start end next [] pair same linked good goes =
-      (linked ∙ sym same, subst (IsGood F R d) (sym same) good, (next, subst (λ x. StepsOn F R x next) (sym same) goes, refl))
+      let goes_on = subst (λ x. StepsOn F R x next) (sym same) goes in
+      (linked ∙ sym same, subst (IsGood F R d) (sym same) good, (next, goes_on, refl))
   linked_push start end next (first ∷ pairs) pair same linked good goes =
-      let rest = linked.2 in (linked.0, linked.1, (rest.0, rest.1, linked_push rest.0 end next pairs pair same rest.2 good goes))
+      let rest = linked.2 in
+      (linked.0, linked.1, (rest.0, rest.1, linked_push rest.0 end next pairs pair same rest.2 good goes))
 
-  pub linked_loops : (start end : Place) (pairs : List Pair) → (AllFine F R → Reached F R start d) → Linked F R d start pairs end → length pairs ≡ 1 + places F R → AllFine F R → HasLoop F R
+  pub linked_loops : (start end : Place) (pairs : List Pair) → (AllFine F R → Reached F R start d)
+      → Linked F R d start pairs end → length pairs ≡ 1 + places F R → AllFine F R → HasLoop F R
   linked_loops start end pairs reached linked count all =
-      record { place = start; depth = d; end = end; reached = reached all; walk = subst (λ k. Walks F R d start k end) count (linked_walk start end pairs linked) }
+      let walk = subst (λ k. Walks F R d start k end) count (linked_walk start end pairs linked) in
+      record { place = start; depth = d; end = end; reached = reached all; walk = walk }
 
   -- pairs up to a place that the table has, or to one that leads nowhere
-  pub chain_to : (table : List (Option Drawn)) (drawn : Drawn) (start end : Place) (pairs : List Pair) → Linked F R d start pairs end → Knows table end drawn → IsChain F R table d drawn start pairs
+  pub chain_to : (table : List (Option Drawn)) (drawn : Drawn) (start end : Place) (pairs : List Pair)
+      → Linked F R d start pairs end → Knows table end drawn → IsChain F R table d drawn start pairs
   chain_to table drawn start end [] linked knows = subst (λ x. Knows table x drawn) (sym linked) knows
-  chain_to table drawn start end (pair ∷ pairs) linked knows = let rest = linked.2 in (linked.0, linked.1, inl (rest.0, rest.1, chain_to table drawn rest.0 end pairs rest.2 knows))
+  chain_to table drawn start end (pair ∷ pairs) linked knows =
+      let rest = linked.2 in
+      (linked.0, linked.1, inl (rest.0, rest.1, chain_to table drawn rest.0 end pairs rest.2 knows))
 
-  pub chain_ends : (table : List (Option Drawn)) (drawn : Drawn) (start end : Place) (pairs : List Pair) (pair : Pair) → pair.place ≡ end → Linked F R d start pairs end → IsGood F R d end → ((q : Place) → ¬ StepsOn F R end q)
+  pub chain_ends : (table : List (Option Drawn)) (drawn : Drawn) (start end : Place) (pairs : List Pair) (pair : Pair)
+      → pair.place ≡ end → Linked F R d start pairs end → IsGood F R d end → ((q : Place) → ¬ StepsOn F R end q)
       → IsChain F R table d drawn start (pairs ++ pair ∷ [])
   chain_ends table drawn start end [] pair same linked good nowhere =
-      (linked ∙ sym same, subst (IsGood F R d) (sym same) good, inr (subst (λ x. (q : Place) → ¬ StepsOn F R x q) (sym same) nowhere, refl))
+      let leads_nowhere = subst (λ x. (q : Place) → ¬ StepsOn F R x q) (sym same) nowhere in
+      (linked ∙ sym same, subst (IsGood F R d) (sym same) good, inr (leads_nowhere, refl))
   chain_ends table drawn start end (first ∷ pairs) pair same linked good nowhere =
-      let rest = linked.2 in (linked.0, linked.1, inl (rest.0, rest.1, chain_ends table drawn rest.0 end pairs pair same rest.2 good nowhere))
+      let rest = linked.2 in
+      (linked.0, linked.1, inl (rest.0, rest.1, chain_ends table drawn rest.0 end pairs pair same rest.2 good nowhere))
 
   -- the last place of a chain: the table has this of what it leads on to
   pub record IsLast (table : List (Option Drawn)) (drawn : Drawn) (p : Place) : Type 0 where
@@ -455,27 +555,45 @@ module _ (F : List OpKind) (R : List ℕ) (begins : Begins F) (d : ℕ) where
   not_none : (pairs : List Pair) (pair : Pair) → pairs ++ pair ∷ [] ≡ [] → ⊥
   not_none pairs pair is = let never = ap length is in let sum = length-append pairs (pair ∷ []) in omega arith
 
-  pub chain_last : (table : List (Option Drawn)) (drawn : Drawn) (start : Place) (pairs : List Pair) (pair : Pair) → IsChain F R table d drawn start (pairs ++ pair ∷ []) → IsLast table drawn pair.place
+  pub chain_last : (table : List (Option Drawn)) (drawn : Drawn) (start : Place) (pairs : List Pair) (pair : Pair)
+      → IsChain F R table d drawn start (pairs ++ pair ∷ []) → IsLast table drawn pair.place
   chain_last table drawn start [] pair chain =
       record {
         good = chain.1;
-        next = λ q goes. ⊎_elim (λ on. subst (λ x. Knows table x drawn) (goes_once F R pair.place on.0 q on.1 goes) on.2) (λ nowhere. absurd (nowhere.0 q goes)) chain.2;
+        next = λ q goes.
+            ⊎_elim
+            (λ on. subst (λ x. Knows table x drawn) (goes_once F R pair.place on.0 q on.1 goes) on.2)
+            (λ nowhere. absurd (nowhere.0 q goes))
+            chain.2;
       }
   chain_last table drawn start (first ∷ pairs) pair chain =
-      ⊎_elim (λ on. chain_last table drawn on.0 pairs pair on.2) (λ nowhere. absurd (not_none pairs pair nowhere.1)) chain.2
+      ⊎_elim (λ on. chain_last table drawn on.0 pairs pair on.2) (λ nowhere. absurd (not_none pairs pair nowhere.1))
+      chain.2
 
-  pub chain_front : (table new : List (Option Drawn)) (old drawn : Drawn) (start : Place) (pairs : List Pair) (pair : Pair) → IsChain F R table d old start (pairs ++ pair ∷ []) → Knows new pair.place drawn → IsChain F R new d drawn start pairs
+  pub chain_front : (table new : List (Option Drawn)) (old drawn : Drawn) (start : Place)
+      (pairs : List Pair) (pair : Pair) → IsChain F R table d old start (pairs ++ pair ∷ [])
+      → Knows new pair.place drawn → IsChain F R new d drawn start pairs
   chain_front table new old drawn start [] pair chain knows = subst (λ x. Knows new x drawn) (sym chain.0) knows
   chain_front table new old drawn start (first ∷ pairs) pair chain knows =
-      (chain.0, chain.1, ⊎_elim (λ on. inl (on.0, on.1, chain_front table new old drawn on.0 pairs pair on.2 knows)) (λ nowhere. absurd (not_none pairs pair nowhere.1)) chain.2)
+      let front =
+      ⊎_elim
+      (λ on. inl (on.0, on.1, chain_front table new old drawn on.0 pairs pair on.2 knows))
+      (λ nowhere. absurd (not_none pairs pair nowhere.1))
+      chain.2 in
+      (chain.0, chain.1, front)
 
   -- a chain after what was there before
-  pub has_linked_more : (start end next : Place) (before old new pairs : List Pair) (pair : Pair) → pair.place ≡ end → old ≡ before ++ pairs → Linked F R d start pairs end → IsGood F R d end → new ≡ old ++ pair ∷ [] → StepsOn F R end next
+  pub has_linked_more : (start end next : Place) (before old new pairs : List Pair) (pair : Pair) → pair.place ≡ end
+      → old ≡ before ++ pairs → Linked F R d start pairs end → IsGood F R d end → new ≡ old ++ pair ∷ []
+      → StepsOn F R end next
       → (new ≡ before ++ (pairs ++ pair ∷ [])) × Linked F R d start (pairs ++ pair ∷ []) next
   has_linked_more start end next before old new pairs pair same old_is linked good new_is goes =
-      (new_is ∙ ap (λ xs. xs ++ pair ∷ []) old_is ∙ append_assoc before pairs (pair ∷ []), linked_push start end next pairs pair same linked good goes)
+      let is = new_is ∙ ap (λ xs. xs ++ pair ∷ []) old_is ∙ append_assoc before pairs (pair ∷ []) in
+      (is, linked_push start end next pairs pair same linked good goes)
 
-  pub has_chain_ends : (table : List (Option Drawn)) (drawn : Drawn) (start end : Place) (before old new pairs : List Pair) (pair : Pair) → pair.place ≡ end → old ≡ before ++ pairs → Linked F R d start pairs end → IsGood F R d end → new ≡ old ++ pair ∷ []
+  pub has_chain_ends : (table : List (Option Drawn)) (drawn : Drawn) (start end : Place)
+      (before old new pairs : List Pair) (pair : Pair) → pair.place ≡ end → old ≡ before ++ pairs
+      → Linked F R d start pairs end → IsGood F R d end → new ≡ old ++ pair ∷ []
       → ((q : Place) → ¬ StepsOn F R end q) → HasChain F R table d start drawn before new
   has_chain_ends table drawn start end before old new pairs pair same old_is linked good new_is nowhere = record {
     pairs = pairs ++ pair ∷ [];
@@ -489,7 +607,8 @@ pub record Split (before pairs rest : List Pair) (pair : Pair) : Type 0 where
   pub is : pairs ≡ front ++ pair ∷ []
   pub left : rest ≡ before ++ front
 
-pub split : (before pairs rest : List Pair) (pair : Pair) → before ++ pairs ≡ rest ++ pair ∷ [] → length before < length (before ++ pairs) → Split before pairs rest pair
+pub split : (before pairs rest : List Pair) (pair : Pair) → before ++ pairs ≡ rest ++ pair ∷ []
+    → length before < length (before ++ pairs) → Split before pairs rest pair
 split [] pairs rest pair is longer = record { front = rest; is = is; left = refl }
 split (first ∷ before) pairs [] pair is longer =
     let none_left : before ++ pairs ≡ [] = cc in
@@ -506,25 +625,30 @@ none_more before [] low = refl
 none_more before (pair ∷ pairs) low = let sum = length-append before (pair ∷ pairs) in absurd (omega arith)
 
 -- a call is known by its way
-call_is : (F : List OpKind) (R : List ℕ) (p to after : Place) (seen : Way) → StandsSo F R p seen → Stands F R p (Calls to) after → seen ≡ Call to after
+call_is : (F : List OpKind) (R : List ℕ) (p to after : Place) (seen : Way) → StandsSo F R p seen
+    → Stands F R p (Calls to) after → seen ≡ Call to after
 call_is F R p to after seen so stands =
     let same = same_standing so.stands stands in
     so.is ∙ ap (λ act. way act so.after) same.0 ∙ ap (λ x. Call to x) same.1
 
 module _ (F : List OpKind) (R : List ℕ) (begins : Begins F) (d : ℕ) where
   -- what a chain is once its last pair is taken out
-  pub record Popped (table : List (Option Drawn)) (old : Drawn) (start : Place) (before rest : List Pair) (pair : Pair) : Type 0 where
+  pub record Popped (table : List (Option Drawn)) (old : Drawn) (start : Place)
+      (before rest : List Pair) (pair : Pair) : Type 0 where
     pub front : List Pair
     pub left : rest ≡ before ++ front
     pub last : IsLast F R begins d table old pair.place
-    pub kept : (new : List (Option Drawn)) (drawn : Drawn) → Knows new pair.place drawn → IsChain F R new d drawn start front
+    pub kept : (new : List (Option Drawn)) (drawn : Drawn) → Knows new pair.place drawn
+        → IsChain F R new d drawn start front
 
-  pub popped : (table : List (Option Drawn)) (old : Drawn) (start : Place) (before all rest : List Pair) (pair : Pair) → HasChain F R table d start old before all → all ≡ rest ++ pair ∷ [] → length before < length all
+  pub popped : (table : List (Option Drawn)) (old : Drawn) (start : Place) (before all rest : List Pair) (pair : Pair)
+      → HasChain F R table d start old before all → all ≡ rest ++ pair ∷ [] → length before < length all
       → Popped table old start before rest pair
   popped table old start before all rest pair has is longer =
       let count = ap length has.is in
       let it = split before has.pairs rest pair (sym has.is ∙ is) (omega arith) in
-      let chain : IsChain F R table d old start (it.front ++ pair ∷ []) = subst (IsChain F R table d old start) it.is has.chain in
+      let chain : IsChain F R table d old start (it.front ++ pair ∷ []) =
+      subst (IsChain F R table d old start) it.is has.chain in
       record {
         front = it.front;
         left = it.left;
@@ -532,9 +656,11 @@ module _ (F : List OpKind) (R : List ℕ) (begins : Begins F) (d : ℕ) where
         kept = λ new drawn here. chain_front F R begins d table new old drawn start it.front pair chain here;
       }
 
-  pub left_chain : (table new : List (Option Drawn)) (old drawn : Drawn) (start : Place) (before rest now : List Pair) (pair : Pair) → Popped table old start before rest pair → now ≡ rest → Knows new pair.place drawn
-      → HasChain F R new d start drawn before now
-  left_chain table new old drawn start before rest now pair out same here = record { pairs = out.front; is = same ∙ out.left; chain = out.kept new drawn here }
+  pub left_chain : (table new : List (Option Drawn)) (old drawn : Drawn) (start : Place)
+      (before rest now : List Pair) (pair : Pair) → Popped table old start before rest pair → now ≡ rest
+      → Knows new pair.place drawn → HasChain F R new d start drawn before now
+  left_chain table new old drawn start before rest now pair out same here =
+      record { pairs = out.front; is = same ∙ out.left; chain = out.kept new drawn here }
 
   -- the place that was taken out is ready, in a table that keeps what it had
   pub record IsTurn (old new : List (Option Drawn)) (drawn : Drawn) (p : Place) (way : Way) : Type 0 where
@@ -542,8 +668,11 @@ module _ (F : List OpKind) (R : List ℕ) (begins : Begins F) (d : ℕ) where
     pub ready : IsReady F R new p d drawn
     pub keeps : KeepsKnown old new
 
-  module _ (table : List (Option Drawn)) (drawn : Drawn) (p : Place) (last : IsLast F R begins d table drawn p) (seen : Way) (so : StandsSo F R p seen) where
-    pub turn_call : (to after : Place) (mid new : List (Option Drawn)) (way : Way) → seen ≡ Call to after → KeepsKnown table mid → IsTable F R mid → HasPlace mid to → new ≡ mid → way ≡ seen → IsTurn table new drawn p way
+  module _ (table : List (Option Drawn)) (drawn : Drawn) (p : Place) (last : IsLast F R begins d table drawn p)
+      (seen : Way) (so : StandsSo F R p seen) where
+    pub turn_call : (to after : Place) (mid new : List (Option Drawn)) (way : Way) → seen ≡ Call to after
+        → KeepsKnown table mid → IsTable F R mid → HasPlace mid to → new ≡ mid → way ≡ seen
+        → IsTurn table new drawn p way
     turn_call to after mid new way is keeps entries has new_is way_is = record {
       so = subst (StandsSo F R p) (sym way_is) so;
       ready = subst (λ t. IsReady F R t p d drawn) (sym new_is) (record {
@@ -559,7 +688,8 @@ module _ (F : List OpKind) (R : List ℕ) (begins : Begins F) (d : ℕ) where
       keeps = subst (KeepsKnown table) (sym new_is) keeps;
     }
 
-    pub turn_other : (new : List (Option Drawn)) (way : Way) → ((to after : Place) → seen ≡ Call to after → ⊥) → IsTable F R table → new ≡ table → way ≡ seen → IsTurn table new drawn p way
+    pub turn_other : (new : List (Option Drawn)) (way : Way) → ((to after : Place) → seen ≡ Call to after → ⊥)
+        → IsTable F R table → new ≡ table → way ≡ seen → IsTurn table new drawn p way
     turn_other new way no_call entries new_is way_is = record {
       so = subst (StandsSo F R p) (sym way_is) so;
       ready = subst (λ t. IsReady F R t p d drawn) (sym new_is) (record {

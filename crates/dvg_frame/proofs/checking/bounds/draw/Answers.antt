@@ -9,7 +9,8 @@ pub returns-in-Jump : goal.returns-in-Jump
 returns-in-Jump c = λ F R p d so ready. by_jump F R _ p d _ ready _ so _ _ c.in-Jump.is c.longer-in-Jump.ensures
 
 pub returns-in-Call : goal.returns-in-Call
-returns-in-Call c = λ F R p d so ready. by_call F R _ p d _ ready _ so _ _ _ _ c.in-Call.is c.entry.ensures c.called.ensures
+returns-in-Call c = λ F R p d so ready.
+    by_call F R _ p d _ ready _ so _ _ _ _ c.in-Call.is c.entry.ensures c.called.ensures
 
 pub returns-in-Return : goal.returns-in-Return
 returns-in-Return c = λ F R p d so ready. by_return F R _ p d _ ready _ so _ c.in-Return.is refl

@@ -1,11 +1,13 @@
-use Rattle.std.proofs.Common.{◌≡◌, ◌∙◌, ◌⊎◌, inl, inr, ℕ, List, [], ◌∷◌, ◌++◌, ◌+◌, ◌-◌, ◌*◌, ◌<◌, ◌≤◌, length, Fits, w64, sym, ap, arith, refl, append-nil, length-append, lit<}
+use Rattle.std.proofs.Common.{◌≡◌, ◌∙◌, ◌⊎◌, inl, inr, ℕ, ◌+◌, ◌-◌, ◌*◌, ◌<◌, ◌≤◌, Fits, w64, sym, ap, arith, refl}
+use Rattle.std.proofs.Common.{List, [], ◌∷◌, ◌++◌, length, append-nil, length-append, lit<}
 use Rattle.dvg_mem.specs.Memory.{IsRom}
 use Rattle.dvg_frame.specs.declared.op.OpKind.{OpKind}
 use Rattle.dvg_frame.specs.declared.checking.pair.Pair.{Pair}
 use Rattle.dvg_frame.specs.declared.checking.chain.TheConstants.{LONGEST, ROOM}
 use Rattle.dvg_frame.specs.Ops.{IsDraft}
 use Rattle.dvg_frame.proofs.Swept.{in_place}
-use Rattle.dvg_frame.proofs.Tabled.{good_by, goes_in, goes_good, linked_loops, chain_to, has_linked_more, has_chain_ends, onward_goes, onward_nowhere}
+use Rattle.dvg_frame.proofs.Tabled.{good_by, goes_in, goes_good, linked_loops, chain_to, has_linked_more}
+use Rattle.dvg_frame.proofs.Tabled.{has_chain_ends, onward_goes, onward_nowhere}
 use Rattle.dvg_frame.proofs.checking.bounds.follow.Goals as goal
 
 few_words : (R : List ℕ) (words : ℕ) → (length R ≡ 2048) ⊎ (length R ≡ 4096) → length R ≡ 2 * words → words ≤ 2048
@@ -13,8 +15,12 @@ few_words R words (inl small) count = omega arith
 few_words R words (inr large) count = omega arith
 
 -- how many steps are taken at most
-few_steps : (F : List OpKind) (R : List ℕ) (ops words places : ℕ) → IsDraft F → IsRom R → ops ≡ length F → length R ≡ 2 * words → places ≡ words → ops + places + 1 ≤ LONGEST
-few_steps F R ops words places draft rom all count same = let most = draft.count in let few = few_words R words rom.count count in omega arith
+few_steps : (F : List OpKind) (R : List ℕ) (ops words places : ℕ) → IsDraft F → IsRom R → ops ≡ length F
+    → length R ≡ 2 * words → places ≡ words → ops + places + 1 ≤ LONGEST
+few_steps F R ops words places draft rom all count same =
+    let most = draft.count in
+    let few = few_words R words rom.count count in
+    omega arith
 
 fits_below : (n : ℕ) → n + 1 ≤ LONGEST → Fits w64 n
 fits_below n few = omega arith
@@ -36,11 +42,22 @@ module _ (old new pairs : List Pair) (step end : ℕ) (is : new ≡ old ++ pairs
   room_left : step < end → end ≤ LONGEST → (depth : ℕ) → depth ≤ 4 → length old ≤ depth * LONGEST → length new < ROOM
   room_left low few depth deep room = let sum = long in omega arith
 
-  room_behind : step < end → end ≤ LONGEST → (more : List Pair) (pair : Pair) → more ≡ new ++ pair ∷ [] → length more ≤ length old + LONGEST
-  room_behind low few more pair added = let sum = long in let one = ap length added ∙ length-append new (pair ∷ []) in omega arith
+  room_behind : step < end → end ≤ LONGEST → (more : List Pair) (pair : Pair) → more ≡ new ++ pair ∷ []
+      → length more ≤ length old + LONGEST
+  room_behind low few more pair added =
+      let sum = long in
+      let one = ap length added ∙ length-append new (pair ∷ []) in
+      omega arith
 
 pub loop-step-init : goal.loop-step-init
-loop-step-init g c = record { pairs = []; is = sym (append-nil _); linked = refl; count = refl; inside = c.requires.inside; reached = c.requires.reached }
+loop-step-init g c = record {
+  pairs = [];
+  is = sym (append-nil _);
+  linked = refl;
+  count = refl;
+  inside = c.requires.inside;
+  reached = c.requires.reached;
+}
 
 pub returns-in-Some-clause-followed : goal.returns-in-Some-clause-followed
 returns-in-Some-clause-followed g c =
@@ -48,13 +65,15 @@ returns-in-Some-clause-followed g c =
     record {
       pairs = i.pairs;
       is = i.is;
-      chain = chain_to _ _ c.requires.begins _ _ _ _ _ i.pairs i.linked (in_place _ _ _ i.inside, c.at.ensures ∙ c.in-Some.is);
+      chain = chain_to _ _ c.requires.begins _ _ _ _ _ i.pairs i.linked
+          (in_place _ _ _ i.inside, c.at.ensures ∙ c.in-Some.is);
     }
 
 pub returns-in-None-clause-followed : goal.returns-in-None-clause-followed
 returns-in-None-clause-followed g c =
     let i = c.loop-step.invariant in
-    has_chain_ends _ _ c.requires.begins _ _ _ _ _ _ _ _ i.pairs _ refl i.is i.linked (good_by _ _ _ _ i.inside c.in-Ok.ensures.0 i.reached) c.push.ensures
+    has_chain_ends _ _ c.requires.begins _ _ _ _ _ _ _ _ i.pairs _ refl i.is i.linked
+    (good_by _ _ _ _ i.inside c.in-Ok.ensures.0 i.reached) c.push.ensures
     (onward_nowhere _ _ _ _ c.in-Ok.ensures.1 (sym c.onward-next.ensures ∙ c.in-None.is))
 
 pub loop-step-preserved : goal.loop-step-preserved
@@ -62,7 +81,8 @@ loop-step-preserved g c =
     let i = c.loop-step.invariant in
     let good = good_by _ _ _ _ i.inside c.in-Ok.ensures.0 i.reached in
     let goes = onward_goes _ _ _ _ _ c.in-Ok.ensures.1 (sym c.onward-next.ensures ∙ c.in-Some-next.is) in
-    let both = has_linked_more _ _ c.requires.begins _ _ _ _ _ _ _ i.pairs _ refl i.is i.linked good c.push.ensures goes in
+    let both =
+    has_linked_more _ _ c.requires.begins _ _ _ _ _ _ _ i.pairs _ refl i.is i.linked good c.push.ensures goes in
     record {
       pairs = _;
       is = both.0;
@@ -75,16 +95,29 @@ loop-step-preserved g c =
 pub returns-clause-followed : goal.returns-clause-followed
 returns-clause-followed g c =
     let i = c.loop-step.invariant in
-    linked_loops _ _ c.requires.begins _ _ _ i.pairs c.requires.reached i.linked (let ops = c.len.ensures.value in let words = c.len_words.ensures.count in let count = i.count in omega arith)
+    let ops = c.len.ensures.value in
+    let words = c.len_words.ensures.count in
+    let count = i.count in
+    linked_loops _ _ c.requires.begins _ _ _ i.pairs c.requires.reached i.linked (omega arith)
 
 pub overflow_add-step-end : goal.overflow_add-step-end
-overflow_add-step-end g c = fits_below _ (few_steps _ _ _ _ _ c.len.ensures.draft c.requires.rom c.len.ensures.value c.len_words.ensures.count c.from.ensures)
+overflow_add-step-end g c =
+    let few = few_steps _ _ _ _ _ c.len.ensures.draft c.requires.rom c.len.ensures.value c.len_words.ensures.count
+    c.from.ensures in
+    fits_below _ few
 
 pub overflow_add-step-end-2 : goal.overflow_add-step-end-2
-overflow_add-step-end-2 g c = fits _ (few_steps _ _ _ _ _ c.len.ensures.draft c.requires.rom c.len.ensures.value c.len_words.ensures.count c.from.ensures)
+overflow_add-step-end-2 g c =
+    let few = few_steps _ _ _ _ _ c.len.ensures.draft c.requires.rom c.len.ensures.value c.len_words.ensures.count
+    c.from.ensures in
+    fits _ few
 
 pub returns-in-Some-clause-room : goal.returns-in-Some-clause-room
-returns-in-Some-clause-room g c = let i = c.loop-step.invariant in in_room _ _ _ _ _ i.is i.count c.loop-step.auto.step-end (few_steps _ _ _ _ _ c.len.ensures.draft c.requires.rom c.len.ensures.value c.len_words.ensures.count c.from.ensures)
+returns-in-Some-clause-room g c =
+    let i = c.loop-step.invariant in
+    let few = few_steps _ _ _ _ _ c.len.ensures.draft c.requires.rom c.len.ensures.value c.len_words.ensures.count
+    c.from.ensures in
+    in_room _ _ _ _ _ i.is i.count c.loop-step.auto.step-end few
 
 pub look-requires-clause-rom : goal.look-requires-clause-rom
 look-requires-clause-rom g c = c.requires.rom
@@ -93,12 +126,17 @@ pub look-requires-clause-inside : goal.look-requires-clause-inside
 look-requires-clause-inside g c = c.loop-step.invariant.inside
 
 pub returns-in_default-look-clause-room : goal.returns-in_default-look-clause-room
-returns-in_default-look-clause-room g c = let i = c.loop-step.invariant in in_room _ _ _ _ _ i.is i.count c.loop-step.auto.step-end (few_steps _ _ _ _ _ c.len.ensures.draft c.requires.rom c.len.ensures.value c.len_words.ensures.count c.from.ensures)
+returns-in_default-look-clause-room g c =
+    let i = c.loop-step.invariant in
+    let few = few_steps _ _ _ _ _ c.len.ensures.draft c.requires.rom c.len.ensures.value c.len_words.ensures.count
+    c.from.ensures in
+    in_room _ _ _ _ _ i.is i.count c.loop-step.auto.step-end few
 
 pub push-requires : goal.push-requires
 push-requires g c =
     let i = c.loop-step.invariant in
-    let few = few_steps _ _ _ _ _ c.len.ensures.draft c.requires.rom c.len.ensures.value c.len_words.ensures.count c.from.ensures in (
+    let few = few_steps _ _ _ _ _ c.len.ensures.draft c.requires.rom c.len.ensures.value c.len_words.ensures.count
+    c.from.ensures in (
       lit< tt,
       (
         room_left _ _ _ _ _ i.is i.count c.loop-step-test.true few _ c.requires.depth c.requires.room,
@@ -107,10 +145,18 @@ push-requires g c =
     )
 
 pub returns-in-None-clause-room : goal.returns-in-None-clause-room
-returns-in-None-clause-room g c = let i = c.loop-step.invariant in room_behind _ _ _ _ _ i.is i.count c.loop-step-test.true (few_steps _ _ _ _ _ c.len.ensures.draft c.requires.rom c.len.ensures.value c.len_words.ensures.count c.from.ensures) _ _ c.push.ensures
+returns-in-None-clause-room g c =
+    let i = c.loop-step.invariant in
+    let few = few_steps _ _ _ _ _ c.len.ensures.draft c.requires.rom c.len.ensures.value c.len_words.ensures.count
+    c.from.ensures in
+    room_behind _ _ _ _ _ i.is i.count c.loop-step-test.true few _ _ c.push.ensures
 
 pub loop-step-smaller : goal.loop-step-smaller
 loop-step-smaller g c = closer _ _ c.loop-step-test.true
 
 pub returns-clause-room : goal.returns-clause-room
-returns-clause-room g c = let i = c.loop-step.invariant in in_room _ _ _ _ _ i.is i.count c.loop-step.auto.step-end (few_steps _ _ _ _ _ c.len.ensures.draft c.requires.rom c.len.ensures.value c.len_words.ensures.count c.from.ensures)
+returns-clause-room g c =
+    let i = c.loop-step.invariant in
+    let few = few_steps _ _ _ _ _ c.len.ensures.draft c.requires.rom c.len.ensures.value c.len_words.ensures.count
+    c.from.ensures in
+    in_room _ _ _ _ _ i.is i.count c.loop-step.auto.step-end few

@@ -13,13 +13,18 @@ put-requires c = record { place = here_place _ _ _ _ _ _ c.requires.4 }
 
 pub returns-in-None-clause-entries : goal.returns-in-None-clause-entries
 returns-in-None-clause-entries c = λ F R d so ready.
-    put_entries _ _ _ _ (here_place _ _ _ _ _ _ ready) (c.at.ensures ∙ c.in-None.is) c.put.ensures.size c.put.ensures.table F R ready.entries (c.draw-drawn.ensures F R _ d so ready)
+    put_entries _ _ _ _ (here_place _ _ _ _ _ _ ready) (c.at.ensures ∙ c.in-None.is) c.put.ensures.size
+    c.put.ensures.table F R ready.entries (c.draw-drawn.ensures F R _ d so ready)
 
 pub returns-in-None-clause-kept : goal.returns-in-None-clause-kept
-returns-in-None-clause-kept c = put_keeps _ _ _ _ (here_place _ _ _ _ _ _ c.requires.4) (c.at.ensures ∙ c.in-None.is) c.put.ensures.size c.put.ensures.table
+returns-in-None-clause-kept c =
+    put_keeps _ _ _ _ (here_place _ _ _ _ _ _ c.requires.4) (c.at.ensures ∙ c.in-None.is) c.put.ensures.size
+    c.put.ensures.table
 
 pub returns-in-None-clause-has : goal.returns-in-None-clause-has
-returns-in-None-clause-has c = put_has _ _ _ _ (here_place _ _ _ _ _ _ c.requires.4) (c.at.ensures ∙ c.in-None.is) c.put.ensures.size c.put.ensures.table
+returns-in-None-clause-has c =
+    put_has _ _ _ _ (here_place _ _ _ _ _ _ c.requires.4) (c.at.ensures ∙ c.in-None.is) c.put.ensures.size
+    c.put.ensures.table
 
 pub returns-in-Some-clause-entries : goal.returns-in-Some-clause-entries
 returns-in-Some-clause-entries c = λ F R d so ready. ready.entries
