@@ -1,86 +1,50 @@
 #!/usr/bin/env python3
-"""Writes steps of the 6502 of board_cpu.h as a file of proofs, which the prover computes by the definition.
+"""Writes steps of the 6502 of board_cpu.h as two files of proofs, which the prover computes by the definition.
 
-    board_definition vectors COUNT | board_vectors.py >crates/dvg_6502/proofs/Vectors.antt
-    board_vectors.py --numbers FILE      the numbers of such a file, as board_definition prints them
+    board_definition vectors COUNT | board_vectors.py FOLDER
 
-tests/board makes the steps anew, and compares their numbers with those of the file.
+MoveVectors.antt has the steps of loads, stores and transfers, and ComputeVectors.antt those of all other
+opcodes. tests/board makes both anew, and compares them with those of crates/dvg_6502/proofs.
 """
-import re
+import os
 import sys
 
-HEAD = """-- Single steps of another 6502, that of tests/board_cpu.h: the definition gives the same.
--- tests/board_vectors.py writes this file.
-use Rattle.std.proofs.Common.{◌≡◌, ℕ, ◌+◌, ◌*◌, ◌%◌, Bool, true, false, List, [], ◌∷◌, refl}
-use Rattle.std.specs.Prelude.{nat_eq, nat_lt, ◌&&◌, if◌then◌else◌, slice_index}
-use Rattle.dvg_6502.specs.Processor.{Cpu, put, step}
+# The opcodes of loads, stores and transfers.
+MOVES = "a9 a5 ad b1 a2 a6 a0 a4 85 8d 91 86 84 aa 8a 98".split()
 
--- the memory of a step: a sum of squares, and the instruction's three bytes
-abbrev memory : List ℕ → ℕ → ℕ
-memory t =
-    let pc = slice_index t 8 in
-    put pc (slice_index t 1) (put (pc + 1) (slice_index t 2) (put (pc + 2) (slice_index t 3)
-        (λ b. (b * b * 3 + b * 7 + slice_index t 0) % 256)))
-
--- the state before it
-abbrev before : List ℕ → Cpu
-before t = record {
-  a = slice_index t 4; x = slice_index t 5; y = slice_index t 6; s = slice_index t 7; pc = slice_index t 8;
-  n = nat_eq (slice_index t 9) 1; z = nat_eq (slice_index t 10) 1;
-  c = nat_eq (slice_index t 11) 1; v = nat_eq (slice_index t 12) 1;
-  mem = memory t; flags = λ n. memory t 0x2002; log = [];
+# Of each file, what its steps do.
+FILES = {
+    "MoveVectors": "that move a byte: loads, stores and transfers",
+    "ComputeVectors": "that compute a byte, a flag or the next place: logic, counts, shifts, branches, jumps",
 }
 
-abbrev same_bit : Bool → ℕ → Bool
-same_bit true k = nat_eq k 1
-same_bit false k = nat_eq k 0
-
--- a byte that was written; 65536 stands for none
-abbrev same_byte : (ℕ → ℕ) → ℕ → ℕ → Bool
-same_byte mem place byte = if nat_lt place 65536 then nat_eq (mem place) byte else true
-
--- the state after it is the one that the other 6502 gave
-abbrev passes : List ℕ → Bool
-passes t =
-    let new = step (before t) in
-    nat_eq new.a (slice_index t 13) && (nat_eq new.x (slice_index t 14)
-    && (nat_eq new.y (slice_index t 15) && (nat_eq new.s (slice_index t 16)
-    && (nat_eq new.pc (slice_index t 17) && (same_bit new.n (slice_index t 18)
-    && (same_bit new.z (slice_index t 19) && (same_bit new.c (slice_index t 20)
-    && (same_bit new.v (slice_index t 21) && (same_byte new.mem (slice_index t 22) (slice_index t 23)
-    && same_byte new.mem (slice_index t 24) (slice_index t 25))))))))))
-
-abbrev all_pass : List (List ℕ) → Bool
-all_pass [] = true
-all_pass (t ∷ rest) = passes t && all_pass rest
+HEAD = """-- Steps {does}.
+-- tests/board_vectors.py writes this file; Vectors.antt says what its numbers are.
+use Rattle.std.proofs.Common.{{◌≡◌, ℕ, true, List, [], ◌∷◌, refl}}
+use Rattle.dvg_6502.proofs.Vectors.{{all_pass}}
 """
 
 
-def write(lines):
-    """The proofs: a list of steps for each opcode, and that they all pass."""
+def proof(opcode, rows):
+    """A list of steps of an opcode, and that they all pass."""
+    steps = "".join(f"    ({' ∷ '.join(row[:13])} ∷\n    {' ∷ '.join(row[13:])} ∷ []) ∷\n" for row in rows)
+    return (f"\nabbrev steps_{opcode} : List (List ℕ)\nsteps_{opcode} =\n{steps}    []\n"
+            f"\npub passes_{opcode} : all_pass steps_{opcode} ≡ true\npasses_{opcode} = refl\n")
+
+
+def write(lines, folder):
+    """Both files, with the opcodes in the order in which the steps come."""
     steps = {}
     for line in lines:
         numbers = line.split()
-        steps.setdefault(int(numbers[1]), []).append(numbers)
-    print(HEAD, end="")
-    for opcode, rows in steps.items():
-        name = f"{opcode:02x}"
-        print(f"\nabbrev steps_{name} : List (List ℕ)\nsteps_{name} =")
-        for row in rows:
-            print(f"    ({' ∷ '.join(row[:13])} ∷\n     {' ∷ '.join(row[13:])} ∷ []) ∷")
-        print(f"    []\n\npub passes_{name} : all_pass steps_{name} ≡ true\npasses_{name} = refl")
-
-
-def numbers_of(path):
-    """Each step of the file, in a line."""
-    with open(path, encoding="utf-8") as file:
-        text = file.read()
-    for found in re.findall(r"\(((?:\d+ ∷\s+)+)\[\]\)", text):
-        print(" ".join(re.findall(r"\d+", found)))
+        steps.setdefault(f"{int(numbers[1]):02x}", []).append(numbers)
+    for name, does in FILES.items():
+        with open(os.path.join(folder, name + ".antt"), "w", encoding="utf-8") as file:
+            file.write(HEAD.format(does=does))
+            for opcode, rows in steps.items():
+                if (opcode in MOVES) == (name == "MoveVectors"):
+                    file.write(proof(opcode, rows))
 
 
 if __name__ == "__main__":
-    if len(sys.argv) == 3:
-        numbers_of(sys.argv[2])
-    else:
-        write(sys.stdin)
+    write(sys.stdin, sys.argv[1])

@@ -22,6 +22,8 @@ pub mod BurstStep
 pub mod BurstWord
 pub mod DvgRun
 pub mod Vectors
+pub mod MoveVectors
+pub mod ComputeVectors
 pub mod Sessions
 pub mod Joined
 pub mod Example
