@@ -1,18 +1,20 @@
 -- A generator still stands after its history once it is told one more thing.
-use Rattle.std.proofs.Common.{◌≡◌, ℕ, suc, ◌+◌, ◌<◌, true, false, List, [], ◌∷◌, ◌++◌, length, get_or, Option, Some, None, refl, sym, ap, ◌∙◌, subst, arith, append-nil, cond, eqb}
+use Rattle.std.proofs.Common.{◌≡◌, ◌↔◌, ℕ, suc, ◌+◌, ◌<◌, true, false, List, [], ◌∷◌, ◌++◌, length, get_or, Option, Some, None, refl, sym, ap, ◌∙◌, subst, arith, append-nil, cond, eqb}
 use Rattle.std.proofs.lemmas.Bool.{eq-eqb}
-use Rattle.std.specs.Prelude.{Result, Ok, Err, IfOk, IsSome}
+use Rattle.std.specs.Prelude.{Result, Ok, Err, IfOk, IsSome, Vec}
 use Rattle.dvg_code.specs.declared.instr.Instr.{Instr}
 use Rattle.dvg_code.specs.declared.instr.Instr.TheVariants.{Jmpl}
 use Rattle.dvg_code.specs.Spelling.{IsFirst, Spells, vctr, labs, halt, jsrl, rtsl, jmpl, svec}
 use Rattle.dvg_gen.specs.declared.beam.Beam.{Beam}
 use Rattle.dvg_gen.specs.declared.taken.GenFault.TheVariants.{StackOver, StackUnder, Hole}
+use Rattle.dvg_gen.specs.declared.stroke.Stroke.{Stroke}
+use Rattle.dvg_gen.specs.declared.taken.Step.{Step}
 use Rattle.dvg_gen.specs.declared.taken.Taken.{Taken}
 use Rattle.dvg_gen.specs.declared.taken.Taken.TheVariants.{Low, Word, Done, Broke}
 use Rattle.dvg_gen.specs.Completing.{Completes}
 use Rattle.dvg_gen.specs.Drawing.{moved, drawn}
 use Rattle.dvg_gen.specs.Bytes.{Met, met, Waits, Whole}
-use Rattle.dvg_gen.specs.Machine.{Machine, IsReply, IsInRun, HasTaken, Answers}
+use Rattle.dvg_gen.specs.Machine.{Machine, IsReply, IsInRun, HasTaken, Answers, IsOnward, taken_by}
 use Rattle.dvg_gen.specs.Stacks.{stack_by, to_of, CanGo}
 use Rattle.dvg_gen.specs.Obeyed.{past, gone, IsShut, Obeyed}
 use Rattle.dvg_code.specs.Acts.{act_of}
@@ -289,10 +291,13 @@ abbrev pub Claims : {A : Type 0} → Option ℕ → Machine → Machine → Take
 Claims byte old machine taken = (history : List Told) (low : Option ℕ) → HasTaken old history low → Answers history (met low byte) machine taken
 
 -- it is what it meets with the low byte that the machine has
-pub claim_met : {A E : Type 0} (result : Result (Taken A) E) (byte : Option ℕ) (found : Met) (old machine : Machine) → met old.low byte ≡ found → IfOk result (λ taken. Claim found old machine taken) → IfOk result (λ taken. Claims byte old machine taken)
-claim_met (Err e) byte found old machine same claim = claim
-claim_met (Ok taken) byte found old machine same claim = λ history low after.
-    subst (λ l. Answers history (met l byte) machine taken) after.low (subst (λ f. Answers history f machine taken) (sym same) (claim history low after))
+pub claim_met : {A E : Type 0} (result : Result Step E) (list : Vec Stroke A) (byte : Option ℕ) (found : Met)
+    (old machine : Machine) → met old.low byte ≡ found → IfOk result (λ step. Claim found old machine (taken_by step list))
+    → IfOk result (λ step. Claims byte old machine (taken_by step list))
+claim_met (Err e) list byte found old machine same claim = claim
+claim_met (Ok step) list byte found old machine same claim = λ history low after.
+    subst (λ l. Answers history (met l byte) machine (taken_by step list)) after.low
+    (subst (λ f. Answers history f machine (taken_by step list)) (sym same) (claim history low after))
 
 -- a hole is met whether a low byte waits or not
 pub met_hole : (low : Option ℕ) → met low None ≡ Whole None
@@ -326,16 +331,40 @@ claim_obeyed A w old machine code taken opened completes obeyed history low afte
     at_obeyed history low old after opened w code completes_run A machine taken obeyed
 
 -- the same of a result
-pub claim_result : {A E : Type 0} (result : Result (Taken A) E) (w : ℕ) (old machine : Machine) (code : Instr) → old.is_open ≡ true → Completes old.held w code
-    → IfOk result (λ taken. Obeyed old code machine taken) → IfOk result (λ taken. Claim (Whole (Some w)) old machine taken)
-claim_result {A} (Ok taken) w old machine code opened completes obeyed = claim_obeyed A w old machine code taken opened completes obeyed
-claim_result (Err e) w old machine code opened completes obeyed = obeyed
+pub claim_result : {A E : Type 0} (result : Result Step E) (list : Vec Stroke A) (w : ℕ) (old machine : Machine)
+    (code : Instr) → old.is_open ≡ true → Completes old.held w code
+    → IfOk result (λ step. Obeyed old code machine (taken_by step list))
+    → IfOk result (λ step. Claim (Whole (Some w)) old machine (taken_by step list))
+claim_result {A} (Ok step) list w old machine code opened completes obeyed =
+    claim_obeyed A w old machine code (taken_by step list) opened completes obeyed
+claim_result (Err e) list w old machine code opened completes obeyed = obeyed
 
--- the same of a word that alone spells an instruction
-pub claim_alone : {A E : Type 0} (result : Result (Taken A) E) (w : ℕ) (old machine : Machine) (code : Instr) → old.is_open ≡ true → old.held ≡ None → Spells code (w ∷ [])
-    → IfOk result (λ taken. Obeyed old code machine taken) → IfOk result (λ taken. Claim (Whole (Some w)) old machine taken)
-claim_alone result w old machine code opened none spells obeyed =
-    claim_result result w old machine code opened (subst (λ held. Completes held w code) (sym none) spells) obeyed
+-- a run that obeys goes on exactly where its answer says so
+goes_obeyed : {A : Type 0} (old machine : Machine) (code : Instr) (taken : Taken A) → Obeyed old code machine taken
+    → (machine.is_open ≡ true) ↔ IsOnward taken
+goes_obeyed old machine code Low obeyed = absurd obeyed
+goes_obeyed old machine code Word obeyed = (λ opened. tt, λ onward. ap (λ m. m.is_open) obeyed.1)
+goes_obeyed old machine code (Done list) obeyed = (λ opened. never (sym obeyed.1.0 ∙ opened), λ onward. absurd onward)
+goes_obeyed old machine code (Broke StackOver) obeyed =
+    (λ opened. never (sym obeyed.2.0 ∙ opened), λ onward. absurd onward)
+goes_obeyed old machine code (Broke StackUnder) obeyed =
+    (λ opened. never (sym obeyed.2.0 ∙ opened), λ onward. absurd onward)
+goes_obeyed old machine code (Broke Hole) obeyed = absurd obeyed
+
+-- the same of a result
+pub goes_result : {A E : Type 0} (result : Result Step E) (list : Vec Stroke A) (old machine : Machine) (code : Instr)
+    → IfOk result (λ step. Obeyed old code machine (taken_by step list))
+    → IfOk result (λ step. (machine.is_open ≡ true) ↔ IsOnward (taken_by step list))
+goes_result (Ok step) list old machine code obeyed = goes_obeyed old machine code (taken_by step list) obeyed
+goes_result (Err e) list old machine code obeyed = obeyed
+
+-- what a word claims that alone spells an instruction
+pub claim_alone : {A E : Type 0} (result : Result Step E) (list : Vec Stroke A) (w : ℕ) (old machine : Machine)
+    (code : Instr) → old.is_open ≡ true → old.held ≡ None → Spells code (w ∷ [])
+    → IfOk result (λ step. Obeyed old code machine (taken_by step list))
+    → IfOk result (λ step. Claim (Whole (Some w)) old machine (taken_by step list))
+claim_alone result list w old machine code opened none spells obeyed =
+    claim_result result list w old machine code opened (subst (λ held. Completes held w code) (sym none) spells) obeyed
 
 -- a machine that goes to an address obeys a JMPL
 pub jumped : {A : Type 0} (old machine : Machine) (taken : Taken A) (address : ℕ) → old.is_open ≡ true → machine ≡ record old { at = address; held = None; low = None } → taken ≡ Word

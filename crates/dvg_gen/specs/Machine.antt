@@ -1,9 +1,11 @@
 -- What contracts see of a generator, and after which histories it stands.
 use Rattle.std.specs.Prelude.{◌≡◌, ℕ, ◌+◌, ◌<◌, List, ◌∷◌, length, slice_index, Option, Some, None, Bool, true, All}
-use Rattle.std.specs.Prelude.{IfSome, IsSome}
+use Rattle.std.specs.Prelude.{IfSome, IsSome, Vec}
 use Rattle.dvg_code.specs.Spelling.{IsFirst}
 use Rattle.dvg_gen.specs.declared.beam.Beam.{Beam}
 use Rattle.dvg_gen.specs.declared.stroke.Stroke.{Stroke}
+use Rattle.dvg_gen.specs.declared.taken.Step.{Step}
+use Rattle.dvg_gen.specs.declared.taken.Step.TheVariants as step
 use Rattle.dvg_gen.specs.declared.taken.Taken.{Taken}
 use Rattle.dvg_gen.specs.declared.taken.Taken.TheVariants.{Low, Word, Done, Broke}
 use Rattle.dvg_gen.specs.Run.{past_call, wanted, calls, returns, beam_after, strokes}
@@ -65,6 +67,18 @@ abbrev pub Answers : {A : Type 0} → List Told → Met → Machine → Taken A 
 Answers history (Waits byte) machine taken = HasTaken machine history (Some byte) × (taken ≡ Low)
 Answers history (Whole word) machine taken = (after : HasTaken machine (Fed word ∷ history) None)
     × IsReply taken (reply word after.run)
+
+-- the answer of this kind, with these strokes where the run is finished
+abbrev pub taken_by : {A : Type 0} → Step → Vec Stroke A → Taken A
+taken_by step.Low list = Low
+taken_by step.Word list = Word
+taken_by step.Done list = Done list
+taken_by (step.Broke fault) list = Broke fault
+
+-- a fetch that met this finishes the run, by its answer
+abbrev pub Finishes : Met → Step → Type 0
+Finishes (Whole (Some word)) step.Done = Unit {0}
+Finishes _ _ = ⊥
 
 -- the run goes on with this answer
 abbrev pub IsOnward : {A : Type 0} → Taken A → Type 0

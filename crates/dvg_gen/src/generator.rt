@@ -1,7 +1,7 @@
 //! The generator.
 ghost use Rattle.std.specs.Prelude.{◌≡◌, ◌↔◌, ◌+◌, ◌%◌, ◌<◌, ◌≤◌, true, false, ℕ, List, Option, []};
 ghost use Rattle.std.specs.Prelude.{◌∷◌, ◌++◌, IsTrue, IsNone, IsSome, IsOk, IfSome, IfOk, OnErr};
-ghost use Rattle.std.specs.Prelude.{Some, None};
+ghost use Rattle.std.specs.Prelude.{Some, None, Vec};
 ghost use Rattle.dvg_code.specs.Acts.{Moves, act_of};
 ghost use Rattle.dvg_code.specs.Ranges.{InRange};
 ghost use Rattle.dvg_code.specs.Spelling.{IsFirst};
@@ -9,15 +9,15 @@ ghost use Rattle.dvg_code.specs.declared.instr.Instr.{Instr};
 ghost use Rattle.dvg_gen.specs.Bytes.{Whole, met};
 ghost use Rattle.dvg_gen.specs.Completing.{Completes, DrawsNothing, IsSeen};
 ghost use Rattle.dvg_gen.specs.Drawing.{drawn};
-ghost use Rattle.dvg_gen.specs.Machine.{Answers, IsOnward, HasTaken};
+ghost use Rattle.dvg_gen.specs.Machine.{Answers, Finishes, IsOnward, HasTaken, taken_by};
 ghost use Rattle.dvg_gen.specs.Obeyed.{IsLabs, Obeyed};
 ghost use Rattle.dvg_gen.specs.Run as spec;
 ghost use Rattle.dvg_gen.specs.Told.{Told, Start, Reset, wants};
-ghost use Rattle.dvg_gen.specs.declared.taken.Taken.TheVariants.{Broke, Low, Word};
+ghost use Rattle.dvg_gen.specs.declared.stroke.Stroke.{Stroke};
 
 use crate::beam::Beam;
 use crate::stroke::Stroke;
-use crate::taken::{GenFault, Taken};
+use crate::taken::{GenFault, Step, Taken};
 use arrayvec::ArrayVec;
 use dvg_code::{Code, Instr, OutOfMemory, decode};
 use std::alloc::Allocator;
@@ -168,15 +168,49 @@ impl<A: Allocator + Copy> Generator<A> {
         ensures room { DrawsNothing self.old.held (met self.old.low byte) → IsOk result }
         ensures refused { OnErr result (self.new ≡ self.old) }
     {
+        let mut drawn = self.no_strokes();
+        match self.take_into(byte, &mut drawn) {
+            Ok(step) => Ok(taken(step, drawn)),
+            Err(refused) => Err(refused),
+        }
+    }
+
+    /// The same, where the strokes of a finished run take the place of those in this list, which
+    /// else stays as it is.
+    #[inline(always)]
+    pub fn take_into(
+        &mut self,
+        byte: Option<u8>,
+        drawn: &mut Vec<Stroke, A>,
+    ) -> Result<Step, OutOfMemory>
+        requires { self.old.is_open ≡ true }
+        ensures answers { IfOk result (λ step. (history : List Told) (low : Option ℕ)
+            → HasTaken self.old history low
+            → Answers history (met low byte) self.new (taken_by step drawn.new)) }
+        ensures drawn { IfOk result (λ step. (Finishes (met self.old.low byte) step → ⊥)
+            → drawn.new ≡ drawn.old) }
+        ensures goes_on { IfOk result (λ step. (self.new.is_open ≡ true)
+            ↔ IsOnward (taken_by step drawn.new)) }
+        ensures room { DrawsNothing self.old.held (met self.old.low byte) → IsOk result }
+        ensures refused { OnErr result ((self.new ≡ self.old) × (drawn.new ≡ drawn.old)) }
+    {
         let Some(byte) = byte else {
             return Ok(self.break_off(GenFault::Hole));
         };
         let Some(low) = self.low_byte() else {
             self.low = byte;
             self.has_low = true;
-            return Ok(Taken::Low);
+            return Ok(Step::Low);
         };
-        self.take(u16::from_le_bytes([low, byte]))
+        self.take(u16::from_le_bytes([low, byte]), drawn)
+    }
+
+    /// An empty list of strokes, whose memory would be that of the generator's own.
+    #[inline(always)]
+    pub fn no_strokes(&self) -> Vec<Stroke, A>
+        ensures { result.items ≡ [] }
+    {
+        Vec::new(self.alloc)
     }
 
     /// Takes a list back that was handed out, so that the next strokes lie in its memory. What is in
@@ -192,14 +226,17 @@ impl<A: Allocator + Copy> Generator<A> {
 
     // Takes a whole word.
     #[inline(always)]
-    fn take(&mut self, word: u16) -> Result<Taken<A>, OutOfMemory>
+    fn take(&mut self, word: u16, drawn: &mut Vec<Stroke, A>) -> Result<Step, OutOfMemory>
         requires { self.old.is_open ≡ true }
-        ensures answers { IfOk result (λ taken. (history : List Told) (low : Option ℕ)
+        ensures answers { IfOk result (λ step. (history : List Told) (low : Option ℕ)
             → HasTaken self.old history low
-            → Answers history (Whole (Some word)) self.new taken) }
-        ensures goes_on { IfOk result (λ taken. (self.new.is_open ≡ true) ↔ IsOnward taken) }
+            → Answers history (Whole (Some word)) self.new (taken_by step drawn.new)) }
+        ensures drawn { IfOk result (λ step. (Finishes (Whole (Some word)) step → ⊥)
+            → drawn.new ≡ drawn.old) }
+        ensures goes_on { IfOk result (λ step. (self.new.is_open ≡ true)
+            ↔ IsOnward (taken_by step drawn.new)) }
         ensures room { DrawsNothing self.old.held (Whole (Some word)) → IsOk result }
-        ensures refused { OnErr result (self.new ≡ self.old) }
+        ensures refused { OnErr result ((self.new ≡ self.old) × (drawn.new ≡ drawn.old)) }
     {
         // The opcode says which instruction it is. To look at the decoded ones once more would take
         // time.
@@ -214,10 +251,10 @@ impl<A: Allocator + Copy> Generator<A> {
             self.at = after(self.at);
             self.held = Some(word);
             self.has_low = false;
-            return Ok(Taken::Word);
+            return Ok(Step::Word);
         }
         match word >> 12 {
-            0xB => Ok(self.finish()),
+            0xB => Ok(self.finish(drawn)),
             0xC => Ok(self.call(word % 4096)),
             0xD => Ok(self.come_back()),
             0xE => Ok(self.jump(word % 4096)),
@@ -227,10 +264,10 @@ impl<A: Allocator + Copy> Generator<A> {
 
     // Places the beam by a LABS.
     #[inline(always)]
-    fn place(&mut self, code: Code) -> Taken<A>
+    fn place(&mut self, code: Code) -> Step
         requires open { self.old.is_open ≡ true }
         requires labs { IsLabs code }
-        ensures { Obeyed self.old code self.new result }
+        ensures { (drawn : Vec Stroke A) → Obeyed self.old code self.new (taken_by result drawn) }
     {
         let Instr::Labs { x, y, scale } = code.instr() else {
             unreachable!()
@@ -241,10 +278,11 @@ impl<A: Allocator + Copy> Generator<A> {
 
     // Draws a vector.
     #[inline(always)]
-    fn draw(&mut self, code: Code) -> Result<Taken<A>, OutOfMemory>
+    fn draw(&mut self, code: Code) -> Result<Step, OutOfMemory>
         requires open { self.old.is_open ≡ true }
         requires moves { act_of code ≡ Moves code }
-        ensures obeyed { IfOk result (λ taken. Obeyed self.old code self.new taken) }
+        ensures obeyed { (drawn : Vec Stroke A)
+            → IfOk result (λ step. Obeyed self.old code self.new (taken_by step drawn)) }
         ensures room { (IsSeen code → ⊥) → IsOk result }
         ensures refused { OnErr result (self.new ≡ self.old) }
     {
@@ -259,10 +297,11 @@ impl<A: Allocator + Copy> Generator<A> {
     }
 
     // Saves the address of the next word, and goes to another.
-    fn call(&mut self, address: u16) -> Taken<A>
+    fn call(&mut self, address: u16) -> Step
         requires open { self.old.is_open ≡ true }
         requires in_range { address ≤ 4095 }
-        ensures { Obeyed self.old (Instr.Jsrl address) self.new result }
+        ensures { (drawn : Vec Stroke A)
+            → Obeyed self.old (Instr.Jsrl address) self.new (taken_by result drawn) }
     {
         if self.stack.is_full() {
             return self.break_off(GenFault::StackOver);
@@ -272,9 +311,10 @@ impl<A: Allocator + Copy> Generator<A> {
     }
 
     // Goes to the address that was saved last.
-    fn come_back(&mut self) -> Taken<A>
+    fn come_back(&mut self) -> Step
         requires { self.old.is_open ≡ true }
-        ensures { Obeyed self.old Instr.Rtsl self.new result }
+        ensures { (drawn : Vec Stroke A)
+            → Obeyed self.old Instr.Rtsl self.new (taken_by result drawn) }
     {
         match self.stack.pop() {
             Some(address) => self.jump(address),
@@ -283,34 +323,49 @@ impl<A: Allocator + Copy> Generator<A> {
     }
 
     // Goes to an address, where the next instruction begins.
-    fn jump(&mut self, address: u16) -> Taken<A>
+    fn jump(&mut self, address: u16) -> Step
         requires in_range { address ≤ 4095 }
         ensures moved { self.new ≡ record self.old { at = address; held = None; low = None } }
-        ensures goes_on { result ≡ Word }
+        ensures goes_on { result ≡ Step.Word }
     {
         self.at = address;
         self.held = None;
         self.has_low = false;
-        Taken::Word
+        Step::Word
     }
 
     // Ends the run, and hands its strokes out.
-    fn finish(&mut self) -> Taken<A>
-        ensures { Obeyed self.old Instr.Halt self.new result }
+    fn finish(&mut self, drawn: &mut Vec<Stroke, A>) -> Step
+        ensures { Obeyed self.old Instr.Halt self.new (taken_by result drawn.new) }
     {
         self.has_low = false;
         self.is_open = false;
-        Taken::Done(mem::replace(&mut self.strokes, Vec::new(self.alloc)))
+        let none = self.no_strokes();
+        *drawn = mem::replace(&mut self.strokes, none);
+        Step::Done
     }
 
     // Breaks the run.
-    fn break_off(&mut self, fault: GenFault) -> Taken<A>
+    fn break_off(&mut self, fault: GenFault) -> Step
         ensures shut { self.new ≡ record self.old { low = None; is_open = false } }
-        ensures fault { result ≡ Broke fault }
+        ensures fault { result ≡ Step.Broke fault }
     {
         self.has_low = false;
         self.is_open = false;
-        Taken::Broke(fault)
+        Step::Broke(fault)
+    }
+}
+
+// The whole answer, where these are the strokes of a finished run.
+#[inline(always)]
+fn taken<A: Allocator>(step: Step, drawn: Vec<Stroke, A>) -> Taken<A>
+    ensures { result ≡ taken_by step drawn }
+{
+    match step {
+        Step::Low => Taken::Low,
+        Step::Word => Taken::Word,
+        Step::Done => Taken::Done(drawn),
+        Step::Broke(fault) => Taken::Broke(fault),
     }
 }
 

@@ -3,8 +3,8 @@ use Rattle.std.specs.Prelude.{ℕ, List, Option, Some, None, Vec}
 use Rattle.dvg_gen.specs.declared.stroke.Stroke.{Stroke}
 use Rattle.dvg_gen.specs.Bytes.{Met, Waits, Whole}
 use Rattle.dvg_gen.specs.declared.taken.GenFault.TheVariants.{Hole}
-use Rattle.dvg_gen.specs.declared.taken.Taken.{Taken}
-use Rattle.dvg_gen.specs.declared.taken.Taken.TheVariants as taken
+use Rattle.dvg_gen.specs.declared.taken.Step.{Step}
+use Rattle.dvg_gen.specs.declared.taken.Step.TheVariants as step
 use Rattle.dvg_log.specs.declared.entry.Entry.{Entry}
 use Rattle.dvg_log.specs.declared.entry.Entry.TheVariants.{Offered, Refused, Busy, Asked, NothingPublished, Acted}
 use Rattle.dvg_log.specs.declared.entry.Entry.TheVariants.{Started, NoStrobe, Low, Fetched, Done, Broke, Still, Cleared}
@@ -43,11 +43,11 @@ OwnEntry A = Entry (Vec Stroke A)
 abbrev pub shown_of : {A : Type 0} → OwnEntry A → Shown
 shown_of entry = map_entry (λ drew. drew.items) entry
 
--- the entry of a fetch at this address that met this, by the generator's answer
-abbrev pub entry_by : {A : Type 0} → ℕ → Met → Taken A → Shown
-entry_by address (Waits byte) answer = Low address byte
-entry_by address (Whole None) answer = Broke address Hole
-entry_by address (Whole (Some word)) taken.Low = Fetched address word
-entry_by address (Whole (Some word)) taken.Word = Fetched address word
-entry_by address (Whole (Some word)) (taken.Done strokes) = Done address word strokes.items
-entry_by address (Whole (Some word)) (taken.Broke fault) = Broke address fault
+-- the entry of a fetch at this address that met this, by the generator's answer, and what the run drew, if it finished
+abbrev pub entry_by : {S : Type 0} → ℕ → Met → Step → S → Entry S
+entry_by address (Waits byte) answer drew = Low address byte
+entry_by address (Whole None) answer drew = Broke address Hole
+entry_by address (Whole (Some word)) step.Low drew = Fetched address word
+entry_by address (Whole (Some word)) step.Word drew = Fetched address word
+entry_by address (Whole (Some word)) step.Done drew = Done address word drew
+entry_by address (Whole (Some word)) (step.Broke fault) drew = Broke address fault

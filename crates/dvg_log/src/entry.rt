@@ -1,12 +1,12 @@
 //! What a log shows of an event.
 ghost use Rattle.std.specs.Prelude.{◌≡◌};
 ghost use Rattle.dvg_gen.specs.Bytes.{met};
-ghost use Rattle.dvg_log.specs.Entries.{drew_in, entry_by, map_entry, shown_of};
+ghost use Rattle.dvg_log.specs.Entries.{drew_in, entry_by, map_entry};
 
 use dvg_driver::Action;
 use dvg_frame::FrameFault;
-use dvg_gen::{GenFault, Stroke, Taken};
-use std::alloc::{Allocator, Global};
+use dvg_gen::{GenFault, Step, Stroke};
+use std::alloc::Global;
 
 /// What an event led to. Each event has exactly one entry.
 ///
@@ -49,11 +49,19 @@ pub enum Entry<S = Vec<Stroke>> {
 /// An entry that owns its strokes.
 pub type OwnEntry<A = Global> = Entry<Vec<Stroke, A>>;
 
-impl<A: Allocator> Entry<Vec<Stroke, A>> {
+impl<S: Drop> Entry<S> {
     /// The entry of a fetch at this word address: of a byte, after this low one if there is one, or
-    /// of a hole. `taken` is the generator's answer to it.
-    pub fn of_fetch(address: u16, low: Option<u8>, byte: Option<u8>, taken: Taken<A>) -> OwnEntry<A>
-        ensures { shown_of result ≡ entry_by address (met low byte) taken }
+    /// of a hole. `step` is the generator's answer to it, and `drew` what the run drew, which counts
+    /// only where it is finished.
+    #[inline(always)]
+    pub fn of_fetch(
+        address: u16,
+        low: Option<u8>,
+        byte: Option<u8>,
+        step: Step,
+        drew: S,
+    ) -> Entry<S>
+        ensures { result ≡ entry_by address (met low byte) step drew }
     {
         let Some(byte) = byte else {
             return Entry::Broke(address, GenFault::Hole);
@@ -62,10 +70,10 @@ impl<A: Allocator> Entry<Vec<Stroke, A>> {
             return Entry::Low(address, byte);
         };
         let word = u16::from_le_bytes([low, byte]);
-        match taken {
-            Taken::Low | Taken::Word => Entry::Fetched(address, word),
-            Taken::Done(strokes) => Entry::Done(address, word, strokes),
-            Taken::Broke(fault) => Entry::Broke(address, fault),
+        match step {
+            Step::Low | Step::Word => Entry::Fetched(address, word),
+            Step::Done => Entry::Done(address, word, drew),
+            Step::Broke(fault) => Entry::Broke(address, fault),
         }
     }
 }

@@ -67,14 +67,21 @@ impl<A: Allocator> EntriesKept<A> {
         self.keep_parts(entry, drew);
     }
 
-    // Keeps the entry of one fetch more.
+    // Keeps the entry of one fetch more. What its run drew, if it finished, is taken out of this
+    // list, and the other one takes its place.
     #[inline(always)]
-    fn keep_fetched(&mut self, fetched: FetchedByte<A>)
+    fn keep_fetched(
+        &mut self,
+        fetched: FetchedByte,
+        drawn: &mut Vec<Stroke, A>,
+        other: Vec<Stroke, A>,
+    )
         requires { 1 ≤ room_left self.old }
-        ensures kept { KeepsEntry self.old (entry_of fetched) self.new }
+        ensures kept { KeepsEntry self.old (entry_of fetched drawn.old.items) self.new }
         ensures left { room_left self.old ≤ room_left self.new + 1 }
     {
-        let (entry, drew) = fetched.replace(self.number());
+        let entry = fetched.entry(self.number());
+        let drew = fetched.take_drawn(drawn, other);
         self.keep_parts(entry, drew);
     }
 
@@ -189,15 +196,16 @@ fn log_fetches<S: Store>(
     ensures stops { OnErr result (StopsLogging world.old entries.old Fetch times
         world.new entries.new) }
 {
+    let mut drawn = world.no_strokes();
     for done in 0..times {
-        match world.feed() {
+        match world.feed(&mut drawn) {
             Ok(None) => {
                 for _again in done..times {
                     entries.keep(Entry::Still);
                 }
                 return Ok(());
             }
-            Ok(Some(fetched)) => entries.keep_fetched(fetched),
+            Ok(Some(fetched)) => entries.keep_fetched(fetched, &mut drawn, world.no_strokes()),
             Err(refused) => return Err(refused),
         }
     }

@@ -120,10 +120,14 @@ fn fetch_times<S: Store>(
     ensures len { vec_len pictures.new ≤ vec_len pictures.old + times }
     ensures capacity { vec_capacity pictures.new ≡ vec_capacity pictures.old }
 {
+    let mut drawn = world.no_strokes();
     for done in 0..times {
-        match world.feed() {
+        match world.feed(&mut drawn) {
             Ok(None) => return Ok(()),
-            Ok(Some(fetched)) => keep_picture(pictures, number + done, fetched.drew()),
+            Ok(Some(fetched)) => {
+                let drew = fetched.take_drawn(&mut drawn, world.no_strokes());
+                keep_picture(pictures, number + done, drew);
+            }
             Err(refused) => return Err(refused),
         }
     }

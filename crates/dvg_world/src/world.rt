@@ -3,7 +3,7 @@ ghost use Rattle.std.specs.Prelude.{◌≡◌, ◌≢◌, ◌↔◌, ℕ, List, 
 ghost use Rattle.std.specs.Prelude.{IsTrue, None, Ok, OnErr, OnOk};
 ghost use Rattle.dvg_driver.specs.Script.{IsWhole};
 ghost use Rattle.dvg_driver.specs.Stands.{IsInRam};
-ghost use Rattle.dvg_log.specs.Entries.{shown_of};
+ghost use Rattle.dvg_log.specs.Entries.{drew_in, map_entry, shown_of};
 ghost use Rattle.dvg_log.specs.Events.{happening_of};
 ghost use Rattle.dvg_log.specs.declared.event.Event.TheVariants.{Offer, Redraw, Tick, Strobe};
 ghost use Rattle.dvg_log.specs.declared.event.Event.TheVariants.{Fetch, ResetGen, ResetCpu};
@@ -22,7 +22,7 @@ use crate::fetched::FetchedByte;
 use dvg_code::OutOfMemory;
 use dvg_driver::Action;
 use dvg_frame::Draft;
-use dvg_gen::Generator;
+use dvg_gen::{Generator, Stroke};
 use dvg_log::{Entry, Event, OwnEntry, OwnEvent};
 use dvg_mem::{Image, MemFault, Rom, Store, fetch_byte};
 use std::marker::Model;
@@ -235,20 +235,60 @@ impl<S: Store> World<S> {
         ensures refused { OnErr result (self.new ≡ self.old) }
         ensures room { OnErr result (DrawsNow self.old) }
     {
-        match self.feed() {
+        let mut drawn = self.no_strokes();
+        match self.feed(&mut drawn) {
             Ok(None) => Ok(Entry::Still),
-            Ok(Some(fetched)) => Ok(fetched.entry()),
+            Ok(Some(fetched)) => Ok(fetched.entry(drawn)),
             Err(refused) => Err(refused),
         }
     }
 
-    // The generator fetches one byte, if a run is open. No entry is made of it.
+    /// The generator fetches one byte, as by `fetch`. The strokes of a run that it finishes take the
+    /// place of those in this list, which else stays as it is.
     #[inline(always)]
-    pub(crate) fn feed(&mut self) -> Result<Option<FetchedByte<S::Alloc>>, OutOfMemory>
-        ensures stands { IfOk result (λ fetched. AddsLine self.old Fetch (entry_of_fetch fetched)
-            self.new) }
+    pub fn fetch_into(
+        &mut self,
+        picture: &mut Vec<Stroke, S::Alloc>,
+    ) -> Result<Entry<()>, OutOfMemory>
+        ensures stands { IfOk result (λ entry. AddsLine self.old Fetch
+            (map_entry (λ _. picture.new.items) entry) self.new) }
+        ensures headline { IfOk result (λ entry. KeepsHeadlineAfter self.old Fetch
+            (map_entry (λ _. picture.new.items) entry)) }
+        ensures picture { IfOk result (λ entry. drew_in entry ≡ None
+            → picture.new ≡ picture.old) }
+        ensures still { result ≡ Ok Still → self.new ≡ self.old }
+        ensures refused { OnErr result
+            ((self.new ≡ self.old) × (picture.new ≡ picture.old)) }
+        ensures room { OnErr result (DrawsNow self.old) }
+    {
+        match self.feed(picture) {
+            Ok(None) => Ok(Entry::Still),
+            Ok(Some(fetched)) => Ok(fetched.entry(())),
+            Err(refused) => Err(refused),
+        }
+    }
+
+    // An empty list of strokes, whose memory would be that of the generator's own.
+    #[inline(always)]
+    pub(crate) fn no_strokes(&self) -> Vec<Stroke, S::Alloc>
+        ensures { result.items ≡ [] }
+    {
+        self.generator.no_strokes()
+    }
+
+    // The generator fetches one byte, if a run is open. No entry is made of it. The strokes of a
+    // run that it finishes take the place of those in this list.
+    #[inline(always)]
+    pub(crate) fn feed(
+        &mut self,
+        drawn: &mut Vec<Stroke, S::Alloc>,
+    ) -> Result<Option<FetchedByte>, OutOfMemory>
+        ensures stands { IfOk result (λ fetched. AddsLine self.old Fetch
+            (entry_of_fetch fetched drawn.new.items) self.new) }
+        ensures drawn { IfOk result (λ fetched. drew_in (entry_of_fetch fetched drawn.new.items)
+            ≡ None → drawn.new ≡ drawn.old) }
         ensures still { result ≡ Ok None → self.new ≡ self.old }
-        ensures refused { OnErr result (self.new ≡ self.old) }
+        ensures refused { OnErr result ((self.new ≡ self.old) × (drawn.new ≡ drawn.old)) }
         ensures room { OnErr result (DrawsNow self.old) }
     {
         let Some(address) = self.generator.wants() else {
@@ -256,12 +296,12 @@ impl<S: Store> World<S> {
         };
         let low = self.generator.low_byte();
         let byte = fetch_byte(&self.store, self.desk.rom(), address, low.is_some());
-        let taken = self.generator.take_byte(byte)?;
+        let step = self.generator.take_into(byte, drawn)?;
         Ok(Some(FetchedByte {
             address,
             low,
             byte,
-            taken,
+            step,
         }))
     }
 

@@ -3,17 +3,18 @@ use Rattle.std.specs.Prelude.{◌≡◌, Option, Some, None, Vec, option_map}
 use Rattle.dvg_gen.specs.Bytes.{met}
 use Rattle.dvg_gen.specs.declared.stroke.Stroke.{Stroke}
 use Rattle.dvg_log.specs.Entries.{Shown, drew_in, entry_by}
+use Rattle.dvg_log.specs.declared.entry.Entry.{Entry}
 use Rattle.dvg_log.specs.declared.entry.Entry.TheVariants.{Still}
 use Rattle.dvg_world.specs.declared.fetched.FetchedByte.{FetchedByte}
 
--- the entry of a byte that was fetched
-abbrev pub entry_of : {A : Type 0} → FetchedByte A → Shown
-entry_of fetched = entry_by fetched.address (met fetched.low fetched.byte) fetched.taken
+-- the entry of a byte that was fetched, by what the run drew, if it finished
+abbrev pub entry_of : {S : Type 0} → FetchedByte → S → Entry S
+entry_of fetched drew = entry_by fetched.address (met fetched.low fetched.byte) fetched.step drew
 
 -- the entry of a fetch, which fetches nothing where no run is open
-abbrev pub entry_of_fetch : {A : Type 0} → Option (FetchedByte A) → Shown
-entry_of_fetch None = Still
-entry_of_fetch (Some fetched) = entry_of fetched
+abbrev pub entry_of_fetch : {S : Type 0} → Option FetchedByte → S → Entry S
+entry_of_fetch None drew = Still
+entry_of_fetch (Some fetched) drew = entry_of fetched drew
 
 -- this is what the run of an entry drew, if it finished
 abbrev pub IsDrawnBy : {A : Type 0} → Shown → Option (Vec Stroke A) → Type 0

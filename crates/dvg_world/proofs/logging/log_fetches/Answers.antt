@@ -22,7 +22,7 @@ pub loop-again-preserved : goal.loop-again-preserved
 loop-again-preserved g c =
     let world = c.feed.new.self in
     let same : world ≡ c.loop-done.world = c.feed.ensures.still (c.in-Ok-None.is ∙ ap Ok c.in-Ok-None.field-0-is) in
-    let here = subst (λ fetched. AddsLine c.loop-done.world Fetch (entry_of_fetch fetched) world) c.in-Ok-None.field-0-is c.in-Ok-None.ensures.stands in
+    let here = subst (λ fetched. AddsLine c.loop-done.world Fetch (entry_of_fetch fetched c.feed.new.drawn.items) world) c.in-Ok-None.field-0-is c.in-Ok-None.ensures.stands in
     let line = subst (λ old. AddsLine old Fetch Still world) (sym same) here in
     let left = c.loop-again.invariant.left in
     let more = c.keep.ensures.left in
@@ -35,11 +35,11 @@ pub loop-done-preserved : goal.loop-done-preserved
 loop-done-preserved g c =
     let left = c.loop-done.invariant.left in
     let more = c.keep_fetched.ensures.left in
-    let line = subst (λ fetched. AddsLine c.loop-done.world Fetch (entry_of_fetch fetched) c.feed.new.self) c.in-Ok-Some.field-0-is c.in-Ok-Some.ensures.stands in
+    let line = subst (λ fetched. AddsLine c.loop-done.world Fetch (entry_of_fetch fetched c.feed.new.drawn.items) c.feed.new.self) c.in-Ok-Some.field-0-is c.in-Ok-Some.ensures.stands in
     record {
-      kept = logs_more c.args.entries.now c.loop-done.entries c.keep_fetched.new.self (entry_of c.in-Ok-Some.fetched) c.loop-done.invariant.kept line c.keep_fetched.ensures.kept;
+      kept = logs_more c.args.entries.now c.loop-done.entries c.keep_fetched.new.self (entry_of c.in-Ok-Some.fetched c.feed.new.drawn.items) c.loop-done.invariant.kept line c.keep_fetched.ensures.kept;
       left = omega (arith, left, more);
     }
 
 pub returns-in-Err-clause-stops : goal.returns-in-Err-clause-stops
-returns-in-Err-clause-stops g c = stops_logging c.args.entries.now c.loop-done.entries c.loop-done.invariant.kept c.loop-done-test.true c.in-Err.ensures.room c.in-Err.ensures.refused
+returns-in-Err-clause-stops g c = stops_logging c.args.entries.now c.loop-done.entries c.loop-done.invariant.kept c.loop-done-test.true c.in-Err.ensures.room c.in-Err.ensures.refused.0

@@ -5,14 +5,16 @@ use Rattle.dvg_log.specs.Entries.{shown_of}
 use Rattle.dvg_log.specs.declared.event.Event.TheVariants.{Fetch}
 use Rattle.dvg_log.specs.declared.entry.Entry.TheVariants.{Still}
 use Rattle.dvg_world.specs.Standing.{AddsLine}
-use Rattle.dvg_world.specs.own.Fetched.{entry_of_fetch}
+use Rattle.dvg_world.specs.own.Fetched.{entry_of, entry_of_fetch}
 use Rattle.dvg_world.proofs.Standing.{keeps_headline}
-use Rattle.dvg_world.proofs.Fetching.{never_still}
+use Rattle.dvg_world.proofs.Fetching.{map_entry_by, never_still}
 use Rattle.dvg_world.proofs.world.World.fetch.Goals as goal
 
 pub returns-in-Ok-None-clause-stands : goal.returns-in-Ok-None-clause-stands
 returns-in-Ok-None-clause-stands g c =
-    subst (λ fetched. AddsLine c.args.self.now Fetch (entry_of_fetch fetched) c.feed.new.self) c.in-Ok-None.field-0-is c.in-Ok-None.ensures.stands
+    let items = c.feed.new.drawn.items in
+    subst (λ fetched. AddsLine c.args.self.now Fetch (entry_of_fetch fetched items) c.feed.new.self)
+    c.in-Ok-None.field-0-is c.in-Ok-None.ensures.stands
 
 pub returns-in-Ok-None-clause-headline : goal.returns-in-Ok-None-clause-headline
 returns-in-Ok-None-clause-headline g c = keeps_headline Fetch Still (returns-in-Ok-None-clause-stands g c)
@@ -22,14 +24,23 @@ returns-in-Ok-None-clause-still g c is = c.feed.ensures.still (c.in-Ok-None.is �
 
 pub returns-in-Ok-Some-clause-stands : goal.returns-in-Ok-Some-clause-stands
 returns-in-Ok-Some-clause-stands g c =
-    let here = subst (λ fetched. AddsLine c.args.self.now Fetch (entry_of_fetch fetched) c.feed.new.self) c.in-Ok-Some.field-0-is c.in-Ok-Some.ensures.stands in
-    subst (λ entry. AddsLine c.args.self.now Fetch entry c.feed.new.self) (sym c.entry.ensures) here
+    let drawn = c.feed.new.drawn in
+    let fetched = c.in-Ok-Some.fetched in
+    let here =
+    subst (λ fetched. AddsLine c.args.self.now Fetch (entry_of_fetch fetched drawn.items) c.feed.new.self)
+    c.in-Ok-Some.field-0-is c.in-Ok-Some.ensures.stands in
+    let shown : shown_of c.entry.result ≡ entry_of fetched drawn.items =
+    ap shown_of c.entry.ensures
+    ∙ map_entry_by (λ list. list.items) fetched.address (met fetched.low fetched.byte) fetched.step drawn in
+    subst (λ entry. AddsLine c.args.self.now Fetch entry c.feed.new.self) (sym shown) here
 
 pub returns-in-Ok-Some-clause-headline : goal.returns-in-Ok-Some-clause-headline
-returns-in-Ok-Some-clause-headline g c = keeps_headline Fetch (shown_of c.entry.result) (returns-in-Ok-Some-clause-stands g c)
+returns-in-Ok-Some-clause-headline g c =
+    keeps_headline Fetch (shown_of c.entry.result) (returns-in-Ok-Some-clause-stands g c)
 
 pub returns-in-Ok-Some-clause-still : goal.returns-in-Ok-Some-clause-still
 returns-in-Ok-Some-clause-still g c is =
     let fetched = c.in-Ok-Some.fetched in
     let same : c.entry.result ≡ Still = cc in
-    absurd (never_still fetched.address (met fetched.low fetched.byte) fetched.taken (sym c.entry.ensures ∙ ap shown_of same))
+    let found = met fetched.low fetched.byte in
+    absurd (never_still fetched.address found fetched.step c.feed.new.drawn (sym c.entry.ensures ∙ same))
