@@ -1,11 +1,11 @@
 -- What a generator alone answers to a request.
-use Rattle.std.specs.Prelude.{◌≡◌, ◌⊎◌, ℕ, false, List, ◌∷◌, Option, Some, None, is_some}
+use Rattle.std.specs.Prelude.{◌≡◌, ◌⊎◌, ℕ, false, List, ◌∷◌, Option, Some, None, Vec, is_some}
 use Rattle.std.specs.Global.{Global}
 use Rattle.dvg_gen.specs.declared.stroke.Stroke.{Stroke}
-use Rattle.dvg_gen.specs.declared.taken.Taken.{Taken}
+use Rattle.dvg_gen.specs.declared.taken.Step.{Step}
 use Rattle.dvg_gen.specs.Bytes.{met}
 use Rattle.dvg_gen.specs.Completing.{DrawsNothing}
-use Rattle.dvg_gen.specs.Machine.{Machine, HasTaken, Answers}
+use Rattle.dvg_gen.specs.Machine.{Machine, HasTaken, Answers, taken_by}
 use Rattle.dvg_gen.specs.Told.{Told, Start, Reset, Newest, wants}
 use Rattle.dvg_log.specs.Entries.{Shown, entry_by}
 use Rattle.dvg_log.specs.declared.entry.Entry.TheVariants.{Started, Cleared, Still}
@@ -28,14 +28,15 @@ wanting None low = Came Still
 wanting (Some address) low = Wants address (is_some low)
 
 -- a byte or a hole is fetched: at the address that is wanted, and the answer is that of the entry that such a fetch has
--- in a log; the strokes are those of the newest finished run
+-- in a log, with these strokes if it finishes the run; the strokes left are those of the newest finished run
 pub record Fetches (byte : Option ℕ) (machine later : Machine) (drawn left : List Stroke) (reply : Reply) : Type 0 where
   pub address : ℕ
-  pub taken : Taken Global
+  pub step : Step
+  pub list : Vec Stroke Global
   pub entry : Shown
   pub wanted : OfHistories machine (λ history low run. wants run ≡ Some address)
-  pub answers : OfHistories machine (λ history low run. Answers history (met low byte) later taken)
-  pub shown : OfHistories machine (λ history low run. entry ≡ entry_by address (met low byte) taken)
+  pub answers : OfHistories machine (λ history low run. Answers history (met low byte) later (taken_by step list))
+  pub shown : OfHistories machine (λ history low run. entry ≡ entry_by address (met low byte) step list.items)
   pub answered : reply ≡ answered_by entry
   pub picture : left ≡ picture_by entry drawn
 

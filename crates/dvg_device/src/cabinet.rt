@@ -1,9 +1,11 @@
 //! A world, beside the image that it is reset to.
-ghost use Rattle.std.specs.Prelude.{◌≡◌, [], length, IfSome, MatchBool};
+ghost use Rattle.std.specs.Prelude.{◌≡◌, ◌⊎◌, [], List, length, IfSome, MatchBool};
+ghost use Rattle.dvg_gen.specs.declared.stroke.Stroke.{Stroke};
+ghost use Rattle.dvg_log.specs.declared.event.Event.TheVariants.{Tick, Fetch};
 ghost use Rattle.dvg_world.specs.Standing.{WorldAfter};
-ghost use Rattle.dvg_device.specs.Worlds.{WorldAnswers};
+ghost use Rattle.dvg_device.specs.Worlds.{Happens, Lacks, WorldAnswers};
 
-use crate::happening::ask_world;
+use crate::happening::{ask_world, fetch_in_world, tick_world};
 use crate::reply::Reply;
 use crate::request::Request;
 use dvg_frame::Draft;
@@ -49,6 +51,24 @@ impl Cabinet {
     {
         self.image.copy_from(image);
         self.world.begin_anew(alloc, rom, &self.image).is_ok()
+    }
+
+    // The driver of the world does one action.
+    #[inline(always)]
+    pub(crate) fn tick(&mut self) -> Reply
+        ensures { (drawn : List Stroke) → Happens Tick self.old self.new drawn drawn result }
+    {
+        tick_world(&mut self.world)
+    }
+
+    // The generator of the world fetches one byte. The strokes are those of the newest run that
+    // came to a HALT.
+    #[inline(always)]
+    pub(crate) fn fetch(&mut self, picture: &mut Vec<Stroke>) -> Reply
+        ensures { Happens Fetch self.old self.new picture.old.items picture.new.items result
+            ⊎ Lacks Fetch self.old self.new picture.old.items picture.new.items result }
+    {
+        fetch_in_world(&mut self.world, picture)
     }
 
     // Asks the world, with this draft and these staged bytes. The strokes are those of the newest

@@ -4,7 +4,7 @@ ghost use Rattle.dvg_gen.specs.Told.{wants};
 ghost use Rattle.dvg_device.specs.Generators.{Fetches, GeneratorAnswers, LacksRoom, OfHistories};
 ghost use Rattle.dvg_device.specs.Generators.{StaysStill, wanting};
 
-use crate::reply::{Reply, answered};
+use crate::reply::Reply;
 use crate::request::Request;
 use dvg_gen::{Generator, Stroke};
 use dvg_log::Entry;
@@ -47,7 +47,7 @@ fn wanted(generator: &Generator<Global>) -> Reply
 
 // Hands it a byte, or a hole.
 #[inline(always)]
-fn fetch(generator: &mut Generator<Global>, byte: Option<u8>, picture: &mut Vec<Stroke>) -> Reply
+pub(crate) fn fetch(generator: &mut Generator<Global>, byte: Option<u8>, picture: &mut Vec<Stroke>) -> Reply
     ensures { Fetches byte generator.old generator.new picture.old.items picture.new.items result
         ⊎ (LacksRoom byte generator.old generator.new picture.old.items picture.new.items result
         ⊎ StaysStill generator.old generator.new picture.old.items picture.new.items result) }
@@ -56,8 +56,8 @@ fn fetch(generator: &mut Generator<Global>, byte: Option<u8>, picture: &mut Vec<
         return Reply::Came(Entry::Still);
     };
     let low = generator.low_byte();
-    match generator.take_byte(byte) {
-        Ok(taken) => answered(Entry::of_fetch(address, low, byte, taken), picture),
+    match generator.take_into(byte, picture) {
+        Ok(step) => Reply::Came(Entry::of_fetch(address, low, byte, step, ())),
         Err(_) => Reply::NoMemory,
     }
 }

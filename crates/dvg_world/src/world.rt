@@ -184,10 +184,12 @@ impl<S: Store> World<S> {
         Entry::Acted(self.act())
     }
 
-    // The driver does one action, which is answered. Where it is idle, nothing changes.
+    /// The driver does one action, as by `tick`, and this is the action. Where it is idle, nothing
+    /// changes.
     #[inline(always)]
-    pub(crate) fn act(&mut self) -> Action
+    pub fn act(&mut self) -> Action
         ensures stands { AddsLine self.old Tick (Acted result) self.new }
+        ensures headline { KeepsHeadlineAfter self.old Tick (Acted result) }
         ensures idle { result ≡ Action.Idle → self.new ≡ self.old }
     {
         let byte1 = self.store.read(1);

@@ -1,6 +1,6 @@
 use Rattle.dvg_log.specs.declared.event.Event.TheVariants.{Tick}
 use Rattle.dvg_log.specs.declared.entry.Entry.TheVariants.{Acted}
-use Rattle.dvg_world.proofs.Standing.{adds_between, same_rom, ticks}
+use Rattle.dvg_world.proofs.Standing.{adds_between, keeps_headline, same_rom, ticks}
 use Rattle.dvg_world.proofs.world.World.act.Goals as goal
 
 pub returns-clause-stands : goal.returns-clause-stands
@@ -10,3 +10,6 @@ returns-clause-stands g c =
     (same_rom c.tick-action.ensures.rom
     (ticks c.read-byte1.ensures.image c.read-byte1.ensures.byte c.halted.ensures.value did.0
     (λ peeked life after. (did.2 peeked life after).0) (λ peeked life after. (did.2 peeked life after).1)))
+
+pub returns-clause-headline : goal.returns-clause-headline
+returns-clause-headline g c = keeps_headline Tick (Acted c.tick-action.result) (returns-clause-stands g c)

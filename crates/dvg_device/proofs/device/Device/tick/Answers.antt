@@ -1,0 +1,31 @@
+use Rattle.std.proofs.Common.{refl, sym, ap, ◌∙◌, inl, subst}
+use Rattle.dvg_log.specs.declared.event.Event.TheVariants.{Tick}
+use Rattle.dvg_world.specs.Desks.{TickAnswers}
+use Rattle.dvg_device.specs.Worlds.{Happens}
+use Rattle.dvg_device.proofs.device.Device.tick.Goals.{in-Nothing, in-World, in-Driver, in-Generator}
+use Rattle.dvg_device.proofs.device.Device.tick.Goals as goal
+
+pub returns : goal.returns
+returns c =
+    let picture = c.self.inside.picture.items in
+    elim c.match-self.branch [
+      | in-Nothing w ↦ rw (sym c.self.view_is, w.self-inside-is, w.result-is, w.in-Nothing.is) (refl, refl)
+      | in-World w ↦ rw (sym c.self.view_is, w.self-inside-is, w.result-is, w.in-World.is) (
+          w.tick.new.self,
+          picture,
+          refl,
+          inl (subst (λ world. Happens Tick world w.tick.new.self picture picture w.tick.result) w.deref_mut.ensures.value
+          (w.tick.ensures picture)),
+        )
+      | in-Driver w ↦
+          let driven = w.deref_mut-in-Driver.ensures.value in
+          rw (sym c.self.view_is, w.self-inside-is, w.result-is, w.in-Driver.is) (
+            w.tick-in-Driver.new.self,
+            refl,
+            w.tick-in-Driver.ensures.rom ∙ ap (λ d. d.rom) driven,
+            subst (λ d. TickAnswers c.args.halted c.args.byte1 d.stage w.tick-in-Driver.new.self.stage w.tick-in-Driver.result)
+            driven w.tick-in-Driver.ensures.answers,
+          )
+      | in-Generator w ↦ rw (sym c.self.view_is, w.self-inside-is, w.result-is, w.in-Generator.is)
+          (w.in-Generator.field-0, picture, refl, (refl, refl, refl))
+    ]
