@@ -1,8 +1,8 @@
 -- The table of what is drawn from each place, and how it grows.
 use Rattle.std.proofs.Common.{◌≡◌, ℕ, suc, ◌+◌, ◌-◌, ◌<◌, ◌≤◌, ◌⊎◌, inl, inr, ⊎_elim, Option, Some, None, true, false}
-use Rattle.std.proofs.Common.{List, [], ◌∷◌, ◌++◌, length, set, length-append, append_assoc, refl, sym, ap, ◌∙◌, subst}
+use Rattle.std.proofs.Common.{List, [], ◌∷◌, ◌++◌, length, set, append_assoc, refl, sym, ap, ◌∙◌, subst}
 use Rattle.std.proofs.Common.{arith}
-use Rattle.std.specs.Prelude.{IsSome}
+use Rattle.std.specs.Prelude.{Ok, Err}
 use Rattle.std.proofs.lemmas.Bool.{cases_lt, cases_eq}
 use Rattle.dvg_code.specs.Spelling.{word_count}
 use Rattle.dvg_code.specs.Acts.{Act, Moves, Jumps, Calls, Returns as GoesBack, Halts as Stops}
@@ -18,16 +18,17 @@ use Rattle.dvg_frame.specs.declared.checking.table.Ending.{Ending}
 use Rattle.dvg_frame.specs.declared.checking.table.Ending.TheVariants.{Halts, Returns}
 use Rattle.dvg_frame.specs.declared.checking.way.Way.{Way}
 use Rattle.dvg_frame.specs.declared.checking.way.Way.TheVariants.{Move, Jump, Call, Return, Halt}
+use Rattle.dvg_frame.specs.declared.checking.way.Span.TheVariants.{Over, Into}
 use Rattle.dvg_frame.specs.declared.fault.FrameFault.TheVariants.{RunsOff, OutOfRom, TooDeep, NoCaller}
 use Rattle.dvg_frame.specs.own.Pairs.{IsPlace, pair_of, place_index}
 use Rattle.dvg_frame.specs.Steps.{Stands, last, target, second, past, deep, bare, IsFine, Leads, on, jump, call, back}
 use Rattle.dvg_frame.specs.Steps.{Reached, step, Begins}
 use Rattle.dvg_frame.specs.Picture.{End, AtHalt, AtReturn}
 use Rattle.dvg_frame.specs.Loops.{Walks, none, more, HasLoop}
-use Rattle.dvg_frame.specs.own.Ways.{way, StandsSo, IsPlaceOf, EndsWithin}
-use Rattle.dvg_frame.specs.own.Tables.{AllFine, Knows, known_at, HasPlace, KeepsKnown, end_of, FitsAt, IsDrawnFrom}
-use Rattle.dvg_frame.specs.own.Tables.{IsKnown, IsTable, Next, StepsOn, IsGood, IsReady, Linked, IsChain, HasChain}
-use Rattle.dvg_frame.specs.own.Tables.{onward, IsLonger, IsCalled, places}
+use Rattle.dvg_frame.specs.own.Ways.{way, span, StandsSo, IsPlaceOf, EndsWithin}
+use Rattle.dvg_frame.specs.own.Tables.{AllFine, Knows, known_at, KeepsKnown, end_of, FitsAt, IsDrawnFrom, IsKnown}
+use Rattle.dvg_frame.specs.own.Tables.{IsTable, Next, StepsOn, IsGood, IsReady, Linked, HasChain, onward, IsLonger}
+use Rattle.dvg_frame.specs.own.Tables.{IsCalled, places}
 use Rattle.dvg_frame.proofs.Judged.{same_standing}
 use Rattle.dvg_frame.proofs.Marks.{same_place}
 use Rattle.dvg_frame.proofs.Knowing.{put_here, put_other}
@@ -143,6 +144,19 @@ module _ (F : List OpKind) (R : List ℕ) where
   from_halt stands (call stood) = let same = (same_standing stands stood).0 in cc
   from_halt stands (back stood) = let same = (same_standing stands stood).0 in cc
 
+-- what is fetched from a call
+pub call_stands : (F : List OpKind) (R : List ℕ) (p to : Place) (seen : Way) → StandsSo F R p seen
+    → span seen ≡ Into to → (after : Place) × Stands F R p (Calls to) after
+call_stands F R p to seen so into = by_way seen (stands_as F R p seen so) into
+  where
+    by_way : (seen : Way) → StandsAs F R p seen → span seen ≡ Into to → (after : Place) × Stands F R p (Calls to) after
+    by_way (Move after words) it into = absurd cc
+    by_way (Jump other) it into = absurd cc
+    by_way (Call other after) it into =
+        let same : other ≡ to = cc in (after, subst (λ x. Stands F R p (Calls x) after) same it)
+    by_way Return it into = absurd cc
+    by_way Halt it into = absurd cc
+
 -- what fits, by what it leads on to
 longer_fits : (rest : Drawn) (extra : ℕ) (new : Drawn) (d : ℕ) → IsLonger rest extra new → FitsAt new d → FitsAt rest d
 longer_fits rest extra new d longer fits =
@@ -176,10 +190,73 @@ fits_called inside rest new d called deeper fits =
     let calls = called.least (4 - d) (omega arith) (omega arith) in
     record { deep = omega arith; back = λ is. fits.back (sym called.returns ∙ is) }
 
+module _ (F : List OpKind) (R : List ℕ) (begins : Begins F) (table : List (Option Drawn)) (p : Place) (d : ℕ)
+    (good : IsGood F R d p) where
+  reached_low : (e : ℕ) → Reached F R p e → e ≤ 4
+  reached_low e reached = (reached_pair F R (few_ops F begins) begins (pair_of p e) reached).depth
+
+  -- from a return, and from a halt
+  known_return : (after : Place) → Stands F R p GoesBack after
+      → IsKnown F R table p (record { words = 1; end = Returns; returns = true; calls = 0 })
+  known_return after stands = record {
+    fine = λ e fits.
+        let some = fits.back refl in
+        fine_at F R d e stands good.fine (λ to same. absurd cc) (λ same bare. omega arith);
+    leads = λ e r k fits leads. absurd (from_back F R stands leads);
+    tight = λ all e reached. record {
+      deep = let low = reached_low e reached in omega arith;
+      back = λ some.
+          ⊎_elim (λ less. less) (λ no_less. absurd (all p e reached (NoCaller p) (bare stands (omega arith))))
+          (cases_lt 0 e);
+    };
+    draws = record {
+      count = 1;
+      few = λ low. refl;
+      draws = drawn_returns F R stands;
+      ends = ends_here F R p (λ q goes. stops_back F R stands goes);
+    };
+  }
+
+  known_halt : (after : Place) → Stands F R p Stops after
+      → IsKnown F R table p (record { words = 1; end = Halts; returns = false; calls = 0 })
+  known_halt after stands = record {
+    fine = λ e fits. fine_at F R d e stands good.fine (λ to same. absurd cc) (λ same bare. absurd cc);
+    leads = λ e r k fits leads. absurd (from_halt F R stands leads);
+    tight = λ all e reached. record {
+      deep = let low = reached_low e reached in omega arith;
+      back = λ some. let never : false ≡ true = some in absurd cc;
+    };
+    draws = record {
+      count = 1;
+      few = λ low. refl;
+      draws = drawn_halts F R stands;
+      ends = ends_here F R p (λ q goes. stops_halt F R stands goes);
+    };
+  }
+
+  -- what is drawn where a way leads nowhere
+  pub ending_known : (seen : Way) (drawn : Drawn) → StandsSo F R p seen → onward seen ≡ Err drawn
+      → IsKnown F R table p drawn
+  ending_known seen drawn so nowhere = by_way seen (stands_as F R p seen so) nowhere
+    where
+      by_way : (seen : Way) → StandsAs F R p seen → onward seen ≡ Err drawn → IsKnown F R table p drawn
+      by_way (Move after words) it never = absurd cc
+      by_way (Jump to) it never = absurd cc
+      by_way (Call to after) it never = absurd cc
+      by_way Return it ends =
+          let same : record { words = 1; end = Returns; returns = true; calls = 0 } ≡ drawn = cc in
+          subst (IsKnown F R table p) same (known_return it.0 it.1)
+      by_way Halt it ends =
+          let same : record { words = 1; end = Halts; returns = false; calls = 0 } ≡ drawn = cc in
+          subst (IsKnown F R table p) same (known_halt it.0 it.1)
+
 module _ (F : List OpKind) (R : List ℕ) (table : List (Option Drawn)) (p : Place) (d : ℕ) (rest : Drawn)
     (ready : IsReady F R table p d rest) where
+  knows_next : (q : Place) → StepsOn F R p q → Knows table q rest
+  knows_next q goes = subst (λ x. Knows table x rest) (goes_once F R p ready.next q ready.goes goes) ready.knows
+
   goes_place : (q : Place) → StepsOn F R p q → IsPlace q
-  goes_place q goes = (ready.next q goes).0
+  goes_place q goes = (knows_next q goes).0
 
   -- from an act that leads to one place alone
   module _ (act : Act Place) (after q : Place) (new : Drawn) (longer_by : ℕ) (stands : Stands F R p act after)
@@ -187,7 +264,7 @@ module _ (F : List OpKind) (R : List ℕ) (table : List (Option Drawn)) (p : Pla
       (longer : IsLonger rest longer_by new)
       (counted : (end : End) (n : ℕ) → DrawnSo F R q end n → DrawnSo F R p end (n + longer_by)) where
     is : known_at table q ≡ Some rest
-    is = (ready.next q goes).1
+    is = (knows_next q goes).1
 
     below : IsKnown F R table q rest
     below = ready.entries q rest (goes_place q goes) is
@@ -217,12 +294,12 @@ module _ (F : List OpKind) (R : List ℕ) (table : List (Option Drawn)) (p : Pla
 
   -- from a call
   module _ (to after : Place) (inside new : Drawn) (stands : Stands F R p (Calls to) after)
-      (inside_is : known_at table to ≡ Some inside) (called : IsCalled inside rest new) where
+      (knows : Knows table to inside) (called : IsCalled inside rest new) where
     deeper : IsKnown F R table to inside
-    deeper = ready.entries to inside (ready.inside to after stands).0 inside_is
+    deeper = ready.entries to inside knows.0 knows.1
 
     rest_is : known_at table after ≡ Some rest
-    rest_is = (ready.next after (goes_call F R stands)).1
+    rest_is = (knows_next after (goes_call F R stands)).1
 
     behind : IsKnown F R table after rest
     behind = ready.entries after rest (goes_place after (goes_call F R stands)) rest_is
@@ -263,9 +340,9 @@ module _ (F : List OpKind) (R : List ℕ) (table : List (Option Drawn)) (p : Pla
       leads = λ e r k fits leads.
           ⊎_elim
           (λ same. record {
-            inside = subst IsPlace same.1 (ready.inside to after stands).0;
+            inside = subst IsPlace same.1 knows.0;
             drawn = inside;
-            known = subst (λ x. known_at table x ≡ Some inside) same.1 inside_is;
+            known = subst (λ x. known_at table x ≡ Some inside) same.1 knows.1;
             fits = subst (FitsAt inside) (sym same.0) (inside_fits inside rest new e called fits);
           })
           (λ same. record {
@@ -282,96 +359,34 @@ module _ (F : List OpKind) (R : List ℕ) (table : List (Option Drawn)) (p : Pla
       draws = call_draws inside.end refl;
     }
 
-  reached_low : (e : ℕ) → Reached F R p e → e ≤ 4
-  reached_low e reached = (reached_pair F R (few_ops F ready.begins) ready.begins (pair_of p e) reached).depth
+  -- the same by what is fetched to where the way leads on
+  pub by_over : (seen : Way) (words : ℕ) (new : Drawn) → StandsSo F R p seen → span seen ≡ Over words
+      → IsLonger rest words new → IsKnown F R table p new
+  by_over seen words new so over longer = by_way seen (stands_as F R p seen so) over
+    where
+      by_way : (seen : Way) → StandsAs F R p seen → span seen ≡ Over words → IsKnown F R table p new
+      by_way (Move after count) it over =
+          known_on (Moves it.0) after after new words it.1 (λ to same. cc) (λ same. cc) (goes_move F R it.1) longer
+          (λ end n drawn.
+          let counted = it.2 in
+          let same : count ≡ words = cc in
+          let sum : word_count it.0 + n ≡ n + words = omega arith in
+          subst (DrawnSo F R p end) sum (drawn_moves F R end n it.1 drawn))
+      by_way (Jump to) it over =
+          known_on (Jumps to) it.0 to new words it.1 (λ other same. cc) (λ same. cc) (goes_jump F R it.1) longer
+          (λ end n drawn.
+          let same : 1 ≡ words = cc in
+          let sum : suc n ≡ n + words = omega arith in
+          subst (DrawnSo F R p end) sum (drawn_jumps F R end n it.1 drawn))
+      by_way (Call to after) it over = absurd cc
+      by_way Return it over = absurd (stops_back F R it.1 ready.goes)
+      by_way Halt it over = absurd (stops_halt F R it.1 ready.goes)
 
-  -- from a return, and from a halt
-  known_return : (after : Place) (new : Drawn) → Stands F R p GoesBack after
-      → new ≡ record { words = 1; end = Returns; returns = true; calls = 0 } → IsKnown F R table p new
-  known_return after new stands is =
-      let words = ap (λ x. x.words) is in
-      let end = ap (λ x. x.end) is in
-      let returns = ap (λ x. x.returns) is in
-      let calls = ap (λ x. x.calls) is in
-      record {
-        fine = λ e fits.
-            let some = fits.back returns in
-            fine_at F R d e stands ready.good.fine (λ to same. absurd cc) (λ same bare. omega arith);
-        leads = λ e r k fits leads. absurd (from_back F R stands leads);
-        tight = λ all e reached. record {
-          deep = let low = reached_low e reached in omega arith;
-          back = λ some.
-              ⊎_elim (λ less. less) (λ no_less. absurd (all p e reached (NoCaller p) (bare stands (omega arith))))
-              (cases_lt 0 e);
-        };
-        draws = record {
-          count = 1;
-          few = λ low. words;
-          draws = subst (λ e. DrawnSo F R p (end_of e) 1) (sym end) (drawn_returns F R stands);
-          ends = ends_here F R p (λ q goes. stops_back F R stands goes);
-        };
-      }
-
-  known_halt : (after : Place) (new : Drawn) → Stands F R p Stops after
-      → new ≡ record { words = 1; end = Halts; returns = false; calls = 0 } → IsKnown F R table p new
-  known_halt after new stands is =
-      let words = ap (λ x. x.words) is in
-      let end = ap (λ x. x.end) is in
-      let returns = ap (λ x. x.returns) is in
-      let calls = ap (λ x. x.calls) is in
-      record {
-        fine = λ e fits. fine_at F R d e stands ready.good.fine (λ to same. absurd cc) (λ same bare. absurd cc);
-        leads = λ e r k fits leads. absurd (from_halt F R stands leads);
-        tight = λ all e reached. record {
-          deep = let low = reached_low e reached in omega arith;
-          back = λ some. let never : false ≡ true = sym returns ∙ some in absurd cc;
-        };
-        draws = record {
-          count = 1;
-          few = λ low. words;
-          draws = subst (λ e. DrawnSo F R p (end_of e) 1) (sym end) (drawn_halts F R stands);
-          ends = ends_here F R p (λ q goes. stops_halt F R stands goes);
-        };
-      }
-
-  -- the same by the way on
-  module _ (seen : Way) (so : StandsSo F R p seen) where
-    seen_as : (other : Way) → seen ≡ other → StandsAs F R p other
-    seen_as other is = subst (StandsAs F R p) is (stands_as F R p seen so)
-
-    pub call_has : (to after : Place) → seen ≡ Call to after → HasPlace table to
-    call_has to after is = ready.inside to after (seen_as (Call to after) is)
-
-    pub by_move : (after : Place) (words : ℕ) (new : Drawn) → seen ≡ Move after words → IsLonger rest words new
-        → IsKnown F R table p new
-    by_move after words new is longer =
-        let it = seen_as (Move after words) is in
-        known_on (Moves it.0) after after new words it.1 (λ to same. cc) (λ same. cc) (goes_move F R it.1) longer
-        (λ end n drawn.
-        let count = it.2 in
-        let sum : word_count it.0 + n ≡ n + words = omega arith in
-        subst (DrawnSo F R p end) sum (drawn_moves F R end n it.1 drawn))
-
-    pub by_jump : (to : Place) (new : Drawn) → seen ≡ Jump to → IsLonger rest 1 new → IsKnown F R table p new
-    by_jump to new is longer =
-        let it = seen_as (Jump to) is in
-        known_on (Jumps to) it.0 to new 1 it.1 (λ other same. cc) (λ same. cc) (goes_jump F R it.1) longer
-        (λ end n drawn.
-        let sum : suc n ≡ n + 1 = omega arith in
-        subst (DrawnSo F R p end) sum (drawn_jumps F R end n it.1 drawn))
-
-    pub by_call : (to after : Place) (inside new : Drawn) → seen ≡ Call to after → known_at table to ≡ Some inside
-        → IsCalled inside rest new → IsKnown F R table p new
-    by_call to after inside new is inside_is called =
-        known_call to after inside new (seen_as (Call to after) is) inside_is called
-
-    pub by_return : (new : Drawn) → seen ≡ Return → new ≡ record { words = 1; end = Returns; returns = true; calls = 0 }
-        → IsKnown F R table p new
-    by_return new is new_is = let it = seen_as Return is in known_return it.0 new it.1 new_is
-
-    pub by_halt : (new : Drawn) → seen ≡ Halt → new ≡ record { words = 1; end = Halts; returns = false; calls = 0 }
-        → IsKnown F R table p new
-    by_halt new is new_is = let it = seen_as Halt is in known_halt it.0 new it.1 new_is
+  pub by_into : (seen : Way) (to : Place) (inside new : Drawn) → StandsSo F R p seen → span seen ≡ Into to
+      → Knows table to inside → IsCalled inside rest new → IsKnown F R table p new
+  by_into seen to inside new so into knows called =
+      let it = call_stands F R p to seen so into in
+      known_call to it.0 inside new it.1 knows called
 
   pub here_place : IsPlace p
   here_place = in_place F R p ready.good.inside
@@ -434,31 +449,15 @@ module _ (table new : List (Option Drawn)) (p : Place) (drawn : Drawn) (inside :
 
 -- where a way leads on
 pub onward_goes : (F : List OpKind) (R : List ℕ) (p next : Place) (seen : Way) → StandsSo F R p seen
-    → onward seen ≡ Some next → StepsOn F R p next
-onward_goes F R p next seen so is = by_way seen (stands_as F R p seen so) is
+    → onward seen ≡ Ok next → StepsOn F R p next
+onward_goes F R p next seen so goes = by_way seen (stands_as F R p seen so) goes
   where
-    by_way : (seen : Way) → StandsAs F R p seen → onward seen ≡ Some next → StepsOn F R p next
-    by_way (Move after words) it is = let same : after ≡ next = cc in subst (StepsOn F R p) same (goes_move F R it.1)
-    by_way (Jump to) it is = let same : to ≡ next = cc in subst (StepsOn F R p) same (goes_jump F R it.1)
-    by_way (Call to after) it is = let same : after ≡ next = cc in subst (StepsOn F R p) same (goes_call F R it)
-    by_way Return it is = absurd cc
-    by_way Halt it is = absurd cc
-
-pub onward_nowhere : (F : List OpKind) (R : List ℕ) (p : Place) (seen : Way) → StandsSo F R p seen → onward seen ≡ None
-    → ((q : Place) → ¬ StepsOn F R p q)
-onward_nowhere F R p seen so is = by_way seen (stands_as F R p seen so) is
-  where
-    by_way : (seen : Way) → StandsAs F R p seen → onward seen ≡ None → ((q : Place) → ¬ StepsOn F R p q)
-    by_way (Move after words) it is = absurd cc
-    by_way (Jump to) it is = absurd cc
-    by_way (Call to after) it is = absurd cc
-    by_way Return it is = λ q goes. stops_back F R it.1 goes
-    by_way Halt it is = λ q goes. stops_halt F R it.1 goes
-
--- a place that calls, at a depth at which it has no fault
-pub call_stands : (F : List OpKind) (R : List ℕ) (p to after : Place) (seen : Way) → StandsSo F R p seen
-    → seen ≡ Call to after → Stands F R p (Calls to) after
-call_stands F R p to after seen so is = subst (StandsAs F R p) is (stands_as F R p seen so)
+    by_way : (seen : Way) → StandsAs F R p seen → onward seen ≡ Ok next → StepsOn F R p next
+    by_way (Move after words) it goes = let same : after ≡ next = cc in subst (StepsOn F R p) same (goes_move F R it.1)
+    by_way (Jump to) it goes = let same : to ≡ next = cc in subst (StepsOn F R p) same (goes_jump F R it.1)
+    by_way (Call to after) it goes = let same : after ≡ next = cc in subst (StepsOn F R p) same (goes_call F R it)
+    by_way Return it goes = absurd cc
+    by_way Halt it goes = absurd cc
 
 module _ (F : List OpKind) (R : List ℕ) (d : ℕ) where
   pub not_within : (p : Place) → IsFine F R p d → EndsWithin R p → ⊥
@@ -468,11 +467,6 @@ module _ (F : List OpKind) (R : List ℕ) (d : ℕ) where
 
   pub good_by : (p : Place) → IsPlaceOf F R p → IsFine F R p d → (AllFine F R → Reached F R p d) → IsGood F R d p
   good_by p inside fine reached = record { inside = inside; fine = fine; reached = reached }
-
-pub has_some : (table : List (Option Drawn)) (p : Place) (known : Option Drawn) → IsPlace p → known_at table p ≡ known
-    → IsSome known → HasPlace table p
-has_some table p None inside at some = absurd cc
-has_some table p (Some drawn) inside at some = (inside, (drawn, at))
 
 module _ (F : List OpKind) (R : List ℕ) (begins : Begins F) (d : ℕ) where
   -- where a place without a fault leads on to, there is a place
@@ -529,58 +523,16 @@ module _ (F : List OpKind) (R : List ℕ) (begins : Begins F) (d : ℕ) where
       let walk = subst (λ k. Walks F R d start k end) count (linked_walk start end pairs linked) in
       record { place = start; depth = d; end = end; reached = reached all; walk = walk }
 
-  -- pairs up to a place that the table has, or to one that leads nowhere
-  pub chain_to : (table : List (Option Drawn)) (drawn : Drawn) (start end : Place) (pairs : List Pair)
-      → Linked F R d start pairs end → Knows table end drawn → IsChain F R table d drawn start pairs
-  chain_to table drawn start end [] linked knows = subst (λ x. Knows table x drawn) (sym linked) knows
-  chain_to table drawn start end (pair ∷ pairs) linked knows =
+  -- the last of such pairs leads to where they lead
+  pub linked_pop : (start end : Place) (pairs : List Pair) (pair : Pair) → Linked F R d start (pairs ++ pair ∷ []) end
+      → Linked F R d start pairs pair.place × IsGood F R d pair.place × StepsOn F R pair.place end
+  linked_pop start end [] pair linked =
       let rest = linked.2 in
-      (linked.0, linked.1, inl (rest.0, rest.1, chain_to table drawn rest.0 end pairs rest.2 knows))
-
-  pub chain_ends : (table : List (Option Drawn)) (drawn : Drawn) (start end : Place) (pairs : List Pair) (pair : Pair)
-      → pair.place ≡ end → Linked F R d start pairs end → IsGood F R d end → ((q : Place) → ¬ StepsOn F R end q)
-      → IsChain F R table d drawn start (pairs ++ pair ∷ [])
-  chain_ends table drawn start end [] pair same linked good nowhere =
-      let leads_nowhere = subst (λ x. (q : Place) → ¬ StepsOn F R x q) (sym same) nowhere in
-      (linked ∙ sym same, subst (IsGood F R d) (sym same) good, inr (leads_nowhere, refl))
-  chain_ends table drawn start end (first ∷ pairs) pair same linked good nowhere =
+      (linked.0, linked.1, subst (StepsOn F R pair.place) rest.2 rest.1)
+  linked_pop start end (first ∷ pairs) pair linked =
       let rest = linked.2 in
-      (linked.0, linked.1, inl (rest.0, rest.1, chain_ends table drawn rest.0 end pairs pair same rest.2 good nowhere))
-
-  -- the last place of a chain: the table has this of what it leads on to
-  pub record IsLast (table : List (Option Drawn)) (drawn : Drawn) (p : Place) : Type 0 where
-    pub good : IsGood F R d p
-    pub next : (q : Place) → StepsOn F R p q → Knows table q drawn
-
-  not_none : (pairs : List Pair) (pair : Pair) → pairs ++ pair ∷ [] ≡ [] → ⊥
-  not_none pairs pair is = let never = ap length is in let sum = length-append pairs (pair ∷ []) in omega arith
-
-  pub chain_last : (table : List (Option Drawn)) (drawn : Drawn) (start : Place) (pairs : List Pair) (pair : Pair)
-      → IsChain F R table d drawn start (pairs ++ pair ∷ []) → IsLast table drawn pair.place
-  chain_last table drawn start [] pair chain =
-      record {
-        good = chain.1;
-        next = λ q goes.
-            ⊎_elim
-            (λ on. subst (λ x. Knows table x drawn) (goes_once F R pair.place on.0 q on.1 goes) on.2)
-            (λ nowhere. absurd (nowhere.0 q goes))
-            chain.2;
-      }
-  chain_last table drawn start (first ∷ pairs) pair chain =
-      ⊎_elim (λ on. chain_last table drawn on.0 pairs pair on.2) (λ nowhere. absurd (not_none pairs pair nowhere.1))
-      chain.2
-
-  pub chain_front : (table new : List (Option Drawn)) (old drawn : Drawn) (start : Place)
-      (pairs : List Pair) (pair : Pair) → IsChain F R table d old start (pairs ++ pair ∷ [])
-      → Knows new pair.place drawn → IsChain F R new d drawn start pairs
-  chain_front table new old drawn start [] pair chain knows = subst (λ x. Knows new x drawn) (sym chain.0) knows
-  chain_front table new old drawn start (first ∷ pairs) pair chain knows =
-      let front =
-      ⊎_elim
-      (λ on. inl (on.0, on.1, chain_front table new old drawn on.0 pairs pair on.2 knows))
-      (λ nowhere. absurd (not_none pairs pair nowhere.1))
-      chain.2 in
-      (chain.0, chain.1, front)
+      let last = linked_pop rest.0 end pairs pair rest.2 in
+      ((linked.0, linked.1, (rest.0, rest.1, last.0)), last.1, last.2)
 
   -- a chain after what was there before
   pub has_linked_more : (start end next : Place) (before old new pairs : List Pair) (pair : Pair) → pair.place ≡ end
@@ -590,16 +542,6 @@ module _ (F : List OpKind) (R : List ℕ) (begins : Begins F) (d : ℕ) where
   has_linked_more start end next before old new pairs pair same old_is linked good new_is goes =
       let is = new_is ∙ ap (λ xs. xs ++ pair ∷ []) old_is ∙ append_assoc before pairs (pair ∷ []) in
       (is, linked_push start end next pairs pair same linked good goes)
-
-  pub has_chain_ends : (table : List (Option Drawn)) (drawn : Drawn) (start end : Place)
-      (before old new pairs : List Pair) (pair : Pair) → pair.place ≡ end → old ≡ before ++ pairs
-      → Linked F R d start pairs end → IsGood F R d end → new ≡ old ++ pair ∷ []
-      → ((q : Place) → ¬ StepsOn F R end q) → HasChain F R table d start drawn before new
-  has_chain_ends table drawn start end before old new pairs pair same old_is linked good new_is nowhere = record {
-    pairs = pairs ++ pair ∷ [];
-    is = new_is ∙ ap (λ xs. xs ++ pair ∷ []) old_is ∙ append_assoc before pairs (pair ∷ []);
-    chain = chain_ends table drawn start end pairs pair same linked good nowhere;
-  }
 
 -- the last pair of a list that is longer than what was there before
 pub record Split (before pairs rest : List Pair) (pair : Pair) : Type 0 where
@@ -620,101 +562,99 @@ split (first ∷ before) pairs (other ∷ rest) pair is longer =
     let it = split before pairs rest pair below (omega arith) in
     record { front = it.front; is = it.is; left = ap (λ x. x ∷ rest) (sym same) ∙ ap (λ xs. first ∷ xs) it.left }
 
-pub none_more : (before pairs : List Pair) → length (before ++ pairs) ≤ length before → pairs ≡ []
-none_more before [] low = refl
-none_more before (pair ∷ pairs) low = let sum = length-append before (pair ∷ pairs) in absurd (omega arith)
-
--- a call is known by its way
-call_is : (F : List OpKind) (R : List ℕ) (p to after : Place) (seen : Way) → StandsSo F R p seen
-    → Stands F R p (Calls to) after → seen ≡ Call to after
-call_is F R p to after seen so stands =
-    let same = same_standing so.stands stands in
-    so.is ∙ ap (λ act. way act so.after) same.0 ∙ ap (λ x. Call to x) same.1
+-- a place stays ready in a table that keeps what it had
+pub ready_keeps : (F : List OpKind) (R : List ℕ) (old new : List (Option Drawn)) (p : Place) (d : ℕ) (rest : Drawn)
+    → IsReady F R old p d rest → KeepsKnown old new → IsTable F R new → IsReady F R new p d rest
+ready_keeps F R old new p d rest ready keeps entries = record {
+  begins = ready.begins;
+  good = ready.good;
+  entries = entries;
+  next = ready.next;
+  goes = ready.goes;
+  knows = knows_keeps old new ready.next rest keeps ready.knows;
+}
 
 module _ (F : List OpKind) (R : List ℕ) (begins : Begins F) (d : ℕ) where
   -- what a chain is once its last pair is taken out
   pub record Popped (table : List (Option Drawn)) (old : Drawn) (start : Place)
-      (before rest : List Pair) (pair : Pair) : Type 0 where
+      (before rest : List Pair) (p : Place) : Type 0 where
     pub front : List Pair
     pub left : rest ≡ before ++ front
-    pub last : IsLast F R begins d table old pair.place
-    pub kept : (new : List (Option Drawn)) (drawn : Drawn) → Knows new pair.place drawn
-        → IsChain F R new d drawn start front
+    pub linked : Linked F R d start front p
+    pub ready : IsReady F R table p d old
 
   pub popped : (table : List (Option Drawn)) (old : Drawn) (start : Place) (before all rest : List Pair) (pair : Pair)
-      → HasChain F R table d start old before all → all ≡ rest ++ pair ∷ [] → length before < length all
-      → Popped table old start before rest pair
-  popped table old start before all rest pair has is longer =
+      → IsTable F R table → HasChain F R table d start old before all → all ≡ rest ++ pair ∷ []
+      → length before < length all → Popped table old start before rest pair.place
+  popped table old start before all rest pair entries has is longer =
       let count = ap length has.is in
       let it = split before has.pairs rest pair (sym has.is ∙ is) (omega arith) in
-      let chain : IsChain F R table d old start (it.front ++ pair ∷ []) =
-      subst (IsChain F R table d old start) it.is has.chain in
+      let linked = subst (λ pairs. Linked F R d start pairs has.last) it.is has.linked in
+      let last = linked_pop F R begins d start has.last it.front pair linked in
       record {
         front = it.front;
         left = it.left;
-        last = chain_last F R begins d table old start it.front pair chain;
-        kept = λ new drawn here. chain_front F R begins d table new old drawn start it.front pair chain here;
+        linked = last.0;
+        ready = record {
+          begins = begins;
+          good = last.1;
+          entries = entries;
+          next = has.last;
+          goes = last.2;
+          knows = has.knows;
+        };
       }
 
   pub left_chain : (table new : List (Option Drawn)) (old drawn : Drawn) (start : Place)
-      (before rest now : List Pair) (pair : Pair) → Popped table old start before rest pair → now ≡ rest
-      → Knows new pair.place drawn → HasChain F R new d start drawn before now
-  left_chain table new old drawn start before rest now pair out same here =
-      record { pairs = out.front; is = same ∙ out.left; chain = out.kept new drawn here }
+      (before rest now : List Pair) (p : Place) → Popped table old start before rest p → now ≡ rest
+      → Knows new p drawn → HasChain F R new d start drawn before now
+  left_chain table new old drawn start before rest now p out same here =
+      record { pairs = out.front; is = same ∙ out.left; last = p; linked = out.linked; knows = here }
 
-  -- the place that was taken out is ready, in a table that keeps what it had
-  pub record IsTurn (old new : List (Option Drawn)) (drawn : Drawn) (p : Place) (way : Way) : Type 0 where
-    pub so : StandsSo F R p way
-    pub ready : IsReady F R new p d drawn
+  -- this is drawn from the place that was taken out, by a table that keeps what it had
+  pub record IsTurn (old new : List (Option Drawn)) (p : Place) (drawn : Drawn) : Type 0 where
     pub keeps : KeepsKnown old new
+    pub entries : IsTable F R new
+    pub known : IsKnown F R new p drawn
 
-  module _ (table : List (Option Drawn)) (drawn : Drawn) (p : Place) (last : IsLast F R begins d table drawn p)
+  pub turn_is : (old mid new : List (Option Drawn)) (p : Place) (drawn now : Drawn) → new ≡ mid → now ≡ drawn
+      → IsTurn old mid p drawn → IsTurn old new p now
+  turn_is old mid new p drawn now new_is now_is turn =
+      subst (λ table. IsTurn old table p now) (sym new_is) (subst (IsTurn old mid p) (sym now_is) turn)
+
+  module _ (table : List (Option Drawn)) (p : Place) (rest : Drawn) (ready : IsReady F R table p d rest)
       (seen : Way) (so : StandsSo F R p seen) where
-    pub turn_call : (to after : Place) (mid new : List (Option Drawn)) (way : Way) → seen ≡ Call to after
-        → KeepsKnown table mid → IsTable F R mid → HasPlace mid to → new ≡ mid → way ≡ seen
-        → IsTurn table new drawn p way
-    turn_call to after mid new way is keeps entries has new_is way_is = record {
-      so = subst (StandsSo F R p) (sym way_is) so;
-      ready = subst (λ t. IsReady F R t p d drawn) (sym new_is) (record {
-        begins = begins;
-        good = last.good;
-        entries = entries;
-        next = λ q goes. knows_keeps table mid q drawn keeps (last.next q goes);
-        inside = λ other behind stands.
-            let two : Call to after ≡ Call other behind = sym is ∙ call_is F R p other behind seen so stands in
-            let same : to ≡ other = cc in
-            subst (HasPlace mid) same has;
-      });
-      keeps = subst (KeepsKnown table) (sym new_is) keeps;
+    pub turn_over : (words : ℕ) (drawn : Drawn) → span seen ≡ Over words → IsLonger rest words drawn
+        → IsTurn table table p drawn
+    turn_over words drawn over longer = record {
+      keeps = keeps_same table;
+      entries = ready.entries;
+      known = by_over F R table p d rest ready seen words drawn so over longer;
     }
 
-    pub turn_other : (new : List (Option Drawn)) (way : Way) → ((to after : Place) → seen ≡ Call to after → ⊥)
-        → IsTable F R table → new ≡ table → way ≡ seen → IsTurn table new drawn p way
-    turn_other new way no_call entries new_is way_is = record {
-      so = subst (StandsSo F R p) (sym way_is) so;
-      ready = subst (λ t. IsReady F R t p d drawn) (sym new_is) (record {
-        begins = begins;
-        good = last.good;
-        entries = entries;
-        next = last.next;
-        inside = λ to after stands. absurd (no_call to after (call_is F R p to after seen so stands));
-      });
-      keeps = subst (KeepsKnown table) (sym new_is) (keeps_same table);
+    pub turn_into : (to : Place) (new : List (Option Drawn)) (inside drawn : Drawn) → span seen ≡ Into to
+        → KeepsKnown table new → IsTable F R new → Knows new to inside → IsCalled inside rest drawn
+        → IsTurn table new p drawn
+    turn_into to new inside drawn into keeps entries knows called = record {
+      keeps = keeps;
+      entries = entries;
+      known = by_into F R new p d rest (ready_keeps F R table new p d rest ready keeps entries) seen to inside drawn so
+          into knows called;
     }
 
     -- what it calls
-    module _ (to after : Place) (is : seen ≡ Call to after) where
-      stands : Stands F R p (Calls to) after
-      stands = call_stands F R p to after seen so is
+    module _ (to : Place) (into : span seen ≡ Into to) where
+      calls : (after : Place) × Stands F R p (Calls to) after
+      calls = call_stands F R p to seen so into
 
       pub to_in : IsPlaceOf F R to
-      to_in = call_in F R begins d p to after last.good stands
+      to_in = call_in F R begins d p to calls.0 ready.good calls.1
 
       pub to_place : IsPlace to
       to_place = in_place F R to to_in
 
       pub to_low : d ≡ 4 → ⊥
-      to_low = call_low F R begins d p to after last.good stands
+      to_low = call_low F R begins d p to calls.0 ready.good calls.1
 
       pub to_reached : AllFine F R → Reached F R to (d + 1)
-      to_reached = call_reached F R begins d p to after last.good stands
+      to_reached = call_reached F R begins d p to calls.0 ready.good calls.1

@@ -1,6 +1,6 @@
 -- What is known of each place, and the table of it. Only the check's own functions cite this.
-use Rattle.std.specs.Prelude.{◌≡◌, ℕ, ◌+◌, ◌/◌, ◌<◌, ◌≤◌, ◌^◌, ◌⊎◌, List, [], ◌∷◌, ◌++◌, length, true, Option, Some}
-use Rattle.std.specs.Prelude.{None, slice_index_or, ◌==◌, if◌then◌else◌, All, Result, MatchResult}
+use Rattle.std.specs.Prelude.{◌≡◌, ℕ, ◌+◌, ◌/◌, ◌<◌, ◌≤◌, ◌^◌, List, [], ◌∷◌, ◌++◌, length, Option, Some}
+use Rattle.std.specs.Prelude.{None, slice_index_or, ◌==◌, if◌then◌else◌, All, Result, Ok, Err, MatchResult, true, false}
 use Rattle.dvg_code.specs.Acts.{Act, Moves, Jumps, Calls, Returns as GoesBack, Halts as Stops}
 use Rattle.dvg_gen.specs.declared.beam.Beam.{Beam}
 use Rattle.dvg_gen.specs.declared.stroke.Stroke.{Stroke}
@@ -46,10 +46,6 @@ known_at table p = slice_index_or table (place_index p) None
 -- the table has this of a place
 abbrev pub Knows : List (Option Drawn) → Place → Drawn → Type 0
 Knows table p drawn = IsPlace p × (known_at table p ≡ Some drawn)
-
--- the table has what is drawn from a place
-abbrev pub HasPlace : List (Option Drawn) → Place → Type 0
-HasPlace table p = IsPlace p × ((drawn : Drawn) × (known_at table p ≡ Some drawn))
 
 -- the table has nothing
 abbrev pub HasNone : List (Option Drawn) → Type 0
@@ -128,22 +124,23 @@ pub record IsGood (F : List OpKind) (R : List ℕ) (d : ℕ) (p : Place) : Type 
   pub fine : IsFine F R p d
   pub reached : AllFine F R → Reached F R p d
 
--- such a place, where the table has this of where it leads on, and has each place that it calls
+-- such a place, where the table has this of where it leads on
 pub record IsReady (F : List OpKind) (R : List ℕ) (table : List (Option Drawn)) (p : Place) (d : ℕ)
     (rest : Drawn) : Type 0 where
   pub begins : Begins F
   pub good : IsGood F R d p
   pub entries : IsTable F R table
-  pub next : (q : Place) → StepsOn F R p q → Knows table q rest
-  pub inside : (to after : Place) → Stands F R p (Calls to) after → HasPlace table to
+  pub next : Place
+  pub goes : StepsOn F R p next
+  pub knows : Knows table next rest
 
--- where a way leads on at its own depth
-abbrev pub onward : Way → Option Place
-onward (Move after words) = Some after
-onward (Jump to) = Some to
-onward (Call to after) = Some after
-onward Return = None
-onward Halt = None
+-- where a way leads on at its own depth, or else what is drawn there
+abbrev pub onward : Way → Result Place Drawn
+onward (Move after words) = Ok after
+onward (Jump to) = Ok to
+onward (Call to after) = Ok after
+onward Return = Err (record { words = 1; end = Returns; returns = true; calls = 0 })
+onward Halt = Err (record { words = 1; end = Halts; returns = false; calls = 0 })
 
 -- steps at one depth lead through the places of these pairs, one after the other, and then to a place
 abbrev pub Linked : List OpKind → List ℕ → ℕ → Place → List Pair → Place → Type 0
@@ -151,20 +148,14 @@ Linked F R d start [] last = start ≡ last
 Linked F R d start (pair ∷ pairs) last = (start ≡ pair.place) × IsGood F R d pair.place
     × ((next : Place) × StepsOn F R pair.place next × Linked F R d next pairs last)
 
--- the same, where the table has this of the last place, or the last of these pairs leads nowhere
-abbrev pub IsChain : List OpKind → List ℕ → List (Option Drawn) → ℕ → Drawn → Place → List Pair → Type 0
-IsChain F R table d rest start [] = Knows table start rest
-IsChain F R table d rest start (pair ∷ pairs) =
-    (start ≡ pair.place) × IsGood F R d pair.place
-    × (((next : Place) × StepsOn F R pair.place next × IsChain F R table d rest next pairs)
-    ⊎ (((q : Place) → ¬ StepsOn F R pair.place q) × (pairs ≡ [])))
-
--- a list has such a chain after what was there before
+-- a list has such pairs after what was there before, and the table has this of the last place
 pub record HasChain (F : List OpKind) (R : List ℕ) (table : List (Option Drawn)) (d : ℕ) (start : Place)
     (rest : Drawn) (before all : List Pair) : Type 0 where
   pub pairs : List Pair
   pub is : all ≡ before ++ pairs
-  pub chain : IsChain F R table d rest start pairs
+  pub last : Place
+  pub linked : Linked F R d start pairs last
+  pub knows : Knows table last rest
 
 -- the same is drawn, with this many more words
 pub record IsLonger (rest : Drawn) (more : ℕ) (new : Drawn) : Type 0 where

@@ -14,6 +14,8 @@ use Rattle.dvg_frame.specs.declared.checking.pair.Pair.{Pair}
 use Rattle.dvg_frame.specs.declared.checking.pair.TheConstants.{DEEPEST, ROM_END}
 use Rattle.dvg_frame.specs.declared.checking.way.Way.{Way}
 use Rattle.dvg_frame.specs.declared.checking.way.Way.TheVariants.{Move, Jump, Call, Return, Halt}
+use Rattle.dvg_frame.specs.declared.checking.way.Span.{Span}
+use Rattle.dvg_frame.specs.declared.checking.way.Span.TheVariants.{Over, Into}
 use Rattle.dvg_frame.specs.Steps.{Stands}
 use Rattle.dvg_frame.specs.Faults.{rank}
 
@@ -24,6 +26,14 @@ way (Jumps to) after = Jump to
 way (Calls to) after = Call to after
 way Returns after = Return
 way Halts after = Halt
+
+-- what is fetched from a place to where it leads on at its own depth
+abbrev pub span : Way → Span
+span (Move after words) = Over words
+span (Jump to) = Over 1
+span (Call to after) = Into to
+span Return = Over 1
+span Halt = Over 1
 
 -- something stands at this place that leads on in this way
 pub record StandsSo (F : List OpKind) (R : List ℕ) (p : Place) (seen : Way) : Type 0 where

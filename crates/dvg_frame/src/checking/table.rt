@@ -1,5 +1,5 @@
 //! What is known of each place: what is drawn from it, and at which depths no run from it breaks.
-ghost use Rattle.std.specs.Prelude.{◌≡◌, ◌<◌, ◌↔◌, IsSome, IsTrue, List, Option, Some};
+ghost use Rattle.std.specs.Prelude.{◌≡◌, ◌<◌, List, Option, Some};
 ghost use Rattle.std.specs.Prelude.{length, map, set};
 ghost use Rattle.dvg_frame.specs.own.Pairs.{IsPlace, place_index};
 ghost use Rattle.dvg_frame.specs.own.Tables.{AreNotes, HasNone, known_at, noted};
@@ -97,14 +97,6 @@ impl Table {
         } else {
             None
         }
-    }
-
-    // Whether something is known of a place.
-    pub(crate) fn has(&self, place: Place) -> bool
-        requires { IsPlace place }
-        ensures { IsTrue result ↔ IsSome (known_at self.now place) }
-    {
-        self.notes[number_of(place)].round == self.round
     }
 
     // Notes what is drawn from a place.

@@ -3,8 +3,10 @@ ghost use Rattle.std.specs.Prelude.{◌≡◌, ◌<◌, ◌≤◌, ◌↔◌, Li
 ghost use Rattle.dvg_mem.specs.Memory.{IsRom, first_word};
 ghost use Rattle.dvg_frame.specs.Steps.{op_act};
 ghost use Rattle.dvg_frame.specs.own.Ways.{EndsWithin, IsPlaceOf};
-ghost use Rattle.dvg_frame.specs.own.Ways.{Outside, StandsSo, way};
+ghost use Rattle.dvg_frame.specs.own.Ways.{Outside, StandsSo, span, way};
+ghost use Rattle.dvg_frame.specs.declared.checking.way.Way.{Way};
 ghost use Rattle.dvg_frame.specs.declared.op.OpKind.{OpKind};
+ghost use Rattle.dvg_frame.specs.declared.place.Place.{Place};
 
 use crate::checking::pair::ROM_END;
 use crate::draft::{Draft, words_of};
@@ -26,6 +28,15 @@ pub(crate) enum Way {
     Return,
     /// Nowhere: the run ends.
     Halt,
+}
+
+/// What is fetched from a place to where it leads on at its own depth.
+#[derive(Clone, Copy)]
+pub(crate) enum Span {
+    /// This many words.
+    Over(u64),
+    /// A call of the subroutine at a target, and all that is drawn from there.
+    Into(Place),
 }
 
 // Whether a place is at an address outside the ROM.
@@ -51,6 +62,28 @@ fn way_of_op(kind: OpKind, after: Place) -> Way
         OpKind::Jump(j) => Way::Jump(Place::InFrame(j)),
         OpKind::Return => Way::Return,
         OpKind::Halt => Way::Halt,
+    }
+}
+
+// The span of a way.
+fn span_of(way: Way) -> Span
+    ensures { result ≡ span way }
+{
+    match way {
+        Way::Move(_, words) => Span::Over(words),
+        Way::Call(to, _) => Span::Into(to),
+        Way::Jump(_) | Way::Return | Way::Halt => Span::Over(1),
+    }
+}
+
+// The span of an operation.
+fn span_of_op(kind: OpKind) -> Span
+    ensures { (after : Place) → result ≡ span (way (op_act kind) after) }
+{
+    match kind {
+        OpKind::CallRom(a) => Span::Into(Place::InRom(a)),
+        OpKind::Call(j) => Span::Into(Place::InFrame(j)),
+        _ => Span::Over(u64::from(words_of(kind))),
     }
 }
 
@@ -97,5 +130,20 @@ pub(crate) fn way_at<A: Allocator>(draft: &Draft, rom: &Rom<A>, place: Place) ->
             Some(way_of_op(op.kind(), after))
         }
         Place::InRom(a) => rom_way(rom, a),
+    }
+}
+
+// The span of the way on from a place, by fewer branches than `way_at` takes. None where the ROM
+// ends within the instruction there.
+#[inline(always)]
+pub(crate) fn span_at<A: Allocator>(draft: &Draft, rom: &Rom<A>, place: Place) -> Option<Span>
+    requires rom { IsRom rom.now }
+    requires inside { IsPlaceOf draft.now rom.now place }
+    ensures { MatchOption result (EndsWithin rom.now place)
+        (λ found. (seen : Way) × StandsSo draft.now rom.now place seen × (found ≡ span seen)) }
+{
+    match place {
+        Place::InFrame(i) => Some(span_of_op(draft.op(usize::from(i)).kind())),
+        Place::InRom(a) => Some(span_of(rom_way(rom, a)?)),
     }
 }

@@ -1,47 +1,50 @@
 use Rattle.std.proofs.lemmas.Bool.{cases_lt}
 use Rattle.dvg_frame.specs.declared.checking.chain.TheConstants.{LONGEST}
-use Rattle.std.proofs.Common.{length-append, [], ◌∷◌, ◌≡◌, ◌≤◌, ◌+◌, ◌*◌, ⊎_elim, ◌∙◌, sym, arith, ap, length, refl}
-use Rattle.dvg_frame.proofs.Tabled.{IsTurn, not_within, popped, left_chain, turn_call, turn_other, to_in, to_low}
-use Rattle.dvg_frame.proofs.Tabled.{to_place, to_reached, has_some, keeps_same, keeps_both}
+use Rattle.std.proofs.Common.{length-append, [], ◌∷◌, ◌≡◌, ◌≤◌, ◌+◌, ◌*◌, ⊎_elim, ◌∙◌, sym, arith, ap, length}
+use Rattle.std.proofs.Common.{Some, subst}
+use Rattle.dvg_frame.specs.own.Tables.{Knows}
+use Rattle.dvg_frame.proofs.Tabled.{IsTurn, not_within, popped, left_chain, turn_over, turn_into, turn_is, to_in}
+use Rattle.dvg_frame.proofs.Tabled.{to_low, to_place, to_reached, here_place, keeps_same, keeps_both}
 use Rattle.dvg_frame.proofs.checking.bounds.+settle.Goals as goal
-use Rattle.dvg_frame.proofs.checking.bounds.+settle.Goals.{in-Call+else-not-has}
-use Rattle.dvg_frame.proofs.checking.bounds.+settle.Goals.{else-not-has-via-then-not-has+else-not-settle}
-use Rattle.dvg_frame.proofs.checking.bounds.+settle.Goals.{else-not-has-via-else-not-has, in_default-way}
+use Rattle.dvg_frame.proofs.checking.bounds.+settle.Goals.{in-Over, in-Into, in-Some-at, in-None+in_ok-known-in-None}
 
-pub way_at-requires-clause-inside : goal.way_at-requires-clause-inside
-way_at-requires-clause-inside g t c =
+pub span_at-requires-clause-inside : goal.span_at-requires-clause-inside
+span_at-requires-clause-inside g t c =
     let base = c.len-base.ensures.value in
     let now = c.len.ensures.value in
-    let out = popped _ _ c.requires.begins _ _ _ _ _ _ _ _ c.loop-start.invariant.left c.pop-place.ensures.value
-    (omega arith) in
-    out.last.good.inside
+    let i = c.loop-start.invariant in
+    let out = popped _ _ c.requires.begins _ _ _ _ _ _ _ _ i.entries i.left c.pop-place.ensures.value (omega arith) in
+    out.ready.good.inside
 
 pub unreachable-requires : goal.unreachable-requires
 unreachable-requires g t c =
     let base = c.len-base.ensures.value in
     let now = c.len.ensures.value in
-    let out = popped _ _ c.requires.begins _ _ _ _ _ _ _ _ c.loop-start.invariant.left c.pop-place.ensures.value
-    (omega arith) in
-    not_within _ _ _ _ out.last.good.fine c.in_default-way_at.ensures
+    let i = c.loop-start.invariant in
+    let out = popped _ _ c.requires.begins _ _ _ _ _ _ _ _ i.entries i.left c.pop-place.ensures.value (omega arith) in
+    not_within _ _ _ _ out.ready.good.fine c.in_default.ensures
 
-pub has-requires : goal.has-requires
-has-requires g t c =
+pub at-requires : goal.at-requires
+at-requires g t c =
     let base = c.len-base.ensures.value in
     let now = c.len.ensures.value in
-    let out = popped _ _ c.requires.begins _ _ _ _ _ _ _ _ c.loop-start.invariant.left c.pop-place.ensures.value
-    (omega arith) in
-    to_place _ _ c.requires.begins _ _ _ _ out.last _ c.in-Some-way_at.ensures _ _ c.in-Call.is
+    let i = c.loop-start.invariant in
+    let out = popped _ _ c.requires.begins _ _ _ _ _ _ _ _ i.entries i.left c.pop-place.ensures.value (omega arith) in
+    let found = c.in-Some.ensures in
+    to_place _ _ c.requires.begins _ _ _ _ out.ready _ found.1 _ (sym found.2 ∙ c.in-Into.is)
 
 pub settle-requires : goal.settle-requires
 settle-requires g t c κs within =
     let base = c.len-base.ensures.value in
     let now = c.len.ensures.value in
-    let out = popped _ _ c.requires.begins _ _ _ _ _ _ _ _ c.loop-start.invariant.left c.pop-place.ensures.value
-    (omega arith) in
+    let i = c.loop-start.invariant in
+    let out = popped _ _ c.requires.begins _ _ _ _ _ _ _ _ i.entries i.left c.pop-place.ensures.value (omega arith) in
+    let found = c.in-Some.ensures in
+    let into = sym found.2 ∙ c.in-Into.is in
     let low = c.requires.depth in
-    let not_deepest = to_low _ _ c.requires.begins _ _ _ _ out.last _ c.in-Some-way_at.ensures _ _ c.in-Call.is in
+    let not_deepest = to_low _ _ c.requires.begins _ _ _ _ out.ready _ found.1 _ into in
     let room : length c.pop-place.new.self ≤ (c.args.start.depth + 1) * LONGEST =
-    let room = c.loop-start.invariant.room in
+    let room = i.room in
     let before = c.requires.room in
     let taken = ap length c.pop-place.ensures.value in
     let sum = length-append c.pop-place.new.self (c.pop-place.result ∷ []) in
@@ -54,14 +57,11 @@ settle-requires g t c κs within =
           (
             c.requires.begins,
             (
-              to_in _ _ c.requires.begins _ _ _ _ out.last _ c.in-Some-way_at.ensures _ _ c.in-Call.is,
+              to_in _ _ c.requires.begins _ _ _ _ out.ready _ found.1 _ into,
               (
                 ⊎_elim (λ less. omega arith) (λ deepest. absurd (not_deepest (omega arith)))
                     (cases_lt c.args.start.depth 4),
-                (
-                  to_reached _ _ c.requires.begins _ _ _ _ out.last _ c.in-Some-way_at.ensures _ _ c.in-Call.is,
-                  (room, c.loop-start.invariant.entries),
-                ),
+                (to_reached _ _ c.requires.begins _ _ _ _ out.ready _ found.1 _ into, (room, i.entries)),
               ),
             ),
           ),
@@ -73,71 +73,70 @@ pub put_drawn-rest-requires : goal.put_drawn-rest-requires
 put_drawn-rest-requires g t c =
     let base = c.len-base.ensures.value in
     let now = c.len.ensures.value in
-    let out = popped _ _ c.requires.begins _ _ _ _ _ _ _ _ c.loop-start.invariant.left c.pop-place.ensures.value
-    (omega arith) in
-    let turn : IsTurn c.args.draft.now c.args.rom.now c.requires.begins c.args.start.depth c.loop-start.table
-    c.match-way.table c.loop-start.rest c.pop-place.result.place c.match-way.way' =
-    elim c.match-way.branch [
-      | in-Call+else-not-has w ↦ elim w.else-not-has.branch [
-        | else-not-has-via-then-not-has+else-not-settle w' ↦
-            turn_call _ _ c.requires.begins _ _ _ _ out.last _ c.in-Some-way_at.ensures _ _ _ _ _ w.in-Call.is
-            w'.settle.ensures.kept w'.settle.ensures.entries w'.if-not-settle.ensures.settled.0
-            (w.table-is ∙ w'.table-is) (w.way'-is ∙ sym w.in-Call.is)
-        | else-not-has-via-else-not-has w' ↦
-            let inside = to_place _ _ c.requires.begins _ _ _ _ out.last _ c.in-Some-way_at.ensures _ _ w.in-Call.is in
-            turn_call _ _ c.requires.begins _ _ _ _ out.last _ c.in-Some-way_at.ensures _ _ _ _ _ w.in-Call.is
-            (keeps_same _) c.loop-start.invariant.entries
-            (has_some _ _ _ inside refl (w.has.ensures.0 w'.if-not-has.false))
-            (w.table-is ∙ w'.table-is) (w.way'-is ∙ sym w.in-Call.is)
+    let i = c.loop-start.invariant in
+    let out = popped _ _ c.requires.begins _ _ _ _ _ _ _ _ i.entries i.left c.pop-place.ensures.value (omega arith) in
+    here_place _ _ _ _ _ _ out.ready
+
+pub loop-start-smaller : goal.loop-start-smaller
+loop-start-smaller g t c =
+    let chain : c.match-span.chain ≡ c.pop-place.new.self =
+    elim c.match-span.branch [
+      | in-Over w ↦ w.chain-is
+      | in-Into w ↦ elim w.match-at.branch [
+        | in-Some-at w' ↦ w.chain-is ∙ w'.chain-is
+        | in-None+in_ok-known-in-None w' ↦ w.chain-is ∙ w'.chain-is ∙ w'.in_ok-known-in-None.ensures.settled.1
       ]
-      | in_default-way w ↦
-          turn_other _ _ c.requires.begins _ _ _ _ out.last _ c.in-Some-way_at.ensures _ _ w.in_default-way.not-Call
-          c.loop-start.invariant.entries w.table-is w.way'-is
     ] in
-    (_, _, _, turn.so, turn.ready)
+    let same = ap length chain in
+    let taken = ap length c.pop-place.ensures.value in
+    let sum = length-append c.pop-place.new.self (c.pop-place.result ∷ []) in
+    omega arith
 
 pub loop-start-preserved : goal.loop-start-preserved
 loop-start-preserved g t c =
     let base = c.len-base.ensures.value in
     let now = c.len.ensures.value in
-    let out = popped _ _ c.requires.begins _ _ _ _ _ _ _ _ c.loop-start.invariant.left c.pop-place.ensures.value
-    (omega arith) in
-    let turn : IsTurn c.args.draft.now c.args.rom.now c.requires.begins c.args.start.depth c.loop-start.table
-    c.match-way.table c.loop-start.rest c.pop-place.result.place c.match-way.way' =
-    elim c.match-way.branch [
-      | in-Call+else-not-has w ↦ elim w.else-not-has.branch [
-        | else-not-has-via-then-not-has+else-not-settle w' ↦
-            turn_call _ _ c.requires.begins _ _ _ _ out.last _ c.in-Some-way_at.ensures _ _ _ _ _ w.in-Call.is
-            w'.settle.ensures.kept w'.settle.ensures.entries w'.if-not-settle.ensures.settled.0
-            (w.table-is ∙ w'.table-is) (w.way'-is ∙ sym w.in-Call.is)
-        | else-not-has-via-else-not-has w' ↦
-            let inside = to_place _ _ c.requires.begins _ _ _ _ out.last _ c.in-Some-way_at.ensures _ _ w.in-Call.is in
-            turn_call _ _ c.requires.begins _ _ _ _ out.last _ c.in-Some-way_at.ensures _ _ _ _ _ w.in-Call.is
-            (keeps_same _) c.loop-start.invariant.entries
-            (has_some _ _ _ inside refl (w.has.ensures.0 w'.if-not-has.false))
-            (w.table-is ∙ w'.table-is) (w.way'-is ∙ sym w.in-Call.is)
-      ]
-      | in_default-way w ↦
-          turn_other _ _ c.requires.begins _ _ _ _ out.last _ c.in-Some-way_at.ensures _ _ w.in_default-way.not-Call
-          c.loop-start.invariant.entries w.table-is w.way'-is
+    let i = c.loop-start.invariant in
+    let out = popped _ _ c.requires.begins _ _ _ _ _ _ _ _ i.entries i.left c.pop-place.ensures.value (omega arith) in
+    let found = c.in-Some.ensures in
+    let both : IsTurn c.args.draft.now c.args.rom.now c.requires.begins c.args.start.depth c.loop-start.table
+    c.match-span.table c.pop-place.result.place c.match-span.drawn × (c.match-span.chain ≡ c.pop-place.new.self) =
+    elim c.match-span.branch [
+      | in-Over w ↦
+          let turn = turn_over _ _ c.requires.begins _ _ _ _ out.ready _ found.1 _ _ (sym found.2 ∙ w.in-Over.is)
+          w.longer-drawn.ensures in
+          (turn_is _ _ c.requires.begins _ _ _ _ _ _ _ w.table-is w.drawn-is turn, w.chain-is)
+      | in-Into w ↦
+          let into = sym found.2 ∙ w.in-Into.is in
+          elim w.match-at.branch [
+            | in-Some-at w' ↦
+                let inside = to_place _ _ c.requires.begins _ _ _ _ out.ready _ found.1 _ into in
+                let known : Knows c.loop-start.table w.in-Into.to w.match-at.known =
+                (inside, w.at.ensures ∙ w'.in-Some-at.is ∙ ap Some (sym w'.known-is)) in
+                let turn = turn_into _ _ c.requires.begins _ _ _ _ out.ready _ found.1 _ _ _ _ into (keeps_same _)
+                i.entries known w.called-drawn.ensures in (
+                  turn_is _ _ c.requires.begins _ _ _ _ _ _ _ (w.table-is ∙ w'.table-is) w.drawn-is turn,
+                  w.chain-is ∙ w'.chain-is,
+                )
+            | in-None+in_ok-known-in-None w' ↦
+                let settled = w'.in_ok-known-in-None.ensures in
+                let known = subst (Knows _ _) (sym w'.known-is) settled.settled.0 in
+                let turn = turn_into _ _ c.requires.begins _ _ _ _ out.ready _ found.1 _ _ _ _ into settled.kept
+                settled.entries known w.called-drawn.ensures in (
+                  turn_is _ _ c.requires.begins _ _ _ _ _ _ _ (w.table-is ∙ w'.table-is) w.drawn-is turn,
+                  w.chain-is ∙ w'.chain-is ∙ settled.settled.1,
+                )
+          ]
     ] in
-    let chain : c.match-way.chain ≡ c.pop-place.new.self =
-    elim c.match-way.branch [
-      | in-Call+else-not-has w ↦ elim w.else-not-has.branch [
-        | else-not-has-via-then-not-has+else-not-settle w' ↦
-            w.chain-is ∙ w'.chain-is ∙ w'.if-not-settle.ensures.settled.1
-        | else-not-has-via-else-not-has w' ↦ w.chain-is ∙ w'.chain-is
-      ]
-      | in_default-way w ↦ w.chain-is
-    ] in
+    let turn = both.0 in
     record {
-      entries = c.put_drawn-rest.ensures.entries _ _ _ turn.so turn.ready;
-      kept = keeps_both _ _ _ c.loop-start.invariant.kept (keeps_both _ _ _ turn.keeps c.put_drawn-rest.ensures.kept);
-      left = left_chain _ _ c.requires.begins _ _ _ _ _ _ _ _ _ _ out chain c.put_drawn-rest.ensures.has;
+      entries = c.put_drawn-rest.ensures.entries _ _ turn.entries turn.known;
+      kept = keeps_both _ _ _ i.kept (keeps_both _ _ _ turn.keeps c.put_drawn-rest.ensures.kept);
+      left = left_chain _ _ c.requires.begins _ _ _ _ _ _ _ _ _ _ out both.1 c.put_drawn-rest.ensures.has;
       room =
-          let room = c.loop-start.invariant.room in
+          let room = i.room in
           let taken = ap length c.pop-place.ensures.value in
           let sum = length-append c.pop-place.new.self (c.pop-place.result ∷ []) in
-          let same = ap length chain in
+          let same = ap length both.1 in
           omega arith;
     }

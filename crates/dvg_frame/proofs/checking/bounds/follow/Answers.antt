@@ -1,13 +1,13 @@
 use Rattle.std.proofs.Common.{◌≡◌, ◌∙◌, ◌⊎◌, inl, inr, ℕ, ◌+◌, ◌-◌, ◌*◌, ◌<◌, ◌≤◌, Fits, w64, sym, ap, arith, refl}
-use Rattle.std.proofs.Common.{List, [], ◌∷◌, ◌++◌, length, append-nil, length-append, lit<}
+use Rattle.std.proofs.Common.{List, [], ◌++◌, length, append-nil, length-append, lit<}
 use Rattle.dvg_mem.specs.Memory.{IsRom}
 use Rattle.dvg_frame.specs.declared.op.OpKind.{OpKind}
 use Rattle.dvg_frame.specs.declared.checking.pair.Pair.{Pair}
 use Rattle.dvg_frame.specs.declared.checking.chain.TheConstants.{LONGEST, ROOM}
 use Rattle.dvg_frame.specs.Ops.{IsDraft}
 use Rattle.dvg_frame.proofs.Swept.{in_place}
-use Rattle.dvg_frame.proofs.Tabled.{good_by, goes_in, goes_good, linked_loops, chain_to, has_linked_more}
-use Rattle.dvg_frame.proofs.Tabled.{has_chain_ends, onward_goes, onward_nowhere}
+use Rattle.dvg_frame.proofs.Tabled.{good_by, goes_in, goes_good, linked_loops, has_linked_more}
+use Rattle.dvg_frame.proofs.Tabled.{onward_goes, ending_known, keeps_same, keeps_both}
 use Rattle.dvg_frame.proofs.checking.bounds.follow.Goals as goal
 
 few_words : (R : List ℕ) (words : ℕ) → (length R ≡ 2048) ⊎ (length R ≡ 4096) → length R ≡ 2 * words → words ≤ 2048
@@ -42,15 +42,10 @@ module _ (old new pairs : List Pair) (step end : ℕ) (is : new ≡ old ++ pairs
   room_left : step < end → end ≤ LONGEST → (depth : ℕ) → depth ≤ 4 → length old ≤ depth * LONGEST → length new < ROOM
   room_left low few depth deep room = let sum = long in omega arith
 
-  room_behind : step < end → end ≤ LONGEST → (more : List Pair) (pair : Pair) → more ≡ new ++ pair ∷ []
-      → length more ≤ length old + LONGEST
-  room_behind low few more pair added =
-      let sum = long in
-      let one = ap length added ∙ length-append new (pair ∷ []) in
-      omega arith
-
 pub loop-step-init : goal.loop-step-init
 loop-step-init g c = record {
+  entries = c.requires.entries;
+  kept = keeps_same _;
   pairs = [];
   is = sym (append-nil _);
   linked = refl;
@@ -65,25 +60,39 @@ returns-in-Some-clause-followed g c =
     record {
       pairs = i.pairs;
       is = i.is;
-      chain = chain_to _ _ c.requires.begins _ _ _ _ _ i.pairs i.linked
-          (in_place _ _ _ i.inside, c.at.ensures ∙ c.in-Some.is);
+      last = _;
+      linked = i.linked;
+      knows = (in_place _ _ _ i.inside, c.at.ensures ∙ c.in-Some.is);
     }
 
-pub returns-in-None-clause-followed : goal.returns-in-None-clause-followed
-returns-in-None-clause-followed g c =
+pub put_drawn-requires : goal.put_drawn-requires
+put_drawn-requires g c = in_place _ _ _ c.loop-step.invariant.inside
+
+pub returns-in-Err-clause-entries : goal.returns-in-Err-clause-entries
+returns-in-Err-clause-entries g c =
     let i = c.loop-step.invariant in
-    has_chain_ends _ _ c.requires.begins _ _ _ _ _ _ _ _ i.pairs _ refl i.is i.linked
-    (good_by _ _ _ _ i.inside c.in-Ok.ensures.0 i.reached) c.push.ensures
-    (onward_nowhere _ _ _ _ c.in-Ok.ensures.1 (sym c.onward-next.ensures ∙ c.in-None.is))
+    let good = good_by _ _ _ _ i.inside c.in-Ok.ensures.0 i.reached in
+    c.put_drawn.ensures.entries _ _ i.entries
+    (ending_known _ _ c.requires.begins _ _ _ good _ _ c.in-Ok.ensures.1 (sym c.onward.ensures ∙ c.in-Err.is))
+
+pub returns-in-Err-clause-kept : goal.returns-in-Err-clause-kept
+returns-in-Err-clause-kept g c = keeps_both _ _ _ c.loop-step.invariant.kept c.put_drawn.ensures.kept
+
+pub returns-in-Err-clause-followed : goal.returns-in-Err-clause-followed
+returns-in-Err-clause-followed g c =
+    let i = c.loop-step.invariant in
+    record { pairs = i.pairs; is = i.is; last = _; linked = i.linked; knows = c.put_drawn.ensures.has }
 
 pub loop-step-preserved : goal.loop-step-preserved
 loop-step-preserved g c =
     let i = c.loop-step.invariant in
     let good = good_by _ _ _ _ i.inside c.in-Ok.ensures.0 i.reached in
-    let goes = onward_goes _ _ _ _ _ c.in-Ok.ensures.1 (sym c.onward-next.ensures ∙ c.in-Some-next.is) in
+    let goes = onward_goes _ _ _ _ _ c.in-Ok.ensures.1 (sym c.onward.ensures ∙ c.in-Ok-onward.is) in
     let both =
     has_linked_more _ _ c.requires.begins _ _ _ _ _ _ _ i.pairs _ refl i.is i.linked good c.push.ensures goes in
     record {
+      entries = i.entries;
+      kept = i.kept;
       pairs = _;
       is = both.0;
       linked = both.1;
@@ -144,12 +153,12 @@ push-requires g c =
       ),
     )
 
-pub returns-in-None-clause-room : goal.returns-in-None-clause-room
-returns-in-None-clause-room g c =
+pub returns-in-Err-clause-room : goal.returns-in-Err-clause-room
+returns-in-Err-clause-room g c =
     let i = c.loop-step.invariant in
     let few = few_steps _ _ _ _ _ c.len.ensures.draft c.requires.rom c.len.ensures.value c.len_words.ensures.count
     c.from.ensures in
-    room_behind _ _ _ _ _ i.is i.count c.loop-step-test.true few _ _ c.push.ensures
+    in_room _ _ _ _ _ i.is i.count c.loop-step.auto.step-end few
 
 pub loop-step-smaller : goal.loop-step-smaller
 loop-step-smaller g c = closer _ _ c.loop-step-test.true

@@ -2,11 +2,13 @@ use Rattle.std.proofs.Common.{◌≡◌, ◌++◌, List, length}
 use Rattle.dvg_frame.specs.declared.checking.pair.Pair.{Pair}
 use Rattle.dvg_frame.specs.Steps.{Reached}
 use Rattle.dvg_frame.specs.own.Ways.{IsPlaceOf}
-use Rattle.dvg_frame.specs.own.Tables.{AllFine, Linked}
+use Rattle.dvg_frame.specs.own.Tables.{AllFine, IsTable, KeepsKnown, Linked}
 use Rattle.dvg_frame.proofs.checking.bounds.follow.Given as goal
 
 abbrev pub invariant-loop-step : goal.invariant-loop-step
 invariant-loop-step g l = record {
+  entries : IsTable l.draft l.rom l.table;
+  kept : KeepsKnown l.fn.table l.table;
   pairs : List Pair;
   is : l.chain ≡ l.fn.chain ++ pairs;
   linked : Linked l.draft l.rom l.fn.start.depth l.fn.start.place pairs l.place;
