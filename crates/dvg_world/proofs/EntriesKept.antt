@@ -1,9 +1,13 @@
--- Entries that are kept, one more after the others.
-use Rattle.std.proofs.Common.{◌≡◌, ℕ, ◌+◌, ◌<◌, ◌≤◌, List, [], ◌∷◌, ◌++◌, map, length, get_or, All, Option, Some, None, Vec, refl, sym, ap, ◌∙◌, subst, arith, length-append}
+-- Entries that are kept, more of them after the others.
+use Rattle.std.proofs.Common.{◌≡◌, ℕ, zero, suc, ◌+◌, ◌-◌, ◌≤◌, List, [], ◌∷◌, ◌++◌, map, length, replicate, get_or}
+use Rattle.std.proofs.Common.{Option, Some, None, Vec, refl, sym, ap, ◌∙◌, subst, append_assoc, arith, length-append}
 use Rattle.std.specs.Prelude.{option_to_list}
-use Rattle.std.proofs.lemmas.List.{append-nil, get_or_append_left, length-map, map-append}
+use Rattle.std.proofs.lemmas.Grind.{flat_map-append}
+use Rattle.std.proofs.lemmas.List.{append-nil, get_or_append_left, length-map, length-replicate, map-append}
+use Rattle.std.proofs.lemmas.List.{replicate-append-replicate}
 use Rattle.std.proofs.lemmas.Option.{none-some, same_Some}
-use Rattle.std.proofs.lemmas.List.Elements.{All-cons, All-head, All-push, All-tail}
+use Rattle.std.proofs.lemmas.List.Elements.{All-head, All-push, All-tail}
+use Rattle.std.proofs.lemmas.List.Sums.{sum_by-append, sum_by-cons}
 use Rattle.std.proofs.Math.Seq.{get_or-append_seam}
 use Rattle.dvg_gen.specs.declared.stroke.Stroke.{Stroke}
 use Rattle.dvg_log.specs.declared.entry.Entry.{Entry}
@@ -11,8 +15,9 @@ use Rattle.dvg_log.specs.declared.entry.Entry.TheVariants.{Done}
 use Rattle.dvg_log.specs.Entries.{OwnEntry, Shown, drew_in, map_entry, shown_of}
 use Rattle.dvg_log.specs.Events.{Happening}
 use Rattle.dvg_log.specs.Log.{Log, ◌⟼◌}
-use Rattle.dvg_world.specs.Keeping.{entries_in, entry_among}
-use Rattle.dvg_world.specs.own.Entries.{AreEntries, HasPicture}
+use Rattle.dvg_world.specs.declared.entries.Alike.{Alike}
+use Rattle.dvg_world.specs.Keeping.{alike_entries, all_entries, entries_in, entry_among}
+use Rattle.dvg_world.specs.own.Entries.{AreEntries, HasPicture, HavePictures, entry_count}
 use Rattle.dvg_world.specs.own.Fetched.{IsDrawnBy}
 
 -- more pictures change no entry before them
@@ -20,11 +25,15 @@ same_entry : (drawn more : List (List Stroke)) (entry : Entry ℕ) → HasPictur
 same_entry drawn more (Done address word number) within = ap (Done address word) (get_or_append_left drawn more [] number within)
 same_entry drawn more _ within = refl
 
-same_entries : (drawn more : List (List Stroke)) (kept : List (Entry ℕ)) → All (HasPicture (length drawn)) kept → map (entry_among (drawn ++ more)) kept ≡ map (entry_among drawn) kept
+same_entries : (drawn more : List (List Stroke)) (kept : List Alike) → HavePictures (length drawn) kept
+    → all_entries (drawn ++ more) kept ≡ all_entries drawn kept
 same_entries drawn more [] within = refl
-same_entries drawn more (entry ∷ kept) within =
-    ap (λ first. first ∷ map (entry_among (drawn ++ more)) kept) (same_entry drawn more entry (All-head (HasPicture (length drawn)) entry kept within))
-    ∙ ap (λ rest. entry_among drawn entry ∷ rest) (same_entries drawn more kept (All-tail (HasPicture (length drawn)) entry kept within))
+same_entries drawn more (alike ∷ kept) within =
+    let is_within : Alike → Type 0 = λ alike. HasPicture (length drawn) alike.entry in
+    ap (λ entry. replicate (suc alike.again) entry ++ all_entries (drawn ++ more) kept)
+    (same_entry drawn more alike.entry (All-head is_within alike kept within))
+    ∙ ap (λ rest. alike_entries drawn alike ++ rest)
+    (same_entries drawn more kept (All-tail is_within alike kept within))
 
 -- the new entry is shown as it is
 shown_last : {A : Type 0} (drawn : List (Vec Stroke A)) (entry : Shown) (drew : Option (Vec Stroke A)) → IsDrawnBy entry drew
@@ -50,32 +59,81 @@ wider : (few many : ℕ) → few ≤ many → (entry : Entry ℕ) → HasPicture
 wider few many le (Done address word number) within = omega (arith, le, within)
 wider few many le _ within = tt
 
-all_wider : (few many : ℕ) → few ≤ many → (kept : List (Entry ℕ)) → All (HasPicture few) kept → All (HasPicture many) kept
-all_wider few many le [] within = λ k d low. absurd (omega (arith, low))
-all_wider few many le (entry ∷ kept) within = All-cons (HasPicture many) entry kept (wider few many le entry (All-head (HasPicture few) entry kept within)) (all_wider few many le kept (All-tail (HasPicture few) entry kept within))
+all_wider : (few many : ℕ) → few ≤ many → (kept : List Alike) → HavePictures few kept
+    → HavePictures many kept
+all_wider few many le kept within = λ k d low. wider few many le _ (within k d low)
 
 few_more : {A : Type 0} (drawn : List (Vec Stroke A)) (drew : Option (Vec Stroke A))
     → (length drawn ≤ length (drawn ++ option_to_list drew)) × (length (drawn ++ option_to_list drew) ≤ length drawn + 1)
 few_more drawn (Some drew) = let size = length-append drawn (drew ∷ []) in (omega (arith, size), omega (arith, size))
 few_more drawn None = let size = ap length (append-nil drawn) in (omega (arith, size), omega (arith, size))
 
--- the entries of a log, and one more
-pub kept_more : {A : Type 0} (kept more : List (Entry ℕ)) (drawn later : List (Vec Stroke A)) (entry : Shown) (drew : Option (Vec Stroke A)) (event : Happening) (log : Log)
+-- as many entries as all that is kept stands for
+pub entries_counted : (drawn : List (List Stroke)) (kept : List Alike)
+    → length (all_entries drawn kept) ≡ entry_count kept
+entries_counted drawn [] = refl
+entries_counted drawn (alike ∷ kept) =
+    length-append (alike_entries drawn alike) (all_entries drawn kept)
+    ∙ ap (λ n. n + length (all_entries drawn kept))
+    (length-replicate (suc alike.again) (entry_among drawn alike.entry))
+    ∙ ap (λ n. suc alike.again + n) (entries_counted drawn kept)
+    ∙ sym (sum_by-cons (λ (alike : Alike). suc alike.again) alike kept)
+
+-- none of it stands for no entry
+pub few_kept : (kept : List Alike) → length kept ≤ entry_count kept
+few_kept [] = omega arith
+few_kept (alike ∷ kept) =
+    let rest = few_kept kept in
+    let sum = sum_by-cons (λ (alike : Alike). suc alike.again) alike kept in
+    omega (arith, rest, sum)
+
+-- equal entries more
+pub count_more : (kept : List Alike) (alike : Alike)
+    → entry_count (kept ++ alike ∷ []) ≡ entry_count kept + suc alike.again
+count_more kept alike =
+    (let sum = sum_by-append (λ (alike : Alike). suc alike.again) kept (alike ∷ []) in omega (arith, sum))
+
+alike_more : (drawn : List (List Stroke)) (kept : List Alike) (alike : Alike)
+    → all_entries drawn (kept ++ alike ∷ []) ≡ all_entries drawn kept ++ alike_entries drawn alike
+alike_more drawn kept alike =
+    flat_map-append (alike_entries drawn) kept (alike ∷ [])
+    ∙ ap (λ entries. all_entries drawn kept ++ entries) (append-nil (alike_entries drawn alike))
+
+-- the entries of equal lines
+lines_alike : (times : ℕ) (event : Happening) (entry : Shown) (log : Log)
+    → entries_in (replicate times (event ⟼ entry) ++ log) ≡ entries_in log ++ replicate times entry
+lines_alike zero event entry log = sym (append-nil (entries_in log))
+lines_alike (suc n) event entry log =
+    ap (λ entries. entries ++ entry ∷ []) (lines_alike n event entry log)
+    ∙ append_assoc (entries_in log) (replicate n entry) (entry ∷ [])
+    ∙ ap (λ entries. entries_in log ++ entries) (replicate-append-replicate n 1 entry
+    ∙ ap (λ k. replicate k entry) (let k : n + 1 ≡ suc n = omega arith in k))
+
+-- the entries of a log, and so many equal ones more
+pub kept_more : {A : Type 0} (kept more : List Alike) (drawn later : List (Vec Stroke A)) (entry : Shown)
+    (drew : Option (Vec Stroke A)) (times : ℕ) (event : Happening) (log : Log)
     → IsDrawnBy entry drew
-    → AreEntries kept (length drawn) → map (entry_among (map (λ strokes. strokes.items) drawn)) kept ≡ entries_in log → length kept < 65536
-    → more ≡ kept ++ map_entry (λ _. length drawn) entry ∷ [] → later ≡ drawn ++ option_to_list drew
-    → AreEntries more (length later) × (map (entry_among (map (λ strokes. strokes.items) later)) more ≡ entries_in ((event ⟼ entry) ∷ log))
-kept_more {A = A} kept more drawn later entry drew event log is are shown room more_is later_is = rw (more_is, later_is) (
-  record {
-    count = (let size = length-append kept (last ∷ []) in omega (arith, size, room));
-    drawn = (let size = length-append kept (last ∷ []) in let few = (few_more drawn drew).1 in let old = are.drawn in omega (arith, size, few, old));
-    within = All-push (HasPicture (length all)) kept last (all_wider (length drawn) (length all) (few_more drawn drew).0 kept are.within) (last_within drawn entry drew is);
-  },
-  map-append (entry_among lists) kept (last ∷ []) ∙ ap (λ front. front ++ entry_among lists last ∷ []) before ∙ ap (λ shown. entries_in log ++ shown ∷ []) (shown_last drawn entry drew is),
-)
+    → AreEntries kept (length drawn) → all_entries (map (λ strokes. strokes.items) drawn) kept ≡ entries_in log
+    → 1 ≤ times → entry_count kept + times ≤ 65536
+    → more ≡ kept ++ record { entry = map_entry (λ _. length drawn) entry; again = times - 1 } ∷ []
+    → later ≡ drawn ++ option_to_list drew
+    → AreEntries more (length later)
+    × (all_entries (map (λ strokes. strokes.items) later) more ≡ entries_in (replicate times (event ⟼ entry) ++ log))
+kept_more {A = A} kept more drawn later entry drew times event log is are shown some room more_is later_is =
+    rw (more_is, later_is) (
+      record {
+        count = (let sum = count_more kept last in omega (arith, sum, room, some));
+        within = All-push (λ alike. HasPicture (length all) alike.entry) kept last front newest;
+      },
+      alike_more lists kept last
+          ∙ ap (λ front. front ++ alike_entries lists last) before
+          ∙ ap (λ shown. entries_in log ++ replicate (suc (times - 1)) shown) (shown_last drawn entry drew is)
+          ∙ ap (λ k. entries_in log ++ replicate k entry) (let k : suc (times - 1) ≡ times = omega (arith, some) in k)
+          ∙ sym (lines_alike times event entry log),
+    )
   where
-    last : Entry ℕ
-    last = map_entry (λ _. length drawn) entry
+    last : Alike
+    last = record { entry = map_entry (λ _. length drawn) entry; again = times - 1 }
 
     all : List (Vec Stroke A)
     all = drawn ++ option_to_list drew
@@ -89,10 +147,19 @@ kept_more {A = A} kept more drawn later entry drew event log is are shown room m
     new : List (List Stroke)
     new = map (λ strokes. strokes.items) (option_to_list drew)
 
-    before : map (entry_among lists) kept ≡ entries_in log
+    front : HavePictures (length all) kept
+    front = all_wider (length drawn) (length all) (few_more drawn drew).0 kept are.within
+
+    newest : HasPicture (length all) last.entry
+    newest = last_within drawn entry drew is
+
+    among_old : HavePictures (length old) kept
+    among_old = subst (λ n. HavePictures n kept) (sym (length-map drawn (λ strokes. strokes.items))) are.within
+
+    before : all_entries lists kept ≡ entries_in log
     before =
-        ap (λ lists. map (entry_among lists) kept) (map-append (λ strokes. strokes.items) drawn (option_to_list drew))
-        ∙ same_entries old new kept (subst (λ n. All (HasPicture n) kept) (sym (length-map drawn (λ strokes. strokes.items))) are.within)
+        ap (λ lists. all_entries lists kept) (map-append (λ strokes. strokes.items) drawn (option_to_list drew))
+        ∙ same_entries old new kept among_old
         ∙ shown
 
 -- an entry of the code has what the run drew

@@ -7,7 +7,7 @@ use Rattle.dvg_world.specs.Standing.{AddsLine, State, WorldAfter}
 use Rattle.dvg_world.specs.declared.pictures.Picture.{Picture}
 use Rattle.dvg_world.specs.own.Running.{AddsRun, AreDrawn, DrawsRun, KeepsPicture, StopsDrawing, StopsRun}
 use Rattle.dvg_world.specs.declared.logging.EntriesKept.{EntriesKept}
-use Rattle.dvg_world.specs.own.Logging.{AreKept, KeepsEntry, LogsRun, StopsLogging}
+use Rattle.dvg_world.specs.own.Logging.{AreKept, KeepsAlike, KeepsEntry, LogsRun, StopsLogging}
 use Rattle.dvg_world.specs.own.Stepping.{WantsMemory}
 
 -- no line more
@@ -67,6 +67,41 @@ draws_all {old = old} {new = new} pictures more {number = number} {event = event
 pub logs_more : {A : Type 0} {old new : State} (entries before more : EntriesKept A) {done : ℕ} {event : Happening} {world : State} (entry : Shown)
     → LogsRun old entries event done world before → AddsLine world event entry new → KeepsEntry before entry more → LogsRun old entries event (done + 1) new more
 logs_more entries before more {event = event} entry logged line keeps = λ R image log after are. adds_more entry (logged R image log after are) line (λ log' kept count. keeps event log' kept)
+
+-- a longer log, by so many equal lines after one of which this is kept
+abbrev IsKeptBefore : (times : ℕ) (event : Happening) (entry : Shown) (IsKept : Log → Type 0) (longer : Log) → Type 0
+IsKeptBefore times event entry IsKept longer =
+    (before : Log) × IsKept before × (longer ≡ replicate times (event ⟼ entry) ++ before)
+
+-- so many lines that change nothing
+times_more : {R image : List ℕ} {log : Log} {event : Happening} {IsKept : Log → Type 0} {n : ℕ} {world : State}
+    (entry : Shown) (times : ℕ) → AddsRun R image log event n IsKept world → AddsLine world event entry world
+    → AddsRun R image log event (n + times) (IsKeptBefore times event entry IsKept) world
+times_more {R = R} {image = image} {log = log} {event = event} {IsKept = IsKept} {n = n} {world = world}
+    entry zero run line =
+    subst (λ m. AddsRun R image log event m (IsKeptBefore 0 event entry IsKept) world)
+    (let m : n ≡ n + 0 = omega arith in m)
+    (adds_so (λ longer kept. (longer, kept, refl)) run)
+times_more {R = R} {image = image} {log = log} {event = event} {IsKept = IsKept} {n = n} {world = world}
+    entry (suc k) run line =
+    subst (λ m. AddsRun R image log event m (IsKeptBefore (suc k) event entry IsKept) world)
+    (let m : n + k + 1 ≡ n + suc k = omega arith in m)
+    (adds_more entry (times_more entry k run line) line
+    (λ longer kept count. (kept.0, kept.1, ap (λ lines. (event ⟼ entry) ∷ lines) kept.2)))
+
+-- as many lines as are left, all of one entry, and nothing changes
+pub logs_rest : {A : Type 0} {old world new : State} (entries before more : EntriesKept A) {done times : ℕ}
+    {event : Happening} (entry : Shown) → LogsRun old entries event done world before → done < times
+    → AddsLine world event entry new → new ≡ world → KeepsAlike before entry (times - done) more
+    → LogsRun old entries event times new more
+logs_rest {world = world} {new = new} entries before more {done = done} {times = times} {event = event}
+    entry logged inside line same keeps = λ R image log after are.
+    let still : AddsLine new event entry new = subst (λ world. AddsLine world event entry new) (sym same) line in
+    let run = subst (AddsRun R image log event done (AreKept before)) (sym same) (logged R image log after are) in
+    subst (λ n. AddsRun R image log event n (AreKept more) new)
+    (let n : done + (times - done) ≡ times = omega (arith, inside) in n)
+    (adds_so (λ longer kept. subst (AreKept more) (sym kept.2) (keeps event kept.0 kept.1))
+    (times_more entry (times - done) run still))
 
 -- the same where the fetch is refused memory
 pub stops_logging : {A : Type 0} {old world new : State} (entries before : EntriesKept A) {done times : ℕ} {event : Happening}

@@ -1,5 +1,7 @@
 -- What is kept of the events of a trace.
-use Rattle.std.specs.Prelude.{◌≡◌, ℕ, ◌⊎◌, List, [], ◌∷◌, ◌++◌, length, get_or, reverse, Bool, true, false}
+use Rattle.std.specs.Prelude.{◌≡◌, ◌≤◌, ℕ, suc, ◌⊎◌, List, [], ◌∷◌, ◌++◌}
+use Rattle.std.specs.Prelude.{flat_map, get_or, length, replicate, reverse}
+use Rattle.std.specs.Prelude.{Bool, true, false, Option, Some, None}
 use Rattle.dvg_gen.specs.declared.stroke.Stroke.{Stroke}
 use Rattle.dvg_log.specs.declared.entry.Entry.{Entry}
 use Rattle.dvg_log.specs.declared.entry.Entry.TheVariants.{Done}
@@ -8,6 +10,8 @@ use Rattle.dvg_log.specs.Events.{Happening}
 use Rattle.dvg_log.specs.Headline.{KeepsHeadline}
 use Rattle.dvg_log.specs.Legal.{IsLegal}
 use Rattle.dvg_log.specs.Log.{Log, Throughout, ◌⟼◌, events_of}
+use Rattle.dvg_world.specs.declared.entries.Alike.{Alike}
+use Rattle.dvg_world.specs.declared.entries.EntryRun.{EntryRun}
 use Rattle.dvg_world.specs.Wanting.{TakesMemory}
 
 -- the next event is one that takes memory
@@ -47,7 +51,26 @@ pictures_of (line ∷ log) = pictures_of log
 abbrev pub entry_among : List (List Stroke) → Entry ℕ → Shown
 entry_among drawn entry = map_entry (λ number. get_or drawn number []) entry
 
+-- equal entries that are kept as one, by the strokes of all pictures
+abbrev pub alike_entries : List (List Stroke) → Alike → List Shown
+alike_entries drawn alike = replicate (suc alike.again) (entry_among drawn alike.entry)
+
+-- the entries of all that is kept
+abbrev pub all_entries : List (List Stroke) → List Alike → List Shown
+all_entries drawn kept = flat_map (alike_entries drawn) kept
+
 -- what the run of an entry drew, or nothing
 abbrev pub strokes_in : Shown → List Stroke
 strokes_in (Done address word drew) = drew
 strokes_in _ = []
+
+-- the entry of a run of equal ones, with the strokes that stand beside it
+abbrev pub entry_in : EntryRun → Shown
+entry_in run = map_entry (λ _. run.strokes.now) run.entry.now
+
+-- the next run of the entries that are left: None exactly where there is none, else an entry, the
+-- strokes that it shows, and how many times it comes before the others
+abbrev pub NextEntries : List Shown → Option EntryRun → List Shown → Type 0
+NextEntries old None new = (old ≡ []) × (new ≡ [])
+NextEntries old (Some run) new = (1 ≤ run.times) × (run.strokes.now ≡ strokes_in (entry_in run))
+    × (old ≡ replicate run.times (entry_in run) ++ new)

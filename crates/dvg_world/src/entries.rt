@@ -1,18 +1,23 @@
 //! The entries of events, in little room.
-ghost use Rattle.std.specs.Prelude.{◌≡◌, ◌<◌, ◌↔◌, [], Some, length, slice_get, IsTrue};
-ghost use Rattle.dvg_log.specs.Entries.{map_entry};
-ghost use Rattle.dvg_world.specs.Keeping.{strokes_in};
+ghost use Rattle.std.specs.Prelude.{◌≡◌, ◌≤◌, length};
 
 use dvg_gen::Stroke;
 use dvg_log::Entry;
 use std::alloc::{Allocator, Global};
 use std::marker::Model;
 
-/// The entries of events, in little room: an entry of a finished run has the number of its picture,
-/// and the strokes of all pictures lie in a list of their own.
+/// The entry of an event, and of so many more that come right after it, in ten bytes.
+#[derive(Clone, Copy)]
+pub(crate) struct Alike {
+    pub(crate) entry: Entry<u16>,
+    pub(crate) again: u16,
+}
+
+/// The entries of events, in little room: equal ones may be kept as one, an entry of a finished run
+/// has the number of its picture, and the strokes of all pictures lie in a list of their own.
 #[derive(Drop)]
 pub struct Entries<A: Allocator = Global> {
-    pub(crate) kept: Vec<Entry<u16>, A>,
+    pub(crate) kept: Vec<Alike, A>,
     pub(crate) drawn: Vec<Vec<Stroke, A>, A>,
 }
 
@@ -20,45 +25,91 @@ pub struct Entries<A: Allocator = Global> {
 impl<A: Allocator> Model for Entries<A> {
     ghost use Rattle.std.specs.Prelude.{List, length, map};
     ghost use Rattle.dvg_log.specs.Entries.{Shown};
-    ghost use Rattle.dvg_world.specs.Keeping.{entry_among};
+    ghost use Rattle.dvg_world.specs.Keeping.{all_entries};
     ghost use Rattle.dvg_world.specs.own.Entries.{AreEntries};
 
     ghost Value = { List Shown };
 
-    ghost view = { λ entries. map
-        (entry_among (map (λ strokes. strokes.items) entries.drawn.items)) entries.kept.items };
+    ghost view = { λ entries. all_entries
+        (map (λ strokes. strokes.items) entries.drawn.items) entries.kept.items };
 
     ghost invariant = { λ entries. AreEntries entries.kept.items (length entries.drawn.items) };
 }
 
 impl<A: Allocator> Entries<A> {
-    /// How many there are.
-    pub fn len(&self) -> usize
-        ensures { result ≡ length self.now }
+    /// The entries, as runs of equal ones. There are as many as a trace has events, or fewer.
+    pub fn runs(&self) -> EntryRuns<'_, A>
+        ensures entries { result ≡ self.now }
+        ensures most { length result ≤ 65536 }
     {
-        self.kept.len()
-    }
-
-    /// Whether there is none.
-    pub fn is_empty(&self) -> bool
-        ensures { IsTrue result ↔ (self.now ≡ []) }
-    {
-        self.kept.is_empty()
-    }
-
-    /// The entry of this number, counted from 0, and what its run drew, if it finished; else
-    /// nothing. What stands in the entry in place of the strokes has no meaning outside.
-    #[inline(always)]
-    pub fn entry(&self, number: usize) -> (&Entry<u16>, &[Stroke])
-        requires { number < length self.now }
-        ensures value { slice_get self.now number
-            ≡ Some (map_entry (λ _. result.1.now) result.0.now) }
-        ensures drawn { result.1.now ≡ strokes_in (map_entry (λ _. result.1.now) result.0.now) }
-    {
-        let entry = &self.kept[number];
-        match entry {
-            Entry::Done(_, _, picture) => (entry, self.drawn[usize::from(*picture)].as_slice()),
-            _ => (entry, &[]),
+        EntryRuns {
+            kept: self.kept.as_slice(),
+            drawn: self.drawn.as_slice(),
         }
+    }
+}
+
+/// An entry, and how many times in a row it comes: a run of equal entries.
+#[derive(Clone, Copy)]
+pub struct EntryRun<'a> {
+    /// The entry. What stands in it in place of the strokes has no meaning outside.
+    pub entry: &'a Entry<u16>,
+    /// How many times in a row it comes.
+    pub times: usize,
+    /// What the generator's run drew, if the entry finished one; else nothing.
+    pub strokes: &'a [Stroke],
+}
+
+/// An iterator over entries, as runs of equal ones. The entries of two runs in a row may be equal.
+#[derive(Drop)]
+pub struct EntryRuns<'a, A: Allocator = Global> {
+    kept: &'a [Alike],
+    drawn: &'a [Vec<Stroke, A>],
+}
+
+/// Contracts see the list of the entries that are still to come.
+impl<'a, A: Allocator> Model for EntryRuns<'a, A> {
+    ghost use Rattle.std.specs.Prelude.{List, length, map};
+    ghost use Rattle.dvg_log.specs.Entries.{Shown};
+    ghost use Rattle.dvg_world.specs.Keeping.{all_entries};
+    ghost use Rattle.dvg_world.specs.own.Entries.{HavePictures};
+
+    ghost Value = { List Shown };
+
+    ghost view = { λ left. all_entries
+        (map (λ strokes. strokes.items) left.drawn.now) left.kept.now };
+
+    ghost invariant = { λ left. HavePictures (length left.drawn.now) left.kept.now };
+}
+
+impl<'a, A: Allocator> Iterator for EntryRuns<'a, A> {
+    ghost use Rattle.std.specs.Prelude.{length};
+    ghost use Rattle.std.specs.Iterator.{at_most};
+    ghost use Rattle.dvg_world.specs.Keeping.{NextEntries};
+
+    type Item = EntryRun<'a>;
+
+    ghost next_gives = { NextEntries };
+
+    ghost remaining = { λ left. at_most (length left) };
+
+    #[inline(always)]
+    fn next(&mut self) -> Option<EntryRun<'a>> {
+        let kept = self.kept;
+        if kept.is_empty() {
+            return None;
+        }
+        let entry = &kept[0].entry;
+        let times = usize::from(kept[0].again) + 1;
+        self.kept = &kept[1..];
+        let strokes = match entry {
+            Entry::Done(_, _, picture) => self.drawn[usize::from(*picture)].as_slice(),
+            _ => &[],
+        };
+        Some(EntryRun {
+            entry,
+            times,
+            strokes,
+        })
     }
 }

@@ -3,15 +3,16 @@ ghost use Rattle.std.specs.Prelude.{◌≡◌, ◌+◌, ◌≤◌, [], false, le
 ghost use Rattle.dvg_log.specs.Entries.{Shown, map_entry, shown_of};
 ghost use Rattle.dvg_log.specs.Traces.{FitsInDraft, seen_as};
 ghost use Rattle.dvg_log.specs.declared.event.Event.TheVariants.{Fetch, Tick};
-ghost use Rattle.dvg_world.specs.Keeping.{entry_among};
+ghost use Rattle.dvg_world.specs.Keeping.{all_entries};
 ghost use Rattle.dvg_world.specs.Kept.{Logs};
 ghost use Rattle.dvg_world.specs.own.Entries.{AreEntries};
 ghost use Rattle.dvg_world.specs.Standing.{AddsLine};
 ghost use Rattle.dvg_world.specs.own.Fetched.{IsDrawnBy, entry_of};
-ghost use Rattle.dvg_world.specs.own.Logging.{KeepsEntry, LogsRun, StopsLogging, room_left};
+ghost use Rattle.dvg_world.specs.own.Logging.{KeepsAlike, KeepsEntry};
+ghost use Rattle.dvg_world.specs.own.Logging.{LogsRun, StopsLogging, room_left};
 ghost use Rattle.dvg_world.specs.own.Stepping.{WantsMemory};
 
-use crate::entries::Entries;
+use crate::entries::{Alike, Entries};
 use crate::fetched::FetchedByte;
 use crate::happens::fill;
 use crate::world::World;
@@ -51,7 +52,7 @@ impl<A: Allocator + Copy> Logged<A> {
 // What is kept where all entries are.
 #[derive(Drop)]
 struct EntriesKept<A: Allocator> {
-    kept: Vec<Entry<u16>, A>,
+    kept: Vec<Alike, A>,
     drawn: Vec<Vec<Stroke, A>, A>,
 }
 
@@ -64,7 +65,7 @@ impl<A: Allocator> EntriesKept<A> {
         ensures left { room_left self.old ≤ room_left self.new + 1 }
     {
         let (entry, drew) = entry.replace(self.number());
-        self.keep_parts(entry, drew);
+        self.keep_parts(entry, drew, 1);
     }
 
     // Keeps the entry of one fetch more. What its run drew, if it finished, is taken out of this
@@ -82,7 +83,7 @@ impl<A: Allocator> EntriesKept<A> {
     {
         let entry = fetched.entry(self.number());
         let drew = fetched.take_drawn(drawn, other);
-        self.keep_parts(entry, drew);
+        self.keep_parts(entry, drew, 1);
     }
 
     // The number of the next picture.
@@ -94,27 +95,29 @@ impl<A: Allocator> EntriesKept<A> {
         self.drawn.len() as u16
     }
 
-    // Keeps one entry more, with the number of the next picture in place of what its run drew, and
-    // what that is, if it finished.
+    // Keeps so many equal entries more, with the number of the next picture in place of what their
+    // run drew, and what that is, if it finished.
     #[inline(always)]
-    fn keep_parts(&mut self, entry: Entry<u16>, drew: Option<Vec<Stroke, A>>)
-        requires { 1 ≤ room_left self.old }
+    fn keep_parts(&mut self, entry: Entry<u16>, drew: Option<Vec<Stroke, A>>, times: usize)
+        requires some { 1 ≤ times }
+        requires room { times ≤ room_left self.old }
         ensures kept { (shown : Shown) → IsDrawnBy shown drew
             → entry ≡ map_entry (λ _. length self.old.drawn.items) shown
-            → KeepsEntry self.old shown self.new }
-        ensures left { room_left self.old ≤ room_left self.new + 1 }
+            → KeepsAlike self.old shown times self.new }
+        ensures left { room_left self.old ≤ room_left self.new + times }
     {
         if let Some(strokes) = drew {
             self.drawn.push_reserved(strokes);
         }
-        self.kept.push_reserved(entry);
+        let again = (times - 1) as u16;
+        self.kept.push_reserved(Alike { entry, again });
     }
 
     // What is kept, of a run that is whole or not.
     fn logged(self, is_whole: bool) -> Logged<A>
         requires { AreEntries self.kept.items (length self.drawn.items) }
-        ensures entries { result.entries ≡ map
-            (entry_among (map (λ strokes. strokes.items) self.drawn.items)) self.kept.items }
+        ensures entries { result.entries ≡ all_entries
+            (map (λ strokes. strokes.items) self.drawn.items) self.kept.items }
         ensures whole { result.is_whole ≡ is_whole }
     {
         Logged {
@@ -173,13 +176,11 @@ fn log_ticks<S: Store>(entries: &mut EntriesKept<S::Alloc>, times: usize, world:
 {
     for done in 0..times {
         let action = world.act();
-        entries.keep(Entry::Acted(action));
         if let Action::Idle = action {
-            for _again in done + 1..times {
-                entries.keep(Entry::Acted(Action::Idle));
-            }
+            entries.keep_parts(Entry::Acted(Action::Idle), None, times - done);
             return;
         }
+        entries.keep_parts(Entry::Acted(action), None, 1);
     }
 }
 
@@ -200,9 +201,7 @@ fn log_fetches<S: Store>(
     for done in 0..times {
         match world.feed(&mut drawn) {
             Ok(None) => {
-                for _again in done..times {
-                    entries.keep(Entry::Still);
-                }
+                entries.keep_parts(Entry::Still, None, times - done);
                 return Ok(());
             }
             Ok(Some(fetched)) => entries.keep_fetched(fetched, &mut drawn, world.no_strokes()),

@@ -1,27 +1,34 @@
 -- What is kept where all entries are.
-use Rattle.std.specs.Prelude.{◌≡◌, ◌-◌, ◌∷◌, ℕ, List, length, map, min, vec_capacity, vec_len}
+use Rattle.std.specs.Prelude.{◌≡◌, ◌-◌, ◌∷◌, ◌++◌, ℕ, List, length, map, min, replicate}
+use Rattle.std.specs.Prelude.{vec_capacity, vec_len}
 use Rattle.dvg_log.specs.Entries.{Shown}
 use Rattle.dvg_log.specs.Events.{Happening}
 use Rattle.dvg_log.specs.Log.{Log, ◌⟼◌}
 use Rattle.dvg_world.specs.declared.logging.EntriesKept.{EntriesKept}
-use Rattle.dvg_world.specs.Keeping.{entries_in, entry_among}
+use Rattle.dvg_world.specs.Keeping.{all_entries, entries_in}
 use Rattle.dvg_world.specs.Standing.{State, WorldAfter}
-use Rattle.dvg_world.specs.own.Entries.{AreEntries}
+use Rattle.dvg_world.specs.own.Entries.{AreEntries, entry_count}
 use Rattle.dvg_world.specs.own.Running.{AddsRun, StopsRun}
 
 -- they are the entries of a log, and the strokes of its pictures
 abbrev pub AreKept : {A : Type 0} → EntriesKept A → Log → Type 0
 AreKept entries log = AreEntries entries.kept.items (length entries.drawn.items)
-    × (map (entry_among (map (λ strokes. strokes.items) entries.drawn.items)) entries.kept.items ≡ entries_in log)
+    × (all_entries (map (λ strokes. strokes.items) entries.drawn.items) entries.kept.items
+    ≡ entries_in log)
 
 -- for how many entries more there is room
 abbrev pub room_left : {A : Type 0} → EntriesKept A → ℕ
-room_left entries = min (min (vec_capacity entries.kept) 65536 - vec_len entries.kept)
+room_left entries = min (min (vec_capacity entries.kept) 65536 - entry_count entries.kept.items)
     (min (vec_capacity entries.drawn) 65536 - vec_len entries.drawn)
 
 -- one entry more is kept: that of the next line of a log
 abbrev pub KeepsEntry : {A : Type 0} → EntriesKept A → Shown → EntriesKept A → Type 0
 KeepsEntry old entry new = (event : Happening) (log : Log) → AreKept old log → AreKept new ((event ⟼ entry) ∷ log)
+
+-- so many equal entries more are kept: those of the next lines of a log, all of one event
+abbrev pub KeepsAlike : {A : Type 0} → EntriesKept A → Shown → (times : ℕ) → EntriesKept A → Type 0
+KeepsAlike old entry times new = (event : Happening) (log : Log) → AreKept old log
+    → AreKept new (replicate times (event ⟼ entry) ++ log)
 
 -- after each log that the world stands after and of which the entries are kept, so many lines more are added
 abbrev pub LogsRun : {A : Type 0} → State → EntriesKept A → Happening → (times : ℕ) → State → EntriesKept A → Type 0

@@ -3,12 +3,6 @@ use Rattle.dvg_log.specs.declared.event.Event.TheVariants.{Tick}
 use Rattle.dvg_world.specs.own.Logging.{LogsRun, room_left}
 use Rattle.dvg_world.proofs.logging.log_ticks.Given as goal
 
-abbrev pub invariant-loop-again : goal.invariant-loop-again
-invariant-loop-again g l = record {
-  kept : LogsRun l.fn.world l.fn.entries Tick l._again l.world l.entries;
-  left : room_left l.fn.entries ≤ room_left l.entries + l._again;
-}
-
 abbrev pub invariant-loop-done : goal.invariant-loop-done
 invariant-loop-done g l = record {
   kept : LogsRun l.fn.world l.fn.entries Tick l.done l.world l.entries;
