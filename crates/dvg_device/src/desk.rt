@@ -1,12 +1,22 @@
 //! A driver alone.
 ghost use Rattle.std.specs.Prelude.{◌≡◌};
-ghost use Rattle.dvg_device.specs.Drivers.{DriverAnswers};
+ghost use Rattle.dvg_device.specs.Drivers.{DriverAnswers, OfAction};
+ghost use Rattle.dvg_world.specs.Desks.{TickAnswers};
 
 use crate::reply::Reply;
 use crate::request::Request;
 use dvg_frame::Draft;
 use dvg_log::Entry;
 use dvg_world::Desk;
+
+// A driver at its desk does one action.
+#[inline(always)]
+pub(crate) fn tick_driver(desk: &mut Desk, halted: bool, byte1: u8) -> Reply
+    ensures rom { desk.new.rom ≡ desk.old.rom }
+    ensures answers { OfAction (TickAnswers halted byte1 desk.old.stage desk.new.stage) result }
+{
+    Reply::Came(Entry::Acted(desk.tick(halted, byte1)))
+}
 
 // Asks a driver at its desk, with this draft.
 #[inline(always)]
@@ -18,7 +28,7 @@ pub(crate) fn ask_driver(desk: &mut Desk, request: Request, draft: &Draft) -> Re
     match request {
         Request::Offer => Reply::Came(desk.offer(draft)),
         Request::Redraw => Reply::Came(desk.redraw()),
-        Request::Tick { halted, byte1 } => Reply::Came(Entry::Acted(desk.tick(halted, byte1))),
+        Request::Tick { halted, byte1 } => tick_driver(desk, halted, byte1),
         Request::ResetProcessor => {
             desk.reset();
             Reply::Came(Entry::Cleared)

@@ -7,7 +7,7 @@ ghost use Rattle.dvg_device.specs.Parts.{open_of};
 ghost use Rattle.dvg_device.specs.Replies.{begins, ends, shines};
 
 use crate::cabinet::Cabinet;
-use crate::desk::ask_driver;
+use crate::desk::{ask_driver, tick_driver};
 use crate::lone::{ask_generator, fetch};
 use crate::operation::Operation;
 use crate::reply::Reply;
@@ -290,7 +290,7 @@ impl Device {
         match &mut self.part {
             Part::Nothing => Reply::Closed,
             Part::World(world) => world.tick(),
-            Part::Driver(desk) => Reply::Came(Entry::Acted(desk.tick(halted, byte1))),
+            Part::Driver(desk) => tick_driver(desk, halted, byte1),
             Part::Generator(_) => Reply::Unknown,
         }
     }

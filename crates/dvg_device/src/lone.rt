@@ -47,7 +47,11 @@ fn wanted(generator: &Generator<Global>) -> Reply
 
 // Hands it a byte, or a hole.
 #[inline(always)]
-pub(crate) fn fetch(generator: &mut Generator<Global>, byte: Option<u8>, picture: &mut Vec<Stroke>) -> Reply
+pub(crate) fn fetch(
+    generator: &mut Generator<Global>,
+    byte: Option<u8>,
+    picture: &mut Vec<Stroke>,
+) -> Reply
     ensures { Fetches byte generator.old generator.new picture.old.items picture.new.items result
         ⊎ (LacksRoom byte generator.old generator.new picture.old.items picture.new.items result
         ⊎ StaysStill generator.old generator.new picture.old.items picture.new.items result) }

@@ -22,9 +22,9 @@ returns-in-Ok c =
       wanted = λ history low after. sym (c.wants.ensures.address history low after) ∙ c.in-Some.is;
       answers = λ history low after. c.in-Ok.ensures.answers history low after;
       shown = λ history waits after.
-        ap (λ waits. entry_by address (met waits c.args.byte) step list.items) (low.ensures ∙ after.low);
+          ap (λ waits. entry_by address (met waits c.args.byte) step list.items) (low.ensures ∙ after.low);
       answered = ap Came (c.of_fetch.ensures ∙ sym (map_entry_by (λ _. tt) address found step list.items));
       picture = left_by_fetch address found step list c.args.picture.now
-        (λ other. c.in-Ok.ensures.drawn
+          (λ other. c.in-Ok.ensures.drawn
           (λ done. other (subst (λ l. Finishes (met l c.args.byte) step) (sym low.ensures) done)));
     })

@@ -16,7 +16,7 @@ loop-done-preserved g c =
     let entry = Acted c.act-action.result in
     record {
       kept = logs_more c.args.entries.now c.loop-done.entries c.keep_parts-in-loop-done.new.self entry c.loop-done.invariant.kept
-        c.act-action.ensures.stands (c.keep_parts-in-loop-done.ensures.kept entry refl refl);
+          c.act-action.ensures.stands (c.keep_parts-in-loop-done.ensures.kept entry refl refl);
       left = omega (arith, left, more);
     }
 

@@ -14,7 +14,7 @@ returns-in-World c =
       left,
       refl,
       subst (λ world. Happens Fetch world later before left reply ⊎ Lacks Fetch world later before left reply)
-      c.deref_mut.ensures.value c.fetch.ensures,
+          c.deref_mut.ensures.value c.fetch.ensures,
     )
 
 pub returns-in-Generator : goal.returns-in-Generator

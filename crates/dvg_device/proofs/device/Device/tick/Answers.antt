@@ -1,6 +1,7 @@
 use Rattle.std.proofs.Common.{refl, sym, ap, ◌∙◌, inl, subst}
 use Rattle.dvg_log.specs.declared.event.Event.TheVariants.{Tick}
 use Rattle.dvg_world.specs.Desks.{TickAnswers}
+use Rattle.dvg_device.specs.Drivers.{OfAction}
 use Rattle.dvg_device.specs.Worlds.{Happens}
 use Rattle.dvg_device.proofs.device.Device.tick.Goals.{in-Nothing, in-World, in-Driver, in-Generator}
 use Rattle.dvg_device.proofs.device.Device.tick.Goals as goal
@@ -11,20 +12,21 @@ returns c =
     elim c.match-self.branch [
       | in-Nothing w ↦ rw (sym c.self.view_is, w.self-inside-is, w.result-is, w.in-Nothing.is) (refl, refl)
       | in-World w ↦ rw (sym c.self.view_is, w.self-inside-is, w.result-is, w.in-World.is) (
-          w.tick.new.self,
-          picture,
-          refl,
-          inl (subst (λ world. Happens Tick world w.tick.new.self picture picture w.tick.result) w.deref_mut.ensures.value
-          (w.tick.ensures picture)),
-        )
+        w.tick.new.self,
+        picture,
+        refl,
+        inl (subst (λ world. Happens Tick world w.tick.new.self picture picture w.tick.result) w.deref_mut.ensures.value
+            (w.tick.ensures picture)),
+      )
       | in-Driver w ↦
           let driven = w.deref_mut-in-Driver.ensures.value in
+          let later = w.tick_driver.new.desk in
           rw (sym c.self.view_is, w.self-inside-is, w.result-is, w.in-Driver.is) (
-            w.tick-in-Driver.new.self,
+            later,
             refl,
-            w.tick-in-Driver.ensures.rom ∙ ap (λ d. d.rom) driven,
-            subst (λ d. TickAnswers c.args.halted c.args.byte1 d.stage w.tick-in-Driver.new.self.stage w.tick-in-Driver.result)
-            driven w.tick-in-Driver.ensures.answers,
+            w.tick_driver.ensures.rom ∙ ap (λ d. d.rom) driven,
+            subst (λ d. OfAction (TickAnswers c.args.halted c.args.byte1 d.stage later.stage) w.tick_driver.result) driven
+                w.tick_driver.ensures.answers,
           )
       | in-Generator w ↦ rw (sym c.self.view_is, w.self-inside-is, w.result-is, w.in-Generator.is)
           (w.in-Generator.field-0, picture, refl, (refl, refl, refl))
