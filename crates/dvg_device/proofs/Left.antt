@@ -1,7 +1,7 @@
 -- The strokes of the newest finished run, where they are handed into a list.
 use Rattle.std.proofs.Common.{◌≡◌, ℕ, List, Some, None, Vec, refl, ap}
-use Rattle.dvg_gen.specs.Bytes.{Met, Waits, Whole}
-use Rattle.dvg_gen.specs.Machine.{Finishes}
+use Rattle.std.specs.Prelude.{IsSome}
+use Rattle.dvg_gen.specs.Bytes.{Met, Waits, Whole, word_of}
 use Rattle.dvg_gen.specs.declared.stroke.Stroke.{Stroke}
 use Rattle.dvg_gen.specs.declared.taken.Step.{Step}
 use Rattle.dvg_gen.specs.declared.taken.Step.TheVariants as step
@@ -13,14 +13,20 @@ use Rattle.dvg_device.specs.declared.reply.Reply.TheVariants.{Came}
 
 -- what a fetch leaves in a list that it changes only where it finishes the run
 pub left_by_fetch : {A : Type 0} (address : ℕ) (found : Met) (answer : Step) (list old : Vec Stroke A)
-    → ((Finishes found answer → ⊥) → list ≡ old)
+    → (answer ≡ step.Done → IsSome (word_of found)) → ((answer ≡ step.Done → ⊥) → list ≡ old)
     → list.items ≡ picture_by (entry_by address found answer list.items) old.items
-left_by_fetch address (Whole (Some word)) step.Done list old kept = refl
-left_by_fetch address (Waits byte) answer list old kept = ap (λ l. l.items) (kept (λ other. other))
-left_by_fetch address (Whole None) answer list old kept = ap (λ l. l.items) (kept (λ other. other))
-left_by_fetch address (Whole (Some word)) step.Low list old kept = ap (λ l. l.items) (kept (λ other. other))
-left_by_fetch address (Whole (Some word)) step.Word list old kept = ap (λ l. l.items) (kept (λ other. other))
-left_by_fetch address (Whole (Some word)) (step.Broke fault) list old kept = ap (λ l. l.items) (kept (λ other. other))
+left_by_fetch address (Waits byte) step.Done list old finished kept = let no = finished refl in absurd (cc)
+left_by_fetch address (Whole None) step.Done list old finished kept = let no = finished refl in absurd (cc)
+left_by_fetch address (Whole (Some word)) step.Done list old finished kept = refl
+left_by_fetch address (Waits byte) step.Low list old finished kept = ap (λ l. l.items) (kept (λ done. cc))
+left_by_fetch address (Waits byte) step.Word list old finished kept = ap (λ l. l.items) (kept (λ done. cc))
+left_by_fetch address (Waits byte) (step.Broke fault) list old finished kept = ap (λ l. l.items) (kept (λ done. cc))
+left_by_fetch address (Whole None) step.Low list old finished kept = ap (λ l. l.items) (kept (λ done. cc))
+left_by_fetch address (Whole None) step.Word list old finished kept = ap (λ l. l.items) (kept (λ done. cc))
+left_by_fetch address (Whole None) (step.Broke fault) list old finished kept = ap (λ l. l.items) (kept (λ done. cc))
+left_by_fetch address (Whole (Some word)) step.Low list old finished kept = ap (λ l. l.items) (kept (λ done. cc))
+left_by_fetch address (Whole (Some word)) step.Word list old finished kept = ap (λ l. l.items) (kept (λ done. cc))
+left_by_fetch address (Whole (Some word)) (step.Broke fault) list old finished kept = ap (λ l. l.items) (kept (λ done. cc))
 
 -- what an entry leaves in a list that changes only where it finishes a run
 pub left_by : {A : Type 0} (list old : Vec Stroke A) (entry : Entry (Unit {0}))

@@ -75,11 +75,6 @@ taken_by step.Word list = Word
 taken_by step.Done list = Done list
 taken_by (step.Broke fault) list = Broke fault
 
--- a fetch that met this finishes the run, by its answer
-abbrev pub Finishes : Met → Step → Type 0
-Finishes (Whole (Some word)) step.Done = Unit {0}
-Finishes _ _ = ⊥
-
 -- the run goes on with this answer
 abbrev pub IsOnward : {A : Type 0} → Taken A → Type 0
 IsOnward Low = Unit {0}

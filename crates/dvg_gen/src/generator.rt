@@ -6,10 +6,10 @@ ghost use Rattle.dvg_code.specs.Acts.{Moves, act_of};
 ghost use Rattle.dvg_code.specs.Ranges.{InRange};
 ghost use Rattle.dvg_code.specs.Spelling.{IsFirst};
 ghost use Rattle.dvg_code.specs.declared.instr.Instr.{Instr};
-ghost use Rattle.dvg_gen.specs.Bytes.{Whole, met};
+ghost use Rattle.dvg_gen.specs.Bytes.{Whole, met, word_of};
 ghost use Rattle.dvg_gen.specs.Completing.{Completes, DrawsNothing, IsSeen};
 ghost use Rattle.dvg_gen.specs.Drawing.{drawn};
-ghost use Rattle.dvg_gen.specs.Machine.{Answers, Finishes, IsOnward, HasTaken, taken_by};
+ghost use Rattle.dvg_gen.specs.Machine.{Answers, IsOnward, HasTaken, taken_by};
 ghost use Rattle.dvg_gen.specs.Obeyed.{IsLabs, Obeyed};
 ghost use Rattle.dvg_gen.specs.Run as spec;
 ghost use Rattle.dvg_gen.specs.Told.{Told, Start, Reset, wants};
@@ -187,8 +187,9 @@ impl<A: Allocator + Copy> Generator<A> {
         ensures answers { IfOk result (λ step. (history : List Told) (low : Option ℕ)
             → HasTaken self.old history low
             → Answers history (met low byte) self.new (taken_by step drawn.new)) }
-        ensures drawn { IfOk result (λ step. (Finishes (met self.old.low byte) step → ⊥)
-            → drawn.new ≡ drawn.old) }
+        ensures drawn { IfOk result (λ step. (step ≡ Step.Done → ⊥) → drawn.new ≡ drawn.old) }
+        ensures finished { IfOk result (λ step. step ≡ Step.Done
+            → IsSome (word_of (met self.old.low byte))) }
         ensures goes_on { IfOk result (λ step. (self.new.is_open ≡ true)
             ↔ IsOnward (taken_by step drawn.new)) }
         ensures room { DrawsNothing self.old.held (met self.old.low byte) → IsOk result }
@@ -231,8 +232,7 @@ impl<A: Allocator + Copy> Generator<A> {
         ensures answers { IfOk result (λ step. (history : List Told) (low : Option ℕ)
             → HasTaken self.old history low
             → Answers history (Whole (Some word)) self.new (taken_by step drawn.new)) }
-        ensures drawn { IfOk result (λ step. (Finishes (Whole (Some word)) step → ⊥)
-            → drawn.new ≡ drawn.old) }
+        ensures drawn { IfOk result (λ step. (step ≡ Step.Done → ⊥) → drawn.new ≡ drawn.old) }
         ensures goes_on { IfOk result (λ step. (self.new.is_open ≡ true)
             ↔ IsOnward (taken_by step drawn.new)) }
         ensures room { DrawsNothing self.old.held (Whole (Some word)) → IsOk result }

@@ -1,6 +1,6 @@
 //! A byte that the generator fetched.
-ghost use Rattle.std.specs.Prelude.{◌≡◌, IsTrue, ◌↔◌};
-ghost use Rattle.dvg_world.specs.own.Fetched.{IsDrawnBy, entry_of};
+ghost use Rattle.std.specs.Prelude.{◌≡◌};
+ghost use Rattle.dvg_world.specs.own.Fetched.{FinishesByWord, IsDrawnBy, entry_of};
 
 use dvg_gen::{Step, Stroke};
 use dvg_log::Entry;
@@ -37,10 +37,11 @@ impl FetchedByte {
         drawn: &mut Vec<Stroke, A>,
         other: Vec<Stroke, A>,
     ) -> Option<Vec<Stroke, A>>
+        requires { FinishesByWord self }
         ensures { IsDrawnBy (entry_of self drawn.old.items) result }
     {
-        match (self.step, self.low, self.byte) {
-            (Step::Done, Some(_), Some(_)) => Some(mem::replace(drawn, other)),
+        match self.step {
+            Step::Done => Some(mem::replace(drawn, other)),
             _ => None,
         }
     }

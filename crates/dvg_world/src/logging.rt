@@ -7,7 +7,7 @@ ghost use Rattle.dvg_world.specs.Keeping.{all_entries};
 ghost use Rattle.dvg_world.specs.Kept.{Logs};
 ghost use Rattle.dvg_world.specs.own.Entries.{AreEntries};
 ghost use Rattle.dvg_world.specs.Standing.{AddsLine};
-ghost use Rattle.dvg_world.specs.own.Fetched.{IsDrawnBy, entry_of};
+ghost use Rattle.dvg_world.specs.own.Fetched.{FinishesByWord, IsDrawnBy, entry_of};
 ghost use Rattle.dvg_world.specs.own.Logging.{KeepsAlike, KeepsEntry};
 ghost use Rattle.dvg_world.specs.own.Logging.{LogsRun, StopsLogging, room_left};
 ghost use Rattle.dvg_world.specs.own.Stepping.{WantsMemory};
@@ -77,7 +77,8 @@ impl<A: Allocator> EntriesKept<A> {
         drawn: &mut Vec<Stroke, A>,
         other: Vec<Stroke, A>,
     )
-        requires { 1 ≤ room_left self.old }
+        requires room { 1 ≤ room_left self.old }
+        requires finished { FinishesByWord fetched }
         ensures kept { KeepsEntry self.old (entry_of fetched drawn.old.items) self.new }
         ensures left { room_left self.old ≤ room_left self.new + 1 }
     {

@@ -1,6 +1,6 @@
 //! The world: both ends of the vector RAM, one event at a time.
-ghost use Rattle.std.specs.Prelude.{◌≡◌, ◌≢◌, ◌↔◌, ℕ, List, [], length, IfOk, IsErrOf, IsOk};
-ghost use Rattle.std.specs.Prelude.{IsTrue, None, Ok, OnErr, OnOk};
+ghost use Rattle.std.specs.Prelude.{◌≡◌, ◌≢◌, ◌↔◌, ℕ, List, [], length, IfOk, IfSome};
+ghost use Rattle.std.specs.Prelude.{IsErrOf, IsOk, IsTrue, None, Ok, OnErr, OnOk};
 ghost use Rattle.dvg_driver.specs.Script.{IsWhole};
 ghost use Rattle.dvg_driver.specs.Stands.{IsInRam};
 ghost use Rattle.dvg_log.specs.Entries.{drew_in, map_entry, shown_of};
@@ -13,7 +13,7 @@ ghost use Rattle.dvg_log.specs.Legal.{IsLegal};
 ghost use Rattle.dvg_log.specs.Log.{Log};
 ghost use Rattle.dvg_world.specs.Desks.{OfLives};
 ghost use Rattle.dvg_world.specs.Standing.{AddsLine, DrawsNow, KeepsHeadlineAfter, WorldAfter};
-ghost use Rattle.dvg_world.specs.own.Fetched.{entry_of_fetch};
+ghost use Rattle.dvg_world.specs.own.Fetched.{FinishesByWord, entry_of_fetch};
 ghost use Rattle.dvg_world.specs.own.Stepping.{ram_by, sent_by};
 ghost use Rattle.dvg_world.specs.Wanting.{TakesMemory};
 
@@ -289,6 +289,7 @@ impl<S: Store> World<S> {
             (entry_of_fetch fetched drawn.new.items) self.new) }
         ensures drawn { IfOk result (λ fetched. drew_in (entry_of_fetch fetched drawn.new.items)
             ≡ None → drawn.new ≡ drawn.old) }
+        ensures finished { IfOk result (λ fetched. IfSome fetched FinishesByWord) }
         ensures still { result ≡ Ok None → self.new ≡ self.old }
         ensures refused { OnErr result ((self.new ≡ self.old) × (drawn.new ≡ drawn.old)) }
         ensures room { OnErr result (DrawsNow self.old) }

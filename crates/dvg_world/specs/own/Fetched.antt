@@ -1,11 +1,16 @@
 -- Entries of fetches, and what their runs drew.
-use Rattle.std.specs.Prelude.{◌≡◌, Option, Some, None, Vec, option_map}
-use Rattle.dvg_gen.specs.Bytes.{met}
+use Rattle.std.specs.Prelude.{◌≡◌, Option, Some, None, Vec, IsSome, option_map}
+use Rattle.dvg_gen.specs.Bytes.{met, word_of}
+use Rattle.dvg_gen.specs.declared.taken.Step.TheVariants as step
 use Rattle.dvg_gen.specs.declared.stroke.Stroke.{Stroke}
 use Rattle.dvg_log.specs.Entries.{Shown, drew_in, entry_by}
 use Rattle.dvg_log.specs.declared.entry.Entry.{Entry}
 use Rattle.dvg_log.specs.declared.entry.Entry.TheVariants.{Still}
 use Rattle.dvg_world.specs.declared.fetched.FetchedByte.{FetchedByte}
+
+-- only a whole word finishes a run
+abbrev pub FinishesByWord : FetchedByte → Type 0
+FinishesByWord fetched = fetched.step ≡ step.Done → IsSome (word_of (met fetched.low fetched.byte))
 
 -- the entry of a byte that was fetched, by what the run drew, if it finished
 abbrev pub entry_of : {S : Type 0} → FetchedByte → S → Entry S

@@ -1,6 +1,6 @@
 use Rattle.std.proofs.Common.{sym, ap, ◌∙◌, inl, subst}
-use Rattle.dvg_gen.specs.Bytes.{met}
-use Rattle.dvg_gen.specs.Machine.{Finishes}
+use Rattle.std.specs.Prelude.{IsSome}
+use Rattle.dvg_gen.specs.Bytes.{met, word_of}
 use Rattle.dvg_log.specs.Entries.{entry_by}
 use Rattle.dvg_world.proofs.Fetching.{map_entry_by}
 use Rattle.dvg_device.specs.declared.reply.Reply.TheVariants.{Came}
@@ -25,6 +25,6 @@ returns-in-Ok c =
           ap (λ waits. entry_by address (met waits c.args.byte) step list.items) (low.ensures ∙ after.low);
       answered = ap Came (c.of_fetch.ensures ∙ sym (map_entry_by (λ _. tt) address found step list.items));
       picture = left_by_fetch address found step list c.args.picture.now
-          (λ other. c.in-Ok.ensures.drawn
-          (λ done. other (subst (λ l. Finishes (met l c.args.byte) step) (sym low.ensures) done)));
+          (λ done. subst (λ l. IsSome (word_of (met l c.args.byte))) (sym low.ensures) (c.in-Ok.ensures.finished done))
+          c.in-Ok.ensures.drawn;
     })

@@ -1,6 +1,5 @@
-use Rattle.std.proofs.Common.{◌≡◌, ◌∙◌, ap, sym, length}
+use Rattle.std.proofs.Common.{◌∙◌, ap, sym, length}
 use Rattle.dvg_gen.specs.Bytes.{met}
-use Rattle.dvg_log.specs.Entries.{map_entry}
 use Rattle.dvg_world.specs.own.Fetched.{entry_of}
 use Rattle.dvg_world.proofs.Fetching.{map_entry_by}
 use Rattle.dvg_world.proofs.logging.EntriesKept.keep_fetched.Goals as goal

@@ -1,8 +1,7 @@
 use Rattle.std.proofs.Common.{refl, sym, ap, ◌∙◌, subst}
-use Rattle.std.specs.Prelude.{is_some}
+use Rattle.std.specs.Prelude.{IsSome, is_some}
 use Rattle.dvg_log.specs.declared.event.Event.TheVariants.{Fetch}
-use Rattle.dvg_gen.specs.Bytes.{met}
-use Rattle.dvg_gen.specs.Machine.{Finishes}
+use Rattle.dvg_gen.specs.Bytes.{met, word_of}
 use Rattle.dvg_log.specs.Entries.{entry_by}
 use Rattle.dvg_log.specs.declared.entry.Entry.TheVariants.{Still}
 use Rattle.dvg_world.specs.Standing.{DrawsNow}
@@ -32,9 +31,16 @@ returns-clause-stands g c =
     (λ told low after. sym c.in-Some.is ∙ c.wants.ensures.address told low after) c.low_byte-low.ensures
     c.is_some.ensures c.rom.ensures c.fetch_byte-byte.ensures.byte c.in_ok-step.ensures.answers refl)
 
+pub returns-clause-finished : goal.returns-clause-finished
+returns-clause-finished g c done =
+    subst (λ l. IsSome (word_of (met l c.fetch_byte-byte.result))) (sym c.low_byte-low.ensures)
+    (c.in_ok-step.ensures.finished done)
+
 pub returns-clause-drawn : goal.returns-clause-drawn
 returns-clause-drawn g c none =
     let low = c.low_byte-low in
     let byte = c.fetch_byte-byte.result in
-    let finishes = drew_nothing c.in-Some.address (met low.result byte) c.in_ok-step.step c.take_into.new.drawn.items none in
-    c.in_ok-step.ensures.drawn (λ done. finishes (subst (λ l. Finishes (met l byte) c.in_ok-step.step) (sym low.ensures) done))
+    let step = c.in_ok-step.step in
+    c.in_ok-step.ensures.drawn
+    (drew_nothing c.in-Some.address (met low.result byte) step c.take_into.new.drawn.items
+    (returns-clause-finished g c) none)
