@@ -1,7 +1,6 @@
 -- What is shown of entries, one after the other.
-use Rattle.std.proofs.Common.{◌≡◌, ℕ, ◌+◌, List, ◌∷◌, ◌++◌, length, drop, flat_map, Some, slice_get, Bool, true, refl, sym, ap, ◌∙◌, add-one}
-use Rattle.std.proofs.lemmas.List.{drop_more}
-use Rattle.std.proofs.lemmas.Option.{slice_get_within, get_or_from_slice_get}
+use Rattle.std.proofs.Common.{◌≡◌, ℕ, zero, suc, ◌+◌, ◌-◌, ◌<◌, List, ◌++◌, length, flat_map, replicate, Bool}
+use Rattle.std.proofs.Common.{true, refl, sym, ap, ◌∙◌, add-one, append_assoc, arith}
 use Rattle.dvg_gen.specs.declared.stroke.Stroke.{Stroke}
 use Rattle.dvg_log.specs.declared.entry.Entry.{Entry}
 use Rattle.dvg_log.specs.declared.entry.Entry.TheVariants.{Done}
@@ -19,12 +18,26 @@ pub lines_drawn : (entry : Shown) → strokes_of entry ≡ flat_map stroke_line 
 lines_drawn (Done address word drew) = refl
 lines_drawn _ = refl
 
--- the next entry is that at this index
-pub next_entry : (all : Bool) (entries : List Shown) (i : ℕ) (entry : Shown) → slice_get entries i ≡ Some entry
-    → shown all i (drop i entries) ≡ shown_entry all i entry ++ shown all (i + 1) (drop (i + 1) entries)
-next_entry all entries i entry at =
-    ap (shown all i) (drop_more entries i entry (slice_get_within entries i entry at) ∙ ap (λ e. e ∷ drop (i + 1) entries) (get_or_from_slice_get entries i entry entry at))
-    ∙ ap (λ n. shown_entry all i entry ++ shown all n (drop (i + 1) entries)) (sym (add-one i))
+-- the next of equal entries
+pub next_alike : (all : Bool) (n done times : ℕ) (entry : Shown) → done < times
+    → shown all n (replicate (times - done) entry)
+    ≡ shown_entry all n entry ++ shown all (n + 1) (replicate (times - (done + 1)) entry)
+next_alike all n done times entry inside =
+    ap (λ k. shown all n (replicate k entry))
+    (let k : times - done ≡ suc (times - (done + 1)) = omega (arith, inside) in k)
+    ∙ ap (λ m. shown_entry all n entry ++ shown all m (replicate (times - (done + 1)) entry)) (sym (add-one n))
+
+-- equal entries, and then the later ones
+pub shown_run : (all : Bool) (n times : ℕ) (entry : Shown) (later : List Shown)
+    → shown all n (replicate times entry ++ later)
+    ≡ shown all n (replicate times entry) ++ shown all (n + times) later
+shown_run all n zero entry later = ap (λ m. shown all m later) (let m : n ≡ n + 0 = omega arith in m)
+shown_run all n (suc times) entry later =
+    let first = shown_entry all n entry in
+    let others = shown all (suc n) (replicate times entry) in
+    ap (λ text. first ++ text) (shown_run all (suc n) times entry later)
+    ∙ ap (λ m. first ++ (others ++ shown all m later)) (let m : suc n + times ≡ n + suc times = omega arith in m)
+    ∙ sym (append_assoc first others (shown all (n + suc times) later))
 
 -- the line of an entry, and after it those of what its run drew
 pub line_then : (n : ℕ) (strokes : List Stroke) (entry : Entry ℕ) → strokes ≡ strokes_in (map_entry (λ _. strokes) entry)

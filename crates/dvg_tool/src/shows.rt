@@ -1,16 +1,16 @@
 //! What is written of entries.
-ghost use Rattle.std.specs.Prelude.{◌≡◌, ◌+◌, ◌^◌, ◌++◌, ◌<◌, ◌≤◌, length, true, OnOk};
+ghost use Rattle.std.specs.Prelude.{◌≡◌, ◌+◌, ◌^◌, ◌++◌, ◌<◌, ◌≤◌, length, replicate, true, OnOk};
 ghost use Rattle.dvg_log.specs.Entries.{map_entry};
 ghost use Rattle.dvg_print.specs.Shows.{shown, shown_entry};
 ghost use Rattle.dvg_io.specs.Watching.{Writes};
 ghost use Rattle.dvg_tool.specs.Pending.{WritesBut};
-ghost use Rattle.dvg_world.specs.Keeping.{strokes_in};
+ghost use Rattle.dvg_world.specs.Keeping.{entry_in, strokes_in};
 
 use dvg_gen::Stroke;
 use dvg_io::{StreamFailed, Watched, write_strokes, write_whole};
 use dvg_log::Entry;
 use dvg_print::EntryLines;
-use dvg_world::Entries;
+use dvg_world::{Entries, EntryRun};
 use std::alloc::Allocator;
 use std::io::Write;
 
@@ -40,6 +40,27 @@ fn write_next<W: Write>(
     write_strokes(strokes, writer)
 }
 
+// Writes what is shown of the next entries, which are a run of equal ones.
+fn write_run<W: Write>(
+    lines: &mut EntryLines,
+    run: EntryRun<'_>,
+    writer: &mut Watched<W>,
+) -> Result<(), StreamFailed>
+    requires room { length lines.old.text + 64 ≤ 4096 }
+    requires next { lines.old.next + run.times < 2 ^ 64 }
+    requires drawn { run.strokes.now ≡ strokes_in (entry_in run) }
+    ensures written { WritesBut W.contents (lines.old.text
+        ++ shown true lines.old.next (replicate run.entry.times (entry_in run.entry)))
+        lines.new.text result writer.old writer.new }
+    ensures next { OnOk result (lines.new.next ≡ lines.old.next + run.entry.times) }
+    ensures room { OnOk result (length lines.new.text + 64 ≤ 4096) }
+{
+    for _again in 0..run.times {
+        write_next(lines, run.entry, run.strokes, writer)?;
+    }
+    Ok(())
+}
+
 /// Writes what is shown of each of these entries, the first of which is that of event 0.
 pub fn write_entries<A: Allocator, W: Write>(
     entries: &Entries<A>,
@@ -48,9 +69,8 @@ pub fn write_entries<A: Allocator, W: Write>(
     ensures { Writes W.contents (shown true 0 entries.now) result writer.old writer.new }
 {
     let mut lines = EntryLines::new(0);
-    for number in 0..entries.len() {
-        let (entry, strokes) = entries.entry(number);
-        write_next(&mut lines, entry, strokes, writer)?;
+    for run in entries.runs() {
+        write_run(&mut lines, run, writer)?;
     }
     write_whole(writer, lines.as_bytes())
 }

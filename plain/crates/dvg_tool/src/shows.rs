@@ -3,7 +3,7 @@ use dvg_gen::Stroke;
 use dvg_io::{StreamFailed, Watched, write_strokes, write_whole};
 use dvg_log::Entry;
 use dvg_print::EntryLines;
-use dvg_world::Entries;
+use dvg_world::{Entries, EntryRun};
 use std::alloc::Allocator;
 use std::io::Write;
 
@@ -24,15 +24,26 @@ fn write_next<W: Write>(
     write_strokes(strokes, writer)
 }
 
+// Writes what is shown of the next entries, which are a run of equal ones.
+fn write_run<W: Write>(
+    lines: &mut EntryLines,
+    run: EntryRun<'_>,
+    writer: &mut Watched<W>,
+) -> Result<(), StreamFailed> {
+    for _again in 0..run.times {
+        write_next(lines, run.entry, run.strokes, writer)?;
+    }
+    Ok(())
+}
+
 /// Writes what is shown of each of these entries, the first of which is that of event 0.
 pub fn write_entries<A: Allocator, W: Write>(
     entries: &Entries<A>,
     writer: &mut Watched<W>,
 ) -> Result<(), StreamFailed> {
     let mut lines = EntryLines::new(0);
-    for number in 0..entries.len() {
-        let (entry, strokes) = entries.entry(number);
-        write_next(&mut lines, entry, strokes, writer)?;
+    for run in entries.runs() {
+        write_run(&mut lines, run, writer)?;
     }
     write_whole(writer, lines.as_bytes())
 }

@@ -5,32 +5,67 @@ use dvg_gen::Stroke;
 use dvg_log::Entry;
 use std::alloc::{Allocator, Global};
 
-/// The entries of events, in little room: an entry of a finished run has the number of its picture,
-/// and the strokes of all pictures lie in a list of their own.
+/// The entry of an event, and of so many more that come right after it, in ten bytes.
+#[derive(Clone, Copy)]
+pub(crate) struct Alike {
+    pub(crate) entry: Entry<u16>,
+    pub(crate) again: u16,
+}
+
+/// The entries of events, in little room: equal ones may be kept as one, an entry of a finished run
+/// has the number of its picture, and the strokes of all pictures lie in a list of their own.
 pub struct Entries<A: Allocator = Global> {
-    pub(crate) kept: Vec<Entry<u16>, A>,
+    pub(crate) kept: Vec<Alike, A>,
     pub(crate) drawn: Vec<Vec<Stroke, A>, A>,
 }
 
 impl<A: Allocator> Entries<A> {
-    /// How many there are.
-    pub fn len(&self) -> usize {
-        self.kept.len()
-    }
-
-    /// Whether there is none.
-    pub fn is_empty(&self) -> bool {
-        self.kept.is_empty()
-    }
-
-    /// The entry of this number, counted from 0, and what its run drew, if it finished; else
-    /// nothing. What stands in the entry in place of the strokes has no meaning outside.
-    #[inline(always)]
-    pub fn entry(&self, number: usize) -> (&Entry<u16>, &[Stroke]) {
-        let entry = &self.kept[number];
-        match entry {
-            Entry::Done(_, _, picture) => (entry, self.drawn[usize::from(*picture)].as_slice()),
-            _ => (entry, &[]),
+    /// The entries, as runs of equal ones. There are as many as a trace has events, or fewer.
+    pub fn runs(&self) -> EntryRuns<'_, A> {
+        EntryRuns {
+            kept: self.kept.as_slice(),
+            drawn: self.drawn.as_slice(),
         }
+    }
+}
+
+/// An entry, and how many times in a row it comes: a run of equal entries.
+#[derive(Clone, Copy)]
+pub struct EntryRun<'a> {
+    /// The entry. What stands in it in place of the strokes has no meaning outside.
+    pub entry: &'a Entry<u16>,
+    /// How many times in a row it comes.
+    pub times: usize,
+    /// What the generator's run drew, if the entry finished one; else nothing.
+    pub strokes: &'a [Stroke],
+}
+
+/// An iterator over entries, as runs of equal ones. The entries of two runs in a row may be equal.
+pub struct EntryRuns<'a, A: Allocator = Global> {
+    kept: &'a [Alike],
+    drawn: &'a [Vec<Stroke, A>],
+}
+
+impl<'a, A: Allocator> Iterator for EntryRuns<'a, A> {
+    type Item = EntryRun<'a>;
+
+    #[inline(always)]
+    fn next(&mut self) -> Option<EntryRun<'a>> {
+        let kept = self.kept;
+        if kept.is_empty() {
+            return None;
+        }
+        let entry = &kept[0].entry;
+        let times = usize::from(kept[0].again) + 1;
+        self.kept = &kept[1..];
+        let strokes = match entry {
+            Entry::Done(_, _, picture) => self.drawn[usize::from(*picture)].as_slice(),
+            _ => &[],
+        };
+        Some(EntryRun {
+            entry,
+            times,
+            strokes,
+        })
     }
 }

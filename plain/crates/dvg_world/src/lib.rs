@@ -23,7 +23,7 @@ mod world;
 
 pub use desk::Desk;
 pub use dvg_log::{Entry, Event, MOST_EVENTS, OwnEntry, OwnEvent, Trace, TraceEvent};
-pub use entries::Entries;
+pub use entries::{Entries, EntryRun, EntryRuns};
 pub use judge::{Judge, first_torn};
 pub use logging::{Logged, log_trace};
 pub use pictures::{Drawn, Picture, draw_trace};

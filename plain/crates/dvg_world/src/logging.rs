@@ -1,7 +1,7 @@
 //! The entries of a trace.
 use std::prelude::*;
 
-use crate::entries::Entries;
+use crate::entries::{Alike, Entries};
 use crate::fetched::FetchedByte;
 use crate::happens::fill;
 use crate::world::World;
@@ -36,7 +36,7 @@ impl<A: Allocator + Copy> Logged<A> {
 
 // What is kept where all entries are.
 struct EntriesKept<A: Allocator> {
-    kept: Vec<Entry<u16>, A>,
+    kept: Vec<Alike, A>,
     drawn: Vec<Vec<Stroke, A>, A>,
 }
 
@@ -44,15 +44,21 @@ impl<A: Allocator> EntriesKept<A> {
     // Keeps one entry more.
     #[inline(always)]
     fn keep(&mut self, entry: OwnEntry<A>) {
+        self.keep_alike(entry, 1);
+    }
+
+    // Keeps so many equal entries more, as one.
+    #[inline(always)]
+    fn keep_alike(&mut self, entry: OwnEntry<A>, times: usize) {
         let (entry, drew) = entry.replace(self.number());
-        self.keep_parts(entry, drew);
+        self.keep_parts(entry, drew, times);
     }
 
     // Keeps the entry of one fetch more.
     #[inline(always)]
     fn keep_fetched(&mut self, fetched: FetchedByte<A>) {
         let (entry, drew) = fetched.replace(self.number());
-        self.keep_parts(entry, drew);
+        self.keep_parts(entry, drew, 1);
     }
 
     // The number of the next picture.
@@ -61,14 +67,15 @@ impl<A: Allocator> EntriesKept<A> {
         self.drawn.len() as u16
     }
 
-    // Keeps one entry more, with the number of the next picture in place of what its run drew, and
-    // what that is, if it finished.
+    // Keeps so many equal entries more, with the number of the next picture in place of what their
+    // run drew, and what that is, if it finished.
     #[inline(always)]
-    fn keep_parts(&mut self, entry: Entry<u16>, drew: Option<Vec<Stroke, A>>) {
+    fn keep_parts(&mut self, entry: Entry<u16>, drew: Option<Vec<Stroke, A>>, times: usize) {
         if let Some(strokes) = drew {
             self.drawn.push_reserved(strokes);
         }
-        self.kept.push_reserved(entry);
+        let again = (times - 1) as u16;
+        self.kept.push_reserved(Alike { entry, again });
     }
 
     // What is kept, of a run that is whole or not.
@@ -116,13 +123,11 @@ fn keep_next<S: Store>(
 fn log_ticks<S: Store>(entries: &mut EntriesKept<S::Alloc>, times: usize, world: &mut World<S>) {
     for done in 0..times {
         let action = world.act();
-        entries.keep(Entry::Acted(action));
         if let Action::Idle = action {
-            for _again in done + 1..times {
-                entries.keep(Entry::Acted(Action::Idle));
-            }
+            entries.keep_alike(Entry::Acted(Action::Idle), times - done);
             return;
         }
+        entries.keep(Entry::Acted(action));
     }
 }
 
@@ -136,9 +141,7 @@ fn log_fetches<S: Store>(
     for done in 0..times {
         match world.feed() {
             Ok(None) => {
-                for _again in done..times {
-                    entries.keep(Entry::Still);
-                }
+                entries.keep_alike(Entry::Still, times - done);
                 return Ok(());
             }
             Ok(Some(fetched)) => entries.keep_fetched(fetched),

@@ -1,59 +1,63 @@
-use Rattle.std.proofs.Common.{rules, true, ◌≡◌, ◌+◌, ◌≤◌, ◌++◌, drop, length, ap, sym, subst}
-use Rattle.std.proofs.lemmas.List.{drop_all}
-use Rattle.dvg_log.specs.Entries.{map_entry}
-use Rattle.dvg_print.specs.Shows.{shown, shown_entry}
+use Rattle.std.proofs.Common.{rules, true, ◌≡◌, ◌+◌, ◌++◌, length, replicate, ap, ◌∙◌, sym, subst, arith, length-append}
+use Rattle.std.proofs.lemmas.List.{length-replicate}
+use Rattle.dvg_print.specs.Shows.{shown}
 use Rattle.dvg_io.specs.Watching.{BeginsToWrite, Went, Writes, stream_of}
+use Rattle.dvg_world.specs.Keeping.{entry_in}
 use Rattle.dvg_tool.proofs.Pending.{kept_begun, kept_more, writes_last}
-use Rattle.dvg_tool.proofs.Shown.{next_entry}
+use Rattle.dvg_tool.proofs.Shown.{shown_run}
 use Rattle.dvg_tool.proofs.shows.write_entries.Goals as goal
 
-pub returns-in_err-write_next : goal.returns-in_err-write_next
-returns-in_err-write_next g c =
-    let n = c.loop-number.number in
-    let k = c.loop-number.lines.next in
-    let before = c.loop-number.lines.text in
-    let entry = map_entry (λ _. c.entry.result.1.now) c.entry.result.0.now in
-    let later = shown true (n + 1) (drop (n + 1) c.args.entries.now) in
-    let next =
-    subst (λ m. shown true n (drop n c.args.entries.now) ≡ shown_entry true m entry ++ later)
-    (sym c.loop-number.invariant.next)
-    (next_entry true c.args.entries.now n entry c.entry.ensures.value) in
-    let begun : BeginsToWrite (before ++ shown_entry true k entry)
-    (g.W.Write.contents (stream_of c.loop-number.writer)) (g.W.Write.contents (stream_of c.write_next.new.writer)) =
-    search rules in
-    let all = kept_begun before (shown_entry true k entry) later c.loop-number.invariant.went next begun in
+pub returns-in_err-write_run : goal.returns-in_err-write_run
+returns-in_err-write_run g c =
+    let run = c.in-Some.run' in
+    let rest = c.next.new.self in
+    let n = c.loop-run.lines.next in
+    let before = c.loop-run.lines.text in
+    let piece = shown true n (replicate run.times (entry_in run)) in
+    let next = ap (shown true n) c.in-Some.ensures.steps.2 ∙ shown_run true n run.times (entry_in run) rest in
+    let old = g.W.Write.contents (stream_of c.loop-run.writer) in
+    let new = g.W.Write.contents (stream_of c.write_run.new.writer) in
+    let begun : BeginsToWrite (before ++ piece) old new = search rules in
+    let all = kept_begun before piece (shown true (n + run.times) rest) c.loop-run.invariant.went next begun in
     search rules
 
-pub loop-number-preserved : goal.loop-number-preserved
-loop-number-preserved g c =
-    let n = c.loop-number.number in
-    let k = c.loop-number.lines.next in
-    let before = c.loop-number.lines.text in
-    let entry = map_entry (λ _. c.entry.result.1.now) c.entry.result.0.now in
-    let later = shown true (n + 1) (drop (n + 1) c.args.entries.now) in
-    let next =
-    subst (λ m. shown true n (drop n c.args.entries.now) ≡ shown_entry true m entry ++ later)
-    (sym c.loop-number.invariant.next)
-    (next_entry true c.args.entries.now n entry c.entry.ensures.value) in
-    let but : Went (before ++ shown_entry true k entry) c.write_next.new.lines.text
-    (g.W.Write.contents (stream_of c.loop-number.writer)) (g.W.Write.contents (stream_of c.write_next.new.writer)) =
-    search rules in
+pub loop-run-preserved : goal.loop-run-preserved
+loop-run-preserved g c =
+    let run = c.in-Some.run' in
+    let rest = c.next.new.self in
+    let n = c.loop-run.lines.next in
+    let before = c.loop-run.lines.text in
+    let after = c.write_run.new.lines.text in
+    let piece = shown true n (replicate run.times (entry_in run)) in
+    let steps = c.in-Some.ensures.steps.2 in
+    let next = ap (shown true n) steps ∙ shown_run true n run.times (entry_in run) rest in
+    let start = g.W.Write.contents (stream_of c.args.writer.now) in
+    let old = g.W.Write.contents (stream_of c.loop-run.writer) in
+    let new = g.W.Write.contents (stream_of c.write_run.new.writer) in
+    let but : Went (before ++ piece) after old new = search rules in
+    let all = shown true 0 c.args.entries.now in
+    let went : Went all (after ++ shown true (n + run.times) rest) start new =
+    kept_more before piece after (shown true (n + run.times) rest) c.loop-run.invariant.went next but in
+    let number : c.write_run.new.lines.next ≡ n + run.times = search rules in
+    let few = c.loop-run.invariant.few in
+    let longer = ap length steps in
+    let sum = length-append (replicate run.times (entry_in run)) rest in
+    let times = length-replicate run.times (entry_in run) in
     record {
       counted = search rules;
-      next = search rules;
+      few = omega (arith, few, longer, sum, times, number);
       room = search rules;
-      went = kept_more before (shown_entry true k entry) c.write_next.new.lines.text later
-          c.loop-number.invariant.went next but;
+      went = subst (λ m. Went all (after ++ shown true m rest) start new) (sym number) went;
     }
 
 pub returns : goal.returns
 returns g c =
-    let n = c.loop-number.number in
-    let end : length c.args.entries.now ≤ n = search rules in
-    let kept : Writes g.W.Write.contents c.loop-number.lines.text c.write_whole.result c.loop-number.writer
-    c.write_whole.new.writer =
-    search rules in
-    writes_last g.W.Write.contents (shown true 0 c.args.entries.now) c.loop-number.lines.text
-    (shown true n (drop n c.args.entries.now)) c.write_whole.result c.args.writer.now c.loop-number.writer
-    c.write_whole.new.writer c.loop-number.invariant.went c.loop-number.invariant.counted
-    (ap (shown true n) (drop_all n c.args.entries.now end)) kept
+    let contents = g.W.Write.contents in
+    let before = c.loop-run.writer in
+    let after = c.write_whole.new.writer in
+    let text = c.loop-run.lines.text in
+    let kept : Writes contents text c.write_whole.result before after = search rules in
+    let rest = shown true c.loop-run.lines.next c.loop-run.run-iterator in
+    writes_last contents (shown true 0 c.args.entries.now) text rest c.write_whole.result c.args.writer.now before after
+    c.loop-run.invariant.went c.loop-run.invariant.counted
+    (ap (shown true c.loop-run.lines.next) c.in-None.ensures.steps.0) kept
