@@ -26,7 +26,8 @@ left_by_fetch address (Whole None) step.Word list old finished kept = ap (λ l. 
 left_by_fetch address (Whole None) (step.Broke fault) list old finished kept = ap (λ l. l.items) (kept (λ done. cc))
 left_by_fetch address (Whole (Some word)) step.Low list old finished kept = ap (λ l. l.items) (kept (λ done. cc))
 left_by_fetch address (Whole (Some word)) step.Word list old finished kept = ap (λ l. l.items) (kept (λ done. cc))
-left_by_fetch address (Whole (Some word)) (step.Broke fault) list old finished kept = ap (λ l. l.items) (kept (λ done. cc))
+left_by_fetch address (Whole (Some word)) (step.Broke fault) list old finished kept =
+    ap (λ l. l.items) (kept (λ done. cc))
 
 -- what an entry leaves in a list that changes only where it finishes a run
 pub left_by : {A : Type 0} (list old : Vec Stroke A) (entry : Entry (Unit {0}))

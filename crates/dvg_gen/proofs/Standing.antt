@@ -1,5 +1,6 @@
 -- A generator still stands after its history once it is told one more thing.
-use Rattle.std.proofs.Common.{◌≡◌, ◌↔◌, ℕ, suc, ◌+◌, ◌<◌, true, false, List, [], ◌∷◌, ◌++◌, length, get_or, Option, Some, None, refl, sym, ap, ◌∙◌, subst, arith, append-nil, cond, eqb}
+use Rattle.std.proofs.Common.{◌≡◌, ◌↔◌, ℕ, suc, ◌+◌, ◌<◌, true, false, List, [], ◌∷◌, ◌++◌, length, get_or}
+use Rattle.std.proofs.Common.{Option, Some, None, refl, sym, ap, ◌∙◌, subst, arith, append-nil, cond, eqb}
 use Rattle.std.proofs.lemmas.Bool.{eq-eqb}
 use Rattle.std.specs.Prelude.{Result, Ok, Err, IfOk, IsSome, Vec}
 use Rattle.dvg_code.specs.declared.instr.Instr.{Instr}
@@ -292,7 +293,8 @@ Claims byte old machine taken = (history : List Told) (low : Option ℕ) → Has
 
 -- it is what it meets with the low byte that the machine has
 pub claim_met : {A E : Type 0} (result : Result Step E) (list : Vec Stroke A) (byte : Option ℕ) (found : Met)
-    (old machine : Machine) → met old.low byte ≡ found → IfOk result (λ step. Claim found old machine (taken_by step list))
+    (old machine : Machine) → met old.low byte ≡ found
+    → IfOk result (λ step. Claim found old machine (taken_by step list))
     → IfOk result (λ step. Claims byte old machine (taken_by step list))
 claim_met (Err e) list byte found old machine same claim = claim
 claim_met (Ok step) list byte found old machine same claim = λ history low after.

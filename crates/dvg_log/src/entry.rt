@@ -51,8 +51,8 @@ pub type OwnEntry<A = Global> = Entry<Vec<Stroke, A>>;
 
 impl<S: Drop> Entry<S> {
     /// The entry of a fetch at this word address: of a byte, after this low one if there is one, or
-    /// of a hole. `step` is the generator's answer to it, and `drew` what the run drew, which counts
-    /// only where it is finished.
+    /// of a hole. `step` is the generator's answer to it, and `drew` what the run drew. That counts
+    /// only where the run is finished.
     #[inline(always)]
     pub fn of_fetch(
         address: u16,

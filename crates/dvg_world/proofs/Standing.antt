@@ -269,10 +269,12 @@ module _ {rom bytes : List ℕ} {machine : Machine} {stage : Stage} {sent : Bool
   fetch_still shut R image log w = record { legal = (none_open (open_run log) (sym (open_is w) ∙ shut), tt, w.legal); stands = w.stands }
 
   -- the line of a fetch, by what it met
-  line_of_fetch : {A : Type 0} {machine' : Machine} (R image : List ℕ) (log : Log) (address : ℕ) (found : Met) (answer : Step) (list : Vec Stroke A)
+  line_of_fetch : {A : Type 0} {machine' : Machine} (R image : List ℕ) (log : Log) (address : ℕ) (found : Met)
+      (answer : Step) (list : Vec Stroke A)
       → (w : WorldAfter R image log (world_of rom bytes machine stage sent)) → wants w.stands.machine.run ≡ Some address → meets R image log address ≡ found
       → Answers (history R image log) found machine' (taken_by answer list)
-      → WorldAfter R image ((Fetch ⟼ entry_by address found answer list.items) ∷ log) (world_of rom bytes machine' stage sent)
+      → WorldAfter R image ((Fetch ⟼ entry_by address found answer list.items) ∷ log)
+      (world_of rom bytes machine' stage sent)
   line_of_fetch R image log address (Waits byte) answer list w wanted met x =
       let m = w.stands.machine in
       record { legal = ((met, record { run = m.run; leaves = m.leaves; wanted = wanted }), tt, w.legal); stands = with_machine w.stands x.0 }
@@ -292,7 +294,19 @@ module _ {rom bytes : List ℕ} {machine : Machine} {stage : Stage} {sent : Bool
   line_of_fetch {A} R image log address (Whole (Some word)) step.Done list w wanted met x =
       let m = w.stands.machine in
       record {
-        legal = ((met, record { asked = record { run = m.run; leaves = m.leaves; wanted = wanted }; later = x.0.run; leaves_later = x.0.leaves; replies = drew_is A list (reply (Some word) x.0.run) x.1 }), tt, w.legal);
+        legal = (
+          (
+            met,
+            record {
+              asked = record { run = m.run; leaves = m.leaves; wanted = wanted };
+              later = x.0.run;
+              leaves_later = x.0.leaves;
+              replies = drew_is A list (reply (Some word) x.0.run) x.1;
+            },
+          ),
+          tt,
+          w.legal,
+        );
         stands = with_machine w.stands x.0;
       }
   line_of_fetch {A} {machine'} R image log address (Whole (Some word)) (step.Broke fault) list w wanted met x =
@@ -311,18 +325,24 @@ module _ {rom bytes : List ℕ} {machine : Machine} {stage : Stage} {sent : Bool
       found ∙ (ap (λ b. fetched_byte b rom address high) w.stands.ram ∙ (ap (λ r. fetched_byte (ram image log) r address high) w.stands.rom ∙ ap (fetched_byte (ram image log) R address) (second ∙ ap is_some same))) in
       (same, ap (met (low_byte log)) (sym there))
 
-  pub fetch_takes : {A : Type 0} {machine' : Machine} {rom' : List ℕ} (address : ℕ) (low byte : Option ℕ) (high : Bool) (answer : Step) (list : Vec Stroke A)
+  pub fetch_takes : {A : Type 0} {machine' : Machine} {rom' : List ℕ} (address : ℕ) (low byte : Option ℕ) (high : Bool)
+      (answer : Step) (list : Vec Stroke A)
       (entry : Shown)
       → ((told : List Told) (l : Option ℕ) (after : generator.HasTaken machine told l) → Some address ≡ wants after.run) → low ≡ machine.low → high ≡ is_some low → rom' ≡ rom → byte ≡ fetched_byte bytes rom' address high
-      → ((told : List Told) (l : Option ℕ) → generator.HasTaken machine told l → Answers told (met l byte) machine' (taken_by answer list))
+      → ((told : List Told) (l : Option ℕ) → generator.HasTaken machine told l
+      → Answers told (met l byte) machine' (taken_by answer list))
       → entry ≡ entry_by address (met low byte) answer list.items
       → AddsLine (world_of rom bytes machine stage sent) Fetch entry (world_of rom bytes machine' stage sent)
-  fetch_takes {machine' = machine'} address low byte high answer list entry wanted kept second of_rom read answers shown R image log w =
+  fetch_takes {machine' = machine'} address low byte high answer list entry wanted kept second of_rom read answers shown
+      R image log w =
       let m = w.stands.machine in
       let found = subst (λ rom. byte ≡ fetched_byte bytes rom address high) of_rom read in
       let there = met_in address low byte high w kept second found in
-      subst (λ e. WorldAfter R image ((Fetch ⟼ e) ∷ log) (world_of rom bytes machine' stage sent)) (ap (λ l. entry_by address (met l byte) answer list.items) (sym there.0) ∙ sym shown)
-      (line_of_fetch R image log address (met (low_byte log) byte) answer list w (sym (wanted (history R image log) (low_byte log) m)) there.1 (answers (history R image log) (low_byte log) m))
+      let told = history R image log in
+      let here = ap (λ l. entry_by address (met l byte) answer list.items) (sym there.0) ∙ sym shown in
+      subst (λ e. WorldAfter R image ((Fetch ⟼ e) ∷ log) (world_of rom bytes machine' stage sent)) here
+      (line_of_fetch R image log address (met (low_byte log) byte) answer list w (sym (wanted told (low_byte log) m))
+      there.1 (answers told (low_byte log) m))
 
   pub draws_now : {rom' : List ℕ} (address : ℕ) (low byte : Option ℕ) (high : Bool) → machine.is_open ≡ true → ((told : List Told) (l : Option ℕ) (after : generator.HasTaken machine told l) → Some address ≡ wants after.run)
       → low ≡ machine.low → high ≡ is_some low → rom' ≡ rom → byte ≡ fetched_byte bytes rom' address high → ¬ DrawsNothing machine.held (met machine.low byte) → DrawsNow (world_of rom bytes machine stage sent)

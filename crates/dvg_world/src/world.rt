@@ -245,8 +245,8 @@ impl<S: Store> World<S> {
         }
     }
 
-    /// The generator fetches one byte, as by `fetch`. The strokes of a run that it finishes take the
-    /// place of those in this list, which else stays as it is.
+    /// The generator fetches one byte, as by `fetch`. The strokes of a run that it finishes take
+    /// the place of those in this list, which else stays as it is.
     #[inline(always)]
     pub fn fetch_into(
         &mut self,

@@ -15,7 +15,8 @@ loop-done-preserved g c =
     let more = c.keep_parts-in-loop-done.ensures.left in
     let entry = Acted c.act-action.result in
     record {
-      kept = logs_more c.args.entries.now c.loop-done.entries c.keep_parts-in-loop-done.new.self entry c.loop-done.invariant.kept
+      kept = logs_more c.args.entries.now c.loop-done.entries c.keep_parts-in-loop-done.new.self entry
+          c.loop-done.invariant.kept
           c.act-action.ensures.stands (c.keep_parts-in-loop-done.ensures.kept entry refl refl);
       left = omega (arith, left, more);
     }
@@ -25,4 +26,5 @@ returns-in-Idle-clause-kept g c =
     let line = subst (λ action. AddsLine c.loop-done.world Tick (Acted action) c.act-action.new.self)
     c.in-Idle.is c.act-action.ensures.stands in
     logs_rest c.args.entries.now c.loop-done.entries c.keep_parts.new.self (Acted Idle) c.loop-done.invariant.kept
-    c.loop-done-test.true line (c.act-action.ensures.idle c.in-Idle.is) (c.keep_parts.ensures.kept (Acted Idle) refl refl)
+    c.loop-done-test.true line (c.act-action.ensures.idle c.in-Idle.is)
+    (c.keep_parts.ensures.kept (Acted Idle) refl refl)

@@ -18,7 +18,10 @@ pub returns-in-Ok-None-clause-draws : goal.returns-in-Ok-None-clause-draws
 returns-in-Ok-None-clause-draws g c = λ R image log after drawn count.
     let world = c.loop-done.world in
     let same : c.feed.new.self ≡ world = c.feed.ensures.still (c.in-Ok-None.is ∙ ap Ok c.in-Ok-None.field-0-is) in
-    let here = subst (λ fetched. AddsLine world Fetch (entry_of_fetch fetched c.feed.new.drawn.items) c.feed.new.self) c.in-Ok-None.field-0-is c.in-Ok-None.ensures.stands in
+    let items = c.feed.new.drawn.items in
+    let here =
+    subst (λ fetched. AddsLine world Fetch (entry_of_fetch fetched items) c.feed.new.self) c.in-Ok-None.field-0-is
+    c.in-Ok-None.ensures.stands in
     let line = subst (AddsLine world Fetch Still) same here in
     let le : c.loop-done.done ≤ c.args.times = omega arith in
     subst (AddsRun R image log Fetch c.args.times (AreDrawn c.loop-done.pictures.items)) (sym same)
@@ -31,13 +34,19 @@ pub loop-done-preserved : goal.loop-done-preserved
 loop-done-preserved g c =
     let len = c.loop-done.invariant.len in
     let more = c.keep_picture.ensures.len in
-    let entry = entry_of c.in-Ok-Some.fetched c.feed.new.drawn.items in
-    let line = subst (λ fetched. AddsLine c.loop-done.world Fetch (entry_of_fetch fetched c.feed.new.drawn.items) c.feed.new.self) c.in-Ok-Some.field-0-is c.in-Ok-Some.ensures.stands in
+    let items = c.feed.new.drawn.items in
+    let entry = entry_of c.in-Ok-Some.fetched items in
+    let line =
+    subst (λ fetched. AddsLine c.loop-done.world Fetch (entry_of_fetch fetched items) c.feed.new.self)
+    c.in-Ok-Some.field-0-is c.in-Ok-Some.ensures.stands in
     record {
-      drawn = draws_more c.args.pictures.now.items c.loop-done.pictures.items c.keep_picture.new.pictures.items entry c.loop-done.invariant.drawn line (c.keep_picture.ensures.kept entry c.take_drawn-drew.ensures);
+      drawn = draws_more c.args.pictures.now.items c.loop-done.pictures.items c.keep_picture.new.pictures.items entry
+          c.loop-done.invariant.drawn line (c.keep_picture.ensures.kept entry c.take_drawn-drew.ensures);
       len = omega (arith, len, more);
       capacity = c.keep_picture.ensures.capacity ∙ c.loop-done.invariant.capacity;
     }
 
 pub returns-in-Err-clause-stops : goal.returns-in-Err-clause-stops
-returns-in-Err-clause-stops g c = stops_drawing c.args.pictures.now.items c.loop-done.pictures.items c.loop-done.invariant.drawn c.loop-done-test.true c.in-Err.ensures.room c.in-Err.ensures.refused.0
+returns-in-Err-clause-stops g c =
+    stops_drawing c.args.pictures.now.items c.loop-done.pictures.items c.loop-done.invariant.drawn
+    c.loop-done-test.true c.in-Err.ensures.room c.in-Err.ensures.refused.0

@@ -25,8 +25,8 @@ returns c =
             later,
             refl,
             w.tick_driver.ensures.rom ∙ ap (λ d. d.rom) driven,
-            subst (λ d. OfAction (TickAnswers c.args.halted c.args.byte1 d.stage later.stage) w.tick_driver.result) driven
-                w.tick_driver.ensures.answers,
+            subst (λ d. OfAction (TickAnswers c.args.halted c.args.byte1 d.stage later.stage) w.tick_driver.result)
+                driven w.tick_driver.ensures.answers,
           )
       | in-Generator w ↦ rw (sym c.self.view_is, w.self-inside-is, w.result-is, w.in-Generator.is)
           (w.in-Generator.field-0, picture, refl, (refl, refl, refl))

@@ -13,7 +13,8 @@ pub returns-then-first-lt40960-clause-answers : goal.returns-then-first-lt40960-
 returns-then-first-lt40960-clause-answers g c =
     let held = ap (λ m. m.held) (sym c.self.view_is) ∙ c.in-Some.is in
     let completes = subst (λ h. Completes h c.args.word c.of_two.result) (sym held) c.of_two.ensures in
-    claim_result c.draw.result c.args.drawn.now c.args.word c.args.self.now c.draw.new.self c.of_two.result c.requires completes
+    claim_result c.draw.result c.args.drawn.now c.args.word c.args.self.now c.draw.new.self c.of_two.result c.requires
+    completes
     (c.draw.ensures.obeyed c.args.drawn.now)
 
 pub returns-else-first-lt40960-clause-answers : goal.returns-else-first-lt40960-clause-answers
@@ -21,8 +22,8 @@ returns-else-first-lt40960-clause-answers g c =
     let held = ap (λ m. m.held) (sym c.self.view_is) ∙ c.in-Some.is in
     let instr = c.of_two-else-first-lt40960.result in
     let completes = subst (λ h. Completes h c.args.word instr) (sym held) c.of_two-else-first-lt40960.ensures in
-    claim_result {E = OutOfMemory} (Ok c.place.result) c.args.drawn.now c.args.word c.args.self.now c.place.new.self instr
-    c.requires completes (c.place.ensures c.args.drawn.now)
+    claim_result {E = OutOfMemory} (Ok c.place.result) c.args.drawn.now c.args.word c.args.self.now c.place.new.self
+    instr c.requires completes (c.place.ensures c.args.drawn.now)
 
 pub returns-then-word-lt45056-clause-answers : goal.returns-then-word-lt45056-clause-answers
 returns-then-word-lt45056-clause-answers g c =
@@ -45,7 +46,8 @@ returns-in-12-clause-answers g c =
     let opcode = c.in-12.is in
     let address = c.args.word % 4096 in
     claim_alone {E = OutOfMemory} (Ok c.call.result) c.args.drawn.now c.args.word c.args.self.now c.call.new.self
-    (Jsrl address) c.requires held (jsrl {address = address} (omega arith) (omega arith)) (c.call.ensures c.args.drawn.now)
+    (Jsrl address) c.requires held (jsrl {address = address} (omega arith) (omega arith))
+    (c.call.ensures c.args.drawn.now)
 
 pub returns-in-13-clause-answers : goal.returns-in-13-clause-answers
 returns-in-13-clause-answers g c =

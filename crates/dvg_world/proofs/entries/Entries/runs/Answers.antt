@@ -7,5 +7,6 @@ pub returns-clause-most : goal.returns-clause-most
 returns-clause-most g c =
     let kept = c.as_slice.result.now in
     let counted = entries_counted (map (λ strokes. strokes.items) c.as_slice-2.result.now) kept in
-    let few : entry_count kept ≤ 65536 = subst (λ kept. entry_count kept ≤ 65536) (sym c.as_slice.ensures.value) c.self.invariant.count in
+    let few : entry_count kept ≤ 65536 =
+    subst (λ kept. entry_count kept ≤ 65536) (sym c.as_slice.ensures.value) c.self.invariant.count in
     omega (arith, counted, few)
