@@ -30,6 +30,43 @@ next_digit n d front small is low = ⊎_elim short long (cases_lt n 10)
         decimal_step (n + 1) (omega (arith, many)) small ∙ ap (λ k. decimal k ++ (48 + (n + 1) % 10) ∷ []) tens
         ∙ ap (λ xs. xs ++ (48 + (n + 1) % 10) ∷ []) same.0 ∙ ap (λ x. front ++ x ∷ []) more
 
+-- the last digit of a number, and those before it
+pub last_digit : (n d : ℕ) (front : List ℕ) → n < 2 ^ 64 → decimal n ≡ front ++ d ∷ [] → d ≡ 48 + n % 10
+last_digit n d front small is = ⊎_elim short long (cases_lt n 10)
+  where
+    short : n < 10 → d ≡ 48 + n % 10
+    short few =
+        let same = same_from_push [] front (48 + n) d (sym (decimal_digit n few) ∙ is) in
+        let digit : 48 + n ≡ d = same.1 in
+        omega arith
+
+    long : 10 ≤ n → d ≡ 48 + n % 10
+    long many =
+        let same = same_from_push (decimal (n / 10)) front (48 + n % 10) d (sym (decimal_step n many small) ∙ is) in
+        sym same.1
+
+pub split_digits : (n : ℕ) (front : List ℕ) → 10 ≤ n → n < 2 ^ 64 → front ≡ decimal (n / 10)
+    → front ++ (48 + n % 10) ∷ [] ≡ decimal n
+split_digits n front many small is = ap (λ xs. xs ++ (48 + n % 10) ∷ []) is ∙ sym (decimal_step n many small)
+
+pub one_digit : (n : ℕ) → n < 10 → (48 + n % 10) ∷ [] ≡ decimal n
+one_digit n few =
+    let same : n % 10 ≡ n = omega arith in
+    ap (λ d. (48 + d) ∷ []) same ∙ sym (decimal_digit n few)
+
+-- a lower last digit than 9 becomes one more
+pub more_at_end : (n d : ℕ) (front : List ℕ) → n + 1 < 2 ^ 64 → front ++ d ∷ [] ≡ decimal n → d < 57
+    → front ++ (d + 1) ∷ [] ≡ decimal (n + 1)
+more_at_end n d front small is low = sym (next_digit n d front small (sym is) low)
+
+-- any other is a nine
+pub nine_at_end : (n d : ℕ) (front : List ℕ) → n + 1 < 2 ^ 64 → front ++ d ∷ [] ≡ decimal n → 57 ≤ d
+    → (n % 10 ≡ 9) × (front ++ 57 ∷ [] ≡ decimal n)
+nine_at_end n d front small is high =
+    let last : d ≡ 48 + n % 10 = last_digit n d front (omega (arith, small)) (sym is) in
+    let nine : 57 ≡ d = omega (arith, last, high) in
+    (omega (arith, last, high), ap (λ x. front ++ x ∷ []) nine ∙ is)
+
 -- some items before k of one kind, and one more at the end
 pushed : (front : List ℕ) (d x k : ℕ) → front ++ d ∷ replicate (suc k) x ≡ (front ++ d ∷ replicate k x) ++ x ∷ []
 pushed front d x k =
@@ -152,8 +189,10 @@ module _ (old bytes : List ℕ) (count at : ℕ) (so_far : Carrying old bytes co
 
   pub counts_up : digit < 57 → CountsUp (take count old) (take count (set bytes (at - 1) (digit + 1)))
   counts_up low n small is =
-      ap (take count) parts ∙ take_at more (drop count old) count size
-      ∙ sym (carried so_far.nines n digit before small (sym is ∙ ones) low)
+      let were : decimal n ≡ before ++ digit ∷ replicate (suc so_far.nines) 57 =
+      sym is ∙ ap (λ xs. xs ++ 57 ∷ []) ones ∙ sym (pushed before digit 57 so_far.nines) in
+      ap (λ xs. xs ++ 48 ∷ []) (ap (take count) parts ∙ take_at more (drop count old) count size)
+      ∙ sym (carried (suc so_far.nines) n digit before small were low ∙ pushed before (digit + 1) 48 so_far.nines)
 
 -- the digits of a number of 64 bits
 pub few_digits : (number : ℕ) (text : List ℕ) → number < 2 ^ 64 → text ≡ decimal number → length text ≤ 20

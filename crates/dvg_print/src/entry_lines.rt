@@ -1,6 +1,6 @@
 //! Lines of entries, which are numbered.
-ghost use Rattle.std.specs.Prelude.{◌≡◌, ◌↔◌, ◌+◌, ◌^◌, ◌<◌, ◌≤◌, ◌++◌, [], decimal, length, take};
-ghost use Rattle.std.specs.Prelude.{IsFalse};
+ghost use Rattle.std.specs.Prelude.{◌≡◌, ◌↔◌, ◌+◌, ◌%◌, ◌^◌, ◌<◌, ◌≤◌, ◌++◌, ◌∷◌, []};
+ghost use Rattle.std.specs.Prelude.{decimal, length, take, IsFalse};
 ghost use Rattle.dvg_log.specs.Entries.{map_entry};
 ghost use Rattle.dvg_print.specs.Shows.{entry_line};
 
@@ -14,28 +14,32 @@ use std::marker::Model;
 const LINE_ROOM: usize = 64;
 
 /// The lines that `play --all` writes of entries, one after the other, as many as are written
-/// together. The digits of the next event's number are kept, and counted up in place.
+/// together. The digits of the next event's number are kept, and counted up in place, the last one
+/// apart from the others.
 #[derive(Drop)]
 pub struct EntryLines {
     lines: Line,
-    // The first of these bytes, this many, are the digits of the next entry's number.
-    number: [u8; NUMBER_BYTES],
-    digits: usize,
+    // The first of these bytes, this many, are the digits of the next entry's number before its
+    // last one. Nine lines in ten leave them: bytes just written are slow to read together.
+    tens: [u8; NUMBER_BYTES],
+    count: usize,
+    ones: u8,
     // The number of the next entry's event.
     next: usize,
 }
 
 /// Contracts see the bytes of all lines, and the number of the next one.
 impl Model for EntryLines {
-    ghost use Rattle.std.specs.Prelude.{◌≡◌, ◌≤◌, decimal, take};
+    ghost use Rattle.std.specs.Prelude.{◌≡◌, ◌≤◌, ◌++◌, ◌∷◌, [], decimal, take};
     ghost use Rattle.dvg_print.specs.Numbering.{Numbered};
 
     ghost Value = { Numbered };
 
     ghost view = { λ entry_lines. record { text = entry_lines.lines; next = entry_lines.next } };
 
-    ghost invariant = { λ entry_lines. (entry_lines.digits ≤ 20)
-        × (take entry_lines.digits entry_lines.number ≡ decimal entry_lines.next) };
+    ghost invariant = { λ entry_lines. (entry_lines.count ≤ 20)
+        × (take entry_lines.count entry_lines.tens ++ entry_lines.ones ∷ []
+        ≡ decimal entry_lines.next) };
 }
 
 // The bytes of a number, and how many digits it has.
@@ -50,17 +54,29 @@ fn digits_of(number: usize) -> ([u8; NUMBER_BYTES], usize)
     (bytes, text.len())
 }
 
+// The digits of a number before its last one, and how many they are.
+fn tens_of(number: usize) -> ([u8; NUMBER_BYTES], usize)
+    ensures digits { take result.1 result.0 ++ (48 + number % 10) ∷ [] ≡ decimal number }
+    ensures few { result.1 ≤ 20 }
+{
+    if number < 10 {
+        return ([0; NUMBER_BYTES], 0);
+    }
+    digits_of(number / 10)
+}
+
 impl EntryLines {
     /// No lines. The next entry's event has this number.
     pub fn new(next: usize) -> EntryLines
         ensures text { result.text ≡ [] }
         ensures next { result.next ≡ next }
     {
-        let (number, digits) = digits_of(next);
+        let (tens, count) = tens_of(next);
         EntryLines {
             lines: Line::new(),
-            number,
-            digits,
+            tens,
+            count,
+            ones: b'0' + (next % 10) as u8,
             next,
         }
     }
@@ -98,7 +114,8 @@ impl EntryLines {
             ++ entry_line self.old.next (map_entry (λ _. drew) entry.now) }
         ensures next { self.new.next ≡ self.old.next + 1 }
     {
-        self.lines.front(&self.number, self.digits);
+        self.lines.front(&self.tens, self.count);
+        self.lines.text(&[self.ones]);
         self.lines.entry(entry, drew);
         self.lines.text(b"\n");
         self.count_on();
@@ -112,10 +129,13 @@ impl EntryLines {
         ensures next { self.new.next ≡ self.old.next + 1 }
     {
         self.next += 1;
-        if !count_up(&mut self.number, self.digits) {
-            let (number, digits) = digits_of(self.next);
-            self.number = number;
-            self.digits = digits;
+        if self.ones < b'9' {
+            self.ones += 1;
+            return;
+        }
+        self.ones = b'0';
+        if !count_up(&mut self.tens, self.count) {
+            (self.tens, self.count) = tens_of(self.next);
         }
     }
 }

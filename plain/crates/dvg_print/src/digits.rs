@@ -63,8 +63,8 @@ pub(crate) fn put_position(bytes: &mut [u8; LINE_BYTES], end: usize, x: u32, y: 
     put_number(bytes, at, x)
 }
 
-// Adds one to the number that the first bytes are, this many, where the next number has as many
-// digits. Else it answers false, and zeros stand there.
+// Counts on the digits before a last nine, this many, where the next number has as many: that one
+// ends with a zero. Else it answers false, and zeros stand there.
 #[inline(always)]
 pub(crate) fn count_up(bytes: &mut [u8; NUMBER_BYTES], count: usize) -> bool {
     let mut at = count;

@@ -8,12 +8,15 @@ use itoa::Buffer;
 const LINE_ROOM: usize = 64;
 
 /// The lines that `play --all` writes of entries, one after the other, as many as are written
-/// together. The digits of the next event's number are kept, and counted up in place.
+/// together. The digits of the next event's number are kept, and counted up in place, the last one
+/// apart from the others.
 pub struct EntryLines {
     lines: Line,
-    // The first of these bytes, this many, are the digits of the next entry's number.
-    number: [u8; NUMBER_BYTES],
-    digits: usize,
+    // The first of these bytes, this many, are the digits of the next entry's number before its
+    // last one. Nine lines in ten leave them: bytes just written are slow to read together.
+    tens: [u8; NUMBER_BYTES],
+    count: usize,
+    ones: u8,
     // The number of the next entry's event.
     next: usize,
 }
@@ -27,14 +30,23 @@ fn digits_of(number: usize) -> ([u8; NUMBER_BYTES], usize) {
     (bytes, text.len())
 }
 
+// The digits of a number before its last one, and how many they are.
+fn tens_of(number: usize) -> ([u8; NUMBER_BYTES], usize) {
+    if number < 10 {
+        return ([0; NUMBER_BYTES], 0);
+    }
+    digits_of(number / 10)
+}
+
 impl EntryLines {
     /// No lines. The next entry's event has this number.
     pub fn new(next: usize) -> EntryLines {
-        let (number, digits) = digits_of(next);
+        let (tens, count) = tens_of(next);
         EntryLines {
             lines: Line::new(),
-            number,
-            digits,
+            tens,
+            count,
+            ones: b'0' + (next % 10) as u8,
             next,
         }
     }
@@ -59,7 +71,8 @@ impl EntryLines {
     /// Adds the line of the next entry. A finished run drew this many strokes.
     #[inline(always)]
     pub fn add<S>(&mut self, entry: &Entry<S>, drew: usize) {
-        self.lines.front(&self.number, self.digits);
+        self.lines.front(&self.tens, self.count);
+        self.lines.text(&[self.ones]);
         self.lines.entry(entry, drew);
         self.lines.text(b"\n");
         self.count_on();
@@ -69,10 +82,13 @@ impl EntryLines {
     #[inline(always)]
     fn count_on(&mut self) {
         self.next += 1;
-        if !count_up(&mut self.number, self.digits) {
-            let (number, digits) = digits_of(self.next);
-            self.number = number;
-            self.digits = digits;
+        if self.ones < b'9' {
+            self.ones += 1;
+            return;
+        }
+        self.ones = b'0';
+        if !count_up(&mut self.tens, self.count) {
+            (self.tens, self.count) = tens_of(self.next);
         }
     }
 }
