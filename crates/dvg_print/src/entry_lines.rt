@@ -128,11 +128,24 @@ impl EntryLines {
         ensures text { self.new.text ≡ self.old.text }
         ensures next { self.new.next ≡ self.old.next + 1 }
     {
-        self.next += 1;
         if self.ones < b'9' {
+            self.next += 1;
             self.ones += 1;
             return;
         }
+        self.next_ten();
+    }
+
+    // Goes on to the next number from one that ends with a nine. It isn't a part of its caller, which
+    // is faster for that.
+    #[inline(never)]
+    fn next_ten(&mut self)
+        requires nine { self.old.next % 10 ≡ 9 }
+        requires next { self.old.next + 1 < 2 ^ 64 }
+        ensures text { self.new.text ≡ self.old.text }
+        ensures next { self.new.next ≡ self.old.next + 1 }
+    {
+        self.next += 1;
         self.ones = b'0';
         if !count_up(&mut self.tens, self.count) {
             (self.tens, self.count) = tens_of(self.next);

@@ -81,11 +81,19 @@ impl EntryLines {
     // Goes on to the next number, which nine times in ten has another last digit alone.
     #[inline(always)]
     fn count_on(&mut self) {
-        self.next += 1;
         if self.ones < b'9' {
+            self.next += 1;
             self.ones += 1;
             return;
         }
+        self.next_ten();
+    }
+
+    // Goes on to the next number from one that ends with a nine. It isn't a part of its caller, which
+    // is faster for that.
+    #[inline(never)]
+    fn next_ten(&mut self) {
+        self.next += 1;
         self.ones = b'0';
         if !count_up(&mut self.tens, self.count) {
             (self.tens, self.count) = tens_of(self.next);
