@@ -3,3 +3,4 @@ mod Joined
 mod Counting
 mod PutDigits
 mod StrokeTexts
+mod HexPairs

@@ -8,10 +8,27 @@ use itoa::{Buffer, Integer};
 /// The most bytes of a line, or of lines that are written together.
 pub(crate) const MOST_BYTES: usize = 4096;
 
+/// The two hexadecimal digits of each byte.
+static PAIRS: [u8; 512] =
+    *b"000102030405060708090A0B0C0D0E0F101112131415161718191A1B1C1D1E1F2021222324252627\
+    28292A2B2C2D2E2F303132333435363738393A3B3C3D3E3F404142434445464748494A4B4C4D4E4F\
+    505152535455565758595A5B5C5D5E5F606162636465666768696A6B6C6D6E6F7071727374757677\
+    78797A7B7C7D7E7F808182838485868788898A8B8C8D8E8F909192939495969798999A9B9C9D9E9F\
+    A0A1A2A3A4A5A6A7A8A9AAABACADAEAFB0B1B2B3B4B5B6B7B8B9BABBBCBDBEBFC0C1C2C3C4C5C6C7\
+    C8C9CACBCCCDCECFD0D1D2D3D4D5D6D7D8D9DADBDCDDDEDFE0E1E2E3E4E5E6E7E8E9EAEBECEDEEEF\
+    F0F1F2F3F4F5F6F7F8F9FAFBFCFDFEFF";
+
 // A hexadecimal digit in upper case.
 #[inline(always)]
 fn glyph(digit: usize) -> u8 {
     b"0123456789ABCDEF"[digit]
+}
+
+// The digits of a byte.
+#[inline(always)]
+fn pair(byte: u8) -> (u8, u8) {
+    let from = 2 * byte as usize;
+    (PAIRS[from], PAIRS[from + 1])
 }
 
 /// A line of output, or lines that are written together, of at most 4,096 bytes.
@@ -77,8 +94,8 @@ impl Line {
     // Appends a space and two hexadecimal digits.
     #[inline(always)]
     pub(crate) fn hex_2(&mut self, byte: u8) {
-        let n = usize::from(byte);
-        self.text(&[b' ', glyph(n / 16), glyph(n % 16)]);
+        let (tens, ones) = pair(byte);
+        self.text(&[b' ', tens, ones]);
     }
 
     // Appends three hexadecimal digits.
@@ -87,17 +104,20 @@ impl Line {
         self.text(&[glyph(n / 256 % 16), glyph(n / 16 % 16), glyph(n % 16)]);
     }
 
+    // Appends a space and a word address.
+    #[inline(always)]
+    fn address(&mut self, address: u16) {
+        let first = glyph(usize::from(address / 256 % 16));
+        let (second, last) = pair((address % 256) as u8);
+        self.text(&[b' ', first, second, last]);
+    }
+
     // Appends a space and four hexadecimal digits.
     #[inline(always)]
     pub(crate) fn hex_4(&mut self, word: u16) {
-        let n = usize::from(word);
-        self.text(&[
-            b' ',
-            glyph(n / 4096 % 16),
-            glyph(n / 256 % 16),
-            glyph(n / 16 % 16),
-            glyph(n % 16),
-        ]);
+        let (first, second) = pair((word / 256) as u8);
+        let (third, last) = pair((word % 256) as u8);
+        self.text(&[b' ', first, second, third, last]);
     }
 
     // Appends the name of a vector and its numbers.
@@ -121,8 +141,7 @@ impl Line {
     #[inline(always)]
     pub(crate) fn with_address(&mut self, name: &[u8], address: u16) {
         self.part(name);
-        self.text(b" ");
-        self.hex_3(usize::from(address));
+        self.address(address);
     }
 
     // Appends the name of an instruction and its operands.
