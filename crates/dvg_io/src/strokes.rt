@@ -6,7 +6,7 @@ ghost use Rattle.dvg_io.specs.Watching.{Writes};
 use crate::transfer::write_whole;
 use crate::watched::{StreamFailed, Watched};
 use dvg_gen::Stroke;
-use dvg_print::StrokeLine;
+use dvg_print::StrokeLines;
 use std::io::Write;
 
 /// Writes the line of each stroke, `x0 y0 x1 y1 z`.
@@ -16,10 +16,12 @@ pub fn write_strokes<W: Write>(
 ) -> Result<(), StreamFailed>
     ensures { Writes W.contents (flat_map stroke_line strokes.now) result writer.old writer.new }
 {
-    let mut line = StrokeLine::new();
-    for stroke in strokes {
-        line.become_next(stroke);
-        write_whole(writer, line.as_bytes())?;
+    let mut lines = StrokeLines::new();
+    let mut rest = strokes;
+    while !rest.is_empty() {
+        let count = lines.become_first(rest);
+        write_whole(writer, lines.as_bytes())?;
+        rest = &rest[count..];
     }
     Ok(())
 }

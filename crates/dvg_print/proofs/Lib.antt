@@ -2,5 +2,8 @@ mod Spaced
 mod Joined
 mod Counting
 mod PutDigits
-mod StrokeTexts
+pub mod StrokeTexts
 mod HexPairs
+mod EightDigits
+mod DigitCounts
+mod Intensities

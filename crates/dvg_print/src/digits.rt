@@ -5,8 +5,9 @@ ghost use Rattle.dvg_print.specs.Lines.{spaced};
 ghost use Rattle.dvg_print.specs.Numbering.{CountsUp};
 ghost use Rattle.dvg_print.specs.Shows.{position_text};
 
-/// The bytes in which a line is made from its end to its front.
-pub(crate) const LINE_BYTES: usize = 64;
+/// The bytes in which lines are made from the end of the last one to the front of the first one.
+/// They are cleared for each picture, so they are few.
+pub(crate) const BLOCK_BYTES: usize = 1024;
 
 /// The bytes in which a number is counted up. No number of 64 bits has more digits.
 pub(crate) const NUMBER_BYTES: usize = 24;
@@ -18,10 +19,10 @@ static PAIRS: [u8; 200] = *b"0001020304050607080910111213141516171819\
 
 // Puts the two digits of a number below 100 before `end`.
 #[inline(always)]
-fn put_pair(bytes: &mut [u8; LINE_BYTES], end: usize, pair: u32)
+fn put_pair(bytes: &mut [u8; BLOCK_BYTES], end: usize, pair: u32)
     requires pair { pair < 100 }
     requires room { 2 ≤ end }
-    requires inside { end ≤ 64 }
+    requires inside { end ≤ 1024 }
     ensures { drop (end - 2) bytes.new
         ≡ (48 + pair / 10) ∷ (48 + pair % 10) ∷ drop end bytes.old }
 {
@@ -33,10 +34,10 @@ fn put_pair(bytes: &mut [u8; LINE_BYTES], end: usize, pair: u32)
 
 // Puts the digits of a number below 100 before `end`, and answers where they begin.
 #[inline(always)]
-fn put_first(bytes: &mut [u8; LINE_BYTES], end: usize, number: u32) -> usize
+fn put_first(bytes: &mut [u8; BLOCK_BYTES], end: usize, number: u32) -> usize
     requires number { number < 100 }
     requires room { length (decimal number) ≤ end }
-    requires inside { end ≤ 64 }
+    requires inside { end ≤ 1024 }
     ensures start { result + length (decimal number) ≡ end }
     ensures text { drop result bytes.new ≡ decimal number ++ drop end bytes.old }
 {
@@ -50,9 +51,9 @@ fn put_first(bytes: &mut [u8; LINE_BYTES], end: usize, number: u32) -> usize
 
 // Puts a number before `end`, and answers where it begins.
 #[inline(always)]
-fn put_number(bytes: &mut [u8; LINE_BYTES], end: usize, number: u32) -> usize
+fn put_number(bytes: &mut [u8; BLOCK_BYTES], end: usize, number: u32) -> usize
     requires room { 10 ≤ end }
-    requires inside { end ≤ 64 }
+    requires inside { end ≤ 1024 }
     ensures start { result + length (decimal number) ≡ end }
     ensures few { end ≤ result + 10 }
     ensures text { drop result bytes.new ≡ decimal number ++ drop end bytes.old }
@@ -69,9 +70,9 @@ fn put_number(bytes: &mut [u8; LINE_BYTES], end: usize, number: u32) -> usize
 
 // Puts a byte before `end`, and answers where it is.
 #[inline(always)]
-pub(crate) fn put_byte(bytes: &mut [u8; LINE_BYTES], end: usize, byte: u8) -> usize
+pub(crate) fn put_byte(bytes: &mut [u8; BLOCK_BYTES], end: usize, byte: u8) -> usize
     requires room { 1 ≤ end }
-    requires inside { end ≤ 64 }
+    requires inside { end ≤ 1024 }
     ensures start { result + 1 ≡ end }
     ensures text { drop result bytes.new ≡ byte ∷ drop end bytes.old }
 {
@@ -81,9 +82,9 @@ pub(crate) fn put_byte(bytes: &mut [u8; LINE_BYTES], end: usize, byte: u8) -> us
 
 // Puts a space and a number before `end`, and answers where the space is.
 #[inline(always)]
-pub(crate) fn put_part(bytes: &mut [u8; LINE_BYTES], end: usize, number: u32) -> usize
+pub(crate) fn put_part(bytes: &mut [u8; BLOCK_BYTES], end: usize, number: u32) -> usize
     requires room { 11 ≤ end }
-    requires inside { end ≤ 64 }
+    requires inside { end ≤ 1024 }
     ensures start { result + length (spaced (decimal number ∷ [])) ≡ end }
     ensures few { end ≤ result + 11 }
     ensures text { drop result bytes.new ≡ spaced (decimal number ∷ []) ++ drop end bytes.old }
@@ -93,9 +94,9 @@ pub(crate) fn put_part(bytes: &mut [u8; LINE_BYTES], end: usize, number: u32) ->
 }
 
 // Puts a position before `end`, and answers where it begins.
-pub(crate) fn put_position(bytes: &mut [u8; LINE_BYTES], end: usize, x: u32, y: u32) -> usize
+pub(crate) fn put_position(bytes: &mut [u8; BLOCK_BYTES], end: usize, x: u32, y: u32) -> usize
     requires room { 21 ≤ end }
-    requires inside { end ≤ 64 }
+    requires inside { end ≤ 1024 }
     ensures start { result + length (position_text x y) ≡ end }
     ensures few { end ≤ result + 21 }
     ensures text { drop result bytes.new ≡ position_text x y ++ drop end bytes.old }

@@ -2,7 +2,7 @@
 use dvg_code::{Code, Instr};
 use dvg_frame::{Draft, Op, OpKind};
 use dvg_mem::{Image, Rom, Store};
-use dvg_print::{EntryLines, StrokeLine};
+use dvg_print::{EntryLines, StrokeLines};
 use dvg_world::{Entry, Event, MOST_EVENTS, OwnEntry, OwnEvent, Trace, run, run_trace};
 use std::alloc::{Allocator, Global};
 use std::test::Fail;
@@ -152,7 +152,7 @@ fn trace(alloc: Global, steps: &[Step]) -> Result<Trace, Fail> {
 /// picture below it.
 pub fn entries_text<A: Allocator>(alloc: Global, entries: &[OwnEntry<A>]) -> Result<Vec<u8>, Fail> {
     let mut text = Vec::new(alloc);
-    let mut line = StrokeLine::new();
+    let mut stroke_lines = StrokeLines::new();
     // There are no more entries than a number of 64 bits tells.
     let _ = entries.len();
     for (number, entry) in entries.iter().enumerate() {
@@ -164,9 +164,10 @@ pub fn entries_text<A: Allocator>(alloc: Global, entries: &[OwnEntry<A>]) -> Res
         lines.add(entry, drew);
         text.extend_from_slice(lines.as_bytes())?;
         if let Entry::Done(_, _, strokes) = entry {
-            for stroke in strokes.as_slice() {
-                line.become_next(stroke);
-                text.extend_from_slice(line.as_bytes())?;
+            let strokes = strokes.as_slice();
+            for k in 0..strokes.len() {
+                stroke_lines.become_first(&strokes[k..k + 1]);
+                text.extend_from_slice(stroke_lines.as_bytes())?;
             }
         }
     }

@@ -1,6 +1,7 @@
 //! Digits of numbers, in the bytes of a line.
-/// The bytes in which a line is made from its end to its front.
-pub(crate) const LINE_BYTES: usize = 64;
+/// The bytes in which lines are made from the end of the last one to the front of the first one.
+/// They are cleared for each picture, so they are few.
+pub(crate) const BLOCK_BYTES: usize = 1024;
 
 /// The bytes in which a number is counted up. No number of 64 bits has more digits.
 pub(crate) const NUMBER_BYTES: usize = 24;
@@ -12,7 +13,7 @@ static PAIRS: [u8; 200] = *b"0001020304050607080910111213141516171819\
 
 // Puts the two digits of a number below 100 before `end`.
 #[inline(always)]
-fn put_pair(bytes: &mut [u8; LINE_BYTES], end: usize, pair: u32) {
+fn put_pair(bytes: &mut [u8; BLOCK_BYTES], end: usize, pair: u32) {
     let from = 2 * pair as usize;
     let (tens, ones) = (PAIRS[from], PAIRS[from + 1]);
     bytes[end - 2] = tens;
@@ -21,7 +22,7 @@ fn put_pair(bytes: &mut [u8; LINE_BYTES], end: usize, pair: u32) {
 
 // Puts the digits of a number below 100 before `end`, and answers where they begin.
 #[inline(always)]
-fn put_first(bytes: &mut [u8; LINE_BYTES], end: usize, number: u32) -> usize {
+fn put_first(bytes: &mut [u8; BLOCK_BYTES], end: usize, number: u32) -> usize {
     if number < 10 {
         bytes[end - 1] = b'0' + number as u8;
         return end - 1;
@@ -32,7 +33,7 @@ fn put_first(bytes: &mut [u8; LINE_BYTES], end: usize, number: u32) -> usize {
 
 // Puts a number before `end`, and answers where it begins.
 #[inline(always)]
-fn put_number(bytes: &mut [u8; LINE_BYTES], end: usize, number: u32) -> usize {
+fn put_number(bytes: &mut [u8; BLOCK_BYTES], end: usize, number: u32) -> usize {
     let mut left = number;
     let mut at = end;
     while left >= 100 {
@@ -45,20 +46,20 @@ fn put_number(bytes: &mut [u8; LINE_BYTES], end: usize, number: u32) -> usize {
 
 // Puts a byte before `end`, and answers where it is.
 #[inline(always)]
-pub(crate) fn put_byte(bytes: &mut [u8; LINE_BYTES], end: usize, byte: u8) -> usize {
+pub(crate) fn put_byte(bytes: &mut [u8; BLOCK_BYTES], end: usize, byte: u8) -> usize {
     bytes[end - 1] = byte;
     end - 1
 }
 
 // Puts a space and a number before `end`, and answers where the space is.
 #[inline(always)]
-pub(crate) fn put_part(bytes: &mut [u8; LINE_BYTES], end: usize, number: u32) -> usize {
+pub(crate) fn put_part(bytes: &mut [u8; BLOCK_BYTES], end: usize, number: u32) -> usize {
     let at = put_number(bytes, end, number);
     put_byte(bytes, at, b' ')
 }
 
 // Puts a position before `end`, and answers where it begins.
-pub(crate) fn put_position(bytes: &mut [u8; LINE_BYTES], end: usize, x: u32, y: u32) -> usize {
+pub(crate) fn put_position(bytes: &mut [u8; BLOCK_BYTES], end: usize, x: u32, y: u32) -> usize {
     let at = put_part(bytes, end, y);
     put_number(bytes, at, x)
 }

@@ -6,17 +6,18 @@
 extern crate plain_std as std;
 
 mod digits;
+mod eight_digits;
 mod entry_lines;
 mod line;
 mod log_line;
 mod log_verdict;
 mod run_line;
-mod stroke_line;
+mod stroke_lines;
 mod svg_line;
 mod verdict;
 
 pub use entry_lines::EntryLines;
 pub use line::Line;
 pub use log_verdict::{LogCounts, LogFinding, LogVerdict};
-pub use stroke_line::StrokeLine;
+pub use stroke_lines::StrokeLines;
 pub use verdict::{BoundedVerdict, Verdict};

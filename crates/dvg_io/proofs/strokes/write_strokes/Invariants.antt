@@ -1,10 +1,14 @@
-use Rattle.std.proofs.Common.{◌≡◌, drop, flat_map}
+use Rattle.std.proofs.Common.{◌≡◌, flat_map, length}
 use Rattle.dvg_print.specs.Shows.{stroke_line}
 use Rattle.dvg_io.specs.Watching.{Went, failures_of, stream_of}
 use Rattle.dvg_io.proofs.strokes.write_strokes.Given as goal
 
-abbrev pub invariant-loop-stroke : goal.invariant-loop-stroke
-invariant-loop-stroke g l = record {
+abbrev pub invariant-loop-rest : goal.invariant-loop-rest
+invariant-loop-rest g l = record {
   counted : failures_of l.writer ≡ failures_of l.initial.writer;
-  went : Went (flat_map stroke_line l.strokes) (flat_map stroke_line (drop l.stroke-index l.strokes)) (g.W.Write.contents (stream_of l.initial.writer)) (g.W.Write.contents (stream_of l.writer));
+  went : Went (flat_map stroke_line l.fn.strokes) (flat_map stroke_line l.rest)
+      (g.W.Write.contents (stream_of l.initial.writer)) (g.W.Write.contents (stream_of l.writer));
 }
+
+abbrev pub decreases-loop-rest : goal.decreases-loop-rest
+decreases-loop-rest g l = length l.rest

@@ -1,7 +1,7 @@
 use Rattle.std.proofs.Common.{rules, drop, get_or, ◌+◌, refl}
 use Rattle.dvg_print.specs.Svg.{path_line}
 use Rattle.dvg_io.specs.Watching.{BeginsToWrite, stream_of}
-use Rattle.dvg_io.proofs.StrokeLines.{no_stroke}
+use Rattle.dvg_print.proofs.StrokeTexts.{no_stroke}
 use Rattle.dvg_io.proofs.Went.{piece_begun, piece_more}
 use Rattle.dvg_svg.specs.Svg.{stroke_lines}
 use Rattle.dvg_svg.proofs.Steps.{next_or}
