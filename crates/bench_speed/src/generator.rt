@@ -1,7 +1,8 @@
 //! A looping display list on the generator.
 use dvg_code::OutOfMemory;
-use dvg_gen::{Generator, Stroke, Taken};
+use dvg_gen::{Generator, Step, Stroke};
 use std::alloc::Global;
+use std::mem;
 
 /// How many steps are made: of each 29, one start and 28 bytes taken, so 2,000,000 bytes in all.
 const STEPS: u32 = 2_071_429;
@@ -44,6 +45,7 @@ fn byte_at(address: u16, high: bool) -> Option<u8> {
 /// Takes the bytes of the list's words, and starts again after each run.
 pub fn draw(alloc: Global) -> Result<Totals, OutOfMemory> {
     let mut generator = Generator::new(alloc);
+    let mut drawn = Vec::new(alloc);
     let mut totals = Totals {
         runs: 0,
         strokes: 0,
@@ -54,9 +56,9 @@ pub fn draw(alloc: Global) -> Result<Totals, OutOfMemory> {
             None => generator.start(),
             Some(address) => {
                 let byte = byte_at(address, generator.wants_high());
-                if let Taken::Done(strokes) = generator.take_byte(byte)? {
-                    totals = totals.with_run(strokes.as_slice());
-                    generator.reuse(strokes);
+                if let Step::Done = generator.take_into(byte, &mut drawn)? {
+                    totals = totals.with_run(drawn.as_slice());
+                    generator.reuse(mem::replace(&mut drawn, Vec::new(alloc)));
                 }
             }
         }
