@@ -10,7 +10,8 @@ use Rattle.dvg_print.specs.declared.line.TheConstants.{PAIRS}
 abbrev has_pairs : ℕ → Bool
 has_pairs zero = true
 has_pairs (suc n) =
-    (eqb (get_or PAIRS (2 * n) 0) (digit_glyph true (n / 16 % 16)) && eqb (get_or PAIRS (2 * n + 1) 0) (digit_glyph true (n % 16)))
+    (eqb (get_or PAIRS (2 * n) 0) (digit_glyph true (n / 16 % 16))
+    && eqb (get_or PAIRS (2 * n + 1) 0) (digit_glyph true (n % 16)))
     && has_pairs n
 
 pair_below : (n byte : ℕ) → T (has_pairs n) → byte < n

@@ -1,6 +1,6 @@
 //! Numbers below 100,000,000 as texts of eight bytes, made without a branch.
-ghost use Rattle.std.specs.Prelude.{◌≡◌, ◌+◌, ◌-◌, ◌*◌, ◌/◌, ◌%◌, ◌^◌, ◌<◌, ◌≤◌, ◌++◌, length, decimal};
-ghost use Rattle.std.specs.Prelude.{drop};
+ghost use Rattle.std.specs.Prelude.{◌≡◌, ◌+◌, ◌-◌, ◌*◌, ◌/◌, ◌%◌, ◌^◌, ◌<◌, ◌≤◌, ◌++◌, length};
+ghost use Rattle.std.specs.Prelude.{decimal, drop};
 ghost use Rattle.std.specs.Int.{to_le_bytes, w64};
 ghost use Rattle.dvg_print.specs.Numbering.{padded};
 

@@ -1,6 +1,6 @@
 //! Lines of strokes, of which most begin where the one before ended.
-ghost use Rattle.std.specs.Prelude.{◌≡◌, ◌≤◌, ◌<◌, ◌+◌, ◌++◌, ◌∷◌, [], length, decimal, drop, take, min};
-ghost use Rattle.std.specs.Prelude.{flat_map, IsTrue};
+ghost use Rattle.std.specs.Prelude.{◌≡◌, ◌≤◌, ◌<◌, ◌+◌, ◌++◌, ◌∷◌, [], length, decimal, drop, take};
+ghost use Rattle.std.specs.Prelude.{flat_map, min, IsTrue};
 ghost use Rattle.dvg_print.specs.Lines.{spaced};
 ghost use Rattle.dvg_print.specs.Numbering.{IsSmall};
 ghost use Rattle.dvg_print.specs.Shows.{position_text, stroke_line};

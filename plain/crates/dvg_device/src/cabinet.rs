@@ -1,7 +1,7 @@
 //! A world, beside the image that it is reset to.
 use std::prelude::*;
 
-use crate::happening::ask_world;
+use crate::happening::{ask_world, fetch_in_world, tick_world};
 use crate::reply::Reply;
 use crate::request::Request;
 use dvg_frame::Draft;
@@ -31,6 +31,19 @@ impl Cabinet {
     pub(crate) fn begin_anew(&mut self, alloc: Global, image: &[u8], rom: &[u8]) -> bool {
         self.image.copy_from(image);
         self.world.begin_anew(alloc, rom, &self.image).is_ok()
+    }
+
+    // The driver of the world does one action.
+    #[inline(always)]
+    pub(crate) fn tick(&mut self) -> Reply {
+        tick_world(&mut self.world)
+    }
+
+    // The generator of the world fetches one byte. The strokes are those of the newest run that
+    // came to a HALT.
+    #[inline(always)]
+    pub(crate) fn fetch(&mut self, picture: &mut Vec<Stroke>) -> Reply {
+        fetch_in_world(&mut self.world, picture)
     }
 
     // Asks the world, with this draft and these staged bytes. The strokes are those of the newest

@@ -2,8 +2,8 @@
 use std::prelude::*;
 
 use crate::cabinet::Cabinet;
-use crate::desk::ask_driver;
-use crate::lone::ask_generator;
+use crate::desk::{ask_driver, tick_driver};
+use crate::lone::{ask_generator, fetch};
 use crate::operation::Operation;
 use crate::reply::Reply;
 use crate::request::Request;
@@ -57,11 +57,11 @@ impl Device {
     /// One request, as a number of 64 bits, and its answer. `Request` says which requests there
     /// are, and `Reply` which answers.
     pub fn turn(&mut self, request: u64) -> u64 {
-        // The most frequent ones are handled at once, so that what they bring stays in registers.
-        match request % 0x100 {
-            2 => self.ask(Request::of(request)).number(),
-            4 => self.ask(Request::of(request)).number(),
-            _ => self.answer(Request::of(request)).number(),
+        // The most frequent ones go their own way, so that what they bring stays in registers.
+        match Request::of(request) {
+            Request::Tick { halted, byte1 } => self.tick(halted, byte1).number(),
+            Request::Fetch(byte) => self.fetch(byte).number(),
+            request => self.answer(request).number(),
         }
     }
 
@@ -216,6 +216,28 @@ impl Device {
         match self.stroke(i) {
             Some(stroke) => Reply::Intensity(stroke.z),
             None => Reply::Intensity(0),
+        }
+    }
+
+    // What is open does a tick.
+    #[inline(always)]
+    fn tick(&mut self, halted: bool, byte1: u8) -> Reply {
+        match &mut self.part {
+            Part::Nothing => Reply::Closed,
+            Part::World(world) => world.tick(),
+            Part::Driver(desk) => tick_driver(desk, halted, byte1),
+            Part::Generator(_) => Reply::Unknown,
+        }
+    }
+
+    // What is open fetches a byte, or is handed this one, or a hole.
+    #[inline(always)]
+    fn fetch(&mut self, byte: Option<u8>) -> Reply {
+        match &mut self.part {
+            Part::Nothing => Reply::Closed,
+            Part::World(world) => world.fetch(&mut self.picture),
+            Part::Driver(_) => Reply::Unknown,
+            Part::Generator(generator) => fetch(generator, byte, &mut self.picture),
         }
     }
 

@@ -5,6 +5,7 @@ use crate::reply::{Reply, answered};
 use crate::request::Request;
 use dvg_frame::Draft;
 use dvg_gen::Stroke;
+use dvg_log::Entry;
 use dvg_mem::{Flat, Image, MEMORY_BYTES};
 use dvg_world::World;
 
@@ -22,16 +23,29 @@ pub(crate) fn ask_world(
     match request {
         Request::Offer => answered(world.offer(draft), picture),
         Request::Redraw => answered(world.redraw(), picture),
-        Request::Tick { .. } => answered(world.tick(), picture),
+        Request::Tick { .. } => tick_world(world),
         Request::Strobe => answered(world.strobe(), picture),
-        Request::Fetch(_) => match world.fetch() {
-            Ok(entry) => answered(entry, picture),
-            Err(_) => Reply::NoMemory,
-        },
+        Request::Fetch(_) => fetch_in_world(world, picture),
         Request::ResetGenerator => answered(world.reset_generator(), picture),
         Request::ResetProcessor => answered(world.reset_processor(), picture),
         Request::ResetAll => reset_all(world, image, staged, picture),
         _ => Reply::Unknown,
+    }
+}
+
+// The driver of a world does one action.
+#[inline(always)]
+pub(crate) fn tick_world(world: &mut World<Flat>) -> Reply {
+    Reply::Came(Entry::Acted(world.act()))
+}
+
+// The generator of a world fetches one byte. The strokes are those of the newest run that came to a
+// HALT.
+#[inline(always)]
+pub(crate) fn fetch_in_world(world: &mut World<Flat>, picture: &mut Vec<Stroke>) -> Reply {
+    match world.fetch_into(picture) {
+        Ok(entry) => Reply::Came(entry),
+        Err(_) => Reply::NoMemory,
     }
 }
 

@@ -1,7 +1,7 @@
 //! A generator alone.
 use std::prelude::*;
 
-use crate::reply::{Reply, answered};
+use crate::reply::Reply;
 use crate::request::Request;
 use dvg_gen::{Generator, Stroke};
 use dvg_log::Entry;
@@ -39,13 +39,17 @@ fn wanted(generator: &Generator<Global>) -> Reply {
 
 // Hands it a byte, or a hole.
 #[inline(always)]
-fn fetch(generator: &mut Generator<Global>, byte: Option<u8>, picture: &mut Vec<Stroke>) -> Reply {
+pub(crate) fn fetch(
+    generator: &mut Generator<Global>,
+    byte: Option<u8>,
+    picture: &mut Vec<Stroke>,
+) -> Reply {
     let Some(address) = generator.wants() else {
         return Reply::Came(Entry::Still);
     };
     let low = generator.low_byte();
-    match generator.take_byte(byte) {
-        Ok(taken) => answered(Entry::of_fetch(address, low, byte, taken), picture),
+    match generator.take_into(byte, picture) {
+        Ok(step) => Reply::Came(Entry::of_fetch(address, low, byte, step, ())),
         Err(_) => Reply::NoMemory,
     }
 }

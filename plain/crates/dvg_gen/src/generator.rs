@@ -3,7 +3,7 @@ use std::prelude::*;
 
 use crate::beam::Beam;
 use crate::stroke::Stroke;
-use crate::taken::{GenFault, Taken};
+use crate::taken::{GenFault, Step, Taken};
 use arrayvec::ArrayVec;
 use dvg_code::{Code, Instr, OutOfMemory, decode};
 use std::alloc::Allocator;
@@ -94,15 +94,36 @@ impl<A: Allocator + Copy> Generator<A> {
     /// byte completes a vector with an intensity of at least 1.
     #[inline(always)]
     pub fn take_byte(&mut self, byte: Option<u8>) -> Result<Taken<A>, OutOfMemory> {
+        let mut drawn = self.no_strokes();
+        match self.take_into(byte, &mut drawn) {
+            Ok(step) => Ok(taken(step, drawn)),
+            Err(refused) => Err(refused),
+        }
+    }
+
+    /// The same, where the strokes of a finished run take the place of those in this list, which
+    /// else stays as it is.
+    #[inline(always)]
+    pub fn take_into(
+        &mut self,
+        byte: Option<u8>,
+        drawn: &mut Vec<Stroke, A>,
+    ) -> Result<Step, OutOfMemory> {
         let Some(byte) = byte else {
             return Ok(self.break_off(GenFault::Hole));
         };
         let Some(low) = self.low_byte() else {
             self.low = byte;
             self.has_low = true;
-            return Ok(Taken::Low);
+            return Ok(Step::Low);
         };
-        self.take(u16::from_le_bytes([low, byte]))
+        self.take(u16::from_le_bytes([low, byte]), drawn)
+    }
+
+    /// An empty list of strokes, whose memory would be that of the generator's own.
+    #[inline(always)]
+    pub fn no_strokes(&self) -> Vec<Stroke, A> {
+        Vec::new(self.alloc)
     }
 
     /// Takes a list back that was handed out, so that the next strokes lie in its memory. What is in
@@ -116,7 +137,7 @@ impl<A: Allocator + Copy> Generator<A> {
 
     // Takes a whole word.
     #[inline(always)]
-    fn take(&mut self, word: u16) -> Result<Taken<A>, OutOfMemory> {
+    fn take(&mut self, word: u16, drawn: &mut Vec<Stroke, A>) -> Result<Step, OutOfMemory> {
         // The opcode says which instruction it is. To look at the decoded ones once more would take
         // time.
         if let Some(first) = self.held {
@@ -130,10 +151,10 @@ impl<A: Allocator + Copy> Generator<A> {
             self.at = after(self.at);
             self.held = Some(word);
             self.has_low = false;
-            return Ok(Taken::Word);
+            return Ok(Step::Word);
         }
         match word >> 12 {
-            0xB => Ok(self.finish()),
+            0xB => Ok(self.finish(drawn)),
             0xC => Ok(self.call(word % 4096)),
             0xD => Ok(self.come_back()),
             0xE => Ok(self.jump(word % 4096)),
@@ -143,7 +164,7 @@ impl<A: Allocator + Copy> Generator<A> {
 
     // Places the beam by a LABS.
     #[inline(always)]
-    fn place(&mut self, code: Code) -> Taken<A> {
+    fn place(&mut self, code: Code) -> Step {
         let Instr::Labs { x, y, scale } = code.instr() else {
             unreachable!()
         };
@@ -153,7 +174,7 @@ impl<A: Allocator + Copy> Generator<A> {
 
     // Draws a vector.
     #[inline(always)]
-    fn draw(&mut self, code: Code) -> Result<Taken<A>, OutOfMemory> {
+    fn draw(&mut self, code: Code) -> Result<Step, OutOfMemory> {
         // Field by field: a copy of the whole would move its unused bytes too.
         let Beam { x, y, scale } = self.beam;
         let mut beam = Beam { x, y, scale };
@@ -165,7 +186,7 @@ impl<A: Allocator + Copy> Generator<A> {
     }
 
     // Saves the address of the next word, and goes to another.
-    fn call(&mut self, address: u16) -> Taken<A> {
+    fn call(&mut self, address: u16) -> Step {
         if self.stack.is_full() {
             return self.break_off(GenFault::StackOver);
         }
@@ -174,7 +195,7 @@ impl<A: Allocator + Copy> Generator<A> {
     }
 
     // Goes to the address that was saved last.
-    fn come_back(&mut self) -> Taken<A> {
+    fn come_back(&mut self) -> Step {
         match self.stack.pop() {
             Some(address) => self.jump(address),
             None => self.break_off(GenFault::StackUnder),
@@ -182,25 +203,38 @@ impl<A: Allocator + Copy> Generator<A> {
     }
 
     // Goes to an address, where the next instruction begins.
-    fn jump(&mut self, address: u16) -> Taken<A> {
+    fn jump(&mut self, address: u16) -> Step {
         self.at = address;
         self.held = None;
         self.has_low = false;
-        Taken::Word
+        Step::Word
     }
 
     // Ends the run, and hands its strokes out.
-    fn finish(&mut self) -> Taken<A> {
+    fn finish(&mut self, drawn: &mut Vec<Stroke, A>) -> Step {
         self.has_low = false;
         self.is_open = false;
-        Taken::Done(mem::replace(&mut self.strokes, Vec::new(self.alloc)))
+        let none = self.no_strokes();
+        *drawn = mem::replace(&mut self.strokes, none);
+        Step::Done
     }
 
     // Breaks the run.
-    fn break_off(&mut self, fault: GenFault) -> Taken<A> {
+    fn break_off(&mut self, fault: GenFault) -> Step {
         self.has_low = false;
         self.is_open = false;
-        Taken::Broke(fault)
+        Step::Broke(fault)
+    }
+}
+
+// The whole answer, where these are the strokes of a finished run.
+#[inline(always)]
+fn taken<A: Allocator>(step: Step, drawn: Vec<Stroke, A>) -> Taken<A> {
+    match step {
+        Step::Low => Taken::Low,
+        Step::Word => Taken::Word,
+        Step::Done => Taken::Done(drawn),
+        Step::Broke(fault) => Taken::Broke(fault),
     }
 }
 

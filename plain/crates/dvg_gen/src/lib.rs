@@ -19,4 +19,4 @@ mod taken;
 pub use beam::Beam;
 pub use generator::Generator;
 pub use stroke::Stroke;
-pub use taken::{GenFault, Taken};
+pub use taken::{GenFault, Step, Taken};

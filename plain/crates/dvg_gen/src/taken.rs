@@ -31,6 +31,19 @@ impl GenFault {
     }
 }
 
+/// What a fetch led to, but for the strokes of a finished run.
+#[derive(Clone, Copy, Debug, PartialEq, Eq)]
+pub enum Step {
+    /// That was the low byte of a word, whose high byte comes next.
+    Low,
+    /// The word is complete, and the run goes on.
+    Word,
+    /// A HALT ended the run.
+    Done,
+    /// The run broke.
+    Broke(GenFault),
+}
+
 /// What a fetch led to.
 #[derive(Debug)]
 pub enum Taken<A: Allocator> {

@@ -3,8 +3,8 @@ use std::prelude::*;
 
 use dvg_driver::Action;
 use dvg_frame::FrameFault;
-use dvg_gen::{GenFault, Stroke, Taken};
-use std::alloc::{Allocator, Global};
+use dvg_gen::{GenFault, Step, Stroke};
+use std::alloc::Global;
 
 /// What an event led to. Each event has exactly one entry.
 ///
@@ -47,10 +47,18 @@ pub enum Entry<S = Vec<Stroke>> {
 /// An entry that owns its strokes.
 pub type OwnEntry<A = Global> = Entry<Vec<Stroke, A>>;
 
-impl<A: Allocator> Entry<Vec<Stroke, A>> {
+impl<S: Drop> Entry<S> {
     /// The entry of a fetch at this word address: of a byte, after this low one if there is one, or
-    /// of a hole. `taken` is the generator's answer to it.
-    pub fn of_fetch(address: u16, low: Option<u8>, byte: Option<u8>, taken: Taken<A>) -> OwnEntry<A> {
+    /// of a hole. `step` is the generator's answer to it, and `drew` what the run drew. That counts
+    /// only where the run is finished.
+    #[inline(always)]
+    pub fn of_fetch(
+        address: u16,
+        low: Option<u8>,
+        byte: Option<u8>,
+        step: Step,
+        drew: S,
+    ) -> Entry<S> {
         let Some(byte) = byte else {
             return Entry::Broke(address, GenFault::Hole);
         };
@@ -58,10 +66,10 @@ impl<A: Allocator> Entry<Vec<Stroke, A>> {
             return Entry::Low(address, byte);
         };
         let word = u16::from_le_bytes([low, byte]);
-        match taken {
-            Taken::Low | Taken::Word => Entry::Fetched(address, word),
-            Taken::Done(strokes) => Entry::Done(address, word, strokes),
-            Taken::Broke(fault) => Entry::Broke(address, fault),
+        match step {
+            Step::Low | Step::Word => Entry::Fetched(address, word),
+            Step::Done => Entry::Done(address, word, drew),
+            Step::Broke(fault) => Entry::Broke(address, fault),
         }
     }
 }

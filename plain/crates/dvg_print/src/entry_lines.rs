@@ -89,8 +89,8 @@ impl EntryLines {
         self.next_ten();
     }
 
-    // Goes on to the next number from one that ends with a nine. It isn't a part of its caller, which
-    // is faster for that.
+    // Goes on to the next number from one that ends with a nine. It isn't made a part of its
+    // caller, which is faster for that.
     #[inline(never)]
     fn next_ten(&mut self) {
         self.next += 1;

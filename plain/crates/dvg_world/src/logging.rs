@@ -44,20 +44,21 @@ impl<A: Allocator> EntriesKept<A> {
     // Keeps one entry more.
     #[inline(always)]
     fn keep(&mut self, entry: OwnEntry<A>) {
-        self.keep_alike(entry, 1);
-    }
-
-    // Keeps so many equal entries more, as one.
-    #[inline(always)]
-    fn keep_alike(&mut self, entry: OwnEntry<A>, times: usize) {
         let (entry, drew) = entry.replace(self.number());
-        self.keep_parts(entry, drew, times);
+        self.keep_parts(entry, drew, 1);
     }
 
-    // Keeps the entry of one fetch more.
+    // Keeps the entry of one fetch more. What its run drew, if it finished, is taken out of this
+    // list, and the other one takes its place.
     #[inline(always)]
-    fn keep_fetched(&mut self, fetched: FetchedByte<A>) {
-        let (entry, drew) = fetched.replace(self.number());
+    fn keep_fetched(
+        &mut self,
+        fetched: FetchedByte,
+        drawn: &mut Vec<Stroke, A>,
+        other: Vec<Stroke, A>,
+    ) {
+        let entry = fetched.entry(self.number());
+        let drew = fetched.take_drawn(drawn, other);
         self.keep_parts(entry, drew, 1);
     }
 
@@ -124,10 +125,10 @@ fn log_ticks<S: Store>(entries: &mut EntriesKept<S::Alloc>, times: usize, world:
     for done in 0..times {
         let action = world.act();
         if let Action::Idle = action {
-            entries.keep_alike(Entry::Acted(Action::Idle), times - done);
+            entries.keep_parts(Entry::Acted(Action::Idle), None, times - done);
             return;
         }
-        entries.keep(Entry::Acted(action));
+        entries.keep_parts(Entry::Acted(action), None, 1);
     }
 }
 
@@ -138,13 +139,14 @@ fn log_fetches<S: Store>(
     times: usize,
     world: &mut World<S>,
 ) -> Result<(), OutOfMemory> {
+    let mut drawn = world.no_strokes();
     for done in 0..times {
-        match world.feed() {
+        match world.feed(&mut drawn) {
             Ok(None) => {
-                entries.keep_alike(Entry::Still, times - done);
+                entries.keep_parts(Entry::Still, None, times - done);
                 return Ok(());
             }
-            Ok(Some(fetched)) => entries.keep_fetched(fetched),
+            Ok(Some(fetched)) => entries.keep_fetched(fetched, &mut drawn, world.no_strokes()),
             Err(refused) => return Err(refused),
         }
     }

@@ -81,10 +81,14 @@ fn fetch_times<S: Store>(
     times: usize,
     pictures: &mut Vec<Picture<S::Alloc>, S::Alloc>,
 ) -> Result<(), OutOfMemory> {
+    let mut drawn = world.no_strokes();
     for done in 0..times {
-        match world.feed() {
+        match world.feed(&mut drawn) {
             Ok(None) => return Ok(()),
-            Ok(Some(fetched)) => keep_picture(pictures, number + done, fetched.drew()),
+            Ok(Some(fetched)) => {
+                let drew = fetched.take_drawn(&mut drawn, world.no_strokes());
+                keep_picture(pictures, number + done, drew);
+            }
             Err(refused) => return Err(refused),
         }
     }

@@ -1,10 +1,12 @@
 //! The world: both ends of the vector RAM, one event at a time.
+use std::prelude::*;
+
 use crate::desk::Desk;
 use crate::fetched::FetchedByte;
 use dvg_code::OutOfMemory;
 use dvg_driver::Action;
 use dvg_frame::Draft;
-use dvg_gen::Generator;
+use dvg_gen::{Generator, Stroke};
 use dvg_log::{Entry, Event, OwnEntry, OwnEvent};
 use dvg_mem::{Image, MemFault, Rom, Store, fetch_byte};
 
@@ -119,9 +121,10 @@ impl<S: Store> World<S> {
         Entry::Acted(self.act())
     }
 
-    // The driver does one action, which is answered. Where it is idle, nothing changes.
+    /// The driver does one action, as by `tick`, and this is the action. Where it is idle, nothing
+    /// changes.
     #[inline(always)]
-    pub(crate) fn act(&mut self) -> Action {
+    pub fn act(&mut self) -> Action {
         let byte1 = self.store.read(1);
         let action = self.desk.tick(self.generator.halted(), byte1);
         self.perform(action);
@@ -153,27 +156,52 @@ impl<S: Store> World<S> {
     /// of memory, and then the world is as it was.
     #[inline(always)]
     pub fn fetch(&mut self) -> Result<OwnEntry<S::Alloc>, OutOfMemory> {
-        match self.feed() {
+        let mut drawn = self.no_strokes();
+        match self.feed(&mut drawn) {
             Ok(None) => Ok(Entry::Still),
-            Ok(Some(fetched)) => Ok(fetched.entry()),
+            Ok(Some(fetched)) => Ok(fetched.entry(drawn)),
             Err(refused) => Err(refused),
         }
     }
 
-    // The generator fetches one byte, if a run is open. No entry is made of it.
+    /// The generator fetches one byte, as by `fetch`. The strokes of a run that it finishes take
+    /// the place of those in this list, which else stays as it is.
     #[inline(always)]
-    pub(crate) fn feed(&mut self) -> Result<Option<FetchedByte<S::Alloc>>, OutOfMemory> {
+    pub fn fetch_into(
+        &mut self,
+        picture: &mut Vec<Stroke, S::Alloc>,
+    ) -> Result<Entry<()>, OutOfMemory> {
+        match self.feed(picture) {
+            Ok(None) => Ok(Entry::Still),
+            Ok(Some(fetched)) => Ok(fetched.entry(())),
+            Err(refused) => Err(refused),
+        }
+    }
+
+    // An empty list of strokes, whose memory would be that of the generator's own.
+    #[inline(always)]
+    pub(crate) fn no_strokes(&self) -> Vec<Stroke, S::Alloc> {
+        self.generator.no_strokes()
+    }
+
+    // The generator fetches one byte, if a run is open. No entry is made of it. The strokes of a
+    // run that it finishes take the place of those in this list.
+    #[inline(always)]
+    pub(crate) fn feed(
+        &mut self,
+        drawn: &mut Vec<Stroke, S::Alloc>,
+    ) -> Result<Option<FetchedByte>, OutOfMemory> {
         let Some(address) = self.generator.wants() else {
             return Ok(None);
         };
         let low = self.generator.low_byte();
         let byte = fetch_byte(&self.store, self.desk.rom(), address, low.is_some());
-        let taken = self.generator.take_byte(byte)?;
+        let step = self.generator.take_into(byte, drawn)?;
         Ok(Some(FetchedByte {
             address,
             low,
             byte,
-            taken,
+            step,
         }))
     }
 

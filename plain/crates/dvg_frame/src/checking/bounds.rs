@@ -4,25 +4,28 @@ use crate::checking::chain::Chain;
 use crate::checking::look::look;
 use crate::checking::pair::{DEEPEST, FIRST, Pair};
 use crate::checking::table::{Drawn, Ending, Table};
-use crate::checking::way::{Way, way_at};
+use crate::checking::way::{Span, Way, span_at};
 use crate::draft::Draft;
 use crate::place::Place;
 use dvg_mem::Rom;
 use std::alloc::Allocator;
 
-/// What is drawn where nothing leads on.
-const NOTHING: Drawn = Drawn {
-    words: 0,
-    end: Ending::Halts,
-    returns: false,
-    calls: 0,
-};
-
-// Where a way leads on at its own depth.
-fn onward(way: Way) -> Option<Place> {
+// Where a way leads on at its own depth, or what is drawn where it leads nowhere.
+fn onward(way: Way) -> Result<Place, Drawn> {
     match way {
-        Way::Move(next, _) | Way::Jump(next) | Way::Call(_, next) => Some(next),
-        Way::Return | Way::Halt => None,
+        Way::Move(next, _) | Way::Jump(next) | Way::Call(_, next) => Ok(next),
+        Way::Return => Err(Drawn {
+            words: 1,
+            end: Ending::Returns,
+            returns: true,
+            calls: 0,
+        }),
+        Way::Halt => Err(Drawn {
+            words: 1,
+            end: Ending::Halts,
+            returns: false,
+            calls: 0,
+        }),
     }
 }
 
@@ -56,42 +59,9 @@ fn called(inside: Drawn, rest: Drawn) -> Drawn {
     }
 }
 
-// What the table has of a place.
-fn entry(table: &Table, place: Place) -> Drawn {
-    let Some(drawn) = table.at(place) else {
-        unreachable!()
-    };
-    drawn
-}
-
-// What is drawn from a place that leads on in this way, by what is drawn from where it leads on at
-// its own depth.
+// Notes what is drawn from a place, unless the table has it. Answers what the table has then.
 #[inline(always)]
-fn draw(table: &Table, way: Way, rest: Drawn) -> Drawn {
-    match way {
-        Way::Move(_, words) => longer(rest, words),
-        Way::Jump(_) => longer(rest, 1),
-        Way::Call(to, _) => called(entry(table, to), rest),
-        Way::Return => Drawn {
-            words: 1,
-            end: Ending::Returns,
-            returns: true,
-            calls: 0,
-        },
-        Way::Halt => Drawn {
-            words: 1,
-            end: Ending::Halts,
-            returns: false,
-            calls: 0,
-        },
-    }
-}
-
-// Notes what is drawn from a place that leads on in this way, unless the table has it. Answers what
-// the table has then.
-#[inline(always)]
-fn put_drawn(table: &mut Table, place: Place, way: Way, rest: Drawn) -> Drawn {
-    let drawn = draw(table, way, rest);
+fn put_drawn(table: &mut Table, place: Place, drawn: Drawn) -> Drawn {
     match table.at(place) {
         Some(known) => known,
         None => {
@@ -102,13 +72,13 @@ fn put_drawn(table: &mut Table, place: Place, way: Way, rest: Drawn) -> Drawn {
 }
 
 // Follows the steps at one depth from a pair, up to a place that the table has an entry for, or
-// from which nothing leads on. The chain gets the pairs on the way. Answers what is drawn after the
-// last of them. None where a pair has a fault, or the steps come to no end.
+// from which nothing leads on: that one is noted. The chain gets the pairs before it. Answers what
+// is drawn from it. None where a pair has a fault, or the steps come to no end.
 #[inline(always)]
 fn follow<A: Allocator>(
     draft: &Draft,
     rom: &Rom<A>,
-    table: &Table,
+    table: &mut Table,
     chain: &mut Chain,
     start: Pair,
 ) -> Option<Drawn> {
@@ -124,17 +94,18 @@ fn follow<A: Allocator>(
         let Ok(way) = look(draft, rom, pair) else {
             return None;
         };
-        let next = onward(way);
-        chain.push(pair);
-        match next {
-            Some(next) => place = next,
-            None => return Some(NOTHING),
+        match onward(way) {
+            Ok(next) => {
+                chain.push(pair);
+                place = next;
+            }
+            Err(drawn) => return Some(put_drawn(table, place, drawn)),
         }
     }
     None // They come to no end.
 }
 
-// Finds what is drawn from a pair's place, and from each place on the way from it. False where a
+// Finds what is drawn from a pair's place, and from each place on the way from it. None where a
 // pair has a fault, or steps at one depth come to no end. The chain's pairs of other depths stay
 // there.
 fn settle<A: Allocator>(
@@ -143,28 +114,31 @@ fn settle<A: Allocator>(
     table: &mut Table,
     chain: &mut Chain,
     start: Pair,
-) -> bool {
+) -> Option<Drawn> {
     let base = chain.len();
-    let Some(mut rest) = follow(draft, rom, table, chain, start) else {
-        return false;
-    };
+    let mut rest = follow(draft, rom, table, chain, start)?;
     while chain.len() > base {
         let place = chain.pop().place;
-        let Some(way) = way_at(draft, rom, place) else {
+        let Some(span) = span_at(draft, rom, place) else {
             unreachable!() // It has no fault.
         };
-        if let Way::Call(to, _) = way {
-            let inside = Pair {
-                place: to,
-                depth: start.depth + 1,
-            };
-            if !table.has(to) && !settle(draft, rom, table, chain, inside) {
-                return false;
+        let drawn = match span {
+            Span::Over(words) => longer(rest, words),
+            Span::Into(to) => {
+                let inside = Pair {
+                    place: to,
+                    depth: start.depth + 1,
+                };
+                let known = match table.at(to) {
+                    Some(known) => known,
+                    None => settle(draft, rom, table, chain, inside)?,
+                };
+                called(known, rest)
             }
-        }
-        rest = put_drawn(table, place, way, rest);
+        };
+        rest = put_drawn(table, place, drawn);
     }
-    true
+    Some(rest)
 }
 
 /// How many words the whole run of a draft fetches, that of word zero included. None where a
@@ -181,10 +155,7 @@ pub(crate) fn bound_of<A: Allocator>(
     chain: &mut Chain,
 ) -> Option<u64> {
     chain.clear();
-    if !settle(draft, rom, table, chain, FIRST) {
-        return None;
-    }
-    let first = entry(table, Place::InFrame(0));
+    let first = settle(draft, rom, table, chain, FIRST)?;
     if first.returns || first.calls > DEEPEST {
         return None;
     }

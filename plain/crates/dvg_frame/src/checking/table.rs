@@ -75,11 +75,6 @@ impl Table {
         }
     }
 
-    // Whether something is known of a place.
-    pub(crate) fn has(&self, place: Place) -> bool {
-        self.notes[number_of(place)].round == self.round
-    }
-
     // Notes what is drawn from a place.
     pub(crate) fn put(&mut self, place: Place, drawn: Drawn) {
         self.notes[number_of(place)] = Note {

@@ -21,6 +21,15 @@ pub(crate) enum Way {
     Halt,
 }
 
+/// What is fetched from a place to where it leads on at its own depth.
+#[derive(Clone, Copy)]
+pub(crate) enum Span {
+    /// This many words.
+    Over(u64),
+    /// A call of the subroutine at a target, and all that is drawn from there.
+    Into(Place),
+}
+
 // Whether a place is at an address outside the ROM.
 pub(crate) fn is_outside<A: Allocator>(rom: &Rom<A>, place: Place) -> bool {
     match place {
@@ -40,6 +49,24 @@ fn way_of_op(kind: OpKind, after: Place) -> Way {
         OpKind::Jump(j) => Way::Jump(Place::InFrame(j)),
         OpKind::Return => Way::Return,
         OpKind::Halt => Way::Halt,
+    }
+}
+
+// The span of a way.
+fn span_of(way: Way) -> Span {
+    match way {
+        Way::Move(_, words) => Span::Over(words),
+        Way::Call(to, _) => Span::Into(to),
+        Way::Jump(_) | Way::Return | Way::Halt => Span::Over(1),
+    }
+}
+
+// The span of an operation.
+fn span_of_op(kind: OpKind) -> Span {
+    match kind {
+        OpKind::CallRom(a) => Span::Into(Place::InRom(a)),
+        OpKind::Call(j) => Span::Into(Place::InFrame(j)),
+        _ => Span::Over(u64::from(words_of(kind))),
     }
 }
 
@@ -75,5 +102,15 @@ pub(crate) fn way_at<A: Allocator>(draft: &Draft, rom: &Rom<A>, place: Place) ->
             Some(way_of_op(op.kind(), after))
         }
         Place::InRom(a) => rom_way(rom, a),
+    }
+}
+
+// The span of the way on from a place, by fewer branches than `way_at` takes. None where the ROM
+// ends within the instruction there.
+#[inline(always)]
+pub(crate) fn span_at<A: Allocator>(draft: &Draft, rom: &Rom<A>, place: Place) -> Option<Span> {
+    match place {
+        Place::InFrame(i) => Some(span_of_op(draft.op(usize::from(i)).kind())),
+        Place::InRom(a) => Some(span_of(rom_way(rom, a)?)),
     }
 }
