@@ -11,3 +11,4 @@ pub mod Alone
 pub mod Laying
 pub mod FourFrames
 pub mod TraceRuns
+pub mod Handed

@@ -1,7 +1,8 @@
 //! What follows from the contracts of `Generator`.
-ghost use Rattle.std.specs.Prelude.{◌≡◌, IfSome};
+ghost use Rattle.std.specs.Prelude.{◌≡◌, [], IfOk, IfSome};
 
-use dvg_gen::{GenFault, Generator, Taken};
+use dvg_code::OutOfMemory;
+use dvg_gen::{GenFault, Generator, Step, Stroke, Taken};
 use std::alloc::Global;
 
 /// A return at word zero breaks the run, as no call is open. None where the generator asks for
@@ -16,6 +17,36 @@ pub fn return_without_a_call(alloc: Global) -> Option<Taken<Global>>
     };
     match generator.take_byte(Some(0xD0)) {
         Ok(taken) => Some(taken),
+        Err(_) => None,
+    }
+}
+
+/// The first byte of a run is the low one of its word, and leaves the list alone that strokes are
+/// handed into.
+pub fn low_byte_hands_out_nothing(
+    alloc: Global,
+    drawn: &mut Vec<Stroke>,
+) -> Result<Step, OutOfMemory>
+    ensures step { IfOk result (λ step. step ≡ Step.Low) }
+    ensures drawn { drawn.new ≡ drawn.old }
+{
+    let mut generator = Generator::new(alloc);
+    generator.start();
+    generator.take_into(Some(0x00), drawn)
+}
+
+/// A HALT at word zero hands out an empty picture in place of what was in the list. None where the
+/// generator asks for memory, which it doesn't.
+pub fn halt_hands_out_an_empty_picture(alloc: Global, drawn: &mut Vec<Stroke>) -> Option<Step>
+    ensures { IfSome result (λ step. (step ≡ Step.Done) × (drawn.new.items ≡ [])) }
+{
+    let mut generator = Generator::new(alloc);
+    generator.start();
+    let Ok(Step::Low) = generator.take_into(Some(0x00), drawn) else {
+        return None;
+    };
+    match generator.take_into(Some(0xB0), drawn) {
+        Ok(step) => Some(step),
         Err(_) => None,
     }
 }
