@@ -1,5 +1,6 @@
 -- Entries that are kept, more of them after the others.
-use Rattle.std.proofs.Common.{◌≡◌, ℕ, zero, suc, ◌+◌, ◌-◌, ◌≤◌, List, [], ◌∷◌, ◌++◌, map, length, replicate, get_or}
+use Rattle.std.proofs.Common.{◌≡◌, ℕ, zero, suc, ◌+◌, ◌-◌, ◌≤◌, List, [], ◌∷◌, ◌++◌, map}
+use Rattle.std.proofs.Common.{length, replicate, get_or, ◌⊎◌, inl, inr}
 use Rattle.std.proofs.Common.{Option, Some, None, Vec, refl, sym, ap, ◌∙◌, subst, append_assoc, arith, length-append}
 use Rattle.std.specs.Prelude.{option_to_list}
 use Rattle.std.proofs.lemmas.Grind.{flat_map-append}
@@ -11,7 +12,7 @@ use Rattle.std.proofs.lemmas.List.Sums.{sum_by-append, sum_by-cons}
 use Rattle.std.proofs.Math.Seq.{get_or-append_seam}
 use Rattle.dvg_gen.specs.declared.stroke.Stroke.{Stroke}
 use Rattle.dvg_log.specs.declared.entry.Entry.{Entry}
-use Rattle.dvg_log.specs.declared.entry.Entry.TheVariants.{Done}
+use Rattle.dvg_log.specs.declared.entry.Entry.TheVariants.{Done, Still}
 use Rattle.dvg_log.specs.Entries.{OwnEntry, Shown, drew_in, map_entry, shown_of}
 use Rattle.dvg_log.specs.Events.{Happening}
 use Rattle.dvg_log.specs.Log.{Log, ◌⟼◌}
@@ -171,3 +172,22 @@ drawn_by _ = refl
 pub same_parts : {A : Type 0} (entry : OwnEntry A) (n : ℕ) → map_entry (λ _. n) entry ≡ map_entry (λ _. n) (shown_of entry)
 same_parts (Done address word strokes) n = refl
 same_parts _ n = refl
+
+-- where the entry is that of a finished run, the run drew what was drawn
+pub drew_done : (shown : Shown) (n address word number : ℕ) (drawn : List Stroke)
+    → Done address word number ≡ map_entry (λ _. n) shown
+    → (drew_in shown ≡ None) ⊎ (drew_in shown ≡ Some drawn) → drew_in shown ≡ Some drawn
+drew_done shown n address word number drawn is (inr some) = some
+drew_done (Done _ _ strokes) n address word number drawn is (inl none) = absurd (none-some strokes (sym none))
+drew_done _ n address word number drawn is (inl none) = absurd (cc)
+
+-- any other entry drew nothing
+pub drew_other : (shown : Shown) (n : ℕ) (entry : Entry ℕ) → entry ≡ map_entry (λ _. n) shown
+    → ((address word number : ℕ) → entry ≡ Done address word number → ⊥) → drew_in shown ≡ None
+drew_other (Done address word strokes) n entry is other = absurd (other address word n is)
+drew_other _ n entry is other = refl
+
+-- only the entry of a still fetch is kept as one
+pub still_shown : (shown : Shown) (n : ℕ) → Still ≡ map_entry (λ _. n) shown → shown ≡ Still
+still_shown Still n is = refl
+still_shown _ n is = absurd (cc)

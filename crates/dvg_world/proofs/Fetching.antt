@@ -1,5 +1,5 @@
 -- Entries of fetches.
-use Rattle.std.proofs.Common.{◌≡◌, ℕ, Some, None, refl}
+use Rattle.std.proofs.Common.{◌≡◌, ◌⊎◌, ℕ, Some, None, refl, inl, inr}
 use Rattle.std.specs.Prelude.{IsSome}
 use Rattle.dvg_gen.specs.Bytes.{Met, Waits, Whole, word_of}
 use Rattle.dvg_gen.specs.declared.taken.Step.{Step}
@@ -58,3 +58,13 @@ drew_none address (Whole None) (step.Broke fault) drew other = refl
 drew_none address (Whole (Some word)) step.Low drew other = refl
 drew_none address (Whole (Some word)) step.Word drew other = refl
 drew_none address (Whole (Some word)) (step.Broke fault) drew other = refl
+
+-- an entry of a fetch has what the run drew, or nothing
+pub drew_by : {S : Type 0} (address : ℕ) (found : Met) (answer : Step) (drew : S)
+    → (drew_in (entry_by address found answer drew) ≡ None) ⊎ (drew_in (entry_by address found answer drew) ≡ Some drew)
+drew_by address (Waits byte) answer drew = inl refl
+drew_by address (Whole None) answer drew = inl refl
+drew_by address (Whole (Some word)) step.Low drew = inl refl
+drew_by address (Whole (Some word)) step.Word drew = inl refl
+drew_by address (Whole (Some word)) step.Done drew = inr refl
+drew_by address (Whole (Some word)) (step.Broke fault) drew = inl refl

@@ -1,19 +1,19 @@
 //! The entries of a trace.
-ghost use Rattle.std.specs.Prelude.{◌≡◌, ◌+◌, ◌≤◌, [], false, length, map, OnErr, OnOk};
-ghost use Rattle.dvg_log.specs.Entries.{Shown, map_entry, shown_of};
+ghost use Rattle.std.specs.Prelude.{◌≡◌, ◌⊎◌, ◌+◌, ◌≤◌, [], false, length, map, OnErr, OnOk};
+ghost use Rattle.std.specs.Prelude.{None, Some};
+ghost use Rattle.dvg_log.specs.Entries.{Shown, drew_in, map_entry, shown_of};
 ghost use Rattle.dvg_log.specs.Traces.{FitsInDraft, seen_as};
 ghost use Rattle.dvg_log.specs.declared.event.Event.TheVariants.{Fetch, Tick};
 ghost use Rattle.dvg_world.specs.Keeping.{all_entries};
 ghost use Rattle.dvg_world.specs.Kept.{Logs};
 ghost use Rattle.dvg_world.specs.own.Entries.{AreEntries};
 ghost use Rattle.dvg_world.specs.Standing.{AddsLine};
-ghost use Rattle.dvg_world.specs.own.Fetched.{FinishesByWord, IsDrawnBy, entry_of};
+ghost use Rattle.dvg_world.specs.own.Fetched.{IsDrawnBy};
 ghost use Rattle.dvg_world.specs.own.Logging.{KeepsAlike, KeepsEntry};
 ghost use Rattle.dvg_world.specs.own.Logging.{LogsRun, StopsLogging, room_left};
 ghost use Rattle.dvg_world.specs.own.Stepping.{WantsMemory};
 
 use crate::entries::{Alike, Entries};
-use crate::fetched::FetchedByte;
 use crate::happens::fill;
 use crate::world::World;
 use dvg_code::OutOfMemory;
@@ -23,6 +23,7 @@ use dvg_gen::Stroke;
 use dvg_log::{Entry, OwnEntry, Trace, TraceEvent};
 use dvg_mem::{Image, Rom, Store};
 use std::alloc::{Allocator, Global};
+use std::mem;
 
 /// The entries of the events that happened.
 #[derive(Drop)]
@@ -68,23 +69,20 @@ impl<A: Allocator> EntriesKept<A> {
         self.keep_parts(entry, drew, 1);
     }
 
-    // Keeps the entry of one fetch more. What its run drew, if it finished, is taken out of this
-    // list, and the other one takes its place.
+    // Keeps the entry of one fetch more, which has the number of the next picture. What its run
+    // drew, if it finished, is taken out of this list, and the other one takes its place.
     #[inline(always)]
-    fn keep_fetched(
-        &mut self,
-        fetched: FetchedByte,
-        drawn: &mut Vec<Stroke, A>,
-        other: Vec<Stroke, A>,
-    )
-        requires room { 1 ≤ room_left self.old }
-        requires finished { FinishesByWord fetched }
-        ensures kept { KeepsEntry self.old (entry_of fetched drawn.old.items) self.new }
+    fn keep_fetched(&mut self, entry: Entry<u16>, drawn: &mut Vec<Stroke, A>, other: Vec<Stroke, A>)
+        requires { 1 ≤ room_left self.old }
+        ensures kept { (shown : Shown) → entry ≡ map_entry (λ _. length self.old.drawn.items) shown
+            → (drew_in shown ≡ None) ⊎ (drew_in shown ≡ Some drawn.old.items)
+            → KeepsEntry self.old shown self.new }
         ensures left { room_left self.old ≤ room_left self.new + 1 }
     {
-        let entry = fetched.entry(self.number());
-        let drew = fetched.take_drawn(drawn, other);
-        self.keep_parts(entry, drew, 1);
+        match entry {
+            Entry::Done(..) => self.keep_parts(entry, Some(mem::replace(drawn, other)), 1),
+            _ => self.keep_parts(entry, None, 1),
+        }
     }
 
     // The number of the next picture.
@@ -200,12 +198,12 @@ fn log_fetches<S: Store>(
 {
     let mut drawn = world.no_strokes();
     for done in 0..times {
-        match world.feed(&mut drawn) {
-            Ok(None) => {
+        match world.fetch_as(&mut drawn, entries.number()) {
+            Ok(Entry::Still) => {
                 entries.keep_parts(Entry::Still, None, times - done);
                 return Ok(());
             }
-            Ok(Some(fetched)) => entries.keep_fetched(fetched, &mut drawn, world.no_strokes()),
+            Ok(entry) => entries.keep_fetched(entry, &mut drawn, world.no_strokes()),
             Err(refused) => return Err(refused),
         }
     }

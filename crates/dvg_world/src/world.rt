@@ -13,7 +13,7 @@ ghost use Rattle.dvg_log.specs.Legal.{IsLegal};
 ghost use Rattle.dvg_log.specs.Log.{Log};
 ghost use Rattle.dvg_world.specs.Desks.{OfLives};
 ghost use Rattle.dvg_world.specs.Standing.{AddsLine, DrawsNow, KeepsHeadlineAfter, WorldAfter};
-ghost use Rattle.dvg_world.specs.own.Fetched.{FinishesByWord, entry_of_fetch};
+ghost use Rattle.dvg_world.specs.own.Fetched.{FetchAdds, FinishesByWord, entry_of_fetch};
 ghost use Rattle.dvg_world.specs.own.Stepping.{ram_by, sent_by};
 ghost use Rattle.dvg_world.specs.Wanting.{TakesMemory};
 
@@ -306,6 +306,32 @@ impl<S: Store> World<S> {
             byte,
             step,
         }))
+    }
+
+    // The generator fetches one byte, as by `fetch_into`, and this is the entry, with `other` in
+    // place of what its run drew. It is made here: a `FetchedByte` would be packed into one number.
+    #[inline(always)]
+    pub(crate) fn fetch_as<T: Drop>(
+        &mut self,
+        drawn: &mut Vec<Stroke, S::Alloc>,
+        other: T,
+    ) -> Result<Entry<T>, OutOfMemory>
+        ensures stands { IfOk result (λ entry. FetchAdds self.old self.new drawn.new.items
+            (λ shown. entry ≡ map_entry (λ _. other) shown)) }
+        ensures still { result ≡ Ok Still → self.new ≡ self.old }
+        ensures refused { OnErr result (self.new ≡ self.old) }
+        ensures room { OnErr result (DrawsNow self.old) }
+    {
+        let Some(address) = self.generator.wants() else {
+            return Ok(Entry::Still);
+        };
+        let low = self.generator.low_byte();
+        let byte = fetch_byte(&self.store, self.desk.rom(), address, low.is_some());
+        let step = match self.generator.take_into(byte, drawn) {
+            Ok(step) => step,
+            Err(refused) => return Err(refused),
+        };
+        Ok(Entry::of_fetch(address, low, byte, step, other))
     }
 
     /// The generator is reset, as by `Event::ResetGen`.

@@ -2,7 +2,6 @@
 use std::prelude::*;
 
 use crate::entries::{Alike, Entries};
-use crate::fetched::FetchedByte;
 use crate::happens::fill;
 use crate::world::World;
 use dvg_code::OutOfMemory;
@@ -12,6 +11,7 @@ use dvg_gen::Stroke;
 use dvg_log::{Entry, OwnEntry, Trace, TraceEvent};
 use dvg_mem::{Image, Rom, Store};
 use std::alloc::{Allocator, Global};
+use std::mem;
 
 /// The entries of the events that happened.
 pub struct Logged<A: Allocator = Global> {
@@ -48,18 +48,14 @@ impl<A: Allocator> EntriesKept<A> {
         self.keep_parts(entry, drew, 1);
     }
 
-    // Keeps the entry of one fetch more. What its run drew, if it finished, is taken out of this
-    // list, and the other one takes its place.
+    // Keeps the entry of one fetch more, which has the number of the next picture. What its run
+    // drew, if it finished, is taken out of this list, and the other one takes its place.
     #[inline(always)]
-    fn keep_fetched(
-        &mut self,
-        fetched: FetchedByte,
-        drawn: &mut Vec<Stroke, A>,
-        other: Vec<Stroke, A>,
-    ) {
-        let entry = fetched.entry(self.number());
-        let drew = fetched.take_drawn(drawn, other);
-        self.keep_parts(entry, drew, 1);
+    fn keep_fetched(&mut self, entry: Entry<u16>, drawn: &mut Vec<Stroke, A>, other: Vec<Stroke, A>) {
+        match entry {
+            Entry::Done(..) => self.keep_parts(entry, Some(mem::replace(drawn, other)), 1),
+            _ => self.keep_parts(entry, None, 1),
+        }
     }
 
     // The number of the next picture.
@@ -141,12 +137,12 @@ fn log_fetches<S: Store>(
 ) -> Result<(), OutOfMemory> {
     let mut drawn = world.no_strokes();
     for done in 0..times {
-        match world.feed(&mut drawn) {
-            Ok(None) => {
+        match world.fetch_as(&mut drawn, entries.number()) {
+            Ok(Entry::Still) => {
                 entries.keep_parts(Entry::Still, None, times - done);
                 return Ok(());
             }
-            Ok(Some(fetched)) => entries.keep_fetched(fetched, &mut drawn, world.no_strokes()),
+            Ok(entry) => entries.keep_fetched(entry, &mut drawn, world.no_strokes()),
             Err(refused) => return Err(refused),
         }
     }

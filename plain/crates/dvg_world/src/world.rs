@@ -205,6 +205,26 @@ impl<S: Store> World<S> {
         }))
     }
 
+    // The generator fetches one byte, as by `fetch_into`, and this is the entry, with `other` in
+    // place of what its run drew. It is made here: a `FetchedByte` would be packed into one number.
+    #[inline(always)]
+    pub(crate) fn fetch_as<T: Drop>(
+        &mut self,
+        drawn: &mut Vec<Stroke, S::Alloc>,
+        other: T,
+    ) -> Result<Entry<T>, OutOfMemory> {
+        let Some(address) = self.generator.wants() else {
+            return Ok(Entry::Still);
+        };
+        let low = self.generator.low_byte();
+        let byte = fetch_byte(&self.store, self.desk.rom(), address, low.is_some());
+        let step = match self.generator.take_into(byte, drawn) {
+            Ok(step) => step,
+            Err(refused) => return Err(refused),
+        };
+        Ok(Entry::of_fetch(address, low, byte, step, other))
+    }
+
     /// The generator is reset, as by `Event::ResetGen`.
     #[inline(always)]
     pub fn reset_generator(&mut self) -> OwnEntry<S::Alloc> {
