@@ -17,6 +17,17 @@ def all_crates():
 CRATES = [name for name in all_crates() if name.startswith("dvg_")]
 
 
+CHANGE = re.compile(r"^old: ?(.*)\nnew: ?(.*)$", re.M)
+
+
+def changes(edit):
+    """The changes that a text of a wrong body makes: a file, and its words before and after."""
+    for part in re.split(r"^file: ", edit.read_text(encoding="utf-8"), flags=re.M)[1:]:
+        name = part.partition("\n")[0].strip()
+        for old, new in CHANGE.findall(part):
+            yield name, old, new
+
+
 def items(text):
     """The items of Rust text: each is a list of heads with their blocks, one a clause."""
     item, start, opened, depth = [], 0, 0, 0
