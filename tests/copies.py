@@ -31,9 +31,9 @@ class Function:
     def is_of_a_trait(self):
         return len(self.owner) > 1
 
-    def symbol(self):
-        """What `rt check` calls it below its crate."""
-        return "::".join((*self.module, *filter(None, ["".join(self.owner)]), self.name))
+    def symbol(self, name):
+        """What the prover calls a copy of this name, or itself, below its crate."""
+        return "::".join((*self.module, *filter(None, ["".join(self.owner)]), name))
 
     def proofs(self, name):
         """The folder of the proofs of a copy of this name, or of its own."""
