@@ -46,7 +46,7 @@ impl Players<'_> {
                 output: b"not torn\n".to_vec(),
                 error: Vec::new(),
             };
-            let judged = ask(judge, &[], trace)?;
+            let judged = ask(judge, &["judge"], trace)?;
             faults.extend(difference("the judge", &wanted, &judged));
         }
         Ok((counts, faults))

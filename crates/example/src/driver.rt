@@ -1,15 +1,8 @@
-//! An example: the driver alone, against a memory and a flag of one's own.
-extern crate plain_std as std;
-
-use std::prelude::*;
-
-use std::println;
-
+//! The driver alone, against a memory and a flag of one's own.
 use dvg_code::{Code, Instr};
 use dvg_driver::{Action, Driver};
 use dvg_frame::{Draft, Frame, Op, OpKind, check};
 use dvg_mem::{MEMORY_BYTES, Rom};
-use std::process::ExitCode;
 
 /// A frame that puts the beam somewhere and draws nothing, checked over a ROM of zeros.
 fn frame(rt: &HostRuntime) -> Option<Frame> {
@@ -25,8 +18,9 @@ fn frame(rt: &HostRuntime) -> Option<Frame> {
     check(&draft, &rom).ok()
 }
 
-/// Ticks a driver until it sends its strobe, does what it answers, and prints it.
-fn drive(rt: &HostRuntime) -> Option<()> {
+/// Ticks a driver until it sends its strobe, does what it answers, and prints it. None where memory
+/// is refused, or a line can't be printed.
+pub fn drive(rt: &HostRuntime) -> Option<()> {
     let mut memory = [0; MEMORY_BYTES];
     let mut driver = Driver::new();
     let mut next = Some(frame(rt)?);
@@ -47,12 +41,4 @@ fn drive(rt: &HostRuntime) -> Option<()> {
         }
     }
     None
-}
-
-fn main() -> ExitCode {
-    let rt = HostRuntime::new();
-    match drive(&rt) {
-        Some(()) => ExitCode::SUCCESS,
-        None => ExitCode::FAILURE,
-    }
 }

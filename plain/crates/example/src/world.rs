@@ -1,11 +1,12 @@
-//! An example: a driver and a generator over one memory, an event at a time.
-#![tactic(auto)]
+//! A driver and a generator over one memory, an event at a time.
+use std::prelude::*;
+
+use std::println;
 
 use dvg_code::{Code, Instr};
 use dvg_frame::{Draft, Op, OpKind};
 use dvg_mem::{Flat, Image, MEMORY_BYTES, Rom};
 use dvg_world::{Entry, Event, World};
-use std::process::ExitCode;
 
 /// A frame of one vector.
 fn one_vector() -> Option<Draft> {
@@ -27,8 +28,9 @@ fn one_vector() -> Option<Draft> {
     Some(draft)
 }
 
-/// Has the frame drawn, and prints its strokes. None where memory is refused.
-fn draw(rt: &HostRuntime) -> Option<()> {
+/// Has the frame drawn, and prints its strokes. None where memory is refused, or a line can't be
+/// printed.
+pub fn draw(rt: &HostRuntime) -> Option<()> {
     let alloc = rt.alloc();
     let rom = Rom::new(alloc, &[0; MEMORY_BYTES]).ok()?;
     let image = Image::new(alloc, &[0; MEMORY_BYTES]).ok()?;
@@ -52,11 +54,4 @@ fn draw(rt: &HostRuntime) -> Option<()> {
         }
     }
     Some(())
-}
-
-fn main(rt: HostRuntime) -> ExitCode {
-    match draw(&rt) {
-        Some(()) => ExitCode::SUCCESS,
-        None => ExitCode::FAILURE,
-    }
 }

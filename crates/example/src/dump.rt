@@ -1,16 +1,13 @@
-//! An example: an emulator's author asks what the vector memory draws, and looks at each
-//! instruction that is run.
-#![tactic(auto)]
-
+//! An emulator's author asks what the vector memory draws, and looks at each instruction that is
+//! run.
 use dvg_dump::{Dump, Ending, SMALL_DUMP_BYTES};
-use std::process::ExitCode;
 
 /// The first words of the memory: a jump to 001, LABS 512 400 0, VCTR 9 -100 100 7, and HALT.
 const WORDS: [u16; 6] = [0xE001, 0xA190, 0x0200, 0x9064, 0x7464, 0xB000];
 
 /// Draws the memory, and prints each instruction with the beam after it, and then each stroke. None
 /// where memory is refused, a line can't be printed, or there is no picture.
-fn draw(rt: &HostRuntime) -> Option<()> {
+pub fn draw(rt: &HostRuntime) -> Option<()> {
     let mut memory = [0; SMALL_DUMP_BYTES];
     for (i, word) in WORDS.iter().enumerate() {
         let [low, high] = word.to_le_bytes();
@@ -30,8 +27,4 @@ fn draw(rt: &HostRuntime) -> Option<()> {
         println!(rt; "{stroke:?}").ok()?;
     }
     Some(())
-}
-
-fn main(rt: HostRuntime) -> ExitCode {
-    ExitCode::from(if draw(&rt).is_some() { 0 } else { 1 })
 }

@@ -1,7 +1,5 @@
-//! An example: a trace is played over banked memory, and its log is judged. A test program would
-//! judge the log of its own driver in the same way.
-extern crate plain_std as std;
-
+//! The trace on standard input is played over banked memory, and its log is judged. A test program
+//! would judge the log of its own driver in the same way.
 use std::prelude::*;
 
 use std::println;
@@ -11,7 +9,6 @@ use dvg_mem::{Banked, Image, MEMORY_BYTES, Rom};
 use dvg_read::read_trace;
 use dvg_world::{Event, Trace, TraceEvent, first_torn, run_trace};
 use std::io;
-use std::process::ExitCode;
 
 /// An event of a trace with a draft or an image of its own.
 fn own_event(rt: &HostRuntime, event: TraceEvent) -> Option<Event> {
@@ -53,15 +50,13 @@ fn judge(rt: &HostRuntime, text: &[u8]) -> Option<Option<usize>> {
     Some(first_torn(events.as_slice(), entries.as_slice()))
 }
 
-fn main() -> ExitCode {
-    let rt = HostRuntime::new();
-    let Ok(text) = io::read_to_string(rt.alloc(), rt.stdin()) else {
-        return ExitCode::from(2);
-    };
-    let (printed, status) = match judge(&rt, text.as_bytes()) {
-        Some(None) => (println!(rt; "not torn"), 0),
-        Some(Some(number)) => (println!(rt; "torn at {number}"), 1),
-        None => return ExitCode::from(2),
-    };
-    ExitCode::from(if printed.is_ok() { status } else { 2 })
+/// Judges the trace on standard input, and prints what it finds. None where it can't be read or
+/// judged, or the line can't be printed.
+pub fn judge_input(rt: &HostRuntime) -> Option<()> {
+    let text = io::read_to_string(rt.alloc(), rt.stdin()).ok()?;
+    match judge(rt, text.as_bytes())? {
+        None => println!(rt; "not torn"),
+        Some(number) => println!(rt; "torn at {number}"),
+    }
+    .ok()
 }

@@ -1,0 +1,58 @@
+//! Four examples of how a program of one's own uses the crates. Each is a module, and runs by its
+//! name: `example world`, `driver`, `judge` or `dump`. Without a word all four run in turn.
+#![tactic(auto)]
+
+mod driver;
+mod dump;
+mod judge;
+mod world;
+
+use std::env;
+use std::process::ExitCode;
+
+/// The exit status where memory is refused, or input or output fails.
+const FAILED: u8 = 1;
+
+/// The exit status where there is no example of that name.
+const MISUSE: u8 = 64;
+
+/// Prints the name of each example, and runs it. None where one fails.
+fn run_all(rt: &HostRuntime) -> Option<()> {
+    println!(rt; "world:").ok()?;
+    world::draw(rt)?;
+    println!(rt; "driver:").ok()?;
+    driver::drive(rt)?;
+    println!(rt; "judge:").ok()?;
+    judge::judge_input(rt)?;
+    println!(rt; "dump:").ok()?;
+    dump::draw(rt)
+}
+
+/// Runs the example of this name, or all of them where none is named. Returns the exit status.
+fn run(rt: &HostRuntime, name: Option<&str>) -> u8 {
+    let done = match name {
+        None => run_all(rt),
+        Some("world") => world::draw(rt),
+        Some("driver") => driver::drive(rt),
+        Some("judge") => judge::judge_input(rt),
+        Some("dump") => dump::draw(rt),
+        Some(_) => {
+            let _ = eprintln!(rt; "example: world|driver|judge|dump");
+            return MISUSE;
+        }
+    };
+    if done.is_some() { 0 } else { FAILED }
+}
+
+/// The program's words, of which the first is its own name. None where one is no text, or memory
+/// is refused.
+fn words(rt: &HostRuntime) -> Option<Vec<String>> {
+    env::args(rt).ok()?.collect(rt.alloc()).ok()
+}
+
+fn main(rt: HostRuntime) -> ExitCode {
+    ExitCode::from(match words(&rt) {
+        Some(words) => run(&rt, words.get(1).map(|word| word.as_str())),
+        None => FAILED,
+    })
+}
