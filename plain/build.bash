@@ -1,4 +1,4 @@
-# What ./dvg, ./prove and ./lib have in common. Each of them sets `name`, its own, and `top`, the
+# What ./dvg, ./prove, ./lib and ./test have in common. Each of them sets `name`, its own, and `top`, the
 # folder of the repository.
 #
 # Whether something is built of the sources that are there is told by their content. Beside what is
@@ -99,6 +99,48 @@ is_marked() {
         [ "$(cat "$top/crates/$1/out/proved")" = "$(digest_of_crate "$1")" ]
 }
 
+# Says of all crates, and of the program, that they are proved: `rt ci` has passed, which began with
+# sources of this digest. Fails where these are no longer the sources that are there.
+mark_all() {
+    local crate
+    [ "$(digest_of_proofs)" = "$1" ] && [ -x "$program" ] && set_of "$program" "$1" || return
+    for crate in "$top"/crates/*/out; do
+        crate=${crate%/out}
+        mark "${crate##*/}"
+    done
+}
+
+# Removes the libraries that an earlier `rt ci` left, which no other command of rt takes: they have
+# the statements of what was proved, without proofs, and no stamp.
+drop_statements() {
+    local library
+    for library in "$top"/crates/*/out/rlib; do
+        [ ! -d "$library" ] || [ -e "$library/stamp" ] || rm -rf "$library"
+    done
+}
+
+# Makes the archive of the library for C over the libraries that `rt ci` has built of sources of this
+# digest. So `dvg_c` alone is proved again. `rt lib` would prove all below it again, too, since it
+# takes no library that has statements alone. Fails where other libraries than those are there.
+archive_of_statements() {
+    local kit crate words=(--crate-name dvg_c src/lib.rt --crate-type staticlib --links dvg_c=)
+    kit=$(dirname "$(dirname "$(readlink -f "$(command -v rt)")")")
+    for crate in $(crates_of dvg_c | tail -n +2); do
+        [ -d "$top/crates/$crate/out/rlib/$crate.rlib" ] || return
+        [ ! -e "$top/crates/$crate/out/rlib/stamp" ] || return
+        words+=(-L "dependency=$top/crates/$crate/out/rlib")
+    done
+    for crate in $(below dvg_c); do
+        words+=(--extern "$crate=$top/crates/$crate/out/rlib/$crate.rlib")
+    done
+    words+=(--extern "std=$kit/rlibs/std.rlib" -L "dependency=$kit/rlibs" --backend llvm)
+    words+=(--antt-project "$kit/rattle/logic/antt-project.json" --logic-built "$kit/logic_built")
+    mkdir -p "$top/crates/dvg_c/out"
+    (cd "$top/crates/dvg_c" && "$kit/bin/rattle" build "${words[@]}" --toolchain "$kit/toolchain" \
+        --jobs 2 -o "$library") || return
+    [ "$(digest_of_proofs)" = "$1" ] && set_of "$library" "$1"
+}
+
 # The digest of all that the plain form is made of.
 digest_of_plain() {
     digest_of_files 'crates/*/src' include plain/CRATES plain/Cargo.toml plain/Cargo.lock \
@@ -176,6 +218,36 @@ build_plain() {
         give_up 'the plain form of the sources could not be made'
     run_cargo "$1" "$2" ||
         give_up "$3 could not be built: it wants Rust 1.87 or later"
+}
+
+# Builds the plain program, where that isn't done, and sets `found` to it.
+find_plain() {
+    local sources
+    found=$target/quick/dvg
+    sources=$(digest_of_plain)
+    is_of "$found" "$sources" && return
+    lock
+    if ! is_of "$found" "$sources"; then
+        build_plain quick dvg 'the program' ./prove
+        set_of "$found" "$sources"
+    fi
+    unlock
+}
+
+# Sets `found` to the program that ./dvg runs: the proved one, where it was proved of the sources
+# that are there; else the plain one; and where there is no cargo, the proved one again, which is
+# then proved first.
+find_program() {
+    found=$program
+    if [ -x "$program" ] && is_of "$program" "$(digest_of_proofs)"; then
+        return
+    fi
+    if has cargo; then
+        find_plain
+        return
+    fi
+    has rt || give_up_without_tools
+    run_guarded "$top/prove" >&2 || exit
 }
 
 # What to install where neither cargo nor rt is there.

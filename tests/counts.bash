@@ -34,6 +34,11 @@ give_up() {
     exit 1
 }
 
+# Sets `program` to the one that is tested: see tests/built.
+find_program() {
+    program=$("$tests/built") || give_up 'there is no program to test'
+}
+
 # Whether a command does what it must, which is what the first argument says.
 expect() {
     if "${@:2}" >"$work/log" 2>&1; then

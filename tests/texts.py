@@ -185,12 +185,12 @@ def give_up(what):
     raise SystemExit(1)
 
 
-def build_program(variable):
-    """Builds ./dvg, but where this variable names a program."""
-    if variable not in os.environ:
-        built = subprocess.run([f"{TOP}/dvg", "list"], stdin=subprocess.DEVNULL)
-        if built.returncode != 0:
-            give_up("the program could not be built, or fails on empty input")
+def find_program():
+    """The path of the program that is tested: see tests/built."""
+    built = subprocess.run([f"{TOP}/tests/built"], stdin=subprocess.DEVNULL, stdout=subprocess.PIPE)
+    if built.returncode != 0:
+        give_up("there is no program to test")
+    return built.stdout.decode().rstrip("\n")
 
 
 def named_cases(paths):
