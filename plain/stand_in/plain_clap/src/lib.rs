@@ -1,17 +1,14 @@
 //! What the sources use of Rattle's port of `clap`: commands with subcommands, and flags and options
-//! with a long name. Help, refusals and tips are spelled as `clap` spells them.
+//! with a long name. Help, refusals and tips are spelled as `clap` spells them. Where memory is
+//! refused, that is answered.
 #![no_std]
 
 extern crate alloc;
 
-use alloc::borrow::ToOwned;
-use alloc::boxed::Box;
-use alloc::format;
 use alloc::string::String;
-use alloc::vec;
 use alloc::vec::Vec;
 use core::fmt;
-use plain_std::alloc::{AllocError, AllocFailed, Global};
+use plain_std::alloc::{AllocError, AllocFailed, Box, Global};
 
 /// What an error is about.
 pub mod error {
@@ -72,15 +69,6 @@ impl<'a> Arg<'a> {
         Arg { value_name, ..self }
     }
 
-    /// It as texts show it.
-    fn shown(&self) -> String {
-        if self.takes_value {
-            format!("--{} <{}>", self.long, self.value_name)
-        } else {
-            format!("--{}", self.long)
-        }
-    }
-
     /// Its long name, without the dashes.
     pub fn long(self, long: &'a str) -> Arg<'a> {
         Arg { long, ..self }
@@ -98,6 +86,17 @@ impl<'a> Arg<'a> {
             takes_value,
             ..self
         }
+    }
+}
+
+/// As texts show it.
+impl fmt::Display for Arg<'_> {
+    fn fmt(&self, f: &mut fmt::Formatter<'_>) -> fmt::Result {
+        write!(f, "--{}", self.long)?;
+        if self.takes_value {
+            write!(f, " <{}>", self.value_name)?;
+        }
+        Ok(())
     }
 }
 
@@ -153,13 +152,13 @@ impl<'a> Command<'a> {
 
     /// One flag or option more.
     pub fn arg(mut self, arg: Arg<'a>) -> Result<Command<'a>, AllocError> {
-        self.args.push(arg);
+        add(&mut self.args, arg)?;
         Ok(self)
     }
 
     /// One subcommand more.
     pub fn subcommand(mut self, part: Command<'a>) -> Result<Command<'a>, AllocError> {
-        self.parts.push(part);
+        add(&mut self.parts, part)?;
         Ok(self)
     }
 
@@ -173,7 +172,7 @@ impl<'a> Command<'a> {
         let flags = self.args.iter().filter(|arg| !arg.takes_value);
         let mut found = ArgMatches {
             set: Vec::new(),
-            flags: flags.map(|arg| arg.id).collect(),
+            flags: gathered(flags.map(|arg| arg.id))?,
             part: None,
         };
         let mut escaped = false;
@@ -183,25 +182,29 @@ impl<'a> Command<'a> {
             match argument.strip_prefix("--").filter(|_| !escaped) {
                 Some("") => escaped = true,
                 Some(long) => arguments = self.flag(long, rest, &mut found)?,
-                None if is_short(argument) && !escaped => return Err(self.short(argument)),
+                None if is_short(argument) && !escaped => {
+                    return Err(self.short(argument)?);
+                }
                 None if *argument == "help" && !self.parts.is_empty() => {
-                    return Err(self.helped(rest));
+                    return Err(self.helped(rest)?);
                 }
                 None => {
-                    let part = self.part(argument).ok_or_else(|| self.stray(argument))?;
-                    found.part = Some((part.name, Box::new(part.matched(rest)?)));
+                    let Some(part) = self.part(argument) else {
+                        return Err(self.stray(argument)?);
+                    };
+                    found.part = Some((part.name, Box::new(Global, part.matched(rest)?)?));
                     return Ok(found);
                 }
             }
         }
         if self.needs_part {
-            return Err(self.without_part());
+            return Err(self.without_part()?);
         }
         Ok(found)
     }
 
     /// What comes of an argument that begins with a dash and a letter.
-    fn short(&self, argument: &str) -> Error {
+    fn short(&self, argument: &str) -> Result<Error, AllocError> {
         let end = argument
             .char_indices()
             .nth(2)
@@ -209,12 +212,12 @@ impl<'a> Command<'a> {
         match &argument[..end] {
             "-h" => Error::help(self),
             "-V" if self.version.is_some() => Error::version(self),
-            flag => self.refused(&format!("unexpected argument '{flag}' found"), ""),
+            flag => self.refused(format_args!("unexpected argument '{flag}' found"), ""),
         }
     }
 
     /// What comes of the argument `help`, with the arguments after it.
-    fn helped(&self, rest: &[&str]) -> Error {
+    fn helped(&self, rest: &[&str]) -> Result<Error, AllocError> {
         match rest.first() {
             None => Error::help(self),
             Some(name) => self
@@ -224,23 +227,20 @@ impl<'a> Command<'a> {
     }
 
     /// What comes of an argument that is no flag and no subcommand.
-    fn stray(&self, argument: &str) -> Error {
-        if self.parts.is_empty() && self.like(argument).is_none() {
-            self.refused(&format!("unexpected argument '{argument}' found"), "")
+    fn stray(&self, argument: &str) -> Result<Error, AllocError> {
+        if self.parts.is_empty() {
+            self.refused(format_args!("unexpected argument '{argument}' found"), "")
         } else {
             self.unknown(argument)
         }
     }
 
     /// What comes of arguments without a subcommand, where one must be given.
-    fn without_part(&self) -> Error {
-        let names: Vec<&str> = self.parts.iter().map(|part| part.name).collect();
-        let why = format!(
-            "'{}' requires a subcommand but one was not provided\n  [subcommands: {}, help]",
-            self.name,
-            names.join(", ")
-        );
-        self.refused(&why, "")
+    fn without_part(&self) -> Result<Error, AllocError> {
+        let names = gathered(self.parts.iter().map(|part| part.name))?;
+        let why = "requires a subcommand but one was not provided";
+        let (name, names) = (self.name, Joined(&names, ", "));
+        self.refused(format_args!("'{name}' {why}\n  [subcommands: {names}, help]"), "")
     }
 
     /// Takes a flag or an option with a long name, without its dashes. The arguments after it may
@@ -255,24 +255,23 @@ impl<'a> Command<'a> {
             .split_once('=')
             .map_or((long, None), |(name, value)| (name, Some(value)));
         match name {
-            "help" => return Err(Error::help(self)),
-            "version" if self.version.is_some() => return Err(Error::version(self)),
+            "help" => return Err(Error::help(self)?),
+            "version" if self.version.is_some() => return Err(Error::version(self)?),
             _ => {}
         }
         let Some(arg) = self.args.iter().find(|arg| arg.long == name) else {
-            let tip = self.tip(name, rest);
-            return Err(self.refused(&format!("unexpected argument '--{name}' found"), &tip));
+            let tip = self.tip(name, rest)?;
+            return Err(self.refused(format_args!("unexpected argument '--{name}' found"), &tip)?);
         };
         let (value, rest) = self.value(arg, value, rest)?;
         if found.set.iter().any(|(id, _)| *id == arg.id) {
-            let arg = arg.shown();
-            let why = format!("the argument '{arg}' cannot be used multiple times");
+            let why = format_args!("the argument '{arg}' cannot be used multiple times");
             return Err(Error {
                 kind: ErrorKind::ArgumentConflict,
-                ..self.refused(&why, "")
+                ..self.refused(why, "")?
             });
         }
-        found.set.push((arg.id, value));
+        add(&mut found.set, (arg.id, value))?;
         Ok(rest)
     }
 
@@ -287,19 +286,17 @@ impl<'a> Command<'a> {
         match (arg.takes_value, attached, rest) {
             (false, None, _) => Ok(("true", rest)),
             (false, Some(value), _) => {
-                let arg = arg.shown();
-                let why =
-                    format!("unexpected value '{value}' for '{arg}' found; no more were expected");
-                Err(self.refused(&why, ""))
+                let more = "no more were expected";
+                let why = format_args!("unexpected value '{value}' for '{arg}' found; {more}");
+                Err(self.refused(why, "")?)
             }
             (true, Some(value), _) => Ok((value, rest)),
             (true, None, [value, rest @ ..]) if !is_short(value) => Ok((*value, rest)),
             (true, None, _) => {
-                let arg = arg.shown();
-                let text = format!(
+                let text = text(format_args!(
                     "error: a value is required for '{arg}' but none was supplied\n\n\
                      For more information, try '--help'.\n"
-                );
+                ))?;
                 Err(Error {
                     kind: ErrorKind::InvalidValue,
                     text,
@@ -310,17 +307,17 @@ impl<'a> Command<'a> {
 
     /// What is said of a flag that isn't known: one that is like it, or a subcommand after it that
     /// has it.
-    fn tip(&self, name: &str, rest: &[&str]) -> String {
+    fn tip(&self, name: &str, rest: &[&str]) -> Result<String, AllocError> {
         let own = self.args.iter().map(|arg| arg.long);
         let longs = own.chain(["help"]).chain(self.version.map(|_| "version"));
-        if let Some(like) = similar(name, longs).last() {
-            return format!("  tip: a similar argument exists: '--{like}'\n\n");
+        if let Some(like) = similar(name, longs)?.last() {
+            return text(format_args!("  tip: a similar argument exists: '--{like}'\n\n"));
         }
         let has_it = |part: &&Command<'_>| part.args.iter().any(|arg| arg.long == name);
         rest.iter()
             .find_map(|argument| self.part(argument).filter(has_it))
-            .map_or(String::new(), |part| {
-                format!("  tip: '{} --{name}' exists\n\n", part.name)
+            .map_or(Ok(String::new()), |part| {
+                text(format_args!("  tip: '{} --{name}' exists\n\n", part.name))
             })
     }
 
@@ -328,40 +325,38 @@ impl<'a> Command<'a> {
         self.parts.iter().find(|part| part.name == name)
     }
 
-    fn like(&self, argument: &str) -> Option<Vec<&'a str>> {
-        Some(similar(argument, self.parts.iter().map(|part| part.name)))
-            .filter(|like| !like.is_empty())
-    }
-
-    fn unknown(&self, argument: &str) -> Error {
-        let tip = match self.like(argument).as_deref() {
-            None => String::new(),
-            Some([one]) => format!("  tip: a similar subcommand exists: '{one}'\n\n"),
-            Some(some) => format!(
-                "  tip: some similar subcommands exist: '{}'\n\n",
-                some.join("', '")
-            ),
+    /// What comes of an argument where a subcommand must stand, which none is called.
+    fn unknown(&self, argument: &str) -> Result<Error, AllocError> {
+        let like = similar(argument, self.parts.iter().map(|part| part.name))?;
+        let like_it = match like.as_slice() {
+            [] => "",
+            [_] => "a similar subcommand exists",
+            _ => "some similar subcommands exist",
         };
-        self.refused(&format!("unrecognized subcommand '{argument}'"), &tip)
+        let tip = match like_it {
+            "" => String::new(),
+            _ => text(format_args!("  tip: {like_it}: '{}'\n\n", Joined(&like, "', '")))?,
+        };
+        self.refused(format_args!("unrecognized subcommand '{argument}'"), &tip)
     }
 
     /// An error of this command, in the form of those of arguments.
     pub fn error(&mut self, kind: ErrorKind, why: &str) -> Result<Error, AllocError> {
         Ok(Error {
             kind,
-            ..self.refused(why, "")
+            ..self.refused(format_args!("{why}"), "")?
         })
     }
 
-    fn refused(&self, why: &str, tip: &str) -> Error {
-        let text = format!(
+    fn refused(&self, why: fmt::Arguments<'_>, tip: &str) -> Result<Error, AllocError> {
+        let text = text(format_args!(
             "error: {why}\n\n{tip}Usage: {}\n\nFor more information, try '--help'.\n",
             self.usage
-        );
-        Error {
+        ))?;
+        Ok(Error {
             kind: ErrorKind::Refused,
             text,
-        }
+        })
     }
 }
 
@@ -370,34 +365,94 @@ fn is_short(argument: &str) -> bool {
     argument.len() > 1 && argument.starts_with('-')
 }
 
+/// One item more.
+fn add<T>(items: &mut Vec<T>, item: T) -> Result<(), AllocError> {
+    items.try_reserve(1).map_err(|_| AllocError)?;
+    items.push(item);
+    Ok(())
+}
+
+/// All items.
+fn gathered<T>(items: impl Iterator<Item = T>) -> Result<Vec<T>, AllocError> {
+    let mut all = Vec::new();
+    for item in items {
+        add(&mut all, item)?;
+    }
+    Ok(all)
+}
+
+/// A text that grows.
+struct Growing(String);
+
+impl fmt::Write for Growing {
+    fn write_str(&mut self, part: &str) -> fmt::Result {
+        self.0.try_reserve(part.len()).map_err(|_| fmt::Error)?;
+        self.0.push_str(part);
+        Ok(())
+    }
+}
+
+impl Growing {
+    fn add(&mut self, parts: fmt::Arguments<'_>) -> Result<(), AllocError> {
+        fmt::write(self, parts).map_err(|_| AllocError)
+    }
+}
+
+/// A text of these parts.
+fn text(parts: fmt::Arguments<'_>) -> Result<String, AllocError> {
+    let mut text = Growing(String::new());
+    text.add(parts)?;
+    Ok(text.0)
+}
+
+/// Some names, with a text between each two.
+struct Joined<'n>(&'n [&'n str], &'n str);
+
+impl fmt::Display for Joined<'_> {
+    fn fmt(&self, f: &mut fmt::Formatter<'_>) -> fmt::Result {
+        for (k, name) in self.0.iter().enumerate() {
+            f.write_str(if k == 0 { "" } else { self.1 })?;
+            f.write_str(name)?;
+        }
+        Ok(())
+    }
+}
+
 /// Those of some names that are like an argument, the most alike last.
-fn similar<'n>(argument: &str, names: impl Iterator<Item = &'n str>) -> Vec<&'n str> {
-    let mut like: Vec<(f64, &str)> = names
-        .map(|name| (jaro(argument, name), name))
-        .filter(|(how, _)| *how > 0.7)
-        .collect();
-    like.sort_by(|a, b| a.0.total_cmp(&b.0));
-    like.into_iter().map(|(_, name)| name).collect()
+fn similar<'n>(
+    argument: &str,
+    names: impl Iterator<Item = &'n str>,
+) -> Result<Vec<&'n str>, AllocError> {
+    let mut like: Vec<(f64, &str)> = Vec::new();
+    for name in names {
+        let how = jaro(argument, name)?;
+        if how > 0.7 {
+            let place = like.partition_point(|(other, _)| *other <= how);
+            add(&mut like, (how, name))?;
+            like[place..].rotate_right(1);
+        }
+    }
+    gathered(like.into_iter().map(|(_, name)| name))
 }
 
 /// How alike two texts are, from 0 to 1, by Jaro.
-fn jaro(a: &str, b: &str) -> f64 {
-    let (a, b): (Vec<char>, Vec<char>) = (a.chars().collect(), b.chars().collect());
+fn jaro(a: &str, b: &str) -> Result<f64, AllocError> {
+    let (a, b) = (gathered(a.chars())?, gathered(b.chars())?);
     if a.is_empty() || b.is_empty() {
-        return f64::from(u8::from(a.len() == b.len()));
+        return Ok(f64::from(u8::from(a.len() == b.len())));
     }
     let range = (a.len().max(b.len()) / 2).saturating_sub(1);
-    let mut taken = vec![false; b.len()];
+    let mut taken = gathered(b.iter().map(|_| false))?;
     let mut matches = Vec::new();
     for (i, c) in a.iter().enumerate() {
         let (from, to) = (i.saturating_sub(range), (i + range + 1).min(b.len()));
         if let Some(j) = (from..to).find(|j| !taken[*j] && b[*j] == *c) {
             taken[j] = true;
-            matches.push(*c);
+            add(&mut matches, *c)?;
         }
     }
     if matches.is_empty() {
-        return 0.0;
+        return Ok(0.0);
     }
     let others = b
         .iter()
@@ -411,7 +466,7 @@ fn jaro(a: &str, b: &str) -> f64 {
         .count() as f64
         / 2.0;
     let m = matches.len() as f64;
-    (m / a.len() as f64 + m / b.len() as f64 + (m - moved) / m) / 3.0
+    Ok((m / a.len() as f64 + m / b.len() as f64 + (m - moved) / m) / 3.0)
 }
 
 /// What arguments matched.
@@ -452,62 +507,70 @@ impl Error {
         self.kind
     }
 
-    fn version(command: &Command) -> Error {
-        let text = format!("{} {}\n", command.name, command.version.unwrap_or(""));
-        Error {
+    fn version(command: &Command) -> Result<Error, AllocError> {
+        let version = command.version.unwrap_or("");
+        Ok(Error {
             kind: ErrorKind::DisplayVersion,
-            text,
-        }
+            text: text(format_args!("{} {version}\n", command.name))?,
+        })
     }
 
-    fn help(command: &Command) -> Error {
-        let mut text = format!("{}\n\nUsage: {}\n", command.about, command.usage);
-        let parts: Vec<_> = command
-            .parts
-            .iter()
-            .map(|part| (part.name.to_owned(), part.about))
-            .collect();
-        if !parts.is_empty() {
-            text += "\nCommands:\n";
-            text += &table(
-                parts
-                    .into_iter()
-                    .chain([(
-                        "help".to_owned(),
-                        "Print this message or the help of the given subcommand(s)",
-                    )])
-                    .collect(),
-            );
+    fn help(command: &Command) -> Result<Error, AllocError> {
+        let mut text = Growing(String::new());
+        text.add(format_args!("{}\n\nUsage: {}\n", command.about, command.usage))?;
+        if !command.parts.is_empty() {
+            text.add(format_args!("\nCommands:\n"))?;
+            add_table(&mut text, &parts_of(command)?)?;
         }
-        text += "\nOptions:\n";
-        let flags = command
-            .args
-            .iter()
-            .map(|arg| (format!("    {}", arg.shown()), arg.help));
-        let flags = flags.chain([("-h, --help".to_owned(), "Print help")]);
-        text += &table(
-            flags
-                .chain(
-                    command
-                        .version
-                        .map(|_| ("-V, --version".to_owned(), "Print version")),
-                )
-                .collect(),
-        );
-        text += &format!("\n{}\n", command.after.trim_end_matches('\n'));
-        Error {
+        text.add(format_args!("\nOptions:\n"))?;
+        add_table(&mut text, &options_of(command)?)?;
+        text.add(format_args!("\n{}\n", command.after.trim_end_matches('\n')))?;
+        Ok(Error {
             kind: ErrorKind::DisplayHelp,
-            text,
-        }
+            text: text.0,
+        })
     }
 }
 
-/// Names, and what is said of each after the longest one.
-fn table(rows: Vec<(String, &str)>) -> String {
+/// A name, and what the help text says of it.
+type Row<'a> = (String, &'a str);
+
+/// A row of a name.
+fn row<'a>(name: fmt::Arguments<'_>, about: &'a str) -> Result<Row<'a>, AllocError> {
+    Ok((text(name)?, about))
+}
+
+/// The subcommands of a command, and `help`.
+fn parts_of<'a>(command: &Command<'a>) -> Result<Vec<Row<'a>>, AllocError> {
+    let mut rows = Vec::new();
+    for part in &command.parts {
+        add(&mut rows, row(format_args!("{}", part.name), part.about)?)?;
+    }
+    let about = "Print this message or the help of the given subcommand(s)";
+    add(&mut rows, row(format_args!("help"), about)?)?;
+    Ok(rows)
+}
+
+/// The flags and options of a command, and those for help and its version.
+fn options_of<'a>(command: &Command<'a>) -> Result<Vec<Row<'a>>, AllocError> {
+    let mut rows = Vec::new();
+    for arg in &command.args {
+        add(&mut rows, row(format_args!("    {arg}"), arg.help)?)?;
+    }
+    add(&mut rows, row(format_args!("-h, --help"), "Print help")?)?;
+    if command.version.is_some() {
+        add(&mut rows, row(format_args!("-V, --version"), "Print version")?)?;
+    }
+    Ok(rows)
+}
+
+/// Adds names, and what is said of each after the longest one.
+fn add_table(text: &mut Growing, rows: &[Row<'_>]) -> Result<(), AllocError> {
     let width = rows.iter().map(|(name, _)| name.len()).max().unwrap_or(0);
-    rows.iter()
-        .map(|(name, about)| format!("  {name:width$}  {about}\n"))
-        .collect()
+    for (name, about) in rows {
+        text.add(format_args!("  {name:width$}  {about}\n"))?;
+    }
+    Ok(())
 }
 
 impl fmt::Display for Error {

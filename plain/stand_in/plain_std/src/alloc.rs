@@ -1,5 +1,6 @@
 //! Allocators, boxes and vectors.
 use core::alloc::Layout;
+use core::mem::ManuallyDrop;
 use core::ops::{Deref, DerefMut};
 use heap::vec;
 
@@ -151,9 +152,26 @@ impl<T, A> Vec<T, A> {
         Ok(made)
     }
 
-    /// Gives back the room that is left.
+    /// Gives back the room that is left, unless that is refused.
     pub fn shrink_to_fit(&mut self) {
-        self.items.shrink_to_fit();
+        let (length, room) = (self.items.len(), self.items.capacity());
+        let (Ok(old), Ok(new)) = (Layout::array::<T>(room), Layout::array::<T>(length)) else {
+            return;
+        };
+        if new.size() == 0 {
+            self.items.shrink_to_fit();
+        } else if new.size() < old.size() {
+            let mut items = ManuallyDrop::new(core::mem::take(&mut self.items));
+            let at = items.as_mut_ptr();
+            // SAFETY: the block is that of the vector, which is made again of what it became: a
+            // smaller one with the same elements, or, where that is refused, the same one.
+            self.items = unsafe {
+                match heap::alloc::realloc(at.cast(), old, new.size()).cast::<T>() {
+                    smaller if smaller.is_null() => vec::Vec::from_raw_parts(at, length, room),
+                    smaller => vec::Vec::from_raw_parts(smaller, length, length),
+                }
+            };
+        }
     }
 
     /// The allocator.
