@@ -4,6 +4,8 @@ import sys
 from pathlib import Path
 
 ROOT = Path(__file__).resolve().parent.parent
+# A string, which may go on over lines; a sign; or a comment, but that of an item comes before.
+QUOTED = re.compile(r'''"(?:\\[\s\S]|[^"\\])*"|'(?:\\[^\n]|[^\\'\n])'|//[^\n]*''')
 CLAUSE = re.compile(r"\b(?:requires|ensures)(?:\*|(?: \w+)?)$|^ghost (?!use)|\n\s*ghost \w+:$")
 
 
