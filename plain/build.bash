@@ -1,5 +1,5 @@
-# What ./dvg, ./prove, ./lib and ./test have in common. Each of them sets `name`, its own, and `top`, the
-# folder of the repository.
+# What ./dvg, ./prove, ./lib and ./test have in common. Each of them sets `name`, its own, and `top`,
+# the folder of the repository.
 #
 # Whether something is built of the sources that are there is told by their content. Beside what is
 # built lies a file with the ending `.sources`: a digest of the sources, and one of what was built.
@@ -99,14 +99,16 @@ is_marked() {
         [ "$(cat "$top/crates/$1/out/proved")" = "$(digest_of_crate "$1")" ]
 }
 
-# Says of all crates, and of the program, that they are proved: `rt ci` has passed, which began with
-# sources of this digest. Fails where these are no longer the sources that are there.
+# Says of all crates, of their libraries and of the program, that they are proved: `rt ci` has
+# passed, which began with sources of this digest. Fails where these aren't the sources that are
+# there.
 mark_all() {
     local crate
     [ "$(digest_of_proofs)" = "$1" ] && [ -x "$program" ] && set_of "$program" "$1" || return
     for crate in "$top"/crates/*/out; do
         crate=${crate%/out}
         mark "${crate##*/}"
+        [ ! -d "$crate/out/rlib" ] || cp "$crate/out/proved" "$crate/out/rlib/of"
     done
 }
 

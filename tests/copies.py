@@ -46,7 +46,7 @@ class Function:
 
 
 def attributes_begin(text, head):
-    """Where the attributes of the item at this place begin, each of which may take several lines."""
+    """Where the attributes of the item at this place begin. Each may take several lines."""
     first, opened = head, False
     for line in reversed(text[:head].split("\n")[:-1]):
         opened = opened or line.strip() == ")]"

@@ -81,7 +81,8 @@ def crates_asked(program, help_text, crates):
         sys.exit()
     for name in asked:
         if name not in crates:
-            hint = f"tools/{program} --help tells what there is"
+            folder = Path(sys.argv[0]).resolve().parent.name
+            hint = f"{folder}/{program} --help tells what there is"
             print(f"{program}: there is no crate {name} here; {hint}", file=sys.stderr)
             sys.exit(64)
     return [crate for crate in crates if crate in asked or not asked]
