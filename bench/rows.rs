@@ -177,7 +177,7 @@ pub const PICTURE_ROWS: &[Row] = &[
     .each("word", 65_536),
 ];
 
-/// What is compared of the commands `draw` and `lay`.
+/// What is compared of the commands `render` and `lay`.
 pub const SKETCH_ROWS: &[Row] = &[
     row("lay, 50 frames", &["lay"], sketch_of_frames)
         .against(Against::Plain)
@@ -192,17 +192,17 @@ pub const SKETCH_ROWS: &[Row] = &[
     row("lay --rom, 1,000 names", &["lay", "--rom"], sketch_of_names)
         .against(Against::Plain)
         .each("name", ROM_NAMES),
-    row("draw, a frame of 500 vectors", &["draw"], || {
+    row("render, a frame of 500 vectors", &["render"], || {
         frame_of_vectors(500)
     })
     .against(Against::Plain)
     .each("stroke", 500),
-    row("draw, 50 frames", &["draw"], sketch_of_frames)
+    row("render, 50 frames", &["render"], sketch_of_frames)
         .against(Against::Plain)
         .each("stroke", FRAMES * FRAME_STROKES),
     row(
-        "draw --check, 50 frames",
-        &["draw", "--check"],
+        "render --check, 50 frames",
+        &["render", "--check"],
         sketch_of_frames,
     )
     .against(Against::Plain)

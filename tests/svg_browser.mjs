@@ -52,7 +52,7 @@ async function brightness(tab, svg, places) {
 
 // Whether places are white, or black.
 async function expectSeen(tab, what, sketch, white, black) {
-  const found = await brightness(tab, ask(['draw'], sketch), [...white, ...black]);
+  const found = await brightness(tab, ask(['render'], sketch), [...white, ...black]);
   const wanted = [...white.map(() => 'white'), ...black.map(() => 'black')];
   const names = found.map((value) => (value > 250 ? 'white' : value < 5 ? 'black' : value));
   expect(what, wanted, names);
@@ -81,7 +81,7 @@ async function lookAtStrokes(tab) {
 async function lookAtIntensities(tab) {
   const all = [...Array(15).keys()].map((k) => k + 1);
   const lines = all.map((z) => `labs ${50 * z} 100 0\nvctr 9 0 100 ${z}\n`).join('');
-  const svg = ask(['draw'], `${lines}halt\n`);
+  const svg = ask(['render'], `${lines}halt\n`);
   const found = await brightness(tab, svg, all.map((z) => [50 * z, 150]));
   const off = found.filter((value, k) => Math.abs(value - 255 * (0.3 + 0.05 * k)) > 4);
   expect('intensities', [], off);
@@ -95,7 +95,7 @@ const SEEN = `[...document.querySelectorAll('g > g')].map((g, k) =>
   getComputedStyle(g).visibility === 'visible' ? k : -1).filter((k) => k >= 0)`;
 
 async function lookAtTurns(tab, count, rate, times) {
-  await open(tab, ask(['draw', '--rate', `${rate}`], frames(count)));
+  await open(tab, ask(['render', '--rate', `${rate}`], frames(count)));
   await tab.value('document.documentElement.pauseAnimations()');
   const shown = Math.floor(1000 / rate);
   for (const time of times) {
@@ -107,7 +107,7 @@ async function lookAtTurns(tab, count, rate, times) {
 }
 
 async function lookAtMotion(tab) {
-  await open(tab, ask(['draw', '--rate', '20'], frames(1000)));
+  await open(tab, ask(['render', '--rate', '20'], frames(1000)));
   const seen = async () => (await tab.value(SEEN))[0];
   const before = await seen();
   expect('pictures move by themselves', true, await tab.until(`${SEEN}[0] > ${before} + 3`));

@@ -1,4 +1,4 @@
-//! What `draw` and `lay` make of a sketch in plain Rust, for the plain twin.
+//! What `render` and `lay` make of a sketch in plain Rust, for the plain twin.
 
 use crate::driver::encode;
 use crate::frames::{Frame, FrameFault, Op, Place, Rom, check};

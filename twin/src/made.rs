@@ -1,4 +1,4 @@
-//! What `draw` and `lay` make of a sketch in plain Rust, for the plain twin.
+//! What `render` and `lay` make of a sketch in plain Rust, for the plain twin.
 
 use crate::draw::Refusal;
 use crate::sketch::Sketch;

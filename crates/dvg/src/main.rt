@@ -135,7 +135,7 @@ fn do_sketch(rt: &HostRuntime, job: Job) -> u8 {
 /// Does what the arguments ask for. Answers the exit status.
 fn do_arguments(rt: &HostRuntime, arguments: &[String]) -> u8 {
     match asked(rt, arguments) {
-        Ok(job @ (Job::Draw { .. } | Job::DrawCheck | Job::Lay { .. })) => do_sketch(rt, job),
+        Ok(job @ (Job::Render { .. } | Job::RenderCheck | Job::Lay { .. })) => do_sketch(rt, job),
         Ok(job) => do_job(rt, job),
         Err(error) => answer_arguments(rt, &error),
     }

@@ -2,4 +2,5 @@ mod Jobs
 mod Numbers
 mod Parts
 mod Refused
+mod Unrefused
 mod Written

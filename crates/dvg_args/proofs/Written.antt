@@ -63,6 +63,7 @@ other_arguments = (
   λ name. refl,
   λ name. refl,
   λ name. refl,
+  λ name. refl,
 )
 
 pub refused_options : RefusedOptions

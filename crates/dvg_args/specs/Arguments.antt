@@ -10,7 +10,7 @@ use Rattle.clap.specs.declared.error.kind.ErrorKind.TheVariants.{DisplayHelp, Di
 use Rattle.dvg_args.specs.Options.{address_of, fault_in, form_of, gives, percent_of, rate_of, sets}
 use Rattle.dvg_args.specs.declared.task.Job.{Job}
 use Rattle.dvg_args.specs.declared.task.Job.TheVariants.{List as list_job, ListAt, Rom, Picture, PictureSvg, Check}
-use Rattle.dvg_args.specs.declared.task.Job.TheVariants.{Play, PlaySvg, Torn, Draw, DrawCheck, Lay}
+use Rattle.dvg_args.specs.declared.task.Job.TheVariants.{Play, PlaySvg, Torn, Render, RenderCheck, Lay}
 use Rattle.dvg_args.specs.declared.task.LayForm.{LayForm}
 
 -- a subcommand with no option of its own
@@ -54,9 +54,9 @@ abbrev pub play_app : App
 play_app =
     showing (with_flag (with_flag (with_flag (new_app (codes "play")) (codes "all")) (codes "banked")) (codes "svg"))
 
--- the subcommand `draw`: of a size and a rate, or a check alone
-abbrev pub draw_app : App
-draw_app = showing (with_flag (new_app (codes "draw")) (codes "check"))
+-- the subcommand `render`: of a size and a rate, or a check alone
+abbrev pub render_app : App
+render_app = showing (with_flag (new_app (codes "render")) (codes "check"))
 
 -- the subcommand `lay`: a half by its number, or one of three other forms
 abbrev pub lay_app : App
@@ -76,7 +76,7 @@ unfoldable pub dvg_app : App
 dvg_app = record {
   top = record (plain (codes "dvg")) { is_leaf = false; subcommand_required = true; has_version = true };
   subs = list_app.top ∷ plain (codes "rom") ∷ picture_app.top ∷ check_app.top ∷ play_app.top ∷ plain (codes "torn")
-      ∷ draw_app.top ∷ lay_app.top ∷ [];
+      ∷ render_app.top ∷ lay_app.top ∷ [];
 }
 
 -- how the options of the subcommand that was matched are refused
@@ -112,11 +112,11 @@ IsJob (PlaySvg banked percent rate) met = option_map {U = Text × Bool × Bool �
     (λ p. (p.0, sets (codes "svg") p.1, sets (codes "banked") p.1, percent_of p.1, rate_of p.1)) met
     ≡ Some (codes "play", true, banked, Some percent, Some rate)
 IsJob Torn met = option_map (λ p. p.0) met ≡ Some (codes "torn")
-IsJob (Draw percent rate) met = option_map {U = Text × Bool × Option ℕ × Option ℕ}
+IsJob (Render percent rate) met = option_map {U = Text × Bool × Option ℕ × Option ℕ}
     (λ p. (p.0, sets (codes "check") p.1, percent_of p.1, rate_of p.1)) met
-    ≡ Some (codes "draw", false, Some percent, Some rate)
-IsJob DrawCheck met =
-    option_map {U = Text × Bool} (λ p. (p.0, sets (codes "check") p.1)) met ≡ Some (codes "draw", true)
+    ≡ Some (codes "render", false, Some percent, Some rate)
+IsJob RenderCheck met =
+    option_map {U = Text × Bool} (λ p. (p.0, sets (codes "check") p.1)) met ≡ Some (codes "render", true)
 IsJob (Lay form) met =
     option_map {U = Text × Option LayForm} (λ p. (p.0, form_of p.1)) met ≡ Some (codes "lay", Some form)
 
@@ -127,7 +127,7 @@ IsPlainName name = (name ≡ codes "rom") ⊎ ((name ≡ codes "check") ⊎ (nam
 -- the name of a subcommand that is a job (for a private contract)
 abbrev pub IsJobName : Text → Type 0
 IsJobName name = (name ≡ codes "list") ⊎ ((name ≡ codes "picture") ⊎ ((name ≡ codes "play")
-    ⊎ ((name ≡ codes "draw") ⊎ ((name ≡ codes "lay") ⊎ IsPlainName name))))
+    ⊎ ((name ≡ codes "render") ⊎ ((name ≡ codes "lay") ⊎ IsPlainName name))))
 
 -- the exit status of arguments that give no job, by the kind of the error
 abbrev pub error_status : ErrorKind → ℕ

@@ -1,14 +1,15 @@
 -- What some arguments come to.
-use Rattle.std.specs.Prelude.{◌≡◌, true, false, List, [], ◌∷◌, codes}
-use Rattle.clap.specs.Words.{Kinds, Text, subcommand_of}
+use Rattle.std.specs.Prelude.{◌≡◌, true, false, All, IfSome, List, [], ◌∷◌, codes}
+use Rattle.clap.specs.Words.{Kinds, Row, Text, subcommand_of}
 use Rattle.clap.specs.declared.error.kind.ErrorKind.TheVariants.{ArgumentConflict, DisplayHelp, DisplayVersion}
 use Rattle.clap.specs.declared.error.kind.ErrorKind.TheVariants.{InvalidSubcommand, InvalidValue}
 use Rattle.clap.specs.declared.error.kind.ErrorKind.TheVariants.{MissingRequiredArgument, MissingSubcommand}
 use Rattle.clap.specs.declared.error.kind.ErrorKind.TheVariants.{UnknownArgument}
-use Rattle.dvg_args.specs.Arguments.{IsJob, TakesArguments, arguments_fault, dvg_app}
+use Rattle.dvg_args.specs.Options.{gives, sets}
+use Rattle.dvg_args.specs.Arguments.{IsJob, TakesArguments, arguments_fault, dvg_app, options_fault}
 use Rattle.dvg_args.specs.declared.task.Job.{Job}
 use Rattle.dvg_args.specs.declared.task.Job.TheVariants.{List as list_job, ListAt, Rom, Picture, PictureSvg, Check}
-use Rattle.dvg_args.specs.declared.task.Job.TheVariants.{Play, PlaySvg, Torn, Draw, DrawCheck, Lay}
+use Rattle.dvg_args.specs.declared.task.Job.TheVariants.{Play, PlaySvg, Torn, Render, RenderCheck, Lay}
 use Rattle.dvg_args.specs.declared.task.LayForm.TheVariants.{Half0, Half1, Table, Rom as RomBytes, Equates}
 
 -- after any name of the program, the arguments are taken and ask for the job
@@ -43,10 +44,10 @@ TextJobArguments = AskFor (codes "list" ∷ []) list_job
 
 -- the arguments of each job that reads a sketch
 abbrev pub SketchJobArguments : Type 0
-SketchJobArguments = AskFor (codes "draw" ∷ []) (Draw 100 30)
-    × AskFor (codes "draw" ∷ codes "--scale" ∷ codes "33" ∷ codes "--rate" ∷ codes "1" ∷ []) (Draw 33 1)
-    × AskFor (codes "draw" ∷ codes "--check" ∷ []) DrawCheck
-    × AskFor (codes "draw" ∷ codes "--check" ∷ codes "--scale" ∷ codes "50" ∷ codes "--rate" ∷ codes "3" ∷ []) DrawCheck
+SketchJobArguments = AskFor (codes "render" ∷ []) (Render 100 30)
+    × AskFor (codes "render" ∷ codes "--scale" ∷ codes "33" ∷ codes "--rate" ∷ codes "1" ∷ []) (Render 33 1)
+    × AskFor (codes "render" ∷ codes "--check" ∷ []) RenderCheck
+    × AskFor (codes "render" ∷ codes "--check" ∷ codes "--scale" ∷ codes "50" ∷ codes "--rate" ∷ codes "3" ∷ []) RenderCheck
     × AskFor (codes "lay" ∷ []) (Lay Half0)
     × AskFor (codes "lay" ∷ codes "--half" ∷ codes "0" ∷ []) (Lay Half0)
     × AskFor (codes "lay" ∷ codes "--half" ∷ codes "1" ∷ []) (Lay Half1)
@@ -66,11 +67,12 @@ HelpArguments = FailAs (codes "--help" ∷ []) (DisplayHelp ∷ [])
     × FailAs (codes "--version" ∷ []) (DisplayVersion ∷ [])
     × FailAs (codes "-V" ∷ []) (DisplayVersion ∷ [])
 
--- arguments that are refused: none, another subcommand, an option of another subcommand, an option
--- twice, and an argument too many
+-- arguments that are refused: none, a word that is no subcommand, an option of another subcommand, an
+-- option twice, and an argument too many
 abbrev pub OtherArguments : Type 0
 OtherArguments = FailAs [] (MissingSubcommand ∷ [])
     × FailAs (codes "lists" ∷ []) (UnknownArgument ∷ InvalidSubcommand ∷ [])
+    × FailAs (codes "draw" ∷ []) (UnknownArgument ∷ InvalidSubcommand ∷ [])
     × FailAs (codes "list" ∷ codes "--all" ∷ []) (UnknownArgument ∷ [])
     × FailAs (codes "check" ∷ codes "--all" ∷ []) (UnknownArgument ∷ [])
     × FailAs (codes "play" ∷ codes "--all" ∷ codes "--all" ∷ []) (ArgumentConflict ∷ [])
@@ -89,11 +91,23 @@ RefusedOptions = FailAs (codes "list" ∷ codes "--at" ∷ codes "12" ∷ []) (I
     × FailAs (codes "play" ∷ codes "--all" ∷ codes "--svg" ∷ []) (ArgumentConflict ∷ [])
     × FailAs (codes "play" ∷ codes "--rate" ∷ codes "3" ∷ []) (MissingRequiredArgument ∷ [])
     × FailAs (codes "play" ∷ codes "--svg" ∷ codes "--rate" ∷ codes "61" ∷ []) (InvalidValue ∷ [])
-    × FailAs (codes "draw" ∷ codes "--scale" ∷ codes "401" ∷ []) (InvalidValue ∷ [])
-    × FailAs (codes "draw" ∷ codes "--check" ∷ codes "--rate" ∷ codes "0" ∷ []) (InvalidValue ∷ [])
-    × FailAs (codes "draw" ∷ codes "--rate" ∷ []) (InvalidValue ∷ [])
+    × FailAs (codes "render" ∷ codes "--scale" ∷ codes "401" ∷ []) (InvalidValue ∷ [])
+    × FailAs (codes "render" ∷ codes "--check" ∷ codes "--rate" ∷ codes "0" ∷ []) (InvalidValue ∷ [])
+    × FailAs (codes "render" ∷ codes "--rate" ∷ []) (InvalidValue ∷ [])
     × FailAs (codes "lay" ∷ codes "--half" ∷ codes "2" ∷ []) (InvalidValue ∷ [])
     × FailAs (codes "lay" ∷ codes "--half" ∷ []) (InvalidValue ∷ [])
     × FailAs (codes "lay" ∷ codes "--half" ∷ codes "0" ∷ codes "--rom" ∷ []) (ArgumentConflict ∷ [])
     × FailAs (codes "lay" ∷ codes "--rom" ∷ codes "--table" ∷ []) (ArgumentConflict ∷ [])
     × FailAs (codes "lay" ∷ codes "--half" ∷ codes "0" ∷ codes "--half" ∷ codes "1" ∷ []) (ArgumentConflict ∷ [])
+
+-- the matching gives none of the options that a subcommand may refuse
+abbrev pub GivesNoneRefused : List Row → Type 0
+GivesNoneRefused rows =
+    All (λ id. sets id rows ≡ false) (codes "svg" ∷ codes "table" ∷ codes "rom" ∷ codes "equates" ∷ [])
+    × All (λ id. gives id rows ≡ false) (codes "at" ∷ codes "scale" ∷ codes "rate" ∷ codes "half" ∷ [])
+
+-- without these options nothing is refused after the matching, so arguments that the command takes fail only for want
+-- of memory
+abbrev pub UnrefusedOptions : Type 0
+UnrefusedOptions = (arguments : List Text) → IfSome (subcommand_of dvg_app arguments) (λ met. GivesNoneRefused met.1)
+    → options_fault (subcommand_of dvg_app arguments) ≡ []

@@ -110,9 +110,9 @@ svg_fault rows = refused_by (sets (codes "svg") rows && sets (codes "all") rows)
     (not (sets (codes "svg") rows) && (gives (codes "scale") rows || gives (codes "rate") rows))
     (shows_well rows)
 
--- how the options of `draw` are refused
-abbrev pub draw_fault : List Row → Kinds
-draw_fault rows = refused_by false false (shows_well rows)
+-- how the options of `render` are refused
+abbrev pub render_fault : List Row → Kinds
+render_fault rows = refused_by false false (shows_well rows)
 
 -- how the options of `lay` are refused
 abbrev pub lay_fault : List Row → Kinds
@@ -123,7 +123,7 @@ abbrev pub fault_in : Text → List Row → Kinds
 fault_in name rows = if bytes_eq name (codes "list") then list_fault rows
     else (if bytes_eq name (codes "picture") then svg_fault rows
     else (if bytes_eq name (codes "play") then svg_fault rows
-    else (if bytes_eq name (codes "draw") then draw_fault rows
+    else (if bytes_eq name (codes "render") then render_fault rows
     else (if bytes_eq name (codes "lay") then lay_fault rows else []))))
 
 -- an answer comes only where nothing is refused, and a kind where it is the one (for a private contract)

@@ -6,7 +6,7 @@ ghost use Rattle.dvg_args.specs.Arguments.{arguments_fault, dvg_app, options_fau
 ghost use Rattle.clap.specs.Words.{FailsBy, fault_of, found_of, has_subcommand, kind_of, rows_of, subcommand_name_of, subcommand_of, subcommand_rows_of, takes};
 
 use crate::command::command;
-use crate::drawing::{draw_job, list_job, picture_job, play_job};
+use crate::drawing::{list_job, picture_job, play_job, render_job};
 use crate::laying::lay_job;
 use crate::misuse::misuse;
 use crate::options::is_set;
@@ -48,8 +48,8 @@ fn asked(name: &str, found: &ArgMatches) -> Result<Job, ErrorKind>
     if name == "play" {
         return play_job(found);
     }
-    if name == "draw" {
-        return draw_job(found);
+    if name == "render" {
+        return render_job(found);
     }
     if name == "lay" {
         return lay_job(found);

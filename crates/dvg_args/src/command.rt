@@ -3,8 +3,8 @@ ghost use Rattle.std.specs.Prelude.{◌≡◌, IfOk, codes, false};
 ghost use Rattle.clap.specs.Words.{app_of, new_app, rule_of, with_rule, with_subcommand};
 ghost use Rattle.clap.specs.declared.builder.command.Command.TheViews.{out-Command as fields_of};
 ghost use Rattle.dvg_args.specs.Arguments as spec;
-ghost use Rattle.dvg_args.specs.Arguments.{check_app, draw_app, dvg_app, flag, lay_app, list_app};
-ghost use Rattle.dvg_args.specs.Arguments.{picture_app, play_app, program_app, valued};
+ghost use Rattle.dvg_args.specs.Arguments.{check_app, dvg_app, flag, lay_app, list_app};
+ghost use Rattle.dvg_args.specs.Arguments.{picture_app, play_app, program_app, render_app, valued};
 
 use crate::help;
 use clap::{Arg, ArgAction, Command};
@@ -144,15 +144,15 @@ fn play_command<'a>(alloc: Global) -> Result<Command<'a>, AllocError>
     showing(alloc, with_svg)
 }
 
-// The subcommand `draw`.
-fn draw_command<'a>(alloc: Global) -> Result<Command<'a>, AllocError>
-    ensures app { IfOk result (λ c. app_of c ≡ draw_app) }
+// The subcommand `render`.
+fn render_command<'a>(alloc: Global) -> Result<Command<'a>, AllocError>
+    ensures app { IfOk result (λ c. app_of c ≡ render_app) }
     ensures local { IfOk result (λ c. (fields_of c).has_globals ≡ false) }
 {
     let about = "Draw the frames of a sketch";
-    let draw = helped(alloc, "draw", about, help::DRAW_USAGE, help::DRAW);
+    let render = helped(alloc, "render", about, help::RENDER_USAGE, help::RENDER);
     let check = "Say of each frame whether it may be drawn, and draw none";
-    let with_check = with_flag(alloc, draw, "check", check)?;
+    let with_check = with_flag(alloc, render, "check", check)?;
     showing(alloc, with_check)
 }
 
@@ -210,6 +210,6 @@ pub(crate) fn command<'a>(alloc: Global) -> Result<Command<'a>, AllocError>
     let with_check = with_part(with_picture, check_command(alloc)?)?;
     let with_play = with_part(with_check, play_command(alloc)?)?;
     let with_torn = with_part(with_play, torn)?;
-    let with_draw = with_part(with_torn, draw_command(alloc)?)?;
-    with_part(with_draw, lay_command(alloc)?)
+    let with_render = with_part(with_torn, render_command(alloc)?)?;
+    with_part(with_render, lay_command(alloc)?)
 }

@@ -1,8 +1,8 @@
-//! What the options of `list`, `picture`, `play` and `draw` ask for. That some exclude each other,
-//! and which values they take, is this project's own choice.
+//! What the options of `list`, `picture`, `play` and `render` ask for. That some exclude each
+//! other, and which values they take, is this project's own choice.
 ghost use Rattle.std.specs.Prelude.{IfOk, Some, codes};
 ghost use Rattle.clap.specs.Words.{found_of, rows_of};
-ghost use Rattle.dvg_args.specs.Options.{Refuses, Shows, draw_fault, list_fault, svg_fault};
+ghost use Rattle.dvg_args.specs.Options.{Refuses, Shows, list_fault, render_fault, svg_fault};
 ghost use Rattle.dvg_args.specs.Arguments.{IsJob};
 
 use crate::options::{Shown, address_in, is_given, is_set, read_shown};
@@ -92,19 +92,19 @@ pub(crate) fn play_job(found: &ArgMatches) -> Result<Job, ErrorKind>
     })
 }
 
-/// What the options of `draw` ask for. They are refused where a size or a rate is none
+/// What the options of `render` ask for. They are refused where a size or a rate is none
 /// (`InvalidValue`), even beside `--check`, which they don't concern.
-pub(crate) fn draw_job(found: &ArgMatches) -> Result<Job, ErrorKind>
-    ensures ok { IfOk result (λ j. IsJob j (Some (codes "draw", rows_of (found_of found.now)))) }
-    ensures kinds { Refuses result (draw_fault (rows_of (found_of found.now))) }
+pub(crate) fn render_job(found: &ArgMatches) -> Result<Job, ErrorKind>
+    ensures ok { IfOk result (λ j. IsJob j (Some (codes "render", rows_of (found_of found.now)))) }
+    ensures kinds { Refuses result (render_fault (rows_of (found_of found.now))) }
 {
     let Some(shown) = read_shown(found) else {
         return Err(ErrorKind::InvalidValue);
     };
     if is_set(found, "check") {
-        return Ok(Job::DrawCheck);
+        return Ok(Job::RenderCheck);
     }
-    Ok(Job::Draw {
+    Ok(Job::Render {
         percent: shown.percent,
         rate: shown.rate,
     })

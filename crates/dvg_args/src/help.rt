@@ -19,7 +19,7 @@ Exit status:
    0  done, or a help text or the version that was asked for
    1  a fault of the input, or what was asked about isn't good: a draft that may
       not be drawn, also in a sketch, a dump that draws no picture, a log with a
-      torn picture
+      torn picture, or one in which no run drew
    2  a failing read or write, or out of memory
   64  arguments that ask for nothing the program can do: a file is no argument,
       it is read by `<`
@@ -240,7 +240,7 @@ else `not torn: R runs, H halted, W writes`, or `no run drew: ..` where bytes
 were written and no run began, or runs began and no word was fetched. Lines are
 numbered from 1. Nothing is judged after the first line that is torn or at fault.
 
-Fault: `syntax at line N`.
+Fault: `syntax at line N`. The status is 0 for `not torn`, and else 1.
 
 Example:
   $ printf 'started\\nfetched 000 E201\\nwrote 402 90\\n' | dvg torn
@@ -249,11 +249,11 @@ Example:
   $ printf 'started\\nfetched 000 E201\\nhalted\\nwrote 402 90\\n' | dvg torn
   not torn: 1 runs, 1 halted, 1 writes";
 
-/// How `draw` is called.
-pub(crate) const DRAW_USAGE: &str = "dvg draw [--check] [--scale N] [--rate N] < SKETCH";
+/// How `render` is called.
+pub(crate) const RENDER_USAGE: &str = "dvg render [--check] [--scale N] [--rate N] < SKETCH";
 
-/// The input and output of `draw`.
-pub(crate) const DRAW: &str =
+/// The input and output of `render`.
+pub(crate) const RENDER: &str =
     "Standard input: a sketch as text, at most 1,048,576 bytes, with the operations of
 its ROM and of its frames; `dvg help lay` tells it. A draft is a sketch, too.
 
@@ -272,9 +272,9 @@ fault, and the status is 1. So it is where the run of a frame fetches more than
 Faults of the text: those that `dvg help lay` tells.
 
 Example:
-  $ printf 'labs 512 400 0\\nvctr 9 -100 100 7\\nhalt\\n' | dvg draw --check
+  $ printf 'labs 512 400 0\\nvctr 9 -100 100 7\\nhalt\\n' | dvg render --check
   ok 5 words 6 fetches
-  $ printf 'labs 512 400 0\\nvctr 9 -100 100 7\\nhalt\\n' | dvg draw | grep path
+  $ printf 'labs 512 400 0\\nvctr 9 -100 100 7\\nhalt\\n' | dvg render | grep path
   <path d=\"M262144 204800l-51200 51200\" opacity=\".60\"/>";
 
 /// How `lay` is called.
@@ -330,10 +330,12 @@ line at fault the first of these:
   syntax at line N             it is none of these, or stands where it may not
   name given again at line N   its name is given before
   full at line N               it has operation 512 of its frame
-  out of rom at line N         it begins at no word of the ROM, or goes past it
+  out of rom at line N         it begins before the ROM's first word, or goes past
+                               C00
   overlap at line N            it lies on a word of another `.rom`
-  unknown name at line N       it wants a name that is nowhere given; this one
-                               comes after the faults of all other lines
+  unknown name at line N       it wants a name that isn't given where it is looked
+                               for; this one comes after the faults of all other
+                               lines
 
 Lines are numbered from 1. After the number stands the text of the line, and a
 second line tells what was expected.

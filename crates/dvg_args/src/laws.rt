@@ -1,7 +1,7 @@
 //! What some arguments ask for, written out. Each law is the contract of a function that does
 //! nothing.
 ghost use Rattle.dvg_args.specs.Laws.{HelpArguments, OtherArguments, RefusedOptions};
-ghost use Rattle.dvg_args.specs.Laws.{SketchJobArguments, TextJobArguments};
+ghost use Rattle.dvg_args.specs.Laws.{SketchJobArguments, TextJobArguments, UnrefusedOptions};
 
 /// The arguments of each job that reads no sketch, after any name of the program, are taken and ask
 /// for that job.
@@ -27,4 +27,11 @@ pub fn other_arguments()
 /// Options that ask for nothing the program can do.
 pub fn refused_options()
     ensures { RefusedOptions }
+{}
+
+/// Where no option is given that a subcommand may refuse, nothing is refused after the matching. So
+/// arguments that the command takes with flags alone, as `play --all --banked`, fail only for want
+/// of memory.
+pub fn unrefused_options()
+    ensures { UnrefusedOptions }
 {}

@@ -15,8 +15,8 @@ fn usage_of(name: &str) -> &'static str {
         help::PICTURE_USAGE
     } else if name == "play" {
         help::PLAY_USAGE
-    } else if name == "draw" {
-        help::DRAW_USAGE
+    } else if name == "render" {
+        help::RENDER_USAGE
     } else if name == "lay" {
         help::LAY_USAGE
     } else {

@@ -55,12 +55,12 @@ pub enum Job {
     /// Say whether a log tears a picture.
     Torn,
     /// Draw the frames of a sketch as SVG, of a size and a rate.
-    Draw {
+    Render {
         percent: u16,
         rate: u16,
     },
     /// Check the frames of a sketch.
-    DrawCheck,
+    RenderCheck,
     /// Lay out the frames, the ROM or the names of a sketch.
     Lay {
         form: LayForm,

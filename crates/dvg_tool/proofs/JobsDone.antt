@@ -9,7 +9,7 @@ use Rattle.dvg_svg.specs.declared.show.Show.{Show}
 use Rattle.dvg_lay.specs.Sketches.{Lays}
 use Rattle.dvg_lay.specs.declared.form.Form.{Form}
 use Rattle.dvg_lay.specs.declared.form.Laid.{Laid}
-use Rattle.dvg_args.specs.declared.task.Job.TheVariants.{Draw, DrawCheck, Lay}
+use Rattle.dvg_args.specs.declared.task.Job.TheVariants.{Render, RenderCheck, Lay}
 use Rattle.dvg_args.specs.declared.task.LayForm.{LayForm}
 use Rattle.dvg_tool.specs.Jobs.{Performs, answered, answered_drawn, form_of}
 use Rattle.dvg_tool.specs.declared.outcome.Done.{Done}
@@ -23,12 +23,12 @@ laid_answered form asked laid done (Some input) old new same is h = (laid, is, s
 
 -- and of one that was drawn
 pub drawn_answered : {A : Type 0} (show : Show) (drawn : Drawn A) (done : Done A) (known old new : Option (List ℕ)) → done ≡ answered_drawn drawn
-    → IfSome known (λ input. Draws show (Ok drawn) input old new) → IfSome known (λ input. Performs (Draw show.percent show.rate) (Ok done) input old new)
+    → IfSome known (λ input. Draws show (Ok drawn) input old new) → IfSome known (λ input. Performs (Render show.percent show.rate) (Ok done) input old new)
 drawn_answered show drawn done None old new is h = tt
 drawn_answered show drawn done (Some input) old new is h = (drawn, is, h)
 
 -- and of what the check says of its frames
 pub said_answered : {A : Type 0} (said : Said A) (good : Bool) (known old new : Option (List ℕ)) → (IsTrue good ↔ All IsGoodVerdict said.verdicts.items)
-    → IfSome known (λ input. ChecksSketch (Ok said) input old new) → IfSome known (λ input. Performs {A = A} DrawCheck (Ok (CheckedFrames good)) input old new)
+    → IfSome known (λ input. ChecksSketch (Ok said) input old new) → IfSome known (λ input. Performs {A = A} RenderCheck (Ok (CheckedFrames good)) input old new)
 said_answered said good None old new is h = tt
 said_answered said good (Some input) old new is h = (said, is, h)

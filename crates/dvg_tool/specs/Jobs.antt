@@ -28,7 +28,7 @@ use Rattle.dvg_tool.specs.declared.outcome.Done.TheVariants.{Written, Judged, Bo
 use Rattle.dvg_tool.specs.declared.outcome.Done.TheVariants.{Refused, CheckedFrames}
 use Rattle.dvg_args.specs.declared.task.Job.{Job}
 use Rattle.dvg_args.specs.declared.task.Job.TheVariants.{List as list_job, ListAt, Rom, Picture, PictureSvg, Check}
-use Rattle.dvg_args.specs.declared.task.Job.TheVariants.{Play, PlaySvg, Torn, Draw, DrawCheck, Lay}
+use Rattle.dvg_args.specs.declared.task.Job.TheVariants.{Play, PlaySvg, Torn, Render, RenderCheck, Lay}
 use Rattle.dvg_args.specs.declared.task.LayForm.{LayForm}
 use Rattle.dvg_args.specs.declared.task.LayForm.TheVariants as asked
 
@@ -55,8 +55,8 @@ answered_drawn (drawns.Pictures pictures) = Written
 answered_drawn (drawns.Refused refusal) = Refused refusal
 
 -- the answer to an input, and what went out: a check answers its verdict, `picture` what the run
--- came to, or as SVG why it drew no picture, `torn` what is said of the log, `lay` and `draw` why a
--- frame is refused, `draw --check` whether all frames are good, and no other job answers anything
+-- came to, or as SVG why it drew no picture, `torn` what is said of the log, `lay` and `render` why a
+-- frame is refused, `render --check` whether all frames are good, and no other job answers anything
 abbrev pub Performs : {A : Type 0} → Job → Result (Done A) ToolFault → (input : List ℕ) → Option (List ℕ)
     → Option (List ℕ) → Type 0
 Performs {A} list_job (Ok Written) input old new = Lists {T = Done A} (Ok Written) input old new
@@ -84,13 +84,13 @@ Performs Torn (Err fault) input old new = Tears (Err fault) input old new
 Performs {A} (Lay form) (Ok done) input old new =
     (laid : Laid A) × (done ≡ answered laid) × Lays (form_of form) (Ok laid) input old new
 Performs {A} (Lay form) (Err fault) input old new = Lays {A = A} (form_of form) (Err fault) input old new
-Performs {A} (Draw percent rate) (Ok done) input old new =
+Performs {A} (Render percent rate) (Ok done) input old new =
     (drawn : Drawn A) × (done ≡ answered_drawn drawn) × Draws (show_of percent rate) (Ok drawn) input old new
-Performs {A} (Draw percent rate) (Err fault) input old new =
+Performs {A} (Render percent rate) (Err fault) input old new =
     Draws {A = A} (show_of percent rate) (Err fault) input old new
-Performs {A} DrawCheck (Ok (CheckedFrames good)) input old new = (said : Said A)
+Performs {A} RenderCheck (Ok (CheckedFrames good)) input old new = (said : Said A)
     × (IsTrue good ↔ All IsGoodVerdict said.verdicts.items) × ChecksSketch (Ok said) input old new
-Performs {A} DrawCheck (Err fault) input old new = ChecksSketch {A = A} (Err fault) input old new
+Performs {A} RenderCheck (Err fault) input old new = ChecksSketch {A = A} (Err fault) input old new
 Performs _ (Ok _) input old new = ⊥
 
 -- the faults before which a job writes nothing
@@ -112,8 +112,8 @@ TakesBy (PictureSvg percent) answer old new = TakesAtMost 6145 old new
 TakesBy (Check bound) answer old new = TakesAtMost 1048577 old new
 TakesBy (Play all banked) answer old new = TakesAtMost 1048577 old new
 TakesBy (PlaySvg banked percent rate) answer old new = TakesAtMost 1048577 old new
-TakesBy (Draw percent rate) answer old new = TakesAtMost 1048577 old new
-TakesBy DrawCheck answer old new = TakesAtMost 1048577 old new
+TakesBy (Render percent rate) answer old new = TakesAtMost 1048577 old new
+TakesBy RenderCheck answer old new = TakesAtMost 1048577 old new
 TakesBy (Lay form) answer old new = TakesAtMost 1048577 old new
 TakesBy Torn (Ok (Searched verdict)) old new = IfSome old (λ input. Takes (Ok verdict) input old new)
 TakesBy Torn (Ok _) old new = ⊥

@@ -111,7 +111,7 @@ fn answered_drawn<A: Allocator>(drawn: Drawn<A>) -> Done<A>
     }
 }
 
-// Does the job `draw`.
+// Does the job `render`.
 fn draw_answered<A: Allocator + Copy, R: Read, W: Write>(
     alloc: A,
     reader: &mut Watched<R>,
@@ -120,7 +120,7 @@ fn draw_answered<A: Allocator + Copy, R: Read, W: Write>(
 ) -> Result<Done<A>, ToolFault>
     requires fresh { AreFresh reader.old writer.old }
     ensures { Serves R.remaining W.contents 1048577 ComesBeforeText
-        (Performs (Job.Draw show.percent show.rate))
+        (Performs (Job.Render show.percent show.rate))
         result reader.old reader.new writer.old writer.new }
 {
     match draw_sketch(alloc, reader, writer, show) {
@@ -129,14 +129,14 @@ fn draw_answered<A: Allocator + Copy, R: Read, W: Write>(
     }
 }
 
-// Does the job `draw --check`.
+// Does the job `render --check`.
 fn check_answered<A: Allocator + Copy, R: Read, W: Write>(
     alloc: A,
     reader: &mut Watched<R>,
     writer: &mut Watched<W>,
 ) -> Result<Done<A>, ToolFault>
     requires fresh { AreFresh reader.old writer.old }
-    ensures { Serves R.remaining W.contents 1048577 ComesBeforeText (Performs Job.DrawCheck)
+    ensures { Serves R.remaining W.contents 1048577 ComesBeforeText (Performs Job.RenderCheck)
         result reader.old reader.new writer.old writer.new }
 {
     match check_sketch(alloc, reader, writer) {
@@ -201,10 +201,10 @@ pub fn perform<A: Allocator + Copy, R: Read, W: Write>(
             play_shown(alloc, reader, writer, banked, show).map(|()| Done::Written)
         }
         Job::Torn => torn(reader, writer).map(|verdict| Done::Searched(verdict)),
-        Job::Draw { percent, rate } => {
+        Job::Render { percent, rate } => {
             draw_answered(alloc, reader, writer, Show { percent, rate })
         }
-        Job::DrawCheck => check_answered(alloc, reader, writer),
+        Job::RenderCheck => check_answered(alloc, reader, writer),
         Job::Lay { form } => lay_answered(alloc, reader, writer, form),
     }
 }

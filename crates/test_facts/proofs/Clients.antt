@@ -26,7 +26,7 @@ use Rattle.dvg_read.proofs.OneTrace.{one_trace_meaning, no_fault_beside_trace}
 use Rattle.clap.specs.Words.{Row, Text as WordText}
 use Rattle.dvg_args.specs.Arguments.{IsJob}
 use Rattle.dvg_args.specs.declared.task.Job.{Job}
-use Rattle.dvg_args.specs.declared.task.Job.TheVariants.{List as list_job, ListAt, Rom, Picture, PictureSvg, Check, Play, PlaySvg, Torn, Draw, DrawCheck, Lay}
+use Rattle.dvg_args.specs.declared.task.Job.TheVariants.{List as list_job, ListAt, Rom, Picture, PictureSvg, Check, Play, PlaySvg, Torn, Render, RenderCheck, Lay}
 use Rattle.dvg_driver.specs.declared.action.Action.{Action}
 use Rattle.dvg_driver.specs.declared.action.Action.TheVariants.{Peek, Wrote, Read}
 use Rattle.dvg_driver.specs.Script.{Item, Did, Offered, IsLife, IsWhole}
@@ -182,10 +182,10 @@ play_only (PlaySvg banked percent rate) (Some p) x y =
     absurd (true≢false (sym (ap (λ q. q.1) (same_Some _ _ x)) ∙ ap (λ q. q.1) (same_Some _ _ y)))
 play_only Torn None x y = absurd (cc)
 play_only Torn (Some p) x y = absurd (begins_so p.0 (codes "torn") (same_Some _ _ x) (ap (λ q. q.0) (same_Some _ _ y)) (λ (d : 116 ≡ 112). omega arith))
-play_only (Draw percent rate) None x y = absurd (cc)
-play_only (Draw percent rate) (Some p) x y = absurd (begins_so p.0 (codes "draw") (ap (λ q. q.0) (same_Some _ _ x)) (ap (λ q. q.0) (same_Some _ _ y)) (λ (d : 100 ≡ 112). omega arith))
-play_only DrawCheck None x y = absurd (cc)
-play_only DrawCheck (Some p) x y = absurd (begins_so p.0 (codes "draw") (ap (λ q. q.0) (same_Some _ _ x)) (ap (λ q. q.0) (same_Some _ _ y)) (λ (d : 100 ≡ 112). omega arith))
+play_only (Render percent rate) None x y = absurd (cc)
+play_only (Render percent rate) (Some p) x y = absurd (begins_so p.0 (codes "render") (ap (λ q. q.0) (same_Some _ _ x)) (ap (λ q. q.0) (same_Some _ _ y)) (λ (d : 114 ≡ 112). omega arith))
+play_only RenderCheck None x y = absurd (cc)
+play_only RenderCheck (Some p) x y = absurd (begins_so p.0 (codes "render") (ap (λ q. q.0) (same_Some _ _ x)) (ap (λ q. q.0) (same_Some _ _ y)) (λ (d : 114 ≡ 112). omega arith))
 play_only (Lay form) None x y = absurd (cc)
 play_only (Lay form) (Some p) x y = absurd (begins_so p.0 (codes "lay") (ap (λ q. q.0) (same_Some _ _ x)) (ap (λ q. q.0) (same_Some _ _ y)) (λ (d : 108 ≡ 112). omega arith))
 

@@ -26,14 +26,14 @@ const LIMITS: [(Job, usize, TextFault); 14] = [
         TextFault::TooLong,
     ),
     (
-        Job::Draw {
+        Job::Render {
             percent: 100,
             rate: 30,
         },
         1_048_576,
         TextFault::TooLong,
     ),
-    (Job::DrawCheck, 1_048_576, TextFault::TooLong),
+    (Job::RenderCheck, 1_048_576, TextFault::TooLong),
     (
         Job::Lay { form: LayForm::Rom },
         1_048_576,

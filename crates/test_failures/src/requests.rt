@@ -51,7 +51,7 @@ fn each_growth_is_refused_in_turn(rt: HostRuntime) -> Result<(), Fail> {
             Job::Check { .. } => (128, 192),
             Job::Play { .. } | Job::PlaySvg { .. } | Job::PictureSvg { .. } => continue,
             // A checker alone is greater than these heaps.
-            Job::Draw { .. } | Job::DrawCheck | Job::Lay { .. } => {
+            Job::Render { .. } | Job::RenderCheck | Job::Lay { .. } => {
                 assert_eq!(rt; refusals(rt.alloc(), task)?, MOST_SLOTS);
                 continue;
             }

@@ -137,7 +137,7 @@ pub fn tasks<'a>(rom: &'a [u8], dump: &'a [u8]) -> [Task<'a>; 16] {
             Ok(Report::Written),
         ),
         task(
-            Job::Draw {
+            Job::Render {
                 percent: 100,
                 rate: 30,
             },
@@ -146,7 +146,7 @@ pub fn tasks<'a>(rom: &'a [u8], dump: &'a [u8]) -> [Task<'a>; 16] {
             Ok(Report::Refused),
         ),
         task(
-            Job::DrawCheck,
+            Job::RenderCheck,
             SKETCH.as_bytes(),
             1,
             Ok(Report::Checked(true)),

@@ -18,13 +18,13 @@ use twin::svg::Show;
 
 /// What is asked of each text, and what that is of the twin.
 const QUESTIONS: [(&[&str], Made); 7] = [
-    (&["draw", "--check"], Made::Checks),
+    (&["render", "--check"], Made::Checks),
     (&["lay"], Made::Bytes(0)),
     (&["lay", "--half", "1"], Made::Bytes(1)),
     (&["lay", "--table"], Made::Table),
     (&["lay", "--rom"], Made::Rom),
     (&["lay", "--equates"], Made::Equates),
-    (&["draw"], Made::Svg(SHOW)),
+    (&["render"], Made::Svg(SHOW)),
 ];
 
 /// How pictures are shown where nothing is said of it.

@@ -423,8 +423,8 @@ fn play_by(arguments: &[String]) -> Option<Result<ExitCode, Fault>> {
     Some(play(options.has("--banked"), shown))
 }
 
-/// What `draw` is asked for.
-fn draw_by(arguments: &[String]) -> Option<Result<ExitCode, Fault>> {
+/// What `render` is asked for.
+fn render_by(arguments: &[String]) -> Option<Result<ExitCode, Fault>> {
     let options = Options::read(arguments, &["--check"], &["--scale", "--rate"])?;
     let show = show_of(&options)?;
     Some(make(&if options.has("--check") {
@@ -468,7 +468,7 @@ fn do_job(arguments: &[String]) -> Option<Result<ExitCode, Fault>> {
         "picture" => picture_by(options),
         "torn" if options.is_empty() => Some(torn()),
         "play" => play_by(options),
-        "draw" => draw_by(options),
+        "render" => render_by(options),
         "lay" => lay_by(options),
         _ => None,
     }
@@ -486,7 +486,7 @@ fn main() -> ExitCode {
     let Some(done) = do_job(&arguments) else {
         complain(format_args!(
             "usage: dvg list [--at HHH]|rom|check [--bound]|play [--all] [--banked]|torn|\
-             picture [--all]|draw [--check]|lay [--half 0|1]"
+             picture [--all]|render [--check]|lay [--half 0|1]"
         ));
         return ExitCode::from(MISUSE);
     };

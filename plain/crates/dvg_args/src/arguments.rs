@@ -1,6 +1,6 @@
 //! What the arguments of the program ask for.
 use crate::command::command;
-use crate::drawing::{draw_job, list_job, picture_job, play_job};
+use crate::drawing::{list_job, picture_job, play_job, render_job};
 use crate::laying::lay_job;
 use crate::misuse::misuse;
 use crate::options::is_set;
@@ -35,8 +35,8 @@ fn asked(name: &str, found: &ArgMatches) -> Result<Job, ErrorKind> {
     if name == "play" {
         return play_job(found);
     }
-    if name == "draw" {
-        return draw_job(found);
+    if name == "render" {
+        return render_job(found);
     }
     if name == "lay" {
         return lay_job(found);

@@ -102,12 +102,12 @@ fn play_command<'a>(alloc: Global) -> Result<Command<'a>, AllocError> {
     showing(alloc, with_svg)
 }
 
-// The subcommand `draw`.
-fn draw_command<'a>(alloc: Global) -> Result<Command<'a>, AllocError> {
+// The subcommand `render`.
+fn render_command<'a>(alloc: Global) -> Result<Command<'a>, AllocError> {
     let about = "Draw the frames of a sketch";
-    let draw = helped(alloc, "draw", about, help::DRAW_USAGE, help::DRAW);
+    let render = helped(alloc, "render", about, help::RENDER_USAGE, help::RENDER);
     let check = "Say of each frame whether it may be drawn, and draw none";
-    let with_check = with_flag(alloc, draw, "check", check)?;
+    let with_check = with_flag(alloc, render, "check", check)?;
     showing(alloc, with_check)
 }
 
@@ -150,6 +150,6 @@ pub(crate) fn command<'a>(alloc: Global) -> Result<Command<'a>, AllocError> {
     let with_check = with_part(with_picture, check_command(alloc)?)?;
     let with_play = with_part(with_check, play_command(alloc)?)?;
     let with_torn = with_part(with_play, torn)?;
-    let with_draw = with_part(with_torn, draw_command(alloc)?)?;
-    with_part(with_draw, lay_command(alloc)?)
+    let with_render = with_part(with_torn, render_command(alloc)?)?;
+    with_part(with_render, lay_command(alloc)?)
 }

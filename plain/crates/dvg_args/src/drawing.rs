@@ -1,5 +1,5 @@
-//! What the options of `list`, `picture`, `play` and `draw` ask for. That some exclude each other,
-//! and which values they take, is this project's own choice.
+//! What the options of `list`, `picture`, `play` and `render` ask for. That some exclude each
+//! other, and which values they take, is this project's own choice.
 use crate::options::{Shown, address_in, is_given, is_set, read_shown};
 use crate::task::Job;
 use clap::ArgMatches;
@@ -74,16 +74,16 @@ pub(crate) fn play_job(found: &ArgMatches) -> Result<Job, ErrorKind> {
     })
 }
 
-/// What the options of `draw` ask for. They are refused where a size or a rate is none
+/// What the options of `render` ask for. They are refused where a size or a rate is none
 /// (`InvalidValue`), even beside `--check`, which they don't concern.
-pub(crate) fn draw_job(found: &ArgMatches) -> Result<Job, ErrorKind> {
+pub(crate) fn render_job(found: &ArgMatches) -> Result<Job, ErrorKind> {
     let Some(shown) = read_shown(found) else {
         return Err(ErrorKind::InvalidValue);
     };
     if is_set(found, "check") {
-        return Ok(Job::DrawCheck);
+        return Ok(Job::RenderCheck);
     }
-    Ok(Job::Draw {
+    Ok(Job::Render {
         percent: shown.percent,
         rate: shown.rate,
     })

@@ -1,4 +1,4 @@
-//! The engine `draw`.
+//! The engine `render`.
 use std::prelude::*;
 
 use crate::drawn::Drawn;

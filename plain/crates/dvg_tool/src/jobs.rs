@@ -85,7 +85,7 @@ fn answered_drawn<A: Allocator>(drawn: Drawn<A>) -> Done<A> {
     }
 }
 
-// Does the job `draw`.
+// Does the job `render`.
 fn draw_answered<A: Allocator + Copy, R: Read, W: Write>(
     alloc: A,
     reader: &mut Watched<R>,
@@ -98,7 +98,7 @@ fn draw_answered<A: Allocator + Copy, R: Read, W: Write>(
     }
 }
 
-// Does the job `draw --check`.
+// Does the job `render --check`.
 fn check_answered<A: Allocator + Copy, R: Read, W: Write>(
     alloc: A,
     reader: &mut Watched<R>,
@@ -150,10 +150,10 @@ pub fn perform<A: Allocator + Copy, R: Read, W: Write>(
             play_shown(alloc, reader, writer, banked, show).map(|()| Done::Written)
         }
         Job::Torn => torn(reader, writer).map(|verdict| Done::Searched(verdict)),
-        Job::Draw { percent, rate } => {
+        Job::Render { percent, rate } => {
             draw_answered(alloc, reader, writer, Show { percent, rate })
         }
-        Job::DrawCheck => check_answered(alloc, reader, writer),
+        Job::RenderCheck => check_answered(alloc, reader, writer),
         Job::Lay { form } => lay_answered(alloc, reader, writer, form),
     }
 }

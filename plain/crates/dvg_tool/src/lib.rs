@@ -1,4 +1,4 @@
-//! The engines of the program `dvg` but `picture`, `torn`, `draw` and `lay`, over any watched
+//! The engines of the program `dvg` but `picture`, `torn`, `render` and `lay`, over any watched
 //! reader and writer; and the jobs that its arguments ask for, which are those of `dvg_args`. What
 //! it reads are the texts of `dvg_read`, and what it writes the lines of `dvg_print`.
 //!

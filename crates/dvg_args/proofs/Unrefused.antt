@@ -1,0 +1,58 @@
+-- Options that are refused by no subcommand.
+use Rattle.std.proofs.Common.{◌≡◌, ◌&&◌, ◌||◌, Bool, true, false, not, [], ◌∷◌, ℕ, List, Option, Some, None, ap, cond, codes, refl}
+use Rattle.std.specs.Prelude.{All, IfSome, is_some, nat_lt}
+use Rattle.std.specs.Str.{bytes_eq}
+use Rattle.std.proofs.lemmas.List.Elements.{All-head, All-tail}
+use Rattle.clap.specs.Words.{Kinds, Row, Text, first_of, subcommand_of}
+use Rattle.dvg_args.specs.Options.{address_of, fault_in, form_by, gives, given_count, list_fault, number_of, refused_by, render_fault, sets}
+use Rattle.dvg_args.specs.Arguments.{dvg_app, options_fault}
+use Rattle.dvg_args.specs.Laws.{GivesNoneRefused, UnrefusedOptions}
+
+-- an option without a value has its default
+none_given : {T : Type 0} (o : Option T) → is_some o ≡ false → o ≡ None
+none_given None e = refl
+none_given (Some x) e = cc
+
+good_number : (id : Text) (least most default : ℕ) (rows : List Row) → is_some (first_of id rows) ≡ false → is_some (number_of id least most default rows) ≡ true
+good_number id least most default rows e = rw (none_given _ e) refl
+
+either : (b : Bool) (x y : Kinds) → x ≡ [] → y ≡ [] → cond b x y ≡ []
+either true x y e f = e
+either false x y e f = f
+
+-- the test of a size and a rate
+good_show : (svg all scale rate percents rates : Bool) → svg ≡ false → scale ≡ false → rate ≡ false → percents ≡ true → rates ≡ true
+    → refused_by (svg && all) (not svg && (scale || rate)) (percents && rates) ≡ []
+good_show svg all scale rate percents rates a b c d e = rw (a, b, c, d, e) refl
+
+good_form : (half : Option Text) (table rom equates : Bool) → is_some half ≡ false → table ≡ false → rom ≡ false → equates ≡ false
+    → refused_by (nat_lt 1 (given_count (is_some half) table rom equates)) false (is_some (form_by table rom equates half)) ≡ []
+good_form half table rom equates a b c d = rw (none_given half a, b, c, d) refl
+
+four : (P : Text → Type 0) (a b c d : Text) → All P (a ∷ b ∷ c ∷ d ∷ []) → P a × P b × P c × P d
+four P a b c d h =
+    let g = All-tail P a (b ∷ c ∷ d ∷ []) h in
+    let f = All-tail P b (c ∷ d ∷ []) g in
+    (All-head P a (b ∷ c ∷ d ∷ []) h, All-head P b (c ∷ d ∷ []) g, All-head P c (d ∷ []) f, All-head P d [] (All-tail P c (d ∷ []) f))
+
+none_refused : (name : Text) (rows : List Row) → GivesNoneRefused rows → fault_in name rows ≡ []
+none_refused name rows none =
+    let set = four (λ id. sets id rows ≡ false) (codes "svg") (codes "table") (codes "rom") (codes "equates") none.0 in
+    let given = four (λ id. gives id rows ≡ false) (codes "at") (codes "scale") (codes "rate") (codes "half") none.1 in
+    let percents = good_number (codes "scale") 10 400 100 rows given.1 in
+    let rates = good_number (codes "rate") 1 60 30 rows given.2 in
+    let shown = good_show _ (sets (codes "all") rows) _ _ _ _ set.0 given.1 given.2 percents rates in
+    let listed : list_fault rows ≡ [] = ap (λ b. refused_by false false (not b || is_some (address_of rows))) given.0 in
+    let rendered : render_fault rows ≡ [] = good_show false false false false _ _ refl refl refl percents rates in
+    let laid = good_form _ _ _ _ given.3 set.1 set.2 set.3 in
+    either (bytes_eq name (codes "list")) _ _ listed
+    (either (bytes_eq name (codes "picture")) _ _ shown
+    (either (bytes_eq name (codes "play")) _ _ shown
+    (either (bytes_eq name (codes "render")) _ _ rendered (either (bytes_eq name (codes "lay")) _ _ laid refl))))
+
+met_refused : (met : Option (Text × List Row)) → IfSome met (λ m. GivesNoneRefused m.1) → options_fault met ≡ []
+met_refused None none = refl
+met_refused (Some m) none = none_refused m.0 m.1 none
+
+pub unrefused_options : UnrefusedOptions
+unrefused_options arguments none = met_refused (subcommand_of dvg_app arguments) none
