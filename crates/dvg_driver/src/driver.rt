@@ -41,7 +41,7 @@ enum Phase {
 #[derive(Drop)]
 pub struct Driver {
     phase: Phase,
-    /// The bytes of the newest frame. They count only while the driver writes.
+    /// Gives the bytes of the newest frame. It counts only while the driver writes.
     cursor: Option<Cursor>,
     /// The current half, once the driver has looked at byte 001.
     half: Half,
@@ -117,8 +117,8 @@ impl Driver {
         }
     }
 
-    /// Takes a checked draft, as `offer` takes its frame. It is copied only where it is taken, into
-    /// the memory that the driver has.
+    /// Takes a checked draft, as `offer` takes its frame. The draft is copied only where it is
+    /// taken, into the memory that the driver has.
     pub fn offer_checked(&mut self, checked: &Checked) -> Result<(), DriverFault>
         ensures accepted { (peeked : ℕ) (life : List Item) → StandsAfter self.old peeked life
             → (IsOk result ↔ IsWhole life) }

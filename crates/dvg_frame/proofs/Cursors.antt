@@ -1,51 +1,117 @@
 -- What a cursor has still to give, as it goes on.
-use Rattle.std.proofs.Common.{◌≡◌, ℕ, zero, suc, ◌+◌, ◌*◌, ◌<◌, ◌≤◌, List, [], ◌∷◌, drop, get_or, length, refl, sym, ap, ◌∙◌, arith}
-use Rattle.std.specs.Prelude.{All}
+use Rattle.std.proofs.Common.{◌≡◌, ◌≢◌, ℕ, zero, suc, ◌+◌, ◌*◌, ◌/◌, ◌%◌, ◌<◌, ◌≤◌, List, [], ◌∷◌, ◌++◌, drop, length, Some, refl, sym, ap, ◌∙◌, inl, inr, add-one, arith}
+use Rattle.std.specs.Prelude.{All, slice_get}
+use Rattle.std.proofs.lemmas.Option.{slice_get_cases}
+use Rattle.std.proofs.Math.ListN.{drop_of_length-le}
+use Rattle.dvg_code.specs.Spelling.{canon}
 use Rattle.dvg_mem.specs.declared.half.Half.{Half}
 use Rattle.dvg_mem.specs.Areas.{base}
 use Rattle.dvg_frame.specs.declared.op.OpKind.{OpKind}
 use Rattle.dvg_frame.specs.Bytes.{IsBehindWordZero, addressed, bytes}
-use Rattle.dvg_frame.specs.Layout.{laid, size}
+use Rattle.dvg_frame.specs.own.Frames.{IsSpelling}
+use Rattle.dvg_frame.specs.Layout.{op_code, laid, laid_ops}
 use Rattle.dvg_frame.specs.declared.cursor.Cursor.TheInside.{Inside}
-use Rattle.dvg_frame.specs.Cursors.{bytes_left, items_left}
-use Rattle.dvg_frame.proofs.Bytes.{addressed_in_ram, bytes-length}
-use Rattle.dvg_frame.proofs.Sizes.{base_high, base_low, laid_length}
+use Rattle.dvg_frame.specs.own.Counting.{IsCounted}
+use Rattle.dvg_frame.specs.Cursors.{bytes_from, bytes_left, items_left, IsCursor}
+use Rattle.dvg_frame.proofs.Bytes.{addressed_in_ram, bytes-append, bytes-length, byte_in_word}
+use Rattle.dvg_frame.proofs.Sizes.{base_high, base_low, canon_length, some_words}
 
--- the bytes from one on
-drop_at : (xs : List ℕ) (k d : ℕ) → k < length xs → drop k xs ≡ get_or xs k d ∷ drop (suc k) xs
-drop_at [] k d low = absurd (omega arith)
-drop_at (x ∷ xs) zero d low = refl
-drop_at (x ∷ xs) (suc k) d low = drop_at xs k d (omega arith)
+drop_at : {A : Type 0} (xs : List A) (k : ℕ) (x : A) → slice_get xs k ≡ Some x → drop k xs ≡ x ∷ drop (suc k) xs
+drop_at [] k x is = absurd (cc)
+drop_at (y ∷ xs) zero x is = let same : y ≡ x = cc in ap (λ z. z ∷ xs) same
+drop_at (y ∷ xs) (suc k) x is = drop_at xs k x is
 
--- how many are left
-pub left : (xs : List ℕ) (k : ℕ) → k ≤ length xs → length (drop k xs) + k ≡ length xs
-left xs zero low = omega arith
-left [] (suc k) low = absurd (omega arith)
-left (x ∷ xs) (suc k) low = let rest = left xs k (omega arith) in omega arith
+drop_one_at : {A : Type 0} (xs : List A) (k : ℕ) (x : A) → slice_get xs k ≡ Some x → drop k xs ≡ x ∷ drop (k + 1) xs
+drop_one_at xs k x is = rw add-one (drop_at xs k x is)
+
+-- the words at hand are used up
+used_up : (half : Half) (F : List OpKind) (words : List ℕ) (given op : ℕ) → given ≡ 2 * length words → bytes_from half F words given op ≡ bytes (laid_ops half F (drop op F))
+used_up half F words given op all =
+    let long : length (bytes words) ≤ given = let double = bytes-length words in omega arith in
+    ap (λ rest. rest ++ bytes (laid_ops half F (drop op F))) (drop_of_length-le (bytes words) long)
+
+-- where bytes are to come and the words at hand are used up, there is one more operation
+pub one_more : (half : Half) (F : List OpKind) (words : List ℕ) (given op left : ℕ) → left ≡ length (bytes_from half F words given op) → left ≢ 0 → given ≡ 2 * length words → op < length F
+one_more half F words given op left left_is some all =
+    elim (slice_get_cases F op).1 [
+      | inl here ↦ here.1
+      | inr past ↦ absurd (some (left_is ∙ ap length (used_up half F words given op all) ∙ ap (λ ops. length (bytes (laid_ops half F ops))) (drop_of_length-le F past.0)))
+    ]
+
+-- the words at hand have a byte to give, and the bytes to come are these
+pub record IsReady (to_come : List ℕ) (half : Half) (F : List OpKind) (words : List ℕ) (given op : ℕ) : Type 0 where
+  pub same : to_come ≡ bytes_from half F words given op
+  pub room : given < 2 * length words
+
+-- the next operation's words come to hand
+pub turns : (half : Half) (F : List OpKind) (words next : List ℕ) (given op : ℕ) → given ≡ 2 * length words → op < length F → IsSpelling half F op next → IsReady (bytes_from half F words given op) half F next 0 (op + 1)
+turns half F words next given op all within spelled =
+    elim (slice_get_cases F op).1 [
+      | inl here ↦ (
+          let next_is : next ≡ canon (op_code half F here.0) = spelled here.0 here.2 in
+          let same_length : length next ≡ length (canon (op_code half F here.0)) = ap length next_is in
+          let count = canon_length half F here.0 in
+          let some = some_words here.0 in
+          record {
+            same = used_up half F words given op all ∙ ap (λ ops. bytes (laid_ops half F ops)) (drop_one_at F op here.0 here.2)
+                ∙ bytes-append (canon (op_code half F here.0)) (laid_ops half F (drop (op + 1) F)) ∙ ap (λ ws. bytes ws ++ bytes (laid_ops half F (drop (op + 1) F))) (sym next_is);
+            room = omega arith;
+          })
+      | inr past ↦ absurd (let outside = past.0 in omega arith)
+    ]
+
+-- the words at hand are not used up
+pub stays : (half : Half) (F : List OpKind) (words : List ℕ) (given op : ℕ) → given ≤ 2 * length words → given ≢ 2 * length words → IsReady (bytes_from half F words given op) half F words given op
+stays half F words given op most some = record { same = refl; room = omega arith }
+
+-- a byte is given of the words at hand
+pub gives : (to_come : List ℕ) (half : Half) (F : List OpKind) (words : List ℕ) (given op word byte : ℕ) → IsReady to_come half F words given op → slice_get words (given / 2) ≡ Some word → slice_get (bytes (word ∷ [])) (given % 2) ≡ Some byte
+    → to_come ≡ byte ∷ bytes_from half F words (given + 1) op
+gives to_come half F words given op word byte ready word_is byte_is =
+    ready.same ∙ ap (λ rest. rest ++ bytes (laid_ops half F (drop op F))) (drop_one_at (bytes words) given byte (byte_in_word words given word byte word_is byte_is))
+
+-- a cursor whose words at hand have a byte to give; its items to come are those of another one
+pub record GoesOn (old new : Inside) : Type 0 where
+  pub ready : IsReady (bytes_left old) new.half new.frame.operations new.words.items new.given new.op
+  pub address : new.address ≡ old.address
+  pub left : new.left ≡ old.left
+  pub counted : IsCounted new.frame.operations new.words_before.items
 
 -- the cursor after its first item
-pub record IsNext (old new : Inside) : Type 0 where
-  pub some : old.given < length old.bytes.items
-  pub same : new.bytes.items ≡ old.bytes.items
-  pub given : new.given ≡ suc old.given
+pub record IsNext (old new : Inside) (address byte : ℕ) : Type 0 where
+  pub here : address ≡ old.address
+  pub bytes : bytes_left old ≡ byte ∷ bytes_left new
+  pub given : new.given ≤ 2 * length new.words.items
   pub rises : new.address ≡ suc old.address
+  pub left : suc new.left ≡ old.left
+  pub counted : IsCounted new.frame.operations new.words_before.items
 
-pub next_items : (old new : Inside) (items : List (ℕ × ℕ)) (now : List ℕ) (d : ℕ) → items_left old ≡ items → now ≡ old.bytes.items → IsNext old new → items ≡ (old.address, get_or now old.given d) ∷ items_left new
-next_items old new items now d items_is now_is next =
-    let byte = get_or old.bytes.items old.given d in
-    let first : drop old.given old.bytes.items ≡ byte ∷ drop (suc old.given) old.bytes.items = drop_at old.bytes.items old.given d next.some in
-    sym items_is ∙ ap (addressed old.address) first
-    ∙ ap (λ k. (old.address, byte) ∷ addressed (suc old.address) (drop k old.bytes.items)) (sym next.given)
-    ∙ ap (λ xs. (old.address, byte) ∷ addressed (suc old.address) (drop new.given xs)) (sym next.same)
-    ∙ ap (λ a. (old.address, byte) ∷ addressed a (bytes_left new)) (sym next.rises)
-    ∙ ap (λ xs. (old.address, get_or xs old.given d) ∷ items_left new) (sym now_is)
+pub next_items : (old new : Inside) (items : List (ℕ × ℕ)) (address byte : ℕ) → items_left old ≡ items → IsNext old new address byte → items ≡ (address, byte) ∷ items_left new
+next_items old new items address byte items_is next =
+    sym items_is ∙ ap (addressed old.address) next.bytes ∙ ap (λ a. (old.address, byte) ∷ addressed a (bytes_left new)) (sym next.rises) ∙ ap (λ a. (a, byte) ∷ items_left new) (sym next.here)
 
--- a cursor over laid bytes, of which none was given
-pub begins : (half : Half) (F : List OpKind) (xs : List ℕ) (a : ℕ) → xs ≡ bytes (laid half F) → a ≡ base half → size F ≤ 511 → (All IsBehindWordZero (addressed (2 * a) xs)) × (2 * a + length xs ≤ 0x800)
-begins half F xs a is a_is few =
-    let count : length xs ≡ length (bytes (laid half F)) = ap length is in
+pub next_kept : (old new : Inside) (address byte : ℕ) → IsCursor old → IsNext old new address byte → IsCursor new
+next_kept old new address byte kept next = record {
+  counted = next.counted;
+  given = next.given;
+  left = let count : length (bytes_left old) ≡ suc (length (bytes_left new)) = ap length next.bytes in let before = kept.left in let less = next.left in omega arith;
+  in_ram = let before = kept.in_ram in let more = next.rises in let less = next.left in omega arith;
+}
+
+-- no word at hand yet, and no operation passed
+pub begins : (half : Half) (F : List OpKind) (words : List ℕ) → words ≡ [] → bytes_from half F words 0 0 ≡ bytes (laid half F)
+begins half F words none = ap (λ ws. bytes_from half F ws 0 0) none
+
+pub begins-length : (half : Half) (F : List OpKind) (words : List ℕ) (count : ℕ) → words ≡ [] → length (laid half F) ≡ count → 2 * count ≡ length (bytes_from half F words 0 0)
+begins-length half F words count none count_is =
+    let all : length (bytes_from half F words 0 0) ≡ length (bytes (laid half F)) = ap length (begins half F words none) in
     let double = bytes-length (laid half F) in
-    let words = laid_length half F in
+    omega arith
+
+-- each byte of a frame lies in the RAM, and none in word zero
+pub in_ram : (half : Half) (F : List OpKind) (words : List ℕ) (a count : ℕ) → words ≡ [] → a ≡ base half → length (laid half F) ≡ count → count ≤ 511 → All IsBehindWordZero (addressed (2 * a) (bytes_from half F words 0 0))
+in_ram half F words a count none a_is count_is few =
+    let long = begins-length half F words count none count_is in
     let low = base_low half in
     let high = base_high half in
-    (addressed_in_ram (2 * a) xs (omega arith) (omega arith), omega arith)
+    addressed_in_ram (2 * a) (bytes_from half F words 0 0) (omega arith) (omega arith)

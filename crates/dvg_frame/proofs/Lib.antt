@@ -1,7 +1,6 @@
 pub mod Sizes
 pub mod Bytes
 pub mod Cursors
-pub mod Laid
 pub mod Firsts
 pub mod OneFault
 pub mod Judged

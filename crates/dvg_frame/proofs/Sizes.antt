@@ -86,7 +86,7 @@ canon_length half F (Jump j) = refl
 canon_length half F Return = refl
 canon_length half F Stop = refl
 
-pub words_length : (half : Half) (F ops : List OpKind) → length (laid_ops half F ops) ≡ size ops
+words_length : (half : Half) (F ops : List OpKind) → length (laid_ops half F ops) ≡ size ops
 words_length half F [] = refl
 words_length half F (op ∷ ops) =
     let first = canon_length half F op in

@@ -1,17 +1,28 @@
 -- What a cursor over a frame's bytes has still to give, and what it keeps.
-use Rattle.std.specs.Prelude.{ℕ, ◌+◌, ◌≤◌, List, drop, length}
+use Rattle.std.specs.Prelude.{◌≡◌, ℕ, ◌+◌, ◌*◌, ◌≤◌, List, ◌++◌, drop, length}
+use Rattle.dvg_mem.specs.declared.half.Half.{Half}
+use Rattle.dvg_frame.specs.declared.op.OpKind.{OpKind}
 use Rattle.dvg_frame.specs.declared.cursor.Cursor.TheInside.{Inside}
-use Rattle.dvg_frame.specs.Bytes.{addressed}
+use Rattle.dvg_frame.specs.Bytes.{addressed, bytes}
+use Rattle.dvg_frame.specs.own.Counting.{IsCounted}
+use Rattle.dvg_frame.specs.Layout.{laid_ops}
+
+-- the bytes of these words but for this many at the front, and those of the operations from this number on
+abbrev pub bytes_from : Half → List OpKind → List ℕ → ℕ → ℕ → List ℕ
+bytes_from half F words given op = drop given (bytes words) ++ bytes (laid_ops half F (drop op F))
 
 -- the bytes that are still to come
 abbrev pub bytes_left : Inside → List ℕ
-bytes_left cursor = drop cursor.given cursor.bytes.items
+bytes_left cursor = bytes_from cursor.half cursor.frame.operations cursor.words.items cursor.given cursor.op
 
 -- each with its address
 abbrev pub items_left : Inside → List (ℕ × ℕ)
 items_left cursor = addressed cursor.address (bytes_left cursor)
 
--- no more bytes were given than there are, and the addresses of those to come lie in the RAM
+-- the words before each operation are counted, no more bytes of the words at hand were given than they have, the number
+-- of the bytes to come is known, and their addresses lie in the RAM
 pub record IsCursor (cursor : Inside) : Type 0 where
-  pub given : cursor.given ≤ length cursor.bytes.items
-  pub in_ram : cursor.address + length (bytes_left cursor) ≤ 0x800
+  pub counted : IsCounted cursor.frame.operations cursor.words_before.items
+  pub given : cursor.given ≤ 2 * length cursor.words.items
+  pub left : cursor.left ≡ length (bytes_left cursor)
+  pub in_ram : cursor.address + cursor.left ≤ 0x800

@@ -2,13 +2,10 @@
 ghost use Rattle.std.specs.Prelude.{◌≡◌, ◌<◌, ◌≤◌, ◌^◌};
 ghost use Rattle.dvg_frame.specs.Faults.{FrameState};
 ghost use Rattle.dvg_frame.specs.own.Frames.{IsMeasured};
-ghost use Rattle.dvg_frame.specs.Bytes as spec;
-ghost use Rattle.dvg_frame.specs.Layout.{laid, size};
+ghost use Rattle.dvg_frame.specs.Layout.{size};
 
 use crate::draft::Draft;
 use crate::frame::Frame;
-use crate::laying::{Bytes, lay};
-use dvg_mem::Half;
 use std::marker::Model;
 
 /// A draft that was checked, borrowed: nothing of it is copied before `to_frame`.
@@ -55,14 +52,6 @@ impl<'a> Checked<'a> {
         ensures small { result < 2 ^ 63 }
     {
         self.bound
-    }
-
-    // Lays its frame out for a half, in place of the bytes that are there.
-    pub(crate) fn lay(&self, half: Half, bytes: &mut Bytes)
-        ensures laid { bytes.new.items ≡ spec.bytes (laid half self.now.operations) }
-        ensures few { size self.now.operations ≤ 511 }
-    {
-        lay(self.draft, half, bytes);
     }
 
     /// A frame of the draft, which is copied.

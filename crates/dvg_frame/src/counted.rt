@@ -11,7 +11,7 @@ use arrayvec::ArrayVec;
 use std::marker::Model;
 
 /// One entry for each operation, and one for their end.
-const COUNTS: usize = MAX_OPS + 1;
+pub(crate) const COUNTS: usize = MAX_OPS + 1;
 
 /// A draft and a table of how many words stand before each operation, both borrowed, so that the
 /// place of an operation is found in constant time.

@@ -1,10 +1,11 @@
 //! Frames: drafts that were checked.
 ghost use Rattle.std.specs.Prelude.{◌≡◌, ◌*◌, ◌%◌, ◌^◌, ◌<◌, ◌≤◌, [], ◌∷◌, Some, length, slice_get};
 ghost use Rattle.dvg_code.specs.Spelling.{canon};
-ghost use Rattle.dvg_frame.specs.Bytes as spec;
+ghost use Rattle.dvg_frame.specs.Bytes.{bytes};
 ghost use Rattle.dvg_frame.specs.Steps.{Begins};
 ghost use Rattle.dvg_frame.specs.Faults.{FrameState};
 ghost use Rattle.dvg_frame.specs.own.Firsts.{NamesNone};
+ghost use Rattle.dvg_frame.specs.own.Counting.{IsCounted};
 ghost use Rattle.dvg_frame.specs.own.Frames.{IsMeasured, IsSpelling};
 ghost use Rattle.dvg_frame.specs.Layout as layout;
 ghost use Rattle.dvg_frame.specs.Ops.{IsDraft, IsOp};
@@ -12,10 +13,10 @@ ghost use Rattle.dvg_frame.specs.declared.op.OpKind.{OpKind};
 ghost use Rattle.dvg_mem.specs.declared.half.Half.{Half};
 
 use crate::checked::Checked;
-use crate::counted::{Counted, words_before_each};
+use crate::counted::{COUNTS, Counted, words_before_each};
 use crate::draft::{Draft, words_of};
-use crate::laying::{Bytes, lay};
 use crate::op::OpKind;
+use arrayvec::ArrayVec;
 use dvg_code::{Code, Instr, Words, encode};
 use dvg_mem::Half;
 use std::marker::Model;
@@ -55,6 +56,15 @@ impl Frame {
         }
     }
 
+    // Becomes the frame of a checked draft, in the memory that it has.
+    pub(crate) fn copy_from(&mut self, checked: &Checked)
+        ensures { self.new ≡ checked.now }
+    {
+        self.draft.copy_from(checked.draft);
+        self.words = checked.words;
+        self.bound = checked.bound;
+    }
+
     /// How many words the frame has in a half, at most 511.
     pub fn len_words(&self) -> u16
         ensures value { result ≡ layout.size self.now.operations }
@@ -81,26 +91,40 @@ impl Frame {
     /// `Cursor` gives all bytes, each in constant time.
     pub fn byte(&self, half: Half, k: u16) -> u8
         requires { k < 2 * layout.size self.now.operations }
-        ensures { slice_get (spec.bytes (layout.laid half self.now.operations)) k ≡ Some result }
+        ensures { slice_get (bytes (layout.laid half self.now.operations)) k ≡ Some result }
     {
         let words_before = words_before_each(&self.draft);
         let counted = Counted::of(&self.draft, words_before.as_slice());
         byte_of(word_at(&counted, half, k / 2), k)
     }
 
-    // Lays it out for a half, in place of the bytes that are there.
-    pub(crate) fn lay(&self, half: Half, bytes: &mut Bytes)
-        ensures laid { bytes.new.items ≡ spec.bytes (layout.laid half self.now.operations) }
-        ensures few { layout.size self.now.operations ≤ 511 }
+    // How many words stand before each of its operations, and how many there are in all.
+    pub(crate) fn words_before_each(&self) -> ArrayVec<u16, COUNTS>
+        ensures { IsCounted self.now.operations result.items }
     {
-        lay(&self.draft, half, bytes);
+        words_before_each(&self.draft)
+    }
+
+    // The words of the operation of this number, laid out for a half, by how many words stand
+    // before each.
+    pub(crate) fn spelling(&self, words_before: &[u16], half: Half, i: u16) -> Words
+        requires counted { IsCounted self.now.operations words_before.now }
+        requires within { i < length self.now.operations }
+        ensures words { IsSpelling half self.now.operations i result.items }
+        ensures draft { IsDraft self.now.operations }
+    {
+        spelling(
+            &Counted::of(&self.draft, words_before),
+            half,
+            usize::from(i),
+        )
     }
 }
 
 // The byte of this word that is byte `k` of a list of words: the low one where `k` is even, else
 // the high one.
 pub(crate) fn byte_of(word: u16, k: u16) -> u8
-    ensures { slice_get (spec.bytes (word ∷ [])) (k % 2) ≡ Some result }
+    ensures { slice_get (bytes (word ∷ [])) (k % 2) ≡ Some result }
 {
     word.to_le_bytes()[usize::from(k % 2)]
 }
@@ -123,7 +147,7 @@ fn word_at(draft: &Counted, half: Half, n: u16) -> u16
 }
 
 // The words of operation i, laid out for a half.
-pub(crate) fn spelling(draft: &Counted, half: Half, i: usize) -> Words
+fn spelling(draft: &Counted, half: Half, i: usize) -> Words
     requires begins { Begins draft.now }
     requires within { i < length draft.now }
     ensures { IsSpelling half draft.now i result.items }

@@ -18,7 +18,6 @@ mod draft;
 mod fault;
 mod frame;
 pub mod laws;
-mod laying;
 mod op;
 mod place;
 

@@ -1,8 +1,6 @@
 //! Checked drafts, where they lie.
 use crate::draft::Draft;
 use crate::frame::Frame;
-use crate::laying::{Bytes, lay};
-use dvg_mem::Half;
 
 /// A draft that was checked, borrowed: nothing of it is copied before `to_frame`.
 pub struct Checked<'a> {
@@ -29,11 +27,6 @@ impl<'a> Checked<'a> {
     /// How many words the whole run of its frame fetches, as `Frame::bound` says.
     pub fn bound(&self) -> u64 {
         self.bound
-    }
-
-    // Lays its frame out for a half, in place of the bytes that are there.
-    pub(crate) fn lay(&self, half: Half, bytes: &mut Bytes) {
-        lay(self.draft, half, bytes);
     }
 
     /// A frame of the draft, which is copied.

@@ -1,47 +1,68 @@
 //! Cursors: the bytes of a frame, one after the other.
 use crate::checked::Checked;
-use crate::frame::Frame;
-use crate::laying::Bytes;
+use crate::counted::COUNTS;
+use crate::frame::{Frame, byte_of};
+use arrayvec::ArrayVec;
+use dvg_code::Words;
 use dvg_mem::Half;
 use std::iter::FusedIterator;
 
 /// An iterator over the bytes of a frame that is laid out for a half, each with its byte address in
 /// the RAM: from the low byte of the half's first word on, in rising order.
 ///
-/// A frame is laid out where its cursor begins, so that an item takes little time.
+/// A cursor keeps the frame, its place in it, and how many words stand before each operation, so
+/// that an item takes constant time.
 pub struct Cursor {
-    /// The bytes of the frame, laid out for the half.
-    bytes: Bytes,
-    /// How many of them were given.
-    given: usize,
+    frame: Frame,
+    /// How many words stand before each operation of the frame, and how many there are in all.
+    words_before: ArrayVec<u16, COUNTS>,
+    half: Half,
+    /// The words at hand: those of the operation before number `op`.
+    words: Words,
+    /// How many bytes of the words at hand were given.
+    given: u16,
+    /// The number of the operation that comes after the words at hand.
+    op: u16,
     /// The address of the next byte.
     address: u16,
+    /// How many bytes are still to come.
+    left: u16,
 }
 
 impl Cursor {
     /// A cursor over the bytes of the frame, laid out for this half.
     pub fn new(frame: Frame, half: Half) -> Cursor {
-        let mut bytes = Bytes::new();
-        frame.lay(half, &mut bytes);
+        let left = 2 * frame.len_words();
+        let words_before = frame.words_before_each();
         Cursor {
-            bytes,
+            frame,
+            words_before,
+            half,
+            words: Words::new(),
             given: 0,
+            op: 0,
             address: 2 * half.base(),
+            left,
         }
     }
 
-    /// Begins anew, with the bytes of a checked draft's frame, laid out for this half. They are put
-    /// into the memory that the cursor has: the time is linear in the draft's operations, and in
+    /// Begins anew, with the bytes of a checked draft's frame, laid out for this half. The draft is
+    /// copied into the memory that the cursor has: the time is linear in its operations, and in
     /// those of the frame that the cursor kept.
     pub fn restart(&mut self, checked: &Checked, half: Half) {
-        checked.lay(half, &mut self.bytes);
+        self.frame.copy_from(checked);
+        self.words_before = self.frame.words_before_each();
+        self.half = half;
+        self.words = Words::new();
         self.given = 0;
+        self.op = 0;
         self.address = 2 * half.base();
+        self.left = 2 * self.frame.len_words();
     }
 
     /// How many items are still to come.
     pub fn left(&self) -> u16 {
-        (self.bytes.len() - self.given) as u16
+        self.left
     }
 }
 
@@ -50,12 +71,20 @@ impl Iterator for Cursor {
 
     #[inline(always)]
     fn next(&mut self) -> Option<(u16, u8)> {
-        if self.given == self.bytes.len() {
+        if self.left == 0 {
             return None;
         }
-        let item = (self.address, self.bytes[self.given]);
+        if usize::from(self.given) == 2 * self.words.len() {
+            let words_before = self.words_before.as_slice();
+            self.words = self.frame.spelling(words_before, self.half, self.op);
+            self.given = 0;
+            self.op += 1;
+        }
+        let word = self.words[usize::from(self.given / 2)];
+        let item = (self.address, byte_of(word, self.given));
         self.given += 1;
         self.address += 1;
+        self.left -= 1;
         Some(item)
     }
 }

@@ -1,9 +1,9 @@
 //! Frames: drafts that were checked.
 use crate::checked::Checked;
-use crate::counted::{Counted, words_before_each};
+use crate::counted::{COUNTS, Counted, words_before_each};
 use crate::draft::{Draft, words_of};
-use crate::laying::{Bytes, lay};
 use crate::op::OpKind;
+use arrayvec::ArrayVec;
 use dvg_code::{Code, Instr, Words, encode};
 use dvg_mem::Half;
 
@@ -30,6 +30,13 @@ impl Frame {
         }
     }
 
+    // Becomes the frame of a checked draft, in the memory that it has.
+    pub(crate) fn copy_from(&mut self, checked: &Checked) {
+        self.draft.copy_from(checked.draft);
+        self.words = checked.words;
+        self.bound = checked.bound;
+    }
+
     /// How many words the frame has in a half, at most 511.
     pub fn len_words(&self) -> u16 {
         let _ = self.draft.len();
@@ -52,9 +59,19 @@ impl Frame {
         byte_of(word_at(&counted, half, k / 2), k)
     }
 
-    // Lays it out for a half, in place of the bytes that are there.
-    pub(crate) fn lay(&self, half: Half, bytes: &mut Bytes) {
-        lay(&self.draft, half, bytes);
+    // How many words stand before each of its operations, and how many there are in all.
+    pub(crate) fn words_before_each(&self) -> ArrayVec<u16, COUNTS> {
+        words_before_each(&self.draft)
+    }
+
+    // The words of the operation of this number, laid out for a half, by how many words stand
+    // before each.
+    pub(crate) fn spelling(&self, words_before: &[u16], half: Half, i: u16) -> Words {
+        spelling(
+            &Counted::of(&self.draft, words_before),
+            half,
+            usize::from(i),
+        )
     }
 }
 
@@ -78,7 +95,7 @@ fn word_at(draft: &Counted, half: Half, n: u16) -> u16 {
 }
 
 // The words of operation i, laid out for a half.
-pub(crate) fn spelling(draft: &Counted, half: Half, i: usize) -> Words {
+fn spelling(draft: &Counted, half: Half, i: usize) -> Words {
     encode(&code_of(draft, half, draft.op(i).kind()))
 }
 

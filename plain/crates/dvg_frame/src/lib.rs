@@ -19,7 +19,6 @@ mod cursor;
 mod draft;
 mod fault;
 mod frame;
-mod laying;
 mod op;
 mod place;
 

@@ -1,12 +1,74 @@
-use Rattle.std.proofs.Common.{◌+◌, ap, arith, length, refl}
-use Rattle.dvg_frame.proofs.Cursors.{next_items}
+use Rattle.std.proofs.Common.{◌≡◌, ◌+◌, ◌-◌, ◌*◌, ◌/◌, ◌<◌, length, refl, sym, ap, ◌∙◌, subst, Some, get_or, arith}
+use Rattle.std.specs.Prelude.{slice_get}
+use Rattle.std.proofs.lemmas.Option.{slice_get-get_or}
+use Rattle.dvg_frame.specs.own.Counting.{IsCounted}
+use Rattle.dvg_frame.proofs.Cursors.{one_more, turns, stays, gives, GoesOn, IsNext, next_items, next_kept}
 use Rattle.dvg_frame.proofs.cursor.CursorIterator.next.Goals as goal
+use Rattle.dvg_frame.proofs.cursor.CursorIterator.next.Goals.{After-len, After-deref, After-byte_of, then-from-len, else-from-len}
+
+pub spelling-self-inside-requires : goal.spelling-self-inside-requires
+spelling-self-inside-requires c =
+    let S = c.self.inside in
+    record {
+      counted = subst (IsCounted S.frame.operations) (sym c.as_slice-words_before.ensures.value) c.self.invariant.counted;
+      within = one_more S.half S.frame.operations S.words.items S.given S.op S.left c.self.invariant.left c.if-self-eq0.false (omega arith);
+    }
+
+pub overflow_add-self : goal.overflow_add-self
+overflow_add-self c =
+    let S = c.self.inside in
+    let within = one_more S.half S.frame.operations S.words.items S.given S.op S.left c.self.invariant.left c.if-self-eq0.false (omega arith) in
+    let few = c.spelling-self-inside.ensures.draft.count in
+    omega arith
+
+-- the words at hand have a byte to give
+ready : (c : After-deref) → GoesOn c.self.inside c.if-from-len.self-inside
+ready c =
+    let S = c.self.inside in
+    elim c.if-from-len.branch [
+      | then-from-len w ↦ (
+          let all : S.given ≡ 2 * length S.words.items = (let is = w.if-from-len.true in omega arith) in
+          let within = one_more S.half S.frame.operations S.words.items S.given S.op S.left c.self.invariant.left c.if-self-eq0.false all in
+          subst (λ N. GoesOn S N) (sym w.self-inside-is)
+          (record { ready = turns S.half S.frame.operations S.words.items w.spelling-self-inside.result.items S.given S.op all within w.spelling-self-inside.ensures.words; address = refl; left = refl; counted = c.self.invariant.counted }))
+      | else-from-len w ↦
+          subst (λ N. GoesOn S N) (sym w.self-inside-is)
+          (record { ready = stays S.half S.frame.operations S.words.items S.given S.op c.self.invariant.given (λ all. w.if-from-len.false (omega arith)); address = refl; left = refl; counted = c.self.invariant.counted })
+    ]
+
+pub bounds-deref-from : goal.bounds-deref-from
+bounds-deref-from c =
+    let room = (ready (goal.at.bounds-deref-from c).After-deref).ready.room in
+    let same = ap length c.deref.ensures.0 in
+    omega arith
+
+-- the first item is given
+gave : (c : After-byte_of) → GoesOn c.self.inside c.if-from-len.self-inside
+    → IsNext c.self.inside (record c.if-from-len.self-inside { given = c.if-from-len.self-inside.given + 1; address = c.if-from-len.self-inside.address + 1; left = c.if-from-len.self-inside.left - 1 }) c.if-from-len.self-inside.address c.byte_of.result
+gave c on =
+    let S = c.self.inside in
+    let N = c.if-from-len.self-inside in
+    let words = c.deref.result.now in
+    let k = c.from-2.result in
+    let some = c.if-self-eq0.false in
+    let within : k < length words = let room = on.ready.room in let same = ap length c.deref.ensures.0 in let half = c.from-2.ensures in omega arith in
+    let word_is : slice_get N.words.items (N.given / 2) ≡ Some (get_or words k 0) =
+    ap (λ ws. slice_get ws (N.given / 2)) (sym c.deref.ensures.0) ∙ ap (slice_get words) (sym c.from-2.ensures) ∙ slice_get-get_or words k 0 within in
+    record {
+      here = on.address;
+      bytes = gives _ N.half N.frame.operations N.words.items N.given N.op (get_or words k 0) c.byte_of.result on.ready word_is c.byte_of.ensures;
+      given = let room = on.ready.room in omega arith;
+      rises = let same = on.address in omega arith;
+      left = let same = on.left in omega arith;
+      counted = on.counted;
+    }
+
+pub invariant_of-self : goal.invariant_of-self
+invariant_of-self c = next_kept _ _ _ _ c.self.invariant (gave (goal.at.invariant_of-self c).After-byte_of (ready (goal.at.invariant_of-self c).After-deref))
 
 pub returns-clause-steps : goal.returns-clause-steps
 returns-clause-steps c =
-    let S = c.self.inside in
-    next_items S (record S { given = S.given + 1; address = S.address + 1 }) _ _ _ c.self.view_is c.deref.ensures.0
-    (record { some = omega (arith, c.len.ensures.value, c.if-self-len.false, c.self.invariant.given); same = refl; given = omega arith; rises = omega arith })
+    next_items _ _ _ _ _ c.self.view_is (gave (goal.at.returns-clause-steps c).After-byte_of (ready (goal.at.returns-clause-steps c).After-deref))
 
 pub returns-clause-goes : goal.returns-clause-goes
 returns-clause-goes c =
