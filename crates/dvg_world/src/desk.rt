@@ -4,11 +4,12 @@ ghost use Rattle.std.specs.Prelude.{OnOk};
 ghost use Rattle.dvg_driver.specs.Script.{IsWhole};
 ghost use Rattle.dvg_world.specs.Desks.{IsFresh, OfferAnswers, OfLives, RedrawAnswers, TickAnswers};
 
+use dvg_code::OutOfMemory;
 use dvg_driver::{Action, Driver, DriverFault};
 use dvg_frame::{Checker, Draft};
 use dvg_log::Entry;
 use dvg_mem::{MemFault, Rom};
-use std::alloc::{AllocError, Allocator, Global};
+use std::alloc::{Allocator, Global};
 use std::marker::Model;
 
 /// A driver with the ROM over which its drafts are checked, and what they are checked by. It knows
@@ -32,7 +33,7 @@ impl<A: Allocator> Model for Desk<A> {
 impl<A: Allocator> Desk<A> {
     /// A driver that was just reset, over this ROM. It takes some 105 KB for the tables of the
     /// check.
-    pub fn new(alloc: A, rom: Rom<A>) -> Result<Desk<A>, AllocError>
+    pub fn new(alloc: A, rom: Rom<A>) -> Result<Desk<A>, OutOfMemory>
         ensures { IfOk result (IsFresh rom) }
     {
         Ok(Desk {

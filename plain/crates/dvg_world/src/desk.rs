@@ -1,11 +1,12 @@
 //! A driver at its desk.
 use std::prelude::*;
 
+use dvg_code::OutOfMemory;
 use dvg_driver::{Action, Driver, DriverFault};
 use dvg_frame::{Checker, Draft};
 use dvg_log::Entry;
 use dvg_mem::{MemFault, Rom};
-use std::alloc::{AllocError, Allocator, Global};
+use std::alloc::{Allocator, Global};
 
 /// A driver with the ROM over which its drafts are checked, and what they are checked by. It knows
 /// no RAM: its answers say what it does.
@@ -18,7 +19,7 @@ pub struct Desk<A: Allocator = Global> {
 impl<A: Allocator> Desk<A> {
     /// A driver that was just reset, over this ROM. It takes some 105 KB for the tables of the
     /// check.
-    pub fn new(alloc: A, rom: Rom<A>) -> Result<Desk<A>, AllocError> {
+    pub fn new(alloc: A, rom: Rom<A>) -> Result<Desk<A>, OutOfMemory> {
         Ok(Desk {
             rom,
             driver: Driver::new(),
