@@ -29,8 +29,7 @@ wrote writes = map (λ write. Did (Wrote write.0 write.1)) writes
 abbrev pub waited : ℕ → List Item
 waited reads = replicate reads (Did (Read false)) ++ Did (Read true) ∷ []
 
--- the writes of word zero: 01 to byte 000 if this is a life's first frame part, and the flip, which is the half's high
--- byte to byte 001
+-- the writes of word zero: 01 to byte 000 in a life's first frame part, and the flip: the half's high byte to byte 001
 abbrev pub word_zero : Half → Bool → List (ℕ × ℕ)
 word_zero half true = (0, 0x01) ∷ (1, high half) ∷ []
 word_zero half false = (1, high half) ∷ []
@@ -61,12 +60,8 @@ IsWhole life = (reads : ℕ) × (parts : List Part) × (reverse life ≡ whole_l
 abbrev pub IsLife : List Item → Type 0
 IsLife life = (reads : ℕ) × (parts : List Part) × (rest : List Item) × (reverse life ++ rest ≡ whole_life reads parts)
 
--- the item is a flip: a write of byte 001
-abbrev pub flips : Item → Bool
-flips (Did (Wrote a byte)) = nat_eq a 1
-flips _ = false
-
--- there is a flip in the life
+-- there is a flip in the life: a write of byte 001
 abbrev pub has_flip : List Item → Bool
 has_flip [] = false
-has_flip (item ∷ life) = flips item || has_flip life
+has_flip (Did (Wrote a byte) ∷ life) = nat_eq a 1 || has_flip life
+has_flip (item ∷ life) = has_flip life

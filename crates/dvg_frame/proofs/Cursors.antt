@@ -9,10 +9,10 @@ use Rattle.dvg_mem.specs.Areas.{base}
 use Rattle.dvg_frame.specs.declared.op.OpKind.{OpKind}
 use Rattle.dvg_frame.specs.Bytes.{IsBehindWordZero, addressed, bytes}
 use Rattle.dvg_frame.specs.own.Frames.{IsSpelling}
-use Rattle.dvg_frame.specs.Layout.{op_code, laid, laid_ops}
+use Rattle.dvg_frame.specs.Layout.{op_code, laid}
 use Rattle.dvg_frame.specs.declared.cursor.Cursor.TheInside.{Inside}
 use Rattle.dvg_frame.specs.own.Counting.{IsCounted}
-use Rattle.dvg_frame.specs.Cursors.{bytes_from, bytes_left, items_left, IsCursor}
+use Rattle.dvg_frame.specs.Cursors.{laid_ops, bytes_from, bytes_left, items_left, IsCursor}
 use Rattle.dvg_frame.proofs.Bytes.{addressed_in_ram, bytes-append, bytes-length, byte_in_word}
 use Rattle.dvg_frame.proofs.Sizes.{base_high, base_low, canon_length, some_words}
 

@@ -14,7 +14,8 @@ use Rattle.dvg_frame.specs.declared.fault.FrameFault.TheVariants.{Empty, NoLabs,
 use Rattle.dvg_frame.specs.Layout.{size}
 use Rattle.dvg_frame.specs.Steps.{op_act, Names, Bad, last, target, second, past, deep, bare, IsFine, Reached, BeginsWithLabs, labs, Closed, Misses, misses, Begins}
 use Rattle.dvg_frame.specs.Faults.{Least, Refuses}
-use Rattle.dvg_frame.specs.own.Firsts.{DrawsLabs, NamesNone, number}
+use Rattle.dvg_frame.specs.own.Firsts.{DrawsLabs, NamesNone}
+use Rattle.dvg_frame.specs.FaultNumbers.{number_of}
 use Rattle.dvg_frame.specs.own.Frames.{IsFrame}
 use Rattle.dvg_frame.specs.Ops.{IsDraft}
 
@@ -97,7 +98,7 @@ frame_by F op kind words draft is kind_is labs_is words_is fits none =
     }
 
 -- the faults 1 to 4 hold at no pair
-late_bad : {F : List OpKind} {R : List ℕ} {p : Place} {d : ℕ} {fault : FrameFault} → Bad F R p d fault → 4 < number fault
+late_bad : {F : List OpKind} {R : List ℕ} {p : Place} {d : ℕ} {fault : FrameFault} → Bad F R p d fault → 4 < number_of fault
 late_bad (last stands goes end) = omega arith
 late_bad (target a stands named outside) = omega arith
 late_bad (second is first outside) = omega arith
@@ -106,7 +107,7 @@ late_bad (deep stands depth) = omega arith
 late_bad (bare stands depth) = omega arith
 
 -- and neither does a loop
-early_bad : {F : List OpKind} {R : List ℕ} {p : Place} {d : ℕ} {fault : FrameFault} → Bad F R p d fault → number fault < 9
+early_bad : {F : List OpKind} {R : List ℕ} {p : Place} {d : ℕ} {fault : FrameFault} → Bad F R p d fault → number_of fault < 9
 early_bad (last stands goes end) = omega arith
 early_bad (target a stands named outside) = omega arith
 early_bad (second is first outside) = omega arith

@@ -8,7 +8,7 @@ use Rattle.dvg_frame.specs.declared.fault.FrameFault.{FrameFault}
 use Rattle.dvg_frame.specs.declared.fault.FrameFault.TheVariants.{Empty, NoLabs, TooLong, Target, RunsOff, OutOfRom, TooDeep, NoCaller, Loops}
 use Rattle.dvg_frame.specs.Layout.{size}
 use Rattle.dvg_frame.specs.Steps.{Bad, last, target, second, past, deep, bare, BeginsWithLabs, Closed, Misses}
-use Rattle.dvg_frame.specs.own.Firsts.{number}
+use Rattle.dvg_frame.specs.FaultNumbers.{number_of}
 use Rattle.dvg_frame.specs.Faults.{rank, Precedes, Least, Refuses, Accepts, FrameState, IsChecked}
 use Rattle.dvg_frame.proofs.Pictures.{one_picture}
 
@@ -75,7 +75,7 @@ module _ (F : List OpKind) (R : List ℕ) where
       same_numbered (rank one) a.place one other (bad_numbered a.bad) (subst (λ n. numbered n a.place other) ranks (bad_numbered other_here))
 
   -- what holds where a fault of a greater number is picked
-  begins_past : (fault : FrameFault) → 2 < number fault → Refuses F R fault → BeginsWithLabs F
+  begins_past : (fault : FrameFault) → 2 < number_of fault → Refuses F R fault → BeginsWithLabs F
   begins_past Empty n picked = absurd (omega arith)
   begins_past NoLabs n picked = absurd (omega arith)
   begins_past TooLong n picked = picked.0
@@ -86,7 +86,7 @@ module _ (F : List OpKind) (R : List ℕ) where
   begins_past (NoCaller p) n picked = picked.0.begins
   begins_past Loops n picked = picked.0.begins.begins
 
-  fits_past : (fault : FrameFault) → 3 < number fault → Refuses F R fault → size F ≤ 511
+  fits_past : (fault : FrameFault) → 3 < number_of fault → Refuses F R fault → size F ≤ 511
   fits_past (Target i) n picked = picked.1
   fits_past (RunsOff i) n picked = picked.0.fits
   fits_past (OutOfRom p) n picked = picked.0.fits
@@ -95,7 +95,7 @@ module _ (F : List OpKind) (R : List ℕ) where
   fits_past Loops n picked = picked.0.begins.fits
   fits_past _ n picked = absurd (omega arith)
 
-  targets_past : (fault : FrameFault) → 4 < number fault → Refuses F R fault → (i : ℕ) → ¬ Misses F i
+  targets_past : (fault : FrameFault) → 4 < number_of fault → Refuses F R fault → (i : ℕ) → ¬ Misses F i
   targets_past (RunsOff j) n picked = picked.0.targets
   targets_past (OutOfRom p) n picked = picked.0.targets
   targets_past (TooDeep p) n picked = picked.0.targets
@@ -103,7 +103,7 @@ module _ (F : List OpKind) (R : List ℕ) where
   targets_past Loops n picked = picked.0.begins.targets
   targets_past _ n picked = absurd (omega arith)
 
-  found_past : (fault : FrameFault) → 4 < number fault → number fault < 9 → Refuses F R fault → Least F R fault
+  found_past : (fault : FrameFault) → 4 < number_of fault → number_of fault < 9 → Refuses F R fault → Least F R fault
   found_past (RunsOff i) n m picked = picked.1
   found_past (OutOfRom p) n m picked = picked.1
   found_past (TooDeep p) n m picked = picked.1
@@ -113,14 +113,14 @@ module _ (F : List OpKind) (R : List ℕ) where
   some_op : BeginsWithLabs F → F ≢ []
   some_op begins none = let never : BeginsWithLabs [] = subst BeginsWithLabs none begins in elim never [ ]
 
-  some_past : (fault : FrameFault) → 1 < number fault → Refuses F R fault → F ≢ []
+  some_past : (fault : FrameFault) → 1 < number_of fault → Refuses F R fault → F ≢ []
   some_past Empty n picked = absurd (omega arith)
   some_past NoLabs n picked = λ none. let count = ap length none in let some = picked.0 in omega arith
   some_past TooLong n picked = some_op picked.0
   some_past fault n picked = some_op (begins_past fault (omega arith) picked)
 
   -- a fault of the first four is not picked beside one of a greater number
-  not_beside : (one other : FrameFault) → number one ≤ 4 → number one < number other → Refuses F R one → Refuses F R other → ⊥
+  not_beside : (one other : FrameFault) → number_of one ≤ 4 → number_of one < number_of other → Refuses F R one → Refuses F R other → ⊥
   not_beside Empty other low less a b = some_past other less b a
   not_beside NoLabs other low less a b = a.1 (begins_past other less b)
   not_beside TooLong other low less a b = let fits = fits_past other less b in let long = a.1 in omega arith
@@ -131,7 +131,7 @@ module _ (F : List OpKind) (R : List ℕ) where
   one_miss i j a b before_i before_j =
       ⊎_elim (λ less. absurd (before_j i less a)) (λ no_less. ⊎_elim (λ less. absurd (before_i j less b)) (λ no_more. omega arith) (cases_lt j i)) (cases_lt i j)
 
-  same_number : (one other : FrameFault) → number one < 9 → number one ≡ number other → Refuses F R one → Refuses F R other → other ≡ one
+  same_number : (one other : FrameFault) → number_of one < 9 → number_of one ≡ number_of other → Refuses F R one → Refuses F R other → other ≡ one
   same_number Empty Empty m n a b = refl
   same_number NoLabs NoLabs m n a b = refl
   same_number TooLong TooLong m n a b = refl
@@ -143,16 +143,16 @@ module _ (F : List OpKind) (R : List ℕ) where
   same_number one other m n a b = one_least one other (found_past one (omega arith) m a) (found_past other (omega arith) (omega arith) b)
 
   -- two faults of 1 to 8 that are both picked are one
-  one_early : (one other : FrameFault) → number one < 9 → number other < 9 → Refuses F R one → Refuses F R other → other ≡ one
+  one_early : (one other : FrameFault) → number_of one < 9 → number_of other < 9 → Refuses F R one → Refuses F R other → other ≡ one
   one_early one other m k a b =
       ⊎_elim
       (λ low. ⊎_elim (λ less. absurd (not_beside one other (omega arith) less a b))
-      (λ no_less. ⊎_elim (λ more. absurd (not_beside other one (omega arith) more b a)) (λ no_more. same_number one other m (omega arith) a b) (cases_lt (number other) (number one)))
-      (cases_lt (number one) (number other)))
+      (λ no_less. ⊎_elim (λ more. absurd (not_beside other one (omega arith) more b a)) (λ no_more. same_number one other m (omega arith) a b) (cases_lt (number_of other) (number_of one)))
+      (cases_lt (number_of one) (number_of other)))
       (λ high. ⊎_elim (λ low. absurd (not_beside other one (omega arith) (omega arith) b a))
       (λ both. one_least one other (found_past one (omega arith) m a) (found_past other (omega arith) k b))
-      (cases_lt (number other) 5))
-      (cases_lt (number one) 5)
+      (cases_lt (number_of other) 5))
+      (cases_lt (number_of one) 5)
 
   -- of a draft that has none of the faults 1 to 8 nothing but a loop is picked
   closed_least : (fault : FrameFault) → Closed F R → Least F R fault → ⊥
@@ -169,7 +169,7 @@ module _ (F : List OpKind) (R : List ℕ) where
   only_loops (NoCaller p) closed picked = absurd (closed_least (NoCaller p) closed picked.1)
   only_loops Loops closed picked = refl
 
-  is_loops : (fault : FrameFault) → 9 ≤ number fault → fault ≡ Loops
+  is_loops : (fault : FrameFault) → 9 ≤ number_of fault → fault ≡ Loops
   is_loops Loops high = refl
   is_loops _ high = absurd (omega arith)
 
@@ -179,9 +179,9 @@ module _ (F : List OpKind) (R : List ℕ) where
       ⊎_elim
       (λ early. ⊎_elim (λ early_too. one_early one other early early_too a b)
       (λ last. let is = is_loops other last in is ∙ sym (only_loops one (subst (Refuses F R) is b).0 a))
-      (cases_lt (number other) 9))
+      (cases_lt (number_of other) 9))
       (λ last. let is = is_loops one last in only_loops other (subst (Refuses F R) is a).0 b ∙ sym is)
-      (cases_lt (number one) 9)
+      (cases_lt (number_of one) 9)
 
   -- no fault is picked of a draft that has none and no loop
   pub accepted_stays : (fault : FrameFault) → Accepts F R → Refuses F R fault → ⊥

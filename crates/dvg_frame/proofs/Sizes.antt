@@ -14,7 +14,8 @@ use Rattle.dvg_mem.specs.Areas.{base}
 use Rattle.dvg_frame.specs.declared.op.OpKind.{OpKind}
 use Rattle.dvg_frame.specs.declared.op.OpKind.TheVariants.{Draw, CallRom, JumpRom, Call, Jump, Return, Halt as Stop}
 use Rattle.dvg_frame.specs.own.Frames.{IsSpelling}
-use Rattle.dvg_frame.specs.Layout.{op_words, size, op_code, laid, laid_ops}
+use Rattle.dvg_frame.specs.Cursors.{laid_ops}
+use Rattle.dvg_frame.specs.Layout.{op_words, size, op_code, laid}
 use Rattle.dvg_frame.specs.Steps.{Closed}
 
 -- each operation has a word

@@ -1,11 +1,16 @@
 -- What a cursor over a frame's bytes has still to give, and what it keeps.
-use Rattle.std.specs.Prelude.{◌≡◌, ℕ, ◌+◌, ◌*◌, ◌≤◌, List, ◌++◌, drop, length}
+use Rattle.std.specs.Prelude.{◌≡◌, ℕ, ◌+◌, ◌*◌, ◌≤◌, List, ◌++◌, drop, flat_map, length}
+use Rattle.dvg_code.specs.Spelling.{canon}
 use Rattle.dvg_mem.specs.declared.half.Half.{Half}
 use Rattle.dvg_frame.specs.declared.op.OpKind.{OpKind}
 use Rattle.dvg_frame.specs.declared.cursor.Cursor.TheInside.{Inside}
 use Rattle.dvg_frame.specs.Bytes.{addressed, bytes}
 use Rattle.dvg_frame.specs.own.Counting.{IsCounted}
-use Rattle.dvg_frame.specs.Layout.{laid_ops}
+use Rattle.dvg_frame.specs.Layout.{op_code}
+
+-- the canonical words of these operations of a draft, one after the other
+abbrev pub laid_ops : Half → (F ops : List OpKind) → List ℕ
+laid_ops half F ops = flat_map (λ op. canon (op_code half F op)) ops
 
 -- the bytes of these words but for this many at the front, and those of the operations from this number on
 abbrev pub bytes_from : Half → List OpKind → List ℕ → ℕ → ℕ → List ℕ

@@ -32,10 +32,6 @@ op_code half F (Jump j) = Jmpl (at half F j)
 op_code half F Return = Rtsl
 op_code half F Stop = Halt
 
--- the canonical words of these operations of a draft, one after the other
-abbrev pub laid_ops : Half → (F ops : List OpKind) → List ℕ
-laid_ops half F ops = flat_map (λ op. canon (op_code half F op)) ops
-
--- the layout of a draft: the words of all its operations
+-- the layout of a draft: the canonical words of its operations, one after the other
 abbrev pub laid : Half → List OpKind → List ℕ
-laid half F = laid_ops half F F
+laid half F = flat_map (λ op. canon (op_code half F op)) F

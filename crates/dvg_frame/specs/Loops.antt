@@ -9,8 +9,7 @@ pub data Walks (F : List OpKind) (R : List ℕ) (d : ℕ) : Place → ℕ → Pl
   none : {p : Place} → Walks F R d p 0 p
   more : {p q end : Place} {n : ℕ} → Leads F R p d q d → Walks F R d q n end → Walks F R d p (suc n) end
 
--- a reached pair begins a list of more steps at its depth than there are places, which are the operations and the words
--- of the ROM
+-- a reached pair begins more steps at its depth than there are places: operations, and words of the ROM
 pub record HasLoop (F : List OpKind) (R : List ℕ) : Type 0 where
   pub place : Place
   pub depth : ℕ

@@ -23,19 +23,16 @@ pub data Draws (F : List OpKind) (R : List ℕ) : Place → Beam → List Stroke
   returns : {p after : Place} {beam : Beam} → Stands F R p Returns after → Draws F R p beam [] beam AtReturn 1
   -- a vector or LABS: what it draws, and then what the place after it draws
   moves : {p after : Place} {beam last : Beam} {instr : Instr} {strokes : List Stroke} {end : End} {n : ℕ}
-      → Stands F R p (Moves instr) after
-      → Draws F R after (moved beam instr) strokes last end n
+      → Stands F R p (Moves instr) after → Draws F R after (moved beam instr) strokes last end n
       → Draws F R p beam (drawn beam instr ++ strokes) last end (word_count instr + n)
   jumps : {p to after : Place} {beam last : Beam} {strokes : List Stroke} {end : End} {n : ℕ}
-      → Stands F R p (Jumps to) after
-      → Draws F R to beam strokes last end n → Draws F R p beam strokes last end (suc n)
+      → Stands F R p (Jumps to) after → Draws F R to beam strokes last end n → Draws F R p beam strokes last end (suc n)
   -- a call whose target halts
   call_halts : {p to after : Place} {beam last : Beam} {strokes : List Stroke} {n : ℕ} → Stands F R p (Calls to) after
       → Draws F R to beam strokes last AtHalt n → Draws F R p beam strokes last AtHalt (suc n)
   -- a call whose target returns: what it draws, and then what the place after the call draws
   calls : {p to after : Place} {beam back last : Beam} {strokes more : List Stroke} {end : End} {n m : ℕ}
-      → Stands F R p (Calls to) after
-      → Draws F R to beam strokes back AtReturn n → Draws F R after back more last end m
+      → Stands F R p (Calls to) after → Draws F R to beam strokes back AtReturn n → Draws F R after back more last end m
       → Draws F R p beam (strokes ++ more) last end (suc (n + m))
 
 -- the picture of a draft, and the words of its whole run, word zero included

@@ -6,8 +6,7 @@ pub data Met : Type 0 where
   Waits : ℕ → Met
   Whole : Option ℕ → Met
 
--- by the low byte that waits: a hole is met at once, a low byte waits, and a low byte and the high byte after it are
--- one word
+-- by the low byte that waits: a hole is met at once, a low byte waits, and with the high byte after it is one word
 abbrev pub met : Option ℕ → Option ℕ → Met
 met low None = Whole None
 met None (Some byte) = Waits byte

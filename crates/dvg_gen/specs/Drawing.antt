@@ -23,8 +23,7 @@ slid beam dx dy unit = record { x = shifted beam.x dx unit; y = shifted beam.y d
 abbrev pub placed : ℕ → ℕ → ℕ → Beam
 placed x y scale = record { x = 512 * x; y = 512 * y; scale = scale }
 
--- the beam after an instruction: a vector moves it by its effective scale, where a magnitude of SVEC stands for 256
--- times that of VCTR; LABS puts it somewhere; the others leave it
+-- the beam after an instruction: moved by the effective scale, of SVEC 256 times as far, placed by LABS, else as it was
 abbrev pub moved : Beam → Instr → Beam
 moved beam (Vctr scale dx dy z) = slid beam dx dy (unit ((beam.scale + scale) % 16))
 moved beam (Labs x y scale) = placed x y scale

@@ -96,8 +96,7 @@ abbrev pub strokes : Beam → List Visit → List Stroke
 strokes beam [] = []
 strokes beam (visit ∷ older) = strokes beam older ++ drawn (beam_after beam older) visit.code
 
--- one more word of a run, which may hold an instruction's first word: a first word is held, and any other word
--- completes an instruction
+-- one more word of a run, which may hold a first word: a first word is held, and any other completes an instruction
 pub data Adds : List Visit → Option ℕ → ℕ → List Visit → Option ℕ → Type 0 where
   first : {visits : List Visit} {word : ℕ} → IsFirst word → Adds visits None word visits (Some word)
   one : {visits : List Visit} {word : ℕ} {code : Instr} → Spells code (word ∷ [])

@@ -35,12 +35,8 @@ drew_in _ = None
 abbrev pub Shown : Type 0
 Shown = Entry (List Stroke)
 
--- an entry of the code
-abbrev pub OwnEntry : Type 0 → Type 0
-OwnEntry A = Entry (Vec Stroke A)
-
 -- an entry of the code, with its strokes as a list
-abbrev pub shown_of : {A : Type 0} → OwnEntry A → Shown
+abbrev pub shown_of : {A : Type 0} → Entry (Vec Stroke A) → Shown
 shown_of entry = map_entry (λ drew. drew.items) entry
 
 -- the entry of a fetch at this address that met this, by the generator's answer, and what the run drew, if it finished

@@ -22,12 +22,8 @@ map_event f g (ResetAll image) = ResetAll (g image)
 abbrev pub Happening : Type 0
 Happening = Event (List OpKind) (List ℕ)
 
--- an event of the code
-abbrev pub OwnEvent : Type 0 → Type 0
-OwnEvent A = Event (Box (List OpKind) A) (List ℕ)
-
 -- an event of the code, with its draft and its image as lists
-abbrev pub happening_of : {A : Type 0} → OwnEvent A → Happening
+abbrev pub happening_of : {A : Type 0} → Event (Box (List OpKind) A) (List ℕ) → Happening
 happening_of event = map_event (λ draft. draft.value) (λ image. image) event
 
 -- what an event brings is a draft, or an image

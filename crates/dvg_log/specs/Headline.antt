@@ -8,7 +8,7 @@ use Rattle.dvg_frame.specs.declared.op.OpKind.{OpKind}
 use Rattle.dvg_frame.specs.Ops.{IsDraft}
 use Rattle.dvg_frame.specs.Steps.{Closed}
 use Rattle.dvg_frame.specs.Faults.{Accepts}
-use Rattle.dvg_frame.specs.Picture.{IsPicture}
+use Rattle.dvg_frame.specs.Picture.{IsBound, IsPicture}
 use Rattle.dvg_driver.specs.declared.action.Action.TheVariants.{Wrote}
 use Rattle.dvg_log.specs.Events.{Happening}
 use Rattle.dvg_log.specs.declared.event.Event.TheVariants.{Fetch}
@@ -33,18 +33,10 @@ NoFault log event entry = Unit {0}
 abbrev pub IsShown : Log → List OpKind → Type 0
 IsShown log F = published (at_zero log) ≡ Some F
 
--- a run that is finished by its next word drew exactly the picture of what it shows, in as many words
-pub record DrewPicture (R : List ℕ) (log : Log) (drew : List Stroke) : Type 0 where
-  pub draft : List OpKind
-  pub shown : IsShown log draft
-  pub accepts : Accepts draft R
-  pub fetches : List (ℕ × ℕ)
-  pub open_now : open_run log ≡ Some fetches
-  pub picture : IsPicture draft R drew (suc (length fetches))
-
--- a run that reaches HALT drew it
+-- a run that reaches HALT drew exactly the picture of what it shows, in as many words as it fetched
 abbrev pub DrewPublished : List ℕ → Log → Happening → Shown → Type 0
-DrewPublished R log event (Done address word drew) = DrewPicture R log drew
+DrewPublished R log event (Done address word drew) = (F : List OpKind) × (fetches : List (ℕ × ℕ)) × IsShown log F
+    × Accepts F R × (open_run log ≡ Some fetches) × IsPicture F R drew (suc (length fetches))
 DrewPublished R log event entry = Unit {0}
 
 -- a run that reaches HALT shows no publication with a number above n
@@ -54,8 +46,7 @@ IsNoLater n log event entry = Unit {0}
 
 -- a run that reaches HALT shows no publication older than one that was shown before
 abbrev pub IsNoOlder : Log → Happening → Shown → Type 0
-IsNoOlder log event (Done address word drew) = (n : ℕ) → publication (at_zero log) ≡ Some n
-    → Throughout (IsNoLater n) log
+IsNoOlder log event (Done a word drew) = (n : ℕ) → publication (at_zero log) ≡ Some n → Throughout (IsNoLater n) log
 IsNoOlder log event entry = Unit {0}
 
 -- how many bytes the open run has fetched: two for each word, and the low byte that waits
@@ -63,19 +54,17 @@ abbrev pub fetch_count : List (ℕ × ℕ) → Option ℕ → ℕ
 fetch_count words None = 2 * length words
 fetch_count words (Some low) = 2 * length words + 1
 
--- a fetch of this number, in a run whose picture has n words: the run goes on, or it is the last one and drew the
--- picture
+-- a run whose picture has n words goes on at a fetch of this number, or that is 2n, and ends the run with the picture
 abbrev pub EndsAt : ℕ → List Stroke → ℕ → Shown → Type 0
 EndsAt number drew n (Done address word strokes) = (number ≡ 2 * n) × (strokes ≡ drew)
 EndsAt number drew n (Broke address fault) = ⊥
 EndsAt number drew n entry = number < 2 * n
 
--- what the open run shows has a picture, of n words, and the run's fetch number 2n is the one that finishes it, with
--- the picture's strokes
+-- for each picture of what the open run shows, of n words: the run's fetch number 2n finishes it, with these strokes
 abbrev pub KeepsTime : List ℕ → Log → Happening → Shown → Type 0
-KeepsTime R log Fetch entry = (words : List (ℕ × ℕ)) (F : List OpKind) → open_run log ≡ Some words → IsShown log F
-    → (drew : List Stroke) × (n : ℕ) × IsPicture F R drew n × (n < 2 ^ 63)
-    × EndsAt (suc (fetch_count words (low_byte log))) drew n entry
+KeepsTime R log Fetch entry = (words : List (ℕ × ℕ)) (F : List OpKind) (drew : List Stroke) (n : ℕ)
+    → open_run log ≡ Some words → IsShown log F → IsPicture F R drew n
+    → EndsAt (suc (fetch_count words (low_byte log))) drew n entry
 KeepsTime R log event entry = Unit {0}
 
 -- no byte was written since the newest run began
@@ -85,8 +74,7 @@ IsUntouched ((event ⟼ Started) ∷ log) = Unit {0}
 IsUntouched ((event ⟼ Acted (Wrote a byte)) ∷ log) = ⊥
 IsUntouched (line ∷ log) = IsUntouched log
 
--- where the RAM holds a checked frame with the jump to it, and has done so since the run began, a run that reaches HALT
--- drew the picture of the frame's draft, in as many words
+-- a run that reaches HALT drew the picture of the checked frame that the RAM held, with the jump to it, since it began
 abbrev pub DrewHeld : List ℕ → List ℕ → Log → Happening → Shown → Type 0
 DrewHeld R image log event (Done address word drew) = (half : Half) (F : List OpKind) (fetches : List (ℕ × ℕ))
     → IsDraft F → Closed F R → HoldsFrame (ram image log) half F → IsUntouched log
@@ -112,10 +100,11 @@ pub record KeepsHeadline (R image : List ℕ) (log : Log) (event : Happening) (e
   pub draws_published : DrewPublished R log event entry
   -- and shows no older publication than a run before it did
   pub never_older : IsNoOlder log event entry
-  -- what a run shows has a picture, at whose last fetch the run is finished: after two bytes for each of its words
+  -- what a run shows has a picture, of fewer than 2^63 words
+  pub always_bounded : (F : List OpKind) → IsShown log F → (n : ℕ) × IsBound F R n × (n < 2 ^ 63)
+  -- with the last fetch of the picture a run is finished: after two bytes for each of its words
   pub always_in_time : KeepsTime R log event entry
-  -- a run that reaches HALT, during which nothing was written and the RAM held a checked frame, drew that frame's
-  -- picture
+  -- a run that reaches HALT, in which nothing was written and the RAM held a checked frame, drew the frame's picture
   pub draws_undisturbed : DrewHeld R image log event entry
   -- after the line, an open run that has fetched word zero is drawing a half, which holds the draft that the run shows
   pub draws_a_half : has_fetched (open_run ((event ⟼ entry) ∷ log)) ≡ true → DrawsHalf R image ((event ⟼ entry) ∷ log)

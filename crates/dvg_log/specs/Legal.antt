@@ -29,8 +29,7 @@ pub record IsFetch (before : List Told) (address : ℕ) (word : Option ℕ) (ans
 
 -- the event gets this entry over the log before it
 abbrev pub Fits : List ℕ → List ℕ → Log → Happening → Shown → Type 0
--- a draft that the check refuses is refused for the fault that is picked, one that it accepts while the driver isn't
--- idle
+-- a draft is refused for the fault that the check picks, and one that it accepts only while the driver isn't idle
 Fits R image log (Offer F) (Refused fault) = Refuses F R fault
 Fits R image log (Offer F) Busy = Accepts F R × ¬ IsWhole (life image log)
 Fits R image log (Offer F) Offered = Accepts F R × IsWhole (life image log)
@@ -42,11 +41,9 @@ Fits R image log Redraw Asked = (has_flip (life image log) ≡ true) × IsWhole 
 Fits R image log Tick (Acted action) = IsLife (Did action ∷ life image log) × Tells action (is_none (open_run log))
 Fits R image log Strobe Started = strobed log ≡ true
 Fits R image log Strobe NoStrobe = strobed log ≡ false
--- a fetch is of the address that is wanted: a low byte waits; a whole word goes on with the run, finishes it or breaks
--- it, as a hole does
+-- a fetch is of the wanted address: a low byte waits; a word goes on with a run, finishes or breaks it, as a hole does
 Fits R image log Fetch Still = open_run log ≡ None
-Fits R image log Fetch (Low address byte) = (meets R image log address ≡ Waits byte)
-    × IsWanted (history R image log) address
+Fits R image log Fetch (Low a byte) = (meets R image log a ≡ Waits byte) × IsWanted (history R image log) a
 Fits R image log Fetch (Fetched address word) = (meets R image log address ≡ Whole (Some word))
     × IsFetch (history R image log) address (Some word) More
 Fits R image log Fetch (Done address word strokes) = (meets R image log address ≡ Whole (Some word))

@@ -57,8 +57,7 @@ waiting (line ∷ log) = waiting log
 abbrev pub low_byte : Log → Option ℕ
 low_byte log = option_map (λ low. low.1) (waiting log)
 
--- what a fetch at this address meets now: it reads the word's high byte after a low byte that waits, and else its low
--- one
+-- what a fetch at this address meets now: it reads the word's high byte after a low byte that waits, else its low one
 abbrev pub meets : List ℕ → List ℕ → Log → ℕ → Met
 meets R image log address = met (low_byte log) (fetched_byte (ram image log) R address (is_some (low_byte log)))
 

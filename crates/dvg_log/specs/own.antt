@@ -1,2 +1,3 @@
 -- What only private contracts and invariants cite.
 pub mod Kept
+pub mod Owned

@@ -1,10 +1,9 @@
 -- A run that begins, and that nothing ends but itself, is finished once.
-use Rattle.std.proofs.Common.{◌≡◌, ℕ, suc, inl, inr, ◌⊎◌, List, [], ◌∷◌, ◌++◌, Some, None, refl, sym, ap, ◌∙◌, subst}
+use Rattle.std.proofs.Common.{length, ◌≡◌, ℕ, suc, inl, inr, ◌⊎◌, List, [], ◌∷◌, ◌++◌, Some, None, refl, sym, ap, ◌∙◌}
 use Rattle.std.specs.Prelude.{◌≢◌, option_map}
 use Rattle.std.proofs.lemmas.Option.{none-some}
 use Rattle.dvg_gen.specs.declared.stroke.Stroke.{Stroke}
 use Rattle.dvg_frame.specs.declared.op.OpKind.{OpKind}
-use Rattle.dvg_frame.specs.Picture.{IsPicture}
 use Rattle.dvg_log.specs.Events.{Happening}
 use Rattle.dvg_log.specs.declared.event.Event.TheVariants.{Offer, Redraw, Tick, Strobe, Fetch, ResetGen, ResetCpu, ResetAll}
 use Rattle.dvg_log.specs.Entries.{Shown}
@@ -44,20 +43,10 @@ module _ (R image : List ℕ) (before : Log) where
   finished later a w drew l is_open =
       let line = (Fetch ⟼ Done a w drew) ∷ later ++ before in
       let drawn = (draws_published R image line l).0 in
-      let time = (always_in_time R image line l).0 drawn.fetches drawn.draft drawn.open_now
-      drawn.shown in
-      let count = counted R image (later ++ before) drawn.fetches l.2 drawn.open_now in (
-        refl,
-        drawn.draft,
-        time.1,
-        (
-          drawn.shown,
-          subst (λ strokes. IsPicture drawn.draft R strokes time.1) (sym time.4.1)
-              time.2,
-          ap suc count ∙ time.4.0,
-          is_open.2,
-        ),
-      )
+      let n = suc (length drawn.1) in
+      let time = (always_in_time R image line l).0 drawn.1 drawn.0 drew n drawn.4 drawn.2 drawn.5 in
+      let count = counted R image (later ++ before) drawn.1 l.2 drawn.4 in
+      (refl, drawn.0, n, (drawn.2, drawn.5, ap suc count ∙ time.0, is_open.2))
 
   open_step : (later : Log) (event : Happening) (entry : Shown)
       → IsLegal R image ((event ⟼ entry) ∷ later ++ before) → RunsOn later event entry

@@ -130,12 +130,12 @@ begun_legal = legal_before zeros zeros draws begun legal
 pub bound : IsBound frame zeros 6
 bound =
     let drawn = (draws_published zeros zeros (draws ++ begun) legal).0 in
-    let same : drawn.draft ≡ frame = same_Some _ _ (sym drawn.shown) in
-    let words : suc (length drawn.fetches) ≡ 6 =
-    ap (λ fetches. suc (length fetches)) (same_Some _ _ (sym drawn.open_now)) in (
+    let same : drawn.0 ≡ frame = same_Some _ _ (sym drawn.2) in
+    let words : suc (length drawn.1) ≡ 6 =
+    ap (λ fetches. suc (length fetches)) (same_Some _ _ (sym drawn.4)) in (
       stroke,
       subst (λ k. IsPicture frame zeros stroke k) words
-          (subst (λ G. IsPicture G zeros stroke (suc (length drawn.fetches))) same drawn.picture),
+          (subst (λ G. IsPicture G zeros stroke (suc (length drawn.1))) same drawn.5),
     )
 
 -- 12 ticks after the offer, which are 2 * 5 + 2, the frame is published

@@ -8,10 +8,10 @@ use Rattle.dvg_frame.specs.declared.op.OpKind.{OpKind}
 use Rattle.dvg_frame.specs.Bytes.{addressed, bytes}
 use Rattle.dvg_frame.specs.Layout.{laid}
 use Rattle.dvg_driver.specs.declared.action.Action.TheVariants.{Peek, Wrote, Read, Sent, Idle}
-use Rattle.dvg_driver.specs.Script.{Item, Offered, Asked, Did, flips, has_flip, word_zero, frame_writes}
+use Rattle.dvg_driver.specs.Script.{Item, Offered, Asked, Did, has_flip, word_zero, frame_writes}
 use Rattle.dvg_driver.specs.Place.{Place, Start, Booting, Resting, Writing, Waiting, Sending, next_place, place_of_life, with_left}
 use Rattle.dvg_driver.proofs.Places.{place_before}
-use Rattle.dvg_theorem.proofs.Flips.{no_flip}
+use Rattle.dvg_theorem.proofs.Flips.{flips, has_flip_more, no_flip}
 use Rattle.dvg_theorem.proofs.Writes.{written}
 
 -- the last of these writes is a flip
@@ -94,7 +94,8 @@ has_at : (life : List Item) (place : Place) → place_of_life life ≡ Some plac
 has_at [] place stands = subst (λ p. Has p false) (same_Some _ _ stands) tt
 has_at (item ∷ life) place stands =
     let before = place_before item life place stands in
-    step before.0 place item (has_flip life) before.2 (has_at life before.0 before.1)
+    subst (Has place) (sym (has_flip_more item life))
+    (step before.0 place item (has_flip life) before.2 (has_at life before.0 before.1))
 
 -- at rest
 pub rests_flipped : (life : List Item) (first : Bool) → place_of_life life ≡ Some (Resting first)

@@ -5,7 +5,6 @@ use Rattle.std.proofs.lemmas.Option.{none-some, same_Some}
 use Rattle.dvg_gen.specs.declared.stroke.Stroke.{Stroke}
 use Rattle.dvg_frame.specs.declared.op.OpKind.{OpKind}
 use Rattle.dvg_frame.specs.Picture.{IsBound}
-use Rattle.dvg_frame.proofs.Pictures.{one_picture}
 use Rattle.dvg_log.specs.Events.{Happening}
 use Rattle.dvg_log.specs.declared.event.Event.TheVariants.{Offer, Redraw, Tick, Strobe, Fetch, ResetGen, ResetCpu, ResetAll}
 use Rattle.dvg_log.specs.Entries.{Shown}
@@ -77,9 +76,7 @@ before_last : (R : List ℕ) (log : Log) (entry : Shown) (words : List (ℕ × �
     → ((number more : ℕ) (drew : List Stroke) → EndsAt number drew more entry → number < 2 * more)
     → number ≡ suc (fetch_count words (low_byte log)) → number < 2 * n
 before_last R log entry words F n number keeps o shown bound ends is =
-    let it = keeps words F o shown in
-    let same = (one_picture F R bound.0 it.0 n it.1 bound.1 it.2).1 in
-    let early = ends _ it.1 it.0 it.4 in
+    let early = ends _ n bound.0 (keeps words F bound.0 n o shown bound.1) in
     omega arith
 
 -- what an open run that has fetched a word shows stays

@@ -1,9 +1,9 @@
 -- A life in which no frame part was begun has no flip.
-use Rattle.std.proofs.Common.{◌≡◌, ℕ, Bool, true, false, List, [], ◌∷◌, refl, sym, ◌∙◌, ap, Some, None, ◌&&◌, nat_eq}
+use Rattle.std.proofs.Common.{◌≡◌, ℕ, Bool, true, false, List, [], ◌∷◌, refl, sym, ◌∙◌, ap, Some, None, ◌&&◌, ◌||◌, nat_eq}
 use Rattle.std.specs.Prelude.{if◌then◌else◌}
 use Rattle.std.proofs.lemmas.Option.{same_Some}
 use Rattle.dvg_driver.specs.declared.action.Action.TheVariants.{Peek, Wrote, Read, Sent, Idle}
-use Rattle.dvg_driver.specs.Script.{Item, Offered, Asked, Did, flips, has_flip}
+use Rattle.dvg_driver.specs.Script.{Item, Offered, Asked, Did, has_flip}
 use Rattle.dvg_driver.specs.Place.{Place, Start, Booting, Resting, Writing, Waiting, Sending, next_place, place_of_life, with_left, after_write}
 use Rattle.dvg_driver.proofs.Places.{place_before}
 
@@ -29,6 +29,21 @@ never_after_write (w ∷ ws) a b q e f = both (nat_eq w.0 a && nat_eq w.1 b) ws 
     both true (v ∷ vs) d = absurd (cc)
     both false vs d = absurd (cc)
 
+-- the item is a flip: a write of byte 001
+abbrev pub flips : Item → Bool
+flips (Did (Wrote a byte)) = nat_eq a 1
+flips _ = false
+
+-- a life has a flip where its newest item is one, or the items before have one
+pub has_flip_more : (item : Item) (life : List Item) → has_flip (item ∷ life) ≡ (flips item || has_flip life)
+has_flip_more (Offered half F) life = refl
+has_flip_more Asked life = refl
+has_flip_more (Did Peek) life = refl
+has_flip_more (Did (Wrote a byte)) life = refl
+has_flip_more (Did (Read halted)) life = refl
+has_flip_more (Did Sent) life = refl
+has_flip_more (Did Idle) life = refl
+
 step : (p : Place) (item : Item) (q : Place) → next_place p item ≡ Some q → is_first q ≡ true → (is_first p ≡ true) × (flips item ≡ false)
 step Start (Did Peek) q e f = (refl, refl)
 step Booting (Did (Read halted)) q e f = (refl, refl)
@@ -45,4 +60,4 @@ no_flip [] p e f = refl
 no_flip (item ∷ life) p e f =
     let before = place_before item life p e in
     let h = step before.0 item p before.2 f in
-    rw (h.1, no_flip life before.0 before.1 h.0)
+    has_flip_more item life ∙ rw (h.1, no_flip life before.0 before.1 h.0)

@@ -13,7 +13,7 @@ use Rattle.dvg_theorem.proofs.Least.{lies_word}
 use Rattle.dvg_theorem.proofs.Untouched.{draws_held}
 use Rattle.dvg_theorem.proofs.Words.{words_are_whole}
 use Rattle.dvg_theorem.proofs.Paced.{KeepsPace}
-use Rattle.dvg_theorem.proofs.Within.{bounded, keeps_time}
+use Rattle.dvg_theorem.proofs.Within.{bounded, has_bound, keeps_time}
 
 through : (P Q : Log → Happening → Shown → Type 0) → ((log : Log) (event : Happening) (entry : Shown) → P log event entry → Q log event entry) → (log : Log) → Throughout P log → Throughout Q log
 through P Q f [] t = tt
@@ -36,7 +36,7 @@ always_in_time R image log l =
     keeps_time R image log l (through (IsRight R image) (KeepsPace R) (λ log event entry t. t.3) log (shows R image log l (words_are_whole R image log l)).1)
 
 pub always_bounded : Always (λ R image. WithinBound R)
-always_bounded R image log l = bounded R log (always_in_time R image log l)
+always_bounded R image log l = bounded R image log l (always_in_time R image log l)
 
 -- a run that has fetched a word, by that word
 fetched_one : (run : Option (List (ℕ × ℕ))) → has_fetched run ≡ true → (fetch : ℕ × ℕ) × (fetches : List (ℕ × ℕ)) × (run ≡ Some (fetch ∷ fetches))
@@ -67,6 +67,7 @@ together R image ((event ⟼ entry) ∷ log) l torn faults drew older time held 
     never_faults = faults.0;
     draws_published = drew.0;
     never_older = older.0;
+    always_bounded = λ F shown. has_bound R image log F l.2 shown;
     always_in_time = time.0;
     draws_undisturbed = held.0;
     draws_a_half = draws_a_half R image ((event ⟼ entry) ∷ log) l;

@@ -225,7 +225,7 @@ module _ (R image : List ℕ) where
       let runs : Runs mem (length ((a, w) ∷ ws)) t.visits None = subst (λ x. Runs mem (length ((a, w) ∷ ws)) t.visits x) fin.0 t.runs in
       let pic : IsPicture t.draft R drew (suc (length ws)) = subst (λ x. IsPicture t.draft R x (suc (length ws))) fin.2 (finished_picture d t.begun_with runs fin.1) in (
         tt,
-        record { draft = t.draft; shown = t.shown; accepts = t.checked.accepts; fetches = ws; open_now = t.open_now; picture = pic },
+        (t.draft, ws, t.shown, t.checked.accepts, t.open_now, pic),
         (λ n e. run_bound log ws n s t.open_now e),
         (λ vs F u j q f x.
             let y = subst (λ H. IsPicture H R u j) (same_Some _ _ (sym f ∙ t.shown)) x in

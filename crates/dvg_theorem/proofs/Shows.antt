@@ -1,5 +1,5 @@
 -- What the halves hold and what runs show, in every legal log.
-use Rattle.std.proofs.Common.{◌≡◌, ◌≢◌, ℕ, suc, ◌+◌, ◌*◌, ◌/◌, ◌≤◌, ◌<◌, List, [], ◌∷◌, length, drop, slice_get, slice_index, refl, sym, ◌∙◌, ap, subst, Option, Some, Bool, true, false, arith, inl, inr}
+use Rattle.std.proofs.Common.{◌≡◌, ◌≢◌, ℕ, suc, ◌+◌, ◌*◌, ◌/◌, ◌≤◌, ◌<◌, List, [], ◌∷◌, length, drop, slice_get, slice_index, refl, sym, ◌∙◌, ap, subst, Option, None, Some, Bool, true, false, arith, inl, inr}
 use Rattle.std.specs.Prelude.{◌==◌, if◌then◌else◌, option_and_then, option_map, slice_set}
 use Rattle.std.proofs.lemmas.Option.{none-some, same_Some}
 use Rattle.std.proofs.lemmas.Bool.Decides.{eqb_tells, leb_tells}
@@ -82,6 +82,10 @@ at_zero_fetched line log v vs e = rw e
 pub at_zero_open : (log : Log) → open_run log ≡ Some [] → at_zero log ≡ log
 at_zero_open [] e = refl
 at_zero_open (line ∷ log) e = rw e
+
+pub at_zero_none : (log : Log) → open_run log ≡ None → at_zero log ≡ log
+at_zero_none [] e = refl
+at_zero_none (line ∷ log) e = rw e
 
 -- Lines that begin no fetched run, publish nothing, and write only where no frame lies that is shown or newest.
 module _ (R image : List ℕ) (log : Log) (event : Happening) (entry : Shown) (s : Shows R image log)

@@ -58,16 +58,15 @@ pub fn never_older()
     ensures { Always (λ R image. IsNoOlder) }
 {}
 
-/// In every legal log what a run shows has a picture, of `n` words; the run fetches at most `2n`
-/// bytes, and its fetch number `2n` is the one that finishes it, with the picture's strokes. Every
-/// frame that is accepted has exactly one picture. That this many fetches come is not said.
+/// In every legal log, for each picture of what a run shows, of `n` words: the run fetches at most
+/// `2n` bytes, and its fetch number `2n` is the one that finishes it, with the picture's strokes.
+/// That there is a picture, `always_bounded` says. That this many fetches come is not said.
 pub fn always_in_time()
     ensures { Always (λ R image. KeepsTime R) }
 {}
 
-/// In every legal log a run that fetched word zero while a frame was newest published fetches at
-/// most two bytes for each word of the frame's bound: the number that `Frame::bound` gives. That
-/// the fetches come is not said.
+/// In every legal log what a run shows has a bound, the number that `Frame::bound` gives, and the
+/// run fetches at most two bytes for each of its words. That the fetches come is not said.
 pub fn always_bounded()
     ensures { Always (λ R image. WithinBound R) }
 {}
@@ -86,8 +85,8 @@ pub fn draws_a_half()
 {}
 
 /// Each line of every legal log keeps the headline: what the laws from `never_torn` to
-/// `draws_a_half` say, but for `always_bounded`, in one record. It is the clause `headline` of
-/// `run`, of `run_trace` and of the calls of a `World`, in `dvg_world`.
+/// `draws_a_half` say, in one record. It is the clause `headline` of `run`, of `run_trace` and of
+/// the calls of a `World`, in `dvg_world`.
 pub fn headline()
     ensures { Always KeepsHeadline }
 {}

@@ -13,7 +13,8 @@ use Rattle.std.proofs.Math.Seq.{get_or-append_seam}
 use Rattle.dvg_gen.specs.declared.stroke.Stroke.{Stroke}
 use Rattle.dvg_log.specs.declared.entry.Entry.{Entry}
 use Rattle.dvg_log.specs.declared.entry.Entry.TheVariants.{Done, Still}
-use Rattle.dvg_log.specs.Entries.{OwnEntry, Shown, drew_in, map_entry, shown_of}
+use Rattle.dvg_log.specs.Entries.{Shown, drew_in, map_entry, shown_of}
+use Rattle.dvg_log.specs.own.Owned.{OwnEntry}
 use Rattle.dvg_log.specs.Events.{Happening}
 use Rattle.dvg_log.specs.Log.{Log, ◌⟼◌}
 use Rattle.dvg_world.specs.declared.entries.Alike.{Alike}

@@ -11,9 +11,11 @@ use Rattle.dvg_driver.specs.declared.action.Action.TheVariants.{Wrote}
 use Rattle.dvg_world.specs.declared.judge.Drawing.{Drawing}
 use Rattle.dvg_world.specs.declared.judge.Drawing.TheVariants.{Nothing, Begun, Within}
 use Rattle.dvg_world.specs.declared.judge.Judge.{Judge}
-use Rattle.dvg_log.specs.Events.{Happening, OwnEvent, happening_of}
+use Rattle.dvg_log.specs.Events.{Happening, happening_of}
+use Rattle.dvg_log.specs.own.Owned.{OwnEvent}
 use Rattle.dvg_log.specs.declared.event.Event.TheVariants.{ResetGen, ResetAll}
-use Rattle.dvg_log.specs.Entries.{Shown, OwnEntry, shown_of}
+use Rattle.dvg_log.specs.Entries.{Shown, shown_of}
+use Rattle.dvg_log.specs.own.Owned.{OwnEntry}
 use Rattle.dvg_log.specs.declared.entry.Entry.TheVariants.{Acted, Started}
 use Rattle.dvg_log.specs.Headline.{SparesDrawn}
 use Rattle.dvg_log.specs.Log.{◌⟼◌, Line, Log, Throughout, open_run, IsBeingDrawn}

@@ -29,7 +29,8 @@ use Rattle.dvg_driver.specs.Stands as driver
 use Rattle.dvg_driver.specs.Stands.{Stage, Tells, byte1_of, peeked_after}
 use Rattle.dvg_log.specs.Events.{Happening}
 use Rattle.dvg_log.specs.declared.event.Event.TheVariants.{Offer, Redraw, Tick, Strobe, Fetch, ResetGen, ResetCpu, ResetAll}
-use Rattle.dvg_log.specs.Entries.{Shown, OwnEntry, entry_by, shown_of}
+use Rattle.dvg_log.specs.Entries.{Shown, entry_by, shown_of}
+use Rattle.dvg_log.specs.own.Owned.{OwnEntry}
 use Rattle.dvg_log.specs.declared.entry.Entry.TheVariants.{Offered, Refused, Busy, Asked, NothingPublished, Acted, Started, NoStrobe, Still, Cleared}
 use Rattle.dvg_log.specs.Log.{◌⟼◌, Log, ram, low_byte, meets, history, open_run, life, strobed}
 use Rattle.dvg_log.specs.Legal.{Fits}
@@ -356,10 +357,8 @@ module _ {rom bytes : List ℕ} {machine : Machine} {stage : Stage} {sent : Bool
       draws_some m.run.first m.run.visits m.run.held (meets R image log address) (held_first m.leaves)
       (λ nothing. draws (subst (λ h. DrawsNothing h (met machine.low byte)) (sym held) (subst (λ o. DrawsNothing m.run.held o) (sym same) nothing))) in
       record {
-        run = m.run;
-        leaves = m.leaves;
         address = address;
-        wanted = sym (wanted (history R image log) (low_byte log) m);
+        asked = record { run = m.run; leaves = m.leaves; wanted = sym (wanted (history R image log) (low_byte log) m) };
         word = some.word;
         met = some.met;
         visits = some.more;

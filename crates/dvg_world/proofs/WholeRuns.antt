@@ -4,7 +4,8 @@ use Rattle.std.proofs.lemmas.List.{reverse-append, map-append}
 use Rattle.std.proofs.lemmas.Option.{get_or_from_slice_get, slice_get_within}
 use Rattle.std.specs.List.{zip}
 use Rattle.dvg_log.specs.Events.{Happening}
-use Rattle.dvg_log.specs.Entries.{OwnEntry, shown_of}
+use Rattle.dvg_log.specs.Entries.{shown_of}
+use Rattle.dvg_log.specs.own.Owned.{OwnEntry}
 use Rattle.dvg_log.specs.Log.{◌⟼◌}
 use Rattle.dvg_log.specs.Legal.{IsLegal}
 use Rattle.dvg_world.specs.Runs.{log_of, IsStop}

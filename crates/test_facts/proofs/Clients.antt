@@ -37,7 +37,8 @@ use Rattle.dvg_driver.proofs.Places.{life_place, place_before, whole_rests}
 use Rattle.dvg_mem.specs.declared.half.Half.TheVariants.{H1}
 use Rattle.dvg_log.specs.Events.{Happening}
 use Rattle.dvg_log.specs.declared.event.Event.TheVariants.{Tick}
-use Rattle.dvg_log.specs.Entries.{Shown, OwnEntry, shown_of}
+use Rattle.dvg_log.specs.Entries.{Shown, shown_of}
+use Rattle.dvg_log.specs.own.Owned.{OwnEntry}
 use Rattle.dvg_log.specs.declared.entry.Entry.TheVariants.{Acted}
 use Rattle.dvg_log.specs.Log.{Log, ◌⟼◌, events_of}
 use Rattle.dvg_log.specs.Legal.{IsLegal}

@@ -4,7 +4,8 @@ use Rattle.std.proofs.lemmas.List.{reverse-reverse}
 use mathlib.Core.List.{reverse-cons}
 use Rattle.std.specs.List.{zip}
 use Rattle.dvg_log.specs.Events.{Happening}
-use Rattle.dvg_log.specs.Entries.{Shown, OwnEntry, shown_of}
+use Rattle.dvg_log.specs.Entries.{Shown, shown_of}
+use Rattle.dvg_log.specs.own.Owned.{OwnEntry}
 use Rattle.dvg_log.specs.Legal.{IsLegal}
 use Rattle.dvg_log.specs.Log.{Line, Log, ◌⟼◌, events_of}
 use Rattle.dvg_world.specs.Keeping.{Happened, IsEndOf}

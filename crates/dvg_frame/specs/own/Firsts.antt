@@ -2,22 +2,7 @@
 use Rattle.std.specs.Prelude.{ℕ, ◌≤◌}
 use Rattle.dvg_gen.specs.Obeyed.{IsLabs}
 use Rattle.dvg_frame.specs.declared.op.OpKind.{OpKind}
-use Rattle.dvg_frame.specs.declared.fault.FrameFault.{FrameFault}
-use Rattle.dvg_frame.specs.declared.fault.FrameFault.TheVariants.{Empty, NoLabs, TooLong, Target, RunsOff, OutOfRom}
-use Rattle.dvg_frame.specs.declared.fault.FrameFault.TheVariants.{TooDeep, NoCaller, Loops}
 use Rattle.dvg_frame.specs.declared.op.OpKind.TheVariants.{Draw, CallRom, JumpRom, Call, Jump, Return, Halt as Stop}
-
--- the numbers of the faults
-abbrev pub number : FrameFault → ℕ
-number Empty = 1
-number NoLabs = 2
-number TooLong = 3
-number (Target i) = 4
-number (RunsOff i) = 5
-number (OutOfRom p) = 6
-number (TooDeep p) = 7
-number (NoCaller p) = 8
-number Loops = 9
 
 -- the operation is a LABS
 abbrev pub DrawsLabs : OpKind → Type 0
