@@ -43,6 +43,9 @@
 extern "C" {
 #endif
 
+/* The version of this header. dvg_version answers that of the library. */
+#define DVG_VERSION "0.9.0"
+
 /* The room on the stack that a call needs at most, in KB of 1,024 bytes. */
 #define DVG_STACK_KB 256
 
@@ -82,6 +85,14 @@ uint64_t dvg_turn(dvg *device, uint64_t request);
 
 /* Frees a device, with all that it has. */
 void dvg_free(dvg *device);
+
+/* Asks `count` requests, in order, and writes the answer of each to `answers`, which has room for
+ * as many. It stops after a DVG_DONE, so that its strokes can be asked for, and after a
+ * DVG_NO_MEMORY. Returns how many were asked. */
+size_t dvg_turns(dvg *device, const uint64_t *requests, uint64_t *answers, size_t count);
+
+/* The version of the library that is linked, as DVG_VERSION has it. */
+const char *dvg_version(void);
 
 /* --- Requests and answers --- */
 

@@ -11,6 +11,11 @@ plain=$top/plain
 workspace=$plain/target/made
 target=$workspace/target
 
+# The name by which a program that is linked with the shared library looks for it, and the version
+# of its symbols. Both change where a program that was linked before could no longer run.
+soname=libdvg.so.0
+symbols=DVG_0
+
 # What is being run, and the folders for what is thrown away; nothing where there is none.
 running=
 work=
@@ -146,7 +151,7 @@ archive_of_statements() {
 # The digest of all that the plain form is made of.
 digest_of_plain() {
     digest_of_files 'crates/*/src' include plain/CRATES plain/Cargo.toml plain/Cargo.lock \
-        plain/erase.rs plain/heap.c 'plain/crates/*/Cargo.toml' plain/stand_in
+        plain/erase.rs 'plain/*.c' 'plain/crates/*/Cargo.toml' plain/stand_in
 }
 
 # Whether a file is there and is built of the sources of this digest.

@@ -1,0 +1,96 @@
+/* Gerbilargent's device for C++11 and later: dvg.h with what frees a device, and what throws where
+ * none is made. Each event is a call of dvg.h, which is handed the device:
+ *
+ *     gerbilargent::World world(ram, rom);
+ *     dvg_labs(world, 512, 400, 0);
+ *     dvg_halt(world);
+ *     dvg_answer answer = dvg_tick(world);
+ *
+ * What dvg.h says of devices and of their callers is said of these, too. */
+#ifndef DVG_HPP
+#define DVG_HPP
+
+#include "dvg.h"
+
+#include <cstdint>
+#include <memory>
+#include <new>
+#include <stdexcept>
+#include <vector>
+
+namespace gerbilargent {
+
+/* Bytes of a RAM or a ROM. */
+using Bytes = std::vector<std::uint8_t>;
+
+/* A device, in which nothing is open. It moves, isn't copied, and is freed when it goes. */
+class Device {
+public:
+    /* std::bad_alloc where there is no memory. */
+    Device() {
+        dvg *made = nullptr;
+        if (dvg_new(&made) != 0) {
+            throw std::bad_alloc();
+        }
+        device_.reset(made);
+    }
+
+    /* The device for a call of dvg.h; null where it was moved away. */
+    operator dvg *() const noexcept { return device_.get(); }
+
+    /* What the newest run drew that came to a HALT, in the order drawn. */
+    std::vector<dvg_stroke> strokes() const {
+        std::vector<dvg_stroke> drawn(static_cast<std::size_t>(dvg_strokes(*this)));
+        for (std::size_t number = 0; number < drawn.size(); ++number) {
+            drawn[number] = dvg_stroke_at(*this, number);
+        }
+        return drawn;
+    }
+
+protected:
+    /* Throws what an answer is that isn't DVG_OPENED. */
+    static void expect_opened(dvg_answer answer) {
+        if (answer.kind == DVG_NO_MEMORY) {
+            throw std::bad_alloc();
+        }
+        if (answer.kind != DVG_OPENED) {
+            throw std::invalid_argument(dvg_kind_text(answer.kind));
+        }
+    }
+
+private:
+    struct Free {
+        void operator()(dvg *device) const noexcept { dvg_free(device); }
+    };
+    std::unique_ptr<dvg, Free> device_;
+};
+
+/* A world, over a RAM of 2,048 bytes and a ROM of 2,048 or 4,096, which are copied. Of other bytes
+ * std::invalid_argument; std::bad_alloc. */
+class World : public Device {
+public:
+    World(const Bytes &ram, const Bytes &rom) {
+        if (ram.size() != DVG_RAM_BYTES) {
+            throw std::invalid_argument("a RAM has 2,048 bytes");
+        }
+        expect_opened(dvg_open_world(*this, ram.data(), rom.data(), rom.size()));
+    }
+};
+
+/* A driver alone, whose drafts are checked over a ROM, with what World throws. */
+class Driver : public Device {
+public:
+    explicit Driver(const Bytes &rom) {
+        expect_opened(dvg_open_driver(*this, rom.data(), rom.size()));
+    }
+};
+
+/* A generator alone. std::bad_alloc. */
+class Generator : public Device {
+public:
+    Generator() { expect_opened(dvg_open_generator(*this)); }
+};
+
+} // namespace gerbilargent
+
+#endif

@@ -1,0 +1,29 @@
+/* What the library for C gives beside its three functions: its version, and many requests in one
+ * call. It calls those three, and is tested, not proved. */
+#include "dvg.h"
+
+const char *dvg_version(void)
+{
+    return DVG_VERSION;
+}
+
+/* Whether nothing may be asked after this answer without a look at it. */
+static bool is_last(uint64_t request, uint64_t number)
+{
+    dvg_kind kind = dvg_answer_of(number).kind;
+    return (request & 0xFF) < DVG_REQUEST_WANTS && (kind == DVG_DONE || kind == DVG_NO_MEMORY);
+}
+
+size_t dvg_turns(dvg *device, const uint64_t *requests, uint64_t *answers, size_t count)
+{
+    size_t asked = 0;
+    while (asked < count) {
+        uint64_t request = requests[asked];
+        uint64_t number = dvg_turn(device, request);
+        answers[asked++] = number;
+        if (is_last(request, number)) {
+            break;
+        }
+    }
+    return asked;
+}
