@@ -1,0 +1,76 @@
+// Tests include/dvg.hpp: what is freed, moved and thrown, and what a world draws. The last line is
+// 'N passed, M failed'.
+#include <dvg.hpp>
+
+#include <cstdio>
+#include <type_traits>
+#include <utility>
+
+using gerbilargent::Bytes;
+using gerbilargent::Device;
+using gerbilargent::Driver;
+using gerbilargent::Generator;
+using gerbilargent::World;
+
+static_assert(!std::is_copy_constructible<World>::value, "a world isn't copied");
+static_assert(std::is_nothrow_move_constructible<World>::value, "a world moves");
+
+static int passed;
+static int failed;
+
+static void expect(bool holds, const char *what) {
+    if (holds) {
+        passed++;
+    } else {
+        failed++;
+        std::printf("FAILED: %s\n", what);
+    }
+}
+
+// Lets as many events happen as the offered draft takes.
+static void draw(World &world) {
+    while (dvg_tick(world).kind != DVG_IDLE) {
+    }
+    dvg_labs(world, 512, 400, 0);
+    dvg_vctr(world, 9, -100, 100, 7);
+    dvg_halt(world);
+    expect(dvg_offer(world).kind == DVG_OFFERED, "a draft is offered");
+    while (dvg_tick(world).kind != DVG_SENT) {
+    }
+    dvg_strobe(world);
+    while (dvg_fetch(world).kind != DVG_DONE) {
+    }
+}
+
+template <typename Make>
+static bool refuses(Make make) {
+    try {
+        make();
+        return false;
+    } catch (const std::invalid_argument &) {
+        return true;
+    }
+}
+
+int main() {
+    const Bytes ram(DVG_RAM_BYTES), rom(DVG_ROM_BYTES);
+    World first(ram, rom);
+    expect(first.strokes().empty(), "a new world has drawn nothing");
+    draw(first);
+    World world(std::move(first));
+    expect(first == nullptr, "nothing is left where it moved from");
+    const std::vector<dvg_stroke> strokes = world.strokes();
+    expect(strokes.size() == 1 && strokes[0].x1 == 210944 && strokes[0].z == 7, "its stroke");
+    world = World(ram, rom);
+    expect(world.strokes().empty(), "another world takes its place");
+    Driver driver(rom);
+    expect(dvg_driver_tick(driver, true, 0).kind == DVG_PEEK, "a driver");
+    Generator generator;
+    expect(dvg_wants(generator).kind == DVG_STILL, "a generator");
+    expect(dvg_tick(Device()).kind == DVG_CLOSED, "a device in which nothing is open");
+    expect(refuses([&] { World(Bytes(1), rom); }), "a RAM of one byte");
+    expect(refuses([&] { World(ram, Bytes(2049)); }), "a ROM of 2,049 bytes");
+    expect(refuses([] { Driver{Bytes{}}; }), "no ROM");
+    std::printf("%d passed, %d failed\n", passed, failed);
+    return failed != 0;
+}
