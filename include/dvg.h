@@ -87,7 +87,7 @@ uint64_t dvg_turn(dvg *device, uint64_t request);
 void dvg_free(dvg *device);
 
 /* Asks `count` requests, in order, and writes the answer of each to `answers`, which has room for
- * as many. It stops after a DVG_DONE, so that its strokes can be asked for, and after a
+ * as many and may be `requests`. It stops after a DVG_DONE, so that its strokes can be asked for, and after a
  * DVG_NO_MEMORY. Returns how many were asked. */
 size_t dvg_turns(dvg *device, const uint64_t *requests, uint64_t *answers, size_t count);
 

@@ -8,10 +8,11 @@
         for stroke in world.draw(Draft().labs(512, 400).vctr(9, -100, 100, 7).halt()):
             print(stroke)
 
-The module stands on the shared library build/libdvg.so; DVG_LIBRARY in the environment names
-another. *Proved* is only what the Rattle kit's `rt` has passed. `./lib` builds the library in
-seconds, of the plain form in plain/: the same code with its contracts taken away, tested, not
-proved. `./lib --proved` proves it first. This module itself is tested, not proved.
+The module stands on the shared library. DVG_LIBRARY in the environment names it; else it lies
+beside the module, as `pip install` puts it, or in build/ of the repository. *Proved* is only what
+the Rattle kit's `rt` has passed. `./lib` builds the library in seconds, of the plain form in
+plain/: the same code with its contracts taken away, tested, not proved. `./lib --proved` proves it
+first. This module itself is tested, not proved.
 
     World       both ends, over a RAM and a ROM that it holds
     Driver      the driver alone: it says what is to be written into a RAM of yours
@@ -28,6 +29,7 @@ FFF (hexadecimal): words 000 to 3FF are the RAM, and the ROM ends at BFF. A byte
 
 Errors. Each refusal is an exception with a name, below Error, and has changed nothing. What comes
 in a wrong order is a WrongOrder. A run that broke, and one that came to no end, are errors, too.
+A number that isn't whole is a NoInteger, and a memory that isn't bytes a NoBytes.
 
 Threads. A World, Driver or Generator belongs to the thread that made it, and another one gets a
 WrongThread. Each is a context manager, and `close` gives its memory back.
@@ -42,22 +44,26 @@ import ctypes
 import enum
 import functools
 import itertools
+import operator
 import os
 import sys
 import threading
 import warnings
+from array import array
 from pathlib import Path
 from typing import Iterable, Iterator, NamedTuple, Optional, TypeVar, Union
 
 __all__ = [
     "BadByte", "BadLog", "BadOperation", "Break", "Busy", "Closed", "Draft", "DraftFull",
-    "DraftRefused", "Driver", "Endless", "Entry", "Error", "Fault", "Generator", "Halted", "Judge",
-    "Kind", "LibraryMissing", "NothingPublished", "NoStrobe", "OutOfMemory", "RETURNS", "RunBroke",
-    "Stroke", "Picture", "Torn", "Verdict", "World", "WrongOrder", "WrongSize", "WrongThread",
-    "Wanted", "judge", "picture", "svg",
+    "DraftRefused", "Driver", "Endless", "Entry", "Error", "Event", "Fault", "Generator", "Halted",
+    "Judge", "Kind", "LibraryMissing", "NoBytes", "NoEvent", "NoInteger", "NothingPublished",
+    "NoStrobe", "OutOfMemory", "RETURNS", "RunBroke", "Stroke", "Picture", "Torn", "Verdict",
+    "World", "WrongOrder", "WrongSize", "WrongThread", "Wanted", "judge", "picture", "svg",
 ]
 
-#: Bytes: `bytes`, a `bytearray` or a `memoryview`.
+__version__ = "0.9.0"
+
+#: Bytes: `bytes`, a `bytearray` or a `memoryview`, or what lends single bytes as these do.
 Bytes = Union[bytes, bytearray, memoryview]
 
 #: How many bytes a RAM has.
@@ -114,6 +120,17 @@ class Kind(enum.IntEnum):
     @property
     def text(self) -> str:
         return self.name.lower().replace("_", " ")
+
+
+class Event(enum.IntEnum):
+    """What `World.run` takes, beside a Draft, which it offers: each is the call of its name."""
+
+    REDRAW = 1
+    TICK = 2
+    STROBE = 3
+    FETCH = 4
+    RESET_GENERATOR = 5
+    RESET_PROCESSOR = 6
 
 
 class Fault(enum.IntEnum):
@@ -200,7 +217,7 @@ class Wanted(NamedTuple):
 class Picture(NamedTuple):
     """A run that came to a HALT: after how many words, and what it drew, in order.
 
-    As text it is what `dvg picture` writes.
+    As text it is what `dvg picture` writes, and in a notebook an SVG.
     """
 
     words: int
@@ -208,6 +225,9 @@ class Picture(NamedTuple):
 
     def __str__(self) -> str:
         return "\n".join([f"picture {self.words} {len(self.strokes)}", *map(str, self.strokes)])
+
+    def _repr_svg_(self) -> str:
+        return svg(self.strokes)
 
 
 # --- What is refused ---
@@ -227,6 +247,18 @@ class OutOfMemory(Error, MemoryError):
 
 class WrongSize(Error, ValueError):
     """A RAM isn't of 2,048 bytes, a ROM not of 2,048 or 4,096, or a dump not of both."""
+
+
+class NoBytes(Error, TypeError):
+    """A RAM, a ROM or a dump isn't bytes."""
+
+
+class NoInteger(Error, TypeError):
+    """A number isn't whole: a float, a text, or nothing."""
+
+
+class NoEvent(Error, TypeError):
+    """What `World.run` is handed is no Event and no Draft."""
 
 
 class BadByte(Error, ValueError):
@@ -332,12 +364,14 @@ def library_path() -> Path:
     named = os.environ.get("DVG_LIBRARY")
     if named:
         return Path(named)
-    return Path(__file__).resolve().parent.parent / "build" / "libdvg.so"
+    here = Path(__file__).resolve().parent
+    beside = here / "libdvg.so"
+    return beside if beside.exists() else here.parent / "build" / "libdvg.so"
 
 
 @functools.lru_cache(maxsize=None)
 def _load(path: Path) -> ctypes.CDLL:
-    """The library there, with its three functions declared: else pointers would be cut."""
+    """The library there, with its functions declared: else pointers would be cut."""
     if not path.exists():
         raise LibraryMissing(f"there is no {path}: ./lib builds it, and DVG_LIBRARY names another")
     try:
@@ -346,6 +380,8 @@ def _load(path: Path) -> ctypes.CDLL:
         library.dvg_new.restype = ctypes.c_uint32
         library.dvg_turn.argtypes = [ctypes.c_void_p, ctypes.c_uint64]
         library.dvg_turn.restype = ctypes.c_uint64
+        library.dvg_turns.argtypes = [ctypes.c_void_p] * 3 + [ctypes.c_size_t]
+        library.dvg_turns.restype = ctypes.c_size_t
         library.dvg_free.argtypes = [ctypes.c_void_p]
         library.dvg_free.restype = None
     except (OSError, AttributeError) as error:
@@ -378,7 +414,10 @@ class _Request(enum.IntEnum):
     STROKE_INTENSITY = 20
 
 
-_NUMBERS = (_Request.STROKES, _Request.STROKE_FROM, _Request.STROKE_TO, _Request.STROKE_INTENSITY)
+#: What is asked of each stroke, as numbers.
+_OF_STROKE = tuple(map(int, (
+    _Request.STROKE_FROM, _Request.STROKE_TO, _Request.STROKE_INTENSITY
+)))
 
 #: The answers that are errors without more to tell.
 _ERRORS = {
@@ -393,16 +432,36 @@ _ERRORS = {
 }
 
 
+def _whole(name: str, value: int) -> int:
+    """The number of this name, where it is whole."""
+    try:
+        return operator.index(value)
+    except TypeError:
+        raise NoInteger(f"{name} is {value!r}, and must be an integer") from None
+
+
 def _byte(value: int) -> int:
     """The byte, where it is one."""
-    if not 0 <= value <= 255:
+    byte = _whole("a byte", value)
+    if not 0 <= byte <= 255:
         raise BadByte(f"{value} isn't 0 to 255")
-    return int(value)
+    return byte
+
+
+def _bytes(name: str, held: Bytes) -> bytes:
+    """The bytes of what is held by this name."""
+    try:
+        view = memoryview(held)
+    except TypeError:
+        raise NoBytes(f"{name} is bytes, not {type(held).__name__}") from None
+    if view.itemsize != 1:
+        raise NoBytes(f"{name} is single bytes, not items of {view.itemsize} bytes")
+    return view.tobytes()
 
 
 def _ram(ram: Optional[Bytes]) -> bytes:
     """The bytes of a RAM: zeros where none is named."""
-    held = bytes(RAM_BYTES) if ram is None else bytes(ram)
+    held = bytes(RAM_BYTES) if ram is None else _bytes("a RAM", ram)
     if len(held) != RAM_BYTES:
         raise WrongSize(f"a RAM has {RAM_BYTES} bytes, not {len(held)}")
     return held
@@ -410,10 +469,23 @@ def _ram(ram: Optional[Bytes]) -> bytes:
 
 def _rom(rom: Optional[Bytes]) -> bytes:
     """The bytes of a ROM: RETURNS where none is named."""
-    held = RETURNS if rom is None else bytes(rom)
+    held = RETURNS if rom is None else _bytes("a ROM", rom)
     if len(held) not in ROM_SIZES:
         raise WrongSize(f"a ROM has 2048 or 4096 bytes, not {len(held)}")
     return held
+
+
+@functools.lru_cache(maxsize=1 << 14)
+def _entry_of(number: int) -> Entry:
+    """The entry that an answer is, with the number of strokes from bit 40 on."""
+    return Entry(Kind(number & 0xFF), number >> 8 & 0xFFFF, number >> 24 & 0xFFFF, number >> 40)
+
+
+@functools.lru_cache(maxsize=16)
+def _staging(held: bytes) -> "array[int]":
+    """The requests that stage these bytes, one by one."""
+    one = int(_Request.STAGE) | 1 << 24
+    return array("Q", (one | byte << 16 for byte in held))
 
 
 _Own = TypeVar("_Own", bound="_Device")
@@ -430,6 +502,9 @@ class _Device:
         if self._library.dvg_new(ctypes.byref(made)) != 0:
             raise OutOfMemory("memory was refused")
         self._device = made
+
+    def __repr__(self) -> str:
+        return f"<{type(self).__name__}{'' if self._device else ', closed'}>"
 
     def close(self) -> None:
         """Gives the memory back. Closing again does nothing, and any other call is Closed then."""
@@ -457,17 +532,48 @@ class _Device:
         if self._thread != threading.get_ident():
             raise WrongThread("it belongs to the thread that made it")
 
-    def _turn(self, request: _Request, fields: int = 0) -> int:
-        """One request, with its fields, and the number that is its answer."""
+    def _own_device(self) -> ctypes.c_void_p:
+        """The device, where it may be asked."""
         self._own_thread()
         if self._device is None:
             raise Closed("it was closed")
-        return self._library.dvg_turn(self._device, int(request) | fields)
+        return self._device
+
+    def _turn(self, request: _Request, fields: int = 0) -> int:
+        """One request, with its fields, and the number that is its answer."""
+        answer: int = self._library.dvg_turn(self._own_device(), int(request) | fields)
+        return answer
+
+    def _turns(self, numbers: "array[int]") -> int:
+        """Asks these requests, puts its answer in the place of each, and says how many it asked.
+
+        The last that was asked is the last of all, or its answer is DONE or NO_MEMORY.
+        """
+        at, count = numbers.buffer_info()
+        asked: int = self._library.dvg_turns(self._own_device(), at, at, count)
+        return asked
+
+    def _turns_to_the_end(self, numbers: "array[int]") -> int:
+        """The same, and goes on after each DONE, whose answer gets the number of its strokes."""
+        device, library = self._own_device(), self._library
+        done, no_memory, strokes = int(Kind.DONE), int(Kind.NO_MEMORY), int(_Request.STROKES)
+        at, count = numbers.buffer_info()
+        asked = kind = 0
+        while asked < count and kind != no_memory:
+            here = at + 8 * asked
+            asked += library.dvg_turns(device, here, here, count - asked)
+            kind = numbers[asked - 1] & 0xFF
+            if kind == done:
+                numbers[asked - 1] |= library.dvg_turn(device, strokes) << 40
+        return asked
 
     def _ask(self, request: _Request, fields: int = 0) -> Entry:
         """One request, and its answer; what is refused is raised."""
-        number = self._turn(request, fields)
-        entry = Entry(Kind(number & 0xFF), number >> 8 & 0xFFFF, number >> 24 & 0xFFFF)
+        return self._entry(self._turn(request, fields))
+
+    def _entry(self, number: int) -> Entry:
+        """The entry that the newest answer is; what is refused is raised."""
+        entry = _entry_of(number)
         if entry.kind in _ERRORS:
             error = _ERRORS[entry.kind]
             raise type(error)(*error.args)
@@ -476,15 +582,18 @@ class _Device:
         if entry.kind is Kind.BROKE:
             raise RunBroke(entry.address, Break(entry.value & 3))
         if entry.kind is Kind.DONE:
-            return entry._replace(strokes=self._turn(_Request.STROKES))
+            return _entry_of(number | self._turn(_Request.STROKES) << 40)
         return entry
+
+    def _ask_all(self, requests: "array[int]") -> Entry:
+        """Asks these requests, and answers the entry of the last; what is refused is raised."""
+        answers = array("Q", requests)
+        return self._entry(answers[self._turns(answers) - 1])
 
     def _stage(self, held: bytes) -> None:
         """Stages these bytes, in place of what is staged."""
-        self._ask(_Request.UNSTAGE)
-        for byte, equal in itertools.groupby(held):
-            count = sum(1 for _ in equal)
-            self._ask(_Request.STAGE, byte << 16 | count << 24)
+        self._turn(_Request.UNSTAGE)
+        self._ask_all(_staging(held))
 
     def _with_staged(self, request: _Request, held: bytes) -> Entry:
         """A request for which these bytes are staged. Whatever comes, none is staged then."""
@@ -496,19 +605,37 @@ class _Device:
 
     def _offer(self, draft: "Draft") -> Entry:
         """Hands a draft to the driver."""
-        self._ask(_Request.CLEAR)
-        for operation in draft:
-            self._ask(_Request.PUSH, operation.number)
-        return self._ask(_Request.OFFER)
+        return self._ask_all(array("Q", draft.requests()))
 
     @property
     def strokes(self) -> "list[Stroke]":
         """What the newest run drew that came to a HALT, in the order drawn; empty before it."""
-        return [self._stroke(number) for number in range(self._turn(_Request.STROKES))]
+        numbers = iter(self._stroke_numbers())
+        return [
+            Stroke(begin & 0xFFFFFFFF, begin >> 32, end & 0xFFFFFFFF, end >> 32, z)
+            for begin, end, z in zip(numbers, numbers, numbers)
+        ]
 
-    def _stroke(self, number: int) -> Stroke:
-        begin, end, z = (self._turn(request, number << 8) for request in _NUMBERS[1:])
-        return Stroke(begin & 0xFFFFFFFF, begin >> 32, end & 0xFFFFFFFF, end >> 32, z)
+    @property
+    def stroke_table(self) -> memoryview:
+        """These strokes as a table of numbers of 32 bits, in rows: x0, y0, x1, y1, z and 0.
+
+        What reads the buffer protocol takes it without a copy: `numpy.asarray(world.stroke_table)`.
+        Where there is no stroke, it is empty and has no rows. It wants a machine with the low byte
+        first.
+        """
+        if sys.byteorder != "little":
+            raise Error("a table of strokes wants a machine with the low byte first")
+        numbers = memoryview(self._stroke_numbers()).cast("B")
+        return numbers.cast("I", (len(numbers) // 24, 6)) if numbers else numbers.cast("I")
+
+    def _stroke_numbers(self) -> "array[int]":
+        """Three numbers for each stroke: where it begins, where it ends, and its intensity."""
+        strokes = range(self._turn(_Request.STROKES))
+        requests = (request | number << 8 for number in strokes for request in _OF_STROKE)
+        numbers = array("Q", requests)
+        self._turns(numbers)
+        return numbers
 
 
 def _refusal(entry: Entry) -> DraftRefused:
@@ -539,13 +666,30 @@ class Operation(NamedTuple):
         low = self.kind << 8 | self.scale << 16 | self.z << 24
         return low | (self.x & 0xFFFF) << 32 | (self.y & 0xFFFF) << 48
 
+    def __str__(self) -> str:
+        name = _CALLS[self.kind]
+        if name in ("vctr", "svec"):
+            return f"{name}({self.scale}, {self.x}, {self.y}, {self.z})"
+        if name == "labs":
+            return f"labs({self.x}, {self.y}, {self.scale})"
+        if name in ("call", "jump"):
+            return f"{name}({self.x})"
+        return f"{name}({self.x:#05x})" if name.endswith("_rom") else f"{name}()"
+
+
+#: The calls of a Draft, by the numbers of the kinds of operations.
+_CALLS = ("vctr", "svec", "labs", "call", "jump", "call_rom", "jump_rom", "return_", "halt")
+
+#: Fields of an operation that its call has another name for.
+_FIELDS = {"dx": "x", "dy": "y", "operation": "x", "address": "x"}
+
 
 class Draft:
     """The operations of a frame, numbered from 0. Each call adds one, and answers the draft.
 
-    A field out of its range is a BadOperation, and a 512th operation a DraftFull: the draft is then
-    as it was. A field that isn't whole loses its fraction. Whether the whole may be drawn an offer
-    tells.
+    A field out of its range is a BadOperation, one that isn't whole a NoInteger, and a 512th
+    operation a DraftFull: the draft is then as it was. Whether the whole may be drawn an offer
+    tells. Drafts are equal where their operations are.
     """
 
     def __init__(self) -> None:
@@ -557,14 +701,27 @@ class Draft:
     def __iter__(self) -> Iterator[Operation]:
         return iter(self._operations)
 
+    def __eq__(self, other: object) -> bool:
+        return isinstance(other, Draft) and self._operations == other._operations
+
+    def __repr__(self) -> str:
+        return "Draft()" + "".join(f".{operation}" for operation in self._operations)
+
+    def requests(self) -> Iterator[int]:
+        """What hands it to a driver, as numbers of include/dvg.h."""
+        yield int(_Request.CLEAR)
+        yield from (int(_Request.PUSH) | operation.number for operation in self._operations)
+        yield int(_Request.OFFER)
+
     def _add(self, kind: int, **fields: "tuple[int, int, int]") -> "Draft":
         """Adds an operation, of fields with their least and most."""
+        values = {}
         for name, (value, least, most) in fields.items():
-            if not least <= value <= most:
-                raise BadOperation(f"{name} is {value}, and must be {least} to {most}")
+            values[_FIELDS.get(name, name)] = number = _whole(name, value)
+            if not least <= number <= most:
+                raise BadOperation(f"{name} is {number}, and must be {least} to {most}")
         if len(self) == MOST_OPERATIONS:
             raise DraftFull(f"a draft has at most {MOST_OPERATIONS} operations")
-        values = {name: int(value) for name, (value, _least, _most) in fields.items()}
         self._operations.append(Operation(kind, **values))
         return self
 
@@ -576,12 +733,12 @@ class Draft:
         over 9, nothing moves. z is the intensity, 0 to 15.
         """
         return self._add(
-            0, scale=(scale, 0, 9), z=(z, 0, 15), x=(dx, -1023, 1023), y=(dy, -1023, 1023)
+            0, scale=(scale, 0, 9), z=(z, 0, 15), dx=(dx, -1023, 1023), dy=(dy, -1023, 1023)
         )
 
     def svec(self, scale: int, dx: int, dy: int, z: int) -> "Draft":
         """An SVEC, one word: a VCTR of dx and dy -3 to 3, which count 256 times; scale 2 to 5."""
-        return self._add(1, scale=(scale, 2, 5), z=(z, 0, 15), x=(dx, -3, 3), y=(dy, -3, 3))
+        return self._add(1, scale=(scale, 2, 5), z=(z, 0, 15), dx=(dx, -3, 3), dy=(dy, -3, 3))
 
     def labs(self, x: int, y: int, scale: int = 0) -> "Draft":
         """A LABS, two words: puts the beam at x, y, 0 to 4,095 screen units; scale is 0 to 15."""
@@ -589,19 +746,19 @@ class Draft:
 
     def call(self, operation: int) -> "Draft":
         """A call of the operation of this number, 0 to 65,535, which may come later; one word."""
-        return self._add(3, x=(operation, 0, 65535))
+        return self._add(3, operation=(operation, 0, 65535))
 
     def jump(self, operation: int) -> "Draft":
         """A jump to the operation of this number, 0 to 65,535, which may come later; one word."""
-        return self._add(4, x=(operation, 0, 65535))
+        return self._add(4, operation=(operation, 0, 65535))
 
     def call_rom(self, address: int) -> "Draft":
         """A call of a word of the ROM, by its word address, 000 to FFF; one word."""
-        return self._add(5, x=(address, 0, 0xFFF))
+        return self._add(5, address=(address, 0, 0xFFF))
 
     def jump_rom(self, address: int) -> "Draft":
         """A jump to a word of the ROM, by its word address, 000 to FFF; one word."""
-        return self._add(6, x=(address, 0, 0xFFF))
+        return self._add(6, address=(address, 0, 0xFFF))
 
     def return_(self) -> "Draft":
         """A return from the newest call; one word."""
@@ -707,12 +864,13 @@ class Generator(_Device):
         RunBroke; Endless, where there is no end within this many words; WrongSize, OutOfMemory.
         """
         held_ram, held_rom = _ram(ram), _rom(rom)
+        most = _whole("most_words", most_words)
         self.strobe()
-        for words in range(1, most_words + 1):
+        for words in range(1, most + 1):
             self.fetch_from(held_ram, held_rom)
             if self.fetch_from(held_ram, held_rom).kind is Kind.DONE:
                 return Picture(words, self.strokes)
-        raise Endless(most_words)
+        raise Endless(most)
 
     def reset(self) -> Entry:
         """A reset of the generator, which ends its run: CLEARED."""
@@ -734,6 +892,27 @@ class World(_Device):
         super().__init__()
         self.events = 0
         self._with_staged(_Request.OPEN_WORLD, held)
+
+    def __repr__(self) -> str:
+        return f"<World, {self.events} events{'' if self._device else ', closed'}>"
+
+    def _repr_svg_(self) -> str:
+        return svg(self.strokes)
+
+    def run(self, events: "Iterable[Union[Event, Draft]]") -> "list[Entry]":
+        """Lets many events happen, and answers their entries, in order: some millions a second.
+
+        A Draft is offered. What is refused is an entry here, and isn't raised: its kind is REFUSED,
+        BUSY, NOTHING_PUBLISHED, NO_STROBE or STILL. Where memory is refused, NO_MEMORY is the last
+        entry: that fetch is no event, and what comes after it doesn't happen. NoEvent.
+        """
+        numbers, are_events = _requests_of(events)
+        asked = self._turns_to_the_end(numbers)
+        answers = itertools.compress(numbers[:asked], are_events)
+        entries = list(map(_entry_of, answers))
+        refused = bool(entries) and entries[-1].kind is Kind.NO_MEMORY
+        self.events += len(entries) - refused
+        return entries
 
     def _counted(self) -> None:
         """Counts an event, of a world that can be asked."""
@@ -804,20 +983,48 @@ class World(_Device):
                     break
                 except Busy:
                     pass
+        words = sum(2 if operation.kind in (0, 2) else 1 for operation in draft)
+        self._let_happen(_Request.TICK, 2 * words)
         while self._let_tick().kind is not Kind.SENT:
             pass
         self.strobe()
-        while self.fetch().kind is not Kind.DONE:
-            pass
+        self._let_finish()
         return self.strokes
+
+    def _let_happen(self, event: _Request, count: int) -> Entry:
+        """Lets an event happen this many times, or up to a DONE, and answers the last entry."""
+        numbers = array("Q", [event]) * count
+        asked = self._turns(numbers)
+        last = numbers[asked - 1]
+        self.events += asked - (last & 0xFF == Kind.NO_MEMORY)
+        return self._entry(last)
+
+    def _let_finish(self) -> None:
+        """Fetches up to the HALT."""
+        while self._let_happen(_Request.FETCH, 512).kind is not Kind.DONE:
+            pass
 
     def _let_tick(self) -> Entry:
         """A tick; where it waits for the generator, that runs to its end."""
         entry = self.tick()
         if entry.kind is Kind.READ and not entry.value:
-            while self.fetch().kind is not Kind.DONE:
-                pass
+            self._let_finish()
         return entry
+
+
+def _requests_of(events: "Iterable[Union[Event, Draft]]") -> "tuple[array[int], bytearray]":
+    """The requests that events are, and of each whether it is an event."""
+    requests, are_events = array("Q"), bytearray()
+    for event in events:
+        if isinstance(event, Event):
+            requests.append(event)
+        elif isinstance(event, Draft):
+            requests.extend(event.requests())
+            are_events.extend(bytes(len(event) + 1))
+        else:
+            raise NoEvent(f"{event!r} is no Event and no Draft")
+        are_events.append(1)
+    return requests, are_events
 
 
 # --- Dumps ---
@@ -829,7 +1036,7 @@ def picture(dump: Bytes, most_words: int = MOST_WORDS) -> Picture:
     A dump is the 2,048 bytes of a RAM and then the 2,048 or 4,096 bytes of a ROM: 4,096 or 6,144.
     RunBroke; Endless; WrongSize; OutOfMemory.
     """
-    held = bytes(dump)
+    held = _bytes("a dump", dump)
     if len(held) not in (4096, 6144):
         raise WrongSize(f"a dump has 4096 or 6144 bytes, not {len(held)}")
     with Generator() as generator:
@@ -920,7 +1127,7 @@ class Judge:
 
     def wrote(self, address: int, byte: int = 0) -> bool:
         """A byte was written, at a byte address, 000 to 7FF. Whether that tears the picture."""
-        if not 0 <= address < RAM_BYTES:
+        if not 0 <= _whole("an address", address) < RAM_BYTES:
             raise BadByte(f"{address:X} is no byte address of the RAM, which are 000 to 7FF")
         _byte(byte)
         self.writes += 1

@@ -121,7 +121,7 @@ def test_freeing():
     real, freed = g._load(g.library_path()), []
 
     class Counting:
-        dvg_new, dvg_turn = real.dvg_new, real.dvg_turn
+        dvg_new, dvg_turn, dvg_turns = real.dvg_new, real.dvg_turn, real.dvg_turns
 
         @staticmethod
         def dvg_free(device):
@@ -300,9 +300,18 @@ def test_no_memory():
         real = world._library
         class Refusing:
             dvg_turn = staticmethod(lambda device, request: 255)
+
+            @staticmethod
+            def dvg_turns(device, requests, answers, count):
+                g.ctypes.memset(answers, 255, 1), g.ctypes.memset(answers + 1, 0, 7)
+                return 1
         world._library = Refusing
         expect_raises(g.OutOfMemory, world.fetch)
         expect_same(0, world.events, "a fetch without memory is no event")
+        entries = world.run([g.Event.FETCH] * 3)
+        expect_same([g.Entry(Kind.NO_MEMORY)], entries, "many events end without memory")
+        expect_raises(g.OutOfMemory, lambda: world._let_finish())
+        expect_same(0, world.events, "and none of them is an event")
         world._library = real
         expect_same("peek", str(world.tick()), "and nothing has changed")
     load, g._load = g._load, lambda path: Missing
@@ -311,6 +320,111 @@ def test_no_memory():
     expect_raises(g.OutOfMemory, World)
     g._load = load
     expect(issubclass(g.OutOfMemory, MemoryError), "want of memory is a MemoryError")
+
+
+def test_kinds():
+    """What is no integer, no bytes and no event is refused by name, and nothing has changed."""
+    draft = Draft()
+    for value in (1.0, 1.5, "1", None):
+        for make in (
+            lambda: draft.vctr(9, value, 0, 7),
+            lambda: draft.svec(2, 1, 1, value),
+            lambda: draft.labs(value, 0),
+            lambda: draft.call(value),
+            lambda: draft.jump_rom(value),
+            lambda: Generator().fetch(value),
+            lambda: Driver().tick(True, value),
+            lambda: Generator().draw(bytes(2048), most_words=value),
+            lambda: g.Judge().wrote(value),
+        ):
+            expect_raises(g.NoInteger, make)
+    error = expect_raises(g.NoInteger, lambda: draft.vctr(9, 1.5, 0, 7))
+    expect_same("dx is 1.5, and must be an integer", str(error), "it names the field")
+    error = expect_raises(g.BadOperation, lambda: draft.vctr(9, 0, 1024, 7))
+    expect_same("dy is 1024, and must be -1023 to 1023", str(error), "so does a range")
+    expect_same(0, len(draft), "a draft that was handed these is empty")
+
+    class One:
+        def __index__(self):
+            return 1
+    expect_same(Draft().labs(1, 1, 1), draft.labs(One(), True, 1), "what is an integer is taken")
+    for held in (2048, [0] * 2048, "0" * 2048, 0.5):
+        expect_raises(g.NoBytes, lambda: World(ram=held))
+        expect_raises(g.NoBytes, lambda: Driver(held))
+        expect_raises(g.NoBytes, lambda: g.picture(held))
+    expect_raises(g.NoBytes, lambda: World(ram=g.array("Q", bytes(2048))))
+    with World() as world:
+        for event in (2, "tick", None):
+            expect_raises(g.NoEvent, lambda: world.run([g.Event.TICK, event]))
+        expect_same(0, world.events, "then no event has happened")
+
+
+def random_event(chance):
+    """Mostly ticks and fetches; drafts, also one that is refused."""
+    if chance.random() < 0.03:
+        return chance.choice([first_frame(), first_frame().halt(), Draft().halt()])
+    ticks = [g.Event.TICK] * 6 + [g.Event.FETCH] * 8 + [g.Event.STROBE] * 2
+    rare = [g.Event.REDRAW, g.Event.RESET_GENERATOR, g.Event.RESET_PROCESSOR]
+    return chance.choice(ticks if chance.random() < 0.98 else rare)
+
+
+def entry_of(world, event):
+    """What comes of an event by its own call, as `run` answers it."""
+    call = world.offer if isinstance(event, Draft) else getattr(world, event.name.lower())
+    try:
+        return call(event) if isinstance(event, Draft) else call()
+    except g.DraftRefused as error:
+        return Kind.REFUSED, error.fault
+    except g.WrongOrder as error:
+        kinds = {g.Busy: Kind.BUSY, g.NoStrobe: Kind.NO_STROBE, g.Halted: Kind.STILL}
+        return g.Entry(kinds.get(type(error), Kind.NOTHING_PUBLISHED))
+
+
+def test_run():
+    """Many events in one call are the same events as one at a time."""
+    chance, seen = random.Random(SEED), set()
+    with World() as one, World() as many:
+        for _ in range(300):
+            events = [random_event(chance) for _ in range(chance.randint(0, 60))]
+            entries = many.run(iter(events))
+            seen.update(entry.kind for entry in entries)
+            refused = [(entry.kind, g.Fault(entry.value & 15)) if entry.kind is Kind.REFUSED
+                       else entry for entry in entries]
+            expect_same([entry_of(one, event) for event in events], refused, "events of `run`")
+            expect_same((one.events, one.strokes), (many.events, many.strokes), "after `run`")
+    wanted = set(range(Kind.DONE + 1)) | {Kind.STILL, Kind.CLEARED}
+    expect_same(wanted, seen, "these kinds were seen")
+    expect_raises(g.Closed, lambda: many.run([g.Event.TICK]), "a closed world runs nothing")
+
+
+def test_shown():
+    """Representations, equality, pictures in a notebook, and tables of strokes."""
+    draft = Draft().labs(1, 2, 3).vctr(9, -100, 100, 7).svec(2, -3, 3, 0).call(4).jump(5)
+    draft.call_rom(0x800).jump_rom(0xFFF).return_().halt()
+    text = "Draft().labs(1, 2, 3).vctr(9, -100, 100, 7).svec(2, -3, 3, 0).call(4).jump(5)"
+    expect_same(text + ".call_rom(0x800).jump_rom(0xfff).return_().halt()", repr(draft), "a draft")
+    expect(eval(repr(draft)) == draft and draft != Draft(), "drafts are equal by operations")
+    expect(draft != list(draft), "a draft is no list")
+    with World() as world:
+        table = world.stroke_table
+        expect_same((0, 0), (len(table), table.nbytes), "without strokes a table has no rows")
+        world.draw(Draft().labs(9, 9).vctr(9, 1, 2, 3).vctr(9, 3, 2, 1).halt())
+        rows = [[*stroke, 0] for stroke in world.strokes]
+        expect_same(((2, 6), "I"), (world.stroke_table.shape, world.stroke_table.format), "a table")
+        expect_same(rows, world.stroke_table.tolist(), "its rows")
+        order, g.sys.byteorder = g.sys.byteorder, "big"
+        expect_raises(g.Error, lambda: world.stroke_table)
+        g.sys.byteorder = order
+        shown = g.svg(world.strokes)
+        expect_same(shown, world._repr_svg_(), "a world in a notebook")
+        expect_same(shown, g.Picture(9, world.strokes)._repr_svg_(), "a picture in a notebook")
+        events = world.events
+        expect_same(f"<World, {events} events>", repr(world), "a world")
+    expect_same(f"<World, {events} events, closed>", repr(world), "a closed world")
+    driver = Driver()
+    expect_same("<Driver>", repr(driver), "a driver")
+    driver.close()
+    expect_same("<Driver, closed>", repr(driver), "a closed driver")
 
 
 def test_threads():
@@ -838,6 +952,8 @@ def test_texts():
             expect_same(text and text[1], kind.text, f"the text of {kind.name}")
             number = re.search(rf"\b{prefix}{kind.name} = (\d+)", header)
             expect_same(number and int(number[1]), int(kind), f"the number of {kind.name}")
+    for event in g.Event:
+        expect_same(g._Request[event.name], int(event), f"the number of the event {event.name}")
     for request in g._Request:
         number = re.search(rf"\bDVG_REQUEST_{request.name} = (\d+)", header)
         expect_same(number and int(number[1]), int(request), f"the request {request.name}")
@@ -849,6 +965,9 @@ test_driver()
 test_generator()
 test_refusals()
 test_no_memory()
+test_kinds()
+test_run()
+test_shown()
 test_threads()
 test_ranges()
 test_schedules(60)

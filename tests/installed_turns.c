@@ -76,7 +76,8 @@ int main(void)
         for (k = 0; k < count; k++) {
             requests[k] = random_request();
         }
-        asked = dvg_turns(many, requests, answers, count);
+        memcpy(answers, requests, sizeof answers);
+        asked = dvg_turns(many, round % 2 == 0 ? requests : answers, answers, count);
         same += is_the_same(one, requests, answers, asked, count, &dones);
     }
     expect(same == ROUNDS, "dvg_turns answers what dvg_turn answers, and stops after a DVG_DONE");

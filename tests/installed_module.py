@@ -1,0 +1,74 @@
+"""Tests the module gerbilargent as it is installed: what it is, and how fast it is.
+
+    installed_module.py VERSION
+
+The times are those of a processor, the least of some tries. The last line is 'N passed, M failed'.
+"""
+
+import sys
+import time
+from pathlib import Path
+
+import gerbilargent as g
+from gerbilargent import Draft, Event, World
+
+passed = failed = 0
+
+
+def expect(holds, what):
+    """Counts a test."""
+    global passed, failed
+    if holds:
+        passed += 1
+    else:
+        failed += 1
+        print(f"FAILED: {what}")
+
+
+def refuses(kind, call):
+    """Whether a call raises exactly this exception."""
+    try:
+        call()
+    except g.Error as error:
+        return type(error) is kind
+    return False
+
+
+def least_time(call, tries):
+    """The least of the times that a call takes a processor, in seconds."""
+    times = []
+    for _ in range(tries):
+        begin = time.process_time()
+        call()
+        times.append(time.process_time() - begin)
+    return min(times)
+
+
+def frames(count):
+    """The events of as many pictures of one frame."""
+    return ([Event.REDRAW] + [Event.TICK] * 3 + [Event.STROBE] + [Event.FETCH] * 12) * count
+
+
+here = Path(g.__file__).parent
+expect(g.__version__ == sys.argv[1], f"the version is {g.__version__}")
+expect((here / "py.typed").exists(), "it says that it is typed")
+expect(g.library_path() == here / "libdvg.so", "its library lies beside it")
+frame = Draft().labs(512, 400).vctr(9, -100, 100, 7).halt()
+with World() as world:
+    drawn = world.draw(frame)
+    expect(drawn == [g.Stroke(262144, 204800, 210944, 256000, 7)], "a world draws")
+    expect(world.stroke_table.tolist() == [[262144, 204800, 210944, 256000, 7, 0]], "a table")
+    expect(refuses(g.NoInteger, lambda: Draft().labs(1.5, 0)), "a float is refused")
+    expect(refuses(g.NoBytes, lambda: World(ram=2048)), "a RAM that is a number is refused")
+    entry = world.run(frames(1))[-1]
+    expect(str(entry) == "done 205 B000 1", "many events in one call")
+    events = frames(10_000)
+    seconds = least_time(lambda: world.run(events), 7)
+    rate = len(events) / seconds
+    expect(rate > 1e6, f"{rate:.0f} events in a second are fewer than 1,000,000")
+    print(f"{rate / 1e6:.1f} million events in a second; ", end="")
+opened = least_time(World, 50)
+expect(opened < 1e-3, f"a world takes {opened * 1e3:.1f} ms")
+print(f"a world in {opened * 1e3:.2f} ms")
+print(f"{passed} passed, {failed} failed")
+sys.exit(failed != 0)
