@@ -240,7 +240,10 @@ impl<'a> Command<'a> {
         let names = gathered(self.parts.iter().map(|part| part.name))?;
         let why = "requires a subcommand but one was not provided";
         let (name, names) = (self.name, Joined(&names, ", "));
-        self.refused(format_args!("'{name}' {why}\n  [subcommands: {names}, help]"), "")
+        self.refused(
+            format_args!("'{name}' {why}\n  [subcommands: {names}, help]"),
+            "",
+        )
     }
 
     /// Takes a flag or an option with a long name, without its dashes. The arguments after it may
@@ -311,7 +314,9 @@ impl<'a> Command<'a> {
         let own = self.args.iter().map(|arg| arg.long);
         let longs = own.chain(["help"]).chain(self.version.map(|_| "version"));
         if let Some(like) = similar(name, longs)?.last() {
-            return text(format_args!("  tip: a similar argument exists: '--{like}'\n\n"));
+            return text(format_args!(
+                "  tip: a similar argument exists: '--{like}'\n\n"
+            ));
         }
         let has_it = |part: &&Command<'_>| part.args.iter().any(|arg| arg.long == name);
         rest.iter()
@@ -335,7 +340,10 @@ impl<'a> Command<'a> {
         };
         let tip = match like_it {
             "" => String::new(),
-            _ => text(format_args!("  tip: {like_it}: '{}'\n\n", Joined(&like, "', '")))?,
+            _ => text(format_args!(
+                "  tip: {like_it}: '{}'\n\n",
+                Joined(&like, "', '")
+            ))?,
         };
         self.refused(format_args!("unrecognized subcommand '{argument}'"), &tip)
     }
@@ -517,7 +525,10 @@ impl Error {
 
     fn help(command: &Command) -> Result<Error, AllocError> {
         let mut text = Growing(String::new());
-        text.add(format_args!("{}\n\nUsage: {}\n", command.about, command.usage))?;
+        text.add(format_args!(
+            "{}\n\nUsage: {}\n",
+            command.about, command.usage
+        ))?;
         if !command.parts.is_empty() {
             text.add(format_args!("\nCommands:\n"))?;
             add_table(&mut text, &parts_of(command)?)?;
@@ -559,7 +570,10 @@ fn options_of<'a>(command: &Command<'a>) -> Result<Vec<Row<'a>>, AllocError> {
     }
     add(&mut rows, row(format_args!("-h, --help"), "Print help")?)?;
     if command.version.is_some() {
-        add(&mut rows, row(format_args!("-V, --version"), "Print version")?)?;
+        add(
+            &mut rows,
+            row(format_args!("-V, --version"), "Print version")?,
+        )?;
     }
     Ok(rows)
 }

@@ -1,5 +1,7 @@
 //! Allocators, boxes and vectors.
 use core::alloc::Layout;
+use core::error::Error;
+use core::fmt;
 use core::mem::ManuallyDrop;
 use core::ops::{Deref, DerefMut};
 use heap::vec;
@@ -19,9 +21,31 @@ impl<A: Allocator> Allocator for &A {}
 #[derive(Clone, Copy, Debug, PartialEq, Eq)]
 pub struct AllocError;
 
+impl fmt::Display for AllocError {
+    fn fmt(&self, f: &mut fmt::Formatter<'_>) -> fmt::Result {
+        f.write_str("out of memory")
+    }
+}
+
+impl Error for AllocError {}
+
 /// Memory was refused for a value, which comes back.
-#[derive(Clone, Copy, Debug, PartialEq, Eq)]
+#[derive(Clone, Copy, PartialEq, Eq)]
 pub struct AllocFailed<T>(pub T);
+
+impl<T> fmt::Debug for AllocFailed<T> {
+    fn fmt(&self, f: &mut fmt::Formatter<'_>) -> fmt::Result {
+        f.write_str("AllocFailed")
+    }
+}
+
+impl<T> fmt::Display for AllocFailed<T> {
+    fn fmt(&self, f: &mut fmt::Formatter<'_>) -> fmt::Result {
+        AllocError.fmt(f)
+    }
+}
+
+impl<T> Error for AllocFailed<T> {}
 
 impl<T> From<AllocFailed<T>> for AllocError {
     fn from(_refused: AllocFailed<T>) -> AllocError {
@@ -271,5 +295,69 @@ impl<'a, T, A> IntoIterator for &'a Vec<T, A> {
 
     fn into_iter(self) -> core::slice::Iter<'a, T> {
         self.items.iter()
+    }
+}
+
+impl<'a, T, A> IntoIterator for &'a mut Vec<T, A> {
+    type Item = &'a mut T;
+    type IntoIter = core::slice::IterMut<'a, T>;
+
+    fn into_iter(self) -> core::slice::IterMut<'a, T> {
+        self.items.iter_mut()
+    }
+}
+
+/// The elements of a vector of Rust's own, without a copy.
+impl<T> From<vec::Vec<T>> for Vec<T> {
+    fn from(items: vec::Vec<T>) -> Vec<T> {
+        let alloc = Global;
+        Vec { alloc, items }
+    }
+}
+
+/// The elements as a vector of Rust's own, without a copy.
+impl<T, A> From<Vec<T, A>> for vec::Vec<T> {
+    fn from(vector: Vec<T, A>) -> vec::Vec<T> {
+        vector.items
+    }
+}
+
+impl<T: PartialEq, A> PartialEq<[T]> for Vec<T, A> {
+    fn eq(&self, other: &[T]) -> bool {
+        self.items == other
+    }
+}
+
+impl<T: PartialEq, A, const N: usize> PartialEq<[T; N]> for Vec<T, A> {
+    fn eq(&self, other: &[T; N]) -> bool {
+        self.items == other
+    }
+}
+
+/// Rust's own traits, whose calls take memory that can't be refused: they end the process there.
+impl<T: core::clone::Clone, A: core::clone::Clone> core::clone::Clone for Vec<T, A> {
+    fn clone(&self) -> Vec<T, A> {
+        Vec {
+            alloc: self.alloc.clone(),
+            items: self.items.clone(),
+        }
+    }
+}
+
+impl<T> FromIterator<T> for Vec<T> {
+    fn from_iter<I: IntoIterator<Item = T>>(items: I) -> Vec<T> {
+        vec::Vec::from_iter(items).into()
+    }
+}
+
+impl<T, A> Extend<T> for Vec<T, A> {
+    fn extend<I: IntoIterator<Item = T>>(&mut self, items: I) {
+        self.items.extend(items);
+    }
+}
+
+impl<T> Default for Vec<T> {
+    fn default() -> Vec<T> {
+        Vec::new(Global)
     }
 }

@@ -25,7 +25,10 @@ impl Hasher for FoldHasher {
         }
         let rest = words.remainder();
         if !rest.is_empty() {
-            self.mix(rest.iter().rfold(0, |mixed, byte| mixed << 8 | u64::from(*byte)));
+            self.mix(
+                rest.iter()
+                    .rfold(0, |mixed, byte| mixed << 8 | u64::from(*byte)),
+            );
         }
     }
 

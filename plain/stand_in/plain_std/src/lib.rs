@@ -11,9 +11,9 @@ extern crate alloc as heap;
 extern crate std as host;
 
 pub mod alloc;
-pub mod hash;
 #[cfg(all(feature = "c", not(feature = "io")))]
 mod c;
+pub mod hash;
 #[cfg(feature = "io")]
 pub mod io;
 #[cfg(feature = "program")]

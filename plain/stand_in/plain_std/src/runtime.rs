@@ -142,7 +142,8 @@ impl<W: Write> BufWriter<W> {
     /// A writer with a buffer of this many bytes.
     pub fn with_capacity(_alloc: Global, capacity: usize, writer: W) -> Result<BufWriter<W>> {
         let mut kept = Vec::new();
-        kept.try_reserve_exact(capacity).map_err(|_| ErrorKind::OutOfMemory)?;
+        kept.try_reserve_exact(capacity)
+            .map_err(|_| ErrorKind::OutOfMemory)?;
         Ok(BufWriter { writer, kept })
     }
 
@@ -203,7 +204,9 @@ pub mod env {
         match start::words() {
             Some(given) => {
                 for word in given {
-                    words.push(copy_of(word.to_str().map_err(|_| ErrorKind::InvalidInput)?)?)?;
+                    words.push(copy_of(
+                        word.to_str().map_err(|_| ErrorKind::InvalidInput)?,
+                    )?)?;
                 }
             }
             None => {
@@ -218,7 +221,8 @@ pub mod env {
     /// A text of the same letters.
     fn copy_of(word: &str) -> Result<String> {
         let mut text = String::new();
-        text.try_reserve_exact(word.len()).map_err(|_| ErrorKind::OutOfMemory)?;
+        text.try_reserve_exact(word.len())
+            .map_err(|_| ErrorKind::OutOfMemory)?;
         text.push_str(word);
         Ok(text)
     }

@@ -15,6 +15,12 @@ pub struct ArrayVec<T: Copy, const N: usize> {
     at: [MaybeUninit<T>; N],
 }
 
+impl<T: Copy, const N: usize> Default for ArrayVec<T, N> {
+    fn default() -> ArrayVec<T, N> {
+        ArrayVec::new()
+    }
+}
+
 impl<T: Copy, const N: usize> ArrayVec<T, N> {
     /// A vector of nothing.
     pub const fn new() -> ArrayVec<T, N> {

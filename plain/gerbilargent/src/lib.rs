@@ -1,0 +1,55 @@
+//! Gerbilargent in one crate: a frame driver for Atari's Digital Vector Generator (DVG), and a
+//! model of both ends of the vector RAM. It only names what other crates have; it is `no_std`.
+//!
+//! This is the plain form: the proved sources without their contracts, tested and not proved.
+//!
+//! A `Draft` is a frame in the making. A `World` is both ends over one memory, and has a call for
+//! each event; a `Driver` and a `Generator` are each end alone. A `Judge` says which write tears a
+//! picture.
+//!
+//! ```
+//! use gerbilargent::{Action, Code, Draft, Entry, Flat, Global, Image, Instr, Op, OpKind};
+//! use gerbilargent::{Rom, World};
+//!
+//! # fn draw() -> Option<()> {
+//! let mut draft = Draft::new();
+//! let labs = Instr::Labs { x: 512, y: 400, scale: 0 };
+//! let vector = Instr::Vctr { scale: 9, dx: -100, dy: 100, z: 7 };
+//! draft.push(Op::new(OpKind::Draw(Code::new(labs)?))?).ok()?;
+//! draft.push(Op::new(OpKind::Draw(Code::new(vector)?))?).ok()?;
+//! draft.push(Op::new(OpKind::Halt)?).ok()?;
+//!
+//! let rom = Rom::new(Global, &[0; 2048]).ok()?;
+//! let ram = Image::new(Global, &[0; 2048]).ok()?;
+//! let mut world = World::<Flat>::new(Global, rom, &ram).ok()?;
+//! while world.tick() != Entry::Acted(Action::Idle) {}
+//! assert_eq!(world.offer(&draft), Entry::Offered);
+//! while world.tick() != Entry::Acted(Action::Sent) {}
+//! world.strobe();
+//! loop {
+//!     if let Entry::Done(address, _, strokes) = world.fetch().ok()? {
+//!         assert_eq!((address, strokes.len()), (0x205, 1));
+//!         return Some(());
+//!     }
+//! }
+//! # }
+//! # draw().unwrap();
+//! ```
+#![no_std]
+
+pub use dvg_code::*;
+pub use dvg_driver::*;
+pub use dvg_frame::*;
+pub use dvg_gen::*;
+pub use dvg_mem::*;
+pub use dvg_world::*;
+pub use plain_std::alloc::{AllocError, AllocFailed, Allocator, Box, Global, Vec};
+
+/// What a dump of the vector memory draws.
+pub use dvg_dump as dump;
+/// Sketches as texts: drafts with names, and shapes in a ROM.
+pub use dvg_named as named;
+/// Drafts, ROMs and traces as texts.
+pub use dvg_read as read;
+/// Drafts whose operations call each other by name.
+pub use dvg_sketch as sketch;
