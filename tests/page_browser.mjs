@@ -1,10 +1,10 @@
 // The page in a Chromium without a screen, as a person would use it: clicks, keys, drops. Called by
 // tests/page:
 //
-//     node tests/page_browser.mjs CHROMIUM DVG FOLDER SEEDS EVENTS
+//     node tests/page_browser.mjs CHROMIUM DVG FOLDER SEEDS EVENTS [TEST..]
 //
-// FOLDER is for what is thrown away; the screenshots come there, too. The last line is 'N passed, M
-// failed'.
+// FOLDER is for what is thrown away; the screenshots come there, too. Tests that are named are done
+// alone. The last line is 'N passed, M failed'.
 import { execFileSync, spawnSync } from 'node:child_process';
 import { existsSync, readFileSync, readdirSync, writeFileSync } from 'node:fs';
 import { createServer } from 'node:http';
@@ -12,7 +12,7 @@ import { startChromium } from './page_chromium.mjs';
 import { LESSONS } from '../page/src/lessons.mjs';
 
 const [chromium, program, work] = process.argv.slice(2, 5),
-  [seeds, events] = process.argv.slice(5).map(Number);
+  [seeds, events] = process.argv.slice(5, 7).map(Number), chosen = process.argv.slice(7);
 const top = new URL('..', import.meta.url).pathname;
 const file = `${top}page/dvg.html`, address = `file://${file}`;
 let passed = 0, failed = 0;
@@ -32,7 +32,7 @@ function runProgram(args, input) {
 }
 
 // What `dvg torn` says of a log that isn't torn, and what it counts besides.
-const SEEN = '[0-9]+ runs, [0-9]+ halted, [0-9]+ writes';
+const SEEN = '[0-9]+ runs, .*[0-9]+ writes';
 const NOT_TORN = new RegExp(`^not torn: ${SEEN}$`);
 const TORN = new RegExp(
   `^torn at line [0-9]+: wrote [0-9A-F]{3} [0-9A-F]{2} \\(event [0-9]+\\), so far: ${SEEN}$`);
@@ -45,6 +45,13 @@ await browser.send('Browser.setDownloadBehavior',
 // --- What a person does ---
 
 const set = (id, text) => tab.type(id, String(text));
+
+// Opens the page, and skips its tour.
+async function openPage(url = address) {
+  await tab.open(url);
+  if (await tab.value('!document.getElementById("tour").hidden')) await tab.click('tour-end');
+  await tab.value('scrollTo(0, 0)');
+}
 
 // The texts of all elements that a selector names.
 function textsOf(selector) {
@@ -81,11 +88,11 @@ async function saved(name, button) {
 
 async function testBeginning() {
   await tab.size(1600, 1000);
-  await tab.open(address);
+  await openPage();
   expect('what is proved is said',
     /runs the erased form of the proved sources, as WebAssembly: it is\s+tested, not proved\./,
     await tab.value('document.querySelector(".proved").textContent'));
-  expect('a newcomer sees a picture', /^Picture [0-9]+, .* whole\. It is frame [AB]\./,
+  expect('a newcomer sees a picture', /^Picture [0-9]+, .* whole\. It is frame (\w+ of )?[AB]\./,
     await tab.text('picture-text'));
   expect('and no torn one', NOT_TORN, await tab.text('judged'));
   for (const width of [1500, 700, 1280]) {
@@ -95,7 +102,7 @@ async function testBeginning() {
   }
   for (const width of [1280, 1500, 1600]) {
     await tab.size(width, 1000);
-    await tab.open(address);
+    await openPage();
     await tab.settle();
     expect(`${width} pixels from the beginning: it is seen`, true,
       (await tab.value(REDS)).blue > 100);
@@ -106,14 +113,17 @@ async function testTyping() {
   const marked = () => tab.value('document.querySelector("#A .numbers b")?.textContent ?? "none"');
   const cases = [
     ['labs 512 400 0\nvctr 9 -100 100 7\nhalt', 'ok 5 words 6 fetches', 'none'],
-    ['labs 512 400 0\nvctr 9 -100 100\nhalt', 'syntax at line 2', '2'],
-    ['labs 0 0 0\n\ncall 9\nhalt', 'fault 4 target 1, at line 3', '3'],
-    ['labs 0 0 0\nhalt\ncall rock', "unknown name 'rock' at line 3", '3'],
-    ['rock: labs 0 0 0\njump rock # for ever', 'fault 9 loops', 'none'],
-    ['rom 800 B000\nlabs 0 0 0', 'a line of the ROM, which has its own editor, at line 1', '1'],
-    ['', 'fault 1 empty, at line 1', '1'],
-    ['halt', 'fault 2 no labs, at line 1', '1'],
-    ['labs 0 0 0\nreturn', 'fault 8 no caller op 1, at line 2', '2'],
+    ['labs 512 400 0\nvctr 9 -100 100\nhalt', 'syntax at line 2: vctr 9 -100 100\n'
+      + 'expected vctr S DX DY Z: S 0 to 9, DX and DY -1023 to 1023, Z 0 to 15', '2'],
+    ['labs 0 0 0\n\ncall 9\nhalt', 'line 3: call 9: fault 4 target 1', '3'],
+    ['labs 0 0 0\nhalt\ncall rock', 'unknown name at line 3: call rock\n'
+      + 'expected a name of this frame: no line gives rock', '3'],
+    ['rock: labs 0 0 0\njump rock # for ever', 'line 1: labs 0 0 0: fault 9 loops', '1'],
+    ['', 'line 1: : fault 1 empty', '1'],
+    ['halt', 'line 1: halt: fault 2 no labs', '1'],
+    ['labs 0 0 0\nreturn', 'line 2: return: fault 8 no caller op 1', '2'],
+    ['.frame one\nlabs 5 5 0\nvctr 9 10 0 7\nhalt\n.frame two\nlabs 5 5 0\nhalt',
+      'ok 2 frames of at most 5 words', 'none'],
   ];
   for (const [text, said, line] of cases) {
     await set('textA', text);
@@ -160,8 +170,6 @@ async function testOneByOne() {
 }
 
 async function testSeeds() {
-  await tab.choose('pickA', 'score');
-  await tab.choose('pickB', 'rocks');
   let lines = 0;
   for (let seed = 1; seed <= seeds; seed++) {
     await runSeed(seed, ['chance', 'resets', 'board'][seed % 3]);
@@ -192,14 +200,14 @@ const REDS = `(() => {
 
 async function testCutWire() {
   await tab.media({ 'color-scheme': 'dark' });
-  await tab.size(1280, 1330);
-  await tab.open(address);
+  await tab.size(1280, 900);
+  await openPage();
   await runSeed(1);
   await tab.click('picture-back');
   const whole = await tab.value(REDS);
   expect('a whole picture is not red', true, whole.red === 0 && whole.blue > 100);
   await tab.click('zoom-all');
-  await tab.value('document.querySelector("main").scrollIntoView()');
+  await tab.value('scrollTo(0, 0)');
   writeFileSync(`${work}/page_whole.png`, await tab.screenshot());
   await tab.click('wire');
   expect('the wire is cut',
@@ -222,7 +230,7 @@ async function testCutWire() {
     await tab.text('picture-text'));
   const torn = await tab.value(REDS);
   expect('a torn picture is red', true, torn.red > 100);
-  await tab.value('document.querySelector("main").scrollIntoView()');
+  await tab.value('scrollTo(0, 0)');
   writeFileSync(`${work}/page_cut.png`, await tab.screenshot());
   await tab.click('compare');
   expect('play has no cut wire',
@@ -261,7 +269,7 @@ async function testLessons() {
 }
 
 async function testLessonsNow() {
-  await tab.open(address);
+  await openPage();
   for (const [k, { title, sentences, shows }] of LESSONS.entries()) {
     await tab.click(`#lessons li:nth-child(${k + 1}) a`);
     expect(`lesson ${title} opens`, true,
@@ -278,7 +286,7 @@ async function testLessonsNow() {
 }
 
 async function testLink() {
-  await tab.open(address);
+  await openPage();
   await runSeed(11, 'resets');
   await tab.click('picture-back');
   await tab.click('link');
@@ -292,13 +300,13 @@ async function testLink() {
   const wanted = await seen(), first = tab;
   tab = await browser.newTab();
   await tab.size(1600, 1000);
-  await tab.open(link);
+  await openPage(link);
   expect('it holds all of the state', wanted, await seen());
   await tab.click('compare');
   expect('and the same log', new RegExp(`^the same: ${events} events`), await tab.text('compared'));
-  await tab.open(`${address}#z=AAAA`);
+  await openPage(`${address}#z=AAAA`);
   expect('a broken link is told', /holds no state/, await tab.text('said'));
-  await tab.open(`${address}#trace=tick%20x`);
+  await openPage(`${address}#trace=tick%20x`);
   expect('a broken trace is told', /syntax at line 1/, await tab.text('said'));
   expect('the other tab has no fault', '', tab.faults.join());
   await tab.close();
@@ -314,7 +322,7 @@ function put(name, bytes) {
 }
 
 async function testFiles() {
-  await tab.open(address);
+  await openPage();
   const dump = new Uint8Array(4096);
   dump.set([1, 0xE0, 0x90, 0xA1, 0, 2, 0x64, 0x90, 0x64, 0x74, 0, 0xB0]);
   await tab.drop('screen', put('a.dump', dump));
@@ -369,7 +377,7 @@ async function testHttp() {
   });
   await new Promise((resolve) => { server.listen(0, '127.0.0.1', resolve); });
   const before = tab.requests.length;
-  await tab.open(`http://127.0.0.1:${server.address().port}/dvg.html`);
+  await openPage(`http://127.0.0.1:${server.address().port}/dvg.html`);
   await tab.click('once');
   await tab.click('compare');
   expect('over http: compared', /^the same/, await tab.text('compared'));
@@ -387,7 +395,7 @@ async function testHttp() {
 async function testWidths() {
   for (const width of [400, 800, 1600]) {
     await tab.size(width, 900, width === 400);
-    await tab.open(address);
+    await openPage();
     expect(`${width} pixels: nothing stands out`, true,
       await tab.value('document.documentElement.scrollWidth <= innerWidth'));
     const out =
@@ -409,6 +417,108 @@ async function testWidths() {
   }
   await tab.size(1600, 1000);
 }
+
+// Which of these parts aren't in view as a whole: out of the window, out of what scrolls around
+// them, or under something else.
+function outOfView(selectors) {
+  return tab.value(`(() => {
+    const within = (box, other) => box.left >= other.left - 1 && box.right <= other.right + 1
+      && box.top >= other.top - 1 && box.bottom <= other.bottom + 1;
+    const frame = { left: 0, top: 0, right: innerWidth, bottom: innerHeight };
+    const clipped = (one) => { for (let up = one.parentElement; up; up = up.parentElement) {
+      const style = getComputedStyle(up);
+      if (/auto|scroll|hidden/.test(style.overflowY)
+        && !within(one.getBoundingClientRect(), up.getBoundingClientRect())) return true;
+    } return false; };
+    const covered = (one, { left, right, top, bottom }) => {
+      const over = document.elementFromPoint((left + right) / 2, (top + bottom) / 2);
+      return !one.contains(over);
+    };
+    return ${JSON.stringify(selectors)}.filter((selector) => {
+      const one = document.querySelector(selector), box = one.getBoundingClientRect();
+      return box.height === 0 || !within(box, frame) || clipped(one) || covered(one, box);
+    }).join(' ');
+  })()`);
+}
+
+const SEEN_AT_ONCE = ['#screen', '#rows', '#run', '#wire', '#verdict', '#moment-text'];
+const SIZES = [[400, 800], [800, 900], [1280, 900], [1920, 1080]];
+
+async function testInView() {
+  for (const [width, height] of SIZES) {
+    const what = `${width} by ${height}`;
+    await tab.size(width, height, width === 400);
+    await tab.open(address);
+    expect(`${what}: the tour in view`, '', await outOfView([...SEEN_AT_ONCE, '#tour-title']));
+    await openPage();
+    expect(`${what}: in view`, '', await outOfView(SEEN_AT_ONCE));
+    writeFileSync(`${work}/page_${width}_first.png`, await tab.screenshot());
+    for (let k = 1; k <= LESSONS.length; k++) {
+      await tab.value('scrollTo(0, 0)');
+      await tab.value(`document.querySelector('#lessons li:nth-child(${k}) a').click()`);
+      await comesWith('lesson-title', `${k}. `);
+      const text = width < 1280 ? ['#lesson-title'] : ['#lesson-title', '#lesson-text'];
+      expect(`${what}: lesson ${k} in view`, '', await outOfView([...SEEN_AT_ONCE, ...text]));
+    }
+    writeFileSync(`${work}/page_${width}_lesson.png`, await tab.screenshot());
+  }
+  await tab.size(400, 800, true);
+  await openPage();
+  await tab.value('document.getElementById("memory").scrollIntoView()');
+  expect('on a phone all that stays, however far one scrolls', '', await outOfView(SEEN_AT_ONCE));
+  await tab.size(1600, 1000);
+}
+
+// --- The tour, and what a tear is ---
+
+async function testTour() {
+  await tab.size(1280, 900);
+  await tab.media({ 'color-scheme': 'dark' });
+  await tab.open(address);
+  expect('the tour begins by itself', '1 of 3: Whole', await tab.text('tour-title'));
+  const early = await tab.text('counts');
+  await new Promise((resolve) => { setTimeout(resolve, 500); });
+  expect('and it moves', true, early !== await tab.text('counts'));
+  expect('then the wire is cut', true, await comes('tour-title', '2 of 3: Cut'));
+  expect('so says its button', 'Mend the HALT wire', await tab.text('wire'));
+  expect('and a picture is torn', true, await comes('tour-title', '3 of 3: Torn'));
+  expect('the run has ended', 'Run', await tab.text('run'));
+  expect('the tear is told',
+    /^Event ([0-9]+) wrote .. over .. into byte .*Event [0-9]+ read that word/,
+    await tab.text('tear-text'));
+  const [red, of] = (await tab.text('tear-text')).match(/[0-9]+ of [0-9]+ strokes/)[0]
+    .match(/[0-9]+/g).map(Number);
+  expect('parts of two frames are seen', true, red >= 0.2 * of && red <= 0.8 * of);
+  const { red: reds, blue } = await tab.value(REDS);
+  expect('in two colours', true, reds > 100 && blue > 100);
+  for (const id of ['wanted', 'next']) {
+    const lit = await tab.value(LIT.replace('ID', id));
+    expect(`the frame of ${id} is drawn`, true, lit > 200);
+  }
+  expect('all of it in view', '', await outOfView([...SEEN_AT_ONCE, '#tear-text', '#next']));
+  writeFileSync(`${work}/page_torn.png`, await tab.screenshot());
+  await tab.click('tear-go');
+  expect('the byte is shown', /into the half that is being drawn\.$/, await tab.text('moment-text'));
+  await tab.click('tear-back');
+  expect('and the picture again', /: done /, await tab.text('moment-text'));
+  await tab.click('tour-again');
+  expect('once more', '1 of 3: Whole', await tab.text('tour-title'));
+  await tab.click('tour-end');
+  expect('skipped, it rests', 'Run/event 6000 ',
+    `${await tab.text('run')}/${(await tab.text('counts')).slice(0, 11)}`);
+  expect('and the tour is gone', true, await tab.value('document.getElementById("tour").hidden'));
+  await tab.media({});
+  await tab.size(1600, 1000);
+}
+
+// How many pixels of a canvas aren't dark.
+const LIT = `(() => {
+  const canvas = document.getElementById('ID'),
+    { data } = canvas.getContext('2d').getImageData(0, 0, canvas.width, canvas.height);
+  let lit = 0;
+  for (let k = 0; k < data.length; k += 4) if (data[k] + data[k + 1] + data[k + 2] > 120) lit++;
+  return lit;
+})()`;
 
 // The least contrast of a text with what lies under it.
 const CONTRAST = `(() => {
@@ -434,7 +544,7 @@ async function testColors() {
   const backs = [];
   for (const scheme of ['dark', 'light']) {
     await tab.media({ 'color-scheme': scheme });
-    await tab.open(address);
+    await openPage();
     await tab.click('#lessons li:nth-child(6) a');
     await tab.until('!document.getElementById("lesson").hidden');
     expect(`${scheme}: texts stand out`, true, await tab.value(CONTRAST) >= 4.5);
@@ -447,7 +557,7 @@ async function testColors() {
 
 async function testMotion() {
   await tab.media({ 'color-scheme': 'dark', 'reduced-motion': 'reduce' });
-  await tab.open(address);
+  await openPage();
   await tab.click('anew');
   await set('count', 3000);
   await tab.click('run');
@@ -457,7 +567,7 @@ async function testMotion() {
 }
 
 async function testKeys() {
-  await tab.open(address);
+  await openPage();
   const focused =
     () => tab.value('(({ id, dataset, textContent }) => id || dataset.event || textContent)'
       + '(document.activeElement)');
@@ -475,9 +585,9 @@ async function testKeys() {
   expect('Home: before the first event', /^Before the first/, await tab.text('moment-text'));
   await tab.key('ArrowRight');
   await tab.key('ArrowRight');
-  expect('two events on', 'Event 1 of 3000, a tick: read halted.', await tab.text('moment-text'));
+  expect('two events on', 'Event 1 of 6000, a tick: read halted.', await tab.text('moment-text'));
   await tab.key('End');
-  expect('End: the newest event', /^Event 2999 of 3000/, await tab.text('moment-text'));
+  expect('End: the newest event', /^Event 5999 of 6000/, await tab.text('moment-text'));
   await tab.value('document.getElementById("memory").focus()');
   await tab.key('ArrowRight');
   await tab.key('ArrowRight');
@@ -489,15 +599,15 @@ async function testKeys() {
 }
 
 async function testRows() {
-  await tab.open(address);
+  await openPage();
   await tab.click('zoom-all');
   const { left, top: y, width, height } = await tab.middle('rows');
   await tab.clickAt(left + width / 2, y + height / 2);
-  expect('a click shows that moment', /^Event 1[45][0-9][0-9] of 3000/,
+  expect('a click shows that moment', /^Event (29|30)[0-9][0-9] of 6000/,
     await tab.text('moment-text'));
   await tab.click('zoom-in');
   await tab.click('zoom-in');
-  expect('zoomed in, it is still there', /^Event 1[45][0-9][0-9] of 3000/,
+  expect('zoomed in, it is still there', /^Event (29|30)[0-9][0-9] of 6000/,
     await tab.text('moment-text'));
   await tab.click('picture-back');
   expect('the picture before', /: done /, await tab.text('moment-text'));
@@ -538,7 +648,7 @@ async function testRows() {
 }
 
 async function testReadAloud() {
-  await tab.open(address);
+  await openPage();
   const { nodes } = await tab.send('Accessibility.getFullAXTree');
   const named = nodes.filter(({ ignored }) => !ignored)
     .map(({ role, name }) => [role?.value, name?.value ?? '']);
@@ -560,7 +670,7 @@ async function testSpeed() {
     `vctr 7 ${[600, -560, -590, 570][k % 4]} ${[370, 560, -380, -540][k % 4]} ${1 + k % 15}`);
   const draft = ['labs 400 400 0', ...vectors, 'halt'].join('\n');
   await tab.size(1600, 1000);
-  await tab.open(address);
+  await openPage();
   await set('textA', draft);
   await set('textB', draft);
   expect('254 strokes', 'ok 511 words 512 fetches', await tab.text('saidA'));
@@ -590,9 +700,10 @@ async function testSpeed() {
 const tests = {
   testBeginning, testTyping, testOneByOne, testSeeds, testCutWire, testRunning, testLessons,
     testLink, testFiles,
-  testHttp, testWidths, testColors, testMotion, testKeys, testRows, testReadAloud, testSpeed,
+  testHttp, testInView, testTour, testWidths, testColors, testMotion, testKeys, testRows, testReadAloud, testSpeed,
 };
 for (const [name, test] of Object.entries(tests)) {
+  if (chosen.length > 0 && !chosen.includes(name)) continue;
   await test().catch((fault) => {
     failed++;
     console.log(`FAILED: ${name}: ${fault.stack}`);

@@ -16,25 +16,31 @@ export class Random {
   }
 }
 
-/* Offers A, A, B, B and so on. By turns of one, each half would always get the same frame, and a
- * tear could not be seen. */
+/* The frames of two sketches in the order in which they are offered. Where each has one it is A, A,
+ * B, B: by turns of one, each half would always get the same frame, and a tear could not be seen. */
+export function reelOf(a, b) {
+  return a.length === 1 && b.length === 1 ? [...a, ...a, ...b, ...b] : [...a, ...b];
+}
+
+/* Offers the frames of a reel in turn. */
 class Offers {
-  constructor(drafts) {
-    this.drafts = drafts;
+  constructor(reel) {
+    this.reel = reel;
     this.count = 0;
   }
 
   next() {
-    return { name: 'offer', draft: this.drafts()[this.count++ % 4 < 2 ? 0 : 1] };
+    const frames = this.reel();
+    return { name: 'offer', draft: frames[this.count++ % frames.length] };
   }
 }
 
 /* Ticks, fetches and strobes by chance. A strobe comes late, and three of four that would come to a
  * running generator get lost: it would begin anew each time. */
 export class Chance {
-  constructor(seed, drafts, resets = false) {
+  constructor(seed, reel, resets = false) {
     this.random = new Random(seed);
-    this.offers = new Offers(drafts);
+    this.offers = new Offers(reel);
     this.resets = resets;
     this.late = 0;
   }
@@ -105,9 +111,9 @@ class WordTimes {
  * arrives at once, and the next frame is offered 4 to 20 milliseconds after the one before, as soon
  * as the driver is idle. The seed chooses how long after. */
 export class Proportions {
-  constructor(seed, drafts) {
+  constructor(seed, reel) {
     this.random = new Random(seed);
-    this.offers = new Offers(drafts);
+    this.offers = new Offers(reel);
     this.words = new WordTimes();
     this.driver = 0;
     this.generator = 0;

@@ -99,12 +99,3 @@ export function faultText({ address, value }) {
 export function hex(number, digits) {
   return number.toString(16).toUpperCase().padStart(digits, '0');
 }
-
-/* The line of a draft that what `dvg check` says is about: of an operation, or of a syntax. */
-export function lineAtFault(said, plain, romLines) {
-  const place = /^fault [0-9] .*?(?:op )?([0-9]+)$/.exec(said);
-  const line = /at line ([0-9]+)$/.exec(said);
-  if (line) return Number(line[1]) - romLines;
-  if (/^fault [1-2] /.test(said)) return plain.lineOf[0] ?? 1;
-  return place && !said.includes('word') ? plain.lineOf[Number(place[1])] ?? null : null;
-}

@@ -1,6 +1,7 @@
 /* The editors of frames and of the ROM, each checked while one types. */
-import { COMMAND, OPTION } from './engine.mjs';
-import { lineAtFault, operationsOf, plainDraft, plainLines, romOf } from './drafts.mjs';
+import { COMMAND } from './engine.mjs';
+import { plainLines, romOf } from './drafts.mjs';
+import { hasRom, readSketch } from './sketches.mjs';
 
 function make(tag, fields, ...children) {
   const element = Object.assign(document.createElement(tag), fields);
@@ -8,8 +9,16 @@ function make(tag, fields, ...children) {
   return element;
 }
 
+/* The numbers of lines, each on its own. */
+function numbersText(from, to) {
+  let text = '';
+  for (let line = from; line <= to; line++) text += `${line}\n`;
+  return text;
+}
+
 class Editor {
   constructor(place, title, changed) {
+    this.place = place;
     this.text = make('textarea', { spellcheck: false, wrap: 'off', id: `text${place.id}` });
     this.numbers = make('pre', { className: 'numbers' });
     this.numbers.setAttribute('aria-hidden', 'true');
@@ -45,36 +54,59 @@ class Editor {
     this.said.className = bad ? 'said bad' : 'said good';
     this.text.setAttribute('aria-invalid', String(bad));
     const count = this.value.split('\n').length;
-    const numbers = Array.from({ length: count }, (_, k) => {
-      const number = make(k + 1 === line ? 'b' : 'span', { textContent: String(k + 1) });
-      return [number, '\n'];
-    });
-    this.numbers.replaceChildren(...numbers.flat());
+    const before = numbersText(1, line === null ? count : line - 1);
+    const after = line === null ? '' : numbersText(line + 1, count);
+    const marked = line === null ? [] : [make('b', { textContent: String(line) }), '\n'];
+    this.numbers.replaceChildren(before, ...marked, after);
     this.numbers.scrollTop = this.text.scrollTop;
   }
 }
 
-/* Says at which line a fault is, where the text doesn't. */
-function withLine(text, line) {
-  return line === null || / at line /.test(text) ? text : `${text}, at line ${line}`;
+/* The line that a fault of a sketch tells, or null. */
+function lineOfFault(said) {
+  const [, , line] = /^(line|.* at line) ([0-9]+)/.exec(said) ?? [];
+  return line === undefined ? null : Number(line);
 }
 
+/* The same fault, of a text after so many lines of a ROM that isn't shown. */
+function withoutRom(said, lines) {
+  return said.replace(/^(line|.* at line) ([0-9]+)/, (_, what, line) => `${what} ${line - lines}`);
+}
+
+/* What is said of good frames: of one what `dvg render --check` says, of more how many. */
+function goodText(said, frames) {
+  if (frames.length === 1) return said.replace(/^\w+: /, '');
+  const most = Math.max(...said.match(/[0-9]+(?= words)/g).map(Number));
+  return `ok ${frames.length} frames of at most ${most} words`;
+}
+
+/* Where somebody writes a frame, or a sketch of several, which are offered in turn. */
 export class DraftEditor extends Editor {
-  /* Checks the draft over a ROM. Whether it can be offered: a draft that is refused can. */
+  /* Checks the frames, over a ROM where they bring none. Whether they can be offered: a frame that
+   * is refused can. */
   check(engine, rom) {
-    const plain = plainDraft(this.value);
-    this.lines = operationsOf(plain);
-    if (plain.fault !== null) {
-      this.tell(plain.fault.text, plain.fault.line);
-      this.offerable = false;
-      return;
-    }
-    const got = engine.run(COMMAND.check + OPTION, `${rom.text}${plain.lines.join('\n')}\n`);
-    const said = (got.output || got.error.replace(/^dvg: /, '')).trim();
-    const line = got.status === 0 ? null : lineAtFault(said, plain, rom.lines);
-    const shown = said.replace(/ at line [0-9]+$/, line === null ? '' : ` at line ${line}`);
-    this.tell(withLine(shown, line), line);
-    this.offerable = got.error === '';
+    const own = hasRom(this.value);
+    const { said, good, frames, rom: ownRom } =
+      readSketch(engine, own ? this.value : rom.text + this.value);
+    this.frames = frames;
+    this.ownRom = own ? ownRom ?? '' : '';
+    this.offerable = frames.length > 0;
+    const shown = withoutRom(said, own ? 0 : rom.lines);
+    this.tell(good ? goodText(shown, frames) : shown, good ? null : lineOfFault(shown));
+    this.turn = 0;
+  }
+
+  /* The frame whose turn it is to be offered by hand. */
+  next() {
+    return this.frames[this.turn++ % this.frames.length].lines;
+  }
+
+  /* The frame with these operations, by its name: `frame A`, or `first3 of A`. */
+  nameOf(text) {
+    const at = this.frames.findIndex(({ lines }) => lines.join('\n') === text);
+    if (at < 0) return null;
+    if (this.frames.length === 1) return `frame ${this.place.id}`;
+    return `frame ${this.frames[at].name || at} of ${this.place.id}`;
   }
 }
 

@@ -1,7 +1,10 @@
 /* dvg.wasm: the device of include/dvg.h, and each command of `dvg` over bytes. */
 
-/* The commands by their numbers. With OPTION more a command has its option, --all or --bound. */
-export const COMMAND = { list: 0, rom: 1, picture: 2, check: 3, play: 4, torn: 5 };
+/* The commands by their numbers. With OPTION more a command has its option: --all or --bound, of a
+ * sketch --check, and of its ROM --equates. */
+export const COMMAND = {
+  list: 0, rom: 1, picture: 2, check: 3, play: 4, torn: 5, sketch: 6, layRom: 7,
+};
 export const OPTION = 8;
 
 /* The requests, and the kinds of answers, that the page uses, as include/dvg.h has them. */

@@ -15,7 +15,8 @@ export function momentOf(board, at) {
     picture };
 }
 
-function ramAt(board, at) {
+/* The RAM after `at` events. */
+export function ramAt(board, at) {
   const copy = Math.floor(at / KEPT_EVERY);
   const ram = board.kept[copy].slice();
   for (let k = copy * KEPT_EVERY; k < at; k++) {

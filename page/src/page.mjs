@@ -4,33 +4,46 @@ import { AREA, Board, MOST_EVENTS, areaOf } from './board.mjs';
 import { hex, splitRom } from './drafts.mjs';
 import { playSteps, stepsOf, traceOf } from './traces.mjs';
 import { Drawer, marksOf, momentOf } from './moments.mjs';
-import { Chance, Proportions } from './chance.mjs';
+import { tearOf, tearText } from './tears.mjs';
+import { Chance, Proportions, reelOf } from './chance.mjs';
 import { fragmentOf, plainFragment, stateOf } from './links.mjs';
 import { kindOf } from './files.mjs';
 import { LESSONS, stateOfLesson } from './lessons.mjs';
-import { Screen } from './screen.mjs';
+import { SCENES } from './playfield.mjs';
+import { TOUR_RATE, TOUR_STEPS, Tour } from './tour.mjs';
+import { Screen, drawSmall } from './screen.mjs';
 import { Rows } from './rows.mjs';
 import { Memory } from './memory.mjs';
 import { DraftEditor, RomEditor } from './editors.mjs';
-import { counted, countsText, momentText, pictureText, runText, wordText } from './words.mjs';
+import {
+  counted, countsText, durationText, momentText, pictureText, runText, wordText,
+} from './words.mjs';
 import { FRAMES, WASM } from './built.mjs';
 
 const byId = (id) => document.getElementById(id);
 
+/* What stands in the editors by a name. */
+const EXAMPLES = { ...SCENES, ...FRAMES };
+
 /* What a newcomer sees: these frames, after so many events. */
-const FIRST = { a: 'score', b: 'rocks' }, FIRST_EVENTS = 3000;
+const [FIRST_A, FIRST_B] = Object.keys(SCENES);
+const FIRST = { a: FIRST_A, b: FIRST_B }, FIRST_EVENTS = 6000;
 
 const LOG_BEFORE = 12, LOG_AFTER = 4;
+/* How many pixels an event has in the rows while the tour runs. */
+const ROWS_TOUR_SCALE = 0.4;
 /* While it runs, how often the log is judged, and texts are shown, in milliseconds. */
 const JUDGE_EVERY = 500, TEXTS_EVERY = 100;
+/* A frame of the animation makes up for at most so many milliseconds. */
+const MOST_PASSED = 50;
 
 let engine, drawer, board, schedule = null, running = false;
 /* When the log was judged and texts were shown, and whose turn it is to be drawn. */
-let judgedAt = 0, textsAt = 0, turn = false;
+let judgedAt = 0, textsAt = 0, animatedAt = 0, turn = false;
 /* The moment that is shown: how many events have happened by then. */
 let at = 0;
 let dump = null, lesson = 0;
-let editorA, editorB, editorR, screen, rows, memory, colors;
+let editorA, editorB, editorR, screen, rows, memory, colors, tour;
 const drawings = new Map(), frameTimes = [];
 
 /* --- Beginning anew --- */
@@ -75,12 +88,13 @@ function happen(event) {
   at = board.length;
 }
 
-function draftsNow() {
-  return [editorA.lines, editorB.lines];
+function reelNow() {
+  return reelOf(...[editorA, editorB].map(({ frames }) => frames.map(({ lines }) => lines)));
 }
 
+/* Offers the frame of an editor; of a sketch the next one each time. */
 function offer(editor) {
-  happenOften({ name: 'offer', draft: editor.lines });
+  happenOften(() => ({ name: 'offer', draft: editor.next() }));
 }
 
 function eventOf(name) {
@@ -90,9 +104,9 @@ function eventOf(name) {
 }
 
 /* Lets an event happen as often as is asked for. */
-function happenOften(event) {
+function happenOften(next) {
   const times = clamp(byId('times').value, 1, 9999);
-  for (let k = 0; k < times; k++) happen(event);
+  for (let k = 0; k < times; k++) happen(next());
   changed();
 }
 
@@ -106,8 +120,8 @@ function scheduleNow() {
   const how = byId('how').value, seed = clamp(byId('seed').value, 0, 4294967295);
   const key = `${how} ${seed}`;
   if (schedule?.key !== key) {
-    const made = how === 'board' ? new Proportions(seed, draftsNow)
-      : new Chance(seed, draftsNow, how === 'resets');
+    const made = how === 'board' ? new Proportions(seed, reelNow)
+      : new Chance(seed, reelNow, how === 'resets');
     schedule = { key, made, left: 0 };
   }
   return schedule;
@@ -126,30 +140,53 @@ function runSome(count, until = Infinity) {
   return count;
 }
 
+function countNow() {
+  return clamp(byId('count').value, 1, MOST_EVENTS);
+}
+
 function runAtOnce() {
-  runSome(clamp(byId('count').value, 1, MOST_EVENTS));
+  runSome(countNow());
   changed();
+}
+
+/* Runs until the next picture is done. */
+function runOnePicture() {
+  const before = board.pictures.length;
+  for (let k = 0; k < MOST_EVENTS && board.pictures.length === before && !board.full; k++) {
+    runSome(1);
+  }
+  changed();
+}
+
+/* How many events happen in a second of the animation. */
+function rateNow() {
+  return tour.running ? TOUR_RATE : 60 * 2 ** Number(byId('speed').value);
 }
 
 function setRunning(on) {
   running = on && canRun();
-  if (running) scheduleNow().left = clamp(byId('count').value, 1, MOST_EVENTS);
-  if (running) requestAnimationFrame(animate);
+  if (running) {
+    scheduleNow().left = tour.running ? MOST_EVENTS : countNow();
+    animatedAt = performance.now();
+    requestAnimationFrame(animate);
+  } else tour.end();
   changed();
 }
 
 /* A frame of the animation: some events, and all that is shown. */
 function animate() {
   if (!running) return;
-  const begin = performance.now();
-  const wanted = Math.min(scheduleNow().left, Math.round(2 ** Number(byId('speed').value)));
-  schedule.left -= runSome(wanted, begin + 3);
+  const begin = performance.now(), passed = Math.min(MOST_PASSED, begin - animatedAt);
+  animatedAt = begin;
+  const wanted = Math.max(1, Math.round(rateNow() * passed / 1000));
+  schedule.left -= runSome(Math.min(schedule.left, wanted), begin + 3);
   rows.follow(at);
   if (begin - judgedAt > JUDGE_EVERY) judge();
   show();
   frameTimes.push(performance.now() - begin);
   if (schedule.left <= 0 || board.full) setRunning(false);
   else requestAnimationFrame(animate);
+  if (tour.running) tour.pass(begin, board);
 }
 
 /* Someone who wants less motion sees where the run leads, and no animation. */
@@ -169,7 +206,7 @@ function judge() {
   const line = /^torn at line ([0-9]+)/.exec(said);
   const event = line ? board.tornLog.eventOf[Number(line[1]) - 1] : null;
   byId('judged').textContent = event === null ? said : `${said} (event ${event}), ${seen}`;
-  byId('judged').className = event === null ? 'good' : 'bad';
+  byId('judged').className = event !== null ? 'bad' : { 0: 'good' }[got.status] ?? '';
   byId('judged-go').hidden = event === null;
   byId('judged-go').onclick = () => goTo(event + 1);
 }
@@ -204,12 +241,21 @@ function drawingOf(draft) {
 function nameOf(picture) {
   const drawn = picture.strokes.map((stroke) => stroke.join(' ')).join('\n');
   for (const [draft, event] of board.drafts) {
-    if (event > picture.at || drawingOf(draft) !== drawn) continue;
-    if (draft === editorA.lines.join('\n')) return 'frame A';
-    return draft === editorB.lines.join('\n') ? 'frame B'
-      : `the frame first offered in event ${event}`;
+    if (event <= picture.at && drawingOf(draft) === drawn) return nameOfDraft(draft);
   }
   return 'no frame that was offered';
+}
+
+function nameOfDraft(draft) {
+  return editorA.nameOf(draft) ?? editorB.nameOf(draft)
+    ?? `the frame first offered in event ${board.drafts.get(draft)}`;
+}
+
+/* What a torn picture is made of, which is found once; null of a whole one. */
+function tearNow(picture) {
+  if (picture === null || picture.tears === 0) return null;
+  picture.tear ??= tearOf(engine, board, picture, drawingOf);
+  return picture.tear;
 }
 
 /* --- What is shown --- */
@@ -236,6 +282,7 @@ function changed() {
   byId('compared').textContent = '';
   showButtons();
   show();
+  showTour();
   showTorn();
   showFrameTime();
 }
@@ -258,11 +305,48 @@ function showTexts(moment) {
   if (!running) showWord(moment);
   showLog();
   byId('counts').textContent = countsText(board);
+  byId('moment-text').textContent = momentText(board, at);
   byId('rows').setAttribute('aria-valuemax', board.length);
   byId('rows').setAttribute('aria-valuenow', at);
+  showRunText();
   if (running) return;
-  byId('moment-text').textContent = momentText(board, at);
   byId('rows').setAttribute('aria-valuetext', momentText(board, at));
+  showTear(moment.picture);
+}
+
+/* What Run does, and for how long; or why it can't. */
+function showRunText() {
+  const left = running ? schedule.left : countNow(), time = durationText(left / rateNow());
+  const fault = [editorA, editorB].find(({ offerable }) => !offerable);
+  byId('run-text').textContent = running ? `${counted(left, 'event')} to go, in ${time}.`
+    : fault ? `Run waits for frame ${fault.place.id}, which spells nothing that can be offered.`
+      : `Run lets ${counted(left, 'event')} happen, in ${time}.`;
+}
+
+/* A torn picture: both frames that it is of, and the byte that came in between. */
+function showTear(picture) {
+  const tear = dump === null ? tearNow(picture) : null;
+  byId('tear').hidden = tear === null;
+  byId('about').hidden = tear !== null || lesson > 0 || tour.step >= 0;
+  if (tear === null) return;
+  drawSmall(byId('wanted'), tear.wanted, 0);
+  drawSmall(byId('next'), tear.next ?? [], 1);
+  const begun = nameOf({ strokes: tear.wanted, at: picture.at });
+  byId('wanted-text').textContent = `Being drawn: ${begun}`;
+  byId('next-text').textContent = `Written into it: ${nameOfDraft(tear.draft)}`;
+  byId('tear-text').textContent = tearText(tear, picture.strokes.length);
+  byId('tear-go').onclick = () => goTo(tear.word.event + 1);
+  byId('tear-back').onclick = () => goTo(picture.at + 1);
+}
+
+function showTour() {
+  byId('tour').hidden = tour.step < 0;
+  if (tour.step < 0) return;
+  const { title, text } = TOUR_STEPS[tour.step], number = tour.step + 1;
+  byId('tour-title').textContent = `${number} of ${TOUR_STEPS.length}: ${title}`;
+  byId('tour-text').textContent = text.replace(/\s+/g, ' ');
+  byId('tour-end').textContent = tour.running ? 'Skip the tour' : 'Close';
+  byId('tour-again').hidden = tour.running;
 }
 
 function showScreen({ picture, run: open }) {
@@ -272,7 +356,8 @@ function showScreen({ picture, run: open }) {
   }
   if (picture !== null) picture.id ??= performance.now();
   const id = `${board.id} ${open?.from}`;
-  screen.draw(picture, open === null ? null : { id, strokes: drawer.strokesOf(open) });
+  screen.draw(picture, open === null ? null : { id, strokes: drawer.strokesOf(open) },
+    tearNow(picture));
 }
 
 function showPictureText({ picture, run: open }) {
@@ -336,14 +421,26 @@ function showButtons() {
   byId('wire-text').textContent = wireCut
     ? 'The wire is cut: the driver is told that the generator is always halted.'
     : 'The wire is whole: the driver is told whether the generator is halted.';
+  byId('wire').textContent = wireCut ? 'Mend the HALT wire' : 'Cut the HALT wire';
   byId('run').textContent = running ? 'Stop' : 'Run';
   byId('run').disabled = !running && !canRun();
   byId('once').disabled = running || !canRun();
+  byId('one-picture').disabled = running || !canRun();
+  byId('moment-text').setAttribute('aria-live', running ? 'off' : 'polite');
   byId('offerA').disabled = !editorA.offerable || board.full;
   byId('offerB').disabled = !editorB.offerable || board.full;
   for (const button of document.querySelectorAll('[data-event]')) button.disabled = board.full;
   byId('full').hidden = !board.full;
   byId('forget').disabled = running || at === board.length;
+  byId('offers-text').textContent = offersText();
+}
+
+/* Which of the frames can't be offered, and why; or what an offer of a sketch is. */
+function offersText() {
+  const [fault] = [editorA, editorB].filter(({ offerable }) => !offerable);
+  if (fault) return `Frame ${fault.place.id} has a fault, so it can't be offered.`;
+  const moving = [editorA, editorB].some(({ frames }) => frames.length > 1);
+  return moving ? 'Each offer of a sketch is of its next frame.' : '';
 }
 
 function showFrameTime() {
@@ -355,7 +452,7 @@ function showFrameTime() {
 }
 
 function goTo(moment) {
-  setRunning(false);
+  if (running) setRunning(false);
   dump = null;
   byId('file').hidden = true;
   moveTo(moment);
@@ -366,7 +463,8 @@ function goTo(moment) {
 
 function stateNow() {
   return {
-    lesson: lesson || undefined, a: editorA.value, b: editorB.value, rom: editorR.value,
+    lesson: lesson || undefined, a: nameOr(editorA.value), b: nameOr(editorB.value),
+    rom: editorR.value,
     trace: traceOf(board), at,
     seed: byId('seed').value, count: byId('count').value, how: byId('how').value,
     scale: rows.scale.toFixed(4), first: rows.first.toFixed(1),
@@ -374,7 +472,12 @@ function stateNow() {
 }
 
 function exampleOr(text) {
-  return Object.hasOwn(FRAMES, text) ? FRAMES[text] : text;
+  return Object.hasOwn(EXAMPLES, text) ? EXAMPLES[text] : text;
+}
+
+/* The name of an example, for its text. */
+function nameOr(text) {
+  return Object.keys(EXAMPLES).find((name) => EXAMPLES[name] === text) ?? text;
 }
 
 async function loadFragment() {
@@ -387,14 +490,51 @@ async function loadFragment() {
   }
 }
 
+/* The opening at rest; and after that the tour, but for someone who wants less motion. */
 function showNewcomer() {
+  showOpening();
+  if (!matchMedia('(prefers-reduced-motion: reduce)').matches) beginTour();
+}
+
+function showOpening() {
   runSome(FIRST_EVENTS);
   rows.showAll(board.length);
   changed();
 }
 
+function beginTour() {
+  loadState(FIRST);
+  showOpening();
+  tour.begin(performance.now());
+  rows.scale = ROWS_TOUR_SCALE;
+  setRunning(true);
+}
+
+/* Ends the tour: the board is as it was at the beginning, or, after its last step, as it is. */
+function endTour() {
+  if (tour.running) {
+    loadState(FIRST);
+    showOpening();
+  } else {
+    tour.end();
+    changed();
+  }
+}
+
+/* The last step of the tour: this picture, and the rows of its run. */
+function showLastStep(picture) {
+  running = false;
+  if (picture === null) tour.end();
+  else {
+    moveTo(picture.at + 1);
+    rows.showSpan(picture.from, picture.at + 1);
+  }
+  changed();
+}
+
 function loadState(state) {
   if (board !== undefined) setRunning(false);
+  tour.end();
   dump = null;
   byId('file').hidden = true;
   for (const id of ['seed', 'count', 'how']) byId(id).value = state[id] ?? byId(id).value;
@@ -438,8 +578,15 @@ function setRom(text) {
 }
 
 function checkDrafts() {
-  editorA.check(engine, editorR.rom);
-  editorB.check(engine, editorR.rom);
+  for (const editor of [editorA, editorB]) editor.check(engine, editorR.rom);
+}
+
+/* Takes the ROM that a sketch brings, where it is another one than that of the board. */
+function takeRomOf({ ownRom }) {
+  if (ownRom === '' || ownRom === editorR.value) return;
+  setRunning(false);
+  setRom(ownRom);
+  beginAnew();
 }
 
 async function makeLink() {
@@ -478,9 +625,15 @@ function makeLessons() {
   }));
 }
 
+function openLesson(number) {
+  location.hash = plainFragment(stateOfLesson(number - 1));
+}
+
 function showLesson(number) {
   lesson = number;
   byId('lesson').hidden = number === 0;
+  byId('lesson-back').hidden = number <= 1;
+  byId('lesson-on').hidden = number === LESSONS.length;
   document.querySelectorAll('#lessons a').forEach((link, k) => {
     if (k + 1 === number) link.setAttribute('aria-current', 'true');
     else link.removeAttribute('aria-current');
@@ -573,12 +726,13 @@ function openDraft(name, text) {
 function useDraft(editor, text) {
   const { rom, draft } = splitRom(text);
   editor.value = draft;
-  if (rom === '') checkDrafts();
+  if (rom === '') editor.check(engine, editorR.rom);
   else {
     setRunning(false);
     setRom(rom);
     beginAnew();
   }
+  takeRomOf(editor);
   changed();
 }
 
@@ -587,13 +741,18 @@ function useDraft(editor, text) {
 function listenToButtons() {
   const on = (id, act) => byId(id).addEventListener('click', act);
   for (const button of document.querySelectorAll('[data-event]')) {
-    button.addEventListener('click', () => happenOften(eventOf(button.dataset.event)));
+    button.addEventListener('click', () => happenOften(() => eventOf(button.dataset.event)));
   }
   on('offerA', () => offer(editorA));
   on('offerB', () => offer(editorB));
   on('wire', () => setWire(!board.wireCut));
   on('run', run);
   on('once', runAtOnce);
+  on('one-picture', runOnePicture);
+  on('tour-end', endTour);
+  on('tour-again', beginTour);
+  on('lesson-back', () => openLesson(lesson - 1));
+  on('lesson-on', () => openLesson(lesson + 1));
   on('anew', () => { setRunning(false); beginAnew(); changed(); });
   on('compare', compare);
   on('link', () => makeLink().catch((fault) => tell(`No link: ${fault.message}`, true)));
@@ -611,6 +770,7 @@ function listenToButtons() {
   on('forget', forgetLater);
   on('file-close', () => goTo(at));
   for (const id of ['seed', 'how']) byId(id).addEventListener('input', () => { schedule = null; });
+  for (const id of ['count', 'speed']) byId(id).addEventListener('input', showRunText);
 }
 
 const STEPS = {
@@ -730,13 +890,15 @@ function listenToSizes() {
 }
 
 function makeEditors() {
-  const names = Object.keys(FRAMES);
-  const edited = () => {
-    checkDrafts();
+  const names = Object.keys(EXAMPLES);
+  const edited = (editor) => {
+    editor.check(engine, editorR.rom);
+    takeRomOf(editor);
     showButtons();
+    showRunText();
   };
-  editorA = new DraftEditor(byId('A'), 'Frame A', edited);
-  editorB = new DraftEditor(byId('B'), 'Frame B', edited);
+  editorA = new DraftEditor(byId('A'), 'Frame A', () => edited(editorA));
+  editorB = new DraftEditor(byId('B'), 'Frame B', () => edited(editorB));
   editorR = new RomEditor(byId('R'), 'Lines map and rom; a change begins anew', () => {
     setRunning(false);
     setRom(editorR.value);
@@ -744,7 +906,7 @@ function makeEditors() {
     changed();
   });
   for (const editor of [editorA, editorB]) {
-    editor.addPicks('Example', names, (name) => useDraft(editor, FRAMES[name]));
+    editor.addPicks('Example', names, (name) => useDraft(editor, EXAMPLES[name]));
   }
 }
 
@@ -754,6 +916,9 @@ async function begin() {
   screen = new Screen(byId('screen'));
   rows = new Rows(byId('rows'));
   memory = new Memory(byId('memory'));
+  tour = new Tour({
+    setWire, tearOf: tearNow, showTear: showLastStep,
+  });
   readColors();
   makeEditors();
   makeLessons();

@@ -1,7 +1,8 @@
 /* Both rows over time: what the generator fetches, and what the driver does. */
 import { ROW, SIGN } from './board.mjs';
 
-const ROW_TOP = [32, 86], ROW_HEIGHT = 40;
+/* What stands above the rows, between them, and below. */
+const ABOVE = 25, BETWEEN = 14, BELOW = 20;
 const LEAST_SCALE = 1 / 64, MOST_SCALE = 24;
 
 /* The areas, weakest first: of several events in one column the strongest is shown. */
@@ -21,6 +22,8 @@ export class Rows {
     this.width = this.canvas.clientWidth || 1;
     this.height = this.canvas.clientHeight;
     this.ratio = this.canvas.width / this.width;
+    this.rowHeight = Math.max(8, Math.floor((this.height - ABOVE - BETWEEN - BELOW) / 2));
+    this.tops = [ABOVE, ABOVE + this.rowHeight + BETWEEN];
   }
 
   /* How many events are in sight. */
@@ -38,6 +41,12 @@ export class Rows {
   showAll(length) {
     this.scale = Math.min(MOST_SCALE, this.width / (length + 2));
     this.first = 0;
+  }
+
+  /* Shows these events, and some before and after them. */
+  showSpan(from, to) {
+    this.scale = Math.min(MOST_SCALE, this.width / (1.1 * (to - from) + 2));
+    this.first = Math.max(0, from - 0.05 * (to - from));
   }
 
   /* Brings a moment into sight. */
@@ -75,12 +84,12 @@ export class Rows {
         if (board.signs[k] === SIGN.TORN) torn[x + dx] = 1;
       }
     }
+    const [first, second] = this.tops, height = this.rowHeight;
     columns.forEach((column, row) => {
-      this.fillSpans(column, ROW_TOP[row], ROW_HEIGHT, (area) => colors.areas[area]);
+      this.fillSpans(column, this.tops[row], height, (area) => colors.areas[area]);
     });
-    this.fillSpans(torn, ROW_TOP[0] - 6, ROW_TOP[1] + ROW_HEIGHT + 6 - ROW_TOP[0],
-      () => colors.tornGlow);
-    this.fillSpans(torn, ROW_TOP[1], ROW_HEIGHT, () => colors.torn);
+    this.fillSpans(torn, first - 6, second + height + 6 - first, () => colors.tornGlow);
+    this.fillSpans(torn, second, height, () => colors.torn);
   }
 
   fillSpans(column, top, height, colorOf) {
@@ -103,8 +112,8 @@ export class Rows {
       const x = (k - this.first) * this.scale;
       if (sign === SIGN.READ_HALTED || sign === SIGN.READ_RUNNING) {
         const color = sign === SIGN.READ_HALTED ? colors.good : colors.dim;
-        if (near) this.bar(x, ROW_TOP[1] + ROW_HEIGHT - 8, 8, color);
-      } else this.drawSign(sign, x, ROW_TOP[board.rows[k] === ROW.DRIVER ? 1 : 0], colors);
+        if (near) this.bar(x, this.tops[1] + this.rowHeight - 8, 8, color);
+      } else this.drawSign(sign, x, this.tops[board.rows[k] === ROW.DRIVER ? 1 : 0], colors);
     }
   }
 
@@ -122,17 +131,17 @@ export class Rows {
       context.lineTo(x + 6, top - 9);
       context.lineTo(x + 0.5, top);
       context.fill();
-      context.fillRect(x, top, 1.5, ROW_HEIGHT);
+      context.fillRect(x, top, 1.5, this.rowHeight);
     } else if (sign === SIGN.DONE || sign === SIGN.TORN_DONE) {
       context.fillStyle = sign === SIGN.DONE ? colors.good : colors.torn;
       context.beginPath();
       context.arc(x + 1, top - 6, 4, 0, 7);
       context.fill();
     } else if (sign === SIGN.OFFERED) {
-      this.bar(x, top + ROW_HEIGHT + 2, 4, colors.ink);
+      this.bar(x, top + this.rowHeight + 2, 4, colors.ink);
     } else {
       const ends = sign === SIGN.RESET || sign === SIGN.BROKE;
-      this.bar(x, top - 4, ROW_HEIGHT + 4, ends ? colors.torn : colors.good);
+      this.bar(x, top - 4, this.rowHeight + 4, ends ? colors.torn : colors.good);
     }
   }
 
@@ -148,12 +157,13 @@ export class Rows {
     const { context } = this;
     context.font = '12px system-ui, sans-serif';
     context.fillStyle = colors.dim;
-    context.fillText('the generator fetches', 4, ROW_TOP[0] - 18);
-    context.fillText('the driver writes', 4, ROW_TOP[1] + ROW_HEIGHT + 16);
+    const below = this.tops[1] + this.rowHeight + 15;
+    context.fillText('the generator fetches', 4, 11);
+    context.fillText('the driver writes', 4, below);
     const last = Math.min(length, Math.floor(this.first + this.span));
     const text = `events ${Math.floor(this.first)} to ${last}`;
     context.textAlign = 'right';
-    context.fillText(text, this.width - 4, ROW_TOP[1] + ROW_HEIGHT + 16);
+    context.fillText(text, this.width - 4, below);
     context.textAlign = 'left';
   }
 }

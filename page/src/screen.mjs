@@ -2,8 +2,9 @@
 
 const UNIT = 512, SIDE = 1024 * UNIT, FIELD = 4096 * UNIT;
 const MARGIN = 10 * UNIT;
-/* A stroke is drawn three times: how wide, in units, and how strong. */
-const PASSES = [[9, 0.08], [4.5, 0.2], [1.9, 0.95]];
+/* A stroke is drawn several times: how wide, in units, and how strong. */
+const PASSES = [[22, 0.05], [11, 0.1], [5, 0.24], [2.1, 1]];
+const THIN = [[1.6, 1]];
 
 /* Where the shorter way to an end leads, which may be beyond the edge of the field. */
 function way(from, to) {
@@ -35,26 +36,52 @@ function pathsOf(strokes) {
   return paths;
 }
 
-function glow(context, strokes, color, strength) {
-  const paths = pathsOf(strokes);
+/* Lets a context take units of the field, y upwards. */
+function intoUnits(context) {
   const scale = context.canvas.width / (SIDE + 2 * MARGIN);
-  context.save();
   context.setTransform(scale, 0, 0, -scale, MARGIN * scale, context.canvas.height - MARGIN * scale);
+}
+
+function glow(context, strokes, color, strength, passes = PASSES) {
+  const paths = pathsOf(strokes);
+  context.save();
+  intoUnits(context);
   context.globalCompositeOperation = 'lighter';
   context.lineCap = 'round';
   context.lineJoin = 'round';
   context.strokeStyle = color;
-  for (const [width, alpha] of PASSES) {
+  for (const [width, alpha] of passes) {
     context.lineWidth = width * UNIT;
     for (const [z, path] of paths) {
-      context.globalAlpha = strength * alpha * (0.3 + 0.7 * z / 15);
+      context.globalAlpha = strength * alpha * (0.4 + 0.6 * z / 15);
       context.stroke(path);
     }
   }
   context.restore();
 }
 
-const BEAM = '#9fe8ff', TORN = '#ff6b78', GROWING = '#e4ffff';
+/* A ring around a point of the field. */
+function drawRing(context, [x, y], color) {
+  context.save();
+  intoUnits(context);
+  context.strokeStyle = color;
+  context.lineWidth = 3 * UNIT;
+  context.beginPath();
+  context.arc(x, y, 22 * UNIT, 0, 7);
+  context.stroke();
+  context.restore();
+}
+
+const BEAM = '#a4ecff', TORN = '#ff4a5c', GROWING = '#e4ffff';
+const GHOSTS = ['#3fa7ff', '#ff9a3c'];
+
+/* A frame alone on a small canvas, with what is another one's in red. */
+export function drawSmall(canvas, strokes, ghost) {
+  const context = canvas.getContext('2d');
+  context.fillStyle = '#000';
+  context.fillRect(0, 0, canvas.width, canvas.height);
+  glow(context, strokes, GHOSTS[ghost], 1, [[12, 0.15], [4, 1]]);
+}
 
 export class Screen {
   constructor(canvas) {
@@ -65,24 +92,36 @@ export class Screen {
   }
 
   /* The newest picture, and over it the strokes so far of the open run, if there is one. Both are
-   * told apart by their ids. Of a run that only grew, the new strokes alone are drawn. */
-  draw(picture, open) {
+   * told apart by their ids. Of a run that only grew, the new strokes alone are drawn. A torn picture
+   * has a tear. */
+  draw(picture, open, tear = null) {
     const { width, height } = this.canvas, sofar = open?.strokes ?? [];
-    const key = `${picture?.id} ${open?.id} ${width} ${height}`;
-    if (key !== this.key || sofar.length < this.count) this.begin(picture, open !== null);
-    if (sofar.length > this.count) glow(this.context, sofar.slice(this.count), GROWING, 0.8);
+    const key = `${picture?.id} ${open?.id} ${width} ${height} ${tear !== null}`;
+    if (key !== this.key || sofar.length < this.count) this.begin(picture, open !== null, tear);
+    if (sofar.length > this.count) glow(this.context, sofar.slice(this.count), GROWING, 0.9);
     this.key = key;
     this.count = sofar.length;
   }
 
   /* The picture alone, weaker where a run draws over it. */
-  begin(picture, open) {
+  begin(picture, open, tear) {
     const { context } = this, { width, height } = this.canvas;
     this.count = 0;
     context.fillStyle = '#000';
     context.fillRect(0, 0, width, height);
     if (picture === null) return;
-    const torn = picture.tears > 0;
-    glow(context, picture.strokes, torn ? TORN : BEAM, open && !torn ? 0.5 : 1);
+    if (tear === null) glow(context, picture.strokes, BEAM, open ? 0.75 : 1);
+    else this.drawTear(picture, tear);
+  }
+
+  /* A torn picture: the strokes of the frame that was being drawn, in red all others, both frames
+   * behind them as ghosts, and a ring where the first red one begins. */
+  drawTear({ strokes }, { wanted, next, wrong }) {
+    const { context } = this;
+    glow(context, wanted, GHOSTS[0], 0.6, THIN);
+    if (next !== null) glow(context, next, GHOSTS[1], 0.6, THIN);
+    glow(context, strokes.filter((stroke) => !wrong.includes(stroke)), BEAM, 0.8);
+    glow(context, wrong, TORN, 1);
+    if (wrong.length > 0) drawRing(context, wrong[0], '#ffffff');
   }
 }

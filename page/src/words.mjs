@@ -7,6 +7,11 @@ export function counted(number, one, many = `${one}s`) {
   return `${number} ${number === 1 ? one : many}`;
 }
 
+/* A time in seconds, roughly. */
+export function durationText(seconds) {
+  return seconds < 1 ? 'less than a second' : `about ${counted(Math.round(seconds), 'second')}`;
+}
+
 const HALF_NAME = { [AREA.HALF0]: 'half 0', [AREA.HALF1]: 'half 1' };
 
 /* A picture's state: `named` says which frame it is. */
@@ -54,5 +59,6 @@ export function momentText(board, at) {
   if (at === 0) return `Before the first of ${counted(board.length, 'event')}.`;
   const entry = board.entries[at - 1];
   const torn = entry.torn ? ', into the half that is being drawn' : '';
-  return `Event ${at - 1} of ${board.length}, a ${entry.event.name}: ${entry.text}${torn}.`;
+  const { name } = entry.event, article = name === 'offer' ? 'an' : 'a';
+  return `Event ${at - 1} of ${board.length}, ${article} ${name}: ${entry.text}${torn}.`;
 }

@@ -3,9 +3,23 @@
 //! The page owes what C owes: a device comes from `dvg_new`, and is used by one call at a time, and
 //! no more once `dvg_free` got it.
 use dvg_device::Device;
-use dvg_tool::{Job, Watched, finish, perform, status};
+use dvg_tool::{Done, Job, LayForm, ToolFault, Watched, finish, perform, status};
 use plain_std::alloc::Global;
 use std::cell::RefCell;
+
+// What `dvg` tells of a line at fault stands in its own crate, and is the same here.
+#[path = "../../crates/dvg/src/explain.rs"]
+mod explain;
+#[path = "../../crates/dvg/src/explained.rs"]
+mod explained;
+#[path = "../../crates/dvg/src/forms.rs"]
+mod forms;
+#[path = "../../crates/dvg/src/places.rs"]
+mod places;
+
+/// How a moving picture is shown: in percent of a pixel for each unit, and pictures a second.
+const PERCENT: u16 = 100;
+const RATE: u16 = 30;
 
 /// What the page hands in, and what the newest command wrote.
 #[derive(Default)]
@@ -52,8 +66,9 @@ pub extern "C" fn dvg_input(length: usize) -> *mut u8 {
     })
 }
 
-/// The command of a number: 0 list, 1 rom, 2 picture, 3 check, 4 play, 5 torn; with 8 more it has
-/// its option, `--all` or `--bound`.
+/// The command of a number: 0 list, 1 rom, 2 picture, 3 check, 4 play, 5 torn, 6 the SVG of a
+/// sketch, 7 the ROM of a sketch. With 8 more it has its option: `--all`, `--bound`, `--check`, and
+/// of the ROM `--equates`.
 fn job_of(number: u32) -> Option<Job> {
     let option = number & 8 != 0;
     match (number & !8, option) {
@@ -63,8 +78,34 @@ fn job_of(number: u32) -> Option<Job> {
         (3, bound) => Some(Job::Check { bound }),
         (4, all) => Some(Job::Play { all, banked: false }),
         (5, false) => Some(Job::Torn),
+        (6, false) => Some(Job::Draw {
+            percent: PERCENT,
+            rate: RATE,
+        }),
+        (6, true) => Some(Job::DrawCheck),
+        (7, false) => Some(Job::Lay { form: LayForm::Rom }),
+        (7, true) => Some(Job::Lay {
+            form: LayForm::Equates,
+        }),
         _ => None,
     }
+}
+
+/// What standard error gets of a job over this input, whose sketch has a fault of its own kind.
+fn said(answer: &Result<Done<Global>, ToolFault>, sketch: bool, input: &[u8]) -> Vec<u8> {
+    let text = match answer {
+        Err(ToolFault::Text(fault)) if sketch => {
+            let small = input.to_ascii_lowercase();
+            match explain::explain(*fault, input, &small) {
+                Some(explained) => format!("dvg: {fault}: {explained}\n"),
+                None => format!("dvg: {fault}\n"),
+            }
+        }
+        Err(fault) => format!("dvg: {fault}\n"),
+        Ok(Done::Refused(refusal)) => format!("dvg: {refusal}\n"),
+        Ok(_) => String::new(),
+    };
+    text.into_bytes()
 }
 
 /// Runs a command over the input, and tells its exit status; 64 where the number is of none.
@@ -80,9 +121,7 @@ pub extern "C" fn dvg_run(number: u32) -> u32 {
         let mut writer = Watched::new(&mut texts.output);
         let answer = perform(Global, job, &mut reader, &mut writer);
         let answer = finish(answer, &mut writer);
-        if let Err(fault) = &answer {
-            texts.error = format!("dvg: {fault}\n").into_bytes();
-        }
+        texts.error = said(&answer, number & 7 >= 6, &texts.input);
         u32::from(status(&answer))
     })
 }

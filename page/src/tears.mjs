@@ -1,0 +1,68 @@
+/* What a torn picture is made of: which strokes are of the frame that was being drawn, and which
+ * byte came in between. */
+import { COMMAND } from './engine.mjs';
+import { ramAt } from './moments.mjs';
+import { hex } from './drafts.mjs';
+
+/* What a run over this memory would draw, as strokes; none where it draws no picture. */
+export function strokesOfMemory(engine, ram, rom) {
+  const dump = new Uint8Array(ram.length + rom.bytes.length);
+  dump.set(ram);
+  dump.set(rom.bytes, ram.length);
+  return strokesOfLines(engine.run(COMMAND.picture, dump).output.split('\n'));
+}
+
+/* The lines of five numbers among these, as strokes. */
+export function strokesOfLines(lines) {
+  return lines.filter((line) => /^[0-9]+( [0-9]+){4}$/.test(line))
+    .map((line) => line.split(' ').map(Number));
+}
+
+/* Of a torn picture: `wanted`, what the frame draws that its run began with; `next`, what the frame
+ * draws that was written into it; `wrong`, the strokes that are none of the first frame's; and the
+ * word that tore. */
+export function tearOf(engine, board, picture, drawingOf) {
+  const ram = ramAt(board, picture.from);
+  const wanted = strokesOfMemory(engine, ram, board.rom);
+  const own = new Set(wanted.map(String));
+  const wrong = picture.strokes.filter((stroke) => !own.has(String(stroke)));
+  const word = tornWord(board, picture, ram);
+  const draft = offeredBefore(board, word.event);
+  const next = draft === null ? null : strokesOfLines(drawingOf(draft).split('\n'));
+  return { wanted, next, wrong, draft, word };
+}
+
+/* The frame that was offered last before an event, and taken; or null. */
+function offeredBefore(board, event) {
+  for (let k = event; k >= 0; k--) {
+    const { text, event: { draft } } = board.entries[k];
+    if (text === 'offered') return draft.join('\n');
+  }
+  return null;
+}
+
+/* The first torn byte of a run that made a difference: the event that wrote it, what over what, and
+ * the event in which its word was read. Where none did, the first torn byte, and `read` is -1. */
+function tornWord(board, { from, at }, ram) {
+  const written = new Map();
+  for (let k = from + 1; k <= at; k++) {
+    const { torn, wrote, value, word, fetched } = board.entries[k];
+    if (torn) written.set(wrote, { event: k, address: wrote, value, before: ram[wrote], read: -1 });
+    if (word === undefined || fetched >= 1024) continue;
+    const byte = [2 * fetched, 2 * fetched + 1].map((address) => written.get(address))
+      .find((one) => one !== undefined && one.value !== one.before);
+    if (byte !== undefined) return { ...byte, read: k };
+  }
+  return written.values().next().value;
+}
+
+/* The tear in words. */
+export function tearText({ wrong, word: { event, address, value, before, read } }, strokes) {
+  const word = `word ${hex(address >> 1, 3)}`, which = address % 2 ? 'high' : 'low';
+  const count = `${wrong.length} of ${strokes} strokes aren't of the frame that the run began with: `
+    + 'they are red.';
+  if (read < 0) return `No word was read that had changed. ${count}`;
+  return `Event ${event} wrote ${hex(value, 2)} over ${hex(before, 2)} into byte ${hex(address, 3)}, `
+    + `the ${which} byte of ${word}, while the generator drew from that half. Event ${read} read `
+    + `that word: there the tear begins. ${count}`;
+}

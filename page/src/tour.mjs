@@ -1,0 +1,68 @@
+/* The tour: whole, cut, torn. It runs by itself when the page is opened, and can be skipped. */
+
+/* How many events happen in a second of it, and after how many it gives up to find a tear. */
+export const TOUR_RATE = 6600, MOST_TOUR_EVENTS = 50000;
+
+/* The steps: whether the wire is cut, and how long at least each runs, in milliseconds. */
+export const TOUR_STEPS = [
+  {
+    title: 'Whole', cut: false, least: 3500,
+    text: `The generator draws one half, while the driver writes the next frame into the other: the
+      two rows have two colours. Each picture is whole.`,
+  },
+  {
+    title: 'Cut', cut: true, least: 2500,
+    text: `Now the HALT wire is cut. The driver is told that the generator is always halted, so it
+      doesn't wait. Red is what it writes into the half that is being drawn.`,
+  },
+  {
+    title: 'Torn', cut: true, least: 0,
+    text: `This picture is torn: it shows parts of two frames. That is why the wire matters.`,
+  },
+];
+
+/* At least this part of the strokes of the picture that the tour ends with is of either frame. */
+const LEAST_PART = 0.2;
+
+export class Tour {
+  /* `stage` is what the tour does on the page: setWire, tearOf and showTear. */
+  constructor(stage) {
+    this.stage = stage;
+    this.step = -1;
+  }
+
+  get running() { return this.step >= 0 && this.step < TOUR_STEPS.length - 1; }
+
+  begin(now) {
+    this.step = 0;
+    this.since = now;
+  }
+
+  end() { this.step = -1; }
+
+  /* After each frame of the animation: goes on to the next step where it is time for that. */
+  pass(now, board) {
+    if (now - this.since < TOUR_STEPS[this.step].least) return;
+    if (this.step === 0) {
+      this.step = 1;
+      this.since = now;
+      this.from = board.length;
+      this.stage.setWire(true);
+      return;
+    }
+    const picture = this.goodTear(board);
+    if (picture === null && board.length < MOST_TOUR_EVENTS) return;
+    this.step = 2;
+    this.stage.showTear(picture);
+  }
+
+  /* The newest torn picture in which enough is seen of both frames. */
+  goodTear(board) {
+    for (const picture of board.pictures.slice(-8).reverse()) {
+      if (picture.tears === 0) continue;
+      const part = this.stage.tearOf(picture).wrong.length / picture.strokes.length;
+      if (part >= LEAST_PART && part <= 1 - LEAST_PART) return picture;
+    }
+    return null;
+  }
+}
