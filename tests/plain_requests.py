@@ -81,6 +81,7 @@ COMMANDS = [
     ("", b"", 64),
     ("lits", b"", 64),
     ("ra", b"", 64),
+    ("draw", b"", 64),
     ("list --al", b"", 64),
     ("list --at", b"", 64),
     ("play --all --all", b"", 64),
