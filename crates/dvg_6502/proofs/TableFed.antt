@@ -13,7 +13,8 @@ use Rattle.dvg_mem.specs.Areas.{high}
 use Rattle.dvg_frame.specs.declared.op.OpKind.{OpKind}
 use Rattle.dvg_frame.specs.declared.op.OpKind.TheVariants.{Draw, CallRom, JumpRom, Call, Jump, Return, Halt as Stop}
 use Rattle.dvg_frame.specs.Bytes.{bytes}
-use Rattle.dvg_frame.specs.Layout.{laid_ops, op_code, at}
+use Rattle.dvg_frame.specs.Cursors.{laid_ops}
+use Rattle.dvg_frame.specs.Layout.{op_code, at}
 use Rattle.dvg_frame.specs.Ops.{IsOp}
 use Rattle.dvg_6502.specs.Feed.{fed, moved_byte}
 use Rattle.dvg_6502.specs.Tables.{IsExpressible, AreExpressible, TableLaw}

@@ -12,7 +12,8 @@ use Rattle.dvg_code.proofs.Reading.{canon_spells}
 use Rattle.dvg_mem.specs.declared.half.Half.{Half}
 use Rattle.dvg_frame.specs.declared.op.OpKind.{OpKind}
 use Rattle.dvg_frame.specs.declared.op.OpKind.TheVariants.{Draw, CallRom, JumpRom, Call, Jump, Return, Halt as Stop}
-use Rattle.dvg_frame.specs.Layout.{at, laid, laid_ops, op_code, op_words, size}
+use Rattle.dvg_frame.specs.Cursors.{laid_ops}
+use Rattle.dvg_frame.specs.Layout.{at, laid, op_code, op_words, size}
 use Rattle.dvg_frame.specs.Ops.{IsDraft, IsOp}
 use Rattle.dvg_frame.proofs.Counts.{size_bound}
 use Rattle.dvg_frame.proofs.Sizes.{base_low, canon_length, size-take_le}

@@ -5,7 +5,8 @@ use Rattle.std.proofs.Math.Seq.{drop-append_seam, take-append_seam}
 use Rattle.dvg_code.specs.Spelling.{canon}
 use Rattle.dvg_mem.specs.declared.half.Half.TheVariants.{H0}
 use Rattle.dvg_frame.specs.declared.op.OpKind.{OpKind}
-use Rattle.dvg_frame.specs.Layout.{laid_ops, op_code, op_words}
+use Rattle.dvg_frame.specs.Cursors.{laid_ops}
+use Rattle.dvg_frame.specs.Layout.{op_code, op_words}
 use Rattle.dvg_frame.proofs.Sizes.{canon_length}
 use Rattle.dvg_named.specs.declared.meaning.NamedFrame.{NamedFrame}
 use Rattle.dvg_rows.specs.declared.source.Source.{Source}

@@ -1,6 +1,6 @@
 use Rattle.std.proofs.Common.{◌≡◌, ◌++◌, drop}
 use Rattle.dvg_mem.specs.declared.half.Half.TheVariants.{H0}
-use Rattle.dvg_frame.specs.Layout.{laid_ops}
+use Rattle.dvg_frame.specs.Cursors.{laid_ops}
 use Rattle.dvg_lay.specs.Texts.{op_lines}
 use Rattle.dvg_lay.proofs.table.put_op_lines.Given as goal
 
