@@ -1,9 +1,9 @@
 -- What the fetches of every legal log show: words are whole, though they are fetched in two parts.
-use Rattle.std.specs.Prelude.{◌≡◌, ◌≢◌, ℕ, suc, ◌+◌, ◌-◌, ◌*◌, ◌%◌, ◌^◌, ◌<◌, ◌≤◌, true, false, All, List, ◌∷◌, length}
-use Rattle.std.specs.Prelude.{slice_index, Some, None}
+use Rattle.std.specs.Prelude.{◌≡◌, ◌≢◌, ℕ, suc, ◌+◌, ◌*◌, ◌%◌, ◌^◌, ◌<◌, ◌≤◌, ◌⊎◌, true, false, All, List, ◌∷◌}
+use Rattle.std.specs.Prelude.{slice_get, Some, None}
 use Rattle.dvg_mem.specs.declared.half.Half.{Half}
-use Rattle.dvg_mem.specs.Areas.{IsInHalf, base}
-use Rattle.dvg_mem.specs.Memory.{fetched, fetched_byte}
+use Rattle.dvg_mem.specs.Areas.{base}
+use Rattle.dvg_mem.specs.Memory.{fetched, fetched_byte, rom_word}
 use Rattle.dvg_gen.specs.Bytes.{Whole}
 use Rattle.dvg_gen.specs.Position.{IsStroke}
 use Rattle.dvg_frame.specs.declared.op.OpKind.{OpKind}
@@ -41,17 +41,17 @@ KeepsNext R image log event (Acted action) = (address : ℕ) → IsWanted (histo
     ≡ fetched_byte (ram image log) R address true)
 KeepsNext R image log event entry = Unit {0}
 
--- a word that is fetched in the half being drawn is the one that the layout of what the run shows has there
-abbrev pub FromLayout : Log → ℕ → ℕ → Type 0
-FromLayout log address word = (half : Half) (F : List OpKind) → IsBeingDrawn log half → IsShown log F
-    → IsInHalf half address
-    → (address < base half + length (laid half F)) × (word ≡ slice_index (laid half F) (address - base half))
+-- while a half is being drawn, the word that is fetched is one of the layout of what the run shows, in its place in the
+-- half, or the ROM's word at this address
+abbrev pub FromLayout : List ℕ → Log → ℕ → ℕ → Type 0
+FromLayout R log address word = (half : Half) (F : List OpKind) → IsBeingDrawn log half → IsShown log F
+    → ((k : ℕ) × (address ≡ base half + k) × (slice_get (laid half F) k ≡ Some word)) ⊎ (rom_word R address ≡ Some word)
 
 -- this holds of each word that a run fetches
-abbrev pub ReadsOneFrame : Log → Happening → Shown → Type 0
-ReadsOneFrame log event (Fetched address word) = FromLayout log address word
-ReadsOneFrame log event (Done address word drew) = FromLayout log address word
-ReadsOneFrame log event entry = Unit {0}
+abbrev pub ReadsOneFrame : List ℕ → Log → Happening → Shown → Type 0
+ReadsOneFrame R log event (Fetched address word) = FromLayout R log address word
+ReadsOneFrame R log event (Done address word drew) = FromLayout R log address word
+ReadsOneFrame R log event entry = Unit {0}
 
 -- what the open run shows has a bound, and each fetch of the run stays within it: two bytes for each word
 abbrev pub WithinBound : List ℕ → Log → Happening → Shown → Type 0

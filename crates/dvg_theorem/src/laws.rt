@@ -91,11 +91,11 @@ pub fn headline()
     ensures { Always KeepsHeadline }
 {}
 
-/// In every legal log each word that a run fetches in the half being drawn is the word that the
-/// layout of the frame which it shows has there: so what is drawn is never torn, said without
-/// beams, steps or pictures.
+/// In every legal log each word that a run fetches after word zero is one of the layout of the
+/// frame which it shows, in its place in the half being drawn, or a word of the ROM: so what is
+/// drawn is never torn, said without beams, steps or pictures.
 pub fn reads_one_frame()
-    ensures { Always (λ R image. ReadsOneFrame) }
+    ensures { Always (λ R image. ReadsOneFrame R) }
 {}
 
 /// In every legal log the strokes of each run that reaches HALT are in range: positions below
