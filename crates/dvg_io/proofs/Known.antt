@@ -29,6 +29,10 @@ pub moves_front : (all done rest : List ℕ) (n : ℕ) → all ≡ done ++ rest 
 moves_front all done rest n e =
     e ∙ ap (λ l. done ++ l) (sym (take-append-drop n rest)) ∙ sym (append_assoc done (take n rest) (drop n rest)) ∙ ap (λ l. (done ++ take n rest) ++ l) (sym (take_rest rest n))
 
+-- the first n bytes and the others
+pub front_and_rest : (bytes : List ℕ) (n : ℕ) → bytes ≡ take n bytes ++ take (length bytes - n) (drop n bytes)
+front_and_rest bytes n = sym (take-append-drop n bytes) ∙ ap (λ l. take n bytes ++ l) (sym (take_rest bytes n))
+
 pub Consumes-trans : (a b c : Option (List ℕ)) (bs cs : List ℕ) → Consumes a b bs → Consumes b c cs → Consumes a c (bs ++ cs)
 Consumes-trans None b c bs cs p q = tt
 Consumes-trans (Some x) None c bs cs p q = absurd p

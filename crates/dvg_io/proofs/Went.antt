@@ -83,3 +83,12 @@ module _ {W : Type 0} (contents : W → Option (List ℕ)) (first second : List 
   writes_second (Ok done) old now new wrote more = (both first second _ _ _ wrote.0 more.0, more.1 ∙ wrote.1)
   writes_second (Err fault) old now new wrote more =
       (second_begun first second wrote.0 more.0, more.1 ∙ ap one_more wrote.1)
+
+-- what is left of a text is written
+pub writes_rest : {W V E : Type 0} (contents : W → Option (List ℕ)) (text rest : List ℕ) (answer : Result V E)
+    (old now new : Watched W) → Went text rest (contents (stream_of old)) (contents (stream_of now))
+    → failures_of now ≡ failures_of old → Writes contents rest answer now new → Writes contents text answer old new
+writes_rest contents text rest (Ok done) old now new went same wrote =
+    (all_of_it (piece_more rest [] went (sym (append-nil rest)) wrote.0) refl, wrote.1 ∙ same)
+writes_rest contents text rest (Err fault) old now new went same wrote =
+    (piece_begun rest [] went (sym (append-nil rest)) wrote.0, wrote.1 ∙ ap one_more same)

@@ -3,13 +3,13 @@ ghost use Rattle.std.specs.Prelude.{flat_map};
 ghost use Rattle.dvg_print.specs.Shows.{stroke_line};
 ghost use Rattle.dvg_io.specs.Watching.{Writes};
 
-use crate::transfer::write_whole;
+use crate::transfer::write_lines;
 use crate::watched::{StreamFailed, Watched};
 use dvg_gen::Stroke;
 use dvg_print::StrokeLines;
 use std::io::Write;
 
-/// Writes the line of each stroke, `x0 y0 x1 y1 z`.
+/// Writes the line of each stroke, `x0 y0 x1 y1 z`, each by itself.
 pub fn write_strokes<W: Write>(
     strokes: &[Stroke],
     writer: &mut Watched<W>,
@@ -20,7 +20,7 @@ pub fn write_strokes<W: Write>(
     let mut rest = strokes;
     while !rest.is_empty() {
         let count = lines.become_first(rest);
-        write_whole(writer, lines.as_bytes())?;
+        write_lines(writer, lines.as_bytes())?;
         rest = &rest[count..];
     }
     Ok(())

@@ -4,6 +4,7 @@ use std::prelude::*;
 use crate::fault::ToolFault;
 use crate::watched::{StreamFailed, Watched};
 use dvg_code::{OutOfMemory, word_at};
+use memchr::memchr;
 use std::alloc::Allocator;
 use std::io::{Read, Write};
 
@@ -58,4 +59,16 @@ pub fn write_whole<W: Write>(writer: &mut Watched<W>, text: &[u8]) -> Result<(),
         rest = &rest[count..];
     }
     Ok(())
+}
+
+/// Writes lines, each by itself: the next one is handed to the writer only when it took the whole
+/// of the one before. After the last line end may stand a line without one. After a failure a
+/// beginning of the text went out.
+pub fn write_lines<W: Write>(writer: &mut Watched<W>, text: &[u8]) -> Result<(), StreamFailed> {
+    let mut rest = text;
+    while let Some(end) = memchr(b'\n', rest) {
+        write_whole(writer, &rest[..end + 1])?;
+        rest = &rest[end + 1..];
+    }
+    write_whole(writer, rest)
 }

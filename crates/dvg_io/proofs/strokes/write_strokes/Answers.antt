@@ -6,14 +6,14 @@ use Rattle.dvg_io.proofs.StrokeLines.{first_strokes}
 use Rattle.dvg_io.proofs.Went.{piece_begun, piece_more}
 use Rattle.dvg_io.proofs.strokes.write_strokes.Goals as goal
 
-pub returns-in_err-write_whole : goal.returns-in_err-write_whole
-returns-in_err-write_whole g c =
+pub returns-in_err-write_lines : goal.returns-in_err-write_lines
+returns-in_err-write_lines g c =
     let rest = c.loop-rest.rest.now in
     let count = c.become_first-count.result in
     let lines = flat_map stroke_line (take count rest) in
     let later = flat_map stroke_line (slice_range rest count (length rest)) in
     let old = g.W.Write.contents (stream_of c.loop-rest.writer) in
-    let new = g.W.Write.contents (stream_of c.write_whole.new.writer) in
+    let new = g.W.Write.contents (stream_of c.write_lines.new.writer) in
     let begun : BeginsToWrite lines old new = search rules in
     let all = piece_begun lines later c.loop-rest.invariant.went (first_strokes rest count) begun in
     search rules
