@@ -1067,38 +1067,35 @@ class Torn(NamedTuple):
 class Verdict(NamedTuple):
     """What is said of a log: its first torn line, or None, and what it tells up to there.
 
-    runs is how many began, halted how many lines `halted` there were, writes how many bytes were
-    written, and words how many lines `fetched` and `halted`. A log in which no run came to a HALT
-    shows little, whatever is said of it. As text it is what `dvg torn` writes.
+    runs is how many began, drew how many of them drew a half, halted how many lines `halted` there
+    were, and writes how many bytes were written. A log in which no run drew a half shows nothing,
+    as no byte of it could tear a picture. As text it is what `dvg torn` writes.
     """
 
     torn: Optional[Torn]
     runs: int
+    drew: int
     halted: int
     writes: int
-    words: int
-
-    @property
-    def drew(self) -> bool:
-        """Whether runs fetched words, if there was anything to see: a run, or a write."""
-        return self.words > 0 if self.runs else self.writes == 0
 
     def __str__(self) -> str:
-        found = f"{self.torn}\nso far" if self.torn else "not torn" if self.drew else "no run drew"
-        return f"{found}: {self.runs} runs, {self.halted} halted, {self.writes} writes"
+        untorn = "not torn" if self.drew else "no run drew a half"
+        found = f"{self.torn}\nso far" if self.torn else untorn
+        runs = f"{self.runs} runs, {self.drew} drew a half"
+        return f"{found}: {runs}, {self.halted} halted, {self.writes} writes"
 
 
 class Judge:
     """Judges a log whose lines come one at a time, of a driver and a generator of any kind.
 
     A run draws a half where the first word that it fetched is the one at 000, a jump to a word of
-    that half: from then on, until it ends. `runs`, `halts` and `writes` count; `words` counts the
-    calls of `fetched` and `halted`. This is the rule of `dvg torn`, written once more in Python: it
-    is tested against that.
+    that half: from then on, until it ends. `runs`, `halts` and `writes` count, and `drew` counts the
+    runs that drew a half. This is the rule of `dvg torn`, written once more in Python: it is tested
+    against that.
     """
 
     def __init__(self) -> None:
-        self.runs = self.halts = self.writes = self.words = 0
+        self.runs = self.drew = self.halts = self.writes = 0
         self._begun = False
         self._half: Optional[int] = None
 
@@ -1109,16 +1106,15 @@ class Judge:
 
     def fetched(self, address: int, word: int) -> None:
         """A word was fetched, at a word address, 000 to FFF, and the run goes on."""
-        self.words += 1
         if self._begun:
             self._begun = False
             jumps = address == 0 and word >> 12 == 0xE
             self._half = _half(word & 0xFFF) if jumps else None
+            self.drew += self._half is not None
 
     def halted(self) -> None:
         """The run ended: by a HALT, or it broke."""
         self.halts += 1
-        self.words += 1
         self.reset()
 
     def reset(self) -> None:
@@ -1178,7 +1174,7 @@ def judge(log: Union[str, Iterable[str]]) -> Verdict:
         if found:
             torn = Torn(number, *found)
             break
-    return Verdict(torn, judge_of.runs, judge_of.halts, judge_of.writes, judge_of.words)
+    return Verdict(torn, judge_of.runs, judge_of.drew, judge_of.halts, judge_of.writes)
 
 
 # --- Pictures ---

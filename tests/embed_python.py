@@ -827,15 +827,15 @@ def test_logs(count):
     verdict = g.judge(
         "started\nfetched 000 E201\nwrote 002 00\nhalted\nstarted\nreset\nwrote 402 00\n"
     )
-    expect_same(g.Verdict(None, 2, 1, 2, 2), verdict, "what a log tells is counted")
-    expect_same("not torn: 2 runs, 1 halted, 2 writes", str(verdict), "and written")
-    for log in ("started\n", "wrote 402 90\n"):
-        expect_same(False, g.judge(log).drew, "a log in which no run drew")
+    expect_same(g.Verdict(None, 2, 1, 1, 2), verdict, "what a log tells is counted")
+    expect_same("not torn: 2 runs, 1 drew a half, 1 halted, 2 writes", str(verdict), "and written")
+    for log in ("", "started\n", "wrote 402 90\n", "started\nfetched 000 01E2\nhalted\n"):
+        expect_same(0, g.judge(log).drew, "a log in which no run drew a half")
     verdict = g.judge("started\nfetched 000 E201\nwrote 402 90\nhalted\n")
     expect_same(
         (g.Torn(3, 0x402, 0x90), 0), (verdict.torn, verdict.halted), "nothing is read after a tear"
     )
-    text = "torn at line 3: wrote 402 90\nso far: 1 runs, 0 halted, 1 writes"
+    text = "torn at line 3: wrote 402 90\nso far: 1 runs, 1 drew a half, 0 halted, 1 writes"
     expect_same(text, str(verdict), "its text")
     expect_same(
         2,
@@ -898,14 +898,15 @@ def test_script():
         expect_same(1, script("--dump", str(dump))[2], "a dump of a wrong size")
         expect_same(1, script("--dump", str(bad))[2], "a dump that isn't there")
         log.write_text("started\nfetched 000 E001\nwrote 002 00\n")
-        printed = "torn at line 3: wrote 002 00\nso far: 1 runs, 0 halted, 1 writes\n"
+        printed = "torn at line 3: wrote 002 00\n"
+        printed += "so far: 1 runs, 1 drew a half, 0 halted, 1 writes\n"
         expect_same((printed, "", 1), script("--log", str(log)), "a torn log")
-        log.write_text("started\nhalted\n")
-        printed = "not torn: 1 runs, 1 halted, 0 writes\n"
+        log.write_text("started\nfetched 000 E001\nhalted\n")
+        printed = "not torn: 1 runs, 1 drew a half, 1 halted, 0 writes\n"
         expect_same((printed, "", 0), script("--log", str(log)), "a log that isn't torn")
         log.write_text("started\n")
-        printed = "no run drew: 1 runs, 0 halted, 0 writes\n"
-        expect_same((printed, "", 1), script("--log", str(log)), "a log in which no run drew")
+        printed = "no run drew a half: 1 runs, 0 drew a half, 0 halted, 0 writes\n"
+        expect_same((printed, "", 1), script("--log", str(log)), "a log in which no run drew one")
         log.write_bytes(b"started\r\n\xff")
         out, error, status = script("--log", str(log))
         expect(status == 1 and "syntax at line 1" in error and out == "", "a log at fault")

@@ -20,10 +20,10 @@ enum { CLOSED, BEGUN, DRAWS_0, DRAWS_1, DRAWS_NEITHER };
 
 static u32 drawn = CLOSED;
 
-/* What the lines tell that are judged: runs that began and that halted, bytes that were written and
- * words that were fetched. */
+/* What the lines tell that are judged: runs that began, that drew a half and that halted, and bytes
+ * that were written. */
 struct seen {
-    u64 runs, halted, writes, words;
+    u64 runs, drew, halted, writes;
 };
 
 static struct seen seen;
@@ -146,6 +146,8 @@ static void tell_seen(void)
 {
     add_number(seen.runs);
     add_text(" runs, ");
+    add_number(seen.drew);
+    add_text(" drew a half, ");
     add_number(seen.halted);
     add_text(" halted, ");
     add_number(seen.writes);
@@ -225,7 +227,6 @@ INLINE const u8 *take_other(const u8 *line, u32 *draws, struct seen *counts)
     if (characters << 8 == EIGHT(0, 'h', 'a', 'l', 't', 'e', 'd', '\n')) {
         *draws = CLOSED;
         counts->halted++;
-        counts->words++;
         return line + 7;
     }
     if (characters << 16 == EIGHT(0, 0, 'r', 'e', 's', 'e', 't', '\n')) {
@@ -252,9 +253,9 @@ APART void judge(const u8 *lines, const u8 *end)
         } else if (*line == 'l' && likely(fits(line, &low_pattern))) {
             line += 11;
         } else if (*line == 'f' && likely(fits(line, &fetched_pattern) && line[16] == '\n')) {
-            counts.words++;
             if (unlikely(draws == BEGUN)) {
                 draws = drawn_after(line);
+                counts.drew += draws != DRAWS_NEITHER;
             }
             line += 17;
         } else if ((next = take_other(line, &draws, &counts)) != NULL) {
@@ -304,10 +305,9 @@ static __attribute__((noreturn)) void torn(void)
         log_buffer[held] = '\n';
         judge(log_buffer, log_buffer + held + 1);
     }
-    bool no_run_drew = seen.runs == 0 ? seen.writes != 0 : seen.words == 0;
-    add_text(no_run_drew ? "no run drew: " : "not torn: ");
+    add_text(seen.drew == 0 ? "no run drew a half: " : "not torn: ");
     tell_seen();
-    finish(no_run_drew);
+    finish(seen.drew == 0);
 }
 
 #endif

@@ -16,18 +16,10 @@ const RAM_END: u16 = 0x800;
 #[derive(Default)]
 pub struct Seen {
     pub runs: u64,
+    /// Runs that drew a half.
+    pub drew: u64,
     pub halted: u64,
     pub writes: u64,
-    words: u64,
-}
-
-impl Seen {
-    /// Whether runs were to be seen, or writes that want one, and no run drew a word.
-    pub fn is_undrawn(&self) -> bool {
-        let wants_a_run = self.writes > 0 && self.runs == 0;
-        let fetched_nothing = self.runs > 0 && self.words == 0;
-        wants_a_run || fetched_nothing
-    }
 }
 
 /// A write that tears a picture.
@@ -125,11 +117,11 @@ impl Judge {
                 self.run = Run::Begun;
             }
             LogLine::Fetched(address, word) => {
-                self.seen.words += 1;
+                let begun = matches!(self.run, Run::Begun);
                 self.run = self.run.after_fetch(address, word);
+                self.seen.drew += u64::from(begun && matches!(self.run, Run::Draws(_)));
             }
             LogLine::Halted => {
-                self.seen.words += 1;
                 self.seen.halted += 1;
                 self.run = Run::Closed;
             }

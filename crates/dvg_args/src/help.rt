@@ -19,7 +19,7 @@ Exit status:
    0  done, or a help text or the version that was asked for
    1  a fault of the input, or what was asked about isn't good: a draft that may
       not be drawn, also in a sketch, a dump that draws no picture, a log with a
-      torn picture, or one in which no run drew
+      torn picture, or one in which no run drew a half
    2  a failing read or write, or out of memory
   64  arguments that ask for nothing the program can do: a file is no argument,
       it is read by `<`
@@ -236,18 +236,19 @@ that is word 000, a jump to the half, until the run ends. Half 0 is bytes 002 to
 
 Standard output: `torn at line N: wrote HHH HH` for the first byte that is
 written in the half being drawn, and on a line of its own what was seen so far;
-else `not torn: R runs, H halted, W writes`, or `no run drew: ..` where bytes
-were written and no run began, or runs began and no word was fetched. Lines are
-numbered from 1. Nothing is judged after the first line that is torn or at fault.
+else `not torn: R runs, D drew a half, H halted, W writes`. Where no run drew a
+half, nothing could be torn, and it is `no run drew a half: ..`: often word zero
+isn't logged after `started`, or the bytes of it are swapped. Lines are numbered
+from 1. Nothing is judged after the first line that is torn or at fault.
 
 Fault: `syntax at line N`. The status is 0 for `not torn`, and else 1.
 
 Example:
   $ printf 'started\\nfetched 000 E201\\nwrote 402 90\\n' | dvg torn
   torn at line 3: wrote 402 90
-  so far: 1 runs, 0 halted, 1 writes
+  so far: 1 runs, 1 drew a half, 0 halted, 1 writes
   $ printf 'started\\nfetched 000 E201\\nhalted\\nwrote 402 90\\n' | dvg torn
-  not torn: 1 runs, 1 halted, 1 writes";
+  not torn: 1 runs, 1 drew a half, 1 halted, 1 writes";
 
 /// How `render` is called.
 pub(crate) const RENDER_USAGE: &str = "dvg render [--check] [--scale N] [--rate N] < SKETCH";

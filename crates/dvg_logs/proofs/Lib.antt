@@ -1,5 +1,6 @@
 pub mod LogRows
 pub mod LogReads
+pub mod DrawnCounts
 pub mod OneVerdict
 pub mod Inputs
 pub mod NumberLines

@@ -1,9 +1,10 @@
 -- What is counted in a log.
-use Rattle.std.specs.Prelude.{Bool, true, false, not, cond, ◌==◌}
+use Rattle.std.specs.Prelude.{Bool, true, false, not, ◌==◌, ◌&&◌, ◌+◌, ℕ, [], ◌∷◌, if◌then◌else◌}
 use Rattle.std.specs.List.{count_by}
 use Rattle.dvg_driver.specs.declared.action.Action.TheVariants.{Wrote}
-use Rattle.dvg_log.specs.declared.entry.Entry.TheVariants.{Acted, Started, Fetched, Done}
-use Rattle.dvg_log.specs.Log.{◌⟼◌, Line, Log}
+use Rattle.dvg_log.specs.declared.entry.Entry.TheVariants.{Acted, Started, Done}
+use Rattle.dvg_log.specs.Log.{◌⟼◌, Line, Log, open_run}
+use Rattle.dvg_world.specs.Judging.{draws_half}
 use Rattle.dvg_print.specs.declared.log_verdict.LogCounts.{LogCounts}
 
 -- the line says that a strobe began a run
@@ -21,22 +22,24 @@ abbrev pub writes : Line → Bool
 writes (event ⟼ Acted (Wrote address byte)) = true
 writes _ = false
 
--- it says that a word was fetched, which may be that of a HALT
-abbrev pub fetches : Line → Bool
-fetches (event ⟼ Fetched address word) = true
-fetches (event ⟼ Done address word strokes) = true
-fetches _ = false
+-- by this line a run begins to draw a half: its first word was fetched, that at 000, a jump to the half
+abbrev pub draws_from : Line → Log → Bool
+draws_from line log = draws_half (open_run (line ∷ log)) && not (draws_half (open_run log))
 
--- how many lines of a log say each of these
+-- how many runs of a log drew a half
+abbrev pub drew_of : Log → ℕ
+drew_of [] = 0
+drew_of (line ∷ log) = (if draws_from line log then 1 else 0) + drew_of log
+
+-- what a log says: how many runs began, drew a half and ended by a HALT, and how many bytes were written
 abbrev pub counts_of : Log → LogCounts
 counts_of log = record {
   runs = count_by begins log;
+  drew = drew_of log;
   halted = count_by halts log;
   writes = count_by writes log;
-  words =
-      count_by fetches log;
 }
 
--- no run began and a byte was written, or runs began and no word was fetched
+-- no run drew a half, so nothing could be torn
 abbrev pub no_run_drew : LogCounts → Bool
-no_run_drew counts = cond (counts.runs == 0) (not (counts.writes == 0)) (counts.words == 0)
+no_run_drew counts = counts.drew == 0

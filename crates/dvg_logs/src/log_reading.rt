@@ -1,6 +1,6 @@
 //! The text of a log, as it is read in pieces.
 ghost use Rattle.std.specs.Prelude.{◌≡◌, ◌+◌, ◌-◌, ◌^◌, ◌<◌, [], ◌∷◌, ◌++◌, ℕ, List, length, IfErr};
-ghost use Rattle.std.specs.Prelude.{IfOk, IfSome, IsNone, IsTrue, OnOk};
+ghost use Rattle.std.specs.Prelude.{IfOk, IfSome, IsNone, IsTrue, OnOk, ◌&&◌, not};
 ghost use Rattle.dvg_driver.specs.declared.action.Action.TheVariants.{Wrote};
 ghost use Rattle.dvg_log.specs.declared.entry.Entry.TheVariants.{Acted};
 ghost use Rattle.dvg_log.specs.declared.event.Event.TheVariants.{Tick};
@@ -8,7 +8,7 @@ ghost use Rattle.dvg_world.specs.Judging.{StandsAfter};
 ghost use Rattle.dvg_log.specs.Log.{Line, Log, ◌⟼◌};
 ghost use Rattle.dvg_read.specs.Texts.{lines};
 ghost use Rattle.dvg_logs.specs.LogLines.{Tells};
-ghost use Rattle.dvg_logs.specs.LogCounts.{counts_of};
+ghost use Rattle.dvg_logs.specs.LogCounts.{counts_of, draws_from};
 ghost use Rattle.dvg_logs.specs.LogTexts.{IsWhole};
 ghost use Rattle.dvg_logs.specs.LogLineTells.{line_of};
 ghost use Rattle.dvg_logs.specs.LogReading.{HasJudged, HasRead, IsOpen, IsTornLine, StopsAt};
@@ -64,23 +64,30 @@ fn tell(judge: &mut Judge, logged: LogLine) -> Option<(u16, u8)>
     None
 }
 
-// What was counted in some lines, and in one more. None of the numbers passes that of the lines, so
-// none wraps.
+// Whether a half is drawn after a line, and none before it.
 #[inline(always)]
-fn counted(counts: LogCounts, logged: LogLine) -> LogCounts
+fn begins(before: bool, after: bool) -> bool
+    ensures { result ≡ (after && not before) }
+{
+    after && !before
+}
+
+// What was counted in some lines, and in one more, by which a run begins to draw a half or doesn't.
+// None of the numbers passes that of the lines, so none wraps.
+#[inline(always)]
+fn counted(counts: LogCounts, logged: LogLine, draws: bool) -> LogCounts
     ensures { (log : Log) → counts ≡ counts_of log → length log < 2 ^ 64 - 1
-        → result ≡ counts_of (line_of logged ∷ log) }
+        → draws ≡ draws_from (line_of logged) log → result ≡ counts_of (line_of logged ∷ log) }
 {
     let mut counts = counts;
+    if draws {
+        counts.drew = counts.drew.wrapping_add(1);
+    }
     match logged {
         LogLine::Started => counts.runs = counts.runs.wrapping_add(1),
         LogLine::Wrote(..) => counts.writes = counts.writes.wrapping_add(1),
-        LogLine::Fetched(..) => counts.words = counts.words.wrapping_add(1),
-        LogLine::Halted => {
-            counts.words = counts.words.wrapping_add(1);
-            counts.halted = counts.halted.wrapping_add(1);
-        }
-        LogLine::Passed | LogLine::Low(..) | LogLine::Reset => {}
+        LogLine::Halted => counts.halted = counts.halted.wrapping_add(1),
+        _ => {}
     }
     counts
 }
@@ -124,8 +131,11 @@ impl JudgedLines {
         let Some(logged) = read_log_line(line) else {
             return Err(LogStop::Syntax(number));
         };
-        let counts = counted(self.counts, logged);
-        match tell(&mut self.judge, logged) {
+        let drawn = self.judge.is_drawing();
+        let torn = tell(&mut self.judge, logged);
+        let draws = begins(drawn, self.judge.is_drawing());
+        let counts = counted(self.counts, logged, draws);
+        match torn {
             Some((address, byte)) => Err(LogStop::Torn {
                 line: number,
                 address,
@@ -154,9 +164,10 @@ impl JudgedLines {
         if tell(&mut judge, logged).is_some() {
             return false;
         }
+        let draws = begins(self.judge.is_drawing(), judge.is_drawing());
         self.judge = judge;
         self.count += 1;
-        self.counts = counted(self.counts, logged);
+        self.counts = counted(self.counts, logged, draws);
         true
     }
 }
@@ -180,9 +191,9 @@ impl LogReading {
                 count: 0,
                 counts: LogCounts {
                     runs: 0,
+                    drew: 0,
                     halted: 0,
                     writes: 0,
-                    words: 0,
                 },
             },
             unfinished: ArrayVec::new(),

@@ -1,6 +1,6 @@
 //! What `torn` says of a log.
-ghost use Rattle.std.specs.Prelude.{◌≡◌};
-ghost use Rattle.dvg_print.specs.LogVerdicts.{finding_text, runs_text, writes_text};
+ghost use Rattle.std.specs.Prelude.{◌≡◌, ◌≤◌, ◌+◌, ◌++◌, length};
+ghost use Rattle.dvg_print.specs.LogVerdicts.{finding_text, halts_text, log_verdict_text, runs_text};
 
 use crate::line::Line;
 use dvg_driver::Action;
@@ -10,12 +10,12 @@ use dvg_driver::Action;
 pub struct LogCounts {
     /// Strobes that began a run.
     pub runs: usize,
+    /// Runs that drew a half.
+    pub drew: usize,
     /// Runs that ended by a HALT.
     pub halted: usize,
     /// Bytes that the driver wrote.
     pub writes: usize,
-    /// Words that were fetched.
-    pub words: usize,
 }
 
 /// What the judge finds in a log.
@@ -23,8 +23,7 @@ pub struct LogCounts {
 pub enum LogFinding {
     /// No byte was written in the half that the open run draws.
     NotTorn,
-    /// No such byte either, but no run drew: bytes were written and no run began, or runs began and
-    /// no word was fetched.
+    /// No such byte either, but no run drew a half.
     NoRunDrew,
     /// The first write in such a half: the number of its line, counted from 1, its byte address and
     /// its byte.
@@ -41,14 +40,25 @@ pub struct LogVerdict {
 }
 
 impl Line {
-    /// Becomes the beginning of what `torn` writes of a verdict: what it finds.
-    pub fn become_finding(&mut self, finding: LogFinding)
-        ensures { self.new ≡ finding_text finding }
+    /// Becomes what `torn` writes of a verdict: one line, or two of a torn log.
+    pub fn become_log_verdict(&mut self, verdict: LogVerdict)
+        ensures { self.new ≡ log_verdict_text verdict }
     {
         self.clear();
+        self.finding(verdict.finding);
+        self.runs(verdict.counts);
+        self.halts(verdict.counts);
+    }
+
+    // Appends what is found in a log.
+    fn finding(&mut self, finding: LogFinding)
+        requires { length self.old + 64 ≤ 4096 }
+        ensures text { self.new ≡ self.old ++ finding_text finding }
+        ensures grew { length self.new ≤ length self.old + 64 }
+    {
         match finding {
             LogFinding::NotTorn => self.text(b"not torn:"),
-            LogFinding::NoRunDrew => self.text(b"no run drew:"),
+            LogFinding::NoRunDrew => self.text(b"no run drew a half:"),
             LogFinding::Torn {
                 line,
                 address,
@@ -63,22 +73,25 @@ impl Line {
         }
     }
 
-    /// Becomes what comes next: how many runs began, and how many ended by a HALT.
-    pub fn become_runs(&mut self, counts: LogCounts)
-        ensures { self.new ≡ runs_text counts }
+    // Appends how many runs began, and how many of them drew a half.
+    fn runs(&mut self, counts: LogCounts)
+        requires { length self.old + 64 ≤ 4096 }
+        ensures text { self.new ≡ self.old ++ runs_text counts }
+        ensures grew { length self.new ≤ length self.old + 64 }
     {
-        self.clear();
         self.number(counts.runs);
         self.text(b" runs,");
-        self.number(counts.halted);
-        self.text(b" halted,");
+        self.number(counts.drew);
+        self.text(b" drew a half,");
     }
 
-    /// Becomes the end: how many bytes were written.
-    pub fn become_writes(&mut self, counts: LogCounts)
-        ensures { self.new ≡ writes_text counts }
+    // Appends how many runs ended by a HALT, how many bytes were written, and the line's end.
+    fn halts(&mut self, counts: LogCounts)
+        requires { length self.old + 64 ≤ 4096 }
+        ensures text { self.new ≡ self.old ++ halts_text counts }
     {
-        self.clear();
+        self.number(counts.halted);
+        self.text(b" halted,");
         self.number(counts.writes);
         self.text(b" writes\n");
     }

@@ -9,10 +9,11 @@ ghost use Rattle.dvg_log.specs.declared.entry.Entry.TheVariants.{Started};
 ghost use Rattle.dvg_log.specs.Events.{Happening, happening_of};
 ghost use Rattle.dvg_log.specs.declared.event.Event.TheVariants.{Fetch, ResetGen, Strobe, Tick};
 ghost use Rattle.dvg_log.specs.Legal.{IsLegal};
-ghost use Rattle.dvg_log.specs.Log.{Log, Throughout, open_run, ◌⟼◌};
+ghost use Rattle.dvg_log.specs.Log.{IsBeingDrawn, Log, Throughout, open_run, ◌⟼◌};
 ghost use Rattle.dvg_world.specs.Runs.{log_of};
 ghost use Rattle.dvg_log.specs.Torn.{IsFirstTorn, IsTorn, IsUntorn};
-ghost use Rattle.dvg_world.specs.Judging.{FitsRun, StandsAfter};
+ghost use Rattle.dvg_mem.specs.declared.half.Half.{Half};
+ghost use Rattle.dvg_world.specs.Judging.{FitsRun, StandsAfter, draws_half};
 ghost use Rattle.dvg_world.specs.own.Leaving.{behind, left_by};
 
 use dvg_driver::Action;
@@ -166,6 +167,17 @@ impl Judge {
             → StandsAfter self.new ((ResetGen ⟼ Cleared) ∷ log) }
     {
         self.drawing = Drawing::Nothing;
+    }
+
+    /// Whether the open run draws a half: its first word was that at 000, a jump to one.
+    #[inline(always)]
+    pub fn is_drawing(&self) -> bool
+        ensures drawn { (log : Log) → StandsAfter self.now log
+            → IsTrue result ↔ ((half : Half) × IsBeingDrawn log half) }
+        ensures counted { (log : Log) → StandsAfter self.now log
+            → result ≡ draws_half (open_run log) }
+    {
+        matches!(self.drawing, Drawing::Within(_))
     }
 
     /// Is told that the driver wrote a byte at this byte address of the RAM. Answers whether that

@@ -63,9 +63,9 @@ pub const NOT_TORN: LogVerdict = LogVerdict {
     finding: LogFinding::NotTorn,
     counts: LogCounts {
         runs: 1,
+        drew: 1,
         halted: 1,
         writes: 1,
-        words: 2,
     },
 };
 

@@ -349,7 +349,7 @@ fn make(made: &Made) -> Result<ExitCode, Fault> {
 /// output.
 fn torn() -> Result<ExitCode, Fault> {
     let verdict = judge_text(&mut input()?)?;
-    let undrawn = verdict.seen.is_undrawn();
+    let undrawn = verdict.seen.drew == 0;
     let found = match &verdict.torn {
         Some(Torn {
             line,
@@ -358,12 +358,14 @@ fn torn() -> Result<ExitCode, Fault> {
         }) => {
             format!("torn at line {line}: wrote {address:03X} {byte:02X}\nso far")
         }
-        None if undrawn => "no run drew".to_string(),
+        None if undrawn => "no run drew a half".to_string(),
         None => "not torn".to_string(),
     };
     let seen = &verdict.seen;
-    let (runs, halted, writes) = (seen.runs, seen.halted, seen.writes);
-    let text = format!("{found}: {runs} runs, {halted} halted, {writes} writes\n");
+    let (runs, drew) = (seen.runs, seen.drew);
+    let (halted, writes) = (seen.halted, seen.writes);
+    let text =
+        format!("{found}: {runs} runs, {drew} drew a half, {halted} halted, {writes} writes\n");
     let status = ExitCode::from(u8::from(verdict.torn.is_some() || undrawn));
     let mut writer = output()?;
     writer

@@ -41,20 +41,25 @@ fn tell(judge: &mut Judge, logged: LogLine) -> Option<(u16, u8)> {
     None
 }
 
-// What was counted in some lines, and in one more. None of the numbers passes that of the lines, so
-// none wraps.
+// Whether a half is drawn after a line, and none before it.
 #[inline(always)]
-fn counted(counts: LogCounts, logged: LogLine) -> LogCounts {
+fn begins(before: bool, after: bool) -> bool {
+    after && !before
+}
+
+// What was counted in some lines, and in one more, by which a run begins to draw a half or doesn't.
+// None of the numbers passes that of the lines, so none wraps.
+#[inline(always)]
+fn counted(counts: LogCounts, logged: LogLine, draws: bool) -> LogCounts {
     let mut counts = counts;
+    if draws {
+        counts.drew = counts.drew.wrapping_add(1);
+    }
     match logged {
         LogLine::Started => counts.runs = counts.runs.wrapping_add(1),
         LogLine::Wrote(..) => counts.writes = counts.writes.wrapping_add(1),
-        LogLine::Fetched(..) => counts.words = counts.words.wrapping_add(1),
-        LogLine::Halted => {
-            counts.words = counts.words.wrapping_add(1);
-            counts.halted = counts.halted.wrapping_add(1);
-        }
-        LogLine::Passed | LogLine::Low(..) | LogLine::Reset => {}
+        LogLine::Halted => counts.halted = counts.halted.wrapping_add(1),
+        _ => {}
     }
     counts
 }
@@ -86,8 +91,11 @@ impl JudgedLines {
         let Some(logged) = read_log_line(line) else {
             return Err(LogStop::Syntax(number));
         };
-        let counts = counted(self.counts, logged);
-        match tell(&mut self.judge, logged) {
+        let drawn = self.judge.is_drawing();
+        let torn = tell(&mut self.judge, logged);
+        let draws = begins(drawn, self.judge.is_drawing());
+        let counts = counted(self.counts, logged, draws);
+        match torn {
             Some((address, byte)) => Err(LogStop::Torn {
                 line: number,
                 address,
@@ -109,9 +117,10 @@ impl JudgedLines {
         if tell(&mut judge, logged).is_some() {
             return false;
         }
+        let draws = begins(self.judge.is_drawing(), judge.is_drawing());
         self.judge = judge;
         self.count += 1;
-        self.counts = counted(self.counts, logged);
+        self.counts = counted(self.counts, logged, draws);
         true
     }
 }
@@ -132,9 +141,9 @@ impl LogReading {
                 count: 0,
                 counts: LogCounts {
                     runs: 0,
+                    drew: 0,
                     halted: 0,
                     writes: 0,
-                    words: 0,
                 },
             },
             unfinished: ArrayVec::new(),

@@ -1,6 +1,6 @@
 //! The engine `torn`.
 use crate::log_reading::{LogReading, LogStop};
-use dvg_io::{StreamFailed, ToolFault, Watched, write_whole};
+use dvg_io::{StreamFailed, ToolFault, Watched, write_lines};
 use dvg_print::{Line, LogCounts, LogFinding, LogVerdict};
 use dvg_read::TextFault;
 use std::io::{Read, Write};
@@ -31,12 +31,7 @@ fn answer(stop: LogStop) -> Result<LogVerdict, ToolFault> {
 
 // What is found in a log of which no line is torn.
 fn found(counts: LogCounts) -> LogFinding {
-    let no_run_drew = if counts.runs == 0 {
-        counts.writes != 0
-    } else {
-        counts.words == 0
-    };
-    if no_run_drew {
+    if counts.drew == 0 {
         LogFinding::NoRunDrew
     } else {
         LogFinding::NotTorn
@@ -71,21 +66,17 @@ fn judge_text<R: Read>(reader: &mut Watched<R>) -> Result<LogVerdict, ToolFault>
 // Writes what is said of a log.
 fn write_verdict<W: Write>(writer: &mut Watched<W>, verdict: LogVerdict) -> Result<(), StreamFailed> {
     let mut line = Line::new();
-    line.become_finding(verdict.finding);
-    write_whole(writer, line.as_bytes())?;
-    line.become_runs(verdict.counts);
-    write_whole(writer, line.as_bytes())?;
-    line.become_writes(verdict.counts);
-    write_whole(writer, line.as_bytes())
+    line.become_log_verdict(verdict);
+    write_lines(writer, line.as_bytes())
 }
 
 /// Reads the text of a log, of any length, up to the first line that is torn or at fault, and
 /// writes what is said of it (the text is this project's own choice):
 ///
-/// - `not torn: R runs, H halted, W writes`, where no byte was written in the half that the open
-///   run draws: R runs began, H ended by a HALT, and W bytes were written;
-/// - `no run drew:` and the same, where bytes were written and no run began, or runs began and no
-///   word was fetched;
+/// - `not torn: R runs, D drew a half, H halted, W writes`, where no byte was written in the half
+///   that the open run draws: R runs began, D of them drew a half, H ended by a HALT, and W bytes
+///   were written;
+/// - `no run drew a half:` and the same, where D is 0, so no byte could be found that tears;
 /// - `torn at line N: wrote A B` of the first write in such a half, by its line, its byte address
 ///   and its byte, and on one more line `so far:` and the same numbers up to that line.
 ///

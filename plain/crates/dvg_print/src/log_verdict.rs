@@ -7,12 +7,12 @@ use dvg_driver::Action;
 pub struct LogCounts {
     /// Strobes that began a run.
     pub runs: usize,
+    /// Runs that drew a half.
+    pub drew: usize,
     /// Runs that ended by a HALT.
     pub halted: usize,
     /// Bytes that the driver wrote.
     pub writes: usize,
-    /// Words that were fetched.
-    pub words: usize,
 }
 
 /// What the judge finds in a log.
@@ -20,8 +20,7 @@ pub struct LogCounts {
 pub enum LogFinding {
     /// No byte was written in the half that the open run draws.
     NotTorn,
-    /// No such byte either, but no run drew: bytes were written and no run began, or runs began and
-    /// no word was fetched.
+    /// No such byte either, but no run drew a half.
     NoRunDrew,
     /// The first write in such a half: the number of its line, counted from 1, its byte address and
     /// its byte.
@@ -38,12 +37,19 @@ pub struct LogVerdict {
 }
 
 impl Line {
-    /// Becomes the beginning of what `torn` writes of a verdict: what it finds.
-    pub fn become_finding(&mut self, finding: LogFinding) {
+    /// Becomes what `torn` writes of a verdict: one line, or two of a torn log.
+    pub fn become_log_verdict(&mut self, verdict: LogVerdict) {
         self.clear();
+        self.finding(verdict.finding);
+        self.runs(verdict.counts);
+        self.halts(verdict.counts);
+    }
+
+    // Appends what is found in a log.
+    fn finding(&mut self, finding: LogFinding) {
         match finding {
             LogFinding::NotTorn => self.text(b"not torn:"),
-            LogFinding::NoRunDrew => self.text(b"no run drew:"),
+            LogFinding::NoRunDrew => self.text(b"no run drew a half:"),
             LogFinding::Torn {
                 line,
                 address,
@@ -58,18 +64,18 @@ impl Line {
         }
     }
 
-    /// Becomes what comes next: how many runs began, and how many ended by a HALT.
-    pub fn become_runs(&mut self, counts: LogCounts) {
-        self.clear();
+    // Appends how many runs began, and how many of them drew a half.
+    fn runs(&mut self, counts: LogCounts) {
         self.number(counts.runs);
         self.text(b" runs,");
-        self.number(counts.halted);
-        self.text(b" halted,");
+        self.number(counts.drew);
+        self.text(b" drew a half,");
     }
 
-    /// Becomes the end: how many bytes were written.
-    pub fn become_writes(&mut self, counts: LogCounts) {
-        self.clear();
+    // Appends how many runs ended by a HALT, how many bytes were written, and the line's end.
+    fn halts(&mut self, counts: LogCounts) {
+        self.number(counts.halted);
+        self.text(b" halted,");
         self.number(counts.writes);
         self.text(b" writes\n");
     }

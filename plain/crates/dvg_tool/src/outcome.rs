@@ -46,8 +46,8 @@ pub fn finish<A: Allocator, W: Write>(
 /// The program's exit status (this project's own choice). It is 0 where the job is done. It is 1
 /// for a fault of the text, and where what was asked about isn't good: a draft that `check`
 /// refuses, also in a sketch, a dump that draws no picture, a log with a torn picture or of which
-/// no run drew. It is 2 for a stream that failed or want of memory. Arguments that ask for no job
-/// are 64, which is not an answer of an engine.
+/// no run drew a half. It is 2 for a stream that failed or want of memory. Arguments that ask for
+/// no job are 64, which is not an answer of an engine.
 pub fn status<A: Allocator>(answer: &Result<Done<A>, ToolFault>) -> u8 {
     match answer {
         Ok(

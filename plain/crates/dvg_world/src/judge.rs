@@ -114,6 +114,12 @@ impl Judge {
         self.drawing = Drawing::Nothing;
     }
 
+    /// Whether the open run draws a half: its first word was that at 000, a jump to one.
+    #[inline(always)]
+    pub fn is_drawing(&self) -> bool {
+        matches!(self.drawing, Drawing::Within(_))
+    }
+
     /// Is told that the driver wrote a byte at this byte address of the RAM. Answers whether that
     /// tears a picture.
     pub fn wrote(&self, address: u16) -> bool {
