@@ -29,7 +29,7 @@ abbrev pub NoFault : Log → Happening → Shown → Type 0
 NoFault log event (Broke address fault) = ⊥
 NoFault log event entry = Unit {0}
 
--- the open run shows this draft: the one newest published when it fetched word zero
+-- this draft is shown: the one newest published when the open run fetched word zero, or now, before it does
 abbrev pub IsShown : Log → List OpKind → Type 0
 IsShown log F = published (at_zero log) ≡ Some F
 
