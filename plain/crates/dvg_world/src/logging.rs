@@ -181,6 +181,8 @@ fn log_run<S: Store>(
 /// It stops for want of memory where `run_trace` does: before the first event, or at a fetch that
 /// completes a vector with an intensity of at least 1. The entries are then those of the events
 /// before.
+/// That memory was really refused, and that a refusal at such a fetch keeps what came before, is
+/// tested: by its contract alone this might always stop at once, with nothing kept.
 ///
 /// The lists are grown once, for as many as there are events, before the first happens.
 pub fn log_trace<S: Store>(

@@ -28,6 +28,9 @@ use std::alloc::Allocator;
 /// the driver sent one since the last reset of the whole system, or the beginning; it may arrive
 /// never, once or often. One access of memory is whole: one byte written, or one byte fetched.
 ///
+/// That memory was really refused, and that a refusal at such a fetch keeps what came before, is
+/// tested: by its contract alone this might always stop at once, with nothing kept.
+///
 /// It isn't said that a strobe, a tick or a fetch ever comes, that a picture is ever drawn, or that
 /// a frame that was accepted is: a later one may replace it. Nothing is said of real hardware.
 ///
