@@ -30,8 +30,17 @@ function digestOf(text) {
   return `sha256-${createHash('sha256').update(text).digest('base64')}`;
 }
 
+// The names that a module gives to all others.
+function namesOf(text) {
+  const form = /^(?:async )?(?:const|let|class|function) (\w+)/gm;
+  return [...text.matchAll(form)].map(([, name]) => name);
+}
+
 const modules = new Map();
 collect('page.mjs', modules);
+const names = [...modules.values()].flatMap(namesOf);
+const twice = names.find((name, k) => names.indexOf(name) < k);
+if (twice !== undefined) throw new Error(`two modules give the name ${twice}`);
 const script = [...modules.values()].join('\n\n').replace(/<\/script/g, '<\\/script');
 const style = source('page.css');
 process.stdout.write(source('page.html')

@@ -31,6 +31,10 @@ function runProgram(args, input) {
   return spawnSync(program, args, { input, maxBuffer: 1 << 28 }).stdout.toString();
 }
 
+function runStatus(args, input) {
+  return spawnSync(program, args, { input }).status;
+}
+
 // What `dvg torn` says of a log that isn't torn, and what it counts besides.
 const SEEN = '[0-9]+ runs, .*[0-9]+ writes';
 const NOT_TORN = new RegExp(`^not torn: ${SEEN}$`);
@@ -39,6 +43,7 @@ const TORN = new RegExp(
 
 const browser = await startChromium(chromium);
 let tab = await browser.newTab();
+await tab.size(1600, 1000);
 await browser.send('Browser.setDownloadBehavior',
   { behavior: 'allow', downloadPath: work, eventsEnabled: false });
 
@@ -110,6 +115,7 @@ async function testBeginning() {
 }
 
 async function testTyping() {
+  await openPage();
   const marked = () => tab.value('document.querySelector("#A .numbers b")?.textContent ?? "none"');
   const cases = [
     ['labs 512 400 0\nvctr 9 -100 100 7\nhalt', 'ok 5 words 6 fetches', 'none'],
@@ -138,6 +144,7 @@ async function testTyping() {
 }
 
 async function testOneByOne() {
+  await openPage();
   await set('textA', 'labs 512 400 0\nvctr 9 -100 100 7\nhalt');
   await tab.click('anew');
   const happen = async (name, times = 1) => {
@@ -170,6 +177,7 @@ async function testOneByOne() {
 }
 
 async function testSeeds() {
+  await openPage();
   let lines = 0;
   for (let seed = 1; seed <= seeds; seed++) {
     await runSeed(seed, ['chance', 'resets', 'board'][seed % 3]);
@@ -248,6 +256,7 @@ async function testCutWire() {
 }
 
 async function testRunning() {
+  await openPage();
   await tab.click('anew');
   await set('count', 4000);
   await tab.choose('how', 'chance');
@@ -326,22 +335,26 @@ async function testFiles() {
   const dump = new Uint8Array(4096);
   dump.set([1, 0xE0, 0x90, 0xA1, 0, 2, 0x64, 0x90, 0x64, 0x74, 0, 0xB0]);
   await tab.drop('screen', put('a.dump', dump));
-  expect('a dump is drawn',
-    true, await comes('file-text', 'dvg picture: picture 6 1'));
+  expect('a dump is drawn', true, await comes('judged', 'picture 6 1'));
   expect('as the command does', runProgram(['picture', '--all'], dump).trim(),
-    await tab.text('file-lines'));
+    (await textsOf('#file-lines span')).join('\n'));
   expect('and seen', true, (await tab.value(REDS)).blue > 20);
+  await tab.key('Home');
+  for (let k = 0; k < 11; k++) await tab.key('ArrowRight');
+  expect('its run is walked', 'VCTR', (await textsOf('#file-lines .now')).join().slice(4, 8));
   await tab.click('file-close');
   expect('the board is back', /^Picture /, await tab.text('picture-text'));
-  for (const [name, said] of [['tears.log', /^dvg torn: torn at line/],
-    ['waits.log', /^dvg torn: not torn: \d+ runs, \d+ halted, \d+ writes$/]]) {
-    const log = `${top}examples/logs/${name}`;
+  const bus = '0.1,W,4001,E0\n0.2,W,3000,00\n0.3,W,4002,64\n';
+  for (const [name, text] of [['tears.log'], ['waits.log'], ['bus.csv', bus], ['none.log',
+    'started\nwrote 402 90\n'], ['bad.log', 'started\nfetched 000 E001\nwhat\nwrote 002 64\n']]) {
+    const log = text === undefined ? `${top}examples/logs/${name}` : put(name, text);
     await tab.drop('textA', log);
-    await tab.until(`document.getElementById('file-title').textContent === 'The log ${name}'`);
-    expect(`${name} is judged`, said, await tab.text('file-text'));
-    expect(`${name}: as the command does`,
-      `dvg torn: ${runProgram(['torn'], readFileSync(log)).trim()}`, await tab.text('file-text'));
+    await comesWith('file-title', `The log ${name}`);
+    await testLogShown(name, name === 'bus.csv' ? 'wrote 001 E0\nstarted\nfetched 000 E000\n'
+      + 'wrote 002 64\n' : readFileSync(log, 'utf8').replace(/^what[^]*/m, ''));
   }
+  expect('a fault of a log is told', /syntax at line 3/, await tab.text('file-text'));
+  await tab.click('file-close');
   const rom = new Uint8Array(2048).fill(0xD0);
   rom.set([0, 0xB0]);
   await tab.drop('rows', put('some.rom', rom));
@@ -364,6 +377,72 @@ async function testFiles() {
     true, await tab.until('/neither a dump/.test(document.getElementById("said").textContent)'));
   await tab.choose('pickB', 'rom_shapes');
   expect('an example with a ROM', /^ok /, await tab.text('saidB'));
+}
+
+// Of an opened log: its own verdict, and none other; its rows, in view and focused.
+async function testLogShown(name, log) {
+  const said = runProgram(['torn'], log).trim().split('\n');
+  expect(`${name}: as the command says`, said.join(', '), await tab.text('judged'));
+  const good = runStatus(['torn'], log) === 0;
+  expect(`${name}: its colour`, good, await tab.value(
+    'document.getElementById("judged").className === "good"'));
+  expect(`${name}: nothing else is green`, good ? 1 : 0, (await textsOf('.good')).filter(
+    (text) => /torn|drew/.test(text)).length);
+  expect(`${name}: its rows have the focus`, 'rows',
+    await tab.value('document.activeElement.id'));
+  expect(`${name}: in view`, '', await outOfView(SEEN_AT_ONCE));
+  const [, line] = /line ([0-9]+)/.exec(said[0]) ?? [];
+  if (line) expect(`${name}: the torn line is shown`, true,
+    (await tab.text('moment-text')).includes(`line ${line}: wrote`));
+  expect(`${name}: nothing of it can be run`, true,
+    await tab.value('document.getElementById("run").disabled'));
+}
+
+// A log of 100,000 events: how long a step of its rows takes while one drags and walks.
+async function testLongLog() {
+  await openPage();
+  const lines = [];
+  for (let k = 0; lines.length < 100000; k++) {
+    lines.push('started', 'low 000 01', 'fetched 000 E001');
+    for (let word = 1; word < 90; word++) {
+      lines.push(`low ${hex3(word)} 00`, `wrote ${hex3(0x402 + 2 * word)} 90`,
+        `fetched ${hex3(word)} ${word === 89 ? 'B000' : word % 2 ? '9064' : '7064'}`);
+    }
+    lines.push('halted');
+  }
+  await tab.drop('screen', put('long.log', `${lines.join('\n')}\n`));
+  expect('a long log is judged', true, await comesWith('judged', 'not torn: '));
+  const times = await tab.value(`new Promise((done) => {
+    const rows = document.getElementById('rows'), times = [];
+    const send = (type, x) => rows.dispatchEvent(new PointerEvent(type,
+      { clientX: x, clientY: rows.getBoundingClientRect().y + 30, pointerId: 1, bubbles: true }));
+    rows.setPointerCapture = () => {};
+    for (let k = 0; k < 6; k++) document.getElementById('zoom-in').click();
+    send('pointerdown', 600);
+    let last = null, k = 0;
+    const next = () => {
+      const begin = performance.now();
+      send('pointermove', 600 - 9 * k);
+      times.push(performance.now() - begin);
+      if (++k < 120) requestAnimationFrame(next);
+      else { send('pointerup', 600); done(times.sort((a, b) => a - b)); }
+    };
+    next();
+  })`);
+  const walk = await tab.value(`(() => {
+    const begin = performance.now();
+    for (let k = 0; k < 50; k++) document.getElementById('back').click();
+    return (performance.now() - begin) / 50;
+  })()`);
+  const [median, most, step] = [times[60], times[114], walk].map((time) => time.toFixed(1));
+  console.log(`browser: a drag over ${lines.length} events takes ${median} ms at the median, ${most}`
+    + ` ms or less in 19 of 20; a step back ${step} ms`);
+  expect('a drag takes 8 ms or less', true, times[60] <= 8);
+  expect('a step back takes 30 ms or less', true, walk <= 30);
+}
+
+function hex3(number) {
+  return number.toString(16).toUpperCase().padStart(3, '0');
 }
 
 // --- Over http, and what leaves the page ---
@@ -498,7 +577,8 @@ async function testTour() {
   expect('all of it in view', '', await outOfView([...SEEN_AT_ONCE, '#tear-text', '#next']));
   writeFileSync(`${work}/page_torn.png`, await tab.screenshot());
   await tab.click('tear-go');
-  expect('the byte is shown', /into the half that is being drawn\.$/, await tab.text('moment-text'));
+  expect('the byte is shown', /into the half that is being drawn\.$/,
+    await tab.text('moment-text'));
   await tab.click('tear-back');
   expect('and the picture again', /: done /, await tab.text('moment-text'));
   await tab.click('tour-again');
@@ -699,8 +779,9 @@ async function testSpeed() {
 
 const tests = {
   testBeginning, testTyping, testOneByOne, testSeeds, testCutWire, testRunning, testLessons,
-    testLink, testFiles,
-  testHttp, testInView, testTour, testWidths, testColors, testMotion, testKeys, testRows, testReadAloud, testSpeed,
+    testLink, testFiles, testLongLog,
+  testHttp, testInView, testTour, testWidths, testColors, testMotion, testKeys, testRows,
+    testReadAloud, testSpeed,
 };
 for (const [name, test] of Object.entries(tests)) {
   if (chosen.length > 0 && !chosen.includes(name)) continue;

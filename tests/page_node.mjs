@@ -16,6 +16,11 @@ import { Chance, Proportions, reelOf } from '../page/src/chance.mjs';
 import { Drawer, momentOf } from '../page/src/moments.mjs';
 import { fragmentOf, plainFragment, stateOf } from '../page/src/links.mjs';
 import { kindOf } from '../page/src/files.mjs';
+import { Recording, boardOfDump } from '../page/src/recordings.mjs';
+import { logOfBus } from '../page/src/buses.mjs';
+import { readSketch } from '../page/src/sketches.mjs';
+import { SCENES, SCENE_FRAMES } from '../page/src/playfield.mjs';
+import { tearOf } from '../page/src/tears.mjs';
 import { LESSONS, stateOfLesson } from '../page/src/lessons.mjs';
 
 const [program, work] = process.argv.slice(2, 4),
@@ -339,6 +344,103 @@ function testMention(title, number, text, board) {
   expect(`lesson ${title}: event ${number} is what it says`, true, fits);
 }
 
+// --- Recordings: a log, a dump, a bus ---
+
+// Of the log that a board makes, the recording has the same RAM, runs, tears and pictures.
+function testRecordings() {
+  for (const [how, wireCut] of [['with resets', false], ['by chance', true]]) {
+    const board = runBoard(HOWS[how](4), 6000, wireCut), drawer = new Drawer(engine);
+    const recording = new Recording('a log', board.tornLog.text, drawer);
+    expect(`${how}: the torn bytes`, board.tears, recording.tears);
+    expect(`${how}: the runs without an end`, board.abandoned, recording.abandoned);
+    const ended = board.entries.map(({ text }, event) => ({ text, event }))
+      .filter(({ text }) => /^(done|broke)/.test(text));
+    expect(`${how}: the runs that ended`, ended.length, recording.pictures.length);
+    ended.forEach(({ text, event }, k) => {
+      const picture = board.pictures.find((one) => one.at === event), there = recording.pictures[k];
+      if (text.startsWith('done')) expect(`${how}: picture ${k}`,
+        JSON.stringify([picture.tears, picture.strokes]),
+        JSON.stringify([there.tears, there.strokes]));
+    });
+    for (let at = 1; at <= recording.length; at += 61) {
+      const event = board.tornLog.eventOf[at - 1];
+      if (board.tornLog.eventOf[at] === event) continue;
+      const there = momentOf(board, event + 1), here = momentOf(recording, at);
+      expect(`${how}: the moment after line ${at}`, JSON.stringify([there.run?.words,
+        there.run?.half, there.run?.beam]), JSON.stringify([here.run?.words, here.run?.half,
+        here.run?.beam]));
+      if (how === 'by chance') expect(`${how}: the RAM after line ${at}`,
+        Buffer.from(there.ram).toString('hex'), Buffer.from(here.ram).toString('hex'));
+    }
+    board.free();
+  }
+  const log = readFileSync(`${top}examples/logs/tears.log`);
+  const recording = new Recording('tears.log', log, new Drawer(engine));
+  const [, line] = /line ([0-9]+)/.exec(engine.run(COMMAND.torn, log).output);
+  const entry = recording.entryAt(recording.eventOfLine(Number(line)));
+  expect('tears.log: the torn line', `${line} true`, `${entry.line} ${entry.torn}`);
+}
+
+// A dump's run is the one of `dvg picture`.
+function testDumps() {
+  for (const name of ['ship', 'digits', 'rocks']) {
+    const sketch = `${top}examples/frames/${name}.draft`;
+    const bytes = spawnSync(`${top}examples/tools/dump`, [sketch]).stdout;
+    const board = boardOfDump(engine, name, new Uint8Array(bytes));
+    const output = runProgram(['picture'], bytes).trim().split('\n');
+    const strokes = board.pictures[0].strokes.map((stroke) => stroke.join(' '));
+    expect(`the dump of ${name}`, output.filter((line) => !line.startsWith('picture')).join(),
+      strokes.join());
+    board.free();
+  }
+}
+
+function testBuses() {
+  const table = 'Time [s],RW,Address,Data\n0.1,W,4000,01\n0.2,W,0x4001,E0\r\n0.3,W,3000,00\n'
+    + '0.4,R,2002,80\n0.5,W,4402,64\n0.6,R,2002,7f\n0.7,W,3000,0\n0.8,W,4005,11\n0.9,R,7FFC,0\n';
+  const log = logOfBus(table);
+  expect('the log of a bus', 'wrote 000 01|wrote 001 E0|started|fetched 000 E001|wrote 402 64|'
+    + 'halted|started|fetched 000 E001|wrote 005 11|reset|', log.split('\n').join('|'));
+  expect('its verdict', 'torn at line 9: wrote 005 11', runProgram(['torn'], log).split('\n')[0]);
+  expect('a table of a bus', 'bus', kindOf(Buffer.from(table)));
+}
+
+// --- Sketches, and the tear ---
+
+// Each frame of a sketch is what `check --bound` says of its lines alone.
+function testSketches() {
+  const rom = '.rom\nship: vctr 7 10 10 12\nreturn\n.frame q\nLABS 500 500 1\ncallrom ship\nhalt\n';
+  for (const text of [...Object.values(SCENES), rom, 'labs 1 2 3\nhalt']) {
+    const { good, frames, said, rom: own } = readSketch(engine, text);
+    expect('a sketch is good', true, good);
+    const lines = frames.map(({ name, lines: operations }) => `${name === '' ? '' : `${name}: `}`
+      + runProgram(['check', '--bound'], `${own}${operations.join('\n')}\n`).trim());
+    expect(`a sketch of ${frames.length}: each frame`, said, lines.join('\n'));
+  }
+  expect('the playfield', SCENE_FRAMES, readSketch(engine, Object.values(SCENES)[0]).frames.length);
+}
+
+// Of a torn picture: the strokes that aren't red are of the frame that its run began with.
+function testTears() {
+  const board = runBoard(HOWS['by chance'](2), events, true);
+  const drawingOf = (draft) => runProgram(['play'],
+    `tick 2\noffer\n${draft}\nend\ntick 1100\nstrobe\nfetch 9999\n`)
+    .split('\n').slice(1, -1).join('\n');
+  const frames = drafts.map((lines) => drawingOf(lines.join('\n')));
+  for (const picture of board.pictures.filter(({ tears }) => tears > 0)) {
+    const { wanted, wrong, next, word } = tearOf(engine, board, picture, drawingOf);
+    const texts = (strokes) => strokes.map((stroke) => stroke.join(' '));
+    expect('the frame of the run is one', true, frames.includes(texts(wanted).join('\n')));
+    expect('so is the one written into it', true, frames.includes(texts(next).join('\n')));
+    expect('the others are of the first', true, picture.strokes.every((stroke) => (
+      wrong.includes(stroke) || texts(wanted).includes(stroke.join(' ')))));
+    expect('a torn byte is told', true, board.entries[word.event].torn);
+    if (word.read >= 0) expect('and where it was read', word.address >> 1,
+      board.entries[word.read].fetched);
+  }
+  board.free();
+}
+
 testCases();
 testSchedules();
 testCutWire();
@@ -349,6 +451,11 @@ testRoms();
 testMoments();
 await testLinks();
 testFiles();
+testRecordings();
+testDumps();
+testBuses();
+testSketches();
+testTears();
 testLessons();
 console.log(`${passed} passed, ${failed} failed`);
 process.exit(failed === 0 ? 0 : 1);

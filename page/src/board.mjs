@@ -7,7 +7,7 @@ import { faultText, hex } from './drafts.mjs';
 /* The most events, as `play` takes them. */
 export const MOST_EVENTS = 65536;
 
-const RAM_BYTES = 2048;
+export const RAM_BYTES = 2048;
 /* After so many events a copy of the RAM is kept. */
 export const KEPT_EVERY = 1024;
 
@@ -62,6 +62,11 @@ export class Board {
 
   get length() { return this.entries.length; }
   get full() { return this.length >= MOST_EVENTS; }
+  entryAt(at) { return this.entries[at]; }
+
+  /* What `dvg torn` reads of it, and which event a line of that is. */
+  get tornBytes() { return this.tornLog.text; }
+  eventOfLine(line) { return this.tornLog.eventOf[line - 1]; }
 
   /* From the next event on the driver is told that the generator is always halted, or the truth. */
   setWire(cut) {

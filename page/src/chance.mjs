@@ -17,7 +17,7 @@ export class Random {
 }
 
 /* The frames of two sketches in the order in which they are offered. Where each has one it is A, A,
- * B, B: by turns of one, each half would always get the same frame, and a tear could not be seen. */
+ * B, B: by turns of one, each half would always get the same frame, and no tear could be seen. */
 export function reelOf(a, b) {
   return a.length === 1 && b.length === 1 ? [...a, ...a, ...b, ...b] : [...a, ...b];
 }
@@ -66,8 +66,8 @@ export class Chance {
   }
 }
 
-/* How many microseconds the driver on the board takes for an action: board/README.md has the cycles,
- * of which there are 1.5 in a microsecond. */
+/* How many microseconds the driver on the board takes for an action: board/README.md has the
+ * cycles, of which there are 1.5 in a microsecond. */
 function actionTime(text) {
   if (text.startsWith('wrote')) return 19;
   return text === 'sent' ? 35 : 26;

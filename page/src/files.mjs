@@ -1,12 +1,16 @@
 /* Which kind of file was dropped on the page. */
 
+import { isAccess } from './buses.mjs';
+
 const DUMP_BYTES = [4096, 6144];
 const ROM_BYTES = 2048;
+/* A table of a bus has an access within so many lines. */
+const MOST_HEADER = 20;
 
 const ENTRY = /^(started$|low |fetched |halted$|reset$|wrote )/;
 const EVENT = /^(offer|redraw|tick|strobe|fetch|resetgen|resetcpu|resetall)( |$)/;
 const OPERATION_OR_NAME =
-  /^([A-Za-z_]\w*:|(labs|vctr|svec|call|jump|callrom|jumprom|return|halt)( |$))/;
+  /^(\.(frame|rom)\b|[A-Za-z_]\w*:|(labs|vctr|svec|call|jump|callrom|jumprom|return|halt)( |$))/i;
 
 /* A dump or a ROM by its length, and a text by its first line that says anything. A file of 4,096
  * bytes is a dump, as the larger ROM has its own button. */
@@ -18,8 +22,16 @@ export function kindOf(bytes) {
   const lines = new TextDecoder().decode(bytes).split('\n').map((line) => line.trim());
   const unpassed = lines.filter((line) => line !== '' && !/^(#|map |rom )/.test(line));
   const first = unpassed[0] ?? '';
+  if (lines.slice(0, MOST_HEADER).some(isAccess)) return 'bus';
   if (ENTRY.test(first)) return 'log';
   if (EVENT.test(first)) return 'trace';
   if (OPERATION_OR_NAME.test(first)) return 'draft';
   return lines.some((line) => /^(map|rom) /.test(line)) && first === '' ? 'romtext' : 'unknown';
+}
+
+/* The bytes of the first lines of a text. */
+export function firstLines(bytes, count) {
+  let at = 0;
+  for (let line = 0; line < count; line++) at = bytes.indexOf(10, at) + 1;
+  return bytes.subarray(0, at);
 }

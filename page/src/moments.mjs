@@ -8,7 +8,7 @@ const HALT_WORD = 0xB000;
 
 /* The moment after `at` events: the RAM, the byte last written, the open run, the picture. */
 export function momentOf(board, at) {
-  const last = at > 0 ? board.entries[at - 1] : null;
+  const last = at > 0 ? board.entryAt(at - 1) : null;
   const picture = last === null || last.picture < 0 ? null
     : board.pictures.find((one) => one.at === last.picture);
   return { at, last, ram: ramAt(board, at), written: lastWritten(board, at), run: runAt(board, at),
@@ -20,7 +20,7 @@ export function ramAt(board, at) {
   const copy = Math.floor(at / KEPT_EVERY);
   const ram = board.kept[copy].slice();
   for (let k = copy * KEPT_EVERY; k < at; k++) {
-    const entry = board.entries[k];
+    const entry = board.entryAt(k);
     if (entry.wrote !== undefined) ram[entry.wrote] = entry.value;
     if (entry.filled !== undefined) ram.fill(entry.filled);
   }
@@ -29,7 +29,7 @@ export function ramAt(board, at) {
 
 function lastWritten(board, at) {
   for (let k = at - 1; k >= 0; k--) {
-    const { wrote, value, filled } = board.entries[k];
+    const { wrote, value, filled } = board.entryAt(k);
     if (filled !== undefined) return null;
     if (wrote !== undefined) return { address: wrote, value, event: k };
   }
@@ -38,11 +38,11 @@ function lastWritten(board, at) {
 
 /* The open run: where it began, its half, its words, and the word under the beam. */
 function runAt(board, at) {
-  const from = at > 0 ? board.entries[at - 1].run : -1;
+  const from = at > 0 ? board.entryAt(at - 1).run : -1;
   if (from < 0) return null;
   const run = { from, half: 0, words: [], beam: null, tears: 0 };
   for (let k = from + 1; k < at; k++) {
-    const { word, fetched, torn } = board.entries[k];
+    const { word, fetched, torn } = board.entryAt(k);
     if (fetched !== undefined) run.beam = fetched;
     if (word !== undefined) run.words.push(word);
     if (torn) run.tears++;
@@ -56,7 +56,7 @@ function runAt(board, at) {
 export function marksOf(board, at) {
   const written = new Float32Array(1024), fetched = new Float32Array(1024), torn = new Set();
   for (let k = Math.max(0, at - RECENT); k < at; k++) {
-    const entry = board.entries[k], age = 1 - (at - 1 - k) / RECENT;
+    const entry = board.entryAt(k), age = 1 - (at - 1 - k) / RECENT;
     if (entry.wrote !== undefined) written[entry.wrote >> 1] = age;
     if (entry.fetched < 1024) fetched[entry.fetched] = age;
     if (entry.torn) torn.add(entry.wrote >> 1);
@@ -71,6 +71,17 @@ function wholeWords(words) {
     const length = words[count] >> 12 <= 0xA ? 2 : 1;
     if (count + length > words.length) break;
     count += length;
+  }
+  return count;
+}
+
+/* How many instructions these words make. */
+export function wholeInstructions(words) {
+  let count = 0;
+  for (let at = 0; at < words.length; count++) {
+    const length = words[at] >> 12 <= 0xA ? 2 : 1;
+    if (at + length > words.length) break;
+    at += length;
   }
   return count;
 }

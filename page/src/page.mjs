@@ -3,11 +3,13 @@ import { COMMAND, Engine, OPTION } from './engine.mjs';
 import { AREA, Board, MOST_EVENTS, areaOf } from './board.mjs';
 import { hex, splitRom } from './drafts.mjs';
 import { playSteps, stepsOf, traceOf } from './traces.mjs';
-import { Drawer, marksOf, momentOf } from './moments.mjs';
+import { Drawer, marksOf, momentOf, wholeInstructions } from './moments.mjs';
 import { tearOf, tearText } from './tears.mjs';
 import { Chance, Proportions, reelOf } from './chance.mjs';
 import { fragmentOf, plainFragment, stateOf } from './links.mjs';
-import { kindOf } from './files.mjs';
+import { logOfBus } from './buses.mjs';
+import { firstLines, kindOf } from './files.mjs';
+import { Recording, boardOfDump } from './recordings.mjs';
 import { LESSONS, stateOfLesson } from './lessons.mjs';
 import { SCENES } from './playfield.mjs';
 import { TOUR_RATE, TOUR_STEPS, Tour } from './tour.mjs';
@@ -30,6 +32,8 @@ const [FIRST_A, FIRST_B] = Object.keys(SCENES);
 const FIRST = { a: FIRST_A, b: FIRST_B }, FIRST_EVENTS = 6000;
 
 const LOG_BEFORE = 12, LOG_AFTER = 4;
+/* How many events before and after a torn line are shown. */
+const TORN_AROUND = 60;
 /* How many pixels an event has in the rows while the tour runs. */
 const ROWS_TOUR_SCALE = 0.4;
 /* While it runs, how often the log is judged, and texts are shown, in milliseconds. */
@@ -38,11 +42,14 @@ const JUDGE_EVERY = 500, TEXTS_EVERY = 100;
 const MOST_PASSED = 50;
 
 let engine, drawer, board, schedule = null, running = false;
-/* When the log was judged and texts were shown, and whose turn it is to be drawn. */
-let judgedAt = 0, textsAt = 0, animatedAt = 0, turn = false;
+/* What is shown: the board, or a recording of what happened elsewhere. */
+let shown;
+/* When the log was judged and of which events, when texts were shown, and whose turn it is to be
+ * drawn. */
+let judgedAt = 0, judgedOf = '', textsAt = 0, animatedAt = 0, turn = false;
 /* The moment that is shown: how many events have happened by then. */
 let at = 0;
-let dump = null, lesson = 0;
+let lesson = 0;
 let editorA, editorB, editorR, screen, rows, memory, colors, tour;
 const drawings = new Map(), frameTimes = [];
 
@@ -52,12 +59,13 @@ function beginAnew(wireCut = board?.wireCut ?? false) {
   board?.free();
   board = new Board(engine, editorR.rom, wireCut);
   board.id = performance.now();
+  shown = board;
   schedule = null;
   moveTo(0);
 }
 
 function moveTo(moment) {
-  at = Math.min(board.length, Math.max(0, moment));
+  at = Math.min(shown.length, Math.max(0, moment));
   rows.follow(at);
 }
 
@@ -128,7 +136,7 @@ function scheduleNow() {
 }
 
 function canRun() {
-  return editorA.offerable && editorB.offerable && !board.full;
+  return shown === board && editorA.offerable && editorB.offerable && !board.full;
 }
 
 function runSome(count, until = Infinity) {
@@ -198,14 +206,19 @@ function run() {
 
 /* --- Verdicts --- */
 
-/* What `dvg torn` says of the log. */
+/* What `dvg torn` says of the log of what is shown; of a dump what `dvg picture` says. */
 function judge() {
   judgedAt = performance.now();
-  const got = engine.run(COMMAND.torn, board.tornLog.text);
-  const [said, seen] = got.output.trim().split('\n');
+  if (judgedOf === `${shown.id} ${shown.length}`) return;
+  judgedOf = `${shown.id} ${shown.length}`;
+  const got = engine.run(COMMAND.torn, shown.tornBytes);
+  const [said, seen] = (got.output || got.error).trim().split('\n');
   const line = /^torn at line ([0-9]+)/.exec(said);
-  const event = line ? board.tornLog.eventOf[Number(line[1]) - 1] : null;
-  byId('judged').textContent = event === null ? said : `${said} (event ${event}), ${seen}`;
+  const event = line ? shown.eventOfLine(Number(line[1])) : null;
+  const place = shown === board ? ` (event ${event})` : '';
+  byId('judge').textContent = shown.verdict ? 'dvg picture' : 'dvg torn';
+  byId('judged').textContent = shown.verdict
+    ?? (event === null ? said : `${said}${place}, ${seen}`);
   byId('judged').className = event !== null ? 'bad' : { 0: 'good' }[got.status] ?? '';
   byId('judged-go').hidden = event === null;
   byId('judged-go').onclick = () => goTo(event + 1);
@@ -237,10 +250,11 @@ function drawingOf(draft) {
   return drawings.get(key);
 }
 
-/* Which of the offered frames a picture is. */
+/* Which of the offered frames a picture is; null of a recording, which has none. */
 function nameOf(picture) {
+  if (shown !== board) return null;
   const drawn = picture.strokes.map((stroke) => stroke.join(' ')).join('\n');
-  for (const [draft, event] of board.drafts) {
+  for (const [draft, event] of shown.drafts) {
     if (event <= picture.at && drawingOf(draft) === drawn) return nameOfDraft(draft);
   }
   return 'no frame that was offered';
@@ -248,13 +262,13 @@ function nameOf(picture) {
 
 function nameOfDraft(draft) {
   return editorA.nameOf(draft) ?? editorB.nameOf(draft)
-    ?? `the frame first offered in event ${board.drafts.get(draft)}`;
+    ?? `the frame first offered in event ${shown.drafts.get(draft)}`;
 }
 
 /* What a torn picture is made of, which is found once; null of a whole one. */
 function tearNow(picture) {
   if (picture === null || picture.tears === 0) return null;
-  picture.tear ??= tearOf(engine, board, picture, drawingOf);
+  picture.tear ??= tearOf(engine, shown, picture, drawingOf);
   return picture.tear;
 }
 
@@ -288,12 +302,12 @@ function changed() {
 }
 
 function show() {
-  const moment = momentOf(board, at);
+  const moment = momentOf(shown, at);
   showScreen(moment);
   // While it runs, the rows and the RAM are drawn by turns.
   turn = !turn;
-  if (!running || turn) rows.draw(board, at, colors);
-  if (!running || !turn) memory.draw(moment, marksOf(board, at), colors);
+  if (!running || turn) rows.draw(shown, at, colors);
+  if (!running || !turn) memory.draw(moment, marksOf(shown, at), colors);
   const now = performance.now();
   if (running && now - textsAt < TEXTS_EVERY) return;
   textsAt = now;
@@ -304,13 +318,14 @@ function showTexts(moment) {
   showPictureText(moment);
   if (!running) showWord(moment);
   showLog();
-  byId('counts').textContent = countsText(board);
-  byId('moment-text').textContent = momentText(board, at);
-  byId('rows').setAttribute('aria-valuemax', board.length);
+  byId('counts').textContent = countsText(shown);
+  byId('moment-text').textContent = momentText(shown, at);
+  byId('rows').setAttribute('aria-valuemax', shown.length);
   byId('rows').setAttribute('aria-valuenow', at);
   showRunText();
+  showInstruction(moment);
   if (running) return;
-  byId('rows').setAttribute('aria-valuetext', momentText(board, at));
+  byId('rows').setAttribute('aria-valuetext', momentText(shown, at));
   showTear(moment.picture);
 }
 
@@ -318,22 +333,25 @@ function showTexts(moment) {
 function showRunText() {
   const left = running ? schedule.left : countNow(), time = durationText(left / rateNow());
   const fault = [editorA, editorB].find(({ offerable }) => !offerable);
-  byId('run-text').textContent = running ? `${counted(left, 'event')} to go, in ${time}.`
-    : fault ? `Run waits for frame ${fault.place.id}, which spells nothing that can be offered.`
-      : `Run lets ${counted(left, 'event')} happen, in ${time}.`;
+  let text = `Run lets ${counted(left, 'event')} happen, in ${time}.`;
+  if (shown !== board) text = 'This happened elsewhere: nothing of it can run, or be cut.';
+  else if (running) text = `${counted(left, 'event')} to go, in ${time}.`;
+  else if (fault) text = `Run waits for frame ${fault.place.id}, which spells nothing to offer.`;
+  byId('run-text').textContent = text;
 }
 
 /* A torn picture: both frames that it is of, and the byte that came in between. */
 function showTear(picture) {
-  const tear = dump === null ? tearNow(picture) : null;
+  const tear = tearNow(picture);
   byId('tear').hidden = tear === null;
-  byId('about').hidden = tear !== null || lesson > 0 || tour.step >= 0;
+  byId('about').hidden = tear !== null || shown !== board || lesson > 0 || tour.step >= 0;
   if (tear === null) return;
   drawSmall(byId('wanted'), tear.wanted, 0);
   drawSmall(byId('next'), tear.next ?? [], 1);
-  const begun = nameOf({ strokes: tear.wanted, at: picture.at });
+  const begun = nameOf({ strokes: tear.wanted, at: picture.at }) ?? 'as the run began';
   byId('wanted-text').textContent = `Being drawn: ${begun}`;
-  byId('next-text').textContent = `Written into it: ${nameOfDraft(tear.draft)}`;
+  byId('next-text').textContent = tear.draft === null ? 'The memory as the run ended'
+    : `Written into it: ${nameOfDraft(tear.draft)}`;
   byId('tear-text').textContent = tearText(tear, picture.strokes.length);
   byId('tear-go').onclick = () => goTo(tear.word.event + 1);
   byId('tear-back').onclick = () => goTo(picture.at + 1);
@@ -350,39 +368,44 @@ function showTour() {
 }
 
 function showScreen({ picture, run: open }) {
-  if (dump !== null) {
-    screen.draw(dump, null);
-    return;
-  }
   if (picture !== null) picture.id ??= performance.now();
-  const id = `${board.id} ${open?.from}`;
+  const id = `${shown.id} ${open?.from}`;
   screen.draw(picture, open === null ? null : { id, strokes: drawer.strokesOf(open) },
     tearNow(picture));
 }
 
 function showPictureText({ picture, run: open }) {
   const text = byId('picture-text');
-  text.className = dump === null && picture?.tears ? 'bad' : '';
-  if (dump !== null) {
-    text.textContent = dump.text;
-    return;
-  }
-  const number = picture === null ? 0 : board.pictures.indexOf(picture) + 1;
-  const named = picture === null ? '' : nameOf(picture);
+  text.className = picture?.tears ? 'bad' : '';
+  const number = picture === null ? 0 : shown.pictures.indexOf(picture) + 1;
+  const named = picture === null ? null : nameOf(picture);
   const run = runText(open, drawer.strokesOf(open).length);
   text.textContent = `${pictureText(picture, number, named)} ${run}`;
 }
 
 function showLog() {
-  const from = Math.max(0, at - LOG_BEFORE), to = Math.min(board.length, at + LOG_AFTER);
+  const from = Math.max(0, at - LOG_BEFORE), to = Math.min(shown.length, at + LOG_AFTER);
   const lines = byId('log');
   while (lines.children.length > to - from) lines.lastChild.remove();
   while (lines.children.length < to - from) lines.append(document.createElement('span'));
   for (let k = from; k < to; k++) {
-    const { torn, text } = board.entries[k], line = lines.children[k - from];
+    const { torn, text } = shown.entryAt(k), line = lines.children[k - from];
     line.textContent = `${k} ${text}${torn ? '   torn' : ''}`;
     const names = [k === at - 1 && 'now', k >= at && 'later', torn && 'bad'];
     line.className = names.filter(Boolean).join(' ');
+  }
+}
+
+/* Marks the line of the instruction of a dump that was read last. */
+function showInstruction({ run: open }) {
+  if (!shown.verdict) return;
+  const done = open === null ? Infinity : wholeInstructions(open.words);
+  let number = 0;
+  for (const line of byId('file-lines').children) {
+    const isInstruction = /^[0-9A-F]{3} [A-Z]/.test(line.textContent);
+    if (isInstruction) number++;
+    line.className = isInstruction && number === done ? 'now' : number > done ? 'later' : '';
+    if (line.className === 'now') line.scrollIntoView({ block: 'nearest' });
   }
 }
 
@@ -402,13 +425,15 @@ const MOST_TORN_SHOWN = 12;
 
 /* The torn pictures, the newest last, each with what it is. */
 function showTorn() {
-  const torn = board.pictures.map((picture, k) => ({ picture, number: k + 1 }))
+  const torn = shown.pictures.map((picture, k) => ({ picture, number: k + 1 }))
     .filter(({ picture }) => picture.tears > 0);
   byId('torn-pictures').hidden = torn.length === 0;
   byId('torn-list').replaceChildren(...torn.slice(-MOST_TORN_SHOWN).map(({ picture, number }) => {
     const item = document.createElement('li'), button = document.createElement('button');
     const bytes = counted(picture.tears, 'byte');
-    button.textContent = `picture ${number}, event ${picture.at}: ${bytes}, ${nameOf(picture)}`;
+    const named = nameOf(picture);
+    button.textContent =
+      `picture ${number}, event ${picture.at}: ${bytes}${named === null ? '' : `, ${named}`}`;
     button.onclick = () => goTo(picture.at + 1);
     item.append(button);
     return item;
@@ -418,6 +443,7 @@ function showTorn() {
 function showButtons() {
   const { wireCut } = board;
   byId('wire').setAttribute('aria-pressed', String(wireCut));
+  byId('wire-text').hidden = shown !== board;
   byId('wire-text').textContent = wireCut
     ? 'The wire is cut: the driver is told that the generator is always halted.'
     : 'The wire is whole: the driver is told whether the generator is halted.';
@@ -427,17 +453,20 @@ function showButtons() {
   byId('once').disabled = running || !canRun();
   byId('one-picture').disabled = running || !canRun();
   byId('moment-text').setAttribute('aria-live', running ? 'off' : 'polite');
-  byId('offerA').disabled = !editorA.offerable || board.full;
-  byId('offerB').disabled = !editorB.offerable || board.full;
-  for (const button of document.querySelectorAll('[data-event]')) button.disabled = board.full;
-  byId('full').hidden = !board.full;
-  byId('forget').disabled = running || at === board.length;
+  const ended = board.full || shown !== board;
+  byId('offerA').disabled = !editorA.offerable || ended;
+  byId('offerB').disabled = !editorB.offerable || ended;
+  for (const button of document.querySelectorAll('[data-event]')) button.disabled = ended;
+  for (const id of ['wire', 'anew', 'compare']) byId(id).disabled = shown !== board;
+  byId('full').hidden = shown !== board || !board.full;
+  byId('forget').disabled = running || shown !== board || at === shown.length;
   byId('offers-text').textContent = offersText();
 }
 
 /* Which of the frames can't be offered, and why; or what an offer of a sketch is. */
 function offersText() {
   const [fault] = [editorA, editorB].filter(({ offerable }) => !offerable);
+  if (shown !== board) return 'What is shown happened elsewhere: nothing can be added to it.';
   if (fault) return `Frame ${fault.place.id} has a fault, so it can't be offered.`;
   const moving = [editorA, editorB].some(({ frames }) => frames.length > 1);
   return moving ? 'Each offer of a sketch is of its next frame.' : '';
@@ -453,8 +482,6 @@ function showFrameTime() {
 
 function goTo(moment) {
   if (running) setRunning(false);
-  dump = null;
-  byId('file').hidden = true;
   moveTo(moment);
   changed();
 }
@@ -535,7 +562,6 @@ function showLastStep(picture) {
 function loadState(state) {
   if (board !== undefined) setRunning(false);
   tour.end();
-  dump = null;
   byId('file').hidden = true;
   for (const id of ['seed', 'count', 'how']) byId(id).value = state[id] ?? byId(id).value;
   editorA.value = exampleOr(state.a ?? FIRST.a);
@@ -653,46 +679,74 @@ async function openFile(file, kind = null) {
   const open = {
     dump: () => openDump(file.name, bytes),
     log: () => openLog(file.name, bytes),
+    bus: () => openLog(`${file.name}, as a log`, new TextEncoder().encode(logOfBus(text()))),
     rom: () => openRom(file.name, bytes),
     romtext: () => openRomText(file.name, text()),
     trace: () => openTrace(file.name, text()),
     draft: () => openDraft(file.name, text()),
-    unknown: () => tell(`${file.name}: neither a dump, a log, a ROM, a trace nor a draft`, true),
+    unknown: () => tell(`${file.name}: neither a dump, a log, a table of a bus, a ROM, a trace nor a `
+      + 'sketch', true),
   };
   open[kind ?? kindOf(bytes)]();
 }
 
-function showFile(title, text, lines) {
+/* Shows a recording in place of the board, with its own rows and its own verdict. */
+function showRecording(recording, title, text, lines) {
+  setRunning(false);
+  recording.id = performance.now();
+  shown = recording;
   byId('file').hidden = false;
   byId('file-title').textContent = title;
   byId('file-text').textContent = text;
-  byId('file-lines').textContent = lines;
-  byId('file-lines').hidden = lines === '';
+  byId('file-lines').replaceChildren(...lines.map((line) => {
+    return Object.assign(document.createElement('span'), { textContent: line });
+  }));
+  byId('file-lines').hidden = lines.length === 0;
+  moveTo(shown.length);
+  rows.showAll(shown.length);
+  changed();
+  scrollTo({ top: 0 });
+  byId('rows').focus({ preventScroll: true });
 }
 
-/* Draws a dump, as `dvg picture --all` does. */
-function openDump(name, bytes) {
-  setRunning(false);
-  const got = engine.run(COMMAND.picture + OPTION, bytes);
-  const lines = got.output.split('\n').filter((line) => line !== '');
-  const strokes = lines.filter((line) => /^[0-9]+( [0-9]+){4}$/.test(line))
-    .map((line) => line.split(' ').map(Number));
-  const end = lines.find((line) => /^(picture|broke|endless)/.test(line)) ?? got.error.trim();
-  dump = { id: performance.now(), strokes, tears: 0, text: `The dump ${name}: ${end}.` };
-  showFile(`The dump ${name}`, `dvg picture: ${end}`, lines.join('\n'));
+function backToBoard() {
+  byId('file').hidden = true;
+  shown = board;
+  moveTo(board.length);
+  rows.showAll(board.length);
   changed();
 }
 
-/* Judges a log, as `dvg torn` does, and shows the lines around a torn one. */
+/* Shows the run over a dump, word by word, as `dvg picture --all` tells it. */
+function openDump(name, bytes) {
+  const got = engine.run(COMMAND.picture + OPTION, bytes);
+  const lines = got.output.split('\n').filter((line) => line !== '');
+  const verdict = lines.find((line) => /^(picture|broke|endless)/.test(line)) ?? got.error.trim();
+  const recording = Object.assign(boardOfDump(engine, name, bytes), { verdict });
+  showRecording(recording, `The dump ${name}`,
+    'Its run: each instruction where it stands, and where the beam is then. Walk through it by the '
+      + 'arrow keys.', lines);
+}
+
+/* Shows a log, up to the line at fault if it has one, at the first torn line, as `dvg torn` finds
+ * it. */
 function openLog(name, bytes) {
   const got = engine.run(COMMAND.torn, bytes);
-  const said = (got.output || got.error).trim();
-  const torn = /^torn at line ([0-9]+)/.exec(said);
-  const lines = new TextDecoder().decode(bytes).split('\n');
-  const number = torn ? Number(torn[1]) : 0;
-  const from = Math.max(0, number - 9);
-  const around = lines.slice(from, number).map((line, k) => `${from + k + 1}: ${line}`);
-  showFile(`The log ${name}`, `dvg torn: ${said}`, torn ? around.join('\n') : '');
+  const fault = /line ([0-9]+)/.exec(got.error);
+  const good = fault === null ? bytes : firstLines(bytes, Number(fault[1]) - 1);
+  const recording = new Recording(name, good, drawer);
+  const count = counted(recording.length, 'event');
+  showRecording(recording, `The log ${name}`, fault === null ? `${count}.`
+    : `${got.error.trim()}. Before that: ${count}.`, []);
+  const torn = /^torn at line ([0-9]+)/.exec(got.output);
+  if (torn) showTornLine(recording.eventOfLine(Number(torn[1])));
+}
+
+/* The torn line, with the events around it. */
+function showTornLine(event) {
+  goTo(event + 1);
+  rows.showSpan(Math.max(0, event - TORN_AROUND), event + TORN_AROUND);
+  show();
 }
 
 function openRom(name, bytes) {
@@ -758,17 +812,17 @@ function listenToButtons() {
   on('link', () => makeLink().catch((fault) => tell(`No link: ${fault.message}`, true)));
   on('save-trace', () => save('trace.txt', traceOf(board)));
   on('save-log', () => save('log.txt', board.log()));
-  on('zoom-in', () => { rows.zoom(2, at, board.length); show(); });
-  on('zoom-out', () => { rows.zoom(0.5, at, board.length); show(); });
-  on('zoom-all', () => { rows.showAll(board.length); show(); });
+  on('zoom-in', () => { rows.zoom(2, at, shown.length); show(); });
+  on('zoom-out', () => { rows.zoom(0.5, at, shown.length); show(); });
+  on('zoom-all', () => { rows.showAll(shown.length); show(); });
   on('back', () => goTo(at - 1));
   on('on', () => goTo(at + 1));
-  on('picture-back', () => goTo((board.pictures.findLast((one) => one.at + 1 < at)?.at ?? -1) + 1));
+  on('picture-back', () => goTo((shown.pictures.findLast((one) => one.at + 1 < at)?.at ?? -1) + 1));
   on('picture-on',
-    () => goTo((board.pictures.find((one) => one.at + 1 > at)?.at ?? board.length) + 1));
-  on('now', () => goTo(board.length));
+    () => goTo((shown.pictures.find((one) => one.at + 1 > at)?.at ?? shown.length) + 1));
+  on('now', () => goTo(shown.length));
   on('forget', forgetLater);
-  on('file-close', () => goTo(at));
+  on('file-close', backToBoard);
   for (const id of ['seed', 'how']) byId(id).addEventListener('input', () => { schedule = null; });
   for (const id of ['count', 'speed']) byId(id).addEventListener('input', showRunText);
 }
@@ -783,7 +837,7 @@ function listenToRows() {
   canvas.addEventListener('keydown', (event) => {
     if (event.ctrlKey || event.altKey || event.metaKey) return;
     if (event.key === '+' || event.key === '-') {
-      rows.zoom(event.key === '+' ? 2 : 0.5, at, board.length);
+      rows.zoom(event.key === '+' ? 2 : 0.5, at, shown.length);
       show();
     } else if (event.key in STEPS) goTo(at + STEPS[event.key] * (event.shiftKey ? 10 : 1));
     else return;
@@ -793,7 +847,7 @@ function listenToRows() {
     if (!event.ctrlKey && !event.shiftKey) return;
     event.preventDefault();
     rows.zoom(event.deltaY + event.deltaX < 0 ? 1.25 : 0.8, rows.eventAt(event.offsetX),
-      board.length);
+      shown.length);
     show();
   }, { passive: false });
   listenToDrags(canvas);
@@ -811,8 +865,8 @@ function listenToDrags(canvas) {
     from.moved ||= Math.abs(event.offsetX - from.x) > 4;
     if (!from.moved) return;
     rows.first =
-      Math.max(0, Math.min(board.length - 1, from.first - (event.offsetX - from.x) / rows.scale));
-    show();
+      Math.max(0, Math.min(shown.length - 1, from.first - (event.offsetX - from.x) / rows.scale));
+    rows.draw(shown, at, colors);
   });
   canvas.addEventListener('pointerup', (event) => {
     if (from !== null && !from.moved) goTo(rows.eventAt(event.offsetX) + 1);
@@ -852,6 +906,12 @@ function listenToFiles() {
     body.classList.remove('dropping');
     const [file] = event.dataTransfer.files;
     if (file) openFile(file);
+  });
+  document.addEventListener('paste', (event) => {
+    const text = event.clipboardData?.getData('text/plain') ?? '';
+    if (text === '' || /^(INPUT|TEXTAREA)$/.test(event.target.tagName)) return;
+    event.preventDefault();
+    openFile(new File([text], 'what was pasted'));
   });
   for (const [id, kind] of [['open', null], ['open-rom', 'rom']]) {
     byId(id).addEventListener('change', (event) => {

@@ -92,8 +92,8 @@ export class Screen {
   }
 
   /* The newest picture, and over it the strokes so far of the open run, if there is one. Both are
-   * told apart by their ids. Of a run that only grew, the new strokes alone are drawn. A torn picture
-   * has a tear. */
+   * told apart by their ids. Of a run that only grew, the new strokes alone are drawn. A torn
+   * picture has a tear. */
   draw(picture, open, tear = null) {
     const { width, height } = this.canvas, sofar = open?.strokes ?? [];
     const key = `${picture?.id} ${open?.id} ${width} ${height} ${tear !== null}`;
@@ -119,7 +119,7 @@ export class Screen {
   drawTear({ strokes }, { wanted, next, wrong }) {
     const { context } = this;
     glow(context, wanted, GHOSTS[0], 0.6, THIN);
-    if (next !== null) glow(context, next, GHOSTS[1], 0.6, THIN);
+    glow(context, next, GHOSTS[1], 0.6, THIN);
     glow(context, strokes.filter((stroke) => !wrong.includes(stroke)), BEAM, 0.8);
     glow(context, wrong, TORN, 1);
     if (wrong.length > 0) drawRing(context, wrong[0], '#ffffff');

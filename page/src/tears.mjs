@@ -19,8 +19,8 @@ export function strokesOfLines(lines) {
 }
 
 /* Of a torn picture: `wanted`, what the frame draws that its run began with; `next`, what the frame
- * draws that was written into it; `wrong`, the strokes that are none of the first frame's; and the
- * word that tore. */
+ * draws that was written into it, or the memory as the run ended; `wrong`, the strokes that are
+ * none of the first frame's; and the word that tore. */
 export function tearOf(engine, board, picture, drawingOf) {
   const ram = ramAt(board, picture.from);
   const wanted = strokesOfMemory(engine, ram, board.rom);
@@ -28,14 +28,17 @@ export function tearOf(engine, board, picture, drawingOf) {
   const wrong = picture.strokes.filter((stroke) => !own.has(String(stroke)));
   const word = tornWord(board, picture, ram);
   const draft = offeredBefore(board, word.event);
-  const next = draft === null ? null : strokesOfLines(drawingOf(draft).split('\n'));
+  const next = draft === null ? strokesOfMemory(engine, ramAt(board, picture.at), board.rom)
+    : strokesOfLines(drawingOf(draft).split('\n'));
   return { wanted, next, wrong, draft, word };
 }
 
-/* The frame that was offered last before an event, and taken; or null. */
+/* The frame that was offered last before an event, and taken; or null, as of a log, which doesn't
+ * tell offers. */
 function offeredBefore(board, event) {
+  if (board.drafts.size === 0) return null;
   for (let k = event; k >= 0; k--) {
-    const { text, event: { draft } } = board.entries[k];
+    const { text, event: { draft } } = board.entryAt(k);
     if (text === 'offered') return draft.join('\n');
   }
   return null;
@@ -46,7 +49,7 @@ function offeredBefore(board, event) {
 function tornWord(board, { from, at }, ram) {
   const written = new Map();
   for (let k = from + 1; k <= at; k++) {
-    const { torn, wrote, value, word, fetched } = board.entries[k];
+    const { torn, wrote, value, word, fetched } = board.entryAt(k);
     if (torn) written.set(wrote, { event: k, address: wrote, value, before: ram[wrote], read: -1 });
     if (word === undefined || fetched >= 1024) continue;
     const byte = [2 * fetched, 2 * fetched + 1].map((address) => written.get(address))
@@ -59,10 +62,10 @@ function tornWord(board, { from, at }, ram) {
 /* The tear in words. */
 export function tearText({ wrong, word: { event, address, value, before, read } }, strokes) {
   const word = `word ${hex(address >> 1, 3)}`, which = address % 2 ? 'high' : 'low';
-  const count = `${wrong.length} of ${strokes} strokes aren't of the frame that the run began with: `
-    + 'they are red.';
+  const count = `${wrong.length} of ${strokes} strokes are red: they aren't of the frame that the run `
+    + 'began with.';
   if (read < 0) return `No word was read that had changed. ${count}`;
-  return `Event ${event} wrote ${hex(value, 2)} over ${hex(before, 2)} into byte ${hex(address, 3)}, `
-    + `the ${which} byte of ${word}, while the generator drew from that half. Event ${read} read `
+  const byte = `${hex(value, 2)} over ${hex(before, 2)} into byte ${hex(address, 3)}`;
+  return `Event ${event} wrote ${byte}, the ${which} byte of ${word}, while the generator drew from that half. Event ${read} read `
     + `that word: there the tear begins. ${count}`;
 }

@@ -14,14 +14,15 @@ export function durationText(seconds) {
 
 const HALF_NAME = { [AREA.HALF0]: 'half 0', [AREA.HALF1]: 'half 1' };
 
-/* A picture's state: `named` says which frame it is. */
+/* A picture's state: `named` says which frame it is, where that is known. */
 export function pictureText(picture, number, named) {
   if (picture === null) return 'No picture is finished yet.';
   const strokes = counted(picture.strokes.length, 'stroke');
   const begin = `Picture ${number}, finished by event ${picture.at}: ${strokes}`;
-  if (picture.tears === 0) return `${begin}, whole. It is ${named}.`;
+  const frame = named === null ? '' : ` It is ${named}.`;
+  if (picture.tears === 0) return `${begin}, whole.${frame}`;
   const bytes = `${counted(picture.tears, 'byte')} ${picture.tears === 1 ? 'was' : 'were'}`;
-  return `${begin}, torn: ${bytes} written into its half while it was drawn. It is ${named}.`;
+  return `${begin}, torn: ${bytes} written into its half while it was drawn.${frame}`;
 }
 
 export function runText(run, strokes) {
@@ -57,8 +58,9 @@ export function wordText(engine, ram, word, area, marks) {
 /* The text of an entry, for the row of moments. */
 export function momentText(board, at) {
   if (at === 0) return `Before the first of ${counted(board.length, 'event')}.`;
-  const entry = board.entries[at - 1];
+  const entry = board.entryAt(at - 1);
   const torn = entry.torn ? ', into the half that is being drawn' : '';
   const { name } = entry.event, article = name === 'offer' ? 'an' : 'a';
-  return `Event ${at - 1} of ${board.length}, ${article} ${name}: ${entry.text}${torn}.`;
+  const what = entry.line ? `line ${entry.line}` : `${article} ${name}`;
+  return `Event ${at - 1} of ${board.length}, ${what}: ${entry.text}${torn}.`;
 }

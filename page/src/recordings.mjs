@@ -1,0 +1,177 @@
+/* A log as `dvg torn` reads it, as something that is shown like a board: each line that tells
+ * something is an event. What a line says is read again when it is wanted, so a log may be long. */
+import { Board, KEPT_EVERY, RAM_BYTES, ROW, SIGN, areaOf, drawnHalf } from './board.mjs';
+import { romOf } from './drafts.mjs';
+
+const NEWLINE = 10, REMARK = 0x23;
+
+/* The events by the first letters of their lines. */
+const NAMES = Object.fromEntries(['started', 'low', 'fetched', 'halted', 'reset', 'wrote']
+  .map((name) => [name.charCodeAt(0), name]));
+
+/* Where those lines begin and end that are neither empty nor remarks, and their numbers. */
+function linesOfLog(bytes) {
+  const from = [], to = [], number = [];
+  for (let at = 0, line = 1; at < bytes.length; line++) {
+    let end = bytes.indexOf(NEWLINE, at);
+    if (end < 0) end = bytes.length;
+    if (end > at && bytes[at] !== REMARK) {
+      from.push(at);
+      to.push(end);
+      number.push(line);
+    }
+    at = end + 1;
+  }
+  return { from, to, number };
+}
+
+/* The number that these bytes spell. */
+function numberAt(bytes, from, to) {
+  let number = 0;
+  for (let at = from; at < to; at++) {
+    const byte = bytes[at];
+    number = 16 * number + (byte <= 0x39 ? byte - 0x30 : (byte & 0xDF) - 0x37);
+  }
+  return number;
+}
+
+/* A picture of a recording: its strokes are made when they are wanted. */
+class RecordedPicture {
+  constructor(recording, { at: from, tears }, at) {
+    Object.assign(this, { recording, from, tears, at });
+  }
+
+  get strokes() {
+    this.made ??= this.recording.strokesBetween(this.from, this.at);
+    return this.made;
+  }
+}
+
+export class Recording {
+  /* `drawer` makes strokes of words. The RAM is as given before the first event, and else zero. */
+  constructor(name, bytes, drawer, ram = new Uint8Array(RAM_BYTES), rom = romOf('')) {
+    Object.assign(this, { name, drawer, rom, ram: ram.slice() });
+    this.tornBytes = bytes;
+    this.lines = linesOfLog(bytes);
+    this.length = this.lines.number.length;
+    for (const field of ['rows', 'areas', 'signs']) this[field] = new Uint8Array(this.length);
+    for (const field of ['runs', 'done']) this[field] = new Int32Array(this.length);
+    Object.assign(this, { kept: [ram.slice()], pictures: [], drafts: new Map(), wires: [] });
+    Object.assign(this, { tears: 0, abandoned: 0, open: null, picture: -1, wireCut: false });
+    for (let at = 0; at < this.length; at++) this.take(at);
+  }
+
+  get full() { return true; }
+
+  eventOfLine(line) {
+    return this.lines.number.indexOf(line);
+  }
+
+  textAt(at) {
+    const { from, to } = this.lines;
+    return new TextDecoder().decode(this.tornBytes.subarray(from[at], to[at]));
+  }
+
+  /* What a line tells: the name of its event, and the numbers that it has. */
+  partsAt(at) {
+    const from = this.lines.from[at], bytes = this.tornBytes, name = NAMES[bytes[from]];
+    const begin = from + name.length + 1;
+    return { name, address: numberAt(bytes, begin, begin + 3),
+      value: numberAt(bytes, begin + 4, this.lines.to[at]) };
+  }
+
+  take(at) {
+    const { name, address, value } = this.partsAt(at);
+    this.rows[at] = name === 'wrote' ? ROW.DRIVER : ROW.GENERATOR;
+    if (name === 'wrote') this.takeWrite(at, address, value);
+    else if (name === 'low' || name === 'fetched') this.takeFetch(at, name, address, value);
+    else if (name === 'started') this.begin(at);
+    else if (name === 'halted') this.end(at);
+    else this.reset(at);
+    this.runs[at] = this.open?.at ?? -1;
+    this.done[at] = this.picture;
+    if ((at + 1) % KEPT_EVERY === 0) this.kept.push(this.ram.slice());
+  }
+
+  takeWrite(at, address, value) {
+    if (address < RAM_BYTES) this.ram[address] = value;
+    const area = areaOf(address >> 1);
+    this.areas[at] = area;
+    const torn = this.open !== null && this.open.half === area;
+    if (torn) {
+      this.open.tears++;
+      this.tears++;
+    }
+    const flip = address === 1 ? SIGN.FLIP : SIGN.NONE;
+    this.signs[at] = torn ? SIGN.TORN : flip;
+  }
+
+  takeFetch(at, name, address, value) {
+    this.areas[at] = areaOf(address);
+    if (this.open === null || name !== 'fetched') return;
+    this.open.words++;
+    if (this.open.words === 1 && address === 0) this.open.half = drawnHalf(value);
+  }
+
+  begin(at) {
+    if (this.open !== null) this.abandoned++;
+    this.open = { at, half: 0, words: 0, tears: 0 };
+    this.signs[at] = SIGN.START;
+  }
+
+  end(at) {
+    if (this.open === null) return;
+    const { tears } = this.open;
+    this.pictures.push(new RecordedPicture(this, this.open, at));
+    this.picture = at;
+    this.signs[at] = tears > 0 ? SIGN.TORN_DONE : SIGN.DONE;
+    this.open = null;
+  }
+
+  reset(at) {
+    if (this.open !== null) this.abandoned++;
+    this.open = null;
+    this.signs[at] = SIGN.RESET;
+  }
+
+  strokesBetween(from, to) {
+    const words = [];
+    for (let at = from; at < to; at++) {
+      const { name, value } = this.partsAt(at);
+      if (name === 'fetched') words.push(value);
+    }
+    return this.drawer.strokesOf({ from: `${from} ${to}`, words });
+  }
+
+  entryAt(at) {
+    return new RecordedEntry(this, at);
+  }
+}
+
+/* An event as a board has it. Its text is made when it is wanted. */
+class RecordedEntry {
+  constructor(recording, at) {
+    const { name, address, value } = recording.partsAt(at);
+    Object.assign(this, { recording, at, event: { name }, line: recording.lines.number[at] });
+    this.run = recording.runs[at];
+    this.picture = recording.done[at];
+    this.torn = recording.signs[at] === SIGN.TORN;
+    if (name === 'wrote') [this.wrote, this.value] = [address, value];
+    if (name === 'low' || name === 'fetched') this.fetched = address;
+    if (name === 'fetched') this.word = value;
+  }
+
+  get text() { return this.recording.textAt(this.at); }
+}
+
+/* The run over a dump, as a board that does nothing else. */
+export function boardOfDump(engine, name, bytes) {
+  const rom = { ...romOf(bytes.length > 4096 ? 'map 4096' : ''), bytes: bytes.slice(RAM_BYTES) };
+  const board = new Board(engine, rom);
+  board.ram.set(bytes.subarray(0, RAM_BYTES));
+  board.kept = [board.ram.slice()];
+  board.sent = true;
+  board.happen({ name: 'strobe' });
+  while (board.open !== null && !board.full) board.happen({ name: 'fetch' });
+  return Object.assign(board, { name });
+}
