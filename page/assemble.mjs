@@ -9,13 +9,21 @@ const page = new URL('.', import.meta.url).pathname;
 const source = (name) => readFileSync(`${page}src/${name}`, 'utf8');
 const IMPORT = /^import \{[^}]*\} from '\.\/([a-z]+\.mjs)';\n/gm;
 
+// The texts of a folder of examples whose names end like this, or all, by their names.
+function textsOf(folder, end) {
+  const place = `${page}../examples/${folder}/`;
+  const names = readdirSync(place).filter((name) => end === null || end.test(name)).sort();
+  return Object.fromEntries(names.map((name) => [name.replace('.draft', ''),
+    readFileSync(place + name, 'utf8')]));
+}
+
 // What the page needs beside its sources: dvg.wasm, and the examples.
 function built() {
-  const folder = `${page}../examples/frames/`;
-  const frames = readdirSync(folder).filter((name) => name.endsWith('.draft')).sort()
-    .map((name) => [name.replace('.draft', ''), readFileSync(folder + name, 'utf8')]);
+  const frames = textsOf('frames', /\.draft$/);
+  const files = { ...textsOf('logs', /\.log$/), ...textsOf('traces', null) };
   const wasm = readFileSync(`${page}dvg.wasm`).toString('base64');
-  return `const FRAMES = ${JSON.stringify(Object.fromEntries(frames))};\nconst WASM = '${wasm}';\n`;
+  return `const FRAMES = ${JSON.stringify(frames)};\nconst FILES = ${JSON.stringify(files)};\n`
+    + `const WASM = '${wasm}';\n`;
 }
 
 // The modules that a module stands on, and it, each once.

@@ -35,6 +35,9 @@ function runStatus(args, input) {
   return spawnSync(program, args, { input }).status;
 }
 
+// The command that makes an SVG of a sketch.
+const RENDER = 'draw';
+
 // What `dvg torn` says of a log that isn't torn, and what it counts besides.
 const SEEN = '[0-9]+ runs, .*[0-9]+ writes';
 const NOT_TORN = new RegExp(`^not torn: ${SEEN}$`);
@@ -81,6 +84,11 @@ async function runSeed(seed, how = 'chance') {
 
 async function saved(name, button) {
   await tab.click(button);
+  return taken(name);
+}
+
+// The text of a file that the page has saved.
+async function taken(name) {
   for (let k = 0; k < 400 && !existsSync(`${work}/${name}`); k++) {
     await new Promise((resolve) => { setTimeout(resolve, 25); });
   }
@@ -114,6 +122,19 @@ async function testBeginning() {
   }
 }
 
+// How long it takes from the beginning of a navigation until somebody can use the page.
+async function testOpening() {
+  const times = [];
+  for (let k = 0; k < 7; k++) {
+    await tab.open(address);
+    times.push(Number(await tab.value('document.body.dataset.opened')));
+  }
+  times.sort((a, b) => a - b);
+  const [least, , , median, , , most] = times;
+  console.log(`browser: the page opens in ${least} to ${most} ms, ${median} at the median`);
+  expect('the page opens in 300 ms', true, times[0] <= 300);
+}
+
 async function testTyping() {
   await openPage();
   const marked = () => tab.value('document.querySelector("#A .numbers b")?.textContent ?? "none"');
@@ -139,8 +160,60 @@ async function testTyping() {
   await set('textA', 'labs 512 400 0\nvctr 9 -100 100\nhalt');
   expect('what spells nothing is not offered', true,
     await tab.value('document.getElementById("offerA").disabled'));
-  await tab.choose('pickA', 'ship');
+  await tab.choose('exampleA', 'ship');
   expect('an example is taken', /^ok /, await tab.text('saidA'));
+}
+
+// A sketch of several frames: drawn in turn beside its text, offered in turn, and saved.
+async function testSketches() {
+  await openPage();
+  const sketch = '.rom\nbox: vctr 7 90 0 12\nvctr 7 0 90 12\nreturn\n.frame one\nlabs 300 300 1\n'
+    + 'callrom box\nhalt\n.frame two\nlabs 700 700 1\ncallrom box\nvctr 9 -50 9 7\nhalt\n';
+  await set('textA', sketch);
+  await set('textB', sketch.replace('one', 'three').replace('two', 'four'));
+  expect('a sketch', 'ok 2 frames of at most 6 words', await tab.text('saidA'));
+  expect('its ROM is that of the board', /^2048 bytes$/, await tab.text('rom-said'));
+  const drawn = () => tab.value('document.querySelector("#A .preview").toDataURL()');
+  const first = await drawn();
+  let moved = false;
+  for (let k = 0; k < 40 && !moved; k++) {
+    await new Promise((resolve) => { setTimeout(resolve, 50); });
+    moved = first !== await drawn();
+  }
+  expect('it is drawn in turn', true, moved);
+  await tab.click('once');
+  await tab.click('compare');
+  expect('and offered in turn', /^the same/, await tab.text('compared'));
+  expect('each picture is of a frame', /It is frame \w+ of [AB]\./, await tab.text('picture-text'));
+  for (const [what, name, args] of [['a sketch', 'frames.sketch', null],
+    ['a table for ca65', 'frames.inc', ['lay', '--table']], ['an SVG', 'frames.svg', [RENDER]]]) {
+    await tab.choose('save-asA', what);
+    const wanted = args === null ? sketch : runProgram(args, sketch);
+    expect(`saved as ${what}`, wanted, await taken(name));
+  }
+  await tab.choose('examples', 'waits.log');
+  expect('an example of a log', true, await comesWith('file-title', 'The log waits.log'));
+  await tab.choose('examples', 'flip');
+  expect('an example of a trace', true, await comesWith('said', 'flip: '));
+}
+
+async function testAbandoned() {
+  await openPage();
+  await tab.click('wire');
+  await runSeed(1, 'board');
+  expect('runs are abandoned, and no picture is torn', / 0 torn .* [1-9][0-9]* runs abandoned/,
+    await tab.text('counts'));
+  expect('that is said', /cut short rather than torn/, await tab.text('how-text'));
+  await tab.value('document.getElementById("rows").focus()');
+  let told = '';
+  for (let k = 0; k < 200 && !/ended the run after it early/.test(told); k++) {
+    for (let step = 0; step < 5; step++) await tab.key('ArrowLeft', 8);
+    told = await tab.text('picture-text');
+  }
+  expect('how far it came', /the tube shows the [0-9]+ strokes/, told);
+  await runSeed(1, 'ignored');
+  expect('ignored strobes let pictures be torn', / [1-9][0-9]* torn .* 0 runs abandoned/,
+    await tab.text('counts'));
 }
 
 async function testOneByOne() {
@@ -375,7 +448,7 @@ async function testFiles() {
   await tab.drop('screen', put('other', 'what is this?\n'));
   expect('another file is told',
     true, await tab.until('/neither a dump/.test(document.getElementById("said").textContent)'));
-  await tab.choose('pickB', 'rom_shapes');
+  await tab.choose('exampleB', 'rom_shapes');
   expect('an example with a ROM', /^ok /, await tab.text('saidB'));
 }
 
@@ -435,8 +508,8 @@ async function testLongLog() {
     return (performance.now() - begin) / 50;
   })()`);
   const [median, most, step] = [times[60], times[114], walk].map((time) => time.toFixed(1));
-  console.log(`browser: a drag over ${lines.length} events takes ${median} ms at the median, ${most}`
-    + ` ms or less in 19 of 20; a step back ${step} ms`);
+  console.log(`browser: a drag over ${lines.length} events takes ${median} ms at the median, `
+    + `${most} ms or less in 19 of 20; a step back ${step} ms`);
   expect('a drag takes 8 ms or less', true, times[60] <= 8);
   expect('a step back takes 30 ms or less', true, walk <= 30);
 }
@@ -778,7 +851,8 @@ async function testSpeed() {
 }
 
 const tests = {
-  testBeginning, testTyping, testOneByOne, testSeeds, testCutWire, testRunning, testLessons,
+  testBeginning, testOpening, testTyping, testSketches, testAbandoned, testOneByOne, testSeeds,
+    testCutWire, testRunning, testLessons,
     testLink, testFiles, testLongLog,
   testHttp, testInView, testTour, testWidths, testColors, testMotion, testKeys, testRows,
     testReadAloud, testSpeed,

@@ -125,6 +125,7 @@ const HOWS = {
   'by chance': (seed) => () => new Chance(seed, reel),
   'with resets': (seed) => () => new Chance(seed, reel, true),
   'in proportions': (seed) => () => new Proportions(seed, reel),
+  'in proportions, strobes ignored': (seed) => () => new Proportions(seed, reel, true),
 };
 
 function testSchedules() {
@@ -143,7 +144,7 @@ function testSchedules() {
       board.free();
     }
   }
-  console.log(`schedules: ${3 * seeds} of ${events} events, ${lines} lines, ${pictures} pictures`);
+  console.log(`schedules: ${4 * seeds} of ${events} events, ${lines} lines, ${pictures} pictures`);
 }
 
 // The log for `torn` is the one that examples/tools/log.awk makes, without its remarks.
@@ -176,6 +177,28 @@ function testCutWire() {
     board.free();
   }
   console.log(`wire cut: ${torn} of ${pictures} pictures torn`);
+}
+
+// What the page says of the board's proportions with the wire cut: a strobe that begins anew leaves
+// runs without an end, and one that is ignored lets pictures be torn.
+function testProportions() {
+  let torn = 0;
+  for (let seed = 1; seed <= seeds; seed++) {
+    const anew = runBoard(HOWS['in proportions'](seed), 20000, true);
+    expect(`wire cut, in proportions, seed ${seed}: runs are abandoned`, true,
+      anew.abandoned > 0 && anew.left.length === anew.abandoned);
+    expect(`wire cut, in proportions, seed ${seed}: no picture is torn`, 0,
+      anew.pictures.filter(({ tears }) => tears > 0).length);
+    const end = anew.left.at(-1), { left } = momentOf(anew, end + 1);
+    expect(`seed ${seed}: an abandoned run is told`, true, left !== null && left.words.length > 0);
+    const ignored = runBoard(HOWS['in proportions, strobes ignored'](seed), 20000, true);
+    expect(`wire cut, strobes ignored, seed ${seed}: none is abandoned`, 0, ignored.abandoned);
+    torn += ignored.pictures.filter(({ tears }) => tears > 0).length;
+    anew.free();
+    ignored.free();
+  }
+  expect('wire cut, strobes ignored: pictures are torn', true, torn > 0);
+  console.log(`wire cut, strobes ignored: ${torn} pictures torn`);
 }
 
 // A picture with no byte written into it is that of a draft, and of the others some are of none.
@@ -312,6 +335,8 @@ function testFiles() {
   for (const name of ['tears.log', 'waits.log']) is('log',
     readFileSync(`${top}examples/logs/${name}`));
   is('log', text('\nlow 000 01\n'));
+  is('draft', text('# a sketch\n.frame one\nlabs 0 0 0\nhalt\n'));
+  is('draft', text('.rom 900\nship: vctr 7 1 1 1\n'));
   is('trace', text('# a trace\nmap 2048\ntick 2\n'));
   is('romtext', text('map 4096\nrom 800 B000\n'));
   is('unknown', text('something else\n'));
@@ -435,8 +460,9 @@ function testTears() {
     expect('the others are of the first', true, picture.strokes.every((stroke) => (
       wrong.includes(stroke) || texts(wanted).includes(stroke.join(' ')))));
     expect('a torn byte is told', true, board.entries[word.event].torn);
-    if (word.read >= 0) expect('and where it was read', word.address >> 1,
-      board.entries[word.read].fetched);
+    if (word.read < 0) continue;
+    expect('and where it was read', word.address >> 1, board.entries[word.read].fetched);
+    expect('it made a difference', true, word.value !== word.before);
   }
   board.free();
 }
@@ -444,6 +470,7 @@ function testTears() {
 testCases();
 testSchedules();
 testCutWire();
+testProportions();
 testHalves();
 testLongTrace();
 testDrafts();

@@ -52,6 +52,7 @@ export class Board {
     this.pictures = [];
     this.tears = 0;
     this.abandoned = 0;
+    this.left = [];
     this.drafts = new Map();
   }
 
@@ -148,9 +149,12 @@ export class Board {
     return { text: 'started', row: ROW.GENERATOR, sign: SIGN.START };
   }
 
-  /* Ends the open run, if there is one. */
+  /* Ends the open run, if there is one. Of an abandoned one the event is kept that ended it. */
   end(abandoned) {
-    if (this.open !== null && abandoned) this.abandoned++;
+    if (this.open !== null && abandoned) {
+      this.abandoned++;
+      this.left.push(this.length);
+    }
     this.open = null;
   }
 

@@ -14,8 +14,8 @@ export function isAccess(line) {
   return ACCESS.test(line);
 }
 
-/* The log. A run begins with a write of the strobe, and is taken to fetch word zero at once. It ends
- * where the processor reads the flag of the HALT wire and bit 7 is clear. */
+/* The log. A run begins with a write of the strobe, and is taken to fetch word zero at once. It
+ * ends where the processor reads the flag of the HALT wire and bit 7 is clear. */
 export function logOfBus(text) {
   const lines = [], word = [0, 0];
   let isOpen = false;

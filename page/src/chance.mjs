@@ -107,11 +107,13 @@ class WordTimes {
   }
 }
 
-/* The board's proportions: the driver takes its cycles, the generator its microseconds, a strobe
- * arrives at once, and the next frame is offered 4 to 20 milliseconds after the one before, as soon
- * as the driver is idle. The seed chooses how long after. */
+/* The board's proportions: the driver takes its cycles, and the generator its microseconds. A
+ * strobe arrives at once; one that comes while the generator runs starts it anew, or is ignored. The next
+ * frame is offered 4 to 20 milliseconds after the one before, as soon as the driver is idle. The
+ * seed chooses how long after. */
 export class Proportions {
-  constructor(seed, reel) {
+  constructor(seed, reel, ignored = false) {
+    this.ignored = ignored;
     this.random = new Random(seed);
     this.offers = new Offers(reel);
     this.words = new WordTimes();
@@ -125,7 +127,7 @@ export class Proportions {
     if (this.seen === board.length - 1 && this.seen >= 0) this.pass(board.entries[this.seen]);
     this.seen = board.length;
     const last = board.entries.at(-1)?.text;
-    if (last === 'sent') return { name: 'strobe' };
+    if (last === 'sent' && (board.open === null || !this.ignored)) return { name: 'strobe' };
     if (last === 'idle') return this.offer(board);
     if (board.open !== null && this.generator <= this.driver) return { name: 'fetch' };
     return { name: 'tick' };

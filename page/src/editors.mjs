@@ -1,6 +1,7 @@
 /* The editors of frames and of the ROM, each checked while one types. */
 import { COMMAND } from './engine.mjs';
 import { plainLines, romOf } from './drafts.mjs';
+import { drawSmall } from './screen.mjs';
 import { hasRom, readSketch } from './sketches.mjs';
 
 function make(tag, fields, ...children) {
@@ -36,9 +37,10 @@ class Editor {
   set value(text) { this.text.value = text; }
 
   addPicks(label, names, picked) {
-    const select = make('select', { id: `pick${this.text.id.slice(4)}` },
+    const id = `${label.toLowerCase().replace(/ /g, '-')}${this.place.id}`;
+    const select = make('select', { id },
       make('option', { value: '', textContent: label }));
-    select.setAttribute('aria-label', `${label} into this editor`);
+    select.setAttribute('aria-label', `${label}: editor ${this.place.id}`);
     for (const name of names) select.append(make('option', { value: name, textContent: name }));
     select.addEventListener('change', () => {
       if (select.value) picked(select.value);
@@ -58,7 +60,8 @@ class Editor {
     const after = line === null ? '' : numbersText(line + 1, count);
     const marked = line === null ? [] : [make('b', { textContent: String(line) }), '\n'];
     this.numbers.replaceChildren(before, ...marked, after);
-    this.numbers.scrollTop = this.text.scrollTop;
+    // To ask where the text is scrolled to takes a layout: it is asked while somebody types.
+    if (document.activeElement === this.text) this.numbers.scrollTop = this.text.scrollTop;
   }
 }
 
@@ -82,18 +85,38 @@ function goodText(said, frames) {
 
 /* Where somebody writes a frame, or a sketch of several, which are offered in turn. */
 export class DraftEditor extends Editor {
+  constructor(place, title, changed) {
+    super(place, title, changed);
+    this.preview = make('canvas', { className: 'preview', width: 240, height: 240 });
+    this.preview.setAttribute('role', 'img');
+    this.preview.setAttribute('aria-label', `${title}, drawn`);
+    place.append(this.preview);
+  }
+
   /* Checks the frames, over a ROM where they bring none. Whether they can be offered: a frame that
    * is refused can. */
   check(engine, rom) {
     const own = hasRom(this.value);
-    const { said, good, frames, rom: ownRom } =
-      readSketch(engine, own ? this.value : rom.text + this.value);
+    const { said, good, frames, rom: ownRom } = readSketch(engine, this.textOver(rom));
     this.frames = frames;
     this.ownRom = own ? ownRom ?? '' : '';
     this.offerable = frames.length > 0;
     const shown = withoutRom(said, own ? 0 : rom.lines);
     this.tell(good ? goodText(shown, frames) : shown, good ? null : lineOfFault(shown));
     this.turn = 0;
+    this.shown = 0;
+  }
+
+  /* The text as `dvg` takes it: after the lines of the ROM, where it brings none. */
+  textOver(rom) {
+    return hasRom(this.value) ? this.value : rom.text + this.value;
+  }
+
+  /* Draws the next frame beside the text, as strokes that `strokesOf` makes of its lines. */
+  drawNext(strokesOf) {
+    if (this.frames.length === 0) return;
+    const { lines } = this.frames[this.shown++ % this.frames.length];
+    drawSmall(this.preview, strokesOf(lines), 0);
   }
 
   /* The frame whose turn it is to be offered by hand. */

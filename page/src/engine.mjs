@@ -4,6 +4,7 @@
  * sketch --check, and of its ROM --equates. */
 export const COMMAND = {
   list: 0, rom: 1, picture: 2, check: 3, play: 4, torn: 5, sketch: 6, layRom: 7,
+  layTable: 16,
 };
 export const OPTION = 8;
 

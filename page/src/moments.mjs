@@ -12,7 +12,13 @@ export function momentOf(board, at) {
   const picture = last === null || last.picture < 0 ? null
     : board.pictures.find((one) => one.at === last.picture);
   return { at, last, ram: ramAt(board, at), written: lastWritten(board, at), run: runAt(board, at),
-    picture };
+    picture, left: leftAt(board, at, picture) };
+}
+
+/* The run that was abandoned last, if no picture was finished after that, or null. */
+function leftAt(board, at, picture) {
+  const end = board.left.findLast((event) => event < at);
+  return end === undefined || end < (picture?.at ?? 0) ? null : runAt(board, end);
 }
 
 /* The RAM after `at` events. */

@@ -4,7 +4,7 @@ import { AREA, Board, MOST_EVENTS, areaOf } from './board.mjs';
 import { hex, splitRom } from './drafts.mjs';
 import { playSteps, stepsOf, traceOf } from './traces.mjs';
 import { Drawer, marksOf, momentOf, wholeInstructions } from './moments.mjs';
-import { tearOf, tearText } from './tears.mjs';
+import { strokesOfLines, tearOf, tearText } from './tears.mjs';
 import { Chance, Proportions, reelOf } from './chance.mjs';
 import { fragmentOf, plainFragment, stateOf } from './links.mjs';
 import { logOfBus } from './buses.mjs';
@@ -18,9 +18,9 @@ import { Rows } from './rows.mjs';
 import { Memory } from './memory.mjs';
 import { DraftEditor, RomEditor } from './editors.mjs';
 import {
-  counted, countsText, durationText, momentText, pictureText, runText, wordText,
+  HOW_TEXT, counted, countsText, durationText, leftText, momentText, pictureText, runText, wordText,
 } from './words.mjs';
-import { FRAMES, WASM } from './built.mjs';
+import { FILES, FRAMES, WASM } from './built.mjs';
 
 const byId = (id) => document.getElementById(id);
 
@@ -32,6 +32,8 @@ const [FIRST_A, FIRST_B] = Object.keys(SCENES);
 const FIRST = { a: FIRST_A, b: FIRST_B }, FIRST_EVENTS = 6000;
 
 const LOG_BEFORE = 12, LOG_AFTER = 4;
+/* How many frames of a sketch are drawn in a second beside its text. */
+const PREVIEW_RATE = 12;
 /* How many events before and after a torn line are shown. */
 const TORN_AROUND = 60;
 /* How many pixels an event has in the rows while the tour runs. */
@@ -41,7 +43,7 @@ const JUDGE_EVERY = 500, TEXTS_EVERY = 100;
 /* A frame of the animation makes up for at most so many milliseconds. */
 const MOST_PASSED = 50;
 
-let engine, drawer, board, schedule = null, running = false;
+let engine, drawer, tube, board, schedule = null, running = false;
 /* What is shown: the board, or a recording of what happened elsewhere. */
 let shown;
 /* When the log was judged and of which events, when texts were shown, and whose turn it is to be
@@ -124,12 +126,18 @@ function clamp(text, least, most) {
 
 /* --- Schedules by a seed --- */
 
+const SCHEDULES = {
+  chance: (seed, reel) => new Chance(seed, reel),
+  resets: (seed, reel) => new Chance(seed, reel, true),
+  board: (seed, reel) => new Proportions(seed, reel),
+  ignored: (seed, reel) => new Proportions(seed, reel, true),
+};
+
 function scheduleNow() {
   const how = byId('how').value, seed = clamp(byId('seed').value, 0, 4294967295);
   const key = `${how} ${seed}`;
   if (schedule?.key !== key) {
-    const made = how === 'board' ? new Proportions(seed, reelNow)
-      : new Chance(seed, reelNow, how === 'resets');
+    const made = SCHEDULES[how](seed, reelNow);
     schedule = { key, made, left: 0 };
   }
   return schedule;
@@ -338,6 +346,7 @@ function showRunText() {
   else if (running) text = `${counted(left, 'event')} to go, in ${time}.`;
   else if (fault) text = `Run waits for frame ${fault.place.id}, which spells nothing to offer.`;
   byId('run-text').textContent = text;
+  byId('how-text').textContent = HOW_TEXT[byId('how').value];
 }
 
 /* A torn picture: both frames that it is of, and the byte that came in between. */
@@ -367,20 +376,23 @@ function showTour() {
   byId('tour-again').hidden = tour.running;
 }
 
-function showScreen({ picture, run: open }) {
+/* A run that was abandoned stays on the tube as far as it came, in place of the picture before. */
+function showScreen({ picture, run: open, left }) {
   if (picture !== null) picture.id ??= performance.now();
+  const seen = left === null ? picture : { id: `left ${left.from}`, strokes: tube.strokesOf(left) };
   const id = `${shown.id} ${open?.from}`;
-  screen.draw(picture, open === null ? null : { id, strokes: drawer.strokesOf(open) },
-    tearNow(picture));
+  screen.draw(seen, open === null ? null : { id, strokes: drawer.strokesOf(open) },
+    left === null ? tearNow(picture) : null);
 }
 
-function showPictureText({ picture, run: open }) {
+function showPictureText({ picture, run: open, left }) {
   const text = byId('picture-text');
   text.className = picture?.tears ? 'bad' : '';
   const number = picture === null ? 0 : shown.pictures.indexOf(picture) + 1;
   const named = picture === null ? null : nameOf(picture);
   const run = runText(open, drawer.strokesOf(open).length);
-  text.textContent = `${pictureText(picture, number, named)} ${run}`;
+  const cut = left === null ? '' : leftText(tube.strokesOf(left).length);
+  text.textContent = `${pictureText(picture, number, named)} ${cut}${run}`;
 }
 
 function showLog() {
@@ -520,7 +532,7 @@ async function loadFragment() {
 /* The opening at rest; and after that the tour, but for someone who wants less motion. */
 function showNewcomer() {
   showOpening();
-  if (!matchMedia('(prefers-reduced-motion: reduce)').matches) beginTour();
+  if (!matchMedia('(prefers-reduced-motion: reduce)').matches) startTour();
 }
 
 function showOpening() {
@@ -532,6 +544,10 @@ function showOpening() {
 function beginTour() {
   loadState(FIRST);
   showOpening();
+  startTour();
+}
+
+function startTour() {
   tour.begin(performance.now());
   rows.scale = ROWS_TOUR_SCALE;
   setRunning(true);
@@ -639,6 +655,39 @@ function save(name, text) {
   setTimeout(() => URL.revokeObjectURL(link.href), 1000);
 }
 
+/* How what stands in an editor leaves: the name of the file, and the command that makes it. */
+const SAVES = {
+  'a sketch': ['frames.sketch', null],
+  'a table for ca65': ['frames.inc', COMMAND.layTable],
+  'an SVG': ['frames.svg', COMMAND.sketch],
+};
+
+function saveAs(editor, what) {
+  const [name, command] = SAVES[what], text = editor.textOver(editorR.rom);
+  const got = command === null ? { error: '', output: text } : engine.run(command, text);
+  if (got.error === '') save(name, got.output);
+  tell(got.error === '' ? `${name}: ${got.output.length} bytes.` : got.error.trim(),
+    got.error !== '');
+}
+
+/* Draws the next frame of each editor beside its text. */
+function drawPreviews() {
+  for (const editor of [editorA, editorB]) {
+    editor.drawNext((lines) => strokesOfLines(drawingOf(lines.join('\n')).split('\n')));
+  }
+}
+
+/* While the editors are in sight their frames are drawn in turn; without motion the first ones. */
+function showPreviews() {
+  const still = matchMedia('(prefers-reduced-motion: reduce)').matches;
+  let timer = null;
+  new IntersectionObserver(([{ isIntersecting }]) => {
+    clearInterval(timer);
+    if (isIntersecting) drawPreviews();
+    timer = isIntersecting && !still ? setInterval(drawPreviews, 1000 / PREVIEW_RATE) : null;
+  }).observe(byId('A'));
+}
+
 /* --- Lessons --- */
 
 function makeLessons() {
@@ -649,6 +698,16 @@ function makeLessons() {
     item.append(link);
     return item;
   }));
+}
+
+/* The examples that aren't frames: logs and traces, each opened as a file would be. */
+function makeExamples() {
+  const list = byId('examples');
+  for (const name of Object.keys(FILES)) list.append(new Option(name));
+  list.addEventListener('change', () => {
+    if (list.value !== '') openFile(new File([FILES[list.value]], list.value));
+    list.value = '';
+  });
 }
 
 function openLesson(number) {
@@ -684,8 +743,8 @@ async function openFile(file, kind = null) {
     romtext: () => openRomText(file.name, text()),
     trace: () => openTrace(file.name, text()),
     draft: () => openDraft(file.name, text()),
-    unknown: () => tell(`${file.name}: neither a dump, a log, a table of a bus, a ROM, a trace nor a `
-      + 'sketch', true),
+    unknown: () => tell(`${file.name}: neither a dump, a log, a table of a bus, a ROM, a trace `
+      + 'nor a sketch', true),
   };
   open[kind ?? kindOf(bytes)]();
 }
@@ -824,7 +883,7 @@ function listenToButtons() {
   on('forget', forgetLater);
   on('file-close', backToBoard);
   for (const id of ['seed', 'how']) byId(id).addEventListener('input', () => { schedule = null; });
-  for (const id of ['count', 'speed']) byId(id).addEventListener('input', showRunText);
+  for (const id of ['count', 'speed', 'how']) byId(id).addEventListener('input', showRunText);
 }
 
 const STEPS = {
@@ -967,12 +1026,14 @@ function makeEditors() {
   });
   for (const editor of [editorA, editorB]) {
     editor.addPicks('Example', names, (name) => useDraft(editor, EXAMPLES[name]));
+    editor.addPicks('Save as', Object.keys(SAVES), (name) => saveAs(editor, name));
   }
 }
 
 async function begin() {
   engine = await Engine.of(Uint8Array.from(atob(WASM), (c) => c.charCodeAt(0)));
   drawer = new Drawer(engine);
+  tube = new Drawer(engine);
   screen = new Screen(byId('screen'));
   rows = new Rows(byId('rows'));
   memory = new Memory(byId('memory'));
@@ -982,6 +1043,7 @@ async function begin() {
   readColors();
   makeEditors();
   makeLessons();
+  makeExamples();
   listenToSizes();
   listenToButtons();
   listenToRows();
@@ -989,6 +1051,8 @@ async function begin() {
   listenToFiles();
   addEventListener('hashchange', loadFragment);
   await loadFragment();
+  showPreviews();
+  document.body.dataset.opened = Math.round(performance.now());
   document.body.dataset.ready = 'yes';
 }
 

@@ -57,7 +57,8 @@ export class Recording {
     for (const field of ['rows', 'areas', 'signs']) this[field] = new Uint8Array(this.length);
     for (const field of ['runs', 'done']) this[field] = new Int32Array(this.length);
     Object.assign(this, { kept: [ram.slice()], pictures: [], drafts: new Map(), wires: [] });
-    Object.assign(this, { tears: 0, abandoned: 0, open: null, picture: -1, wireCut: false });
+    Object.assign(this, { tears: 0, abandoned: 0, left: [], open: null, picture: -1 });
+    this.wireCut = false;
     for (let at = 0; at < this.length; at++) this.take(at);
   }
 
@@ -114,9 +115,16 @@ export class Recording {
   }
 
   begin(at) {
-    if (this.open !== null) this.abandoned++;
+    this.abandon(at);
     this.open = { at, half: 0, words: 0, tears: 0 };
     this.signs[at] = SIGN.START;
+  }
+
+  abandon(at) {
+    if (this.open === null) return;
+    this.abandoned++;
+    this.left.push(at);
+    this.open = null;
   }
 
   end(at) {
@@ -129,8 +137,7 @@ export class Recording {
   }
 
   reset(at) {
-    if (this.open !== null) this.abandoned++;
-    this.open = null;
+    this.abandon(at);
     this.signs[at] = SIGN.RESET;
   }
 

@@ -37,9 +37,9 @@ function withAddress(line, words) {
   return name.endsWith('rom') && words.has(target) ? `${name} ${words.get(target)}` : line;
 }
 
-/* What `dvg render --check` says of a sketch; its fault, if it has one, as `dvg render` tells it; its
- * frames, each as the lines that `dvg check` reads; and the text of its own ROM. A frame that is
- * refused is told, and spelled. Of a text that spells no frames there are none. */
+/* What `dvg render --check` says of a sketch; its fault, if it has one, as `dvg render` tells it;
+ * its frames, each as the lines that `dvg check` reads; and the text of its own ROM. A frame that
+ * is refused is told, and spelled. Of a text that spells no frames there are none. */
 export function readSketch(engine, text) {
   const checked = engine.run(COMMAND.sketch + OPTION, text);
   if (checked.error !== '') return { said: plainFault(checked.error), good: false, frames: [] };

@@ -62,10 +62,11 @@ function tornWord(board, { from, at }, ram) {
 /* The tear in words. */
 export function tearText({ wrong, word: { event, address, value, before, read } }, strokes) {
   const word = `word ${hex(address >> 1, 3)}`, which = address % 2 ? 'high' : 'low';
-  const count = `${wrong.length} of ${strokes} strokes are red: they aren't of the frame that the run `
-    + 'began with.';
+  const count = `${wrong.length} of ${strokes} strokes are red: they aren't of the frame that the `
+    + 'run began with.';
   if (read < 0) return `No word was read that had changed. ${count}`;
   const byte = `${hex(value, 2)} over ${hex(before, 2)} into byte ${hex(address, 3)}`;
-  return `Event ${event} wrote ${byte}, the ${which} byte of ${word}, while the generator drew from that half. Event ${read} read `
-    + `that word: there the tear begins. ${count}`;
+  return `Event ${event} wrote ${byte}, the ${which} byte of ${word}, while the `
+    + `generator drew from that half. Event ${read} read that word: there the tear begins. `
+    + count;
 }

@@ -32,6 +32,21 @@ export function runText(run, strokes) {
   return `A run draws${half}: ${words}, ${counted(strokes, 'stroke')} so far.`;
 }
 
+/* Of an abandoned run, which drew so many strokes. */
+export function leftText(strokes) {
+  return `A strobe or a reset ended the run after it early: the tube shows the ${strokes} strokes `
+    + 'that it came to. ';
+}
+
+/* What the ways are to choose events. */
+export const HOW_TEXT = {
+  chance: 'Both ends in any order. A strobe may come late, or get lost.',
+  resets: 'Both ends in any order, with resets.',
+  board: 'A strobe starts a generator that runs anew: with the wire cut, pictures are cut short '
+    + 'rather than torn.',
+  ignored: 'A generator that runs ignores a strobe: with the wire cut, pictures are torn.',
+};
+
 export function countsText(board) {
   return [`event ${board.length}`, counted(board.pictures.length, 'picture'),
     `${board.pictures.filter(({ tears }) => tears > 0).length} torn`,

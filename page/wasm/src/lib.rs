@@ -67,7 +67,7 @@ pub extern "C" fn dvg_input(length: usize) -> *mut u8 {
 }
 
 /// The command of a number: 0 list, 1 rom, 2 picture, 3 check, 4 play, 5 torn, 6 the SVG of a
-/// sketch, 7 the ROM of a sketch. With 8 more it has its option: `--all`, `--bound`, `--check`, and
+/// sketch, 7 the ROM of a sketch, 16 its frames as a table. With 8 more it has its option: `--all`, `--bound`, `--check`, and
 /// of the ROM `--equates`.
 fn job_of(number: u32) -> Option<Job> {
     let option = number & 8 != 0;
@@ -86,6 +86,9 @@ fn job_of(number: u32) -> Option<Job> {
         (7, false) => Some(Job::Lay { form: LayForm::Rom }),
         (7, true) => Some(Job::Lay {
             form: LayForm::Equates,
+        }),
+        (16, false) => Some(Job::Lay {
+            form: LayForm::Table,
         }),
         _ => None,
     }
@@ -121,7 +124,7 @@ pub extern "C" fn dvg_run(number: u32) -> u32 {
         let mut writer = Watched::new(&mut texts.output);
         let answer = perform(Global, job, &mut reader, &mut writer);
         let answer = finish(answer, &mut writer);
-        texts.error = said(&answer, number & 7 >= 6, &texts.input);
+        texts.error = said(&answer, number & 7 >= 6 || number == 16, &texts.input);
         u32::from(status(&answer))
     })
 }
