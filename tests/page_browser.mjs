@@ -613,6 +613,10 @@ async function testInView() {
       expect(`${what}: lesson ${k} in view`, '', await outOfView([...SEEN_AT_ONCE, ...text]));
     }
     writeFileSync(`${work}/page_${width}_lesson.png`, await tab.screenshot());
+    await tab.drop('screen', `${top}examples/logs/tears.log`);
+    await comesWith('file-title', 'The log tears.log');
+    expect(`${what}: a log in view`, '', await outOfView([...SEEN_AT_ONCE, '#file-title']));
+    writeFileSync(`${work}/page_${width}_log.png`, await tab.screenshot());
   }
   await tab.size(400, 800, true);
   await openPage();

@@ -21,6 +21,7 @@ import { logOfBus } from '../page/src/buses.mjs';
 import { readSketch } from '../page/src/sketches.mjs';
 import { SCENES, SCENE_FRAMES } from '../page/src/playfield.mjs';
 import { tearOf } from '../page/src/tears.mjs';
+import { driverOf, driverText, generatorOf } from '../page/src/inside.mjs';
 import { LESSONS, stateOfLesson } from '../page/src/lessons.mjs';
 
 const [program, work] = process.argv.slice(2, 4),
@@ -414,10 +415,36 @@ function testDumps() {
     const board = boardOfDump(engine, name, new Uint8Array(bytes));
     const output = runProgram(['picture'], bytes).trim().split('\n');
     const strokes = board.pictures[0].strokes.map((stroke) => stroke.join(' '));
+    testInside(name, board, bytes);
     expect(`the dump of ${name}`, output.filter((line) => !line.startsWith('picture')).join(),
       strokes.join());
     board.free();
   }
+}
+
+// Where each instruction of a dump stood, the scale after it, and how deep the stack is.
+function testInside(name, board, bytes) {
+  const listed = runProgram(['picture', '--all'], bytes).split('\n')
+    .map((line) => /^([0-9A-F]{3}) ([A-Z]+).* at [0-9]+ [0-9]+ ([0-9]+)/.exec(line))
+    .filter((parts) => parts !== null);
+  let depth = 0;
+  for (const [k, [, place, operation, scale]] of listed.slice(0, -1).entries()) {
+    depth += { JSRL: 1, RTSL: -1 }[operation] ?? 0;
+    let at = 1;
+    while (generatorOf(momentOf(board, at).run).count <= k) at++;
+    const state = generatorOf(momentOf(board, at).run);
+    expect(`the dump of ${name}, instruction ${k}`, `${place} ${scale} ${depth}`,
+      `${hex(state.place, 3)} ${state.scale} ${state.stack.length}`);
+  }
+}
+
+// What the driver did last, in words, is there for each event of it.
+function testDriverTexts() {
+  const board = runBoard(HOWS['with resets'](6), 6000);
+  const texts = new Set();
+  for (let at = 0; at <= 6000; at += 7) texts.add(driverText(driverOf(board, at)).slice(0, 12));
+  expect('the driver in words', true, texts.size >= 6 && !texts.has('undefined'));
+  board.free();
 }
 
 function testBuses() {
@@ -480,6 +507,7 @@ await testLinks();
 testFiles();
 testRecordings();
 testDumps();
+testDriverTexts();
 testBuses();
 testSketches();
 testTears();

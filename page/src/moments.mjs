@@ -42,15 +42,19 @@ function lastWritten(board, at) {
   return null;
 }
 
-/* The open run: where it began, its half, its words, and the word under the beam. */
+/* The open run: where it began, its half, its words and where they stood, and the word under the
+ * beam. */
 function runAt(board, at) {
   const from = at > 0 ? board.entryAt(at - 1).run : -1;
   if (from < 0) return null;
-  const run = { from, half: 0, words: [], beam: null, tears: 0 };
+  const run = { from, half: 0, words: [], places: [], beam: null, tears: 0 };
   for (let k = from + 1; k < at; k++) {
     const { word, fetched, torn } = board.entryAt(k);
     if (fetched !== undefined) run.beam = fetched;
-    if (word !== undefined) run.words.push(word);
+    if (word !== undefined) {
+      run.words.push(word);
+      run.places.push(fetched);
+    }
     if (torn) run.tears++;
   }
   if (run.words.length > 0) run.half = drawnHalf(run.words[0]);
@@ -77,17 +81,6 @@ function wholeWords(words) {
     const length = words[count] >> 12 <= 0xA ? 2 : 1;
     if (count + length > words.length) break;
     count += length;
-  }
-  return count;
-}
-
-/* How many instructions these words make. */
-export function wholeInstructions(words) {
-  let count = 0;
-  for (let at = 0; at < words.length; count++) {
-    const length = words[at] >> 12 <= 0xA ? 2 : 1;
-    if (at + length > words.length) break;
-    at += length;
   }
   return count;
 }

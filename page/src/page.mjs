@@ -3,7 +3,8 @@ import { COMMAND, Engine, OPTION } from './engine.mjs';
 import { AREA, Board, MOST_EVENTS, areaOf } from './board.mjs';
 import { hex, splitRom } from './drafts.mjs';
 import { playSteps, stepsOf, traceOf } from './traces.mjs';
-import { Drawer, marksOf, momentOf, wholeInstructions } from './moments.mjs';
+import { Drawer, marksOf, momentOf } from './moments.mjs';
+import { generatorOf, insideRows } from './inside.mjs';
 import { strokesOfLines, tearOf, tearText } from './tears.mjs';
 import { Chance, Proportions, reelOf } from './chance.mjs';
 import { fragmentOf, plainFragment, stateOf } from './links.mjs';
@@ -18,7 +19,8 @@ import { Rows } from './rows.mjs';
 import { Memory } from './memory.mjs';
 import { DraftEditor, RomEditor } from './editors.mjs';
 import {
-  HOW_TEXT, counted, countsText, durationText, leftText, momentText, pictureText, runText, wordText,
+  HOW_TEXT, counted, countsText, durationText, instructionText, leftText, momentText, pictureText,
+  runText, wordText,
 } from './words.mjs';
 import { FILES, FRAMES, WASM } from './built.mjs';
 
@@ -331,6 +333,7 @@ function showTexts(moment) {
   byId('rows').setAttribute('aria-valuemax', shown.length);
   byId('rows').setAttribute('aria-valuenow', at);
   showRunText();
+  showInside(moment);
   showInstruction(moment);
   if (running) return;
   byId('rows').setAttribute('aria-valuetext', momentText(shown, at));
@@ -408,10 +411,18 @@ function showLog() {
   }
 }
 
+function showInside(moment) {
+  const listed = (words) => instructionText(engine, words);
+  byId('inside-rows').replaceChildren(...insideRows(shown, moment, listed).flatMap((row) => (
+    row.map((text, k) => Object.assign(document.createElement(k === 0 ? 'dt' : 'dd'),
+      { textContent: text }))
+  )));
+}
+
 /* Marks the line of the instruction of a dump that was read last. */
 function showInstruction({ run: open }) {
   if (!shown.verdict) return;
-  const done = open === null ? Infinity : wholeInstructions(open.words);
+  const done = open === null ? Infinity : generatorOf(open).count;
   let number = 0;
   for (const line of byId('file-lines').children) {
     const isInstruction = /^[0-9A-F]{3} [A-Z]/.test(line.textContent);

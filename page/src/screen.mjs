@@ -73,7 +73,8 @@ function drawRing(context, [x, y], color) {
 }
 
 const BEAM = '#a4ecff', TORN = '#ff4a5c', GROWING = '#e4ffff';
-const GHOSTS = ['#3fa7ff', '#ff9a3c'];
+/* A frame, and the one that was written into it. */
+const GHOSTS = [BEAM, TORN];
 
 /* A frame alone on a small canvas, with what is another one's in red. */
 export function drawSmall(canvas, strokes, ghost) {

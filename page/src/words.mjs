@@ -61,12 +61,18 @@ const AREA_NAME = {
   [AREA.NONE]: 'neither half',
 };
 
+/* An instruction of these words, as `dvg list` lists it. */
+export function instructionText(engine, words) {
+  const bytes = Uint8Array.from(words.flatMap((word) => [word & 0xFF, word >> 8]));
+  return engine.run(COMMAND.list, bytes).output.split('\n')[0].replace(/^000 /, '');
+}
+
 /* What stands at a word of the RAM, as `dvg list` lists it. */
 export function wordText(engine, ram, word, area, marks) {
-  const bytes = ram.slice(2 * word, 2 * word + 4);
-  const listed = engine.run(COMMAND.list, bytes).output.split('\n')[0].replace(/^000 /, '');
-  const value = hex(bytes[0] | bytes[1] << 8, 4);
-  const instruction = listed || 'the first word of two';
+  const words = [word, word + 1].filter((one) => 2 * one < ram.length)
+    .map((one) => ram[2 * one] | ram[2 * one + 1] << 8);
+  const value = hex(words[0], 4);
+  const instruction = instructionText(engine, words) || 'the first word of two';
   return `Word ${hex(word, 3)}, ${AREA_NAME[area]}: ${value}, ${instruction}${marks}`;
 }
 
