@@ -108,9 +108,9 @@ class WordTimes {
 }
 
 /* The board's proportions: the driver takes its cycles, and the generator its microseconds. A
- * strobe arrives at once; one that comes while the generator runs starts it anew, or is ignored. The
- * next frame is offered 4 to 20 milliseconds after the one before, as soon as the driver is idle.
- * The seed chooses how long after. */
+ * strobe arrives at once; one that comes while the generator runs starts it anew, or is ignored.
+ * The next frame is offered 4 to 20 milliseconds after the one before, as soon as the driver is
+ * idle. The seed chooses how long after. */
 export class Proportions {
   constructor(seed, reel, ignored = false) {
     this.ignored = ignored;

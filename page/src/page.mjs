@@ -482,7 +482,7 @@ function showButtons() {
   for (const button of document.querySelectorAll('[data-event]')) button.disabled = ended;
   for (const id of ['wire', 'anew', 'compare']) byId(id).disabled = shown !== board;
   byId('full').hidden = shown !== board || !board.full;
-  byId('forget').disabled = running || shown !== board || at === shown.length;
+  byId('forget').hidden = running || shown !== board || at === shown.length;
   byId('offers-text').textContent = offersText();
 }
 
@@ -532,8 +532,8 @@ function nameOr(text) {
 
 async function loadFragment() {
   try {
-    loadState(location.hash.length > 1 ? await stateOf(location.hash) : FIRST);
-    if (location.hash.length <= 1) showNewcomer();
+    if (location.hash.length > 1) loadState(await stateOf(location.hash));
+    else showNewcomer();
   } catch (fault) {
     tell(`This link holds no state: ${fault.message}`, true);
     if (board === undefined) loadState(FIRST);
@@ -547,13 +547,13 @@ function showNewcomer() {
 }
 
 function showOpening() {
+  takeState(FIRST);
   runSome(FIRST_EVENTS);
   rows.showAll(board.length);
   changed();
 }
 
 function beginTour() {
-  loadState(FIRST);
   showOpening();
   startTour();
 }
@@ -566,10 +566,8 @@ function startTour() {
 
 /* Ends the tour: the board is as it was at the beginning, or, after its last step, as it is. */
 function endTour() {
-  if (tour.running) {
-    loadState(FIRST);
-    showOpening();
-  } else {
+  if (tour.running) showOpening();
+  else {
     tour.end();
     changed();
   }
@@ -587,7 +585,12 @@ function showLastStep(picture) {
 }
 
 function loadState(state) {
-  if (board !== undefined) setRunning(false);
+  takeState(state);
+  changed();
+}
+
+function takeState(state) {
+  running = false;
   tour.end();
   byId('file').hidden = true;
   for (const id of ['seed', 'count', 'how']) byId(id).value = state[id] ?? byId(id).value;
@@ -601,7 +604,6 @@ function loadState(state) {
   }
   if (state.at !== undefined) moveTo(clamp(state.at, 0, MOST_EVENTS));
   showLesson(clamp(state.lesson ?? 0, 0, LESSONS.length));
-  changed();
 }
 
 /* Plays a trace, if `play` takes it, over its ROM. */
@@ -1041,8 +1043,14 @@ function makeEditors() {
   }
 }
 
+function bytesOfBase64(text) {
+  const characters = atob(text), bytes = new Uint8Array(characters.length);
+  for (let at = 0; at < bytes.length; at++) bytes[at] = characters.charCodeAt(at);
+  return bytes;
+}
+
 async function begin() {
-  engine = await Engine.of(Uint8Array.from(atob(WASM), (c) => c.charCodeAt(0)));
+  engine = await Engine.of(bytesOfBase64(WASM));
   drawer = new Drawer(engine);
   tube = new Drawer(engine);
   screen = new Screen(byId('screen'));
