@@ -2,19 +2,26 @@
 use Rattle.std.proofs.Common.{◌≡◌, ◌<◌, ◌+◌, ℕ, List, [], ◌∷◌, ◌++◌, length, map, get_or, take, refl, sym, ap, subst, ◌∙◌, arith}
 use Rattle.std.proofs.Common.{append_assoc, None, All, ◌≤◌, ◌-◌, drop, suc}
 use Rattle.std.proofs.lemmas.List.{map-append, map_more, take_all}
-use Rattle.std.proofs.lemmas.List.Elements.{All-push, filter_map-append}
+use Rattle.std.proofs.lemmas.List.Elements.{All-cons, All-head, All-nil, All-push, All-tail, filter_map-append}
 use Rattle.std.specs.List.{AllZip, filter_map}
 use Rattle.dvg_read.specs.RomTexts.{RomText}
 use Rattle.dvg_named.specs.declared.frame_rows.FrameRows as held
 use Rattle.dvg_rows.specs.declared.part.Part.{Part}
 use Rattle.dvg_rows.specs.declared.row.Row as held_row
-use Rattle.dvg_named.specs.FrameValues.{IsFrameAt, frame_held, frame_in, frame_list, frames_of, rows_at_top}
+use Rattle.dvg_named.specs.FrameValues.{IsBegunAt, IsFrameAt, frame_held, frame_in, frame_list, frames_of, rows_at_top}
 use Rattle.dvg_rows.specs.HeldRows.{rows_of}
 use Rattle.dvg_named.specs.ReadParts.{sketch_of}
 use Rattle.dvg_rows.specs.Rows.{Head, Row, frame, rom, top}
 use Rattle.dvg_named.specs.Sections.{FrameRows, Section, frames, top_frame}
 use Rattle.dvg_named.specs.SketchReading.{head_in, section_in}
-use Rattle.dvg_named.specs.SourcedRows.{IsPartAt, IsRowAt}
+use Rattle.dvg_named.specs.SourcedRows.{BeginsFrame, IsPartAt, IsRowAt}
+use Rattle.dvg_frame.specs.declared.op.OpKind.{OpKind}
+use Rattle.dvg_rows.specs.RowValues.{name_of}
+use Rattle.dvg_named.specs.FlatFrames.{IsSpanOf}
+use Rattle.dvg_named.specs.LineNumbers.{first_head}
+use Rattle.dvg_named.specs.Places.{Laid}
+use Rattle.dvg_named.specs.declared.joining.FrameSpan.{FrameSpan}
+use Rattle.std.proofs.Common.{Option}
 
 one_frame : (head : Head) (rows : List Row) → filter_map frame_in (record { head = head; rows = rows } ∷ []) ≡ frame_list head rows
 one_frame top rows = refl
@@ -79,6 +86,25 @@ sources_pushed small part old new one pushed rows sources at all =
     (All-push (IsFrameAt small) old one all
     (subst (λ l. AllZip (IsRowAt small) l one.sources.now) (sym rows)
     (subst (λ l. AllZip (IsRowAt small) part.rows.items l) (sym sources) at.rows)))
+
+-- how the first of several sections begins
+pub top_of : {A : Type 0} (closed : List (Part A)) (last first : Part A) → 1 ≤ length closed → first ≡ get_or closed 0 first
+    → first_head closed last ≡ None → first.head ≡ None
+top_of [] last first low is none = absurd (omega arith)
+top_of (one ∷ others) last first low is none = ap (λ part. part.head) is ∙ none
+
+-- the spans begin where the frames do
+pub spans_begun : (small : List ℕ) (laid : List Laid) (ops : List OpKind) (found : List held.FrameRows) (spans : List FrameSpan)
+    → AllZip (IsSpanOf laid ops) found spans → All (IsBegunAt small) found
+    → All (λ span. BeginsFrame small (name_of span.name) span.begin) spans
+spans_begun small laid ops [] [] are all = All-nil (λ (span : FrameSpan). BeginsFrame small (name_of span.name) span.begin)
+spans_begun small laid ops [] (span ∷ spans) are all = absurd are
+spans_begun small laid ops (one ∷ found) [] are all = absurd are
+spans_begun small laid ops (one ∷ found) (span ∷ spans) are all =
+    All-cons (λ (span : FrameSpan). BeginsFrame small (name_of span.name) span.begin) span spans
+    (subst (λ b. BeginsFrame small (name_of span.name) b) (sym are.0.begin)
+    (subst (λ n. BeginsFrame small n one.begin) (sym are.0.is.name) (All-head (IsBegunAt small) one found all)))
+    (spans_begun small laid ops found spans are.1 (All-tail (IsBegunAt small) one found all))
 
 -- ---- the top and the others
 

@@ -17,11 +17,14 @@ use Rattle.dvg_named.specs.Meanings.{IsFrameOf}
 use Rattle.dvg_named.specs.NamedFaults.{laid_of}
 use Rattle.dvg_rows.specs.RowPlaces.{names_of}
 use Rattle.dvg_named.specs.Places.{free_after, laid_end, laid_from}
-use Rattle.dvg_named.specs.ReadSketches.{IsSketchOf, StandsIn, as_frame, joined_at}
+use Rattle.dvg_named.specs.ReadSketches.{IsSketchOf, SourcedFrame, StandsIn, as_frame, joined_at}
 use Rattle.dvg_named.specs.RomNames.{IsNamedIn, names_listed}
 use Rattle.dvg_named.specs.Sections.{RomRows, frames, rom_sections}
 use Rattle.dvg_named.specs.SketchReading.{spelled_in}
 use Rattle.dvg_named.specs.TextReading.{ReadsText}
+use Rattle.dvg_named.specs.SourcedRows.{BeginsFrame}
+use Rattle.dvg_rows.specs.RowValues.{name_of}
+use Rattle.std.proofs.lemmas.List.Elements.{All-cons, All-head, All-nil, All-tail}
 
 -- the rows of sections are those of the sections as they are laid
 pub rows_are : (free : ℕ) (sections : List RomRows) → rows_laid (laid_from free sections) ≡ flat_map (λ section. section.rows) sections
@@ -36,15 +39,26 @@ frames_joined : (ops : List OpKind) (sources : List Source) (spans : List FrameS
 frames_joined ops sources [] = refl
 frames_joined ops sources (span ∷ spans) = ap (λ l. frame_at ops span ∷ l) (frames_joined ops sources spans)
 
+-- the frames begin where their spans do
+begun : (small : List ℕ) (ops : List OpKind) (sources : List Source) (spans : List FrameSpan)
+    → All (λ span. BeginsFrame small (name_of span.name) span.begin) spans
+    → All (λ frame. BeginsFrame small frame.name frame.begin) (map (joined_at ops sources) spans)
+begun small ops sources [] all = All-nil (λ (frame : SourcedFrame). BeginsFrame small frame.name frame.begin)
+begun small ops sources (span ∷ spans) all =
+    All-cons (λ (frame : SourcedFrame). BeginsFrame small frame.name frame.begin) (joined_at ops sources span) (map (joined_at ops sources) spans)
+    (All-head (λ (span : FrameSpan). BeginsFrame small (name_of span.name) span.begin) span spans all)
+    (begun small ops sources spans (All-tail (λ (span : FrameSpan). BeginsFrame small (name_of span.name) span.begin) span spans all))
+
 pub is_read : {A : Type 0} (reading : Reading A) (text : List ℕ) (read : ReadsText (map to_ascii_lowercase text) reading)
     (laid : List held_laid.LaidRows) (rom : List ℕ) (names : List RomName) (ops : List OpKind) (sources : List Source) (spans : List FrameSpan)
     → laid_sections laid ≡ laid_of (spelled_in read.rom reading)
     → GivesRom (spelled_in read.rom reading) rom
     → names_listed names ≡ names_of (rows_laid (laid_sections laid)) → All (IsNamedIn (laid_sections laid)) names
     → AllZip (IsFrameOf (laid_sections laid)) (frames (spelled_in read.rom reading)) (map (frame_at ops) spans)
+    → All (λ span. BeginsFrame (map to_ascii_lowercase text) (name_of span.name) span.begin) spans
     → AllZip (StandsIn (map to_ascii_lowercase text)) (frames (spelled_in read.rom reading)) (map (joined_at ops sources) spans)
     → IsSketchOf text rom names (map (joined_at ops sources) spans)
-is_read reading text read laid rom names ops sources spans are gives listed named drafted lines =
+is_read reading text read laid rom names ops sources spans are gives listed named drafted begins lines =
     let sketch = spelled_in read.rom reading in
     let short = read.short in
     record {
@@ -65,6 +79,7 @@ is_read reading text read laid rom names ops sources spans are gives listed name
         listed = listed ∙ ap (λ laid. names_of (rows_laid laid)) are ∙ ap names_of (rows_are (free_after (first_stated sketch.rom.map) sketch.rom.given) (rom_sections sketch));
         addresses = subst (λ laid. All (IsNamedIn laid) names) are named;
       };
+      begins = begun (map to_ascii_lowercase text) ops sources spans begins;
       lines = lines;
     }
 

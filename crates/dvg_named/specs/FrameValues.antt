@@ -6,7 +6,7 @@ use Rattle.dvg_rows.specs.HeldRows.{rows_of}
 use Rattle.dvg_rows.specs.RowValues.{name_of}
 use Rattle.dvg_rows.specs.Rows.{Head, Row, frame, rom, top}
 use Rattle.dvg_named.specs.Sections.{FrameRows, Section, frame_of}
-use Rattle.dvg_named.specs.SourcedRows.{IsRowAt}
+use Rattle.dvg_named.specs.SourcedRows.{BeginsFrame, IsRowAt}
 
 -- a frame
 abbrev pub frame_held : held.FrameRows → FrameRows
@@ -34,3 +34,7 @@ rows_at_top (row ∷ rows) = record { name = None; rows = row ∷ rows } ∷ []
 -- each row of the frame stands in its line
 abbrev pub IsFrameAt : (small : List ℕ) → held.FrameRows → Type 0
 IsFrameAt small held_frame = AllZip (IsRowAt small) held_frame.rows.now held_frame.sources.now
+
+-- the frame begins in its line
+abbrev pub IsBegunAt : (small : List ℕ) → held.FrameRows → Type 0
+IsBegunAt small held_frame = BeginsFrame small (name_of held_frame.name) held_frame.begin

@@ -17,6 +17,7 @@ use Rattle.dvg_named.specs.ReadParts.{rom_names}
 use Rattle.dvg_named.specs.RomNames.{IsNamedIn, names_listed}
 use Rattle.dvg_rows.specs.RowValues.{name_of}
 use Rattle.dvg_named.specs.Sections.{FrameRows, Spelled, frames}
+use Rattle.dvg_named.specs.SourcedRows.{BeginsFrame}
 
 -- a frame: its name, if it has one, the line that begins it, and its operations with their lines
 pub record SourcedFrame : Type 0 where
@@ -60,12 +61,14 @@ pub record ListsNames (sketch : Spelled) (names : List RomName) : Type 0 where
   pub listed : names_listed names ≡ rom_names sketch
   pub addresses : All (IsNamedIn (laid_of sketch)) names
 
--- the text denotes these frames, this ROM with these names, and each operation stands in its line
+-- the text denotes these frames, this ROM with these names, each frame begins in its line, and each operation stands in
+-- its own
 pub record IsSketchOf (text : List ℕ) (R : List ℕ) (names : List RomName) (result : List SourcedFrame) : Type 0 where
   pub rom_text : RomText
   pub denotes : DenotesFrames text rom_text (map as_frame result)
   pub is_rom : IsRomOf rom_text R
   pub lists : ListsNames denotes.sketch names
+  pub begins : All (λ frame. BeginsFrame (map to_ascii_lowercase text) frame.name frame.begin) result
   pub lines : AllZip (StandsIn (map to_ascii_lowercase text)) (frames denotes.sketch) result
 
 -- each frame stands within the operations, and within their lines

@@ -2,7 +2,9 @@
 ghost use Rattle.std.specs.Prelude.{◌≡◌, ◌++◌, ◌∷◌, [], All, IfOk, List, None, OnOk, map, ℕ};
 ghost use Rattle.std.specs.List.{filter_map};
 ghost use Rattle.dvg_read.specs.RomTexts.{RomText};
-ghost use Rattle.dvg_named.specs.FrameValues.{IsFrameAt, frame_in, frame_list, frames_of};
+ghost use Rattle.dvg_named.specs.FrameValues.{IsBegunAt, IsFrameAt, frame_in, frame_list};
+ghost use Rattle.dvg_named.specs.FrameValues.{frames_of};
+ghost use Rattle.dvg_named.specs.LineNumbers.{first_head};
 ghost use Rattle.dvg_named.specs.FrameValues.{rows_at_top};
 ghost use Rattle.dvg_rows.specs.HeldRows.{rows_of};
 ghost use Rattle.dvg_named.specs.ReadParts.{sketch_of};
@@ -38,6 +40,9 @@ pub(crate) fn frame_rows<'r, 'a, A: Allocator + Copy>(
         ≡ frames (sketch_of stated (map section_in closed.now) (section_in last.now))) }
     ensures sources { IfOk result (λ found. (small : List ℕ) → All (IsPartAt small) closed.now
         → IsPartAt small last.now → All (IsFrameAt small) found.items) }
+    ensures begins { IfOk result (λ found. (small : List ℕ) → All (IsPartAt small) closed.now
+        → IsPartAt small last.now → first_head closed.now last.now ≡ None
+        → All (IsBegunAt small) found.items) }
 {
     let [top, others @ ..] = closed else {
         let mut found = Vec::new(alloc);
@@ -60,6 +65,9 @@ fn later_frames<'r, 'a, A: Allocator + Copy>(
         ++ filter_map frame_in (map section_in others.now)) }
     ensures sources { IfOk result (λ found. (small : List ℕ) → IsPartAt small top.now
         → All (IsPartAt small) others.now → All (IsFrameAt small) found.items) }
+    ensures begins { IfOk result (λ found. (small : List ℕ) → IsPartAt small top.now
+        → top.now.head ≡ None → All (IsPartAt small) others.now
+        → All (IsBegunAt small) found.items) }
 {
     let mut found = Vec::new(alloc);
     if !top.rows.is_empty() {
@@ -80,6 +88,9 @@ fn push_top<'r, 'a, A: Allocator + Copy>(
         ++ record { name = None; rows = rows_of top.now.rows.items } ∷ []) }
     ensures sources { OnOk result ((small : List ℕ) → IsPartAt small top.now
         → All (IsFrameAt small) found.old.items → All (IsFrameAt small) found.new.items) }
+    ensures begins { OnOk result ((small : List ℕ) → IsPartAt small top.now
+        → top.now.head ≡ None
+        → All (IsBegunAt small) found.old.items → All (IsBegunAt small) found.new.items) }
 {
     found.push(FrameRows {
         name: None,
@@ -99,6 +110,8 @@ fn push_frame<'r, 'a, A: Allocator + Copy>(
         ++ frame_list (head_in part.now.head) (rows_of part.now.rows.items)) }
     ensures sources { OnOk result ((small : List ℕ) → IsPartAt small part.now
         → All (IsFrameAt small) found.old.items → All (IsFrameAt small) found.new.items) }
+    ensures begins { OnOk result ((small : List ℕ) → IsPartAt small part.now
+        → All (IsBegunAt small) found.old.items → All (IsBegunAt small) found.new.items) }
 {
     if let Some(Head::Frame(name)) = part.head {
         found.push(FrameRows {

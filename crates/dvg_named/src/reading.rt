@@ -48,7 +48,7 @@ pub(crate) struct Reading<'a, A: Allocator + Copy> {
 impl<'a, A: Allocator + Copy> Reading<'a, A> {
     ghost use Rattle.std.specs.Prelude.{◌≡◌, ◌++◌, ◌∷◌, [], ◌↔◌, ℕ, All, List, IfErr, IfOk, IsTrue};
     ghost use Rattle.std.specs.Prelude.{IsFalse, OnOk};
-    ghost use Rattle.dvg_named.specs.FrameValues.{IsFrameAt, frames_of};
+    ghost use Rattle.dvg_named.specs.FrameValues.{IsBegunAt, IsFrameAt, frames_of};
     ghost use Rattle.dvg_named.specs.Sections.{frames};
     ghost use Rattle.dvg_read.specs.LineParts.{bytes_of};
     ghost use Rattle.dvg_read.specs.RomReading.{unstated};
@@ -66,7 +66,7 @@ impl<'a, A: Allocator + Copy> Reading<'a, A> {
     ghost use Rattle.dvg_rows.specs.PlainLines.{plain};
     ghost use Rattle.dvg_named.specs.TextReading.{ReadsText};
     ghost use Rattle.dvg_named.specs.SketchSteps.{AreParts, line_of};
-    ghost use Rattle.dvg_named.specs.SourcedRows.{AreSourced, BeginsIn, IsHeadAt, IsLineAt};
+    ghost use Rattle.dvg_named.specs.SourcedRows.{AreSourced, BeginsFrame, BeginsIn, IsHeadAt, IsLineAt};
     ghost use Rattle.dvg_named.specs.SourcedRows.{IsRowAt};
     ghost use Rattle.dvg_named.specs.LineNumbers.{AddsEntry, KeepsEntries, Numbers, entries_in};
     ghost use Rattle.dvg_named.specs.LineNumbers.{head_at_top};
@@ -362,6 +362,8 @@ impl<'a, A: Allocator + Copy> Reading<'a, A> {
             → frames_of found.items ≡ frames (spelled_in stated self.now)) }
         ensures sources { IfOk result (λ found. (small : List ℕ) → AreSourced small self.now
             → All (IsFrameAt small) found.items) }
+        ensures begins { IfOk result (λ found. (small : List ℕ) → AreSourced small self.now
+            → head_at_top self.now ≡ None → All (IsBegunAt small) found.items) }
     {
         frame_rows(self.alloc, self.closed.as_slice(), &self.last)
     }
@@ -377,6 +379,9 @@ impl<'a, A: Allocator + Copy> Reading<'a, A> {
             → AreSourced small self.now
             → AllZip (StandsIn small) (frames (spelled_in stated self.now))
             (map (joined_at joined.ops.items joined.sources.items) joined.spans.items)) }
+        ensures begins { IfOk result (λ joined. (small : List ℕ) → AreSourced small self.now
+            → head_at_top self.now ≡ None
+            → All (λ span. BeginsFrame small (name_of span.name) span.begin) joined.spans.items) }
         ensures inside { IfOk result (λ joined.
             All (IsInside joined.ops.items joined.sources.items) joined.spans.items) }
         ensures fault { IfErr result (StopsDrafts (laid_sections laid.now) self.now) }

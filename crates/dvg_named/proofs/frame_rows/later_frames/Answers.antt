@@ -17,4 +17,5 @@ loop-part-preserved g c =
           ∙ append_assoc top front one
           ∙ ap (λ l. top ++ l) (sym (frames_more c.args.others.now c.loop-part.part-index c.part-item.result c.loop-part-test.true c.part-item.is));
       sources = λ small at all. c.in_ok-push_frame.ensures.sources small (subst (IsPartAt small) (sym c.part-item.is) (all c.loop-part.part-index c.part-item.result c.loop-part-test.true)) (c.loop-part.invariant.sources small at all);
+      begins = λ small at top all. c.in_ok-push_frame.ensures.begins small (subst (IsPartAt small) (sym c.part-item.is) (all c.loop-part.part-index c.part-item.result c.loop-part-test.true)) (c.loop-part.invariant.begins small at top all);
     }

@@ -10,6 +10,7 @@ use Rattle.dvg_named.specs.ReadSketches.{StandsIn, joined_at}
 use Rattle.dvg_named.specs.Sections.{FrameRows}
 use Rattle.dvg_named.specs.SketchReading.{spelled_in}
 use Rattle.dvg_named.specs.Ungiven.{framed}
+use Rattle.dvg_named.proofs.FrameLists.{spans_begun}
 use Rattle.dvg_named.proofs.KnownFrames.{drafts_stop, frames_are, frames_known, held_frames}
 use Rattle.dvg_named.proofs.OpLines.{both_ok, insides, row_lines, stand_in}
 use Rattle.dvg_named.proofs.RomFew.{if_ok}
@@ -69,3 +70,11 @@ returns-clause-inside g c =
     let laid = laid_sections c.args.laid.now in
     both_ok c.join_frames.result c.join_frames.ensures.spans c.join_frames.ensures.lines
     (λ joined spans lines. insides laid joined.ops.items joined.sources.items c.as_slice.result.now joined.spans.items spans lines)
+
+pub returns-clause-begins : goal.returns-clause-begins
+returns-clause-begins g c =
+    let laid = laid_sections c.args.laid.now in
+    if_ok c.join_frames.result c.join_frames.ensures.spans (λ joined spans small sourced none.
+    spans_begun small laid joined.ops.items c.in-Ok.found.items joined.spans.items
+    (subst (λ found. AllZip (IsSpanOf laid joined.ops.items) found joined.spans.items) c.as_slice.ensures.value spans)
+    (c.in-Ok.ensures.begins small sourced none))

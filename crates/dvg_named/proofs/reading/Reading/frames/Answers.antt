@@ -1,4 +1,5 @@
 use Rattle.std.proofs.Common.{◌∙◌, All, ap, map, subst, sym}
+use Rattle.dvg_named.specs.LineNumbers.{first_head}
 use Rattle.dvg_named.specs.ReadParts.{sketch_of}
 use Rattle.dvg_named.specs.Sections.{frames}
 use Rattle.dvg_named.specs.SketchReading.{section_in}
@@ -15,3 +16,9 @@ pub returns-clause-sources : goal.returns-clause-sources
 returns-clause-sources g c =
     if_ok c.frame_rows.result c.frame_rows.ensures.sources (λ found at small sourced.
     at small (subst (All (IsPartAt small)) (sym c.as_slice.ensures.value) sourced.closed) sourced.last)
+
+pub returns-clause-begins : goal.returns-clause-begins
+returns-clause-begins g c =
+    if_ok c.frame_rows.result c.frame_rows.ensures.begins (λ found begun small sourced none.
+    begun small (subst (All (IsPartAt small)) (sym c.as_slice.ensures.value) sourced.closed) sourced.last
+    (ap (λ l. first_head l c.args.self.now.last) c.as_slice.ensures.value ∙ none))
