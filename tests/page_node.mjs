@@ -474,7 +474,7 @@ function testSketches() {
 
 // Of a torn picture: the strokes that aren't red are of the frame that its run began with.
 function testTears() {
-  const board = runBoard(HOWS['by chance'](2), events, true);
+  const board = runBoard(HOWS['by chance'](1), 20000, true);
   const drawingOf = (draft) => runProgram(['play'],
     `tick 2\noffer\n${draft}\nend\ntick 1100\nstrobe\nfetch 9999\n`)
     .split('\n').slice(1, -1).join('\n');
