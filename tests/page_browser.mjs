@@ -36,7 +36,7 @@ function runStatus(args, input) {
 }
 
 // The command that makes an SVG of a sketch.
-const RENDER = 'draw';
+const RENDER = 'render';
 
 // What `dvg torn` says of a log that isn't torn, and what it counts besides.
 const SEEN = '[0-9]+ runs, .*[0-9]+ writes';

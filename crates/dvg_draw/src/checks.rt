@@ -12,7 +12,7 @@ ghost use Rattle.dvg_draw.specs.Checks.{ChecksFrames, ChecksOut, ChecksSketch, s
 use crate::said::Said;
 use dvg_code::OutOfMemory;
 use dvg_frame::{Checker, Draft};
-use dvg_io::{Engine, StreamFailed, ToolFault, Watched, serve, write_whole};
+use dvg_io::{Engine, StreamFailed, ToolFault, Watched, serve, write_lines};
 use dvg_lay::tool_fault;
 use dvg_mem::Rom;
 use dvg_named::{NamedFrame, Sketch, read_sketch};
@@ -125,7 +125,7 @@ impl<A: Allocator + Copy> Engine<A> for CheckEngine {
     }
 
     fn write<W: Write>(&self, said: &Said<A>, writer: &mut Watched<W>) -> Result<(), StreamFailed> {
-        write_whole(writer, said.text.as_slice())
+        write_lines(writer, said.text.as_slice())
     }
 }
 

@@ -1,24 +1,19 @@
 //! Lines of entries, which are numbered.
-ghost use Rattle.std.specs.Prelude.{◌≡◌, ◌↔◌, ◌+◌, ◌%◌, ◌^◌, ◌<◌, ◌≤◌, ◌++◌, ◌∷◌, []};
-ghost use Rattle.std.specs.Prelude.{decimal, length, take, IsFalse};
+ghost use Rattle.std.specs.Prelude.{◌≡◌, ◌+◌, ◌%◌, ◌^◌, ◌<◌, ◌≤◌, ◌++◌, ◌∷◌, [], decimal, take};
 ghost use Rattle.dvg_log.specs.Entries.{map_entry};
 ghost use Rattle.dvg_print.specs.Shows.{entry_line};
 
 use crate::digits::{NUMBER_BYTES, count_up};
-use crate::line::{Line, MOST_BYTES};
+use crate::line::Line;
 use dvg_log::Entry;
 use itoa::Buffer;
 use std::marker::Model;
 
-/// The room that a line of an entry wants.
-const LINE_ROOM: usize = 64;
-
-/// The lines that `play --all` writes of entries, one after the other, as many as are written
-/// together. The digits of the next event's number are kept, and counted up in place, the last one
-/// apart from the others.
+/// The lines that `play --all` writes of entries, one at a time. The digits of the next event's
+/// number are kept, and counted up in place, the last one apart from the others.
 #[derive(Drop)]
 pub struct EntryLines {
-    lines: Line,
+    line: Line,
     // The first of these bytes, this many, are the digits of the next entry's number before its
     // last one. Nine lines in ten leave them: bytes just written are slow to read together.
     tens: [u8; NUMBER_BYTES],
@@ -28,14 +23,14 @@ pub struct EntryLines {
     next: usize,
 }
 
-/// Contracts see the bytes of all lines, and the number of the next one.
+/// Contracts see the bytes of the line, and the number of the next one.
 impl Model for EntryLines {
     ghost use Rattle.std.specs.Prelude.{◌≡◌, ◌≤◌, ◌++◌, ◌∷◌, [], decimal, take};
     ghost use Rattle.dvg_print.specs.Numbering.{Numbered};
 
     ghost Value = { Numbered };
 
-    ghost view = { λ entry_lines. record { text = entry_lines.lines; next = entry_lines.next } };
+    ghost view = { λ entry_lines. record { text = entry_lines.line; next = entry_lines.next } };
 
     ghost invariant = { λ entry_lines. (entry_lines.count ≤ 20)
         × (take entry_lines.count entry_lines.tens ++ entry_lines.ones ∷ []
@@ -66,14 +61,14 @@ fn tens_of(number: usize) -> ([u8; NUMBER_BYTES], usize)
 }
 
 impl EntryLines {
-    /// No lines. The next entry's event has this number.
+    /// A line with no bytes. The next entry's event has this number.
     pub fn new(next: usize) -> EntryLines
         ensures text { result.text ≡ [] }
         ensures next { result.next ≡ next }
     {
         let (tens, count) = tens_of(next);
         EntryLines {
-            lines: Line::new(),
+            line: Line::new(),
             tens,
             count,
             ones: b'0' + (next % 10) as u8,
@@ -85,39 +80,21 @@ impl EntryLines {
     pub fn as_bytes(&self) -> &[u8]
         ensures { result.now ≡ self.now.text }
     {
-        self.lines.as_bytes()
+        self.line.as_bytes()
     }
 
-    /// Whether there may be no room for another line.
+    /// Becomes the line of the next entry. A finished run drew this many strokes.
     #[inline(always)]
-    pub fn is_full(&self) -> bool
-        ensures { IsFalse result ↔ (length self.now.text + 64 ≤ 4096) }
-    {
-        self.lines.as_bytes().len() > MOST_BYTES - LINE_ROOM
-    }
-
-    /// Forgets the lines. The next entry's event has the number that it had.
-    #[inline(always)]
-    pub fn clear(&mut self)
-        ensures text { self.new.text ≡ [] }
-        ensures next { self.new.next ≡ self.old.next }
-    {
-        self.lines.clear();
-    }
-
-    /// Adds the line of the next entry. A finished run drew this many strokes.
-    #[inline(always)]
-    pub fn add<S>(&mut self, entry: &Entry<S>, drew: usize)
-        requires room { length self.old.text + 64 ≤ 4096 }
-        requires next { self.old.next + 1 < 2 ^ 64 }
-        ensures text { self.new.text ≡ self.old.text
-            ++ entry_line self.old.next (map_entry (λ _. drew) entry.now) }
+    pub fn become_next<S>(&mut self, entry: &Entry<S>, drew: usize)
+        requires { self.old.next + 1 < 2 ^ 64 }
+        ensures text { self.new.text ≡ entry_line self.old.next (map_entry (λ _. drew) entry.now) }
         ensures next { self.new.next ≡ self.old.next + 1 }
     {
-        self.lines.front(&self.tens, self.count);
-        self.lines.text(&[self.ones]);
-        self.lines.entry(entry, drew);
-        self.lines.text(b"\n");
+        self.line.clear();
+        self.line.front(&self.tens, self.count);
+        self.line.text(&[self.ones]);
+        self.line.entry(entry, drew);
+        self.line.text(b"\n");
         self.count_on();
     }
 

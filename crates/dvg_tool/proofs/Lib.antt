@@ -8,4 +8,3 @@ pub mod DrawnPlayed
 pub mod JobsDone
 mod OneVerdict
 pub mod PicturesPlayed
-pub mod Pending

@@ -6,4 +6,3 @@ pub mod Checks
 pub mod Plays
 pub mod CheckLaws
 pub mod PlaysSvg
-pub mod Pending

@@ -1,9 +1,8 @@
 //! What is written of entries.
-ghost use Rattle.std.specs.Prelude.{◌≡◌, ◌+◌, ◌^◌, ◌++◌, ◌<◌, ◌≤◌, length, replicate, true, OnOk};
+ghost use Rattle.std.specs.Prelude.{◌≡◌, ◌+◌, ◌^◌, ◌<◌, replicate, true, OnOk};
 ghost use Rattle.dvg_log.specs.Entries.{map_entry};
 ghost use Rattle.dvg_print.specs.Shows.{shown, shown_entry};
 ghost use Rattle.dvg_io.specs.Watching.{Writes};
-ghost use Rattle.dvg_tool.specs.Pending.{WritesBut};
 ghost use Rattle.dvg_world.specs.Keeping.{entry_in, strokes_in};
 
 use dvg_gen::Stroke;
@@ -14,29 +13,25 @@ use dvg_world::{Entries, EntryRun};
 use std::alloc::Allocator;
 use std::io::Write;
 
-// Writes what is shown of the next entry, whose run drew these strokes, if it finished. Its line is
-// added to `lines`, which are written where strokes come after them, or where they are full.
+// Writes what is shown of the next entry, whose run drew these strokes, if it finished.
 fn write_next<W: Write>(
     lines: &mut EntryLines,
     entry: &Entry<u16>,
     strokes: &[Stroke],
     writer: &mut Watched<W>,
 ) -> Result<(), StreamFailed>
-    requires room { length lines.old.text + 64 ≤ 4096 }
     requires next { lines.old.next + 1 < 2 ^ 64 }
     requires drawn { strokes.now ≡ strokes_in (map_entry (λ _. strokes.now) entry.now) }
-    ensures written { WritesBut W.contents (lines.old.text
-        ++ shown_entry true lines.old.next (map_entry (λ _. strokes.now) entry.now))
-        lines.new.text result writer.old writer.new }
+    ensures written { Writes W.contents
+        (shown_entry true lines.old.next (map_entry (λ _. strokes.now) entry.now))
+        result writer.old writer.new }
     ensures next { lines.new.next ≡ lines.old.next + 1 }
-    ensures room { OnOk result (length lines.new.text + 64 ≤ 4096) }
 {
-    lines.add(entry, strokes.len());
-    if strokes.is_empty() && !lines.is_full() {
+    lines.become_next(entry, strokes.len());
+    write_whole(writer, lines.as_bytes())?;
+    if strokes.is_empty() {
         return Ok(());
     }
-    write_whole(writer, lines.as_bytes())?;
-    lines.clear();
     write_strokes(strokes, writer)
 }
 
@@ -46,14 +41,12 @@ fn write_run<W: Write>(
     run: EntryRun<'_>,
     writer: &mut Watched<W>,
 ) -> Result<(), StreamFailed>
-    requires room { length lines.old.text + 64 ≤ 4096 }
     requires next { lines.old.next + run.times < 2 ^ 64 }
     requires drawn { run.strokes.now ≡ strokes_in (entry_in run) }
-    ensures written { WritesBut W.contents (lines.old.text
-        ++ shown true lines.old.next (replicate run.entry.times (entry_in run.entry)))
-        lines.new.text result writer.old writer.new }
+    ensures written { Writes W.contents
+        (shown true lines.old.next (replicate run.entry.times (entry_in run.entry)))
+        result writer.old writer.new }
     ensures next { OnOk result (lines.new.next ≡ lines.old.next + run.entry.times) }
-    ensures room { OnOk result (length lines.new.text + 64 ≤ 4096) }
 {
     for _again in 0..run.times {
         write_next(lines, run.entry, run.strokes, writer)?;
@@ -61,7 +54,8 @@ fn write_run<W: Write>(
     Ok(())
 }
 
-/// Writes what is shown of each of these entries, the first of which is that of event 0.
+/// Writes what is shown of each of these entries, the first of which is that of event 0. Each line
+/// is handed to the writer by itself.
 pub fn write_entries<A: Allocator, W: Write>(
     entries: &Entries<A>,
     writer: &mut Watched<W>,
@@ -72,5 +66,5 @@ pub fn write_entries<A: Allocator, W: Write>(
     for run in entries.runs() {
         write_run(&mut lines, run, writer)?;
     }
-    write_whole(writer, lines.as_bytes())
+    Ok(())
 }

@@ -8,7 +8,7 @@ use std::alloc::Global;
 fn a_broken_run_has_a_line(rt: HostRuntime) {
     let mut lines = EntryLines::new(65535);
     let entry: OwnEntry<Global> = Entry::Broke(0xFFF, GenFault::Hole);
-    lines.add(&entry, 0);
+    lines.become_next(&entry, 0);
     assert!(rt; lines.as_bytes() == b"65535 broke FFF 3\n".as_slice());
 }
 
@@ -16,12 +16,10 @@ fn a_broken_run_has_a_line(rt: HostRuntime) {
 fn numbers_are_counted_up(rt: HostRuntime) {
     let mut lines = EntryLines::new(98);
     let entry: OwnEntry<Global> = Entry::Still;
-    lines.add(&entry, 0);
+    lines.become_next(&entry, 0);
     assert!(rt; lines.as_bytes() == b"98 still\n".as_slice());
-    lines.clear();
-    lines.add(&entry, 0);
+    lines.become_next(&entry, 0);
     assert!(rt; lines.as_bytes() == b"99 still\n".as_slice());
-    lines.clear();
-    lines.add(&entry, 0);
+    lines.become_next(&entry, 0);
     assert!(rt; lines.as_bytes() == b"100 still\n".as_slice());
 }

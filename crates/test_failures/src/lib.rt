@@ -10,6 +10,8 @@ mod hostile;
 #[cfg(test)]
 mod limits;
 #[cfg(test)]
+mod line_writes;
+#[cfg(test)]
 mod mishaps;
 #[cfg(test)]
 mod plays_mishaps;

@@ -133,7 +133,7 @@ fn a_refusal_leaves_no_picture(rt: HostRuntime) -> Result<(), Fail> {
 
 /// A trace with a picture of 58 strokes: the high bytes of its vectors are fetched by every other
 /// event from 137 to 251.
-fn long_picture(alloc: Global) -> Result<String, Fail> {
+pub fn long_picture(alloc: Global) -> Result<String, Fail> {
     let mut text = joined(alloc, &["tick 2\noffer\nlabs 0 0 0\n"])?;
     for _ in 0..58 {
         text.push_str("svec 2 0 0 1\n")?;

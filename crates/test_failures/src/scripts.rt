@@ -161,7 +161,7 @@ pub fn entries_text<A: Allocator>(alloc: Global, entries: &[OwnEntry<A>]) -> Res
             _ => 0,
         };
         let mut lines = EntryLines::new(number);
-        lines.add(entry, drew);
+        lines.become_next(entry, drew);
         text.extend_from_slice(lines.as_bytes())?;
         if let Entry::Done(_, _, strokes) = entry {
             let strokes = strokes.as_slice();

@@ -78,11 +78,11 @@ fn job_of(number: u32) -> Option<Job> {
         (3, bound) => Some(Job::Check { bound }),
         (4, all) => Some(Job::Play { all, banked: false }),
         (5, false) => Some(Job::Torn),
-        (6, false) => Some(Job::Draw {
+        (6, false) => Some(Job::Render {
             percent: PERCENT,
             rate: RATE,
         }),
-        (6, true) => Some(Job::DrawCheck),
+        (6, true) => Some(Job::RenderCheck),
         (7, false) => Some(Job::Lay { form: LayForm::Rom }),
         (7, true) => Some(Job::Lay {
             form: LayForm::Equates,

@@ -2,7 +2,7 @@
 use std::prelude::*;
 
 use crate::form::{Form, Laid, lay};
-use dvg_io::{Engine, StreamFailed, ToolFault, Watched, serve, write_whole};
+use dvg_io::{Engine, StreamFailed, ToolFault, Watched, serve, write_lines, write_whole};
 use dvg_mem::Rom;
 use dvg_named::{NamedFault, Sketch, SketchFault, read_sketch};
 use dvg_read::{MOST_TEXT_BYTES, TextFault};
@@ -75,7 +75,10 @@ impl<A: Allocator + Copy> Engine<A> for LayEngine {
     }
 
     fn write<W: Write>(&self, laid: &Laid<A>, writer: &mut Watched<W>) -> Result<(), StreamFailed> {
-        write_whole(writer, laid.as_bytes())
+        match self.form {
+            Form::Bytes(_) | Form::RomBytes => write_whole(writer, laid.as_bytes()),
+            Form::Tables | Form::RomNames => write_lines(writer, laid.as_bytes()),
+        }
     }
 }
 

@@ -1,17 +1,13 @@
 //! Lines of entries, which are numbered.
 use crate::digits::{NUMBER_BYTES, count_up};
-use crate::line::{Line, MOST_BYTES};
+use crate::line::Line;
 use dvg_log::Entry;
 use itoa::Buffer;
 
-/// The room that a line of an entry wants.
-const LINE_ROOM: usize = 64;
-
-/// The lines that `play --all` writes of entries, one after the other, as many as are written
-/// together. The digits of the next event's number are kept, and counted up in place, the last one
-/// apart from the others.
+/// The lines that `play --all` writes of entries, one at a time. The digits of the next event's
+/// number are kept, and counted up in place, the last one apart from the others.
 pub struct EntryLines {
-    lines: Line,
+    line: Line,
     // The first of these bytes, this many, are the digits of the next entry's number before its
     // last one. Nine lines in ten leave them: bytes just written are slow to read together.
     tens: [u8; NUMBER_BYTES],
@@ -39,11 +35,11 @@ fn tens_of(number: usize) -> ([u8; NUMBER_BYTES], usize) {
 }
 
 impl EntryLines {
-    /// No lines. The next entry's event has this number.
+    /// A line with no bytes. The next entry's event has this number.
     pub fn new(next: usize) -> EntryLines {
         let (tens, count) = tens_of(next);
         EntryLines {
-            lines: Line::new(),
+            line: Line::new(),
             tens,
             count,
             ones: b'0' + (next % 10) as u8,
@@ -53,28 +49,17 @@ impl EntryLines {
 
     /// The bytes.
     pub fn as_bytes(&self) -> &[u8] {
-        self.lines.as_bytes()
+        self.line.as_bytes()
     }
 
-    /// Whether there may be no room for another line.
+    /// Becomes the line of the next entry. A finished run drew this many strokes.
     #[inline(always)]
-    pub fn is_full(&self) -> bool {
-        self.lines.as_bytes().len() > MOST_BYTES - LINE_ROOM
-    }
-
-    /// Forgets the lines. The next entry's event has the number that it had.
-    #[inline(always)]
-    pub fn clear(&mut self) {
-        self.lines.clear();
-    }
-
-    /// Adds the line of the next entry. A finished run drew this many strokes.
-    #[inline(always)]
-    pub fn add<S>(&mut self, entry: &Entry<S>, drew: usize) {
-        self.lines.front(&self.tens, self.count);
-        self.lines.text(&[self.ones]);
-        self.lines.entry(entry, drew);
-        self.lines.text(b"\n");
+    pub fn become_next<S>(&mut self, entry: &Entry<S>, drew: usize) {
+        self.line.clear();
+        self.line.front(&self.tens, self.count);
+        self.line.text(&[self.ones]);
+        self.line.entry(entry, drew);
+        self.line.text(b"\n");
         self.count_on();
     }
 

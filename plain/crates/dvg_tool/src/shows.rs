@@ -7,20 +7,18 @@ use dvg_world::{Entries, EntryRun};
 use std::alloc::Allocator;
 use std::io::Write;
 
-// Writes what is shown of the next entry, whose run drew these strokes, if it finished. Its line is
-// added to `lines`, which are written where strokes come after them, or where they are full.
+// Writes what is shown of the next entry, whose run drew these strokes, if it finished.
 fn write_next<W: Write>(
     lines: &mut EntryLines,
     entry: &Entry<u16>,
     strokes: &[Stroke],
     writer: &mut Watched<W>,
 ) -> Result<(), StreamFailed> {
-    lines.add(entry, strokes.len());
-    if strokes.is_empty() && !lines.is_full() {
+    lines.become_next(entry, strokes.len());
+    write_whole(writer, lines.as_bytes())?;
+    if strokes.is_empty() {
         return Ok(());
     }
-    write_whole(writer, lines.as_bytes())?;
-    lines.clear();
     write_strokes(strokes, writer)
 }
 
@@ -36,7 +34,8 @@ fn write_run<W: Write>(
     Ok(())
 }
 
-/// Writes what is shown of each of these entries, the first of which is that of event 0.
+/// Writes what is shown of each of these entries, the first of which is that of event 0. Each line
+/// is handed to the writer by itself.
 pub fn write_entries<A: Allocator, W: Write>(
     entries: &Entries<A>,
     writer: &mut Watched<W>,
@@ -45,5 +44,5 @@ pub fn write_entries<A: Allocator, W: Write>(
     for run in entries.runs() {
         write_run(&mut lines, run, writer)?;
     }
-    write_whole(writer, lines.as_bytes())
+    Ok(())
 }
