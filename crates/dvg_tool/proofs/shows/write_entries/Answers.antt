@@ -1,4 +1,4 @@
-use Rattle.std.proofs.Common.{rules, true, ◌≡◌, ◌+◌, ◌++◌, length, replicate, ap, ◌∙◌, sym, subst, arith, length-append}
+use Rattle.std.proofs.Common.{rules, true, ◌≡◌, ◌+◌, length, replicate, ap, ◌∙◌, sym, subst, arith, length-append}
 use Rattle.std.proofs.lemmas.List.{length-replicate}
 use Rattle.std.specs.Io.KnownBytes.{Appends}
 use Rattle.dvg_print.specs.Shows.{shown}

@@ -1,4 +1,6 @@
 use Rattle.std.proofs.Common.{rules, ◌≡◌, ◌++◌, ◌∙◌, [], ap, append-nil, flat_map, length, sym, subst, true}
+use Rattle.std.proofs.lemmas.Bool.{eqb-true}
+use Rattle.std.proofs.lemmas.List.{nil_from_length}
 use Rattle.dvg_log.specs.Entries.{map_entry}
 use Rattle.dvg_print.specs.Shows.{entry_line, shown_entry, stroke_line}
 use Rattle.dvg_io.specs.Watching.{Writes}
@@ -36,7 +38,7 @@ returns-then-is_empty-clause-written g c =
     let strokes = c.args.strokes.now in
     let n = c.args.lines.now.next in
     let line = entry_line n (map_entry (λ _. length strokes) c.args.entry.now) in
-    let none : strokes ≡ [] = search rules in
+    let none : strokes ≡ [] = nil_from_length strokes (eqb-true (length strokes) 0 (sym c.is_empty.ensures ∙ c.if-is_empty.true)) in
     let same : shown_entry true n (map_entry (λ _. strokes) c.args.entry.now) ≡ line =
     line_then n strokes c.args.entry.now c.requires.drawn ∙ ap (λ s. line ++ flat_map stroke_line s) none ∙ append-nil line in
     let first : Wrote g.W.Write.contents line c.args.writer.now c.write_whole.new.writer = search rules in
