@@ -9,6 +9,7 @@ import shutil
 from dataclasses import dataclass
 from pathlib import Path
 
+TYPE = re.compile(r"^(?:pub(?:\([a-z ]+\))? )?(?:struct|enum) (\w+)", re.M)
 HEAD = re.compile(r"^( *)(?:pub(?:\([a-z ]+\))? )?(?:const )?(?:unsafe )?fn (\w+)", re.M)
 BLOCK = re.compile(r"^(?:pub )?(?:unsafe )?(impl|trait|mod)\b[^{]*", re.M)
 GENERICS = re.compile(r"<(?:[^<>]|<[^<>]*>)*>")
@@ -17,8 +18,8 @@ GENERICS = re.compile(r"<(?:[^<>]|<[^<>]*>)*>")
 @dataclass(frozen=True)
 class Function:
     """A function of a file. `owner` holds the words of its impl, the type first and then the trait,
-    and none outside of one. The numbers are places in the text: of its attributes, of its head, of
-    its body, and of its end."""
+    and none outside of one. `module` is that of the type, or else of the file. The numbers are
+    places in the text: of its attributes, of its head, of its body, and of its end."""
 
     name: str
     module: tuple[str, ...]
@@ -88,22 +89,36 @@ def body_of(text, head):
     return None
 
 
-def functions_of(path, text):
-    """The functions of a file that have a body. The path begins with src/."""
+def module_of(path):
+    """The module of a file, whose path begins with src/."""
     module = Path(path).with_suffix("").parts[1:]
-    if module[-1] in ("lib", "main", "mod"):
-        module = module[:-1]
+    return module[:-1] if module[-1] in ("lib", "main", "mod") else module
+
+
+def homes_of(crate):
+    """The module of each type that a crate's folder declares."""
+    homes = {}
+    for file in sorted((crate / "src").rglob("*.rt")):
+        module = module_of(file.relative_to(crate))
+        homes |= {name: module for name in TYPE.findall(file.read_text(encoding="utf-8"))}
+    return homes
+
+
+def functions_of(crate, path, text):
+    """The functions with a body in a file of this text, whose path in its crate begins with src/."""
+    homes = homes_of(crate)
     for head in HEAD.finditer(text):
         places = body_of(text, head)
         if places:
             owner = words_of_owner(text, head.start()) if head[1] else ()
+            module = homes.get(owner[0] if owner else "", module_of(path))
             first = attributes_begin(text, head.start())
             yield Function(head[2], module, owner, first, head.start(), *places)
 
 
-def function_at(path, text, at):
+def function_at(crate, path, text, at):
     """The innermost function around a place of a file, or None."""
-    around = [it for it in functions_of(path, text) if it.first <= at < it.end]
+    around = [it for it in functions_of(crate, path, text) if it.first <= at < it.end]
     return around[-1] if around else None
 
 
