@@ -220,7 +220,8 @@ function testTornPictures(seed, board, torn) {
 // page draws a half, as `torn` has it.
 function testHalves() {
   const tears = (first, word) => engine.run(COMMAND.torn,
-    `started\nfetched 000 ${hex(first, 4)}\nwrote ${hex(2 * word, 3)} 00\n`).status === 1;
+    `started\nfetched 000 ${hex(first, 4)}\nwrote ${hex(2 * word, 3)} 00\n`)
+    .output.startsWith('torn ');
   for (const [first, half] of [[0xE001, AREA.HALF0], [0xE201, AREA.HALF1]]) {
     for (let word = 0; word < 1024; word++) {
       expect(`${hex(first, 4)}, word ${hex(word, 3)}`, tears(first, word), areaOf(word) === half);
