@@ -12,14 +12,22 @@
 #
 # `make` makes the ROM set build/roms. `make emulator` runs it without a screen, and compares its
 # bus log with the proved driver's actions, and its snapshots with the strokes of its frames.
-# `make torn` has it judged by `dvg torn`. `make play` runs it with a screen. DVG names the program
-# dvg, where it isn't the one of this repository.
+# `make torn` has it judged by `dvg torn`. `make judge` runs it for JUDGED seconds without a screen,
+# and says all that is bad: RATE is how many pictures a second are wanted. `make emulator` and
+# `make judge` play the buttons of the file BUTTONS, if there is one. `make play` runs the ROM set
+# with a screen, and `make record` records what is pressed there as BUTTONS. `make eproms` writes
+# what is burned into build/eproms. `make test-rom` does so for examples/test_rom. DVG names the
+# program dvg, where it isn't the one of this repository.
 
-BOARD := $(dir $(realpath $(lastword $(MAKEFILE_LIST))))
+# Relative where the makefile includes this file so: make takes no path with a blank in it.
+BOARD := $(dir $(lastword $(MAKEFILE_LIST)))
 DVG ?= $(BOARD)../dvg
 export DVG
 SECONDS ?= 5
 SHOTS ?= 1.5 2.5 3.5 4.5
+JUDGED ?= 20
+RATE ?= 30
+BUTTONS ?= buttons.txt
 $(shell mkdir -p build)
 .DEFAULT_GOAL := build/roms/asteroid
 
@@ -33,14 +41,14 @@ build/roms/asteroid: build/$(PROGRAM).program build/rom build/prom
 	@echo made $@
 
 build/$(PROGRAM).program: build/$(PROGRAM).o build/driver.o $(BOARD)board.cfg
-	ld65 -C $(BOARD)board.cfg -Ln build/$(PROGRAM).labels -o $@ build/$(PROGRAM).o build/driver.o
+	ld65 -C $(BOARD)board.cfg -Ln build/$(PROGRAM).labels -o $@ build/driver.o build/$(PROGRAM).o
 
 # Says where the assembler comes from, if it isn't there.
 find_ca65 = @command -v ca65 >/dev/null || { \
     echo 'make: ca65 is not found; board/install installs it' >&2 && exit 1; }
 
-build/$(PROGRAM).o: $(PROGRAM).s $(BOARD)dvg.inc build/tables.inc build/shapes.equates \
-    build/options
+build/$(PROGRAM).o: $(PROGRAM).s $(wildcard $(BOARD)*.inc) build/tables.inc \
+    build/shapes.equates build/options
 	$(find_ca65)
 	ca65 -g -I $(BOARD) -I build $(DEFINES) -o $@ $(PROGRAM).s
 
@@ -52,43 +60,67 @@ build/sketch: $(SKETCH) $(BOARD)outline.awk build/options
 	$(if $(SKETCH),awk -f $(BOARD)outline.awk $(SKETCH),echo .rom) >$@
 
 build/tables.inc: build/sketch $(BOARD)tables.awk
-	$(DVG) lay --table <build/sketch >build/tables
+	"$(DVG)" lay --table <build/sketch >build/tables
 	@awk -f $(BOARD)tables.awk build/tables >$@
 
 # A program may call each name of the ROM, so each is checked in a frame that calls it.
 build/shapes.equates: build/sketch
-	$(DVG) lay --equates <build/sketch >$@
+	"$(DVG)" lay --equates <build/sketch >$@
 	@awk '{ print ".frame\nlabs 0 0 0\ncallrom " $$1 "\nhalt" }' $@ | cat build/sketch - >build/calls
-	$(DVG) lay <build/calls >build/called
+	"$(DVG)" lay <build/calls >build/called
 
 build/rom: build/sketch
-	$(DVG) lay --rom <build/sketch >$@
+	"$(DVG)" lay --rom <build/sketch >$@
 
 # As `dvg check` and `dvg play` read it.
 build/rom.lines: build/rom
-	$(DVG) rom <build/rom >$@
+	"$(DVG)" rom <build/rom >$@
 
 build/prom: $(BOARD)emulator/prom.py
 	python3 $(BOARD)emulator/prom.py $@
 
+# The file of buttons, if it is there.
+played = $(if $(wildcard $(BUTTONS)),$(CURDIR)/$(BUTTONS))
+
 emulator: build/roms/asteroid build/rom.lines
-	@DVG_SHOTS="$(SHOTS)" $(BOARD)emulator/run build/roms build/emulator $(SECONDS) \
-	    $(BOARD)emulator/trace.lua
+	@DVG_SHOTS="$(SHOTS)" DVG_BUTTONS="$(played)" \
+	    $(BOARD)emulator/run build/roms build/emulator $(SECONDS) $(BOARD)emulator/trace.lua
 	@$(BOARD)emulator/compare build/emulator/bus.log build/rom.lines build/emulator/bus
 	@$(BOARD)emulator/shots build/emulator build/rom.lines
 
 torn: build/roms/asteroid
 	@$(BOARD)emulator/run build/roms build/torn $(SECONDS) $(BOARD)emulator/torn.lua
-	@$(DVG) torn <build/torn/torn.log
+	@"$(DVG)" torn <build/torn/torn.log
+
+judge: build/roms/asteroid
+	@DVG_BUTTONS="$(played)" \
+	    $(BOARD)emulator/run build/roms build/judge $(JUDGED) $(BOARD)emulator/judge.lua || { \
+	    echo 'BAD: the emulator failed: build/judge/said' && exit 1; }
+	@python3 $(BOARD)emulator/judge.py build/judge build/rom $(RATE)
+
+find_screen = @[ "$$(uname)" != Linux ] || [ -n "$$DISPLAY$$WAYLAND_DISPLAY" ] || { \
+    echo '$@: no screen is here; make emulator takes pictures, make judge plays' >&2 && exit 1; }
+mame = $$(command -v mame || echo /usr/games/mame) asteroid -rompath roms -skip_gameinfo
 
 play: build/roms/asteroid
-	@[ "$$(uname)" != Linux ] || [ -n "$$DISPLAY$$WAYLAND_DISPLAY" ] || { \
-	    echo 'play: no screen is here; make emulator takes pictures' >&2 && exit 1; }
-	cd build && $$(command -v mame || echo /usr/games/mame) asteroid -rompath roms
+	$(find_screen)
+	cd build && $(mame)
+
+record: build/roms/asteroid
+	$(find_screen)
+	cd build && DVG_BUTTONS="$(CURDIR)/$(BUTTONS)" $(mame) -autoboot_delay 0 \
+	    -autoboot_script "$(CURDIR)/$(BOARD)emulator/record.lua"
+
+eproms: build/roms/asteroid
+	@$(BOARD)eproms build/roms/asteroid build/eproms
+
+test-rom:
+	@dvg=$$(realpath "$(DVG)") && cd $(BOARD)../examples/test_rom && \
+	    $(MAKE) --no-print-directory -f makefile DVG="$$dvg" PROGRAM=test eproms
 
 clean:
 	rm -rf build
 
 .SECONDARY:
 .DELETE_ON_ERROR:
-.PHONY: emulator torn play clean
+.PHONY: emulator torn judge play record eproms test-rom clean

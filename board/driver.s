@@ -1,7 +1,7 @@
 ; A frame driver for the Digital Vector Generator, for the 6502: the script of the proved driver
 ; in crates/dvg_driver, action by action. crates/dvg_6502 proves it of the bytes of all routines but
-; those that build frames, where no interrupt comes; all of it is tested against that driver
-; (tests/board).
+; those that build frames, and of these, but dvg_copy and dvg_vector, that they build a whole one; all
+; of it is tested against that driver (tests/board).
 ; docs/BOARD.md shows how a program uses it, and README.md has the cycles and bytes of each routine.
 ;
 ;   dvg_reset    before all others, once after each reset of the processor
@@ -26,8 +26,11 @@
 ;   dvg_open     begins a frame. C clear: done. C set: busy.
 ;   dvg_put      puts an instruction of one word: A the low byte, X the high one
 ;   dvg_pair     puts one of two words: the first from dvg_y (low, high), the second from dvg_x
-;   dvg_labs     puts a LABS to dvg_x, dvg_y (12 bits each): A is 16 times the scale. It changes
-;                dvg_x and dvg_y.
+;   dvg_labs     puts a LABS to dvg_x, dvg_y, of which it takes the low 12 bits: A is 16 times the
+;                scale. It changes dvg_x and dvg_y.
+;   dvg_vector   puts a vector by dvg_x, dvg_y (-1023 to 1023 each), as a short one where that holds
+;                it: A is 16 times the scale (0 to 9), and the intensity. It changes dvg_x and
+;                dvg_y. C set: no room, or there is no such vector.
 ;   dvg_copy     puts Y bytes, an even number up to 254, from A (low), X (high) on: whole
 ;                instructions, none of which calls or jumps within the frame
 ;   dvg_close    ends the frame with a HALT; ticks then publish it
@@ -36,11 +39,15 @@
 ; The same where no frame is being built. Nothing checks what is built: it begins with a LABS, it
 ; calls the ROM alone, or nothing. D is clear. A, X and Y aren't kept.
 ;
-; Three traps:
+; Five traps:
 ;   - After power-on dvg_phase is a byte of chance, and a tick would act on it. So a program's
 ;     first instructions set it to 0, and the NMI's ticks wait until dvg_reset was called.
 ;   - Ticks come from one place: from the NMI, or from the main program. Offers, redraws and
 ;     building may come from the main program even so: each changes dvg_phase last.
+;   - An NMI does at most 53 ticks, so that it ends before the next one, which can't be masked. Or a
+;     busy byte keeps an NMI from ticking amid the ticks of another one.
+;   - Where the main program ticks, an NMI doesn't offer, open or redraw: amid a tick the driver may
+;     be idle before its strobe is sent, or busy after the boot is done.
 ;   - Hardware is touched once, by absolute addresses. `sta (to),y` reads before it writes, and
 ;     INC writes twice. The RAM doesn't mind; byte 001, the flag and the strobe do.
 
@@ -58,10 +65,10 @@ pages:     .res 1       ; of a table: pages that end before the last byte. Build
 end:       .res 1       ; of a table: `at` after its last byte. dvg_copy: after the last byte copied
 second:    .res 1       ; of a table: bit 7: the next word is the second one of its instruction
 from:      .res 2       ; of a table, moved on with `to`; or the bytes that dvg_copy copies
-dvg_y:     .res 2       ; for dvg_labs and dvg_pair: y, or the first word
+dvg_y:     .res 2       ; for dvg_labs, dvg_vector and dvg_pair: y, or the first word
 dvg_x:     .res 2       ; x, or the second word
 left:      .res 1       ; ticks that dvg_ticks has still to do
-length:    .res 1       ; bytes that dvg_copy copies
+length:    .res 1       ; bytes that dvg_copy copies. dvg_vector: the scale and the intensity
 
 .segment "CODE"
 
@@ -270,12 +277,12 @@ ready:  sty to
         rts
 
 dvg_redraw:
-        lda publish
-        cmp #DVG_FLIP
-        bne refuse              ; nothing was published
         lda dvg_phase
         cmp #DVG_IDLE
         bne refuse
+        lda publish
+        cmp #DVG_FLIP
+        bne refuse              ; nothing was published
         lda #DVG_WAIT
         sta dvg_phase
         clc
@@ -308,9 +315,12 @@ word:   sta (to),y
 full:   rts
 
 dvg_labs:
-        ora dvg_x + 1
+        eor dvg_x + 1           ; the high four bits of A, and the low four of x
+        and #$F0
+        eor dvg_x + 1
         sta dvg_x + 1
         lda dvg_y + 1
+        and #$0F
         ora #$A0
         sta dvg_y + 1
 dvg_pair:
@@ -397,4 +407,70 @@ dvg_close:
         lda publish
         sta dvg_phase
         clc
+        rts
+
+dvg_vector:
+        cmp #$A0
+        bcs beyond              ; no scale is above 9
+        sta length
+        ldx #2                  ; first dvg_x, then dvg_y
+axis:   lda dvg_y + 1,x
+        bpl plus
+        lda dvg_y,x             ; minus is each bit the other way, of 1 less
+        bne less
+        dec dvg_y + 1,x
+less:   dec dvg_y,x
+        lda dvg_y,x
+        eor #$FF
+        sta dvg_y,x
+        lda dvg_y + 1,x
+        eor #$FF
+        cmp #$04
+        bcs beyond
+        ora #$04                ; the sign, which zero never has
+        bne sign                ; always
+plus:   cmp #$04
+        bcs beyond
+sign:   sta dvg_y + 1,x
+        dex
+        dex
+        bpl axis
+        lda dvg_y
+        ora dvg_x
+        bne long                ; a short vector goes by 0, 256, 512 or 768
+        lda length
+        cmp #$20
+        bcc long                ; and its scale is 2 to 5
+        cmp #$60
+        bcs long
+        and #$10                ; bit 0 of the scale
+        lsr a
+        ora dvg_y + 1
+        ora #$F0
+        tax
+        lda length
+        asl a                   ; 16 times the intensity
+        asl a
+        asl a
+        asl a
+        ora dvg_x + 1
+        bit length
+        bvc near
+        ora #$08                ; the scale is 4 or 5
+near:   jmp dvg_put
+
+long:   lda length
+        and #$F0
+        ora dvg_y + 1
+        sta dvg_y + 1
+        lda length
+        asl a
+        asl a
+        asl a
+        asl a
+        ora dvg_x + 1
+        sta dvg_x + 1
+        jmp dvg_pair
+
+beyond: sec
         rts

@@ -254,6 +254,14 @@ static void try_ticks(void)
         call("dvg_ticks", count, any(), any());
         if (action_count != (count ? count : 256)) fail("dvg_ticks", count, action_count, 0);
     }
+    boot(1, 0);
+    tick();
+    int one = cycles, many;
+    call("dvg_ticks", 2, any(), any());
+    many = cycles;
+    call("dvg_ticks", 1, any(), any());
+    cost("dvg_ticks a tick", many - cycles - one);
+    cost("dvg_ticks but its ticks", 2 * cycles - many);
 }
 
 /* Each word, as a first one and as the second one of a LABS, in both halves. */
@@ -323,11 +331,8 @@ static int put(const char *how, int words, int from)
     else {
         memcpy(memory + y, memory + from, 2);
         memcpy(memory + x, memory + from + 2, 2);
-        if (!strcmp(how, "dvg_labs")) {
-            memory[y + 1] &= 15;
-            memory[x + 1] &= 15;
-        }
-        refused = call(how, memory[from + 3] & 0xF0, any(), any());
+        memory[x + 1] ^= strcmp(how, "dvg_labs") ? 0 : any() & 0xF0;
+        refused = call(how, (memory[from + 3] & 0xF0) | (any() & 15), any(), any());
         if (!strcmp(how, "dvg_labs")) memory[from + 1] = (memory[from + 1] & 15) | 0xA0;
     }
     if (!refused && strcmp(how, "dvg_copy")) cost(how, cycles);
@@ -386,6 +391,79 @@ static void try_building(int half, int is_first)
     }
 }
 
+/* --- Vectors --- */
+
+static long vector_count;
+
+/* The words of a vector as a reckoning gives them: how many, or 0, where there is none. */
+static int reckon(int dx, int dy, int scale, int intensity, uint8_t *bytes)
+{
+    int x = abs(dx), y = abs(dy), first, second;
+    if (x > 1023 || y > 1023 || scale > 9) return 0;
+    if (scale >= 2 && scale <= 5 && x % 256 + y % 256 == 0) {
+        first = 15 * 4096 + (scale - 2) % 2 * 2048 + (dy < 0) * 1024 + y + intensity * 16 +
+            (scale - 2) / 2 * 8 + (dx < 0) * 4 + x / 256;
+        second = 0;
+    } else {
+        first = scale * 4096 + (dy < 0) * 1024 + y;
+        second = intensity * 4096 + (dx < 0) * 1024 + x;
+    }
+    for (int i = 0; i < 2; i++) {
+        bytes[i] = (uint8_t)(first >> 8 * i);
+        bytes[2 + i] = (uint8_t)(second >> 8 * i);
+    }
+    return first >> 12 == 15 ? 1 : 2;
+}
+
+/* A move, more often a short one, none, or one at the edge of what is possible. */
+static int some_move(void)
+{
+    static const int edges[] = { 0, 0, 1, 255, 256, 257, 512, 768, 1022, 1023, 1024, 1025, 32767 };
+    int move = any() & 1 ? edges[any() % 13] : (any() | any() << 8) & 0x7FF;
+    return any() & 1 ? -move : move;
+}
+
+static void set_number(const char *name, int value)
+{
+    memory[label(name)] = (uint8_t)value;
+    memory[label(name) + 1] = (uint8_t)(value >> 8);
+}
+
+/* Where there is room, and where there is none. */
+static void try_vector(int place, int half)
+{
+    uint8_t bytes[4];
+    int dx = some_move(), dy = some_move(), scale = any() & 15, intensity = any() & 15;
+    int words = reckon(dx, dy, scale, intensity, bytes), refused;
+    int fits = words && place + words <= 510;
+    set_number("dvg_x", dx);
+    set_number("dvg_y", dy);
+    action_count = 0;
+    refused = call("dvg_vector", 16 * scale + intensity, any(), any());
+    if (refused == fits) fail("a vector", dx, dy, 16 * scale + intensity);
+    if (action_count != (fits ? 2 * words : 0)) fail("its bytes", dx, dy, action_count);
+    for (int i = 0; i < action_count; i++) expect_write(i, base(half) + 2 * place + i, bytes[i]);
+    if (fits) cost(words == 1 ? "dvg_vector of one word" : "dvg_vector of two words", cycles);
+    vector_count++;
+}
+
+/* A long list of vectors by chance, at some places of both halves. */
+static void try_vectors(long count)
+{
+    static const int places[] = { 0, 1, 126, 127, 254, 255, 300, 507, 508, 509, 510 };
+    for (int i = 0; i < 22; i++) {
+        uint8_t kept[0x200];
+        boot(i & 1, 0);
+        call("dvg_open", any(), any(), any());
+        for (int place = 0; place < places[i / 2]; place++) call("dvg_put", any(), 0xF0, 0);
+        memcpy(kept, memory, sizeof kept);
+        for (long k = 0; k < count / 22; k++) {
+            memcpy(memory, kept, sizeof kept);
+            try_vector(places[i / 2], i & 1);
+        }
+    }
+}
+
 /* --- Refusals: nothing happens, and no byte of the driver changes --- */
 
 static void expect_refusal(const char *name, int phase, int publish)
@@ -405,11 +483,11 @@ static void try_refusals(void)
 {
     static const char *const routines[] = {
         "dvg_offer", "dvg_open", "dvg_redraw", "dvg_put", "dvg_pair", "dvg_labs", "dvg_copy",
-        "dvg_close"
+        "dvg_close", "dvg_vector"
     };
     static const int phases[] = { 0, 1, 2, 3, 4, 5, 6, 7, 0x80 };
     for (int i = 0; i < 9; i++)
-        for (int k = 0; k < 8; k++)
+        for (int k = 0; k < 9; k++)
             for (int publish = 3; publish <= 4; publish++) {
                 int right = k < 3 ? IDLE : BUILD;
                 if (phases[i] != right || (k == 2 && publish == 3))
@@ -429,10 +507,10 @@ static void tell_bytes(int size)
 {
     static const char *const routines[] = {
         "dvg_reset", "dvg_run", "dvg_ticks", "dvg_tick", "dvg_offer", "dvg_open", "dvg_redraw",
-        "dvg_put", "dvg_labs", "dvg_pair", "dvg_copy", "dvg_close"
+        "dvg_put", "dvg_labs", "dvg_pair", "dvg_copy", "dvg_close", "dvg_vector"
     };
-    for (int i = 0; i < 12; i++) {
-        int next = i < 11 ? label(routines[i + 1]) : CODE + size;
+    for (int i = 0; i < 13; i++) {
+        int next = i < 12 ? label(routines[i + 1]) : CODE + size;
         printf("%s: %d bytes\n", routines[i], next - label(routines[i]));
     }
     printf("all: %d bytes\n", size);
@@ -467,9 +545,11 @@ int main(int count, char **words)
     word_count = try_words();
     try_waiting();
     for (int kind = 0; kind < 4; kind++) try_building(kind & 1, kind >> 1);
+    try_vectors(1000000);
     try_refusals();
     tell_bytes(size);
     tell_cycles();
-    printf("%ld tables, %ld words, %ld puts\n", table_count, word_count, build_count);
+    printf("%ld tables, %ld words, %ld puts, %ld vectors\n", table_count, word_count, build_count,
+        vector_count);
     return 0;
 }

@@ -157,8 +157,8 @@ MISTAKES = [
      '        cmp #DVG_FLIP\n        nop\n        nop ; '),
     ('a redraw while busy is taken',
      '        lda dvg_phase\n        cmp #DVG_IDLE\n        bne refuse\n'
-     '        lda #DVG_WAIT',
-     '        lda #DVG_WAIT'),
+     '        lda publish',
+     '        lda publish'),
     ('a redraw flips', '        lda #DVG_WAIT\n', '        lda #DVG_FLIP\n'),
     # Several ticks
     ('dvg_ticks does one too few',
@@ -202,6 +202,24 @@ MISTAKES = [
     ('a frame that is built is never published',
      '        sta (to),y\n        lda publish\n',
      '        sta (to),y\n        lda #DVG_IDLE\n'),
+    ('a LABS takes all of y', '        and #$0F\n        ora #$A0', '        ora #$A0'),
+    ('a LABS takes all of x', '        and #$F0\n        eor dvg_x', '        eor dvg_x'),
+    ('a vector has any scale',
+     '        cmp #$A0\n        bcs beyond',
+     '        cmp #$F0\n        bcs beyond'),
+    ('a vector goes one too far back', 'less:   dec dvg_y,x', 'less:'),
+    ('a vector loses a page of its minus',
+     '        bne less\n        dec dvg_y + 1,x\n',
+     ''),
+    ('a vector goes any way back',
+     '        eor #$FF\n        cmp #$04\n        bcs beyond',
+     '        eor #$FF\n        and #$03'),
+    ('a vector goes any way on', 'plus:   cmp #$04\n        bcs beyond', 'plus:   and #$03'),
+    ('a vector has no sign', 'ora #$04                ; the sign', 'ora #$00                ; the sign'),
+    ('a short vector loses a move', '  lda dvg_y\n        ora dvg_x\n', '  lda dvg_y\n'),
+    ('a short vector has scale 6', '        cmp #$60', '        cmp #$70'),
+    ('a short vector has no scale 2', '        cmp #$20', '        cmp #$30'),
+    ('a short vector is slow', '        bvc near', '        bvs near'),
 ]
 
 

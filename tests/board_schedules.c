@@ -468,12 +468,37 @@ static int copy_some(const draft *d, int k)
     return last - k;
 }
 
+/* Ten bits of magnitude and a sign, as dvg_vector takes them. */
+static uint16_t as_number(int word)
+{
+    return (uint16_t)(word & 0x400 ? -(word & 0x3FF) : word & 0x3FF);
+}
+
+/* Puts a vector by its moves, if dvg_vector would not make another word of it. */
+static int put_vector(uint16_t first, uint16_t second, int is_short)
+{
+    int scale = first >> 12, dx = second, dy = first, intensity = second >> 12;
+    if (is_short) {
+        scale = 2 + (first >> 11 & 1) + (first >> 2 & 2);
+        dx = (first & 7) << 8;
+        intensity = first >> 4 & 15;
+    } else if (scale >= 2 && scale <= 5 && !((first | second) & 0xFF)) {
+        return call_with_any("dvg_pair");
+    }
+    set_pair(as_number(dy & (is_short ? 0x700 : 0x7FF)), as_number(dx));
+    return call("dvg_vector", (uint8_t)(16 * scale + intensity), any_byte(), any_byte());
+}
+
 /* Puts some operations from the k-th on, by any of the calls that can. */
 static int put_some(const draft *d, int k)
 {
     uint16_t first = d->word[d->at[k]], second = d->word[d->at[k] + 1];
-    int how = below(3);
+    int how = below(4), is_short = first >> 12 == 15;
     if (how == 0) return copy_some(d, k);
+    if (how == 3 && (is_short || first >> 12 < 10)) {
+        set_pair(first, second);
+        return put_vector(first, second, is_short);
+    }
     if (d->size[k] == 1) return call("dvg_put", (uint8_t)first, (uint8_t)(first >> 8), any_byte());
     if (first >> 12 == 10 && how == 1) {
         set_pair(first & 0xFFF, second & 0xFFF);
@@ -486,9 +511,9 @@ static int put_some(const draft *d, int k)
 static void put_while_busy(void)
 {
     static const char *const routines[] = {
-        "dvg_pair", "dvg_put", "dvg_labs", "dvg_copy", "dvg_close"
+        "dvg_pair", "dvg_put", "dvg_labs", "dvg_copy", "dvg_close", "dvg_vector"
     };
-    call_refused(routines[below(5)], (uint8_t)(2 * below(128)));
+    call_refused(routines[below(6)], (uint8_t)(2 * below(128)));
 }
 
 static void build(int i)

@@ -71,6 +71,21 @@ more:   lda rounds
         ldx #$F1
         jsr dvg_put
         jsr dvg_pair
+        lda #$FE                ; -500 and 256 + rounds, and then 256 and 512
+        sta dvg_x + 1
+        lda #$0C
+        sta dvg_x
+        lda #1
+        sta dvg_y + 1
+        lda #$97
+        jsr dvg_vector
+        lda #0
+        sta dvg_x
+        sta dvg_y
+        lda #2
+        sta dvg_x + 1
+        lda #$47
+        jsr dvg_vector
         lda #<long
         ldx #>long
         ldy rounds
@@ -83,6 +98,8 @@ more:   lda rounds
         jmp more
 full:   jsr dvg_close
         jmp dvg_run
+
+        .res 12                 ; so that no branch ends a page, where sim65 2.18 adds a cycle to it
 
 .segment "RODATA"
 

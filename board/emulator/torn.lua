@@ -15,12 +15,15 @@ local is_open = false
 
 local function tell(...) log:write(string.format(...), "\n") end
 
--- Bit 7 of 2002 is clear where the generator is halted.
+-- Bit 7 of 2002 is clear where the generator is halted. Other scripts see by dvg_looks that it
+-- isn't the program that reads it.
 local function look()
+  dvg_looks = true
   if is_open and (space:read_u8(0x2002) & 0x80) == 0 then
     tell("halted")
     is_open = false
   end
+  dvg_looks = false
 end
 
 dvg_taps = {

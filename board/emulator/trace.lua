@@ -3,6 +3,7 @@
 --
 --     DVG_OUT      the folder that bus.log is written to
 --     DVG_SHOTS    the times of snapshots, in seconds: "1.5 2.25"
+--     DVG_BUTTONS  a file of buttons (buttons.lua), or nothing
 --     DVG_RESETS   how many soft resets come, at random times, by DVG_SEED
 --
 -- The emulator runs a script again after each reset of the machine.
@@ -45,6 +46,12 @@ dvg_taps = {
     if not inside and is_peek() then tell("peek # " .. now()) end
   end),
 }
+
+local buttons = os.getenv("DVG_BUTTONS") or ""
+if buttons ~= "" then
+  dofile(debug.getinfo(1, "S").source:match("^@(.*/)") .. "buttons.lua")
+  assert(dvg_play(buttons))
+end
 
 local shots = {}
 for time in (os.getenv("DVG_SHOTS") or ""):gmatch("[%d.]+") do

@@ -16,7 +16,7 @@ COUNT = 10
 .segment "ZEROPAGE"
 
 beats:     .res 1       ; NMIs since the last picture, each 4 ms
-awake:     .res 1       ; the driver was reset, and may tick
+awake:     .res 1       ; 1: the driver was reset, and no NMI is ticking
 shown:     .res 1       ; pictures
 direction: .res 1       ; of the ship, 0 to 15
 chance:    .res 1
@@ -102,21 +102,22 @@ finish: sta WATCHDOG
         bne finish
         rts
 
-nmi:    pha
-        lda awake
-        beq asleep
+nmi:    lsr awake               ; until its ticks are done, the next NMI only counts
+        bcc asleep
+        pha
         txa
         pha
         tya
         pha
-        lda #24
+        lda #24                 ; at most 53 last less than 4 ms
         jsr dvg_ticks
         pla
         tay
         pla
         tax
-asleep: inc beats
         pla
+        inc awake
+asleep: inc beats
         rti
 .else
 finish = dvg_run

@@ -1,5 +1,5 @@
 -- The ticks that write no byte of a table, by the script.
-use Rattle.std.proofs.Common.{◌≡◌, ◌≢◌, ℕ, zero, suc, inr, ◌*◌, ◌%◌, ◌/◌, ◌<◌, Bool, true, false, not, List, [], ◌∷◌}
+use Rattle.std.proofs.Common.{◌≡◌, ◌≢◌, ℕ, zero, suc, inr, ◌*◌, ◌%◌, ◌/◌, ◌<◌, ◌≤◌, Bool, true, false, not, List, [], ◌∷◌}
 use Rattle.std.proofs.Common.{◌++◌, refl, sym, ap, ◌∙◌, subst, arith, Some}
 use Rattle.std.proofs.lemmas.Nat.Bits.{and_pow}
 use Rattle.std.specs.Prelude.{nat_le, bit_and, bit_xor, ◌==◌, if◌then◌else◌, option_and_then}
@@ -13,11 +13,16 @@ use Rattle.dvg_driver.specs.Place.{Place, Start, Booting, Resting, Writing, Wait
 use Rattle.dvg_driver.specs.Stands.{Stage, StandsAfter, Tells, peeked_after}
 use Rattle.dvg_6502.specs.Processor.{Cpu, Access, Reads, Writes, put, run}
 use Rattle.dvg_6502.specs.Board.{IsLoaded, seen, is_own, tells_halted}
+use Rattle.dvg_6502.specs.Amid.{is_kept, is_code, are_steady, all_in}
 use Rattle.dvg_6502.specs.Holds.{Holds, publish_byte}
 use Rattle.dvg_6502.specs.Routines.{Shows, acted}
 use Rattle.dvg_6502.proofs.Running.{Ends, at}
 use Rattle.dvg_6502.proofs.Memory.{AreSmall, laid, page_of, loaded, put_small, same_out, kept_write, kept_sent}
 use Rattle.dvg_6502.proofs.ShortTicks as short
+
+-- a table of these bounds is among those that are kept
+abbrev pub Covers : (tables : ℕ → Bool) → (begin stop : ℕ) → Type 0
+Covers tables begin stop = (b : ℕ) → begin ≤ b → b < stop → tables b ≡ true
 
 -- the run comes to an RTS with S as it was, after one action that goes on the life
 pub record Acts (q : ℕ) (from : Cpu) (begin stop peeked : ℕ) (life : List Item) : Type 0 where
@@ -34,15 +39,18 @@ pub record Acts (q : ℕ) (from : Cpu) (begin stop peeked : ℕ) (life : List It
   pub holds : Holds (run q steps from).mem begin stop new
   pub loaded : IsLoaded (run q steps from).mem
   pub kept : (b : ℕ) → is_own b ≡ false → b ≢ 0x3000 → (run q steps from).mem b ≡ acted action from.mem b
+  pub steady : (tables : ℕ → Bool) → Covers tables begin stop → are_steady (is_kept tables) q steps from ≡ true
+  pub there : is_code (run q steps from).pc ≡ true
 
 pub close : (q : ℕ) (from : Cpu) (s : ℕ) (mem : ℕ → ℕ) (events : List Access) (action : Action) (new : Stage)
-    (begin stop peeked : ℕ) (life : List Item)
-    → Ends q from s mem (events ++ seen from.log) → s ≡ from.s
+    (begin stop peeked : ℕ) (life : List Item) {reads : List ℕ}
+    → ((tables : ℕ → Bool) → Covers tables begin stop → all_in tables reads ≡ true)
+    → Ends q from s mem (events ++ seen from.log) reads → s ≡ from.s
     → Shows action events → Tells action (tells_halted (from.flags 0))
     → StandsAfter new (peeked_after action (from.mem 0x4001) peeked) (Did action ∷ life)
     → Holds mem begin stop new → IsLoaded mem
     → ((b : ℕ) → is_own b ≡ false → b ≢ 0x3000 → mem b ≡ acted action from.mem b) → Acts q from begin stop peeked life
-close q from s mem events action new begin stop peeked life ends stack shows tells stands holds load kept = record {
+close q from s mem events action new begin stop peeked life held ends stack shows tells stands holds load kept = record {
   steps = ends.steps;
   action = action;
   events = events;
@@ -56,6 +64,8 @@ close q from s mem events action new begin stop peeked life ends stack shows tel
   holds = subst (λ (m : ℕ → ℕ). Holds m begin stop new) (sym ends.memory) holds;
   loaded = subst IsLoaded (sym ends.memory) load;
   kept = λ b own go. ap (λ (m : ℕ → ℕ). m b) ends.memory ∙ kept b own go;
+  steady = λ tables covers. ends.steady tables (held tables covers);
+  there = ends.there;
 }
 
 -- what the look at byte 001 makes of it
@@ -121,7 +131,7 @@ module _ (q a x y s : ℕ) (n z c v : Bool) (mem flags : ℕ → ℕ) (log : Lis
       let f_small : f < 256 = subst (λ k. k < 256) (sym (looked (mem 0x4001))) (free_small now) in
       close q (from 0 (mem 0x11)) s (laid (page 1 f (mem 0x12)) mem) (Reads 0x4001 (mem 0x4001) ∷ []) Peek
       (stage Booting now false) begin stop peeked life
-      (short.start q a x y s n z c v (mem 0x11) (mem 0x12) (mem 0x13) (mem 0x14) (mem 0x15) (mem 0x16) (mem 0x17)
+      (λ tables covers. refl) (short.start q a x y s n z c v (mem 0x11) (mem 0x12) (mem 0x13) (mem 0x14) (mem 0x15) (mem 0x16) (mem 0x17)
       (mem 0x18) (mem 0x19) (mem 0x1A) mem flags log) refl (mem 0x4001, refl) tt
       (record { place = goes Start Peek stands.place; half = refl; flipped = stands.flipped })
       (record { flipped = clear; place = (refl, looked (mem 0x4001), refl) })
@@ -133,7 +143,7 @@ module _ (q a x y s : ℕ) (n z c v : Bool) (mem flags : ℕ → ℕ) (log : Lis
   boot half free true is flag stands clear =
       close q (from 1 free) s (laid (page 1 free (mem 0x12)) mem) (Reads 0x2002 (flags 0) ∷ []) (Read false)
       (stage Booting half false) begin stop peeked life
-      (short.boot q a x y s n z c v free (mem 0x12) (mem 0x13) (mem 0x14) (mem 0x15) (mem 0x16) (mem 0x17) (mem 0x18)
+      (λ tables covers. refl) (short.boot q a x y s n z c v free (mem 0x12) (mem 0x13) (mem 0x14) (mem 0x15) (mem 0x16) (mem 0x17) (mem 0x18)
       (mem 0x19) (mem 0x1A) mem flags log true flag) refl (flags 0, refl, sym (ap not flag)) (sym (ap not flag))
       (record { place = goes Booting (Read false) stands.place; half = stands.half; flipped = stands.flipped })
       (record { flipped = clear; place = (refl, is, refl) })
@@ -143,7 +153,7 @@ module _ (q a x y s : ℕ) (n z c v : Bool) (mem flags : ℕ → ℕ) (log : Lis
   boot half free false is flag stands clear =
       close q (from 1 free) s (laid (page 2 free (mem 0x12)) mem) (Reads 0x2002 (flags 0) ∷ []) (Read true)
       (stage (Resting true) half false) begin stop peeked life
-      (short.boot q a x y s n z c v free (mem 0x12) (mem 0x13) (mem 0x14) (mem 0x15) (mem 0x16) (mem 0x17) (mem 0x18)
+      (λ tables covers. refl) (short.boot q a x y s n z c v free (mem 0x12) (mem 0x13) (mem 0x14) (mem 0x15) (mem 0x16) (mem 0x17) (mem 0x18)
       (mem 0x19) (mem 0x1A) mem flags log false flag) refl (flags 0, refl, sym (ap not flag)) (sym (ap not flag))
       (record { place = goes Booting (Read true) stands.place; half = stands.half; flipped = stands.flipped })
       (record { flipped = clear; place = (refl, is, refl) })
@@ -157,7 +167,7 @@ module _ (q a x y s : ℕ) (n z c v : Bool) (mem flags : ℕ → ℕ) (log : Lis
   rest half free first set is firsts stands clear =
       close q (from 2 free) s (laid (page 2 free (mem 0x12)) mem) [] Idle
       (stage (Resting first) half set) begin stop peeked life
-      (short.idle q a x y s n z c v free (mem 0x12) (mem 0x13) (mem 0x14) (mem 0x15) (mem 0x16) (mem 0x17) (mem 0x18)
+      (λ tables covers. refl) (short.idle q a x y s n z c v free (mem 0x12) (mem 0x13) (mem 0x14) (mem 0x15) (mem 0x16) (mem 0x17) (mem 0x18)
       (mem 0x19) (mem 0x1A) mem flags log) refl refl tt
       (record { place = goes (Resting first) Idle stands.place; half = stands.half; flipped = stands.flipped })
       (record { flipped = clear; place = (refl, is, firsts) })
@@ -171,7 +181,7 @@ module _ (q a x y s : ℕ) (n z c v : Bool) (mem flags : ℕ → ℕ) (log : Lis
   zero_tick half free set is stands clear =
       close q (from 3 free) s (laid (page 4 free (mem 0x12)) (put 0x4000 1 mem)) (Writes 0x4000 1 ∷ []) (Wrote 0 1)
       (stage (Writing (word_zero (other half) false)) half set) begin stop peeked life
-      (short.zero q a x y s n z c v free (mem 0x12) (mem 0x13) (mem 0x14) (mem 0x15) (mem 0x16) (mem 0x17) (mem 0x18)
+      (λ tables covers. refl) (short.zero q a x y s n z c v free (mem 0x12) (mem 0x13) (mem 0x14) (mem 0x15) (mem 0x16) (mem 0x17) (mem 0x18)
       (mem 0x19) (mem 0x1A) mem flags log) refl refl tt
       (record {
         place = goes (Writing (word_zero (other half) true)) (Wrote 0 1) stands.place;
@@ -190,7 +200,7 @@ module _ (q a x y s : ℕ) (n z c v : Bool) (mem flags : ℕ → ℕ) (log : Lis
   flip H0 set stands =
       close q (from 4 0xE2) s (laid (page 5 0xE0 4) (put 0x4001 0xE2 mem)) (Writes 0x4001 0xE2 ∷ []) (Wrote 1 0xE2)
       (stage (Waiting false) H1 true) begin stop peeked life
-      (short.flip q a x y s n z c v 0xE2 (mem 0x12) (mem 0x13) (mem 0x14) (mem 0x15) (mem 0x16) (mem 0x17) (mem 0x18)
+      (λ tables covers. refl) (short.flip q a x y s n z c v 0xE2 (mem 0x12) (mem 0x13) (mem 0x14) (mem 0x15) (mem 0x16) (mem 0x17) (mem 0x18)
       (mem 0x19) (mem 0x1A) mem flags log) refl refl tt
       (record { place = goes (Writing (word_zero H1 false)) (Wrote 1 0xE2) stands.place; half = refl; flipped = refl })
       (record { flipped = refl; place = (refl, refl, refl) })
@@ -200,7 +210,7 @@ module _ (q a x y s : ℕ) (n z c v : Bool) (mem flags : ℕ → ℕ) (log : Lis
   flip H1 set stands =
       close q (from 4 0xE0) s (laid (page 5 0xE2 4) (put 0x4001 0xE0 mem)) (Writes 0x4001 0xE0 ∷ []) (Wrote 1 0xE0)
       (stage (Waiting false) H0 true) begin stop peeked life
-      (short.flip q a x y s n z c v 0xE0 (mem 0x12) (mem 0x13) (mem 0x14) (mem 0x15) (mem 0x16) (mem 0x17) (mem 0x18)
+      (λ tables covers. refl) (short.flip q a x y s n z c v 0xE0 (mem 0x12) (mem 0x13) (mem 0x14) (mem 0x15) (mem 0x16) (mem 0x17) (mem 0x18)
       (mem 0x19) (mem 0x1A) mem flags log) refl refl tt
       (record { place = goes (Writing (word_zero H0 false)) (Wrote 1 0xE0) stands.place; half = refl; flipped = refl })
       (record { flipped = refl; place = (refl, refl, refl) })
@@ -214,7 +224,7 @@ module _ (q a x y s : ℕ) (n z c v : Bool) (mem flags : ℕ → ℕ) (log : Lis
   wait half free first set true is firsts flag stands clear =
       close q (from 5 free) s (laid (page 5 free (mem 0x12)) mem) (Reads 0x2002 (flags 0) ∷ []) (Read false)
       (stage (Waiting first) half set) begin stop peeked life
-      (short.wait q a x y s n z c v free (mem 0x12) (mem 0x13) (mem 0x14) (mem 0x15) (mem 0x16) (mem 0x17) (mem 0x18)
+      (λ tables covers. refl) (short.wait q a x y s n z c v free (mem 0x12) (mem 0x13) (mem 0x14) (mem 0x15) (mem 0x16) (mem 0x17) (mem 0x18)
       (mem 0x19) (mem 0x1A) mem flags log true flag) refl (flags 0, refl, sym (ap not flag)) (sym (ap not flag))
       (record { place = goes (Waiting first) (Read false) stands.place; half = stands.half; flipped = stands.flipped })
       (record { flipped = clear; place = (refl, is, firsts) })
@@ -224,7 +234,7 @@ module _ (q a x y s : ℕ) (n z c v : Bool) (mem flags : ℕ → ℕ) (log : Lis
   wait half free first set false is firsts flag stands clear =
       close q (from 5 free) s (laid (page 6 free (mem 0x12)) mem) (Reads 0x2002 (flags 0) ∷ []) (Read true)
       (stage (Sending first) half set) begin stop peeked life
-      (short.wait q a x y s n z c v free (mem 0x12) (mem 0x13) (mem 0x14) (mem 0x15) (mem 0x16) (mem 0x17) (mem 0x18)
+      (λ tables covers. refl) (short.wait q a x y s n z c v free (mem 0x12) (mem 0x13) (mem 0x14) (mem 0x15) (mem 0x16) (mem 0x17) (mem 0x18)
       (mem 0x19) (mem 0x1A) mem flags log false flag) refl (flags 0, refl, sym (ap not flag)) (sym (ap not flag))
       (record { place = goes (Waiting first) (Read true) stands.place; half = stands.half; flipped = stands.flipped })
       (record { flipped = clear; place = (refl, is, firsts) })
@@ -238,7 +248,7 @@ module _ (q a x y s : ℕ) (n z c v : Bool) (mem flags : ℕ → ℕ) (log : Lis
   send half free first set is firsts stands clear =
       close q (from 6 free) s (laid (page 2 free (mem 0x12)) (put 0x3000 2 mem)) (Writes 0x3000 2 ∷ []) Sent
       (stage (Resting first) half set) begin stop peeked life
-      (short.send q a x y s n z c v free (mem 0x12) (mem 0x13) (mem 0x14) (mem 0x15) (mem 0x16) (mem 0x17) (mem 0x18)
+      (λ tables covers. refl) (short.send q a x y s n z c v free (mem 0x12) (mem 0x13) (mem 0x14) (mem 0x15) (mem 0x16) (mem 0x17) (mem 0x18)
       (mem 0x19) (mem 0x1A) mem flags log) refl (2, refl) tt
       (record { place = goes (Sending first) Sent stands.place; half = stands.half; flipped = stands.flipped })
       (record { flipped = clear; place = (refl, is, firsts) })

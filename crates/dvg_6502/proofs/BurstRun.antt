@@ -1,30 +1,34 @@
 -- The loop of dvg_run that writes a table: a word of it, as the code does it.
-use Rattle.std.proofs.Common.{◌≡◌, ℕ, ◌+◌, ◌-◌, ◌*◌, ◌%◌, ◌<◌, ◌≤◌, Bool, true, false, not, List, ◌∷◌, refl, sym, ap}
+use Rattle.std.proofs.Common.{◌≡◌, ℕ, ◌+◌, ◌-◌, ◌*◌, ◌%◌, ◌<◌, ◌≤◌, Bool, true, false, not, List, [], ◌∷◌, refl, sym, ap}
 use Rattle.std.proofs.Common.{◌∙◌, subst, arith, leb-true}
 use Rattle.std.proofs.lemmas.Bool.{ne_eqb}
 use Rattle.std.proofs.lemmas.Nat.{and_le_l, le_or_r}
-use Rattle.std.specs.Prelude.{nat_eq, nat_le, bit_and, bit_or, if◌then◌else◌}
+use Rattle.std.specs.Prelude.{nat_eq, nat_le, bit_and, bit_or, ◌&&◌, if◌then◌else◌}
 use Rattle.dvg_6502.specs.Processor.{Cpu, Access, Reads, Writes, put, run}
 use Rattle.dvg_6502.specs.Board.{seen, is_hardware}
 use Rattle.dvg_6502.specs.Feed.{moved_byte, put_for, second_then, second_byte}
 use Rattle.dvg_6502.specs.Holds.{publish_byte}
-use Rattle.dvg_6502.proofs.Running.{at, run_more}
-use Rattle.dvg_6502.proofs.Memory.{laid, page_of, put_page, put_out, in_page, in_code}
+use Rattle.dvg_6502.specs.Amid.{is_kept, are_steady, all_in}
+use Rattle.dvg_6502.proofs.Running.{at, run_more, steady_more, IsSteady}
+use Rattle.dvg_6502.proofs.Memory.{laid, page_of, put_page, put_out, in_page, in_code, both_true}
 use Rattle.dvg_6502.proofs.StoredByte.{phase_then, carried}
-use Rattle.dvg_6502.proofs.FedByte.{compared, stays, byte_read, flags_then}
+use Rattle.dvg_6502.proofs.FedByte.{compared, stays, byte_read, flags_then, taken}
 
 -- a run comes to this place, with Y, S, memory and accesses so
-pub record Reaches (q : ℕ) (from : Cpu) (there y s : ℕ) (mem : ℕ → ℕ) (events : List Access) : Type 0 where
+pub record Reaches (q : ℕ) (from : Cpu) (there y s : ℕ) (mem : ℕ → ℕ) (events : List Access)
+    (taken : List ℕ) : Type 0 where
   pub steps : ℕ
   pub pc : (run q steps from).pc ≡ there
   pub place : (run q steps from).y ≡ y
   pub stack : (run q steps from).s ≡ s
   pub memory : (run q steps from).mem ≡ mem
   pub accesses : seen (run q steps from).log ≡ events
+  pub steady : IsSteady q steps taken from
 
-via : (q k : ℕ) (from mid : Cpu) (pc y s : ℕ) (mem : ℕ → ℕ) (events : List Access) → run q k from ≡ mid
-    → Reaches q mid pc y s mem events → Reaches q from pc y s mem events
-via q k from mid pc y s mem events e reaches =
+via : (q k : ℕ) (from mid : Cpu) (pc y s : ℕ) (mem : ℕ → ℕ) (events : List Access) {taken : List ℕ}
+    → run q k from ≡ mid → IsSteady q k taken from → Reaches q mid pc y s mem events taken
+    → Reaches q from pc y s mem events taken
+via q k from mid pc y s mem events e steady reaches =
     let both : run q (reaches.steps + k) from ≡ run q reaches.steps mid = run_more q k reaches.steps from
     ∙ ap (run q reaches.steps) e in
     record {
@@ -34,6 +38,8 @@ via q k from mid pc y s mem events e reaches =
       stack = ap (λ (cpu : Cpu). cpu.s) both ∙ reaches.stack;
       memory = ap (λ (cpu : Cpu). cpu.mem) both ∙ reaches.memory;
       accesses = ap (λ (cpu : Cpu). seen cpu.log) both ∙ reaches.accesses;
+      steady = λ tables is. steady_more (is_kept tables) q k reaches.steps from (steady tables is)
+          (ap (are_steady (is_kept tables) q reaches.steps) e ∙ reaches.steady tables is);
     }
 
 -- where the loop goes after a word: on, or to the tick
@@ -42,24 +48,25 @@ pc_then true true = 0x6815
 pc_then _ _ = 0x6822
 
 -- after the end of a page
-module _ (q s : ℕ) (free : ℕ) (set : Bool) (old t0 t1 pages end second f0 f1 : ℕ) (mem flags : ℕ → ℕ) where
+module _ (q s : ℕ) (held : List ℕ) (free : ℕ) (set : Bool) (old t0 t1 pages end second f0 f1 : ℕ) (mem flags : ℕ → ℕ) where
   abbrev bytes : ℕ → List ℕ
   bytes phase = page_of phase free (publish_byte set) old t0 t1 pages end second f0 f1
 
   abbrev Goal : (ends last : Bool) → Cpu → ℕ → List Access → Type 0
   Goal ends last cpu y events =
-      Reaches q cpu (pc_then ends last) y s (laid (bytes (phase_then ends last (publish_byte set))) mem) events
+      Reaches q cpu (pc_then ends last) y s (laid (bytes (phase_then ends last (publish_byte set))) mem) events held
 
   published : (set' : Bool) (a x y : ℕ) (n z c v : Bool) (log : List Access)
       → Reaches q (at 0x684C a x y s n z c v
       (laid (page_of 0x80 free (publish_byte set') old t0 t1 pages end second f0 f1) mem) flags log) 0x6815 y s
-      (laid (page_of (publish_byte set') free (publish_byte set') old t0 t1 pages end second f0 f1) mem) (seen log)
+      (laid (page_of (publish_byte set') free (publish_byte set') old t0 t1 pages end second f0 f1) mem) (seen log) held
   published true a x y n z c v log = record {
     steps = 3;
     pc = refl;
     place = refl;
     stack = refl;
     accesses = refl;
+    steady = λ tables is. refl;
     memory = put_page 0 4 (page_of 0x80 free 4 old t0 t1 pages end second f0 f1) mem (omega arith) refl;
   }
   published false a x y n z c v log = record {
@@ -68,12 +75,13 @@ module _ (q s : ℕ) (free : ℕ) (set : Bool) (old t0 t1 pages end second f0 f1
     place = refl;
     stack = refl;
     accesses = refl;
+    steady = λ tables is. refl;
     memory = put_page 0 3 (page_of 0x80 free 3 old t0 t1 pages end second f0 f1) mem (omega arith) refl;
   }
 
   on_last_page : (a x y : ℕ) (n z c v : Bool) (log : List Access) (last : Bool) → nat_eq pages 0 ≡ last
       → Goal true last (at 0x6848 a x y s n z c v (laid (bytes 0x80) mem) flags log) y (seen log)
-  on_last_page a x y n z c v log last is = via q 1 _ (told last) _ _ _ _ _ (ap told is) (rest last)
+  on_last_page a x y n z c v log last is = via q 1 _ (told last) _ _ _ _ _ (ap told is) (λ tables is. refl) (rest last)
     where
       told : Bool → Cpu
       told last = at 0x684A pages x y s (nat_le 128 pages) last c v (laid (bytes 0x80) mem) flags
@@ -81,14 +89,14 @@ module _ (q s : ℕ) (free : ℕ) (set : Bool) (old t0 t1 pages end second f0 f1
 
       rest : (last : Bool) → Goal true last (told last) y (seen log)
       rest true = via q 1 _ (at 0x684C pages x y s (nat_le 128 pages) true c v (laid (bytes 0x80) mem) flags
-          (Reads 0x16 pages ∷ log)) _ _ _ _ _ refl
+          (Reads 0x16 pages ∷ log)) _ _ _ _ _ refl (λ tables is. refl)
           (published set pages x y (nat_le 128 pages) true c v (Reads 0x16 pages ∷ log))
-      rest false = record { steps = 1; pc = refl; place = refl; stack = refl; memory = refl; accesses = refl }
+      rest false = record { steps = 1; pc = refl; place = refl; stack = refl; memory = refl; accesses = refl; steady = λ tables is. refl }
 
   same : (a x y : ℕ) (n z c v : Bool) (log : List Access) (ends last : Bool) → nat_eq ((y + 256 - end) % 256) 0 ≡ ends
       → nat_eq pages 0 ≡ last
       → Goal ends last (at 0x6844 a x y s n z c v (laid (bytes 0x80) mem) flags log) y (seen log)
-  same a x y n z c v log ends last is ended = via q 1 _ (told ends) _ _ _ _ _ (ap told is) (rest ends)
+  same a x y n z c v log ends last is ended = via q 1 _ (told ends) _ _ _ _ _ (ap told is) (λ tables is. refl) (rest ends)
     where
       told : Bool → Cpu
       told ends = at 0x6846 a x y s (nat_le 128 ((y + 256 - end) % 256)) ends (nat_le end y) v
@@ -97,13 +105,13 @@ module _ (q s : ℕ) (free : ℕ) (set : Bool) (old t0 t1 pages end second f0 f1
       rest : (ends : Bool) → Goal ends last (told ends) y (seen log)
       rest true = via q 1 _
           (at 0x6848 a x y s (nat_le 128 ((y + 256 - end) % 256)) true (nat_le end y) v (laid (bytes 0x80) mem) flags
-          (Reads 0x17 end ∷ log)) _ _ _ _ _ refl
+          (Reads 0x17 end ∷ log)) _ _ _ _ _ refl (λ tables is. refl)
           (on_last_page a x y (nat_le 128 ((y + 256 - end) % 256)) true (nat_le end y) v
           (Reads 0x17 end ∷ log) last ended)
-      rest false = record { steps = 1; pc = refl; place = refl; stack = refl; memory = refl; accesses = refl }
+      rest false = record { steps = 1; pc = refl; place = refl; stack = refl; memory = refl; accesses = refl; steady = λ tables is. refl }
 
 -- from the store of a high byte on; Y is the byte's place
-module _ (q s : ℕ) (free : ℕ) (set : Bool) (old next t0 t1 pages end second f0 f1 : ℕ) (mem flags : ℕ → ℕ) where
+module _ (q s : ℕ) (held : List ℕ) (free : ℕ) (set : Bool) (old next t0 t1 pages end second f0 f1 : ℕ) (mem flags : ℕ → ℕ) where
   abbrev up : ℕ
   up = (next + 1) % 256
 
@@ -121,13 +129,13 @@ module _ (q s : ℕ) (free : ℕ) (set : Bool) (old next t0 t1 pages end second 
       → in_page to ≡ false → in_code to ≡ false → nat_le 0x200 to ≡ true
       → nat_eq up 0 ≡ wrap → nat_eq ((up + 256 - end) % 256) 0 ≡ ends → nat_eq (carried wrap 255 pages) 0 ≡ last
       → Reaches q (at 0x6839 w x next s n z c v (laid here mem) flags log) (pc_then ends last) up s
-      (laid (moved wrap (phase_then ends last (publish_byte set))) (put to w mem)) (Writes to w ∷ seen log)
+      (laid (moved wrap (phase_then ends last (publish_byte set))) (put to w mem)) (Writes to w ∷ seen log) held
   puts w x n z c v log wrap ends last not_page not_code high wraps ended is =
       via q 1 _ (at 0x683B w x next s n z c v (laid here new) flags (Writes to w ∷ log)) _ _ _ _ _
-      (ap (λ m. at 0x683B w x next s n z c v m flags (Writes to w ∷ log)) (put_out to w here mem not_page not_code))
-      (via q 1 _ (told wrap) _ _ _ _ _ (ap told wraps)
+      (ap (λ m. at 0x683B w x next s n z c v m flags (Writes to w ∷ log)) (put_out to w here mem not_page not_code)) (λ tables is. refl)
+      (via q 1 _ (told wrap) _ _ _ _ _ (ap told wraps) (λ tables is. refl)
       (subst (λ es. Reaches q (told wrap) (pc_then ends last) up s
-      (laid (moved wrap (phase_then ends last (publish_byte set))) new) es) shown (rest wrap is)))
+      (laid (moved wrap (phase_then ends last (publish_byte set))) new) es held) shown (rest wrap is)))
     where
       new : ℕ → ℕ
       new = put to w mem
@@ -140,10 +148,10 @@ module _ (q s : ℕ) (free : ℕ) (set : Bool) (old next t0 t1 pages end second 
 
       rest : (wrap : Bool) → nat_eq (carried wrap 255 pages) 0 ≡ last
           → Reaches q (told wrap) (pc_then ends last) up s
-          (laid (moved wrap (phase_then ends last (publish_byte set))) new) (seen (Writes to w ∷ log))
+          (laid (moved wrap (phase_then ends last (publish_byte set))) new) (seen (Writes to w ∷ log)) held
       rest false is = via q 1 _
-          (at 0x6844 w x up s (nat_le 128 up) false c v (laid here new) flags (Writes to w ∷ log)) _ _ _ _ _ refl
-          (same q s free set old t0 t1 pages end second f0 f1 new flags w x up (nat_le 128 up) false c v
+          (at 0x6844 w x up s (nat_le 128 up) false c v (laid here new) flags (Writes to w ∷ log)) _ _ _ _ _ refl (λ tables is. refl)
+          (same q s held free set old t0 t1 pages end second f0 f1 new flags w x up (nat_le 128 up) false c v
           (Writes to w ∷ log) ends last ended is)
       rest true is =
           let a1 = (f1 + 1) % 256 in
@@ -158,8 +166,8 @@ module _ (q s : ℕ) (free : ℕ) (set : Bool) (old next t0 t1 pages end second 
           ∙ ap (put 0x16 p1) (put_page 5 b1 (page_of 0x80 free (publish_byte set) old t0 t1 pages end second f0 a1)
           new (omega arith) refl)
           ∙ put_page 6 p1 (page_of 0x80 free (publish_byte set) old t0 b1 pages end second f0 a1) new
-          (omega arith) refl))
-          (same q s free set old t0 b1 p1 end second f0 a1 new flags w x up (nat_le 128 p1)
+          (omega arith) refl)) (λ tables is. refl)
+          (same q s held free set old t0 b1 p1 end second f0 a1 new flags w x up (nat_le 128 p1)
           (nat_eq p1 0) c v log' ends last ended is)
 
 -- a word: its low byte at `next`, its high byte after it
@@ -185,6 +193,10 @@ module _ (q s : ℕ) (free : ℕ) (set : Bool) (old next t0 t1 pages end f0 f1 :
   abbrev to1 : ℕ
   to1 = (t0 + 256 * t1 + odd) % 65536
 
+  -- what is taken of the table
+  abbrev held : List ℕ
+  held = from0 ∷ from1 ∷ []
+
   module _ (b0 b1 : ℕ) (b1_small : b1 < 256) (wrap ends last : Bool)
       (read0 : (second : Bool) → laid (page second) mem from0 ≡ b0) (read1 : (second : Bool)
       → laid (page second) (put to0 b0 mem) from1 ≡ b1)
@@ -206,13 +218,19 @@ module _ (q s : ℕ) (free : ℕ) (set : Bool) (old next t0 t1 pages end f0 f1 :
         (second_byte second) f0 (carried wrap 1 f1)) (put to1 w new)
 
     abbrev Puts : Cpu → Bool → ℕ → List Access → Type 0
-    Puts cpu second w log = Reaches q cpu (pc_then ends last) after s (final second w) (Writes to1 w ∷ seen log)
+    Puts cpu second w log = Reaches q cpu (pc_then ends last) after s (final second w) (Writes to1 w ∷ seen log) held
 
     stores : (second : Bool) (w x : ℕ) (n z c v : Bool) (log : List Access)
         → Puts (at 0x6839 w x odd s n z c v (laid (page second) new) flags log) second w log
     stores second w x n z c v log =
-        puts q s free set old odd t0 t1 pages end (second_byte second) f0 f1 new flags w x n z c v log wrap ends last
+        puts q s held free set old odd t0 t1 pages end (second_byte second) f0 f1 new flags w x n z c v log wrap ends last
         page1 code1 high1 wraps ended is
+
+    first_held : (tables : ℕ → Bool) → all_in tables held ≡ true → (tables from0 && true) ≡ true
+    first_held tables is = ap (λ (t : Bool). t && true) (both_true (tables from0) (tables from1 && true) is).0
+
+    second_held : (tables : ℕ → Bool) → all_in tables held ≡ true → (tables from1 && true) ≡ true
+    second_held tables is = (both_true (tables from0) (tables from1 && true) is).1
 
     -- after the load of the high byte
     loads : (second : Bool) (x : ℕ) (n v : Bool) (c : Bool) (log : List Access)
@@ -222,11 +240,11 @@ module _ (q s : ℕ) (free : ℕ) (set : Bool) (old next t0 t1 pages end f0 f1 :
         via q 2 _ (at 0x6839 b1 x odd s false true true v (laid (page false) new) flags
         (Writes 0x18 0 ∷ Reads 0x18 0x80 ∷ log)) _ _ _ _ _
         (ap (λ m. at 0x6839 b1 x odd s false true true v m flags (Writes 0x18 0 ∷ Reads 0x18 0x80 ∷ log))
-        (put_page 8 0 (page true) new (omega arith) refl))
+        (put_page 8 0 (page true) new (omega arith) refl)) (λ tables is. refl)
         (stores false b1 x false true true v (Writes 0x18 0 ∷ Reads 0x18 0x80 ∷ log))
     loads false x n v c log = via q 3 _ (told (nat_le 0xB0 b1)) _ _ _ _ _
         (ap (λ m. at 0x682F b1 x odd s (nat_le 128 ((b1 + 256 - 0xB0) % 256)) (nat_eq ((b1 + 256 - 0xB0) % 256) 0)
-        (nat_le 0xB0 b1) v m flags log') (put_page 8 0 (page false) new (omega arith) refl))
+        (nat_le 0xB0 b1) v m flags log') (put_page 8 0 (page false) new (omega arith) refl)) (λ tables is. refl)
         (opcode (nat_le 0xB0 b1) refl)
       where
         log' : List Access
@@ -252,10 +270,10 @@ module _ (q s : ℕ) (free : ℕ) (set : Bool) (old next t0 t1 pages end f0 f1 :
             (via q 4 _ (at 0x6839 b1 0x80 odd s true false false v (laid (page true) new) flags
             (Writes 0x18 0x80 ∷ log')) _ _ _ _ _
             (ap (λ m. at 0x6839 b1 0x80 odd s true false false v m flags (Writes 0x18 0x80 ∷ log'))
-            (put_page 8 0x80 (page false) new (omega arith) refl))
+            (put_page 8 0x80 (page false) new (omega arith) refl)) (λ tables is. refl)
             (stores true b1 0x80 true false false v (Writes 0x18 0x80 ∷ log')))
         opcode true great = via q 4 _ (found (nat_eq masked 0xC0)) _ _ _ _ _
-            (ap found (compared masked 0xC0 below (omega arith))) (mine (nat_eq masked 0xC0))
+            (ap found (compared masked 0xC0 below (omega arith))) (λ tables is. refl) (mine (nat_eq masked 0xC0))
           where
             below : masked < 256
             below = let less = and_le_l b1 0xDC in omega arith
@@ -278,37 +296,37 @@ module _ (q s : ℕ) (free : ℕ) (set : Bool) (old next t0 t1 pages end f0 f1 :
             mine : (t : Bool) → Puts (found t) false (if t then both else b1) log
             mine true = via q 4 _ (ored false b1 false) _ _ _ _ _
                 (ap (λ t. with_z t (laid (page false) new from1)) flag1 ∙ ap (with_z false) (read1 false)
-                ∙ ap (ored false b1) not_zero)
+                ∙ ap (ored false b1) not_zero) (λ tables is. taken from1 tables _ (second_held tables is))
                 (via q 1 _ (at 0x6839 both b1 odd s (nat_le 128 both) false (nat_le 0xC0 masked) v
-                (laid (page false) new) flags (Reads from1 b1 ∷ Reads 0x11 free ∷ log')) _ _ _ _ _ refl
+                (laid (page false) new) flags (Reads from1 b1 ∷ Reads 0x11 free ∷ log')) _ _ _ _ _ refl (λ tables is. refl)
                 (subst (λ es. Reaches q
                 (at 0x6839 both b1 odd s (nat_le 128 both) false (nat_le 0xC0 masked) v
                 (laid (page false) new) flags (Reads from1 b1 ∷ Reads 0x11 free ∷ log'))
-                (pc_then ends last) after s (final false both) es)
+                (pc_then ends last) after s (final false both) es held)
                 (ap (λ (t : Bool). Writes to1 both ∷ (if t then Reads from1 b1 ∷ seen log else seen log)) device1)
                 (stores false both b1 (nat_le 128 both) false (nat_le 0xC0 masked) v (Reads from1 b1 ∷ Reads 0x11 free
                 ∷ log'))))
             mine false = via q 2 _
                 (at 0x6839 b1 b1 odd s (nat_le 128 b1) (nat_eq b1 0) (nat_le 0xC0 masked) v
-                (laid (page false) new) flags log') _ _ _ _ _ refl
+                (laid (page false) new) flags log') _ _ _ _ _ refl (λ tables is. refl)
                 (stores false b1 b1 (nat_le 128 b1) (nat_eq b1 0) (nat_le 0xC0 masked) v log')
 
     -- the whole word
     pub word : (second : Bool) (a x : ℕ) (n z c v : Bool) (log : List Access)
         → Reaches q (at 0x6822 a x next s n z c v (laid (page second) mem) flags log) (pc_then ends last) after s
         (final (second_then true second b1) (put_for free true second b1))
-        (Writes to1 (put_for free true second b1) ∷ Writes to0 b0 ∷ seen log)
+        (Writes to1 (put_for free true second b1) ∷ Writes to0 b0 ∷ seen log) held
     word second a x n z c v log =
         via q 1 _ (told0 false b0) _ _ _ _ _ (ap (λ t. told0 t (laid (page second) mem from0)) flag0
-        ∙ ap (told0 false) (read0 second))
+        ∙ ap (told0 false) (read0 second)) (λ tables is. taken from0 tables _ (first_held tables is))
         (via q 1 _ (at 0x6826 b0 x next s (nat_le 128 b0) (nat_eq b0 0) c v (laid (page second) new) flags log1) _ _ _
         _ _
         (ap (λ m. at 0x6826 b0 x next s (nat_le 128 b0) (nat_eq b0 0) c v m flags log1)
-        (put_out to0 b0 (page second) mem page0 code0))
+        (put_out to0 b0 (page second) mem page0 code0)) (λ tables is. refl)
         (via q 2 _ (told1 false b1) _ _ _ _ _ (ap (λ t. told1 t (laid (page second) new from1)) flag1
-        ∙ ap (told1 false) (read1 second))
+        ∙ ap (told1 false) (read1 second)) (λ tables is. taken from1 tables _ (second_held tables is))
         (subst (λ es. Reaches q (told1 false b1) (pc_then ends last) after s (final (second_then true second b1) w1)
-        (Writes to1 w1 ∷ es)) quiet
+        (Writes to1 w1 ∷ es) held) quiet
         (loads second x (nat_le 128 b1) v c (Reads from1 b1 ∷ log1)))))
       where
         w1 : ℕ

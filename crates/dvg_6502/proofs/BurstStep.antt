@@ -100,6 +100,8 @@ pub record NextByte (mem : ℕ → ℕ) (begin stop : ℕ) (life : List Item) (o
   pub far : 0x200 ≤ source_in mem
   pub silent : is_hardware (source_in mem) ≡ false
   pub below : source_in mem < 65536
+  pub begun : begin ≤ source_in mem
+  pub ended : source_in mem < stop
   pub low : 0x4002 ≤ goal_in mem
   pub high : goal_in mem < 0x4800
   pub even : mem 0x17 % 2 ≡ 0
@@ -155,6 +157,8 @@ next_byte mem begin stop life feeds odd second parity mark = by f.rest refl
           far = far;
           silent = subst (λ p. is_hardware p ≡ false) zero' first.1;
           below = omega (arith, f.ends, f.top, some);
+          begun = f.after;
+          ended = omega (arith, f.ends, some);
           low = f.low;
           high = omega (arith, f.high, some);
           even = f.even;

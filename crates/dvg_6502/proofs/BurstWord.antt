@@ -1,8 +1,8 @@
 -- A word of dvg_run's loop: what stands after it.
-use Rattle.std.proofs.Common.{◌≡◌, ℕ, zero, suc, ◌+◌, ◌-◌, ◌*◌, ◌%◌, ◌<◌, ◌≤◌, Bool, true, false, List, ◌∷◌, refl}
+use Rattle.std.proofs.Common.{◌≡◌, ℕ, zero, suc, ◌+◌, ◌-◌, ◌*◌, ◌%◌, ◌<◌, ◌≤◌, Bool, true, false, List, [], ◌∷◌, refl}
 use Rattle.std.proofs.Common.{sym, ap, ◌∙◌, subst, arith, eq-eqb, leb-true}
 use Rattle.std.proofs.lemmas.Bool.{ne_eqb}
-use Rattle.std.specs.Prelude.{nat_eq, nat_le, nat_lt, if◌then◌else◌}
+use Rattle.std.specs.Prelude.{nat_eq, nat_le, nat_lt, ◌&&◌, if◌then◌else◌}
 use Rattle.dvg_driver.specs.declared.action.Action.TheVariants.{Wrote}
 use Rattle.dvg_driver.specs.Script.{Item, Did}
 use Rattle.dvg_6502.specs.Processor.{Cpu, Access, Writes, put}
@@ -14,7 +14,8 @@ use Rattle.dvg_6502.proofs.Memory.{AreSmall, laid, page_of, page_in, in_page, in
 use Rattle.dvg_6502.proofs.Memory.{both_true, same_out, kept_write, out_of_page}
 use Rattle.dvg_6502.proofs.StoredByte.{phase_then, carried}
 use Rattle.dvg_6502.proofs.TableTick.{in_ram, not_flag, second_small, put_for_small, carried_small, phase_small}
-use Rattle.dvg_6502.proofs.Acting.{publish_small}
+use Rattle.dvg_6502.proofs.Acting.{Covers, publish_small}
+use Rattle.dvg_6502.specs.Amid.{all_in}
 use Rattle.dvg_6502.proofs.Standing.{Stood, stood_on}
 use Rattle.dvg_6502.proofs.BurstRun.{Reaches, pc_then, word}
 use Rattle.dvg_6502.proofs.BurstStep.{stepped, stepped_page, Feeds, feeds_of, NextByte, next_byte}
@@ -285,22 +286,33 @@ module _ (q y : ℕ) (mem : ℕ → ℕ) (begin stop : ℕ) (life : List Item) (
   abbrev from : (a x : ℕ) (n z c v : Bool) (flags : ℕ → ℕ) (log : List Access) → List ℕ → Cpu
   from a x n z c v flags log page = at 0x6822 a x y q n z c v (laid page mem) flags log
 
+  -- what is taken of the table
+  abbrev pub heads : List ℕ
+  heads = ((mem 0x19 + 256 * mem 0x1A + y) % 65536) ∷ ((mem 0x19 + 256 * mem 0x1A + odd) % 65536) ∷ []
+
+  pub held : (tables : ℕ → Bool) → Covers tables begin stop → all_in tables heads ≡ true
+  held tables covers =
+      ap (λ p. tables p && (tables ((mem 0x19 + 256 * mem 0x1A + odd) % 65536) && true)) from0_is
+      ∙ ap (λ p. tables (source_in vm) && (tables p && true)) from1_is
+      ∙ ap (λ (t : Bool). t && (tables (source_in vm1) && true)) (covers (source_in vm) one.begun one.ended)
+      ∙ ap (λ (t : Bool). t && true) (covers (source_in vm1) two.begun two.ended)
+
   pub writes : (a x : ℕ) (n z c v : Bool) (flags : ℕ → ℕ) (log : List Access)
       → Reaches q (from a x n z c v flags log (page_in mem)) (pc_then ends last) after q final
-      (Writes (goal_in vm1) w1 ∷ Writes (goal_in vm) b0 ∷ seen log)
+      (Writes (goal_in vm1) w1 ∷ Writes (goal_in vm) b0 ∷ seen log) heads
   writes a x n z c v flags log =
       subst (λ p. Reaches q (from a x n z c v flags log (with_mark p (mem 0x12) (mem 0x18)))
-      (pc_then ends last) after q final events) (sym phase)
+      (pc_then ends last) after q final events heads) (sym phase)
       (subst (λ p. Reaches q (from a x n z c v flags log (with_mark 0x80 p (mem 0x18)))
-      (pc_then ends last) after q final events) (sym feeds.publish)
+      (pc_then ends last) after q final events heads) (sym feeds.publish)
       (subst (λ m. Reaches q (from a x n z c v flags log (with_mark 0x80 (publish_byte set) m))
-      (pc_then ends last) after q final events) (sym feeds.feeding.mark)
+      (pc_then ends last) after q final events heads) (sym feeds.feeding.mark)
       (subst (λ p. Reaches q (from a x n z c v flags log (with_mark 0x80 (publish_byte set) (second_byte second)))
       (pc_then ends last) after q (laid page2 (put (goal_in vm1) w1 (put p b0 mem)))
-      (Writes (goal_in vm1) w1 ∷ Writes p b0 ∷ seen log)) to0_is
+      (Writes (goal_in vm1) w1 ∷ Writes p b0 ∷ seen log) heads) to0_is
       (subst (λ p. Reaches q (from a x n z c v flags log (with_mark 0x80 (publish_byte set) (second_byte second)))
       (pc_then ends last) after q (laid page2 (put p w1 (put to0 b0 mem)))
-      (Writes p w1 ∷ Writes to0 b0 ∷ seen log)) to1_is
+      (Writes p w1 ∷ Writes to0 b0 ∷ seen log) heads) to1_is
       (word q q (mem 0x11) set (mem 0x13) y (mem 0x14) (mem 0x15) (mem 0x16) (mem 0x17) (mem 0x19)
       (mem 0x1A) mem flags b0 b1 b1_small wrap ends last
       (λ s. read0 (with_mark 0x80 (publish_byte set) (second_byte s)))

@@ -10,8 +10,9 @@ use Rattle.dvg_driver.specs.Script.{Item, word_zero}
 use Rattle.dvg_driver.specs.Place.{Place, Start, Booting, Resting, Writing, Waiting, Sending, place_of_life}
 use Rattle.dvg_6502.specs.Processor.{Cpu, Access, Reads, Writes, put, run, at_return}
 use Rattle.dvg_6502.specs.Board.{IsLoaded, seen, goal_in}
+use Rattle.dvg_6502.specs.Amid.{is_kept, is_code, are_steady}
 use Rattle.dvg_6502.specs.Holds.{HoldsPlace, IsFeeding, publish_byte}
-use Rattle.dvg_6502.proofs.Running.{at, run_more, returned}
+use Rattle.dvg_6502.proofs.Running.{at, run_more, returned, steady_more}
 use Rattle.dvg_6502.proofs.Memory.{laid, page_of, page_in, known}
 use Rattle.dvg_6502.proofs.StoredByte.{phase_then}
 use Rattle.dvg_6502.proofs.Standing.{Stood}
@@ -31,8 +32,9 @@ Here false q cpu begin stop life = Bursts q cpu begin stop life
 pub record Round (q : ℕ) (cpu : Cpu) (begin stop : ℕ) (life : List Item) : Type 0 where
   pub steps : ℕ
   pub some : 1 ≤ steps
-  pub made : Stretch q cpu steps life
-  pub next : ((at_return q (run q steps cpu) ≡ true) × Stood (run q steps cpu).mem begin stop (made.items ++ life))
+  pub made : Stretch begin stop q cpu steps life
+  pub next : (((at_return q (run q steps cpu) ≡ true) × (is_code (run q steps cpu).pc ≡ true))
+      × Stood (run q steps cpu).mem begin stop (made.items ++ life))
       ⊎ ((at_return q (run q steps cpu) ≡ false)
       × ((there : Bool) × Here there q (run q steps cpu) begin stop (made.items ++ life)))
 
@@ -51,7 +53,7 @@ open_here false q cpu begin stop life here = open_at q cpu 0xB1 (ap cpu.mem here
 
 -- after a stretch that ends at the JSR of dvg_run: a tick, and back to dvg_run
 module _ (q : ℕ) (q_small : q < 256) (cpu : Cpu) (begin stop : ℕ) (life : List Item) (steps : ℕ) (some : 1 ≤ steps)
-    (made : Stretch q cpu steps life)
+    (made : Stretch begin stop q cpu steps life)
     (at_pc : (run q steps cpu).pc ≡ 0x6815) (at_q : (run q steps cpu).s ≡ q)
     (stood : Stood (run q steps cpu).mem begin stop (made.items ++ life)) where
   abbrev mid : Cpu
@@ -99,6 +101,11 @@ module _ (q : ℕ) (q_small : q < 256) (cpu : Cpu) (begin stop : ℕ) (life : Li
         ap place_of_life (append_items turned.made.items made.items life)
             ∙ turned.made.placed.1,
       );
+      steady = λ tables covers. steady_more (is_kept tables) q (turned.steps + steps) 1 cpu
+          (steady_more (is_kept tables) q steps turned.steps cpu (made.steady tables covers)
+          (turned.made.steady tables covers))
+          (ap (are_steady (is_kept tables) q 1) (run_more q steps turned.steps cpu
+          ∙ sym (state_is fin 0x6818 q turned.pc turned.stack turned.stood.loaded)));
     };
     next = inr (
       ap (at_return q) whole ∙ open_here true q head begin stop (items ++ life) there,
@@ -130,15 +137,16 @@ module _ (q : ℕ) (q_small : q < 256) (a x y : ℕ) (n z c v : Bool) (mem flags
   idles is = record {
     steps = 4;
     some = omega arith;
-    made = idle_stretch q (from 2) 4 begin stop life mem stood refl;
-    next = inl (returned q (run q 4 (from 2)) refl refl, stood_as 2 is);
+    made = idle_stretch q (from 2) 4 begin stop life mem stood refl (λ tables. refl);
+    next = inl ((returned q (run q 4 (from 2)) refl refl, refl), stood_as 2 is);
   }
 
   -- the phases that have a tick of their own; each is known
   ticks : (phase : ℕ) → mem 0x10 ≡ phase → (run q 6 (from phase)).pc ≡ 0x6815 → (run q 6 (from phase)).s ≡ q
-      → (run q 6 (from phase)).mem ≡ laid (page phase) mem → seen (run q 6 (from phase)).log ≡ seen log → Goal phase
-  ticks phase is pc s memory quiet = ticked q q_small (from phase) begin stop life 6 (omega arith)
-      (idle_stretch q (from phase) 6 begin stop life mem stood quiet) pc s
+      → (run q 6 (from phase)).mem ≡ laid (page phase) mem → seen (run q 6 (from phase)).log ≡ seen log
+      → ((tables : ℕ → Bool) → are_steady (is_kept tables) q 6 (from phase) ≡ true) → Goal phase
+  ticks phase is pc s memory quiet steady = ticked q q_small (from phase) begin stop life 6 (omega arith)
+      (idle_stretch q (from phase) 6 begin stop life mem stood quiet steady) pc s
       (subst (λ (m : ℕ → ℕ). Stood m begin stop life) (sym memory) (stood_as phase is))
 
   -- a table is being written: a tick where its next byte is a high one, and else the loop
@@ -151,14 +159,15 @@ module _ (q : ℕ) (q_small : q < 256) (a x y : ℕ) (n z c v : Bool) (mem flags
       let six : run q 6 (from 0x80) ≡ run q 1 (told true) = run_more q 5 1 (from 0x80)
       ∙ ap (λ t. run q 1 (told t)) parity in
       ticks 0x80 is (ap (λ (k : Cpu). k.pc) six) (ap (λ (k : Cpu). k.s) six) (ap (λ (k : Cpu). k.mem) six)
-      (ap (λ (k : Cpu). seen k.log) six)
+      (ap (λ (k : Cpu). seen k.log) six) (λ tables. refl)
   feeds false is parity =
       let six : run q 6 (from 0x80) ≡ run q 1 (told false) = run_more q 5 1 (from 0x80)
       ∙ ap (λ t. run q 1 (told t)) parity in
       record {
         steps = 6;
         some = omega arith;
-        made = idle_stretch q (from 0x80) 6 begin stop life mem stood (ap (λ (k : Cpu). seen k.log) six);
+        made = idle_stretch q (from 0x80) 6 begin stop life mem stood (ap (λ (k : Cpu). seen k.log) six)
+            (λ tables. refl);
         next = inr (ap (at_return q) six, (false, subst (λ (k : Cpu). Bursts q k begin stop life) (sym six) bursts));
       }
     where
@@ -199,19 +208,19 @@ module _ (q : ℕ) (q_small : q < 256) (a x y : ℕ) (n z c v : Bool) (mem flags
 
       by : (place : Place) → stood.stage.place ≡ place
           → HoldsPlace mem begin stop stood.stage.place stood.stage.half stood.stage.flipped → Goal (mem 0x10)
-      by Start is h = let e = (subst abbrev_stage is h).0 in as_phase 0 e (ticks 0 e refl refl refl refl)
-      by Booting is h = let e = (subst abbrev_stage is h).0 in as_phase 1 e (ticks 1 e refl refl refl refl)
+      by Start is h = let e = (subst abbrev_stage is h).0 in as_phase 0 e (ticks 0 e refl refl refl refl (λ tables. refl))
+      by Booting is h = let e = (subst abbrev_stage is h).0 in as_phase 1 e (ticks 1 e refl refl refl refl (λ tables. refl))
       by (Resting first) is h = let e = (subst abbrev_stage is h).0 in as_phase 2 e (idles e)
-      by (Waiting first) is h = let e = (subst abbrev_stage is h).0 in as_phase 5 e (ticks 5 e refl refl refl refl)
-      by (Sending first) is h = let e = (subst abbrev_stage is h).0 in as_phase 6 e (ticks 6 e refl refl refl refl)
+      by (Waiting first) is h = let e = (subst abbrev_stage is h).0 in as_phase 5 e (ticks 5 e refl refl refl refl (λ tables. refl))
+      by (Sending first) is h = let e = (subst abbrev_stage is h).0 in as_phase 6 e (ticks 6 e refl refl refl refl (λ tables. refl))
       by (Writing writes) is h = part (subst abbrev_stage is h).1
         where
           part : IsFeeding mem begin stop stood.stage.half stood.stage.flipped writes
               ⊎ ((mem 0x10 ≡ 3) × (writes ≡ word_zero (other stood.stage.half) true))
               ⊎ ((mem 0x10 ≡ 4) × (writes ≡ word_zero (other stood.stage.half) false)) → Goal (mem 0x10)
           part (inl f) = as_phase 0x80 f.phase (feeds (nat_eq (mem 0x13 % 2) 1) f.phase refl)
-          part (inr (inl three)) = as_phase 3 three.0 (ticks 3 three.0 refl refl refl refl)
-          part (inr (inr four)) = as_phase 4 four.0 (ticks 4 four.0 refl refl refl refl)
+          part (inr (inl three)) = as_phase 3 three.0 (ticks 3 three.0 refl refl refl refl (λ tables. refl))
+          part (inr (inr four)) = as_phase 4 four.0 (ticks 4 four.0 refl refl refl refl (λ tables. refl))
 
 -- where no table is being written, the place's byte doesn't matter
 place_free : (v : ℕ) (mem : ℕ → ℕ) (begin stop : ℕ) (life : List Item) → IsLoaded mem → nat_eq (mem 0x10) 0x80 ≡ false
@@ -287,6 +296,7 @@ module _ (q : ℕ) (q_small : q < 256) (a x y : ℕ) (n z c v : Bool) (mem flags
   w1 = word.w1 q y mem begin stop life load phase even stood
 
   reach : Reaches q low (pc_then ends last) after q final (Writes g1 w1 ∷ Writes g0 b0 ∷ seen log)
+      (word.heads q y mem begin stop life load phase even stood)
   reach = word.writes q y mem begin stop life load phase even stood a x n z c v flags log
 
   stood2 : Stood (put 0x13 after final) begin stop (item1 ∷ item0 ∷ life)
@@ -299,13 +309,15 @@ module _ (q : ℕ) (q_small : q < 256) (a x y : ℕ) (n z c v : Bool) (mem flags
   some zero is = absurd (let e : y ≡ ((y + 1) % 256 + 1) % 256 = is in omega (arith, e, y_small))
   some (suc steps) is = omega arith
 
-  made : Stretch q low reach.steps life
+  made : Stretch begin stop q low reach.steps life
   made = record {
     items = item1 ∷ item0 ∷ [];
     accesses = Writes g1 w1 ∷ Writes g0 b0 ∷ [];
     logged = reach.accesses;
     shown = (shows g1 w1 high1, (shows g0 b0 high0, tt));
     placed = (stood2.stage.place, stood2.stands.place);
+    steady = λ tables covers. reach.steady tables
+        (word.held q y mem begin stop life load phase even stood tables covers);
   }
     where
       high0 : 0x4002 ≤ g0
@@ -390,14 +402,14 @@ rounds (suc fuel) k less there q cpu begin stop life q_small here = by one.next 
     one : Round q cpu begin stop life
     one = round there q cpu begin stop life q_small here
 
-    by : ((at_return q (run q one.steps cpu) ≡ true)
+    by : (((at_return q (run q one.steps cpu) ≡ true) × (is_code (run q one.steps cpu).pc ≡ true))
         × Stood (run q one.steps cpu).mem begin stop (one.made.items ++ life))
         ⊎ ((at_return q (run q one.steps cpu) ≡ false)
         × ((there : Bool) × Here there q (run q one.steps cpu) begin stop (one.made.items ++ life)))
         → ((j : ℕ) → j < fuel → (there : Bool) (q : ℕ) (cpu : Cpu) (begin stop : ℕ) (life : List Item) → q < 256
         → Here there q cpu begin stop life → Goes q j cpu begin stop life)
         → Goes q k cpu begin stop life
-    by (inl done) more = finish q k cpu begin stop life one.steps one.made done.0 done.1
+    by (inl done) more = finish q k cpu begin stop life one.steps one.made done.0.0 done.0.1 done.1
     by (inr next) more = go_on q k cpu begin stop life one.steps one.made one.some next.0
         (λ j below. more j (omega (arith, less, below)) next.1.0 q (run q one.steps cpu) begin stop
         (one.made.items ++ life) q_small next.1.1)

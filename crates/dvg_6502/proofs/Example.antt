@@ -1,70 +1,270 @@
--- A reset and a tick, over a memory of zeros with the code.
-use Rattle.std.proofs.Common.{◌≡◌, ℕ, ◌<◌, false, List, [], ◌∷◌, refl, sym, ap, ◌∙◌, arith}
-use Rattle.dvg_driver.specs.declared.action.Action.TheVariants.{Peek}
-use Rattle.dvg_driver.specs.Script.{Did}
+-- A boot and an offer, over a memory of zeros with the code and a table.
+use Rattle.std.proofs.Common.{◌≡◌, ℕ, zero, suc, ◌+◌, ◌-◌, ◌%◌, ◌<◌, Bool, true, false, eqb-true, List, [], ◌∷◌}
+use Rattle.std.proofs.Common.{refl, sym, ap, ◌∙◌, arith, cond}
+use Rattle.std.proofs.lemmas.List.Elements.{All-cons, All-nil}
+use Rattle.std.specs.Prelude.{◌||◌, ◌&&◌, nat_eq, nat_le, nat_lt, if◌then◌else◌, slice_index, pos}
+use Rattle.dvg_code.specs.declared.instr.Instr.TheVariants.{Labs, Vctr}
+use Rattle.dvg_mem.specs.declared.half.Half.TheVariants.{H1}
+use Rattle.dvg_frame.specs.declared.op.OpKind.TheVariants.{Draw, Halt}
+use Rattle.dvg_frame.specs.Ops.{IsOp, IsDraft}
+use Rattle.dvg_frame.specs.Faults.{Accepts}
+use Rattle.dvg_driver.specs.declared.action.Action.TheVariants.{Peek, Read}
+use Rattle.dvg_driver.specs.Script.{Did, Offered}
 use Rattle.dvg_6502.specs.Processor.{Cpu, put, run}
-use Rattle.dvg_6502.specs.Board.{IsLoaded}
+use Rattle.dvg_6502.specs.Amid.{AreHarmless, guards, is_kept}
+use Rattle.dvg_6502.specs.Board.{is_hardware}
+use Rattle.dvg_6502.specs.Tables.{HasTable, table_of}
 use Rattle.dvg_6502.specs.Routines.{Enters}
 use Rattle.dvg_6502.specs.Calls
-use Rattle.dvg_6502.specs.Calls.{Call, IsUntouched}
-use Rattle.dvg_6502.specs.Joined.{SomeCalls}
+use Rattle.dvg_6502.specs.Calls.{Call, IsUntouched, IsSession, IsLifeOf}
+use Rattle.dvg_6502.specs.Build.{IsPut}
+use Rattle.dvg_6502.specs.Joined.{stroke, SomeCalls, SomeLogs}
 use Rattle.dvg_6502.proofs.Running.{at}
-use Rattle.dvg_6502.proofs.Memory.{laid, page_of, put_page, loaded}
+use Rattle.dvg_6502.proofs.BuiltFrame.{built_accepted}
+use Rattle.dvg_6502.proofs.Interrupted.{still_harmless, once, once_harmless}
+use Rattle.dvg_6502.proofs.Memory.{laid, page_of, put_page, loaded, AreSmall}
 
-abbrev page : ℕ → List ℕ
-page publish = page_of 0 0 publish 0 0 0 0 0 0 0 0
+-- the table's bytes: the number of words, and the words
+abbrev table : List ℕ
+table = 5 ∷ 0 ∷ 0x00 ∷ 0xA2 ∷ 0x00 ∷ 0x02 ∷ 0x00 ∷ 0x90 ∷ 0x64 ∷ 0x70 ∷ 0x00 ∷ 0xB0 ∷ []
 
-abbrev zeros : ℕ → ℕ
-zeros b = 0
+abbrev world : ℕ → ℕ
+world b = if nat_le 0x5000 b && nat_lt b 0x500C then slice_index table (b - 0x5000) else 0
 
-abbrev state : ℕ → (ℕ → ℕ) → Cpu
-state pc mem = at pc 0 0 0 0xFF false false false false mem zeros []
+byte_of : (t : Bool) (i : ℕ) → cond t (slice_index table i) 0 < 256
+byte_of false i = omega arith
+byte_of true zero = omega arith
+byte_of true (suc zero) = omega arith
+byte_of true (suc (suc zero)) = omega arith
+byte_of true (suc (suc (suc zero))) = omega arith
+byte_of true (suc (suc (suc (suc zero)))) = omega arith
+byte_of true (suc (suc (suc (suc (suc zero))))) = omega arith
+byte_of true (suc (suc (suc (suc (suc (suc zero)))))) = omega arith
+byte_of true (suc (suc (suc (suc (suc (suc (suc zero))))))) = omega arith
+byte_of true (suc (suc (suc (suc (suc (suc (suc (suc zero)))))))) = omega arith
+byte_of true (suc (suc (suc (suc (suc (suc (suc (suc (suc zero))))))))) = omega arith
+byte_of true (suc (suc (suc (suc (suc (suc (suc (suc (suc (suc zero)))))))))) = omega arith
+byte_of true (suc (suc (suc (suc (suc (suc (suc (suc (suc (suc (suc zero))))))))))) = omega arith
+byte_of true (suc (suc (suc (suc (suc (suc (suc (suc (suc (suc (suc (suc i)))))))))))) = omega arith
+
+abbrev page : (phase free publish : ℕ) → List ℕ
+page phase free publish = page_of phase free publish 0 0 0 0 0 0 0 0
+
+abbrev memory : (phase free publish : ℕ) → ℕ → ℕ
+memory phase free publish = laid (page phase free publish) world
+
+abbrev state : (pc x phase free publish : ℕ) → Cpu
+state pc x phase free publish =
+    at pc 0 x 0 0xFF false false false false (memory phase free publish) (λ n. 0) []
+
+-- a call that nobody interrupts
+abbrev quiet : Calls.Routine → ℕ → Cpu → Call
+quiet routine steps from =
+    record { routine = routine; from = from; steps = steps; others = λ k. (run from.s k from).mem }
 
 abbrev reset : Call
-reset = record { routine = Calls.Reset; from = state 0x6800 (laid (page 0) zeros); steps = 4 }
+reset = quiet Calls.Reset 4 (state 0x6800 0 0 0 0)
 
-abbrev tick : Call
-tick = record { routine = Calls.Tick; from = state 0x686A (laid (page 3) zeros); steps = 8 }
+abbrev peek : Call
+peek = quiet Calls.Tick 8 (state 0x686A 0 0 0 3)
 
-has_code : (publish : ℕ) → publish < 256 → IsLoaded (laid (page publish) zeros)
-has_code publish small = loaded (page publish) zeros (
-  omega arith,
-  (
-    omega arith,
-    (
-      small,
-      (
-        omega arith,
-        (omega arith, (omega arith, (omega arith, (omega arith, (omega arith, (omega arith, (omega arith, tt))))))),
-      ),
-    ),
-  ),
-)
-    (λ b. omega arith)
+abbrev look : Call
+look = quiet Calls.Tick 8 (state 0x686A 0 1 0xE2 3)
 
-enters : (pc publish : ℕ) → publish < 256 → Enters (state pc (laid (page publish) zeros)) pc
-enters pc publish small = record {
+-- an NMI has come: it has counted, and below S stands what it pushed
+abbrev nmi : (ℕ → ℕ) → ℕ → ℕ
+nmi mem = put 0 ((mem 0 + 1) % 256) (put 0x1FD 0x30 (put 0x1FE 0x6E (put 0x1FF 0x68 mem)))
+
+abbrev offer : Call
+offer = record {
+  routine = Calls.Offer stroke;
+  from = state 0x68FE 0x50 2 0xE2 3;
+  steps = 33;
+  others = once 3 nmi 0xFF (state 0x68FE 0x50 2 0xE2 3);
+}
+
+small : (phase free publish : ℕ) → phase < 256 → free < 256 → publish < 256 → AreSmall (page phase free publish)
+small phase free publish a b c =
+    (a, (b, (c, (omega arith, (omega arith, (omega arith, (omega arith, (omega arith, (omega arith, (omega arith, (omega arith, tt)))))))))))
+
+enters : (pc x phase free publish : ℕ) → x < 256 → phase < 256 → free < 256 → publish < 256
+    → Enters (state pc x phase free publish) pc
+enters pc x phase free publish few a b c = record {
   entry = refl;
   log = refl;
-  loaded = has_code publish small;
+  loaded = loaded (page phase free publish) world (small phase free publish a b c)
+      (λ b. byte_of (nat_le 0x5000 b && nat_lt b 0x500C) (b - 0x5000));
   a = omega arith;
-  x = omega arith;
+  x = few;
   s = omega arith;
 }
 
-after_reset : (run 0xFF 4 (state 0x6800 (laid (page 0) zeros))).mem ≡ laid (page 3) zeros
-after_reset = ap (put 0x12 3) (put_page 0 0 (page 0) zeros (omega arith) refl)
-    ∙ put_page 2 3 (page 0) zeros (omega arith) refl
+-- what memory is after a call is what it is before the next one
+untouched : (calls : List Call) (before now : ℕ → ℕ) → before ≡ now → IsUntouched calls before now
+untouched calls before now e = record {
+  own = λ b is. ap (λ (m : ℕ → ℕ). m b) (sym e);
+  ram = λ b is. ap (λ (m : ℕ → ℕ). m b) (sym e);
+  table = λ writing b low high. ap (λ (m : ℕ → ℕ). m b) (sym e);
+}
 
-same : (b : ℕ) → laid (page 3) zeros b ≡ (run 0xFF 4 (state 0x6800 (laid (page 0) zeros))).mem b
-same b = ap (λ (m : ℕ → ℕ). m b) (sym after_reset)
+after_reset : (run 0xFF 4 reset.from).mem ≡ memory 0 0 3
+after_reset = ap (put 0x12 3) (put_page 0 0 (page 0 0 0) world (omega arith) refl)
+    ∙ put_page 2 3 (page 0 0 0) world (omega arith) refl
 
-untouched : IsUntouched (reset ∷ []) (run 0xFF 4 (state 0x6800 (laid (page 0) zeros))).mem (laid (page 3) zeros)
-untouched = record { own = λ b h. same b; ram = λ b h. same b; table = λ writing b low high. same b }
+after_peek : (run 0xFF 8 peek.from).mem ≡ memory 1 0xE2 3
+after_peek = ap (put 0x10 1) (put_page 1 0xE2 (page 0 0 3) world (omega arith) refl)
+    ∙ put_page 0 1 (page 0 0xE2 3) world (omega arith) refl
+
+after_look : (run 0xFF 8 look.from).mem ≡ memory 2 0xE2 3
+after_look = put_page 0 2 (page 1 0xE2 3) world (omega arith) refl
+
+alone : (guard : ℕ → ℕ → Bool) (n : ℕ) (cpu : Cpu) → AreHarmless guard cpu.s (λ k. (run cpu.s k cpu).mem) n cpu
+alone guard n cpu = still_harmless guard cpu.s n cpu
+
+abbrev kept : ℕ → Bool
+kept = is_kept (Calls.is_table offer (look ∷ peek ∷ reset ∷ []))
+
+differs : (p b : ℕ) → kept p ≡ false → (kept b || false) ≡ true → nat_eq b p ≡ false
+differs p b out is = by (nat_eq b p) refl
+  where
+    by : (t : Bool) → nat_eq b p ≡ t → nat_eq b p ≡ false
+    by false e = e
+    by true e = absurd (let k = ap (λ q. kept q || false) (eqb-true b p e) ∙ ap (λ (t : Bool). t || false) out in
+        let f = sym is ∙ k in cc)
+
+nmi_leaves : (mem : ℕ → ℕ) (b : ℕ) → (kept b || false) ≡ true → nmi mem b ≡ mem b
+nmi_leaves mem b is =
+    ap (λ (t : Bool). if t then (mem 0 + 1) % 256 else put 0x1FD 0x30 (put 0x1FE 0x6E (put 0x1FF 0x68 mem)) b)
+    (differs 0 b refl is)
+    ∙ ap (λ (t : Bool). if t then 0x30 else put 0x1FE 0x6E (put 0x1FF 0x68 mem) b) (differs 0x1FD b refl is)
+    ∙ ap (λ (t : Bool). if t then 0x6E else put 0x1FF 0x68 mem b) (differs 0x1FE b refl is)
+    ∙ ap (λ (t : Bool). if t then 0x68 else mem b) (differs 0x1FF b refl is)
+
+nmi_alone : AreHarmless (guards kept 0xFF) 0xFF offer.others 33 offer.from
+nmi_alone = once_harmless (guards kept 0xFF) nmi 3 0xFF 33 offer.from
+    (λ b is. nmi_leaves (run 0xFF 3 offer.from).mem b is)
+
+words_at : (k : ℕ) → k < 10 → memory 2 0xE2 3 (0x5002 + k) ≡ slice_index (table_of stroke) k
+words_at zero h = refl
+words_at (suc zero) h = refl
+words_at (suc (suc zero)) h = refl
+words_at (suc (suc (suc zero))) h = refl
+words_at (suc (suc (suc (suc zero)))) h = refl
+words_at (suc (suc (suc (suc (suc zero))))) h = refl
+words_at (suc (suc (suc (suc (suc (suc zero)))))) h = refl
+words_at (suc (suc (suc (suc (suc (suc (suc zero))))))) h = refl
+words_at (suc (suc (suc (suc (suc (suc (suc (suc zero)))))))) h = refl
+words_at (suc (suc (suc (suc (suc (suc (suc (suc (suc zero))))))))) h = refl
+words_at (suc (suc (suc (suc (suc (suc (suc (suc (suc (suc k)))))))))) h = absurd (omega arith)
+
+far : (k : ℕ) → k < 10 → is_hardware (0x5002 + k) ≡ false
+far zero h = refl
+far (suc zero) h = refl
+far (suc (suc zero)) h = refl
+far (suc (suc (suc zero))) h = refl
+far (suc (suc (suc (suc zero)))) h = refl
+far (suc (suc (suc (suc (suc zero))))) h = refl
+far (suc (suc (suc (suc (suc (suc zero)))))) h = refl
+far (suc (suc (suc (suc (suc (suc (suc zero))))))) h = refl
+far (suc (suc (suc (suc (suc (suc (suc (suc zero)))))))) h = refl
+far (suc (suc (suc (suc (suc (suc (suc (suc (suc zero))))))))) h = refl
+far (suc (suc (suc (suc (suc (suc (suc (suc (suc (suc k)))))))))) h = absurd (omega arith)
+
+vector_is : IsOp (Draw (Vctr 9 (pos 100) (pos 0) 7))
+vector_is = ((omega arith, omega arith, omega arith, omega arith), refl)
+
+labs_is : IsOp (Draw (Labs 512 512 0))
+labs_is = ((omega arith, omega arith, omega arith), refl)
+
+has_table : HasTable (memory 2 0xE2 3) 0x5000 stroke
+has_table = record {
+  fit = (labs_is, tt, (vector_is, tt, (tt, tt, tt)));
+  some = omega arith;
+  fits = omega arith;
+  count = refl;
+  table = words_at;
+  head = (refl, refl);
+  far = far;
+  low = omega arith;
+  ends = omega arith;
+}
+
+enters_reset : Enters reset.from 0x6800
+enters_reset = enters 0x6800 0 0 0 0 (omega arith) (omega arith) (omega arith) (omega arith)
+
+session_reset : IsSession (reset ∷ [])
+session_reset = (enters_reset, tt, alone (guards (is_kept (Calls.is_table reset [])) 0xFF) 4 reset.from, tt)
+
+session_peek : IsSession (peek ∷ reset ∷ [])
+session_peek = (
+  enters 0x686A 0 0 0 3 (omega arith) (omega arith) (omega arith) (omega arith),
+  tt,
+  alone (guards (is_kept (Calls.is_table peek (reset ∷ []))) 0xFF) 8 peek.from,
+  ((refl, untouched (reset ∷ []) (run 0xFF 4 reset.from).mem (memory 0 0 3) after_reset), session_reset),
+)
+
+session_look : IsSession (look ∷ peek ∷ reset ∷ [])
+session_look = (
+  enters 0x686A 0 1 0xE2 3 (omega arith) (omega arith) (omega arith) (omega arith),
+  tt,
+  alone (guards (is_kept (Calls.is_table look (peek ∷ reset ∷ []))) 0xFF) 8 look.from,
+  ((refl, untouched (peek ∷ reset ∷ []) (run 0xFF 8 peek.from).mem (memory 1 0xE2 3) after_peek), session_peek),
+)
+
+session : IsSession (offer ∷ look ∷ peek ∷ reset ∷ [])
+session = (
+  enters 0x68FE 0x50 2 0xE2 3 (omega arith) (omega arith) (omega arith) (omega arith),
+  has_table,
+  nmi_alone,
+  ((refl, untouched (look ∷ peek ∷ reset ∷ []) (run 0xFF 8 look.from).mem (memory 2 0xE2 3) after_look), session_look),
+)
+
+life_peek : IsLifeOf (peek ∷ reset ∷ []) (Did Peek ∷ [])
+life_peek = (Did Peek ∷ [], [], refl, ((0, refl), tt), ([], [], refl, (refl, refl), refl))
+
+life_look : IsLifeOf (look ∷ peek ∷ reset ∷ []) (Did (Read true) ∷ Did Peek ∷ [])
+life_look = (Did (Read true) ∷ [], Did Peek ∷ [], refl, ((0, refl, refl), tt), life_peek)
 
 pub some_calls : SomeCalls
 some_calls = (
-  tick ∷ reset ∷ [],
-  (enters 0x686A 3 (omega arith), tt, ((refl, untouched), (enters 0x6800 0 (omega arith), tt, tt))),
-  (Did Peek ∷ [], [], refl, ((0, refl), tt), ([], [], refl, (refl, refl), refl)),
+  offer,
+  look ∷ peek ∷ reset ∷ [],
+  session,
+  (Offered H1 stroke ∷ [], Did (Read true) ∷ Did Peek ∷ [], refl, (refl, refl), life_look),
+  refl,
+  refl,
+)
+
+draft : IsDraft stroke
+draft = record {
+  count = omega arith;
+  ops = All-cons IsOp (Draw (Labs 512 512 0)) (Draw (Vctr 9 (pos 100) (pos 0) 7) ∷ Halt ∷ []) labs_is
+      (All-cons IsOp (Draw (Vctr 9 (pos 100) (pos 0) 7)) (Halt ∷ []) vector_is (All-cons IsOp Halt [] tt (All-nil IsOp)));
+}
+
+accepted : (R : List ℕ) → Accepts stroke R
+accepted R = built_accepted R 512 512 0 (Draw (Vctr 9 (pos 100) (pos 0) 7) ∷ [])
+    (All-cons (IsPut R) (Draw (Vctr 9 (pos 100) (pos 0) 7)) [] refl (All-nil (IsPut R))) (omega arith)
+
+answered : Calls.IsAnswered (Calls.Offer stroke) false (Did (Read true) ∷ Did Peek ∷ [])
+answered = record {
+  from = offer.from;
+  steps = 33;
+  others = offer.others;
+  calls = look ∷ peek ∷ reset ∷ [];
+  session = session;
+  makes = life_look;
+  returns = refl;
+  carry = refl;
+}
+
+pub some_logs : SomeLogs
+some_logs R image rom is = (
+  (accepted R, answered),
+  draft,
+  (
+    ((look ∷ peek ∷ reset ∷ [], session_look, life_look), refl),
+    tt,
+    (((peek ∷ reset ∷ [], session_peek, life_peek), tt), tt, (rom, is)),
+  ),
 )

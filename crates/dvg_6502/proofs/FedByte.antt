@@ -1,11 +1,12 @@
 -- The tick that writes a byte of a table, from its entry.
-use Rattle.std.proofs.Common.{◌≡◌, ℕ, suc, ◌+◌, ◌-◌, ◌*◌, ◌%◌, ◌<◌, ◌≤◌, Bool, true, false, not, List, ◌∷◌, refl, sym}
+use Rattle.std.proofs.Common.{◌≡◌, ℕ, suc, ◌+◌, ◌-◌, ◌*◌, ◌%◌, ◌<◌, ◌≤◌, Bool, true, false, not, List, [], ◌∷◌, refl, sym}
 use Rattle.std.proofs.Common.{ap, ◌∙◌, subst, arith, eqb-true, eq-eqb, leb-true}
 use Rattle.std.proofs.lemmas.Bool.{eqb-false, ne_eqb, leb-false}
 use Rattle.std.proofs.lemmas.Nat.{and_le_l}
-use Rattle.std.specs.Prelude.{nat_eq, nat_le, bit_and, bit_or, if◌then◌else◌}
+use Rattle.std.specs.Prelude.{nat_eq, nat_le, bit_and, bit_or, if◌then◌else◌, ◌&&◌, ◌||◌}
 use Rattle.dvg_6502.specs.Processor.{Cpu, Access, Reads, Writes, put}
-use Rattle.dvg_6502.specs.Board.{seen, is_hardware}
+use Rattle.dvg_6502.specs.Board.{seen, is_hardware, is_own}
+use Rattle.dvg_6502.specs.Amid.{is_work, is_kept, is_code}
 use Rattle.dvg_6502.specs.Feed.{moved_byte, put_for, second_then, second_byte}
 use Rattle.dvg_6502.proofs.Running.{Ends, on, at, seen_as}
 use Rattle.dvg_6502.proofs.Memory.{laid, page_of, put_page, in_page, in_code}
@@ -35,6 +36,19 @@ byte_read is_flag flags byte = if is_flag then flags 0 else byte
 abbrev pub flags_then : Bool → (ℕ → ℕ) → ℕ → ℕ
 flags_then is_flag flags = if is_flag then (λ n. flags (suc n)) else flags
 
+-- a stretch that ends with the read of another's byte
+pub taken : (b : ℕ) (tables : ℕ → Bool) (u : Bool) → (tables b && true) ≡ true
+    → ((((is_kept tables b || u) && true) && true) && true) ≡ true
+taken b tables u is = by (is_own b) (is_work b) (is_code b) (is_hardware b) (tables b) is
+  where
+    by : (o f c h t : Bool) → (t && true) ≡ true → (((((o || (f || (c || (h || t)))) || u) && true) && true) && true) ≡ true
+    by true f c h t is = refl
+    by false true c h t is = refl
+    by false false true h t is = refl
+    by false false false true t is = refl
+    by false false false false true is = refl
+    by false false false false false is = absurd (cc)
+
 module _ (q s : ℕ) (free publish next t0 t1 pages end f0 f1 : ℕ) (mem flags : ℕ → ℕ) where
   abbrev from : Bool → List ℕ
   from second = page_of 0x80 free publish next t0 t1 pages end (second_byte second) f0 f1
@@ -63,9 +77,9 @@ module _ (q s : ℕ) (free publish next t0 t1 pages end f0 f1 : ℕ) (mem flags 
     -- the store, at either mark
     stores : (second : Bool) (w x : ℕ) (n z c v : Bool) (log : List Access)
         → Ends q (at 0x68E4 w x next s n z c v (laid (from second) mem) flags log) s
-        (laid (after second wrap phase) (put to w mem)) (Writes to w ∷ seen log)
+        (laid (after second wrap phase) (put to w mem)) (Writes to w ∷ seen log) (source ∷ [])
     stores second w x n z c v log =
-        store q s free publish next t0 t1 pages end (second_byte second) f0 f1 mem flags w x n z c v log wrap ends
+        store q s (source ∷ []) free publish next t0 t1 pages end (second_byte second) f0 f1 mem flags w x n z c v log wrap ends
         last not_page not_code high wraps ended is
 
     -- after the load
@@ -73,21 +87,21 @@ module _ (q s : ℕ) (free publish next t0 t1 pages end f0 f1 : ℕ) (mem flags 
         → laid (from true) mem source ≡ byte → laid (from false) mem source ≡ byte
         → Ends q (at 0x68C4 byte x next s n (nat_eq byte 0) odd v (laid (from second) mem) flags log) s
         (laid (after (second_then odd second byte) wrap phase) (put to (put_for free odd second byte) mem))
-        (Writes to (put_for free odd second byte) ∷ seen log)
+        (Writes to (put_for free odd second byte) ∷ seen log) (source ∷ [])
     loads false second byte x n v log small reads reads' =
-        on q 1 _ (at 0x68E4 byte x next s n (nat_eq byte 0) false v (laid (from second) mem) flags log) s _ _ refl
+        on q 1 _ (at 0x68E4 byte x next s n (nat_eq byte 0) false v (laid (from second) mem) flags log) s _ _ refl (λ tables held. refl)
         (stores second byte x n (nat_eq byte 0) false v log)
     loads true true byte x n v log small reads reads' =
         on q 3 _ (at 0x68E4 byte x next s false true true v (laid (from false) mem) flags
         (Writes 0x18 0 ∷ Reads 0x18 0x80 ∷ log)) s _ _
         (ap (λ m. at 0x68E4 byte x next s false true true v m flags (Writes 0x18 0 ∷ Reads 0x18 0x80 ∷ log))
-        (put_page 8 0 (from true) mem (omega arith) refl))
+        (put_page 8 0 (from true) mem (omega arith) refl)) (λ tables held. refl)
         (stores false byte x false true true v (Writes 0x18 0 ∷ Reads 0x18 0x80 ∷ log))
     loads true false byte x n v log small reads reads' =
         on q 4 _ (told (nat_le 0xB0 byte)) s _ _
         (ap (λ m. at 0x68CC byte x next s (nat_le 128 ((byte + 256 - 0xB0) % 256))
         (nat_eq ((byte + 256 - 0xB0) % 256) 0) (nat_le 0xB0 byte) v m flags log')
-        (put_page 8 0 (from false) mem (omega arith) refl))
+        (put_page 8 0 (from false) mem (omega arith) refl)) (λ tables held. refl)
         (opcode (nat_le 0xB0 byte) refl)
       where
         log' : List Access
@@ -109,17 +123,17 @@ module _ (q s : ℕ) (free publish next t0 t1 pages end f0 f1 : ℕ) (mem flags 
 
         opcode : (great : Bool) → nat_le 0xB0 byte ≡ great
             → Ends q (told great) s (laid (after (not great) wrap phase) (put to (moved_byte free byte) mem))
-            (Writes to (moved_byte free byte) ∷ seen log)
+            (Writes to (moved_byte free byte) ∷ seen log) (source ∷ [])
         opcode false less =
             let e : byte ≡ moved_byte free byte = sym (stays free byte less) in
-            subst (λ w. Ends q (told false) s (laid (after true wrap phase) (put to w mem)) (Writes to w ∷ seen log)) e
+            subst (λ w. Ends q (told false) s (laid (after true wrap phase) (put to w mem)) (Writes to w ∷ seen log) (source ∷ [])) e
             (on q 4 _ (at 0x68E4 byte 0x80 next s true false false v (laid (from true) mem) flags
             (Writes 0x18 0x80 ∷ log')) s _ _
             (ap (λ m. at 0x68E4 byte 0x80 next s true false false v m flags (Writes 0x18 0x80 ∷ log'))
-            (put_page 8 0x80 (from false) mem (omega arith) refl))
+            (put_page 8 0x80 (from false) mem (omega arith) refl)) (λ tables held. refl)
             (stores true byte 0x80 true false false v (Writes 0x18 0x80 ∷ log')))
         opcode true great = on q 4 _ (found (nat_eq masked 0xC0)) s _ _
-            (ap found (compared masked 0xC0 below (omega arith))) (mine (nat_eq masked 0xC0))
+            (ap found (compared masked 0xC0 below (omega arith))) (λ tables held. refl) (mine (nat_eq masked 0xC0))
           where
             below : masked < 256
             below = let less = and_le_l byte 0xDC in omega arith
@@ -136,9 +150,10 @@ module _ (q s : ℕ) (free publish next t0 t1 pages end f0 f1 : ℕ) (mem flags 
 
             mine : (t : Bool) → Ends q (found t) s
                 (laid (after false wrap phase) (put to (if t then both else byte) mem))
-                (Writes to (if t then both else byte) ∷ seen log)
+                (Writes to (if t then both else byte) ∷ seen log) (source ∷ [])
             mine true = on q 4 _ (ored false byte) s _ _
                 (ap (λ t. ored t (laid (from false) mem source)) not_flag ∙ ap (ored false) reads')
+                (λ tables held. taken source tables _ held)
                 (seen_as q _ s _ (Writes to both ∷ seen (Reads source byte ∷ Reads 0x11 free ∷ log'))
                 (Writes to both ∷ seen log)
                 (ap (λ (t : Bool). Writes to both ∷ (if t then Reads source byte ∷ seen log else seen log)) device)
@@ -148,20 +163,21 @@ module _ (q s : ℕ) (free publish next t0 t1 pages end f0 f1 : ℕ) (mem flags 
                 (at 0x68D6 byte byte next s (nat_le 128 byte) false (nat_le 0xC0 masked) v
                 (laid (from false) mem) flags log') s _ _
                 (ap (λ z. at 0x68D6 byte byte next s (nat_le 128 byte) z (nat_le 0xC0 masked) v
-                (laid (from false) mem) flags log') not_zero)
+                (laid (from false) mem) flags log') not_zero) (λ tables held. refl)
                 (on q 1 _ (at 0x68E4 byte byte next s (nat_le 128 byte) false (nat_le 0xC0 masked) v
-                (laid (from false) mem) flags log') s _ _ refl
+                (laid (from false) mem) flags log') s _ _ refl (λ tables held. refl)
                 (stores false byte byte (nat_le 128 byte) false (nat_le 0xC0 masked) v log'))
 
     pub writes : (a x y : ℕ) (n z c v : Bool) (log : List Access) (odd second : Bool) (byte : ℕ) → byte < 256
         → laid (from true) mem source ≡ byte → laid (from false) mem source ≡ byte → nat_eq (next % 2) 1 ≡ odd
         → Ends q (at 0x686A a x y s n z c v (laid (from second) mem) flags log) s
         (laid (after (second_then odd second byte) wrap phase) (put to (put_for free odd second byte) mem))
-        (Writes to (put_for free odd second byte) ∷ seen log)
+        (Writes to (put_for free odd second byte) ∷ seen log) (source ∷ [])
     writes a x y n z c v log odd second byte small reads reads' parity =
         on q 6 _ (told false byte odd) s _ _
         (ap (λ t. told t (laid (from second) mem source) (nat_eq (next % 2) 1)) not_flag
         ∙ ap (λ b. told false b (nat_eq (next % 2) 1)) (same_read second) ∙ ap (told false byte) parity)
+        (λ tables held. taken source tables _ held)
         (seen_as q (told false byte odd) s _ (Writes to (put_for free odd second byte) ∷ seen log')
         (Writes to (put_for free odd second byte) ∷ seen log)
         (ap (λ (t : Bool). Writes to (put_for free odd second byte)

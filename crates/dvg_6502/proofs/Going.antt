@@ -10,6 +10,9 @@ use Rattle.dvg_6502.specs.Board.{seen}
 use Rattle.dvg_6502.specs.Calls.{AreShown}
 use Rattle.dvg_6502.proofs.Running.{run_more}
 use Rattle.dvg_6502.proofs.Growing.{GoesOn, Splits, split, within, same_end, stays, run_on, seen_append}
+use Rattle.dvg_6502.specs.Amid.{is_kept, is_code, are_steady}
+use Rattle.dvg_6502.proofs.Steady.{steady_all, steady_on, code_kept}
+use Rattle.dvg_6502.proofs.Acting.{Covers}
 use Rattle.dvg_6502.proofs.Standing.{Stood, place_of_rest, shown_rest}
 
 pub append_items : (a b c : List Item) → (a ++ b) ++ c ≡ a ++ (b ++ c)
@@ -29,6 +32,11 @@ shown_both (Did action ∷ new) old (access ∷ now) before a b = (a.0, shown_bo
 shown_both (Offered half F ∷ new) old now before a b = absurd a
 shown_both (Asked ∷ new) old now before a b = absurd a
 
+-- these steps take guarded bytes alone
+abbrev pub Keeps : (begin stop q k : ℕ) → Cpu → Type 0
+Keeps begin stop q k cpu =
+    (tables : ℕ → Bool) → Covers tables begin stop → are_steady (is_kept tables) q k cpu ≡ true
+
 -- what k steps of a call make of a life; where it has returned, a driver stands
 pub record Goes (q k : ℕ) (cpu : Cpu) (begin stop : ℕ) (life : List Item) : Type 0 where
   pub items : List Item
@@ -37,20 +45,23 @@ pub record Goes (q k : ℕ) (cpu : Cpu) (begin stop : ℕ) (life : List Item) : 
   pub shown : AreShown items accesses
   pub placed : (place : Place) × (place_of_life (items ++ life) ≡ Some place)
   pub stands : at_return q (run q k cpu) ≡ true → Stood (run q k cpu).mem begin stop (items ++ life)
+  pub steady : Keeps begin stop q k cpu
 
 -- a stretch of steps, and what it makes of a life
-pub record Stretch (q : ℕ) (cpu : Cpu) (steps : ℕ) (life : List Item) : Type 0 where
+pub record Stretch (begin stop q : ℕ) (cpu : Cpu) (steps : ℕ) (life : List Item) : Type 0 where
   pub items : List Item
   pub accesses : List Access
   pub logged : seen (run q steps cpu).log ≡ accesses ++ seen cpu.log
   pub shown : AreShown items accesses
   pub placed : (place : Place) × (place_of_life (items ++ life) ≡ Some place)
+  pub steady : Keeps begin stop q steps cpu
 
-module _ (q k : ℕ) (cpu : Cpu) (begin stop : ℕ) (life : List Item) (steps : ℕ) (made : Stretch q cpu steps life) where
+module _ (q k : ℕ) (cpu : Cpu) (begin stop : ℕ) (life : List Item) (steps : ℕ)
+    (made : Stretch begin stop q cpu steps life) where
   -- within the stretch
   part : GoesOn (seen (run q steps cpu).log) (seen (run q k cpu).log) → (at_return q (run q k cpu) ≡ true → ⊥)
-      → Goes q k cpu begin stop life
-  part on unreturned =
+      → Keeps begin stop q k cpu → Goes q k cpu begin stop life
+  part on unreturned all =
       let base = run_on q k cpu in
       let now = seen base.0 in
       let logged : seen (run q k cpu).log ≡ now ++ seen cpu.log = ap seen base.1 ∙ seen_append base.0 cpu.log in
@@ -66,13 +77,19 @@ module _ (q k : ℕ) (cpu : Cpu) (begin stop : ℕ) (life : List Item) (steps : 
         placed = place_of_rest rest.0 (rest.1 ++ life) made.placed.0
             (sym (ap place_of_life (ap (λ l. l ++ life) rest.2 ∙ append_items rest.0 rest.1 life)) ∙ made.placed.1);
         stands = λ here. absurd (unreturned here);
+        steady = all;
       }
 
   -- the call returns at the stretch's end
-  pub finish : at_return q (run q steps cpu) ≡ true → Stood (run q steps cpu).mem begin stop (made.items ++ life)
+  pub finish : at_return q (run q steps cpu) ≡ true → is_code (run q steps cpu).pc ≡ true
+      → Stood (run q steps cpu).mem begin stop (made.items ++ life)
       → Goes q k cpu begin stop life
-  finish there stood = by (at_return q (run q k cpu)) refl
+  finish there code stood = by (at_return q (run q k cpu)) refl
     where
+      all : Keeps begin stop q k cpu
+      all tables covers = steady_all (is_kept tables) q steps k cpu (made.steady tables covers) there
+          (code_kept tables (run q steps cpu).pc code)
+
       by : (t : Bool) → at_return q (run q k cpu) ≡ t → Goes q k cpu begin stop life
       by true here =
           let same = same_end q k steps cpu here there in
@@ -83,19 +100,24 @@ module _ (q k : ℕ) (cpu : Cpu) (begin stop : ℕ) (life : List Item) (steps : 
             shown = made.shown;
             placed = made.placed;
             stands = λ again. subst (λ (c : Cpu). Stood c.mem begin stop (made.items ++ life)) (sym same) stood;
+            steady = all;
           }
       by false unfinished = inside (within q k steps cpu there)
         where
           inside : (run q k cpu ≡ run q steps cpu) ⊎ GoesOn (seen (run q steps cpu).log) (seen (run q k cpu).log)
               → Goes q k cpu begin stop life
           inside (inl same) = absurd (let e = ap (at_return q) same ∙ there in cc)
-          inside (inr on) = part on (λ here. absurd (cc))
+          inside (inr on) = part on (λ here. absurd (cc)) all
 
   -- the call goes on from the stretch's end
   pub go_on : 1 ≤ steps → at_return q (run q steps cpu) ≡ false
       → ((j : ℕ) → j < k → Goes q j (run q steps cpu) begin stop (made.items ++ life)) → Goes q k cpu begin stop life
   go_on some open_yet rest = by (split k steps)
     where
+      all : Keeps begin stop q k cpu
+      all tables covers = steady_on (is_kept tables) q steps k cpu (made.steady tables covers)
+          (λ j is. (rest j (omega (arith, is, some))).steady tables covers)
+
       by : Splits k steps → Goes q k cpu begin stop life
       by (inl less) =
           let more = run_on q less.0 (run q k cpu) in
@@ -107,7 +129,7 @@ module _ (q k : ℕ) (cpu : Cpu) (begin stop : ℕ) (life : List Item) (steps : 
                 ∙ seen_append more.0 (run q k cpu).log,
           )
           (λ here. absurd (let e = sym open_yet ∙ ap (at_return q) (to_end ∙ stays q less.0 (run q k cpu) here)
-          ∙ here in cc))
+          ∙ here in cc)) all
       by (inr above) =
           let on = rest above.0 (omega (arith, above.1, some)) in
           let same : run q k cpu ≡ run q above.0 (run q steps cpu) = ap (λ j. run q j cpu) above.1
@@ -124,4 +146,5 @@ module _ (q k : ℕ) (cpu : Cpu) (begin stop : ℕ) (life : List Item) (steps : 
                 subst (λ l. Stood (run q k cpu).mem begin stop l) (sym (append_items on.items made.items life))
                 (subst (λ (c : Cpu). Stood c.mem begin stop (on.items ++ (made.items ++ life))) (sym same)
                 (on.stands there));
+            steady = all;
           }

@@ -1,5 +1,9 @@
 pub mod Running
+pub mod Alike
+pub mod Masks
 pub mod Memory
+pub mod AmidStep
+pub mod AmidRun
 pub mod ShortTicks
 pub mod StoredByte
 pub mod FedByte
@@ -11,8 +15,11 @@ pub mod Acting
 pub mod TableTick
 pub mod Ticking
 pub mod OfferRun
+pub mod BuildRun
+pub mod PairRun
 pub mod Offering
 pub mod Growing
+pub mod Steady
 pub mod Standing
 pub mod Going
 pub mod TickCall
@@ -24,6 +31,15 @@ pub mod DvgRun
 pub mod Vectors
 pub mod MoveVectors
 pub mod ComputeVectors
+pub mod BuiltFrame
+pub mod BuildScript
+pub mod Building
+pub mod Closing
+pub mod Decided
+pub mod Whole
+mod ExampleFrame
+pub mod Plain
 pub mod Sessions
+pub mod Interrupted
 pub mod Joined
 pub mod Example

@@ -13,7 +13,7 @@ abbrev pub in_page : ℕ → Bool
 in_page b = nat_le 0x10 b && nat_lt b 0x1B
 
 abbrev pub in_code : ℕ → Bool
-in_code b = nat_le 0x6800 b && nat_lt b 0x6957
+in_code b = nat_le 0x6800 b && nat_lt b 0x6A87
 
 -- a memory with these bytes from 0010 on and the code at its place
 abbrev pub laid : List ℕ → (ℕ → ℕ) → ℕ → ℕ
@@ -106,9 +106,9 @@ module _ (mem : ℕ → ℕ) where
   within_page b is = let two = both_true (nat_le 0x10 b) (nat_lt b 0x1B) is in
       (leb-true 0x10 b two.0, leb-true (suc b) 0x1B two.1)
 
-  within_code : (b : ℕ) → in_code b ≡ true → (0x6800 ≤ b) × (b < 0x6957)
-  within_code b is = let two = both_true (nat_le 0x6800 b) (nat_lt b 0x6957) is in
-      (leb-true 0x6800 b two.0, leb-true (suc b) 0x6957 two.1)
+  within_code : (b : ℕ) → in_code b ≡ true → (0x6800 ≤ b) × (b < 0x6A87)
+  within_code b is = let two = both_true (nat_le 0x6800 b) (nat_lt b 0x6A87) is in
+      (leb-true 0x6800 b two.0, leb-true (suc b) 0x6A87 two.1)
 
   choose : (t u : Bool) (x y z : ℕ) → (t ≡ true → x ≡ z) → (u ≡ true → y ≡ z) → z ≡ cond t x (cond u y z)
   choose true u x y z one two = sym (one refl)
@@ -121,7 +121,7 @@ module _ (mem : ℕ → ℕ) where
       (slice_index code (b - 0x6800)) (mem b)
       (λ is. let there = within_page b is in let small : b - 0x10 < 11 = omega (arith, there.0, there.1) in
       let back : 0x10 + (b - 0x10) ≡ b = omega (arith, there.0) in in_list (b - 0x10) small ∙ ap mem back)
-      (λ is. let there = within_code b is in let small : b - 0x6800 < 343 = omega (arith, there.0, there.1) in
+      (λ is. let there = within_code b is in let small : b - 0x6800 < 647 = omega (arith, there.0, there.1) in
       let back : 0x6800 + (b - 0x6800) ≡ b = omega (arith, there.0) in sym (load.code (b - 0x6800) small)
       ∙ ap mem back))
 
@@ -154,12 +154,12 @@ pub loaded : (page : List ℕ) (mem : ℕ → ℕ) → AreSmall page → ((b : �
 loaded page mem all bytes = record {
   code = λ i h.
       let low : nat_le 0x6800 (0x6800 + i) ≡ true = le-leb 0x6800 (0x6800 + i) (omega arith) in
-      let high : nat_lt (0x6800 + i) 0x6957 ≡ true = le-leb (suc (0x6800 + i)) 0x6957 (omega arith) in
+      let high : nat_lt (0x6800 + i) 0x6A87 ≡ true = le-leb (suc (0x6800 + i)) 0x6A87 (omega arith) in
       let over : nat_lt (0x6800 + i) 0x1B ≡ false = le_not (suc (0x6800 + i)) 0x1B (omega arith) in
       let above : nat_le 0x10 (0x6800 + i) ≡ true = le-leb 0x10 (0x6800 + i) (omega arith) in
       let back : 0x6800 + i - 0x6800 ≡ i = omega arith in
       coded (nat_le 0x10 (0x6800 + i)) (nat_lt (0x6800 + i) 0x1B) (nat_le 0x6800 (0x6800 + i))
-      (nat_lt (0x6800 + i) 0x6957)
+      (nat_lt (0x6800 + i) 0x6A87)
       (slice_index page (0x6800 + i - 0x10)) (slice_index code (0x6800 + i - 0x6800))
       (mem (0x6800 + i)) above over low high
       ∙ ap (slice_index code) back;

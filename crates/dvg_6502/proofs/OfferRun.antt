@@ -1,12 +1,12 @@
 -- dvg_reset, dvg_offer and dvg_redraw, as the code does them.
-use Rattle.std.proofs.Common.{◌≡◌, ℕ, ◌+◌, ◌-◌, ◌*◌, ◌%◌, ◌<◌, Bool, true, false, List, ◌∷◌, refl, ap, ◌∙◌, subst}
+use Rattle.std.proofs.Common.{◌≡◌, ℕ, ◌+◌, ◌-◌, ◌*◌, ◌%◌, ◌<◌, Bool, true, false, List, [], ◌∷◌, refl, ap, ◌∙◌, subst}
 use Rattle.std.proofs.Common.{arith}
-use Rattle.std.specs.Prelude.{nat_eq, nat_le, if◌then◌else◌}
+use Rattle.std.specs.Prelude.{nat_eq, nat_le, ◌&&◌, if◌then◌else◌}
 use Rattle.dvg_6502.specs.Processor.{Cpu, Access, Reads, Writes, put, run, bit_of}
 use Rattle.dvg_6502.specs.Board.{seen, is_hardware}
 use Rattle.dvg_6502.proofs.Running.{Comes, by, at}
-use Rattle.dvg_6502.proofs.Memory.{laid, page_of, put_page}
-use Rattle.dvg_6502.proofs.FedByte.{compared, byte_read, flags_then}
+use Rattle.dvg_6502.proofs.Memory.{laid, page_of, put_page, both_true}
+use Rattle.dvg_6502.proofs.FedByte.{compared, byte_read, flags_then, taken}
 
 abbrev pub free_of : Bool → ℕ
 free_of true = 0xE2
@@ -23,55 +23,62 @@ module _ (q a x y s : ℕ) (n z c v : Bool) (free next t0 t1 pages end second f0
 
   pub reset : (phase publish : ℕ)
       → Comes q (at 0x6800 a x y s n z c v (laid (page phase publish) mem) flags log) s c (laid (page 0 3) mem)
-      (seen log)
+      (seen log) []
   reset phase publish = record {
     steps = 4;
     returns = refl;
     stack = refl;
     carry = refl;
     accesses = refl;
+    steady = λ tables is. refl;
+    there = refl;
     memory = ap (put 0x12 3) (put_page 0 0 (page phase publish) mem (omega arith) refl)
         ∙ put_page 2 3 (page 0 publish) mem (omega arith) refl;
   }
 
   pub offer_refuses : (phase publish : ℕ) → phase < 256 → nat_eq phase 2 ≡ false
       → Comes q (at 0x68FE a x y s n z c v (laid (page phase publish) mem) flags log) s true
-      (laid (page phase publish) mem) (seen log)
+      (laid (page phase publish) mem) (seen log) []
   offer_refuses phase publish small not_idle =
-      by q 2 _ (told false) s _ _ _ (ap told (compared phase 2 small (omega arith) ∙ not_idle))
-      (record { steps = 2; returns = refl; stack = refl; carry = refl; memory = refl; accesses = refl })
+      by q 2 _ (told false) s _ _ _ (ap told (compared phase 2 small (omega arith) ∙ not_idle)) (λ tables is. refl)
+      (record { steps = 2; returns = refl; stack = refl; carry = refl; memory = refl; accesses = refl; steady = λ tables is. refl; there = refl })
     where
       told : Bool → Cpu
       told t = at 0x6902 a x phase s (nat_le 128 ((phase + 256 - 2) % 256)) t (nat_le 2 phase) v
           (laid (page phase publish) mem) flags (Reads 0x10 phase ∷ log)
 
   pub redraw_takes : Comes q (at 0x6943 a x y s n z c v (laid (page 2 4) mem) flags log) s false (laid (page 5 4) mem)
-      (seen log)
+      (seen log) []
   redraw_takes = record {
     steps = 9;
     returns = refl;
     stack = refl;
     carry = refl;
     accesses = refl;
+    steady = λ tables is. refl;
+    there = refl;
     memory = put_page 0 5 (page 2 4) mem (omega arith) refl;
   }
 
   -- nothing was published
-  pub redraw_first : (phase : ℕ)
-      → Comes q (at 0x6943 a x y s n z c v (laid (page phase 3) mem) flags log) s true (laid (page phase 3) mem)
-      (seen log)
-  redraw_first phase = record { steps = 4; returns = refl; stack = refl; carry = refl; accesses = refl; memory = refl }
+  pub redraw_first : Comes q (at 0x6943 a x y s n z c v (laid (page 2 3) mem) flags log) s true (laid (page 2 3) mem)
+      (seen log) []
+  redraw_first = record { steps = 7; returns = refl; stack = refl; carry = refl; accesses = refl; memory = refl; steady = λ tables is. refl; there = refl }
 
-  pub redraw_refuses : (phase : ℕ) → phase < 256 → nat_eq phase 2 ≡ false
-      → Comes q (at 0x6943 a x y s n z c v (laid (page phase 4) mem) flags log) s true (laid (page phase 4) mem)
-      (seen log)
-  redraw_refuses phase small not_idle =
-      by q 5 _ (told false) s _ _ _ (ap told (compared phase 2 small (omega arith) ∙ not_idle))
-      (record { steps = 2; returns = refl; stack = refl; carry = refl; memory = refl; accesses = refl })
+  pub redraw_refuses : (phase publish : ℕ) → phase < 256 → nat_eq phase 2 ≡ false
+      → Comes q (at 0x6943 a x y s n z c v (laid (page phase publish) mem) flags log) s true
+      (laid (page phase publish) mem) (seen log) []
+  redraw_refuses phase publish small not_idle =
+      by q 2 _ (told false) s _ _ _ (ap told (compared phase 2 small (omega arith) ∙ not_idle)) (λ tables is. refl)
+      (record { steps = 2; returns = refl; stack = refl; carry = refl; memory = refl; accesses = refl; steady = λ tables is. refl; there = refl })
     where
       told : Bool → Cpu
-      told t = at 0x694D phase x y s (nat_le 128 ((phase + 256 - 2) % 256)) t (nat_le 2 phase) v
-          (laid (page phase 4) mem) flags (Reads 0x10 phase ∷ Reads 0x12 4 ∷ log)
+      told t = at 0x6947 phase x y s (nat_le 128 ((phase + 256 - 2) % 256)) t (nat_le 2 phase) v
+          (laid (page phase publish) mem) flags (Reads 0x10 phase ∷ log)
+
+first : (t u : Bool) → (t && u) ≡ true → (t && true) ≡ true
+first true u is = refl
+first false u is = absurd (cc)
 
 module _ (q a x y s : ℕ) (n z c v : Bool) (publish next t0 t1 pages end second f0 f1 : ℕ) (mem flags : ℕ
     → ℕ) (log : List Access) where
@@ -178,13 +185,15 @@ module _ (q a x y s : ℕ) (n z c v : Bool) (publish next t0 t1 pages end second
     rest : (h t : Bool) → Comes q
         (at 0x691A e0 x 0 s (nat_le 128 e2) t (nat_le 128 wh) v
         (laid (page_of 2 (free_of h) publish next t0 t1 p0 e2 second a x) mem) flags log5) s false
-        (laid (page_of 0x80 (free_of h) publish 2 0 (high_of h) (p2 t) e2 0 a x) mem) (seen log5)
+        (laid (page_of 0x80 (free_of h) publish 2 0 (high_of h) (p2 t) e2 0 a x) mem) (seen log5) (low_place ∷ high_place ∷ [])
     rest true true = record {
       steps = 15;
       returns = refl;
       stack = refl;
       carry = refl;
       accesses = refl;
+      steady = λ tables is. refl;
+      there = refl;
       memory = ap (λ m. put 0x10 0x80 (put 0x13 2 (put 0x15 0x44 (put 0x14 0 (put 0x18 0 m)))))
           (put_page 6 ((p0 + 1) % 256) (page_of 2 0xE2 publish next t0 t1 p0 e2 second a x) mem (omega arith) refl)
           ∙ readied true ((p0 + 1) % 256);
@@ -195,6 +204,8 @@ module _ (q a x y s : ℕ) (n z c v : Bool) (publish next t0 t1 pages end second
       stack = refl;
       carry = refl;
       accesses = refl;
+      steady = λ tables is. refl;
+      there = refl;
       memory = readied true p0;
     }
     rest false true = record {
@@ -203,6 +214,8 @@ module _ (q a x y s : ℕ) (n z c v : Bool) (publish next t0 t1 pages end second
       stack = refl;
       carry = refl;
       accesses = refl;
+      steady = λ tables is. refl;
+      there = refl;
       memory = ap (λ m. put 0x10 0x80 (put 0x13 2 (put 0x15 0x40 (put 0x14 0 (put 0x18 0 m)))))
           (put_page 6 ((p0 + 1) % 256) (page_of 2 0xE0 publish next t0 t1 p0 e2 second a x) mem (omega arith) refl)
           ∙ readied false ((p0 + 1) % 256);
@@ -213,6 +226,8 @@ module _ (q a x y s : ℕ) (n z c v : Bool) (publish next t0 t1 pages end second
       stack = refl;
       carry = refl;
       accesses = refl;
+      steady = λ tables is. refl;
+      there = refl;
       memory = readied false p0;
     }
 
@@ -222,20 +237,22 @@ module _ (q a x y s : ℕ) (n z c v : Bool) (publish next t0 t1 pages end second
 
     pub offer_takes : Comes q
         (at 0x68FE a x y s n z c v (laid (page_of 2 (free_of h) publish next t0 t1 pages end second f0 f1) mem) flags
-        log) s false (final (nat_eq e2 0)) (seen log)
+        log) s false (final (nat_eq e2 0)) (seen log) (low_place ∷ high_place ∷ [])
     offer_takes = subst (λ es. Comes q
         (at 0x68FE a x y s n z c v (laid (page_of 2 (free_of h) publish next t0 t1 pages end second f0 f1) mem) flags
-        log) s false (final (nat_eq e2 0)) es) quiet
-        (by q 6 _ s1 s false (final (nat_eq e2 0)) (seen log5) (to1 h)
+        log) s false (final (nat_eq e2 0)) es (low_place ∷ high_place ∷ [])) quiet
+        (by q 6 _ s1 s false (final (nat_eq e2 0)) (seen log5) (to1 h) (λ tables is. refl)
         (by q 1 s1 (told2 false wh) s false (final (nat_eq e2 0)) (seen log5)
         (ap (λ t. told2 t (laid (paged pages end) mem high_place)) high_flag
         ∙ ap (told2 false) (high_read (paged pages end)))
+        (λ tables is. taken high_place tables _ (both_true (tables low_place) _ is).1)
         (by q 2 (told2 false wh) s3 s false (final (nat_eq e2 0)) (seen log5)
         (ap (λ m. at 0x690F wh x 0 s false true true v m flags log3)
-        (put_page 6 wh (paged pages end) mem (omega arith) refl))
+        (put_page 6 wh (paged pages end) mem (omega arith) refl)) (λ tables is. refl)
         (by q 1 s3 (told4 false wl) s false (final (nat_eq e2 0)) (seen log5)
         (ap (λ t. told4 t (laid (paged wh end) mem low_place)) low_flag
         ∙ ap (told4 false) (low_read (paged wh end)))
+        (λ tables is. taken low_place tables _ (first (tables low_place) _ is))
         (by q 5 (told4 false wl) (told5 (nat_eq e2 0) (laid (paged p0 e2) mem)) s false (final (nat_eq e2 0))
-        (seen log5) to5
+        (seen log5) to5 (λ tables is. refl)
         (rest h (nat_eq e2 0)))))))

@@ -1,8 +1,8 @@
 -- What dvg_reset, dvg_offer and dvg_redraw answer, by the script.
-use Rattle.std.proofs.Common.{◌≡◌, ◌≢◌, ℕ, ◌+◌, ◌*◌, ◌%◌, ◌<◌, ◌≤◌, Bool, true, false, not, List, [], length, refl}
+use Rattle.std.proofs.Common.{◌≡◌, ◌≢◌, ℕ, ◌+◌, ◌*◌, ◌%◌, ◌<◌, ◌≤◌, Bool, true, false, not, List, [], ◌∷◌, length, refl}
 use Rattle.std.proofs.Common.{sym, ap, ◌∙◌, subst, arith, inl, inr, leb-true, eqb-true}
 use Rattle.std.proofs.lemmas.Bool.{leb-false, eqb-false}
-use Rattle.std.specs.Prelude.{◌⊎◌, nat_eq, nat_le, if◌then◌else◌}
+use Rattle.std.specs.Prelude.{◌⊎◌, ◌&&◌, nat_eq, nat_le, if◌then◌else◌}
 use Rattle.dvg_mem.specs.declared.half.Half.{Half}
 use Rattle.dvg_mem.specs.declared.half.Half.TheVariants.{H0, H1}
 use Rattle.dvg_mem.specs.Areas.{high, other, base}
@@ -12,6 +12,7 @@ use Rattle.dvg_driver.specs.Place.{Place, Start, Booting, Resting, Writing, Wait
 use Rattle.dvg_driver.specs.Stands.{Stage}
 use Rattle.dvg_6502.specs.Processor.{Cpu, run, bit_of}
 use Rattle.dvg_6502.specs.Board.{IsLoaded, is_hardware, is_own, seen}
+use Rattle.dvg_6502.specs.Amid.{is_kept, are_steady, all_in}
 use Rattle.dvg_6502.specs.Holds.{Holds, IsFeeding, HoldsPlace, publish_byte}
 use Rattle.dvg_6502.specs.Tables.{HasTable, table_of}
 use Rattle.dvg_6502.specs.Routines.{Answers, IsBusy, Enters, ResetRefines, OfferTakes, OfferRefuses, RedrawTakes}
@@ -20,23 +21,36 @@ use Rattle.dvg_6502.proofs.Running.{Comes, at, returned}
 use Rattle.dvg_6502.proofs.Memory.{AreSmall, known, page_in, laid, page_of, loaded, same_out, out_of_page}
 use Rattle.dvg_6502.proofs.TableTick.{not_flag}
 use Rattle.dvg_6502.proofs.Begun.{BeginsTable, table_begins}
+use Rattle.dvg_6502.proofs.Steady.{steady_all, code_kept}
 use Rattle.dvg_6502.proofs.OfferRun.{reset, offer_refuses, redraw_takes, redraw_first, redraw_refuses, offer_takes}
 use Rattle.dvg_6502.proofs.OfferRun.{free_of, high_of}
 
+-- an answer, of a call that takes guarded bytes alone
+pub record Steadily (tables : ℕ → Bool) (from : Cpu) (c : Bool) (begin stop : ℕ) (new : Stage) : Type 0 where
+  pub did : Answers from c begin stop new
+  pub steady : (k : ℕ) → are_steady (is_kept tables) from.s k from ≡ true
+
 -- a run that comes to its end, as an answer
-answers : (from : Cpu) (c : Bool) (page : List ℕ) (mem : ℕ → ℕ) (begin stop : ℕ) (new : Stage) → from.log ≡ []
+answers : (tables : ℕ → Bool) (from : Cpu) (c : Bool) (page : List ℕ) (mem : ℕ → ℕ) (begin stop : ℕ) (new : Stage)
+    {reads : List ℕ} → all_in tables reads ≡ true → from.log ≡ []
     → ((b : ℕ) → mem b < 256) → AreSmall page
-    → Comes from.s from from.s c (laid page mem) (seen from.log) → Holds (laid page mem) begin stop new
-    → ((b : ℕ) → is_own b ≡ false → laid page mem b ≡ from.mem b) → Answers from c begin stop new
-answers from c page mem begin stop new no_log bytes small comes holds kept = record {
-  steps = comes.steps;
-  returns = returned from.s (run from.s comes.steps from) comes.returns comes.stack;
-  carry = comes.carry;
-  shows = comes.accesses ∙ ap seen no_log;
-  holds = subst (λ (m : ℕ → ℕ). Holds m begin stop new) (sym comes.memory) holds;
-  loaded = subst IsLoaded (sym comes.memory) (loaded page mem small bytes);
-  kept = λ b own. ap (λ (m : ℕ → ℕ). m b) comes.memory ∙ kept b own;
-}
+    → Comes from.s from from.s c (laid page mem) (seen from.log) reads → Holds (laid page mem) begin stop new
+    → ((b : ℕ) → is_own b ≡ false → laid page mem b ≡ from.mem b) → Steadily tables from c begin stop new
+answers tables from c page mem begin stop new held no_log bytes small comes holds kept =
+    let back = returned from.s (run from.s comes.steps from) comes.returns comes.stack in
+    record {
+      did = record {
+        steps = comes.steps;
+        returns = back;
+        carry = comes.carry;
+        shows = comes.accesses ∙ ap seen no_log;
+        holds = subst (λ (m : ℕ → ℕ). Holds m begin stop new) (sym comes.memory) holds;
+        loaded = subst IsLoaded (sym comes.memory) (loaded page mem small bytes);
+        kept = λ b own. ap (λ (m : ℕ → ℕ). m b) comes.memory ∙ kept b own;
+      };
+      steady = λ k. steady_all (is_kept tables) from.s comes.steps k from (comes.steady tables held) back
+          (code_kept tables (run from.s comes.steps from).pc comes.there);
+    }
 
 -- a state, with its memory as page, code and the rest
 abbrev from_of : Cpu → ℕ → Cpu
@@ -65,7 +79,8 @@ not_idle mem begin stop (Writing writes) half flipped holds busy = by holds.1
 not_idle mem begin stop (Waiting first) half flipped holds busy = ap (λ p. nat_eq p 2) holds.0
 not_idle mem begin stop (Sending first) half flipped holds busy = ap (λ p. nat_eq p 2) holds.0
 
-module _ (a x y s : ℕ) (n z c v : Bool) (mem flags : ℕ → ℕ) (load : IsLoaded mem) (begin stop : ℕ) where
+module _ (tables : ℕ → Bool) (a x y s : ℕ) (n z c v : Bool) (mem flags : ℕ → ℕ) (load : IsLoaded mem)
+    (begin stop : ℕ) where
   abbrev page : ℕ → ℕ → ℕ → List ℕ
   page phase free publish = page_of phase free publish (mem 0x13) (mem 0x14) (mem 0x15) (mem 0x16) (mem 0x17)
       (mem 0x18) (mem 0x19) (mem 0x1A)
@@ -94,9 +109,9 @@ module _ (a x y s : ℕ) (n z c v : Bool) (mem flags : ℕ → ℕ) (load : IsLo
   abbrev from : ℕ → Cpu
   from entry = at entry a x y s n z c v (laid (page_in mem) mem) flags []
 
-  resets : (half : Half) → Answers (from 0x6800) c begin stop (record { place = Start; half = half; flipped = false })
-  resets half = answers (from 0x6800) c (page 0 (mem 0x11) 3) mem begin stop
-      (record { place = Start; half = half; flipped = false }) refl load.bytes
+  resets : (half : Half) → Steadily tables (from 0x6800) c begin stop (record { place = Start; half = half; flipped = false })
+  resets half = answers tables (from 0x6800) c (page 0 (mem 0x11) 3) mem begin stop
+      (record { place = Start; half = half; flipped = false }) refl refl load.bytes
       (small 0 (mem 0x11) 3 (omega arith) (load.bytes 0x11) (omega arith))
       (reset s a x y s n z c v (mem 0x11) (mem 0x13) (mem 0x14) (mem 0x15) (mem 0x16) (mem 0x17) (mem 0x18) (mem 0x19)
       (mem 0x1A) mem flags [] (mem 0x10) (mem 0x12))
@@ -113,45 +128,51 @@ module _ (a x y s : ℕ) (n z c v : Bool) (mem flags : ℕ → ℕ) (load : IsLo
   whole_small = small (mem 0x10) (mem 0x11) (mem 0x12) (load.bytes 0x10) (load.bytes 0x11) (load.bytes 0x12)
 
   offer_busy : (stage : Stage) → Holds mem begin stop stage → IsBusy stage.place
-      → Answers (from 0x68FE) true begin stop stage
+      → Steadily tables (from 0x68FE) true begin stop stage
   offer_busy stage holds busy =
-      answers (from 0x68FE) true (page_in mem) mem begin stop stage refl load.bytes whole_small
+      answers tables (from 0x68FE) true (page_in mem) mem begin stop stage refl refl load.bytes whole_small
       (offer_refuses s a x y s n z c v (mem 0x11) (mem 0x13) (mem 0x14) (mem 0x15) (mem 0x16) (mem 0x17) (mem 0x18)
       (mem 0x19) (mem 0x1A) mem flags [] (mem 0x10) (mem 0x12) (load.bytes 0x10)
       (not_idle mem begin stop stage.place stage.half stage.flipped holds.place busy))
       (holds_here stage holds) (λ b own. refl)
 
   redraw_busy : (stage : Stage) → Holds mem begin stop stage → (stage.flipped ≡ true → IsBusy stage.place)
-      → Answers (from 0x6943) true begin stop stage
-  redraw_busy stage holds busy = by stage.flipped refl
+      → Steadily tables (from 0x6943) true begin stop stage
+  redraw_busy stage holds busy = by (nat_eq (mem 0x10) 2) refl
     where
-      with_publish : ℕ → Type 0
-      with_publish p = Comes s (at 0x6943 a x y s n z c v (laid (page (mem 0x10) (mem 0x11) p) mem) flags []) s true
-          (laid (page (mem 0x10) (mem 0x11) p) mem) []
+      with_both : ℕ → ℕ → Type 0
+      with_both phase publish =
+          Comes s (at 0x6943 a x y s n z c v (laid (page phase (mem 0x11) publish) mem) flags []) s true
+          (laid (page phase (mem 0x11) publish) mem) [] []
 
-      ends : Comes s (from 0x6943) s true (laid (page_in mem) mem) [] → Answers (from 0x6943) true begin stop stage
-      ends comes = answers (from 0x6943) true (page_in mem) mem begin stop stage refl load.bytes whole_small comes
+      ends : Comes s (from 0x6943) s true (laid (page_in mem) mem) [] [] → Steadily tables (from 0x6943) true begin stop stage
+      ends comes = answers tables (from 0x6943) true (page_in mem) mem begin stop stage refl refl load.bytes whole_small comes
           (holds_here stage holds) (λ b own. refl)
 
-      by : (t : Bool) → stage.flipped ≡ t → Answers (from 0x6943) true begin stop stage
-      by true is = ends (subst with_publish (sym (holds.flipped ∙ ap publish_byte is))
-          (redraw_refuses s a x y s n z c v (mem 0x11) (mem 0x13) (mem 0x14) (mem 0x15) (mem 0x16) (mem 0x17)
-          (mem 0x18) (mem 0x19) (mem 0x1A) mem flags [] (mem 0x10) (load.bytes 0x10)
-          (not_idle mem begin stop stage.place stage.half stage.flipped holds.place (busy is))))
-      by false is = ends (subst with_publish (sym (holds.flipped ∙ ap publish_byte is))
+      -- it rests, and has published nothing
+      rests : mem 0x10 ≡ 2 → (t : Bool) → stage.flipped ≡ t → Steadily tables (from 0x6943) true begin stop stage
+      rests idle true is = absurd (let e = not_idle mem begin stop stage.place stage.half stage.flipped holds.place (busy is) in
+          let f = sym (ap (λ p. nat_eq p 2) idle) ∙ e in cc)
+      rests idle false is = ends (subst (λ p. with_both p (mem 0x12)) (sym idle)
+          (subst (with_both 2) (sym (holds.flipped ∙ ap publish_byte is))
           (redraw_first s a x y s n z c v (mem 0x11) (mem 0x13) (mem 0x14) (mem 0x15) (mem 0x16) (mem 0x17) (mem 0x18)
-          (mem 0x19) (mem 0x1A) mem flags [] (mem 0x10)))
+          (mem 0x19) (mem 0x1A) mem flags [])))
+
+      by : (t : Bool) → nat_eq (mem 0x10) 2 ≡ t → Steadily tables (from 0x6943) true begin stop stage
+      by true is = rests (eqb-true (mem 0x10) 2 is) stage.flipped refl
+      by false is = ends (redraw_refuses s a x y s n z c v (mem 0x11) (mem 0x13) (mem 0x14) (mem 0x15) (mem 0x16)
+          (mem 0x17) (mem 0x18) (mem 0x19) (mem 0x1A) mem flags [] (mem 0x10) (mem 0x12) (load.bytes 0x10) is)
 
   redraw_rests : (half : Half) (first : Bool)
       → Holds mem begin stop (record { place = Resting first; half = half; flipped = true })
-      → Answers (from 0x6943) false begin stop (record { place = Waiting first; half = half; flipped = true })
-  redraw_rests half first holds = answers (from 0x6943) false (page 5 (mem 0x11) 4) mem begin stop
-      (record { place = Waiting first; half = half; flipped = true }) refl load.bytes
+      → Steadily tables (from 0x6943) false begin stop (record { place = Waiting first; half = half; flipped = true })
+  redraw_rests half first holds = answers tables (from 0x6943) false (page 5 (mem 0x11) 4) mem begin stop
+      (record { place = Waiting first; half = half; flipped = true }) refl refl load.bytes
       (small 5 (mem 0x11) 4 (omega arith) (load.bytes 0x11) (omega arith))
       (subst (λ p. Comes s (at 0x6943 a x y s n z c v (laid (page p (mem 0x11) (mem 0x12)) mem) flags []) s false
-      (laid (page 5 (mem 0x11) 4) mem) []) (sym holds.place.0)
+      (laid (page 5 (mem 0x11) 4) mem) [] []) (sym holds.place.0)
       (subst (λ p. Comes s (at 0x6943 a x y s n z c v (laid (page 2 (mem 0x11) p) mem) flags []) s false
-      (laid (page 5 (mem 0x11) 4) mem) []) (sym holds.flipped)
+      (laid (page 5 (mem 0x11) 4) mem) [] []) (sym holds.flipped)
       (redraw_takes s a x y s n z c v (mem 0x11) (mem 0x13) (mem 0x14) (mem 0x15) (mem 0x16) (mem 0x17) (mem 0x18)
       (mem 0x19) (mem 0x1A) mem flags [])))
       (record { flipped = refl; place = (refl, holds.place.1, holds.place.2) })
@@ -176,12 +197,14 @@ counted wl wh len e2 false true low fits is e test none = let less = leb-false 1
 counted wl wh len e2 false false low fits is e test none = let less = leb-false 128 wl test in
     let some : e2 ≢ 0 = eqb-false e2 0 none in omega (arith, some)
 
-module _ (a x y s : ℕ) (n z c v : Bool) (mem flags : ℕ → ℕ) (load : IsLoaded mem) (a_small : a < 256)
+module _ (tables : ℕ → Bool) (a x y s : ℕ) (n z c v : Bool) (mem flags : ℕ → ℕ) (load : IsLoaded mem)
+    (a_small : a < 256)
     (x_small : x < 256)
     (half : Half) (set : Bool) (F : List OpKind) (h : Bool) (free_is : free_of h ≡ high (other half))
     (high_is : 256 * high_of h + 2 ≡ 0x4000 + 2 * base (other half))
     (h_small : high_of h < 256) (f_small : free_of h < 256) (clear : mem 0x12 ≡ publish_byte set)
-    (table : HasTable mem (a + 256 * x) F) where
+    (table : HasTable mem (a + 256 * x) F)
+    (covers : all_in tables ((a + 256 * x) ∷ (a + 256 * x + 1) ∷ []) ≡ true) where
   abbrev t : ℕ
   t = a + 256 * x
 
@@ -223,7 +246,11 @@ module _ (a x y s : ℕ) (n z c v : Bool) (mem flags : ℕ → ℕ) (load : IsLo
   high_place_is : (a + 256 * x + 1) % 65536 ≡ t + 1
   high_place_is = omega (arith, table.ends)
 
-  comes : Comes s (at 0x68FE a x y s n z c v (laid begun mem) flags []) s false (laid final mem) []
+  -- the count of a table's words, as the code finds it
+  abbrev heads : List ℕ
+  heads = ((a + 256 * x + 0) % 65536) ∷ ((a + 256 * x + 1) % 65536) ∷ []
+
+  comes : Comes s (at 0x68FE a x y s n z c v (laid begun mem) flags []) s false (laid final mem) [] heads
   comes = offer_takes s a x y s n z c v (mem 0x12) (mem 0x13) (mem 0x14) (mem 0x15) (mem 0x16) (mem 0x17) (mem 0x18)
       (mem 0x19) (mem 0x1A) mem flags [] h wl wh
       (λ page. ap (laid page mem) low_is ∙ reads page t table.low)
@@ -233,6 +260,10 @@ module _ (a x y s : ℕ) (n z c v : Bool) (mem flags : ℕ → ℕ) (load : IsLo
       (ap (λ p. nat_eq p 0x2002) high_place_is ∙ not_flag (t + 1) table.head.1)
       (ap is_hardware low_is ∙ table.head.0)
       (ap is_hardware high_place_is ∙ table.head.1)
+
+  held : all_in tables heads ≡ true
+  held = ap (λ p. tables p && (tables ((a + 256 * x + 1) % 65536) && true)) low_is
+      ∙ ap (λ p. tables t && (tables p && true)) high_place_is ∙ covers
 
   begins : BeginsTable (laid final mem) (t + 2) half F
   begins = record {
@@ -279,17 +310,19 @@ module _ (a x y s : ℕ) (n z c v : Bool) (mem flags : ℕ → ℕ) (load : IsLo
 
   offers : (from : Cpu) → from ≡ at 0x68FE a x y s n z c v (laid begun mem) flags []
       → ((b : ℕ) → is_own b ≡ false → laid begun mem b ≡ from.mem b)
-      → Answers (at 0x68FE a x y s n z c v (laid begun mem) flags []) false (t + 2) (t + 2 + len)
+      → Steadily tables (at 0x68FE a x y s n z c v (laid begun mem) flags []) false (t + 2) (t + 2 + len)
       (record { place = Writing (frame_writes (other half) F (not set)); half = half; flipped = set })
-  offers from is kept = answers (at 0x68FE a x y s n z c v (laid begun mem) flags []) false final mem (t + 2)
+  offers from is kept = answers tables (at 0x68FE a x y s n z c v (laid begun mem) flags []) false final mem (t + 2)
       (t + 2 + len)
-      (record { place = Writing (frame_writes (other half) F (not set)); half = half; flipped = set }) refl load.bytes
+      (record { place = Writing (frame_writes (other half) F (not set)); half = half; flipped = set }) held refl load.bytes
       small_final comes
       (table_begins (laid final mem) (t + 2) half set F clear begins)
       (λ b own. same_out final begun mem b own)
 
-module _ (a x y s : ℕ) (n z c v : Bool) (mem flags : ℕ → ℕ) (load : IsLoaded mem) (a_small : a < 256)
-    (x_small : x < 256) (set : Bool) (F : List OpKind) where
+module _ (tables : ℕ → Bool) (a x y s : ℕ) (n z c v : Bool) (mem flags : ℕ → ℕ) (load : IsLoaded mem)
+    (a_small : a < 256)
+    (x_small : x < 256) (set : Bool) (F : List OpKind)
+    (covers : all_in tables ((a + 256 * x) ∷ (a + 256 * x + 1) ∷ []) ≡ true) where
   abbrev with_phase : ℕ → ℕ → Cpu
   with_phase phase free =
       at 0x68FE a x y s n z c v
@@ -297,19 +330,19 @@ module _ (a x y s : ℕ) (n z c v : Bool) (mem flags : ℕ → ℕ) (load : IsLo
       (mem 0x19) (mem 0x1A)) mem) flags []
 
   abbrev Goal : Half → Cpu → Type 0
-  Goal half cpu = Answers cpu false (a + 256 * x + 2) (a + 256 * x + 2 + length (table_of F))
+  Goal half cpu = Steadily tables cpu false (a + 256 * x + 2) (a + 256 * x + 2 + length (table_of F))
       (record { place = Writing (frame_writes (other half) F (not set)); half = half; flipped = set })
 
   offer_rests : (half : Half) → mem 0x10 ≡ 2 → mem 0x11 ≡ high (other half) → mem 0x12 ≡ publish_byte set
       → HasTable mem (a + 256 * x) F → Goal half (with_phase (mem 0x10) (mem 0x11))
   offer_rests H0 phase free clear table = subst (λ p. Goal H0 (with_phase p (mem 0x11))) (sym phase)
       (subst (λ f. Goal H0 (with_phase 2 f)) (sym free)
-      (offers a x y s n z c v mem flags load a_small x_small H0 set F true refl refl (omega arith)
-      (omega arith) clear table (with_phase 2 0xE2) refl (λ b own. refl)))
+      (offers tables a x y s n z c v mem flags load a_small x_small H0 set F true refl refl (omega arith)
+      (omega arith) clear table covers (with_phase 2 0xE2) refl (λ b own. refl)))
   offer_rests H1 phase free clear table = subst (λ p. Goal H1 (with_phase p (mem 0x11))) (sym phase)
       (subst (λ f. Goal H1 (with_phase 2 f)) (sym free)
-      (offers a x y s n z c v mem flags load a_small x_small H1 set F false refl refl (omega arith)
-      (omega arith) clear table (with_phase 2 0xE0) refl (λ b own. refl)))
+      (offers tables a x y s n z c v mem flags load a_small x_small H1 set F false refl refl (omega arith)
+      (omega arith) clear table covers (with_phase 2 0xE0) refl (λ b own. refl)))
 
 -- from any state at an entry
 module _ (cpu : Cpu) (entry : ℕ) (enters : Enters cpu entry) where
@@ -320,35 +353,67 @@ module _ (cpu : Cpu) (entry : ℕ) (enters : Enters cpu entry) where
   here_is = ap (λ l. at entry cpu.a cpu.x cpu.y cpu.s cpu.n cpu.z cpu.c cpu.v
       (laid (page_in cpu.mem) cpu.mem) cpu.flags l) (sym enters.log) ∙ from_is cpu entry enters.entry enters.loaded
 
-pub reset_refines : ResetRefines
-reset_refines cpu begin stop half enters =
-    subst (λ (k : Cpu). Answers k cpu.c begin stop (record { place = Start; half = half; flipped = false }))
+pub resets_steadily : (tables : ℕ → Bool) (cpu : Cpu) (begin stop : ℕ) (half : Half) → Enters cpu 0x6800
+    → Steadily tables cpu cpu.c begin stop (record { place = Start; half = half; flipped = false })
+resets_steadily tables cpu begin stop half enters =
+    subst (λ (k : Cpu). Steadily tables k cpu.c begin stop (record { place = Start; half = half; flipped = false }))
     (here_is cpu 0x6800 enters)
-    (resets cpu.a cpu.x cpu.y cpu.s cpu.n cpu.z cpu.c cpu.v cpu.mem cpu.flags enters.loaded begin stop half)
+    (resets tables cpu.a cpu.x cpu.y cpu.s cpu.n cpu.z cpu.c cpu.v cpu.mem cpu.flags enters.loaded begin stop half)
+
+pub reset_refines : ResetRefines
+reset_refines cpu begin stop half enters = (resets_steadily (λ b. false) cpu begin stop half enters).did
+
+pub refuses_steadily : (tables : ℕ → Bool) (cpu : Cpu) (begin stop : ℕ) (stage : Stage) → Enters cpu 0x68FE
+    → Holds cpu.mem begin stop stage → IsBusy stage.place → Steadily tables cpu true begin stop stage
+refuses_steadily tables cpu begin stop stage enters holds busy =
+    subst (λ (k : Cpu). Steadily tables k true begin stop stage) (here_is cpu 0x68FE enters)
+    (offer_busy tables cpu.a cpu.x cpu.y cpu.s cpu.n cpu.z cpu.c cpu.v cpu.mem cpu.flags enters.loaded begin stop stage
+    holds busy)
 
 pub offer_is_refused : OfferRefuses
 offer_is_refused cpu begin stop stage enters holds busy =
-    subst (λ (k : Cpu). Answers k true begin stop stage) (here_is cpu 0x68FE enters)
-    (offer_busy cpu.a cpu.x cpu.y cpu.s cpu.n cpu.z cpu.c cpu.v cpu.mem cpu.flags enters.loaded begin stop stage holds
-    busy)
+    (refuses_steadily (λ b. false) cpu begin stop stage enters holds busy).did
+
+pub redraw_refuses_steadily : (tables : ℕ → Bool) (cpu : Cpu) (begin stop : ℕ) (stage : Stage) → Enters cpu 0x6943
+    → Holds cpu.mem begin stop stage → (stage.flipped ≡ true → IsBusy stage.place)
+    → Steadily tables cpu true begin stop stage
+redraw_refuses_steadily tables cpu begin stop stage enters holds busy =
+    subst (λ (k : Cpu). Steadily tables k true begin stop stage) (here_is cpu 0x6943 enters)
+    (redraw_busy tables cpu.a cpu.x cpu.y cpu.s cpu.n cpu.z cpu.c cpu.v cpu.mem cpu.flags enters.loaded begin stop
+    stage holds busy)
 
 pub redraw_is_refused : RedrawRefuses
 redraw_is_refused cpu begin stop stage enters holds busy =
-    subst (λ (k : Cpu). Answers k true begin stop stage) (here_is cpu 0x6943 enters)
-    (redraw_busy cpu.a cpu.x cpu.y cpu.s cpu.n cpu.z cpu.c cpu.v cpu.mem cpu.flags enters.loaded begin stop stage
-    holds busy)
+    (redraw_refuses_steadily (λ b. false) cpu begin stop stage enters holds busy).did
+
+pub redraw_takes_steadily : (tables : ℕ → Bool) (cpu : Cpu) (begin stop : ℕ) (half : Half) (first : Bool)
+    → Enters cpu 0x6943 → Holds cpu.mem begin stop (record { place = Resting first; half = half; flipped = true })
+    → Steadily tables cpu false begin stop (record { place = Waiting first; half = half; flipped = true })
+redraw_takes_steadily tables cpu begin stop half first enters holds =
+    subst (λ (k : Cpu). Steadily tables k false begin stop
+    (record { place = Waiting first; half = half; flipped = true })) (here_is cpu 0x6943 enters)
+    (redraw_rests tables cpu.a cpu.x cpu.y cpu.s cpu.n cpu.z cpu.c cpu.v cpu.mem cpu.flags enters.loaded begin stop
+    half first holds)
 
 pub redraw_is_taken : RedrawTakes
 redraw_is_taken cpu begin stop half first enters holds =
-    subst (λ (k : Cpu). Answers k false begin stop (record { place = Waiting first; half = half; flipped = true }))
-    (here_is cpu 0x6943 enters)
-    (redraw_rests cpu.a cpu.x cpu.y cpu.s cpu.n cpu.z cpu.c cpu.v cpu.mem cpu.flags enters.loaded begin stop half
-    first holds)
+    (redraw_takes_steadily (λ b. false) cpu begin stop half first enters holds).did
+
+pub takes_steadily : (tables : ℕ → Bool) (cpu : Cpu) (begin stop : ℕ) (half : Half) (set first : Bool)
+    (F : List OpKind) → all_in tables ((cpu.a + 256 * cpu.x) ∷ (cpu.a + 256 * cpu.x + 1) ∷ []) ≡ true
+    → Enters cpu 0x68FE → Holds cpu.mem begin stop (record { place = Resting first; half = half; flipped = set })
+    → HasTable cpu.mem (cpu.a + 256 * cpu.x) F
+    → let t = cpu.a + 256 * cpu.x + 2 in
+    Steadily tables cpu false t (t + length (table_of F))
+    (record { place = Writing (frame_writes (other half) F (not set)); half = half; flipped = set })
+takes_steadily tables cpu begin stop half set first F covers enters holds table =
+    subst (λ (k : Cpu). Steadily tables k false (cpu.a + 256 * cpu.x + 2)
+    (cpu.a + 256 * cpu.x + 2 + length (table_of F))
+    (record { place = Writing (frame_writes (other half) F (not set)); half = half; flipped = set }))
+    (here_is cpu 0x68FE enters)
+    (offer_rests tables cpu.a cpu.x cpu.y cpu.s cpu.n cpu.z cpu.c cpu.v cpu.mem cpu.flags enters.loaded enters.a
+    enters.x set F covers half holds.place.0 holds.place.1 holds.flipped table)
 
 pub offer_is_taken : OfferTakes
 offer_is_taken cpu begin stop half set first F enters holds table =
-    subst (λ (k : Cpu). Answers k false (cpu.a + 256 * cpu.x + 2) (cpu.a + 256 * cpu.x + 2 + length (table_of F))
-    (record { place = Writing (frame_writes (other half) F (not set)); half = half; flipped = set }))
-    (here_is cpu 0x68FE enters)
-    (offer_rests cpu.a cpu.x cpu.y cpu.s cpu.n cpu.z cpu.c cpu.v cpu.mem cpu.flags enters.loaded enters.a enters.x set
-    F half holds.place.0 holds.place.1 holds.flipped table)
+    (takes_steadily (λ b. true) cpu begin stop half set first F refl enters holds table).did

@@ -1,8 +1,9 @@
 -- Runs of the processor.
-use Rattle.std.proofs.Common.{◌≡◌, ℕ, zero, suc, ◌+◌, Bool, true, List, refl, sym, ap, ◌∙◌, subst, arith, eq-eqb}
+use Rattle.std.proofs.Common.{◌≡◌, ℕ, zero, suc, ◌+◌, Bool, true, false, List, refl, sym, ap, ◌∙◌, subst, arith, eq-eqb}
 use Rattle.std.specs.Prelude.{nat_eq, ◌&&◌}
 use Rattle.dvg_6502.specs.Processor.{Cpu, Access, run, turn, at_return}
 use Rattle.dvg_6502.specs.Board.{seen}
+use Rattle.dvg_6502.specs.Amid.{is_kept, is_code, is_steady, are_steady, all_in}
 
 -- the state of a processor
 abbrev pub at : ℕ → (a x y s : ℕ) → (n z c v : Bool) → (ℕ → ℕ) → (ℕ → ℕ) → List Access → Cpu
@@ -27,17 +28,43 @@ run_more s k n cpu =
     run_times s (n + k) cpu ∙ times_more (turn s) k n cpu ∙ sym (run_times s n (times (turn s) k cpu))
     ∙ ap (run s n) (sym (run_times s k cpu))
 
--- the run comes to an RTS with S so, and with this memory, C and these accesses
-pub record Ends (q : ℕ) (from : Cpu) (s : ℕ) (mem : ℕ → ℕ) (events : List Access) : Type 0 where
+pub and_true : (t u : Bool) → t ≡ true → u ≡ true → (t && u) ≡ true
+and_true true u a b = b
+and_true false u a b = absurd (cc)
+
+-- both stretches take guarded bytes alone
+pub steady_more : (kept : ℕ → Bool) (s k n : ℕ) (cpu : Cpu) → are_steady kept s k cpu ≡ true
+    → are_steady kept s n (run s k cpu) ≡ true → are_steady kept s (n + k) cpu ≡ true
+steady_more kept s zero n cpu one two =
+    let e : n + 0 ≡ n = omega arith in ap (λ j. are_steady kept s j cpu) e ∙ two
+steady_more kept s (suc k) n cpu one two =
+    let e : n + suc k ≡ suc (n + k) = omega arith in
+    let both = split (is_steady kept s cpu) (are_steady kept s k (turn s cpu)) one in
+    ap (λ j. are_steady kept s j cpu) e
+    ∙ and_true (is_steady kept s cpu) (are_steady kept s (n + k) (turn s cpu)) both.0
+    (steady_more kept s k n (turn s cpu) both.1 two)
+  where
+    split : (t u : Bool) → (t && u) ≡ true → (t ≡ true) × (u ≡ true)
+    split true u is = (refl, is)
+    split false u is = absurd (cc)
+
+-- the run comes to an RTS with S so, and with this memory, C and these accesses; what it takes of tables are these bytes
+pub record Ends (q : ℕ) (from : Cpu) (s : ℕ) (mem : ℕ → ℕ) (events : List Access) (reads : List ℕ) : Type 0 where
   pub steps : ℕ
   pub returns : (run q steps from).mem (run q steps from).pc ≡ 0x60
   pub stack : (run q steps from).s ≡ s
   pub memory : (run q steps from).mem ≡ mem
   pub accesses : seen (run q steps from).log ≡ events
+  pub steady : (tables : ℕ → Bool) → all_in tables reads ≡ true → are_steady (is_kept tables) q steps from ≡ true
+  pub there : is_code (run q steps from).pc ≡ true
 
-pub on : (q k : ℕ) (from mid : Cpu) (s : ℕ) (mem : ℕ → ℕ) (events : List Access) → run q k from ≡ mid
-    → Ends q mid s mem events → Ends q from s mem events
-on q k from mid s mem events e ends =
+-- a stretch takes guarded bytes alone, and of tables these
+abbrev pub IsSteady : (q k : ℕ) (reads : List ℕ) → Cpu → Type 0
+IsSteady q k reads from = (tables : ℕ → Bool) → all_in tables reads ≡ true → are_steady (is_kept tables) q k from ≡ true
+
+pub on : (q k : ℕ) (from mid : Cpu) (s : ℕ) (mem : ℕ → ℕ) (events : List Access) {reads : List ℕ} → run q k from ≡ mid
+    → IsSteady q k reads from → Ends q mid s mem events reads → Ends q from s mem events reads
+on q k from mid s mem events e steady ends =
     let both : run q (ends.steps + k) from ≡ run q ends.steps mid = run_more q k ends.steps from
     ∙ ap (run q ends.steps) e in
     record {
@@ -46,24 +73,31 @@ on q k from mid s mem events e ends =
       stack = ap (λ (cpu : Cpu). cpu.s) both ∙ ends.stack;
       memory = ap (λ (cpu : Cpu). cpu.mem) both ∙ ends.memory;
       accesses = ap (λ (cpu : Cpu). seen cpu.log) both ∙ ends.accesses;
+      steady = λ tables is. steady_more (is_kept tables) q k ends.steps from (steady tables is)
+          (ap (are_steady (is_kept tables) q ends.steps) e ∙ ends.steady tables is);
+      there = ap (λ (cpu : Cpu). is_code cpu.pc) both ∙ ends.there;
     }
 
-pub seen_as : (q : ℕ) (from : Cpu) (s : ℕ) (mem : ℕ → ℕ) (events also : List Access) → events ≡ also
-    → Ends q from s mem events → Ends q from s mem also
-seen_as q from s mem events also e ends = subst (λ es. Ends q from s mem es) e ends
+pub seen_as : (q : ℕ) (from : Cpu) (s : ℕ) (mem : ℕ → ℕ) (events also : List Access) {reads : List ℕ} → events ≡ also
+    → Ends q from s mem events reads → Ends q from s mem also reads
+seen_as q from s mem events also {reads = reads} e ends = subst (λ es. Ends q from s mem es reads) e ends
 
 -- the same, with C
-pub record Comes (q : ℕ) (from : Cpu) (s : ℕ) (c : Bool) (mem : ℕ → ℕ) (events : List Access) : Type 0 where
+pub record Comes (q : ℕ) (from : Cpu) (s : ℕ) (c : Bool) (mem : ℕ → ℕ) (events : List Access) (reads : List ℕ) :
+    Type 0 where
   pub steps : ℕ
   pub returns : (run q steps from).mem (run q steps from).pc ≡ 0x60
   pub stack : (run q steps from).s ≡ s
   pub carry : (run q steps from).c ≡ c
   pub memory : (run q steps from).mem ≡ mem
   pub accesses : seen (run q steps from).log ≡ events
+  pub steady : (tables : ℕ → Bool) → all_in tables reads ≡ true → are_steady (is_kept tables) q steps from ≡ true
+  pub there : is_code (run q steps from).pc ≡ true
 
-pub by : (q k : ℕ) (from mid : Cpu) (s : ℕ) (c : Bool) (mem : ℕ → ℕ) (events : List Access) → run q k from ≡ mid
-    → Comes q mid s c mem events → Comes q from s c mem events
-by q k from mid s c mem events e comes =
+pub by : (q k : ℕ) (from mid : Cpu) (s : ℕ) (c : Bool) (mem : ℕ → ℕ) (events : List Access) {reads : List ℕ}
+    → run q k from ≡ mid → IsSteady q k reads from → Comes q mid s c mem events reads
+    → Comes q from s c mem events reads
+by q k from mid s c mem events e steady comes =
     let both : run q (comes.steps + k) from ≡ run q comes.steps mid = run_more q k comes.steps from
     ∙ ap (run q comes.steps) e in
     record {
@@ -73,6 +107,9 @@ by q k from mid s c mem events e comes =
       carry = ap (λ (cpu : Cpu). cpu.c) both ∙ comes.carry;
       memory = ap (λ (cpu : Cpu). cpu.mem) both ∙ comes.memory;
       accesses = ap (λ (cpu : Cpu). seen cpu.log) both ∙ comes.accesses;
+      steady = λ tables is. steady_more (is_kept tables) q k comes.steps from (steady tables is)
+          (ap (are_steady (is_kept tables) q comes.steps) e ∙ comes.steady tables is);
+      there = ap (λ (cpu : Cpu). is_code cpu.pc) both ∙ comes.there;
     }
 
 -- at an RTS with S as it was

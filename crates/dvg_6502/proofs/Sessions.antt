@@ -20,9 +20,10 @@ use Rattle.dvg_6502.specs.Holds.{Holds, HoldsPlace, publish_byte}
 use Rattle.dvg_6502.specs.Tables.{HasTable, table_of}
 use Rattle.dvg_6502.specs.Routines.{Enters, Shows, Answers, IsBusy}
 use Rattle.dvg_6502.specs.Calls
-use Rattle.dvg_6502.specs.Calls.{Routine, Call, after, has_returned, is_taken, bounds, IsUntouched, IsSession}
-use Rattle.dvg_6502.specs.Calls.{AreShown, Adds, IsLifeOf, CallsLive, OneLife, IsAnswered, OfferAnswers}
-use Rattle.dvg_6502.specs.Calls.{RedrawAnswers}
+use Rattle.dvg_6502.specs.Calls.{Routine, AreShown}
+use Rattle.dvg_6502.proofs.Plain
+use Rattle.dvg_6502.proofs.Plain.{Call, after, has_returned, is_taken, bounds, IsUntouched, IsSession}
+use Rattle.dvg_6502.proofs.Plain.{Adds, IsLifeOf, CallsLive, OneLife, IsAnswered, OfferAnswers, RedrawAnswers}
 use Rattle.dvg_6502.proofs.Growing.{GoesOn, within, same_end}
 use Rattle.dvg_6502.proofs.Running.{returned}
 use Rattle.dvg_6502.proofs.Ticking.{acts, append_none}
@@ -70,7 +71,7 @@ module _ (from : Cpu) (steps : ℕ) (calls : List Call) (life : List Item) (is_l
   acts_outcome : (routine : Routine)
       → ((items : List Item) → AreShown items (seen end.log) → Adds routine (call_of routine) items)
       → ((items : List Item) → IsLifeOf calls items → Calls.SinceReset routine items (IsLifeOf calls items))
-      → Calls.taken_bounds routine (call_of routine) (bounds calls) ≡ bounds calls
+      → Plain.taken_bounds routine (call_of routine) (bounds calls) ≡ bounds calls
       → from.log ≡ [] → Goes from.s steps from (bounds calls).0 (bounds calls).1 life
       → Outcome (call_of routine ∷ calls)
   acts_outcome routine adds since same no_log goes =
@@ -88,7 +89,7 @@ module _ (from : Cpu) (steps : ℕ) (calls : List Call) (life : List Item) (is_l
         (λ here. subst (λ (p : ℕ × ℕ). Stood end.mem p.0 p.1 (goes.items ++ life)) (sym same) (goes.stands here)),
       )
 
-  tick_goes : Enters from 0x686A → Stood from.mem (bounds calls).0 (bounds calls).1 life
+  pub tick_goes : Enters from 0x686A → Stood from.mem (bounds calls).0 (bounds calls).1 life
       → Goes from.s steps from (bounds calls).0 (bounds calls).1 life
   tick_goes enters stood =
       let did = acts from.s from (bounds calls).0 (bounds calls).1 stood.stage stood.peeked life enters.entry
@@ -101,8 +102,9 @@ module _ (from : Cpu) (steps : ℕ) (calls : List Call) (life : List Item) (is_l
         logged = did.accesses;
         shown = shown_items did.action did.events did.shows;
         placed = (new.stage.place, new.stands.place);
+        steady = did.steady;
       })
-      (returned from.s (run from.s did.steps from) did.returns did.stack) new
+      (returned from.s (run from.s did.steps from) did.returns did.stack) did.there new
 
   tick_outcome : Enters from 0x686A → Stood from.mem (bounds calls).0 (bounds calls).1 life
       → Outcome (call_of Calls.Tick ∷ calls)
@@ -348,15 +350,15 @@ module _ (from : Cpu) (steps : ℕ) (calls : List Call) (enters : Enters from 0x
   abbrev start : Stage
   start = record { place = Start; half = H0; flipped = false }
 
-  reset_did : Answers from from.c (bounds calls).0 (bounds calls).1 start
-  reset_did = reset_refines from (bounds calls).0 (bounds calls).1 H0 enters
+  reset_did : Answers from from.c 0 0 start
+  reset_did = reset_refines from 0 0 H0 enters
 
   reset_outcome : Outcome (record { routine = Calls.Reset; from = from; steps = steps } ∷ calls)
   reset_outcome = (
     [],
     ([], [], refl, (quiet_before from.s steps reset_did.steps from reset_did.returns reset_did.shows, refl), refl),
     (Start, refl),
-    (λ here. subst (λ (k : Cpu). Stood k.mem (bounds calls).0 (bounds calls).1 [])
+    (λ here. subst (λ (k : Cpu). Stood k.mem 0 0 [])
         (sym (same_end from.s steps reset_did.steps from here reset_did.returns))
         (record {
           stage = start;
@@ -374,7 +376,7 @@ pub record Before (call : Call) (calls : List Call) : Type 0 where
   pub is_life : IsLifeOf calls life
   pub stood : Stood call.from.mem (bounds calls).0 (bounds calls).1 life
 
-before : (call : Call) (calls : List Call) → Calls.Follows call calls → IsLoaded call.from.mem → Outcome calls
+pub before : (call : Call) (calls : List Call) → Plain.Follows call calls → IsLoaded call.from.mem → Outcome calls
     → Before call calls
 before call [] follows load outcome = absurd follows
 before call (older ∷ calls) follows load outcome =
@@ -393,7 +395,7 @@ outcome (call ∷ calls) session = by call.routine call.from call.steps session.
   where
     by : (routine : Routine) (from : Cpu) (steps : ℕ) → Enters from (Calls.entry routine)
         → Calls.OffersTable routine from
-        → Calls.UnlessReset routine (Calls.Follows (record { routine = routine; from = from; steps = steps }) calls
+        → Calls.UnlessReset routine (Plain.Follows (record { routine = routine; from = from; steps = steps }) calls
         × IsSession calls)
         → (IsSession calls → Outcome calls) → Outcome (record { routine = routine; from = from; steps = steps } ∷ calls)
     by Calls.Reset from steps enters table rest older = reset_outcome from steps calls enters
@@ -442,7 +444,7 @@ is_kind (Read halted) access is = ap Read is.2 ∙ sym (ap kind_of (head_same ac
 is_kind Sent access is = sym (ap kind_of (head_same access (Writes 0x3000 is.0) is.1))
 is_kind Idle access is = absurd (cc)
 
-one_shown : (log : List Access) (one other : List Item) → AreShown one log → AreShown other log → one ≡ other
+pub one_shown : (log : List Access) (one other : List Item) → AreShown one log → AreShown other log → one ≡ other
 one_shown [] [] [] a b = refl
 one_shown [] [] (Did action ∷ other) a b = absurd b
 one_shown [] [] (Offered half F ∷ other) a b = absurd b
@@ -469,7 +471,7 @@ one_added Calls.Run call one other a b = one_shown (seen (after call).log) one o
 one_added (Calls.Offer F) call one other a b = a.1 ∙ sym b.1
 one_added Calls.Redraw call one other a b = a.1 ∙ sym b.1
 
-one_since : (routine : Routine) (one other : List Item) (P : List Item → Type 0) → (P one → P other → one ≡ other)
+pub one_since : (routine : Routine) (one other : List Item) (P : List Item → Type 0) → (P one → P other → one ≡ other)
     → Calls.SinceReset routine one (P one) → Calls.SinceReset routine other (P other) → one ≡ other
 one_since Calls.Reset one other P same a b = a ∙ sym b
 one_since Calls.Tick one other P same a b = same a b
@@ -488,7 +490,7 @@ one_life (call ∷ calls) one other a b =
 -- what stood before a call of a session, after the life that the calls before it make
 stood_of : (routine : Routine) (from : Cpu) (steps : ℕ) (calls : List Call) (life : List Item)
     → Enters from (Calls.entry routine)
-    → Calls.Follows (record { routine = routine; from = from; steps = steps }) calls → IsSession calls
+    → Plain.Follows (record { routine = routine; from = from; steps = steps }) calls → IsSession calls
     → IsLifeOf calls life
     → Stood from.mem (bounds calls).0 (bounds calls).1 life
 stood_of routine from steps calls life enters follows session makes =

@@ -3,7 +3,7 @@ use Rattle.std.proofs.Common.{◌≡◌, ℕ, suc, inl, inr, ◌+◌, ◌-◌, �
 use Rattle.std.proofs.Common.{◌∷◌, ◌++◌, length, refl, sym, ap, ◌∙◌, subst, arith, Some, eqb-true, le-leb}
 use Rattle.std.proofs.lemmas.Bool.{ne_eqb}
 use Rattle.std.proofs.lemmas.Nat.{and_le_r, or_lt}
-use Rattle.std.specs.Prelude.{nat_eq, nat_le, nat_lt, bit_and, bit_or, if◌then◌else◌, option_and_then, slice_index}
+use Rattle.std.specs.Prelude.{nat_eq, nat_le, nat_lt, ◌&&◌, bit_and, bit_or, if◌then◌else◌, option_and_then, slice_index}
 use Rattle.dvg_mem.specs.declared.half.Half.{Half}
 use Rattle.dvg_mem.specs.Areas.{other, high}
 use Rattle.dvg_frame.specs.Bytes.{addressed}
@@ -13,6 +13,7 @@ use Rattle.dvg_driver.specs.Place.{Writing, next_place}
 use Rattle.dvg_driver.specs.Stands.{Stage, StandsAfter}
 use Rattle.dvg_driver.proofs.Places.{with_left-append, write_fits}
 use Rattle.dvg_6502.specs.Processor.{Cpu, Access, Writes, put}
+use Rattle.dvg_6502.specs.Amid.{all_in}
 use Rattle.dvg_6502.specs.Board.{IsLoaded, is_hardware, source_in, goal_in, seen}
 use Rattle.dvg_6502.specs.Feed.{fed, put_for, second_then, second_byte}
 use Rattle.dvg_6502.specs.Holds.{IsFeeding, Holds, publish_byte}
@@ -22,7 +23,7 @@ use Rattle.dvg_6502.proofs.Memory.{same_out, kept_write, le_not, out_of_page}
 use Rattle.dvg_6502.proofs.StoredByte.{phase_then, carried}
 use Rattle.dvg_6502.proofs.FedByte.{writes}
 use Rattle.dvg_6502.proofs.Moving.{left_on, address_on, parity_on, stays, done}
-use Rattle.dvg_6502.proofs.Acting.{Acts, close}
+use Rattle.dvg_6502.proofs.Acting.{Acts, Covers, close}
 
 -- a byte of the frame is written
 pub stands_on : (half : Half) (flipped : Bool) (a byte : ℕ) (list more : List (ℕ × ℕ)) (peeked : ℕ) (life : List Item)
@@ -270,9 +271,17 @@ module _ (q a x y s : ℕ) (n z c v : Bool) (mem flags : ℕ → ℕ) (log : Lis
     silent = let zero' : source_in mem + 0 ≡ source_in mem = omega arith in
         subst (λ q. is_hardware q ≡ false) zero' (far 0 (omega arith)).1
 
-    runs : Ends q (from 0x80 (mem 0x11) (second_byte second)) s (final phase) (Writes to w ∷ seen log)
+    -- where the byte comes from, as the code finds it
+    abbrev taken : ℕ
+    taken = (mem 0x19 + 256 * mem 0x1A + mem 0x13) % 65536
+
+    held : (tables : ℕ → Bool) → Covers tables begin stop → all_in tables (taken ∷ []) ≡ true
+    held tables covers = ap (λ (t : Bool). t && true)
+        (covers taken (omega (arith, source_is, after)) (omega (arith, source_is, ends)))
+
+    runs : Ends q (from 0x80 (mem 0x11) (second_byte second)) s (final phase) (Writes to w ∷ seen log) (taken ∷ [])
     runs = subst (λ p. Ends q (from 0x80 (mem 0x11) (second_byte second)) s (laid (there phase) (put p w mem))
-        (Writes p w ∷ seen log)) to_is
+        (Writes p w ∷ seen log) (taken ∷ [])) to_is
         (writes q s (mem 0x11) (mem 0x12) (mem 0x13) (mem 0x14) (mem 0x15) (mem 0x16) (mem 0x17) (mem 0x19)
         (mem 0x1A) mem flags
         wrap (nat_eq ((up + 256 - mem 0x17) % 256) 0) (nat_eq pages 0)
@@ -322,7 +331,7 @@ module _ (q a x y s : ℕ) (n z c v : Bool) (mem flags : ℕ → ℕ) (log : Lis
     tick =
         close q (from 0x80 (mem 0x11) (second_byte second)) s (final phase) (Writes to w ∷ []) (Wrote (to - 0x4000) w)
         (stage_then rest) begin stop peeked life
-        runs refl (let same : to ≡ 0x4000 + (to - 0x4000) = omega (arith, low) in ap (λ p. Writes p w ∷ []) same) tt
+        held runs refl (let same : to ≡ 0x4000 + (to - 0x4000) = omega (arith, low) in ap (λ p. Writes p w ∷ []) same) tt
         (stands_on half set (to - 0x4000) w list rest peeked life are (omega (arith, low)) stands)
         (holds more refl)
         (loaded (there phase) (put to w mem) pages_small

@@ -8,11 +8,13 @@ use Rattle.dvg_driver.specs.declared.action.Action.TheVariants.{Peek, Wrote, Rea
 use Rattle.dvg_driver.specs.Script.{Item}
 use Rattle.dvg_6502.specs.Processor.{Cpu, Access, Writes, Return, put, run, turn, does, decoded, opcodes}
 use Rattle.dvg_6502.specs.Board.{IsLoaded, seen, is_own}
+use Rattle.dvg_6502.specs.Amid.{is_kept, is_steady, are_steady}
 use Rattle.dvg_6502.specs.Routines.{acted}
-use Rattle.dvg_6502.proofs.Running.{at, run_more}
+use Rattle.dvg_6502.proofs.Running.{at, run_more, steady_more, and_true}
 use Rattle.dvg_6502.proofs.Memory.{AreSmall, laid, page_in, in_page, in_code, known, loaded, put_out, put_small}
 use Rattle.dvg_6502.proofs.Memory.{both_true, le_not}
-use Rattle.dvg_6502.proofs.Acting.{Acts}
+use Rattle.dvg_6502.proofs.Acting.{Acts, Covers}
+use Rattle.dvg_6502.proofs.Steady.{rts_steady, code_kept}
 use Rattle.dvg_6502.proofs.Ticking.{acts}
 use Rattle.dvg_6502.proofs.Standing.{Stood, stood_on, stood_tick, items_of, shown_items}
 use Rattle.dvg_6502.proofs.Going.{Stretch}
@@ -57,7 +59,7 @@ back_of false = 0x64
 pub record Turned (q : ℕ) (site : Bool) (cpu : Cpu) (begin stop : ℕ) (life : List Item) : Type 0 where
   pub steps : ℕ
   pub some : 1 ≤ steps
-  pub made : Stretch q cpu steps life
+  pub made : Stretch begin stop q cpu steps life
   pub pc : (run q steps cpu).pc ≡ site_of site + 3
   pub stack : (run q steps cpu).s ≡ q
   pub stood : Stood (run q steps cpu).mem begin stop (made.items ++ life)
@@ -219,6 +221,23 @@ module _ (q a x y : ℕ) (n z c v : Bool) (mem flags : ℕ → ℕ) (log : List 
   end_pc = ap (λ l. (l + 256 * fin.mem (0x100 + (fin.s + 2) % 256) + 1) % 65536) low_back
       ∙ ap (λ h. (back_of site + 256 * h + 1) % 65536) high_back ∙ site_is site
 
+  call_steady : (site : Bool) (tables : ℕ → Bool)
+      → are_steady (is_kept tables) q 1 (at (site_of site) a x y q n z c v (laid page mem) flags log) ≡ true
+  call_steady true tables = refl
+  call_steady false tables = refl
+
+  all_steady : (tables : ℕ → Bool) → Covers tables begin stop
+      → are_steady (is_kept tables) q (1 + (did.steps + 1)) from ≡ true
+  all_steady tables covers =
+      let to_fin : run q (did.steps + 1) from ≡ fin = run_more q 1 did.steps from ∙ ap (run q did.steps) called in
+      let home : nat_eq ((fin.s + 2) % 256) q ≡ true = eq-eqb ((fin.s + 2) % 256) q (omega (arith, inner_is)) in
+      steady_more (is_kept tables) q (did.steps + 1) 1 from
+      (steady_more (is_kept tables) q 1 did.steps from (call_steady site tables)
+      (ap (are_steady (is_kept tables) q did.steps) called ∙ did.steady tables covers))
+      (ap (are_steady (is_kept tables) q 1) to_fin
+      ∙ and_true (is_steady (is_kept tables) q fin) true
+      (rts_steady (is_kept tables) q fin (code_kept tables fin.pc did.there) did.returns not_q home) refl)
+
   new : Stood fin.mem begin stop (items_of did.action ++ life)
   new = stood_tick q start begin stop stood'.peeked life stood'.byte1 did
 
@@ -232,6 +251,7 @@ module _ (q a x y : ℕ) (n z c v : Bool) (mem flags : ℕ → ℕ) (log : List 
       logged = ap (λ (k : Cpu). seen k.log) ends ∙ did.accesses ∙ ap (λ l. did.events ++ l) quiet;
       shown = shown_items did.action did.events did.shows;
       placed = (new.stage.place, new.stands.place);
+      steady = all_steady;
     };
     pc = ap (λ (k : Cpu). k.pc) ends ∙ end_pc;
     stack = ap (λ (k : Cpu). k.s) ends ∙ omega (arith, inner_is);

@@ -6,32 +6,38 @@ use Rattle.std.specs.Prelude.{nat_eq, nat_le, nat_lt, ◌⊎◌}
 use Rattle.dvg_driver.specs.Script.{Item}
 use Rattle.dvg_6502.specs.Processor.{Cpu, Access, Reads, Writes, put, run, at_return}
 use Rattle.dvg_6502.specs.Board.{IsLoaded, seen}
-use Rattle.dvg_6502.proofs.Running.{at, run_more, returned}
+use Rattle.dvg_6502.specs.Amid.{is_kept, is_code, are_steady}
+use Rattle.dvg_6502.proofs.Running.{at, run_more, returned, steady_more}
 use Rattle.dvg_6502.proofs.Memory.{AreSmall, laid, page_in, known, loaded, put_out, put_small, both_true}
 use Rattle.dvg_6502.proofs.Standing.{Stood, stood_on}
 use Rattle.dvg_6502.proofs.Going.{Goes, Stretch, finish, go_on}
 use Rattle.dvg_6502.proofs.TickCall.{Turned, tick_call, past_low}
 
 -- a stretch, and steps after it that touch no hardware
-abbrev pub extend : (q : ℕ) (cpu : Cpu) (k more : ℕ) (life : List Item) → Stretch q cpu k life
-    → seen (run q more (run q k cpu)).log ≡ seen (run q k cpu).log → Stretch q cpu (more + k) life
-extend q cpu k more life made quiet = record {
+abbrev pub extend : (begin stop q : ℕ) (cpu : Cpu) (k more : ℕ) (life : List Item) → Stretch begin stop q cpu k life
+    → seen (run q more (run q k cpu)).log ≡ seen (run q k cpu).log
+    → ((tables : ℕ → Bool) → are_steady (is_kept tables) q more (run q k cpu) ≡ true)
+    → Stretch begin stop q cpu (more + k) life
+extend begin stop q cpu k more life made quiet steady = record {
   items = made.items;
   accesses = made.accesses;
   shown = made.shown;
   placed = made.placed;
   logged = ap (λ (c : Cpu). seen c.log) (run_more q k more cpu) ∙ quiet ∙ made.logged;
+  steady = λ tables covers. steady_more (is_kept tables) q k more cpu (made.steady tables covers) (steady tables);
 }
 
 -- a stretch that touches no hardware
 abbrev pub idle_stretch : (q : ℕ) (cpu : Cpu) (k begin stop : ℕ) (life : List Item) (mem : ℕ → ℕ)
-    → Stood mem begin stop life → seen (run q k cpu).log ≡ seen cpu.log → Stretch q cpu k life
-idle_stretch q cpu k begin stop life mem stood quiet = record {
+    → Stood mem begin stop life → seen (run q k cpu).log ≡ seen cpu.log
+    → ((tables : ℕ → Bool) → are_steady (is_kept tables) q k cpu ≡ true) → Stretch begin stop q cpu k life
+idle_stretch q cpu k begin stop life mem stood quiet steady = record {
   items = [];
   accesses = [];
   shown = tt;
   placed = (stood.stage.place, stood.stands.place);
   logged = quiet;
+  steady = λ tables covers. steady tables;
 }
 
 -- any state, by its place
@@ -134,8 +140,9 @@ module _ (q begin stop : ℕ) (q_small : q < 256) where
       left : Stood (laid (page_in mid.mem) (put 0x1F r mid.mem)) begin stop (t.made.items ++ life)
       left = count_stood mid.mem r begin stop (t.made.items ++ life) (omega arith) t.stood
 
-      made : (pc : ℕ) (z : Bool) → run q 2 mid ≡ end pc z → Stretch q cpu (2 + t.steps) life
-      made pc z is = extend q cpu t.steps 2 life t.made (ap (λ (c : Cpu). seen c.log) is)
+      made : (pc : ℕ) (z : Bool) → run q 2 mid ≡ end pc z → Stretch begin stop q cpu (2 + t.steps) life
+      made pc z is = extend begin stop q cpu t.steps 2 life t.made (ap (λ (c : Cpu). seen c.log) is)
+          (λ tables. ap (are_steady (is_kept tables) q 2) (sym from_is))
 
       whole : (pc : ℕ) (z : Bool) → run q 2 mid ≡ end pc z → run q (2 + t.steps) cpu ≡ end pc z
       whole pc z is = run_more q t.steps 2 cpu ∙ is
@@ -147,6 +154,7 @@ module _ (q begin stop : ℕ) (q_small : q < 256) where
           (ap (λ m. nat_eq m 0) (sym count_is) ∙ none) in
           finish q k cpu begin stop life (2 + t.steps) (made 0x6869 true is)
           (ap (at_return q) (whole 0x6869 true is) ∙ returned q (end 0x6869 true) refl refl)
+          (ap (λ (c : Cpu). is_code c.pc) (whole 0x6869 true is))
           (subst (λ (c : Cpu). Stood c.mem begin stop (t.made.items ++ life)) (sym (whole 0x6869 true is)) left)
       by (inr more) =
           let is = ap (run q 2) (sym from_is)
@@ -177,7 +185,7 @@ pub ticks_go : (k : ℕ) (cpu : Cpu) (begin stop : ℕ) (life : List Item) → c
     → Stood cpu.mem begin stop life → Goes cpu.s k cpu begin stop life
 ticks_go k cpu begin stop life at_pc a_small s_small stood =
     subst (λ (c : Cpu). Goes cpu.s k c begin stop life) is
-    (go_on cpu.s k from begin stop life 1 (idle_stretch cpu.s from 1 begin stop life cpu.mem stood refl)
+    (go_on cpu.s k from begin stop life 1 (idle_stretch cpu.s from 1 begin stop life cpu.mem stood refl (λ tables. refl))
     (omega arith) refl
     (λ j less. ticks_left cpu.s begin stop s_small ((cpu.a + 255) % 256) j (run cpu.s 1 from) life
     (omega arith) refl refl (omega (arith, a_small)) counted))

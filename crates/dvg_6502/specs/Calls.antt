@@ -1,10 +1,11 @@
 -- Many calls of the routines, and the life that their accesses make.
 use Rattle.std.specs.Prelude.{◌≡◌, ℕ, ◌+◌, ◌*◌, ◌<◌, ◌≤◌, ◌&&◌, Bool, true, false, not, List, [], ◌∷◌, ◌++◌, length}
-use Rattle.std.specs.Prelude.{if◌then◌else◌}
+use Rattle.std.specs.Prelude.{if◌then◌else◌, ◌||◌, nat_le, nat_lt}
 use Rattle.dvg_mem.specs.Areas.{other, half_of_high}
 use Rattle.dvg_frame.specs.declared.op.OpKind.{OpKind}
 use Rattle.dvg_driver.specs.Script.{Item, Offered, Asked, Did, IsLife, IsWhole, has_flip}
-use Rattle.dvg_6502.specs.Processor.{Cpu, Access, run, at_return}
+use Rattle.dvg_6502.specs.Processor.{Cpu, Access, at_return}
+use Rattle.dvg_6502.specs.Amid.{amid, AreHarmless, guards, is_kept}
 use Rattle.dvg_6502.specs.Code.{dvg_reset, dvg_tick, dvg_ticks, dvg_run, dvg_offer, dvg_redraw}
 use Rattle.dvg_6502.specs.Board.{seen, is_own, is_ram, byte1_place, phase_in}
 use Rattle.dvg_6502.specs.Tables.{HasTable, table_of}
@@ -28,15 +29,17 @@ entry Run = dvg_run
 entry (Offer F) = dvg_offer
 entry Redraw = dvg_redraw
 
--- a call, from the processor at its entry, after this many steps
+-- a call, from the processor at its entry, after this many steps; others may interrupt it, and each step finds the
+-- memory that they leave
 pub record Call : Type 0 where
   pub routine : Routine
   pub from : Cpu
   pub steps : ℕ
+  pub others : ℕ → ℕ → ℕ
 
 -- the processor after those steps
 abbrev pub after : Call → Cpu
-after call = run call.from.s call.steps call.from
+after call = amid call.from.s call.others call.steps call.from
 
 abbrev pub has_returned : Call → Bool
 has_returned call = at_return call.from.s (after call)
@@ -54,12 +57,30 @@ OffersTable routine cpu = Unit {0}
 abbrev pub taken_bounds : Routine → Call → ℕ × ℕ → ℕ × ℕ
 taken_bounds (Offer F) call older =
     let t = call.from.a + 256 * call.from.x + 2 in if is_taken call then (t, t + length (table_of F)) else older
+taken_bounds Reset call older = (0, 0)
 taken_bounds routine call older = older
 
 -- calls are lists with the newest one first
 abbrev pub bounds : List Call → ℕ × ℕ
 bounds [] = (0, 0)
 bounds (call ∷ calls) = taken_bounds call.routine call (bounds calls)
+
+-- a byte of the table that is offered, or of its count
+abbrev pub is_offered : Routine → Cpu → ℕ → Bool
+is_offered (Offer F) cpu b =
+    let t = cpu.a + 256 * cpu.x in nat_le t b && nat_lt b (t + 2 + length (table_of F))
+is_offered routine cpu b = false
+
+-- a byte of a table that matters to a call: of the one that was taken last, or of the one that is offered
+abbrev pub is_table : Call → List Call → ℕ → Bool
+is_table call calls b =
+    (nat_le (bounds calls).0 b && nat_lt b (bounds calls).1) || is_offered call.routine call.from b
+
+-- those who interrupt a call leave the driver's bytes, its code, the hardware, these tables, and within its call of
+-- dvg_tick the return address as they are
+abbrev pub IsLeftAlone : Call → List Call → Type 0
+IsLeftAlone call calls =
+    AreHarmless (guards (is_kept (is_table call calls)) call.from.s) call.from.s call.others call.steps call.from
 
 -- what nobody else writes between two calls: the driver's bytes, the vector RAM, and a table while it is being
 -- written (DVG_WRITE)
@@ -82,7 +103,7 @@ UnlessReset routine premise = premise
 abbrev pub IsSession : List Call → Type 0
 IsSession [] = ⊥
 IsSession (call ∷ calls) =
-    Enters call.from (entry call.routine) × OffersTable call.routine call.from
+    Enters call.from (entry call.routine) × OffersTable call.routine call.from × IsLeftAlone call calls
     × UnlessReset call.routine (Follows call calls × IsSession calls)
 
 -- accesses of the hardware as actions, one by one
@@ -125,11 +146,12 @@ OneLife = (calls : List Call) (one other : List Item) → IsLifeOf calls one →
 pub record IsAnswered (routine : Routine) (c : Bool) (life : List Item) : Type 0 where
   pub from : Cpu
   pub steps : ℕ
+  pub others : ℕ → ℕ → ℕ
   pub calls : List Call
-  pub session : IsSession (record { routine = routine; from = from; steps = steps } ∷ calls)
+  pub session : IsSession (record { routine = routine; from = from; steps = steps; others = others } ∷ calls)
   pub makes : IsLifeOf calls life
-  pub returns : at_return from.s (run from.s steps from) ≡ true
-  pub carry : (run from.s steps from).c ≡ c
+  pub returns : at_return from.s (amid from.s others steps from) ≡ true
+  pub carry : (amid from.s others steps from).c ≡ c
 
 -- an offer is taken, with C clear, exactly where the life is whole
 abbrev pub OfferAnswers : Type 0

@@ -1,8 +1,13 @@
 -- The board in the world: logs whose driver's lines are accesses and answers of the machine code.
-use Rattle.std.specs.Prelude.{◌≡◌, ℕ, true, false, List, [], ◌∷◌, is_none}
+use Rattle.std.specs.Prelude.{◌≡◌, ℕ, true, false, List, [], ◌∷◌, is_none, pos}
+use Rattle.dvg_code.specs.declared.instr.Instr.TheVariants.{Labs, Vctr}
+use Rattle.dvg_mem.specs.declared.half.Half.TheVariants.{H1}
 use Rattle.dvg_mem.specs.Memory.{IsImage, IsRom}
+use Rattle.dvg_frame.specs.declared.op.OpKind.{OpKind}
+use Rattle.dvg_frame.specs.declared.op.OpKind.TheVariants.{Draw, Halt}
 use Rattle.dvg_frame.specs.Faults.{Accepts}
-use Rattle.dvg_driver.specs.declared.action.Action.TheVariants.{Peek}
+use Rattle.dvg_driver.specs.declared.action.Action.TheVariants.{Peek, Read}
+use Rattle.dvg_driver.specs.Script
 use Rattle.dvg_driver.specs.Script.{Item, Did, has_flip}
 use Rattle.dvg_driver.specs.Stands.{Tells}
 use Rattle.dvg_log.specs.Events.{Happening, IsEvent}
@@ -13,7 +18,7 @@ use Rattle.dvg_log.specs.Log.{◌⟼◌, Log, Throughout, open_run, life}
 use Rattle.dvg_log.specs.Legal.{IsLegal, Fits}
 use Rattle.dvg_log.specs.Headline.{KeepsHeadline}
 use Rattle.dvg_6502.specs.Calls
-use Rattle.dvg_6502.specs.Calls.{Call, IsSession, IsLifeOf, IsAnswered}
+use Rattle.dvg_6502.specs.Calls.{Call, after, IsSession, IsLifeOf, IsAnswered}
 
 -- calls of the routines make this life
 abbrev pub IsMade : List Item → Type 0
@@ -43,6 +48,18 @@ abbrev pub BoardKeeps : Type 0
 BoardKeeps = (R image : List ℕ) (log : Log) → IsBoards R image log → IsLegal R image log
     × Throughout (KeepsHeadline R image) log
 
--- there are calls that make a life: a reset and a tick make one of a peek
+-- a frame of one stroke
+abbrev pub stroke : List OpKind
+stroke = Draw (Labs 512 512 0) ∷ Draw (Vctr 9 (pos 100) (pos 0) 7) ∷ Halt ∷ []
+
+-- there are calls: after the boot the table of that frame is offered, and taken, in the free half; amid that comes an
+-- NMI, which counts in byte 0
 abbrev pub SomeCalls : Type 0
-SomeCalls = IsMade (Did Peek ∷ [])
+SomeCalls = (call : Call) × (calls : List Call) × IsSession (call ∷ calls)
+    × IsLifeOf (call ∷ calls) (Script.Offered H1 stroke ∷ Did (Read true) ∷ Did Peek ∷ [])
+    × (call.from.mem 0 ≡ 0) × ((after call).mem 0 ≡ 1)
+
+-- and there are logs of the board in which that frame is taken, over each ROM and each first image
+abbrev pub SomeLogs : Type 0
+SomeLogs = (R image : List ℕ) → IsRom R → IsImage image
+    → IsBoards R image ((Offer stroke ⟼ Offered) ∷ (Tick ⟼ Acted (Read true)) ∷ (Tick ⟼ Acted Peek) ∷ [])

@@ -1,9 +1,13 @@
 pub mod Processor
 pub mod Code
 pub mod Board
+pub mod Amid
 pub mod Feed
 pub mod Holds
 pub mod Tables
 pub mod Routines
 pub mod Calls
+pub mod Build
+pub mod Whole
+pub mod Decided
 pub mod Joined

@@ -71,9 +71,9 @@ opcodes =
     ∷ (0x86, Store X ZeroPage) ∷ (0x84, Store Y ZeroPage)
     -- TAX, TXA, TYA
     ∷ (0xAA, Transfer A X) ∷ (0x8A, Transfer X A) ∷ (0x98, Transfer Y A)
-    -- AND #, ORA #, ORA (zp),Y, EOR #
-    ∷ (0x29, And Immediate) ∷ (0x09, Or Immediate) ∷ (0x11, Or IndirectIndexed)
-    ∷ (0x49, Xor Immediate)
+    -- AND #, ORA #, ORA zp, ORA (zp),Y, EOR #, EOR zp
+    ∷ (0x29, And Immediate) ∷ (0x09, Or Immediate) ∷ (0x05, Or ZeroPage) ∷ (0x11, Or IndirectIndexed)
+    ∷ (0x49, Xor Immediate) ∷ (0x45, Xor ZeroPage)
     -- CMP #, CPY #, CPY zp, BIT abs
     ∷ (0xC9, Compare A Immediate) ∷ (0xC0, Compare Y Immediate) ∷ (0xC4, Compare Y ZeroPage)
     ∷ (0x2C, TestBits Absolute)

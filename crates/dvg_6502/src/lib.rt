@@ -3,9 +3,13 @@
 #![tactic(auto)]
 
 ghost use Rattle.dvg_6502.specs.Calls.{CallsLive, OfferAnswers, OneLife, RedrawAnswers};
-ghost use Rattle.dvg_6502.specs.Joined.{BoardKeeps, SomeCalls};
+ghost use Rattle.dvg_6502.specs.Decided.{Decides};
+ghost use Rattle.dvg_6502.specs.Joined.{BoardKeeps, SomeCalls, SomeLogs};
 ghost use Rattle.dvg_6502.specs.Routines.{OfferRefuses, OfferTakes, RedrawRefuses, RedrawTakes};
 ghost use Rattle.dvg_6502.specs.Routines.{ResetRefines, TickRefines};
+ghost use Rattle.dvg_6502.specs.Build.{BuildsScript, BuiltAccepted, CloseTakes, IdleTicks};
+ghost use Rattle.dvg_6502.specs.Build.{LabsTakes, OpenTakes, PairTakes, PutTakes};
+ghost use Rattle.dvg_6502.specs.Whole.{BuildsFrame, BuildsLife, SomeFrame};
 ghost use Rattle.dvg_6502.specs.Tables.{CheckedExpressible, TableLaw, TableMisses};
 
 /// What is written for the table of a frame is the frame in either half.
@@ -45,16 +49,18 @@ pub fn redraw()
     ensures refuses { RedrawRefuses }
 {}
 
-/// Over all calls since a reset, with any memory at first, in which nobody else writes the driver's
-/// bytes, its code, the vector RAM or a table while it is being written: the accesses of the
-/// hardware, in their order, with the frames and redraws that were taken, are a life of the script.
+/// Over all calls since a reset, with any memory at first, also interrupted ones, where nobody else
+/// writes the driver's bytes, its code, the hardware or a table that is being written: the accesses of
+/// the hardware, in their order, with the frames and redraws that were taken, are a life of the script.
 pub fn calls_live()
     ensures { CallsLive }
 {}
 
-/// There are such calls: a reset and a tick make a life of a peek.
+/// There are such calls: after the boot a frame's table is offered, and taken, and an NMI that counts
+/// comes amid that. So there are such logs, over each ROM and each first memory image.
 pub fn some_calls()
-    ensures { SomeCalls }
+    ensures calls { SomeCalls }
+    ensures logs { SomeLogs }
 {}
 
 /// Calls make at most one life.
@@ -74,4 +80,37 @@ pub fn answers()
 /// newest published.
 pub fn board_keeps()
     ensures { BoardKeeps }
+{}
+
+/// The routines that build a frame, one by one: what they put is written where the frame goes on, as the
+/// script's next writes, and after `dvg_close` word zero is to come.
+pub fn builds()
+    ensures opens { OpenTakes }
+    ensures puts { PutTakes }
+    ensures pairs { PairTakes }
+    ensures labs { LabsTakes }
+    ensures closes { CloseTakes }
+    ensures idles { IdleTicks }
+    ensures script { BuildsScript }
+{}
+
+/// Calls of these routines, one after the other, build a whole frame, also amid interrupts that leave
+/// the driver's bytes alone. Where it is a draft's, these are the script's writes of that draft. There
+/// are such calls.
+pub fn builds_frame()
+    ensures writes { BuildsFrame }
+    ensures life { BuildsLife }
+    ensures some { SomeFrame }
+{}
+
+/// The check accepts each frame of a LABS, then vectors, LABSs and calls of shapes, then the HALT, of at
+/// most 511 words, if it accepts the frames that call these shapes once.
+pub fn built_accepted()
+    ensures { BuiltAccepted }
+{}
+
+/// After its look at the phase, if that refuses, and after its store of the phase, a call of the main
+/// program takes its code alone: ticks of an NMI may act there, and it returns the same C.
+pub fn decides()
+    ensures { Decides }
 {}

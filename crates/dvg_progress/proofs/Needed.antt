@@ -1,5 +1,6 @@
--- The laws of progress need their premises: for each a legal log in which the others hold, and what
--- the law says doesn't. By the law itself it is the premise left out of a lemma that fails there.
+-- The laws of progress need premises: for each that is left out here there is a legal log in which
+-- the others hold, and what the law says doesn't. By the law itself it is the premise left out of a
+-- lemma that fails there.
 use Rattle.std.proofs.Common.{◌≡◌, ℕ, zero, suc, true, false, List, [], ◌∷◌, ◌++◌, length, replicate, Option, Some, pos, negsuc, ◌≤◌, lit<, lit≤, refl, sym, ap, ◌*◌, ◌+◌}
 use Rattle.std.specs.Prelude.{◌≢◌, None, is_none, option_and_then, reverse}
 use Rattle.std.specs.List.{AllByRecursion}

@@ -1,0 +1,36 @@
+-- A call that is steady up to its return comes out amid others as without them.
+use Rattle.std.proofs.Common.{◌≡◌, ℕ, suc, Bool, true, false, refl, ap, ◌∙◌}
+use Rattle.std.specs.Prelude.{nat_eq, ◌&&◌, ◌||◌}
+use Rattle.dvg_6502.specs.Processor.{Cpu, run, at_return}
+use Rattle.dvg_6502.specs.Amid.{ComesOut, CameOut, amid, guards, is_kept_building, are_steady, is_code}
+use Rattle.dvg_6502.proofs.AmidRun.{came_out}
+use Rattle.dvg_6502.proofs.Steady.{steady_all, code_kept, last_kept}
+
+left_true : (t u : Bool) → t ≡ true → (t || u) ≡ true
+left_true true u is = refl
+left_true false u is = absurd (cc)
+
+pub comes_out : (kept : ℕ → Bool) (cpu : Cpu) (steps : ℕ) → ((b : ℕ) → is_code b ≡ true → kept b ≡ true)
+    → at_return cpu.s (run cpu.s steps cpu) ≡ true → are_steady kept cpu.s steps cpu ≡ true
+    → is_code (run cpu.s steps cpu).pc ≡ true → ComesOut (guards kept cpu.s) cpu
+comes_out kept cpu steps code back steady there n others harmless = (same, returned)
+  where
+    all : (k : ℕ) → are_steady kept cpu.s k cpu ≡ true
+    all k = steady_all kept cpu.s steps k cpu steady back (code (run cpu.s steps cpu).pc there)
+
+    pl : Cpu
+    pl = run cpu.s n cpu
+
+    same : CameOut (guards kept cpu.s) pl (amid cpu.s others n cpu)
+    same = came_out kept cpu.s n cpu cpu.mem others (λ b is. refl) (all n) harmless
+
+    returned : at_return cpu.s (amid cpu.s others n cpu) ≡ at_return cpu.s pl
+    returned = ap (at_return cpu.s) same.same
+        ∙ ap (λ b. nat_eq b 0x60 && nat_eq pl.s cpu.s)
+        (same.keeps pl.pc (left_true (kept pl.pc) _ (last_kept kept cpu.s n cpu (all (suc n)))))
+
+pub alike_if : (cpu : Cpu) (steps : ℕ) → at_return cpu.s (run cpu.s steps cpu) ≡ true
+    → are_steady is_kept_building cpu.s steps cpu ≡ true → is_code (run cpu.s steps cpu).pc ≡ true
+    → ComesOut (guards is_kept_building cpu.s) cpu
+alike_if cpu steps back steady there =
+    comes_out is_kept_building cpu steps (code_kept (λ b. false)) back steady there

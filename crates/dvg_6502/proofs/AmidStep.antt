@@ -1,0 +1,239 @@
+-- A step amid interrupts.
+use Rattle.std.proofs.Common.{◌≡◌, ℕ, ◌+◌, ◌-◌, ◌*◌, ◌/◌, ◌%◌, Bool, List, [], ◌∷◌, refl, sym}
+use Rattle.std.proofs.Common.{ap, ◌∙◌}
+use Rattle.std.specs.Prelude.{nat_eq, nat_le, if◌then◌else◌, bit_and, bit_or, bit_xor}
+use Rattle.dvg_6502.specs.Processor.{Cpu, Instr, Mode, Immediate, ZeroPage, Absolute, IndirectIndexed, Load, Store}
+use Rattle.dvg_6502.specs.Processor.{Transfer, And, Or, Xor, Compare, TestBits, Change, Step, ShiftLeft, RotateLeft}
+use Rattle.dvg_6502.specs.Processor.{ShiftLeftA, ShiftRightA, SetCarry, Branch, Jump, Call, Return, Unknown}
+use Rattle.dvg_6502.specs.Processor.{Register, A, X, Y, Flag, Negative, Zero, Carry, Reads, put}
+use Rattle.dvg_6502.specs.Processor.{decoded, opcodes, address, operand, found, flags_after, reading, reads, writing}
+use Rattle.dvg_6502.specs.Processor.{setting, telling, carrying, next, size, of_register, of_flag, does, stack_place, step}
+use Rattle.dvg_6502.specs.Processor.{flag_place, is_so, target, changing, bit_of}
+use Rattle.dvg_6502.specs.Amid.{changed, naming, named, touches}
+
+-- two memories agree on these bytes
+abbrev pub Agree : (ℕ → ℕ) → (ℕ → ℕ) → List ℕ → Type 0
+Agree m mem [] = Unit {0}
+Agree m mem (b ∷ bs) = (m b ≡ mem b) × Agree m mem bs
+
+-- a step is the same over another memory
+pub record Same (cpu after other : Cpu) (m : ℕ → ℕ) : Type 0 where
+  pub memory : ℕ → ℕ
+  pub same : other ≡ changed memory after
+  pub keeps : (b : ℕ) → m b ≡ cpu.mem b → memory b ≡ after.mem b
+
+put_keeps : (p v : ℕ) (m mem : ℕ → ℕ) (b : ℕ) → m b ≡ mem b → put p v m b ≡ put p v mem b
+put_keeps p v m mem b e = ap (λ (k : ℕ). if nat_eq b p then v else k) e
+
+module _ (cpu : Cpu) (m : ℕ → ℕ) where
+  abbrev it : Cpu
+  it = changed m cpu
+
+  abbrev Ok : Instr → Type 0
+  Ok i = Agree m cpu.mem (touches i cpu) → Same cpu (does i cpu) (does i it) m
+
+  address_same : (mode : Mode) → Agree m cpu.mem (naming mode cpu) → address mode it ≡ address mode cpu
+  address_same Immediate e = refl
+  address_same ZeroPage e = e.0
+  address_same Absolute e = ap (λ l. l + 256 * m (cpu.pc + 2)) e.0 ∙ ap (λ h. cpu.mem (cpu.pc + 1) + 256 * h) e.1.0
+  address_same IndirectIndexed e =
+      ap (λ zp. (m zp + 256 * m ((zp + 1) % 256) + cpu.y) % 65536) e.0
+      ∙ ap (λ l. (l + 256 * m ((cpu.mem (cpu.pc + 1) + 1) % 256) + cpu.y) % 65536) e.1.0
+      ∙ ap (λ h. (cpu.mem (cpu.mem (cpu.pc + 1)) + 256 * h + cpu.y) % 65536) e.1.1.0
+
+  found_same : (p : ℕ) → m p ≡ cpu.mem p → found p it ≡ found p cpu
+  found_same p e = ap (λ (k : ℕ). if nat_eq p flag_place then cpu.flags 0 else k) e
+
+  operand_same : (mode : Mode) → Agree m cpu.mem (named mode cpu) → operand mode it ≡ operand mode cpu
+  operand_same Immediate e = e.0
+  operand_same ZeroPage e = ap (λ p. found p it) (address_same ZeroPage e.1) ∙ found_same (address ZeroPage cpu) e.0
+  operand_same Absolute e = ap (λ p. found p it) (address_same Absolute e.1) ∙ found_same (address Absolute cpu) e.0
+  operand_same IndirectIndexed e = ap (λ p. found p it) (address_same IndirectIndexed e.1)
+      ∙ found_same (address IndirectIndexed cpu) e.0
+
+  reads_same : (p q : ℕ) → p ≡ q → m q ≡ cpu.mem q → reads p it ≡ changed m (reads q cpu)
+  reads_same p q same e = ap (λ p. reads p it) same
+      ∙ ap (λ (k : ℕ). record it { flags = flags_after q cpu; log = Reads q k ∷ cpu.log }) (found_same q e)
+
+  reading_same : (mode : Mode) → Agree m cpu.mem (named mode cpu) → reading mode it ≡ changed m (reading mode cpu)
+  reading_same Immediate e = refl
+  reading_same ZeroPage e = ap (next 2) (reads_same _ _ (address_same ZeroPage e.1) e.0)
+  reading_same Absolute e = ap (next 3) (reads_same _ _ (address_same Absolute e.1) e.0)
+  reading_same IndirectIndexed e = ap (next 2) (reads_same _ _ (address_same IndirectIndexed e.1) e.0)
+
+  setting_same : (r : Register) (v : ℕ) (k : Cpu) → setting r v (changed m k) ≡ changed m (setting r v k)
+  setting_same A v k = refl
+  setting_same X v k = refl
+  setting_same Y v k = refl
+
+  set_same : (r : Register) (v w : ℕ) (k l : Cpu) → v ≡ w → k ≡ changed m l → setting r v k ≡ changed m (setting r w l)
+  set_same r v w k l vs ks = ap (λ v. setting r v k) vs ∙ ap (setting r w) ks ∙ setting_same r w l
+
+  of_register_same : (r : Register) → of_register r it ≡ of_register r cpu
+  of_register_same A = refl
+  of_register_same X = refl
+  of_register_same Y = refl
+
+  of_flag_same : (f : Flag) → of_flag f it ≡ of_flag f cpu
+  of_flag_same Negative = refl
+  of_flag_same Zero = refl
+  of_flag_same Carry = refl
+
+  -- what writes nothing
+  quiet : (after other : Cpu) → other ≡ changed m after → after.mem ≡ cpu.mem → Same cpu after other m
+  quiet after other e kept = record {
+    memory = m;
+    same = e;
+    keeps = λ b same. same ∙ ap (λ (k : ℕ → ℕ). k b) (sym kept);
+  }
+
+  set_kept : (r : Register) (v : ℕ) (k : Cpu) → (setting r v k).mem ≡ k.mem
+  set_kept A v k = refl
+  set_kept X v k = refl
+  set_kept Y v k = refl
+
+  reading_kept : (mode : Mode) → (reading mode cpu).mem ≡ cpu.mem
+  reading_kept Immediate = refl
+  reading_kept ZeroPage = refl
+  reading_kept Absolute = refl
+  reading_kept IndirectIndexed = refl
+
+  load : (r : Register) (mode : Mode) → Ok (Load r mode)
+  load r mode e = quiet _ _ (set_same r _ _ _ _ (operand_same mode e) (reading_same mode e))
+      (set_kept r _ (reading mode cpu) ∙ reading_kept mode)
+
+  and_same : (mode : Mode) → Ok (And mode)
+  and_same mode e = quiet _ _ (set_same A _ _ (reading mode it) (reading mode cpu) (ap (bit_and cpu.a) (operand_same mode e)) (reading_same mode e))
+      (reading_kept mode)
+
+  or_same : (mode : Mode) → Ok (Or mode)
+  or_same mode e = quiet _ _ (set_same A _ _ (reading mode it) (reading mode cpu) (ap (bit_or cpu.a) (operand_same mode e)) (reading_same mode e))
+      (reading_kept mode)
+
+  xor_same : (mode : Mode) → Ok (Xor mode)
+  xor_same mode e = quiet _ _ (set_same A _ _ (reading mode it) (reading mode cpu) (ap (bit_xor cpu.a) (operand_same mode e)) (reading_same mode e))
+      (reading_kept mode)
+
+  -- with a byte and a register's byte the same, and the state that has read it
+  compare_same : (r : Register) (mode : Mode) → Ok (Compare r mode)
+  compare_same r mode e = quiet _ _
+      (ap (λ v. told v (operand mode it) (reading mode it)) (of_register_same r)
+      ∙ ap (λ o. told (of_register r cpu) o (reading mode it)) (operand_same mode e)
+      ∙ ap (told (of_register r cpu) (operand mode cpu)) (reading_same mode e))
+      (reading_kept mode)
+    where
+      told : ℕ → ℕ → Cpu → Cpu
+      told v o k = carrying (nat_le o v) (telling ((v + 256 - o) % 256) k)
+
+  bits_same : (mode : Mode) → Ok (TestBits mode)
+  bits_same mode e = quiet _ _
+      (ap (λ o. told o (reading mode it)) (operand_same mode e)
+      ∙ ap (told (operand mode cpu)) (reading_same mode e))
+      (reading_kept mode)
+    where
+      told : ℕ → Cpu → Cpu
+      told o k = record k { z = nat_eq (bit_and cpu.a o) 0; n = nat_le 128 o; v = nat_le 64 (o % 128) }
+
+  writes : (after other : Cpu) (p v : ℕ) → other ≡ changed (put p v m) after → after.mem ≡ put p v cpu.mem
+      → Same cpu after other m
+  writes after other p v e kept = record {
+    memory = put p v m;
+    same = e;
+    keeps = λ b same. put_keeps p v m cpu.mem b same ∙ ap (λ (k : ℕ → ℕ). k b) (sym kept);
+  }
+
+  store_same : (r : Register) (mode : Mode) → Ok (Store r mode)
+  store_same r mode e = writes _ _ (address mode cpu) (of_register r cpu)
+      (ap (λ p. next (size mode) (writing p (of_register r it) it)) (address_same mode e)
+      ∙ ap (λ v. next (size mode) (writing (address mode cpu) v it)) (of_register_same r)) refl
+
+  -- a byte of the zero page is changed
+  change_as : (v w : ℕ) → v ≡ w → Agree m cpu.mem (named ZeroPage cpu)
+      → changing v it ≡ changed (put (address ZeroPage cpu) w m) (changing w cpu)
+  change_as v w vs e =
+      ap (λ v. changing v it) vs
+      ∙ ap (λ p. telling w (writing p w (reading ZeroPage it))) (address_same ZeroPage e.1)
+      ∙ ap (λ k. telling w (writing (address ZeroPage cpu) w k)) (reading_same ZeroPage e)
+
+  change_same : (by : ℕ) → Ok (Change by)
+  change_same by e = writes _ _ (address ZeroPage cpu) ((operand ZeroPage cpu + by) % 256)
+      (change_as _ _ (ap (λ o. (o + by) % 256) (operand_same ZeroPage e)) e) refl
+
+  shift_same : Ok ShiftLeft
+  shift_same e = writes _ _ (address ZeroPage cpu) (2 * operand ZeroPage cpu % 256)
+      (ap (λ o. carrying (nat_le 128 o) (changing (2 * o % 256) it)) (operand_same ZeroPage e)
+      ∙ ap (carrying (nat_le 128 (operand ZeroPage cpu))) (change_as _ _ refl e)) refl
+
+  rotate_same : Ok RotateLeft
+  rotate_same e = writes _ _ (address ZeroPage cpu) ((2 * operand ZeroPage cpu + bit_of cpu.c) % 256)
+      (ap (λ o. carrying (nat_le 128 o) (changing ((2 * o + bit_of cpu.c) % 256) it)) (operand_same ZeroPage e)
+      ∙ ap (carrying (nat_le 128 (operand ZeroPage cpu))) (change_as _ _ refl e)) refl
+
+  transfer_same : (r t : Register) → Ok (Transfer r t)
+  transfer_same r t e = quiet _ _ (set_same t _ _ (next 1 it) (next 1 cpu) (of_register_same r) refl) (set_kept t _ (next 1 cpu))
+
+  step_same : (r : Register) (by : ℕ) → Ok (Step r by)
+  step_same r by e = quiet _ _ (set_same r _ _ (next 1 it) (next 1 cpu) (ap (λ v. (v + by) % 256) (of_register_same r)) refl)
+      (set_kept r _ (next 1 cpu))
+
+  branch_same : (f : Flag) (when : Bool) → Ok (Branch f when)
+  branch_same f when e = quiet _ _
+      (ap (λ (t : Bool). record it { pc = if is_so when t then target cpu.pc (m (cpu.pc + 1)) else cpu.pc + 2 })
+      (of_flag_same f)
+      ∙ ap (λ o. record it { pc = if is_so when (of_flag f cpu) then target cpu.pc o else cpu.pc + 2 }) e.0) refl
+
+  jump_same : Ok Jump
+  jump_same e = quiet _ _ (ap (λ p. record it { pc = p }) (address_same Absolute e)) refl
+
+  return_same : Ok Return
+  return_same e = quiet _ _
+      (ap (λ l. back l (m (stack_place (cpu.s + 2)))) e.0 ∙ ap (back (cpu.mem (stack_place (cpu.s + 1)))) e.1.0) refl
+    where
+      back : ℕ → ℕ → Cpu
+      back l h = record it { s = (cpu.s + 2) % 256; pc = (l + 256 * h + 1) % 65536 }
+
+  -- what a call pushes is the same, too
+  abbrev pushed : (ℕ → ℕ) → ℕ → ℕ
+  pushed mem = put (stack_place (cpu.s + 255)) ((cpu.pc + 2) % 256) (put (stack_place cpu.s) ((cpu.pc + 2) / 256) mem)
+
+  call_same : Ok Call
+  call_same e = record {
+    memory = pushed m;
+    same = ap (λ p. record (does Call it) { pc = p }) (address_same Absolute e);
+    keeps = λ b same. put_keeps (stack_place (cpu.s + 255)) ((cpu.pc + 2) % 256)
+        (put (stack_place cpu.s) ((cpu.pc + 2) / 256) m) (put (stack_place cpu.s) ((cpu.pc + 2) / 256) cpu.mem) b
+        (put_keeps (stack_place cpu.s) ((cpu.pc + 2) / 256) m cpu.mem b same);
+  }
+
+  pub does_same : (i : Instr) → Ok i
+  does_same (Load r mode) = load r mode
+  does_same (Store r mode) = store_same r mode
+  does_same (Transfer r t) = transfer_same r t
+  does_same (And mode) = and_same mode
+  does_same (Or mode) = or_same mode
+  does_same (Xor mode) = xor_same mode
+  does_same (Compare r mode) = compare_same r mode
+  does_same (TestBits mode) = bits_same mode
+  does_same (Change by) = change_same by
+  does_same (Step r by) = step_same r by
+  does_same ShiftLeft = shift_same
+  does_same RotateLeft = rotate_same
+  does_same ShiftLeftA = λ e. quiet _ _ refl refl
+  does_same ShiftRightA = λ e. quiet _ _ refl refl
+  does_same (SetCarry to) = λ e. quiet _ _ refl refl
+  does_same (Branch f when) = branch_same f when
+  does_same Jump = jump_same
+  does_same Call = call_same
+  does_same Return = return_same
+  does_same Unknown = λ e. quiet _ _ refl refl
+
+  -- a step
+  pub stepped : m cpu.pc ≡ cpu.mem cpu.pc → Agree m cpu.mem (touches (decoded opcodes (cpu.mem cpu.pc)) cpu)
+      → Same cpu (step cpu) (step it) m
+  stepped opcode e =
+      let did = does_same (decoded opcodes (cpu.mem cpu.pc)) e in
+      record {
+        memory = did.memory;
+        same = ap (λ b. does (decoded opcodes b) it) opcode ∙ did.same;
+        keeps = did.keeps;
+      }

@@ -1,0 +1,202 @@
+-- What dvg_put does, by the frame that is being built.
+use Rattle.std.proofs.Common.{◌≡◌, ℕ, suc, ◌+◌, ◌*◌, ◌%◌, ◌<◌, ◌≤◌, Bool, true, false, List, [], ◌∷◌, length}
+use Rattle.std.proofs.Common.{refl, sym, ap, ◌∙◌, subst, arith, leb-true, eqb-true}
+use Rattle.std.proofs.lemmas.Bool.{eqb-false}
+use Rattle.std.specs.Prelude.{nat_eq, nat_le}
+use Rattle.dvg_mem.specs.declared.half.Half.{Half}
+use Rattle.dvg_mem.specs.declared.half.Half.TheVariants.{H0, H1}
+use Rattle.dvg_mem.specs.Areas.{base, other}
+use Rattle.dvg_6502.specs.Processor.{Cpu, Writes, put, run}
+use Rattle.dvg_6502.specs.Board.{IsLoaded, goal_in}
+use Rattle.dvg_6502.specs.Build.{IsBuilding, Builds, PutTakes}
+use Rattle.dvg_6502.proofs.Running.{Comes, at, returned}
+use Rattle.dvg_6502.proofs.Memory.{AreSmall, page_in, laid, page_of, loaded, put_small, in_page, in_code}
+use Rattle.dvg_6502.proofs.StoredByte.{carried}
+use Rattle.dvg_6502.proofs.TableTick.{in_ram, carried_small}
+use Rattle.dvg_6502.proofs.TicksRun.{state_is}
+use Rattle.dvg_6502.proofs.Alike.{alike_if}
+use Rattle.dvg_6502.proofs.BuildRun.{put_room, is_full}
+
+pub base_low : (half : Half) → (1 ≤ base half) × (base half ≤ 0x201)
+base_low H0 = (omega arith, omega arith)
+base_low H1 = (omega arith, omega arith)
+
+-- where the frame goes on
+module _ (mem : ℕ → ℕ) (half : Half) (flipped : Bool) (rest : List ℕ) (load : IsLoaded mem)
+    (building : IsBuilding mem half flipped rest) where
+  pub goal_is : goal_in mem + 2 ≡ 0x4000 + 2 * base (other half) + (256 * mem 0x16 + mem 0x13)
+  goal_is = let l = building.low in let p = building.page in omega (arith, l, p)
+
+  pub goal_low : 0x4002 ≤ goal_in mem
+  goal_low = let b = (base_low (other half)).0 in let s = building.begun in omega (arith, goal_is, b, s)
+
+  pub goal_high : goal_in mem + length rest ≤ 0x4800
+  goal_high = let b = (base_low (other half)).1 in let f = building.fits in omega (arith, goal_is, b, f)
+
+  pub place_low : mem 0x13 < 255
+  place_low = let e = building.even in let s = load.bytes 0x13 in omega (arith, e, s)
+
+-- a frame goes on by a word
+pub on_word : (half : Half) (place pages t1 len : ℕ) (wrap : Bool) → place < 255 → place % 2 ≡ 0
+    → 256 * t1 + 2 ≡ 0x4000 + 2 * base (other half) + 256 * pages → 256 * pages + place + 2 + len ≤ 1024
+    → nat_eq (((place + 1) % 256 + 1) % 256) 0 ≡ wrap
+    → let up = ((place + 1) % 256 + 1) % 256 in
+    (256 * carried wrap 1 t1 + 2 ≡ 0x4000 + 2 * base (other half) + 256 * carried wrap 1 pages)
+    × (256 * carried wrap 1 pages + up ≡ 256 * pages + place + 2) × (up % 2 ≡ 0)
+    × (256 * carried wrap 1 t1 + up ≡ 256 * t1 + place + 2)
+on_word half place pages t1 len true small even page fits wraps =
+    let full : ((place + 1) % 256 + 1) % 256 ≡ 0 = eqb-true (((place + 1) % 256 + 1) % 256) 0 wraps in
+    let at_end : place ≡ 254 = omega (arith, full, small) in
+    let b = base_low (other half) in
+    let few : pages < 4 = omega (arith, fits) in
+    let t_few : t1 < 255 = omega (arith, page, few, b.1) in
+    (omega (arith, page, few, t_few), omega (arith, at_end, few), omega (arith, full), omega (arith, at_end, t_few))
+on_word half place pages t1 len false small even page fits wraps =
+    let open_yet = eqb-false (((place + 1) % 256 + 1) % 256) 0 wraps in
+    let less : place < 254 = below place small even open_yet in
+    (page, omega (arith, less), omega (arith, less, even), omega (arith, less))
+  where
+    below : (place : ℕ) → place < 255 → place % 2 ≡ 0 → (((place + 1) % 256 + 1) % 256 ≡ 0 → ⊥) → place < 254
+    below place small even open_yet = by (nat_eq place 254) refl
+      where
+        by : (t : Bool) → nat_eq place 254 ≡ t → place < 254
+        by true is = let e = eqb-true place 254 is in absurd (open_yet (omega (arith, e)))
+        by false is = let e = eqb-false place 254 is in omega (arith, e, small, even)
+
+module _ (a x y s : ℕ) (n z c v : Bool) (mem flags : ℕ → ℕ) (load : IsLoaded mem) (a_small : a < 256)
+    (x_small : x < 256) (half : Half) (flipped : Bool) (rest : List ℕ)
+    (building : IsBuilding mem half flipped (a ∷ x ∷ rest)) (more : 2 ≤ length rest) where
+  abbrev place : ℕ
+  place = mem 0x13
+
+  abbrev up : ℕ
+  up = ((place + 1) % 256 + 1) % 256
+
+  abbrev wrap : Bool
+  wrap = nat_eq up 0
+
+  abbrev goal : ℕ
+  goal = goal_in mem
+
+  abbrev page : List ℕ
+  page = page_of 7 (mem 0x11) (mem 0x12) up (mem 0x14) (carried wrap 1 (mem 0x15)) (carried wrap 1 (mem 0x16)) (mem 0x17)
+      (mem 0x18) (mem 0x19) (mem 0x1A)
+
+  abbrev from : ℕ → Cpu
+  from phase = at 0x6957 a x y s n z c v
+      (laid (page_of phase (mem 0x11) (mem 0x12) place (mem 0x14) (mem 0x15) (mem 0x16) (mem 0x17) (mem 0x18) (mem 0x19)
+      (mem 0x1A)) mem) flags []
+
+  low : 0x4002 ≤ goal
+  low = goal_low mem half flipped (a ∷ x ∷ rest) load building
+
+  high : goal + suc (suc (length rest)) ≤ 0x4800
+  high = goal_high mem half flipped (a ∷ x ∷ rest) load building
+
+  small : place < 255
+  small = place_low mem half flipped (a ∷ x ∷ rest) load building
+
+  to0_is : (mem 0x14 + 256 * mem 0x15 + place) % 65536 ≡ goal
+  to0_is = omega (arith, high)
+
+  to1_is : (mem 0x14 + 256 * mem 0x15 + (place + 1) % 256) % 65536 ≡ suc goal
+  to1_is = omega (arith, high, small)
+
+  ram0 : (in_page goal ≡ false) × (in_code goal ≡ false) × (nat_le 0x200 goal ≡ true)
+  ram0 = let r = in_ram goal low (omega (arith, high)) in (r.0, r.1, r.2)
+
+  ram1 : (in_page (suc goal) ≡ false) × (in_code (suc goal) ≡ false) × (nat_le 0x200 (suc goal) ≡ true)
+  ram1 = let r = in_ram (suc goal) (omega (arith, low)) (omega (arith, high, more)) in (r.0, r.1, r.2)
+
+  room : (last late : Bool) → nat_le 3 (mem 0x16) ≡ last → nat_le 0xFE place ≡ late → is_full last late ≡ false
+  room true true is also = let p = leb-true 3 (mem 0x16) is in let q = leb-true 0xFE place also in
+      let f = building.fits in absurd (omega (arith, p, q, f, more))
+  room true false is also = refl
+  room false late is also = refl
+
+  comes : Comes s (from 7) s false (laid page (put (suc goal) x (put goal a mem))) (Writes (suc goal) x ∷ Writes goal a ∷ [])
+      []
+  comes = subst (λ p. Comes s (from 7) s false (laid page (put (suc goal) x (put p a mem)))
+      (Writes (suc goal) x ∷ Writes p a ∷ []) []) to0_is
+      (subst (λ p. Comes s (from 7) s false (laid page (put p x (put to0 a mem))) (Writes p x ∷ Writes to0 a ∷ []) [])
+      to1_is
+      (put_room s a x y s n z c v (mem 0x11) (mem 0x12) place (mem 0x14) (mem 0x15) (mem 0x16) (mem 0x17) (mem 0x18)
+      (mem 0x19) (mem 0x1A) mem flags []
+      (ap in_page to0_is ∙ ram0.0) (ap in_code to0_is ∙ ram0.1) (ap (nat_le 0x200) to0_is ∙ ram0.2)
+      (ap in_page to1_is ∙ ram1.0) (ap in_code to1_is ∙ ram1.1) (ap (nat_le 0x200) to1_is ∙ ram1.2)
+      wrap refl (nat_le 3 (mem 0x16)) (nat_le 0xFE place) refl refl
+      (room (nat_le 3 (mem 0x16)) (nat_le 0xFE place) refl refl)))
+    where
+      to0 : ℕ
+      to0 = (mem 0x14 + 256 * mem 0x15 + mem 0x13) % 65536
+
+  moved : (256 * carried wrap 1 (mem 0x15) + 2 ≡ 0x4000 + 2 * base (other half) + 256 * carried wrap 1 (mem 0x16))
+      × (256 * carried wrap 1 (mem 0x16) + up ≡ 256 * mem 0x16 + place + 2) × (up % 2 ≡ 0)
+      × (256 * carried wrap 1 (mem 0x15) + up ≡ 256 * mem 0x15 + place + 2)
+  moved = on_word half place (mem 0x16) (mem 0x15) (length rest) wrap small building.even building.page
+      (let f = building.fits in omega (arith, f)) refl
+
+  page_small : AreSmall page
+  page_small = (
+    omega arith,
+    (
+      load.bytes 0x11,
+      (
+        load.bytes 0x12,
+        (
+          omega arith,
+          (
+            load.bytes 0x14,
+            (
+              carried_small wrap 1 (mem 0x15) (load.bytes 0x15),
+              (
+                carried_small wrap 1 (mem 0x16) (load.bytes 0x16),
+                (load.bytes 0x17, (load.bytes 0x18, (load.bytes 0x19, (load.bytes 0x1A, tt)))),
+              ),
+            ),
+          ),
+        ),
+      ),
+    ),
+  )
+
+  abbrev final : ℕ → ℕ
+  final = laid page (put (suc goal) x (put goal a mem))
+
+  built : IsBuilding final half flipped rest
+  built = record {
+    phase = refl;
+    free = building.free;
+    publish = building.publish;
+    low = building.low;
+    page = moved.0;
+    even = moved.2;
+    begun = let b = building.begun in omega (arith, moved.1, b);
+    some = more;
+    fits = let f = building.fits in omega (arith, moved.1, f);
+  }
+
+  builds : Builds (from 7) half flipped (a ∷ x ∷ []) rest
+  builds = record {
+    steps = comes.steps;
+    returns = returned s (run s comes.steps (from 7)) comes.returns comes.stack;
+    carry = comes.carry;
+    shows = comes.accesses;
+    goes_on = ap goal_in comes.memory ∙ omega (arith, moved.3);
+    building = subst (λ (m : ℕ → ℕ). IsBuilding m half flipped rest) (sym comes.memory) built;
+    alike = alike_if (from 7) comes.steps (returned s (run s comes.steps (from 7)) comes.returns comes.stack)
+        (comes.steady (λ b. false) refl) comes.there;
+    loaded = subst IsLoaded (sym comes.memory) (loaded page (put (suc goal) x (put goal a mem)) page_small
+        (put_small (suc goal) x (put goal a mem) x_small (put_small goal a mem a_small load.bytes)));
+  }
+
+pub put_takes : PutTakes
+put_takes cpu half flipped rest enters building more =
+    subst (λ (k : Cpu). Builds k half flipped (cpu.a ∷ cpu.x ∷ []) rest)
+    (ap (λ p. at 0x6957 cpu.a cpu.x cpu.y cpu.s cpu.n cpu.z cpu.c cpu.v
+    (laid (page_of p (cpu.mem 0x11) (cpu.mem 0x12) (cpu.mem 0x13) (cpu.mem 0x14) (cpu.mem 0x15) (cpu.mem 0x16)
+    (cpu.mem 0x17) (cpu.mem 0x18) (cpu.mem 0x19) (cpu.mem 0x1A)) cpu.mem) cpu.flags []) (sym building.phase)
+    ∙ ap (λ l. at 0x6957 cpu.a cpu.x cpu.y cpu.s cpu.n cpu.z cpu.c cpu.v (laid (page_in cpu.mem) cpu.mem) cpu.flags l)
+    (sym enters.log) ∙ state_is cpu 0x6957 cpu.s enters.entry refl enters.loaded)
+    (builds cpu.a cpu.x cpu.y cpu.s cpu.n cpu.z cpu.c cpu.v cpu.mem cpu.flags enters.loaded enters.a enters.x half flipped
+    rest building more)

@@ -1,0 +1,148 @@
+-- Calls that are decided.
+use Rattle.std.proofs.Common.{◌≡◌, ℕ, inl, inr, ◌+◌, ◌-◌, ◌%◌, ◌<◌, Bool, true, false, List, refl, ap, ◌∙◌, subst, arith}
+use Rattle.std.specs.Prelude.{nat_eq, nat_le}
+use Rattle.dvg_6502.specs.Processor.{Cpu, Access, run, at_return}
+use Rattle.dvg_6502.specs.Board.{IsLoaded, seen}
+use Rattle.dvg_6502.specs.Amid.{is_code, are_steady}
+use Rattle.dvg_6502.specs.Decided.{IsDecided, IsRefusing, IsTaking, Decides}
+use Rattle.dvg_6502.proofs.Running.{at, returned, run_more, steady_more}
+use Rattle.dvg_6502.proofs.Memory.{laid, page_in}
+use Rattle.dvg_6502.proofs.FedByte.{compared}
+use Rattle.dvg_6502.proofs.Alike.{comes_out}
+use Rattle.dvg_6502.proofs.TicksRun.{state_is}
+
+-- a run that ends so is decided
+decided : (cpu end : Cpu) (c : Bool) (steps : ℕ) → run cpu.s steps cpu ≡ end → at_return cpu.s end ≡ true → end.c ≡ c
+    → seen end.log ≡ seen cpu.log → end.mem ≡ cpu.mem → are_steady is_code cpu.s steps cpu ≡ true
+    → is_code end.pc ≡ true → IsDecided cpu c
+decided cpu end c steps is back carry quiet kept steady code =
+    let there = ap (at_return cpu.s) is ∙ back in
+    record {
+      steps = steps;
+      returns = there;
+      carry = ap (λ (k : Cpu). k.c) is ∙ carry;
+      shows = ap (λ (k : Cpu). seen k.log) is ∙ quiet;
+      kept = ap (λ (k : Cpu). k.mem) is ∙ kept;
+      alike = comes_out is_code cpu steps (λ b is. is) there steady (ap (λ (k : Cpu). is_code k.pc) is ∙ code);
+    }
+
+module _ (a x y s : ℕ) (n z c v : Bool) (mem flags : ℕ → ℕ) (log : List Access) where
+  abbrev from : ℕ → Cpu
+  from pc = at pc a x y s n z c v (laid (page_in mem) mem) flags log
+
+  abbrev taken : ℕ → Cpu
+  taken pc = at pc a x y s n z false v (laid (page_in mem) mem) flags log
+
+  takes1 : IsDecided (from 0x6941) false
+  takes1 = decided (from 0x6941) (taken 0x6942) false 1 refl (returned s (taken 0x6942) refl refl) refl refl refl refl refl
+
+  takes2 : IsDecided (from 0x6953) false
+  takes2 = decided (from 0x6953) (taken 0x6954) false 1 refl (returned s (taken 0x6954) refl refl) refl refl refl refl refl
+
+  takes3 : IsDecided (from 0x6A15) false
+  takes3 = decided (from 0x6A15) (taken 0x6A16) false 1 refl (returned s (taken 0x6A16) refl refl) refl refl refl refl refl
+
+  -- after the comparison with the phase that is wanted, and at the return
+  abbrev told : (pc wanted : ℕ) → Bool → Cpu
+  told pc wanted t = at pc a x y s (nat_le 128 ((y + 256 - wanted) % 256)) t (nat_le wanted y) v (laid (page_in mem) mem)
+      flags log
+
+  abbrev refused : (pc wanted : ℕ) → Cpu
+  refused pc wanted = at pc a x y s (nat_le 128 ((y + 256 - wanted) % 256)) false true v (laid (page_in mem) mem) flags log
+
+  refuses1 : y < 256 → nat_eq y 2 ≡ false → IsDecided (from 0x6900) true
+  refuses1 small other =
+      let e = compared y 2 small (omega arith) ∙ other in
+      decided (from 0x6900) (refused 0x6956 2) true 3
+      (run_more s 1 2 (from 0x6900) ∙ ap (λ t. run s 2 (told 0x6902 2 t)) e)
+      (returned s (refused 0x6956 2) refl refl) refl refl refl
+      (steady_more is_code s 1 2 (from 0x6900) refl (ap (λ t. are_steady is_code s 2 (told 0x6902 2 t)) e)) refl
+
+  refuses2 : y < 256 → nat_eq y 2 ≡ false → IsDecided (from 0x6926) true
+  refuses2 small other =
+      let e = compared y 2 small (omega arith) ∙ other in
+      decided (from 0x6926) (refused 0x6956 2) true 3
+      (run_more s 1 2 (from 0x6926) ∙ ap (λ t. run s 2 (told 0x6928 2 t)) e)
+      (returned s (refused 0x6956 2) refl refl) refl refl refl
+      (steady_more is_code s 1 2 (from 0x6926) refl (ap (λ t. are_steady is_code s 2 (told 0x6928 2 t)) e)) refl
+
+  refuses3 : y < 256 → nat_eq y 7 ≡ false → IsDecided (from 0x6959) true
+  refuses3 small other =
+      let e = compared y 7 small (omega arith) ∙ other in
+      decided (from 0x6959) (refused 0x6956 7) true 3
+      (run_more s 1 2 (from 0x6959) ∙ ap (λ t. run s 2 (told 0x695B 7 t)) e)
+      (returned s (refused 0x6956 7) refl refl) refl refl refl
+      (steady_more is_code s 1 2 (from 0x6959) refl (ap (λ t. are_steady is_code s 2 (told 0x695B 7 t)) e)) refl
+
+  refuses4 : y < 256 → nat_eq y 7 ≡ false → IsDecided (from 0x698B) true
+  refuses4 small other =
+      let e = compared y 7 small (omega arith) ∙ other in
+      decided (from 0x698B) (refused 0x69BF 7) true 3
+      (run_more s 1 2 (from 0x698B) ∙ ap (λ t. run s 2 (told 0x698D 7 t)) e)
+      (returned s (refused 0x69BF 7) refl refl) refl refl refl
+      (steady_more is_code s 1 2 (from 0x698B) refl (ap (λ t. are_steady is_code s 2 (told 0x698D 7 t)) e)) refl
+
+  refuses5 : y < 256 → nat_eq y 7 ≡ false → IsDecided (from 0x6A02) true
+  refuses5 small other =
+      let e = compared y 7 small (omega arith) ∙ other in
+      decided (from 0x6A02) (refused 0x69BF 7) true 3
+      (run_more s 1 2 (from 0x6A02) ∙ ap (λ t. run s 2 (told 0x6A04 7 t)) e)
+      (returned s (refused 0x69BF 7) refl refl) refl refl refl
+      (steady_more is_code s 1 2 (from 0x6A02) refl (ap (λ t. are_steady is_code s 2 (told 0x6A04 7 t)) e)) refl
+
+  -- the same of what dvg_redraw compares
+  abbrev told_a : (pc wanted : ℕ) → Bool → Cpu
+  told_a pc wanted t = at pc a x y s (nat_le 128 ((a + 256 - wanted) % 256)) t (nat_le wanted a) v
+      (laid (page_in mem) mem) flags log
+
+  abbrev refused_a : ℕ → Cpu
+  refused_a wanted = at 0x6956 a x y s (nat_le 128 ((a + 256 - wanted) % 256)) false true v (laid (page_in mem) mem)
+      flags log
+
+  refuses6 : a < 256 → nat_eq a 2 ≡ false → IsDecided (from 0x6945) true
+  refuses6 small other =
+      let e = compared a 2 small (omega arith) ∙ other in
+      decided (from 0x6945) (refused_a 2) true 3
+      (run_more s 1 2 (from 0x6945) ∙ ap (λ t. run s 2 (told_a 0x6947 2 t)) e)
+      (returned s (refused_a 2) refl refl) refl refl refl
+      (steady_more is_code s 1 2 (from 0x6945) refl (ap (λ t. are_steady is_code s 2 (told_a 0x6947 2 t)) e)) refl
+
+  refuses7 : a < 256 → nat_eq a 4 ≡ false → IsDecided (from 0x694B) true
+  refuses7 small other =
+      let e = compared a 4 small (omega arith) ∙ other in
+      decided (from 0x694B) (refused_a 4) true 3
+      (run_more s 1 2 (from 0x694B) ∙ ap (λ t. run s 2 (told_a 0x694D 4 t)) e)
+      (returned s (refused_a 4) refl refl) refl refl refl
+      (steady_more is_code s 1 2 (from 0x694B) refl (ap (λ t. are_steady is_code s 2 (told_a 0x694D 4 t)) e)) refl
+
+-- any state at a place
+at_place : (cpu : Cpu) (pc : ℕ) (c : Bool) → cpu.pc ≡ pc → IsLoaded cpu.mem
+    → IsDecided (from cpu.a cpu.x cpu.y cpu.s cpu.n cpu.z cpu.c cpu.v cpu.mem cpu.flags cpu.log pc) c → IsDecided cpu c
+at_place cpu pc c is load done = subst (λ (k : Cpu). IsDecided k c) (state_is cpu pc cpu.s is refl load) done
+
+pub decides : Decides
+decides cpu load a_small small = (refusing, taking)
+  where
+    refusing : IsRefusing cpu → IsDecided cpu true
+    refusing (inl (inl is, other)) = at_place cpu 0x6900 true is load
+        (refuses1 cpu.a cpu.x cpu.y cpu.s cpu.n cpu.z cpu.c cpu.v cpu.mem cpu.flags cpu.log small other)
+    refusing (inl (inr is, other)) = at_place cpu 0x6926 true is load
+        (refuses2 cpu.a cpu.x cpu.y cpu.s cpu.n cpu.z cpu.c cpu.v cpu.mem cpu.flags cpu.log small other)
+    refusing (inr (inl (inl is, other))) = at_place cpu 0x6959 true is load
+        (refuses3 cpu.a cpu.x cpu.y cpu.s cpu.n cpu.z cpu.c cpu.v cpu.mem cpu.flags cpu.log small other)
+    refusing (inr (inl (inr (inl is), other))) = at_place cpu 0x698B true is load
+        (refuses4 cpu.a cpu.x cpu.y cpu.s cpu.n cpu.z cpu.c cpu.v cpu.mem cpu.flags cpu.log small other)
+    refusing (inr (inl (inr (inr is), other))) = at_place cpu 0x6A02 true is load
+        (refuses5 cpu.a cpu.x cpu.y cpu.s cpu.n cpu.z cpu.c cpu.v cpu.mem cpu.flags cpu.log small other)
+    refusing (inr (inr (inl (is, other)))) = at_place cpu 0x6945 true is load
+        (refuses6 cpu.a cpu.x cpu.y cpu.s cpu.n cpu.z cpu.c cpu.v cpu.mem cpu.flags cpu.log a_small other)
+    refusing (inr (inr (inr (is, other)))) = at_place cpu 0x694B true is load
+        (refuses7 cpu.a cpu.x cpu.y cpu.s cpu.n cpu.z cpu.c cpu.v cpu.mem cpu.flags cpu.log a_small other)
+
+    taking : IsTaking cpu → IsDecided cpu false
+    taking (inl is) = at_place cpu 0x6941 false is load
+        (takes1 cpu.a cpu.x cpu.y cpu.s cpu.n cpu.z cpu.c cpu.v cpu.mem cpu.flags cpu.log)
+    taking (inr (inl is)) = at_place cpu 0x6953 false is load
+        (takes2 cpu.a cpu.x cpu.y cpu.s cpu.n cpu.z cpu.c cpu.v cpu.mem cpu.flags cpu.log)
+    taking (inr (inr is)) = at_place cpu 0x6A15 false is load
+        (takes3 cpu.a cpu.x cpu.y cpu.s cpu.n cpu.z cpu.c cpu.v cpu.mem cpu.flags cpu.log)

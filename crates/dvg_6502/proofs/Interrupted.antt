@@ -1,0 +1,523 @@
+-- Calls that others interrupt are as calls that nobody interrupts.
+use Rattle.std.proofs.Common.{◌≡◌, ℕ, zero, suc, ◌+◌, ◌*◌, ◌<◌, ◌≤◌, Bool, true, false, not, List, [], ◌∷◌, ◌++◌}
+use Rattle.std.proofs.Common.{length, refl, sym, ap, ◌∙◌, subst, arith, le-leb}
+use Rattle.std.specs.Prelude.{nat_eq, nat_le, nat_lt, ◌&&◌, ◌||◌, if◌then◌else◌}
+use Rattle.dvg_mem.specs.declared.half.Half.TheVariants.{H0}
+use Rattle.dvg_mem.specs.Areas.{other, half_of_high}
+use Rattle.dvg_frame.specs.declared.op.OpKind.{OpKind}
+use Rattle.dvg_driver.specs.Script.{Item, Offered, Asked}
+use Rattle.dvg_driver.specs.Place.{Place, Start, Booting, Resting, Writing, Waiting, Sending}
+use Rattle.dvg_6502.specs.Processor.{Cpu, Access, run, turn, at_return}
+use Rattle.dvg_6502.specs.Amid.{is_work, amid, changed, AreHarmless, guards, is_kept, is_code, are_steady, all_in, CameOut}
+use Rattle.dvg_6502.specs.Board.{IsLoaded, seen, is_own, is_ram, is_hardware}
+use Rattle.dvg_6502.specs.Holds.{HoldsPlace, publish_byte}
+use Rattle.dvg_6502.specs.Tables.{HasTable, table_of}
+use Rattle.dvg_6502.specs.Routines.{Enters, IsBusy}
+use Rattle.dvg_6502.specs.Calls as calls
+use Rattle.dvg_6502.specs.Calls.{Routine}
+use Rattle.dvg_6502.proofs.Plain as plain
+use Rattle.dvg_6502.proofs.Acting.{Covers}
+use Rattle.dvg_6502.proofs.AmidRun.{came_out}
+use Rattle.dvg_6502.proofs.Steady.{last_kept}
+use Rattle.dvg_6502.proofs.Standing.{Stood}
+use Rattle.dvg_6502.proofs.Offering.{resets_steadily, refuses_steadily, takes_steadily, redraw_refuses_steadily}
+use Rattle.dvg_6502.proofs.Offering.{redraw_takes_steadily}
+use Rattle.dvg_6502.proofs.TicksRun.{ticks_go}
+use Rattle.dvg_6502.proofs.DvgRun.{run_goes}
+use Rattle.dvg_6502.proofs.Sessions as sessions
+
+-- what stands before a call
+abbrev Standing : Cpu → List plain.Call → Type 0
+Standing from olds = (life : List Item) × plain.IsLifeOf olds life
+    × Stood from.mem (plain.bounds olds).0 (plain.bounds olds).1 life
+
+-- each call takes guarded bytes alone
+module _ (from : Cpu) (k : ℕ) (olds : List plain.Call) (tables : ℕ → Bool) where
+  abbrev Steady : Type 0
+  Steady = are_steady (is_kept tables) from.s k from ≡ true
+
+  abbrev Covered : Type 0
+  Covered = Standing from olds × Covers tables (plain.bounds olds).0 (plain.bounds olds).1
+
+  offer_steady : (F : List OpKind) → Enters from 0x68FE → HasTable from.mem (from.a + 256 * from.x) F
+      → ((b : ℕ) → calls.is_offered (calls.Offer F) from b ≡ true → tables b ≡ true) → Covered → Steady
+  offer_steady F enters table offered covered = by stood.stage.place refl
+    where
+      stood : Stood from.mem (plain.bounds olds).0 (plain.bounds olds).1 covered.0.0
+      stood = covered.0.2
+
+      busy : IsBusy stood.stage.place → Steady
+      busy is = (refuses_steadily tables from (plain.bounds olds).0 (plain.bounds olds).1 stood.stage enters stood.holds
+          is).steady k
+
+      t : ℕ
+      t = from.a + 256 * from.x
+
+      offered_at : (b : ℕ) → t ≤ b → b < t + 2 + length (table_of F) → tables b ≡ true
+      offered_at b low high = offered b (both (nat_le t b) (nat_lt b (t + 2 + length (table_of F)))
+          (le-leb t b low) (le-leb (suc b) (t + 2 + length (table_of F)) high))
+        where
+          both : (u v : Bool) → u ≡ true → v ≡ true → (u && v) ≡ true
+          both true v a b = b
+          both false v a b = absurd (cc)
+
+      heads : all_in tables ((from.a + 256 * from.x) ∷ (from.a + 256 * from.x + 1) ∷ []) ≡ true
+      heads = ap (λ (u : Bool). u && (tables (from.a + 256 * from.x + 1) && true)) (offered_at t (omega arith) (omega arith))
+          ∙ ap (λ (u : Bool). u && true) (offered_at (t + 1) (omega arith) (omega arith))
+
+      by : (place : Place) → stood.stage.place ≡ place → Steady
+      by Start is = busy (subst IsBusy (sym is) tt)
+      by Booting is = busy (subst IsBusy (sym is) tt)
+      by (Resting first) is = (takes_steadily tables from (plain.bounds olds).0 (plain.bounds olds).1 stood.stage.half
+          stood.stage.flipped first F heads enters
+          (record {
+            flipped = stood.holds.flipped;
+            place = subst (λ place. HoldsPlace from.mem (plain.bounds olds).0 (plain.bounds olds).1 place
+                stood.stage.half stood.stage.flipped) is stood.holds.place;
+          }) table).steady k
+      by (Writing writes) is = busy (subst IsBusy (sym is) tt)
+      by (Waiting first) is = busy (subst IsBusy (sym is) tt)
+      by (Sending first) is = busy (subst IsBusy (sym is) tt)
+
+  redraw_steady : Enters from 0x6943 → Covered → Steady
+  redraw_steady enters covered = by stood.stage.flipped refl stood.stage.place refl
+    where
+      stood : Stood from.mem (plain.bounds olds).0 (plain.bounds olds).1 covered.0.0
+      stood = covered.0.2
+
+      busy : (stood.stage.flipped ≡ true → IsBusy stood.stage.place) → Steady
+      busy is = (redraw_refuses_steadily tables from (plain.bounds olds).0 (plain.bounds olds).1 stood.stage enters
+          stood.holds is).steady k
+
+      by : (flipped : Bool) → stood.stage.flipped ≡ flipped → (place : Place) → stood.stage.place ≡ place → Steady
+      by false set place is = busy (λ flipped. absurd (let e = sym set ∙ flipped in cc))
+      by true set Start is = busy (λ flipped. subst IsBusy (sym is) tt)
+      by true set Booting is = busy (λ flipped. subst IsBusy (sym is) tt)
+      by true set (Resting first) is =
+          (redraw_takes_steadily tables from (plain.bounds olds).0 (plain.bounds olds).1 stood.stage.half first enters
+          (record {
+            flipped = stood.holds.flipped ∙ ap publish_byte set;
+            place = subst (λ (t : Bool). HoldsPlace from.mem (plain.bounds olds).0 (plain.bounds olds).1 (Resting first)
+                stood.stage.half t) set
+                (subst (λ place. HoldsPlace from.mem (plain.bounds olds).0 (plain.bounds olds).1 place stood.stage.half
+                stood.stage.flipped) is stood.holds.place);
+          })).steady k
+      by true set (Writing writes) is = busy (λ flipped. subst IsBusy (sym is) tt)
+      by true set (Waiting first) is = busy (λ flipped. subst IsBusy (sym is) tt)
+      by true set (Sending first) is = busy (λ flipped. subst IsBusy (sym is) tt)
+
+  call_steady : (routine : Routine) → Enters from (calls.entry routine) → calls.OffersTable routine from
+      → ((b : ℕ) → calls.is_offered routine from b ≡ true → tables b ≡ true) → calls.UnlessReset routine Covered
+      → Steady
+  call_steady calls.Reset enters table offered covered = (resets_steadily tables from 0 0 H0 enters).steady k
+  call_steady calls.Tick enters table offered covered =
+      (sessions.tick_goes from k olds covered.0.0 covered.0.1 enters covered.0.2).steady tables covered.1
+  call_steady calls.Ticks enters table offered covered =
+      (ticks_go k from (plain.bounds olds).0 (plain.bounds olds).1 covered.0.0 enters.entry enters.a enters.s
+      covered.0.2).steady tables covered.1
+  call_steady calls.Run enters table offered covered =
+      (run_goes k from (plain.bounds olds).0 (plain.bounds olds).1 covered.0.0 enters.entry enters.s
+      covered.0.2).steady tables covered.1
+  call_steady (calls.Offer F) enters table offered covered = offer_steady F enters table offered covered
+  call_steady calls.Redraw enters table offered covered = redraw_steady enters covered
+
+-- the same call, which nobody interrupts
+abbrev plain_of : calls.Call → plain.Call
+plain_of call = record { routine = call.routine; from = call.from; steps = call.steps }
+
+-- what a call adds, by its log and whether it is taken
+abbrev AddsAs : Routine → Cpu → List Access → Bool → List Item → Type 0
+AddsAs calls.Tick from log taken items = calls.AreShown items (seen log)
+AddsAs calls.Ticks from log taken items = calls.AreShown items (seen log)
+AddsAs calls.Run from log taken items = calls.AreShown items (seen log)
+AddsAs (calls.Offer F) from log taken items = (seen log ≡ [])
+    × (items ≡ (if taken then Offered (other (half_of_high (from.mem 0x4001))) F ∷ [] else []))
+AddsAs calls.Redraw from log taken items = (seen log ≡ []) × (items ≡ (if taken then Asked ∷ [] else []))
+AddsAs calls.Reset from log taken items = (seen log ≡ []) × (items ≡ [])
+
+to_new : (routine : Routine) (call : calls.Call) (items : List Item)
+    → AddsAs routine call.from (calls.after call).log (calls.is_taken call) items → calls.Adds routine call items
+to_new calls.Reset call items is = is
+to_new calls.Tick call items is = is
+to_new calls.Ticks call items is = is
+to_new calls.Run call items is = is
+to_new (calls.Offer F) call items is = is
+to_new calls.Redraw call items is = is
+
+of_new : (routine : Routine) (call : calls.Call) (items : List Item) → calls.Adds routine call items
+    → AddsAs routine call.from (calls.after call).log (calls.is_taken call) items
+of_new calls.Reset call items is = is
+of_new calls.Tick call items is = is
+of_new calls.Ticks call items is = is
+of_new calls.Run call items is = is
+of_new (calls.Offer F) call items is = is
+of_new calls.Redraw call items is = is
+
+to_old : (routine : Routine) (call : plain.Call) (items : List Item)
+    → AddsAs routine call.from (plain.after call).log (plain.is_taken call) items → plain.Adds routine call items
+to_old calls.Reset call items is = is
+to_old calls.Tick call items is = is
+to_old calls.Ticks call items is = is
+to_old calls.Run call items is = is
+to_old (calls.Offer F) call items is = is
+to_old calls.Redraw call items is = is
+
+of_old : (routine : Routine) (call : plain.Call) (items : List Item) → plain.Adds routine call items
+    → AddsAs routine call.from (plain.after call).log (plain.is_taken call) items
+of_old calls.Reset call items is = is
+of_old calls.Tick call items is = is
+of_old calls.Ticks call items is = is
+of_old calls.Run call items is = is
+of_old (calls.Offer F) call items is = is
+of_old calls.Redraw call items is = is
+
+since_as : (routine : Routine) (old : List Item) (P Q : Type 0) → (P → Q) → calls.SinceReset routine old P
+    → calls.SinceReset routine old Q
+since_as calls.Reset old P Q f is = is
+since_as calls.Tick old P Q f is = f is
+since_as calls.Ticks old P Q f is = f is
+since_as calls.Run old P Q f is = f is
+since_as (calls.Offer F) old P Q f is = f is
+since_as calls.Redraw old P Q f is = f is
+
+-- what holds unless a reset begins
+unless_map : (routine : Routine) (P Q : Type 0) → (P → Q) → calls.UnlessReset routine P → calls.UnlessReset routine Q
+unless_map calls.Reset P Q f is = tt
+unless_map calls.Tick P Q f is = f is
+unless_map calls.Ticks P Q f is = f is
+unless_map calls.Run P Q f is = f is
+unless_map (calls.Offer F) P Q f is = f is
+unless_map calls.Redraw P Q f is = f is
+
+since_lives : (routine : Routine) (old : List Item) (P Q : List Item → Type 0)
+    → calls.UnlessReset routine ((items : List Item) → P items → Q items) → calls.SinceReset routine old (P old)
+    → calls.SinceReset routine old (Q old)
+since_lives calls.Reset old P Q f is = is
+since_lives calls.Tick old P Q f is = f old is
+since_lives calls.Ticks old P Q f is = f old is
+since_lives calls.Run old P Q f is = f old is
+since_lives (calls.Offer F) old P Q f is = f old is
+since_lives calls.Redraw old P Q f is = f old is
+
+-- calls, and the same calls which nobody interrupts
+pub record Bridge (call : calls.Call) (more : List calls.Call) : Type 0 where
+  pub rest : List plain.Call
+  pub session : plain.IsSession (plain_of call ∷ rest)
+  pub bounds : calls.bounds (call ∷ more) ≡ plain.bounds (plain_of call ∷ rest)
+  pub same : CameOut (guards (is_kept (calls.is_table call more)) call.from.s) (plain.after (plain_of call))
+      (calls.after call)
+  pub returned : calls.has_returned call ≡ plain.has_returned (plain_of call)
+  pub forth : (items : List Item) → calls.IsLifeOf (call ∷ more) items → plain.IsLifeOf (plain_of call ∷ rest) items
+  pub back : (items : List Item) → plain.IsLifeOf (plain_of call ∷ rest) items → calls.IsLifeOf (call ∷ more) items
+  pub older : calls.UnlessReset call.routine
+      ((items : List Item) → calls.IsLifeOf more items → plain.IsLifeOf rest items)
+
+-- what is known of the calls before one
+record Facts (call : calls.Call) (more : List calls.Call) (rest : List plain.Call) : Type 0 where
+  standing : Standing call.from rest
+  bounds : calls.bounds more ≡ plain.bounds rest
+  follows : plain.Follows (plain_of call) rest
+  session : plain.IsSession rest
+  forth : (items : List Item) → calls.IsLifeOf more items → plain.IsLifeOf rest items
+  back : (items : List Item) → plain.IsLifeOf rest items → calls.IsLifeOf more items
+
+left_true : (t u : Bool) → t ≡ true → (t || u) ≡ true
+left_true true u is = refl
+left_true false u is = absurd (cc)
+
+right_true : (t u : Bool) → u ≡ true → (t || u) ≡ true
+right_true true u is = refl
+right_true false u is = is
+
+both : (t u : Bool) → t ≡ true → u ≡ true → (t && u) ≡ true
+both true u a b = b
+both false u a b = absurd (cc)
+
+within : (low high b : ℕ) → low ≤ b → b < high → (nat_le low b && nat_lt b high) ≡ true
+within low high b l h = both (nat_le low b) (nat_lt b high) (le-leb low b l) (le-leb (suc b) high h)
+
+-- one call, with what is known of those before it
+module _ (call : calls.Call) (more : List calls.Call) (rest : List plain.Call)
+    (enters : Enters call.from (calls.entry call.routine)) (table : calls.OffersTable call.routine call.from)
+    (alone : calls.IsLeftAlone call more) (facts : calls.UnlessReset call.routine (Facts call more rest)) where
+  abbrev tables : ℕ → Bool
+  tables = calls.is_table call more
+
+  abbrev old : plain.Call
+  old = plain_of call
+
+  abbrev pl : Cpu
+  pl = plain.after old
+
+  steady : (k : ℕ) → are_steady (is_kept tables) call.from.s k call.from ≡ true
+  steady k = call_steady call.from k rest tables call.routine enters table
+      (λ b is. right_true (nat_le (calls.bounds more).0 b && nat_lt b (calls.bounds more).1)
+      (calls.is_offered call.routine call.from b) is)
+      (unless_map call.routine (Facts call more rest) (Covered call.from k rest tables) (λ f. (
+        f.standing,
+        subst (λ (p : ℕ × ℕ). Covers tables p.0 p.1) f.bounds
+            (λ b low high. left_true (nat_le (calls.bounds more).0 b && nat_lt b (calls.bounds more).1)
+            (calls.is_offered call.routine call.from b) (within (calls.bounds more).0 (calls.bounds more).1 b low high)),
+      )) facts)
+
+  same : CameOut (guards (is_kept tables) call.from.s) pl (calls.after call)
+  same = came_out (is_kept tables) call.from.s call.steps call.from call.from.mem call.others (λ b is. refl)
+      (steady call.steps) alone
+
+  kept_same : (b : ℕ) → is_kept tables b ≡ true → (calls.after call).mem b ≡ pl.mem b
+  kept_same b is = ap (λ (k : Cpu). k.mem b) same.same ∙ same.keeps b (left_true (is_kept tables b) _ is)
+
+  returned : calls.has_returned call ≡ plain.has_returned old
+  returned = ap (at_return call.from.s) same.same
+      ∙ ap (λ b. nat_eq b 0x60 && nat_eq pl.s call.from.s)
+      (same.keeps pl.pc (left_true (is_kept tables pl.pc) _
+      (last_kept (is_kept tables) call.from.s call.steps call.from (steady (suc call.steps)))))
+
+  taken : calls.is_taken call ≡ plain.is_taken old
+  taken = ap (λ (t : Bool). t && not (calls.after call).c) returned
+      ∙ ap (λ (k : Cpu). plain.has_returned old && not k.c) same.same
+
+  logged : (calls.after call).log ≡ pl.log
+  logged = ap (λ (k : Cpu). k.log) same.same
+
+  bounds_as : (routine : Routine) → calls.UnlessReset routine (calls.bounds more ≡ plain.bounds rest)
+      → calls.taken_bounds routine call (calls.bounds more) ≡ plain.taken_bounds routine old (plain.bounds rest)
+  bounds_as calls.Reset is = refl
+  bounds_as calls.Tick is = is
+  bounds_as calls.Ticks is = is
+  bounds_as calls.Run is = is
+  bounds_as (calls.Offer F) is = let t = call.from.a + 256 * call.from.x + 2 in
+      ap (λ (u : Bool). if u then (t, t + length (table_of F)) else calls.bounds more) taken
+      ∙ ap (λ (p : ℕ × ℕ). if plain.is_taken old then (t, t + length (table_of F)) else p) is
+  bounds_as calls.Redraw is = is
+
+  forth_lives : calls.UnlessReset call.routine
+      ((items : List Item) → calls.IsLifeOf more items → plain.IsLifeOf rest items)
+  forth_lives = unless_map call.routine (Facts call more rest)
+      ((items : List Item) → calls.IsLifeOf more items → plain.IsLifeOf rest items) (λ f. f.forth) facts
+
+  back_lives : calls.UnlessReset call.routine
+      ((items : List Item) → plain.IsLifeOf rest items → calls.IsLifeOf more items)
+  back_lives = unless_map call.routine (Facts call more rest)
+      ((items : List Item) → plain.IsLifeOf rest items → calls.IsLifeOf more items) (λ f. f.back) facts
+
+  linked : Bridge call more
+  linked = record {
+    rest = rest;
+    session = (
+      enters,
+      table,
+      unless_map call.routine (Facts call more rest)
+          (plain.Follows old rest × plain.IsSession rest) (λ f. (f.follows, f.session)) facts,
+    );
+    bounds = bounds_as call.routine (unless_map call.routine (Facts call more rest)
+        (calls.bounds more ≡ plain.bounds rest) (λ f. f.bounds) facts);
+    same = same;
+    returned = returned;
+    forth = λ items life. (
+      life.0,
+      life.1,
+      life.2,
+      to_old call.routine old life.0 (subst (λ (t : Bool). AddsAs call.routine call.from pl.log t life.0) taken
+          (subst (λ l. AddsAs call.routine call.from l (calls.is_taken call) life.0) logged
+          (of_new call.routine call life.0 life.3))),
+      since_lives call.routine life.1 (λ l. calls.IsLifeOf more l) (λ l. plain.IsLifeOf rest l) forth_lives life.4,
+    );
+    back = λ items life. (
+      life.0,
+      life.1,
+      life.2,
+      to_new call.routine call life.0
+          (subst (λ l. AddsAs call.routine call.from l (calls.is_taken call) life.0) (sym logged)
+          (subst (λ (t : Bool). AddsAs call.routine call.from pl.log t life.0) (sym taken)
+          (of_old call.routine old life.0 life.3))),
+      since_lives call.routine life.1 (λ l. plain.IsLifeOf rest l) (λ l. calls.IsLifeOf more l) back_lives life.4,
+    );
+    older = forth_lives;
+  }
+
+-- a table that stands after a call was one that the call's guard has
+covers_after : (routine : Routine) (call : calls.Call) (bounds : ℕ × ℕ) (b : ℕ)
+    → (calls.taken_bounds routine call bounds).0 ≤ b → b < (calls.taken_bounds routine call bounds).1
+    → ((nat_le bounds.0 b && nat_lt b bounds.1) || calls.is_offered routine call.from b) ≡ true
+covers_after calls.Reset call bounds b low high = absurd (omega (arith, high))
+covers_after calls.Tick call bounds b low high = left_true _ false (within bounds.0 bounds.1 b low high)
+covers_after calls.Ticks call bounds b low high = left_true _ false (within bounds.0 bounds.1 b low high)
+covers_after calls.Run call bounds b low high = left_true _ false (within bounds.0 bounds.1 b low high)
+covers_after calls.Redraw call bounds b low high = left_true _ false (within bounds.0 bounds.1 b low high)
+covers_after (calls.Offer F) call bounds b low high = by (calls.is_taken call) low high
+  where
+    t : ℕ
+    t = call.from.a + 256 * call.from.x
+
+    by : (u : Bool)
+        → (if u then (call.from.a + 256 * call.from.x + 2, call.from.a + 256 * call.from.x + 2 + length (table_of F)) else bounds).0 ≤ b
+        → b < (if u then (call.from.a + 256 * call.from.x + 2, call.from.a + 256 * call.from.x + 2 + length (table_of F)) else bounds).1
+        → ((nat_le bounds.0 b && nat_lt b bounds.1) || calls.is_offered (calls.Offer F) call.from b) ≡ true
+    by true low high = right_true (nat_le bounds.0 b && nat_lt b bounds.1) _
+        (within (call.from.a + 256 * call.from.x) (call.from.a + 256 * call.from.x + 2 + length (table_of F)) b
+        (omega (arith, low)) high)
+    by false low high = left_true _ (calls.is_offered (calls.Offer F) call.from b) (within bounds.0 bounds.1 b low high)
+
+kept_own : (tables : ℕ → Bool) (b : ℕ) → is_own b ≡ true → is_kept tables b ≡ true
+kept_own tables b is = left_true (is_own b) _ is
+
+kept_ram : (tables : ℕ → Bool) (b : ℕ) → is_ram b ≡ true → is_kept tables b ≡ true
+kept_ram tables b is = right_true (is_own b) _ (right_true (is_work b) _ (right_true (is_code b) _
+    (left_true (is_hardware b) (tables b) (left_true (is_ram b) _ is))))
+
+kept_table : (tables : ℕ → Bool) (b : ℕ) → tables b ≡ true → is_kept tables b ≡ true
+kept_table tables b is = right_true (is_own b) _ (right_true (is_work b) _ (right_true (is_code b) _
+    (right_true (is_hardware b) (tables b) is)))
+
+-- what is known of the calls before one, by the newest of them
+facts_of : (call older : calls.Call) (olds : List calls.Call) → IsLoaded call.from.mem
+    → calls.Follows call (older ∷ olds) → (bridge : Bridge older olds)
+    → Facts call (older ∷ olds) (plain_of older ∷ bridge.rest)
+facts_of call older olds load follows bridge = record {
+  standing = (was.life, was.is_life, was.stood);
+  bounds = bridge.bounds;
+  follows = still;
+  session = bridge.session;
+  forth = bridge.forth;
+  back = bridge.back;
+}
+  where
+    tables : ℕ → Bool
+    tables = calls.is_table older olds
+
+    pl : Cpu
+    pl = plain.after (plain_of older)
+
+    kept : (b : ℕ) → is_kept (calls.is_table older olds) b ≡ true
+        → (calls.after older).mem b ≡ (plain.after (plain_of older)).mem b
+    kept b is = ap (λ (k : Cpu). k.mem b) bridge.same.same
+        ∙ bridge.same.keeps b (left_true (is_kept (calls.is_table older olds) b) _ is)
+
+    still : plain.Follows (plain_of call) (plain_of older ∷ bridge.rest)
+    still = (
+      sym bridge.returned ∙ follows.0,
+      record {
+        own = λ b is. follows.1.own b is ∙ kept b (kept_own (calls.is_table older olds) b is);
+        ram = λ b is. follows.1.ram b is ∙ kept b (kept_ram (calls.is_table older olds) b is);
+        table = λ writing b low high.
+            let low' = subst (λ (p : ℕ × ℕ). p.0 ≤ b) (sym bridge.bounds) low in
+            let high' = subst (λ (p : ℕ × ℕ). b < p.1) (sym bridge.bounds) high in
+            follows.1.table (kept 0x10 refl ∙ writing) b low' high'
+            ∙ kept b (kept_table (calls.is_table older olds) b
+            (covers_after older.routine older (calls.bounds olds) b low' high'));
+      },
+    )
+
+    was : sessions.Before (plain_of call) (plain_of older ∷ bridge.rest)
+    was = sessions.before (plain_of call) (plain_of older ∷ bridge.rest) still load
+        (sessions.outcome (plain_of older ∷ bridge.rest) bridge.session)
+
+-- before a call stand others, unless it is a reset
+Prior : Routine → calls.Call → List calls.Call → Type 0
+Prior routine call more = (rest : List plain.Call) × calls.UnlessReset routine (Facts call more rest)
+
+prior : (routine : Routine) (call : calls.Call) (more : List calls.Call)
+    → calls.UnlessReset routine ((rest : List plain.Call) × Facts call more rest) → Prior routine call more
+unfolding Prior
+prior calls.Reset call more is = ([], tt)
+prior calls.Tick call more is = is
+prior calls.Ticks call more is = is
+prior calls.Run call more is = is
+prior (calls.Offer F) call more is = is
+prior calls.Redraw call more is = is
+
+pub bridge : (call : calls.Call) (more : List calls.Call) → calls.IsSession (call ∷ more) → Bridge call more
+unfolding Prior
+bridge call [] session =
+    let before = prior call.routine call [] (unless_map call.routine (⊥ × calls.IsSession [])
+    ((rest : List plain.Call) × Facts call [] rest) (λ none. absurd none.0) session.3) in
+    linked call [] before.0 session.0 session.1 session.2 before.1
+bridge call (older ∷ olds) session =
+    let before = prior call.routine call (older ∷ olds)
+    (unless_map call.routine (calls.Follows call (older ∷ olds) × calls.IsSession (older ∷ olds))
+    ((rest : List plain.Call) × Facts call (older ∷ olds) rest)
+    (λ both. let b = bridge older olds both.1 in
+    (plain_of older ∷ b.rest, facts_of call older olds session.0.loaded both.0 b)) session.3) in
+    linked call (older ∷ olds) before.0 session.0 session.1 session.2 before.1
+
+pub calls_live : calls.CallsLive
+calls_live [] session = absurd session
+calls_live (call ∷ more) session =
+    let b = bridge call more session in
+    let made = sessions.calls_live (plain_of call ∷ b.rest) b.session in (made.0, b.back made.0 made.1, made.2)
+
+one_as : (routine : Routine) (from : Cpu) (log : List Access) (is_taken : Bool) (one other : List Item)
+    → AddsAs routine from log is_taken one → AddsAs routine from log is_taken other → one ≡ other
+one_as calls.Reset from log is_taken one other a b = a.1 ∙ sym b.1
+one_as calls.Tick from log is_taken one other a b = sessions.one_shown (seen log) one other a b
+one_as calls.Ticks from log is_taken one other a b = sessions.one_shown (seen log) one other a b
+one_as calls.Run from log is_taken one other a b = sessions.one_shown (seen log) one other a b
+one_as (calls.Offer F) from log is_taken one other a b = a.1 ∙ sym b.1
+one_as calls.Redraw from log is_taken one other a b = a.1 ∙ sym b.1
+
+pub one_life : calls.OneLife
+one_life [] one other a b = absurd a
+one_life (call ∷ more) one other a b =
+    a.2 ∙ ap (λ l. l ++ a.1) (one_as call.routine call.from (calls.after call).log (calls.is_taken call) a.0 b.0
+    (of_new call.routine call a.0 a.3) (of_new call.routine call b.0 b.3))
+    ∙ ap (λ l. b.0 ++ l)
+    (sessions.one_since call.routine a.1 b.1 (λ l. calls.IsLifeOf more l) (one_life more a.1 b.1) a.4 b.4)
+    ∙ sym b.2
+
+-- the same answer, where nobody interrupts
+answered : (routine : Routine) (c : Bool) (life : List Item)
+    → ((P : Type 0) → calls.UnlessReset routine P → P) → calls.IsAnswered routine c life
+    → plain.IsAnswered routine c life
+answered routine c life no_reset a =
+    let call : calls.Call = record { routine = routine; from = a.from; steps = a.steps; others = a.others } in
+    let b = bridge call a.calls a.session in
+    record {
+      from = a.from;
+      steps = a.steps;
+      calls = b.rest;
+      session = b.session;
+      makes = no_reset ((items : List Item) → calls.IsLifeOf a.calls items → plain.IsLifeOf b.rest items) b.older life
+          a.makes;
+      returns = sym b.returned ∙ a.returns;
+      carry = sym (ap (λ (k : Cpu). k.c) b.same.same) ∙ a.carry;
+    }
+
+pub offer_answers : calls.OfferAnswers
+offer_answers F life = let old = sessions.offer_answers F life in (
+  λ a. old.0 (answered (calls.Offer F) false life (λ P is. is) a),
+  λ a. old.1 (answered (calls.Offer F) true life (λ P is. is) a),
+)
+
+pub redraw_answers : calls.RedrawAnswers
+redraw_answers life = let old = sessions.redraw_answers life in (
+  λ a. old.0 (answered calls.Redraw false life (λ P is. is) a),
+  λ a. old.1 (answered calls.Redraw true life (λ P is. is) a),
+)
+
+-- calls that nobody interrupts are among them: each step finds memory as the one before it left it
+pub still : (s n : ℕ) (cpu : Cpu) → amid s (λ k. (run s k cpu).mem) n cpu ≡ run s n cpu
+still s zero cpu = refl
+still s (suc n) cpu = still s n (turn s cpu)
+
+pub still_harmless : (guard : ℕ → ℕ → Bool) (s n : ℕ) (cpu : Cpu)
+    → AreHarmless guard s (λ k. (run s k cpu).mem) n cpu
+still_harmless guard s zero cpu = tt
+still_harmless guard s (suc n) cpu = ((λ b is. refl), still_harmless guard s n (turn s cpu))
+
+-- an interrupt at the call's instruction number n, which changes memory so; else nobody interrupts
+abbrev pub once : ℕ → ((ℕ → ℕ) → ℕ → ℕ) → ℕ → Cpu → ℕ → ℕ → ℕ
+once zero change s cpu zero = change cpu.mem
+once zero change s cpu (suc k) = (run s k (turn s (changed (change cpu.mem) cpu))).mem
+once (suc n) change s cpu zero = cpu.mem
+once (suc n) change s cpu (suc k) = once n change s (turn s cpu) k
+
+-- it is harmless where it leaves what is guarded then
+pub once_harmless : (guard : ℕ → ℕ → Bool) (change : (ℕ → ℕ) → ℕ → ℕ) (n s m : ℕ) (cpu : Cpu)
+    → ((b : ℕ) → guard (run s n cpu).s b ≡ true → change (run s n cpu).mem b ≡ (run s n cpu).mem b)
+    → AreHarmless guard s (once n change s cpu) m cpu
+once_harmless guard change n s zero cpu leaves = tt
+once_harmless guard change zero s (suc m) cpu leaves =
+    ((λ b is. leaves b is), still_harmless guard s m (turn s (changed (change cpu.mem) cpu)))
+once_harmless guard change (suc n) s (suc m) cpu leaves =
+    ((λ b is. refl), once_harmless guard change n s m (turn s cpu) leaves)

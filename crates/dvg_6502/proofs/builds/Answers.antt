@@ -1,0 +1,15 @@
+use Rattle.dvg_6502.proofs.Building.{put_takes}
+use Rattle.dvg_6502.proofs.Closing.{open_is_taken, pair_takes, labs_takes, close_takes, idle_ticks}
+use Rattle.dvg_6502.proofs.BuildScript.{builds_script}
+use Rattle.dvg_6502.proofs.builds.Goals as goal
+
+pub returns : goal.returns
+returns c = record {
+  opens = open_is_taken;
+  puts = put_takes;
+  pairs = pair_takes;
+  labs = labs_takes;
+  closes = close_takes;
+  idles = idle_ticks;
+  script = builds_script;
+}

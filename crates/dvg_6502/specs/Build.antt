@@ -1,0 +1,143 @@
+-- Frames that a program builds, by dvg_open, dvg_put, dvg_pair, dvg_labs and dvg_close.
+use Rattle.std.specs.Prelude.{◌≡◌, ℕ, suc, ◌+◌, ◌-◌, ◌*◌, ◌%◌, ◌≤◌, Bool, true, false, not, List, [], ◌∷◌, ◌++◌}
+use Rattle.std.specs.Prelude.{length, ◌⊎◌, All, Some, ◌/◌}
+use Rattle.dvg_code.specs.declared.instr.Instr.TheVariants.{Labs}
+use Rattle.dvg_code.specs.Acts.{Moves, act_of}
+use Rattle.dvg_frame.specs.declared.op.OpKind.{OpKind}
+use Rattle.dvg_frame.specs.declared.op.OpKind.TheVariants.{Draw, CallRom, Halt as Stop}
+use Rattle.dvg_frame.specs.Layout.{size}
+use Rattle.dvg_frame.specs.Faults.{Accepts}
+use Rattle.dvg_mem.specs.declared.half.Half.{Half}
+use Rattle.dvg_mem.specs.Areas.{base, other, high}
+use Rattle.dvg_driver.specs.declared.action.Action.TheVariants.{Wrote}
+use Rattle.dvg_driver.specs.Script.{Item, Did, word_zero}
+use Rattle.dvg_driver.specs.Place.{Resting, Writing, place_of_life}
+use Rattle.dvg_frame.specs.Bytes.{addressed}
+use Rattle.dvg_6502.specs.Amid.{ComesOut, guards, is_kept_building}
+use Rattle.dvg_6502.specs.Calls.{AreShown}
+use Rattle.dvg_6502.specs.Processor.{Cpu, Access, Writes, run, at_return}
+use Rattle.dvg_6502.specs.Code.{dvg_tick, dvg_open, dvg_put, dvg_pair, dvg_labs, dvg_close}
+use Rattle.dvg_6502.specs.Board.{IsLoaded, seen, phase_in, free_in, publish_in, place_in, pages_in, goal_in}
+use Rattle.dvg_6502.specs.Holds.{Holds, publish_byte}
+use Rattle.dvg_6502.specs.Routines.{Enters}
+
+-- a frame is being built, of which these bytes are to come; the HALT's are the last ones
+pub record IsBuilding (mem : ℕ → ℕ) (half : Half) (flipped : Bool) (rest : List ℕ) : Type 0 where
+  pub phase : phase_in mem ≡ 7
+  pub free : free_in mem ≡ high (other half)
+  pub publish : publish_in mem ≡ publish_byte flipped
+  pub low : mem 0x14 ≡ 0
+  pub page : 256 * mem 0x15 + 2 ≡ 0x4000 + 2 * base (other half) + 256 * pages_in mem
+  pub even : place_in mem % 2 ≡ 0
+  pub begun : 2 ≤ 256 * pages_in mem + place_in mem
+  pub some : 2 ≤ length rest
+  pub fits : 256 * pages_in mem + place_in mem + length rest ≤ 1024
+
+-- bytes that are written from an address on; the newest one is the first of the log
+abbrev pub written : ℕ → List ℕ → List Access
+written a [] = []
+written a (byte ∷ bytes) = written (suc a) bytes ++ Writes a byte ∷ []
+
+-- the call returns with C clear and S as it was, it has written these bytes where the frame goes on, and these are left;
+-- the same amid others
+pub record Builds (cpu : Cpu) (half : Half) (flipped : Bool) (now rest : List ℕ) : Type 0 where
+  pub steps : ℕ
+  pub returns : at_return cpu.s (run cpu.s steps cpu) ≡ true
+  pub carry : (run cpu.s steps cpu).c ≡ false
+  pub shows : seen (run cpu.s steps cpu).log ≡ written (goal_in cpu.mem) now
+  pub goes_on : goal_in (run cpu.s steps cpu).mem ≡ goal_in cpu.mem + length now
+  pub building : IsBuilding (run cpu.s steps cpu).mem half flipped rest
+  pub loaded : IsLoaded (run cpu.s steps cpu).mem
+  pub alike : ComesOut (guards is_kept_building cpu.s) cpu
+
+-- where a frame is being built, dvg_put puts the word of A and X, if there is room for it and the HALT
+abbrev pub PutTakes : Type 0
+PutTakes = (cpu : Cpu) (half : Half) (flipped : Bool) (rest : List ℕ) → Enters cpu dvg_put
+    → IsBuilding cpu.mem half flipped (cpu.a ∷ cpu.x ∷ rest) → 2 ≤ length rest
+    → Builds cpu half flipped (cpu.a ∷ cpu.x ∷ []) rest
+
+-- dvg_pair puts the two words of dvg_y and dvg_x
+abbrev pub PairTakes : Type 0
+PairTakes = (cpu : Cpu) (half : Half) (flipped : Bool) (rest : List ℕ) → Enters cpu dvg_pair
+    → let now = cpu.mem 0x1B ∷ cpu.mem 0x1C ∷ cpu.mem 0x1D ∷ cpu.mem 0x1E ∷ [] in
+    IsBuilding cpu.mem half flipped (now ++ rest) → 2 ≤ length rest → Builds cpu half flipped now rest
+
+-- dvg_labs puts a LABS by the low 12 bits of dvg_x and dvg_y; A is 16 times the scale
+abbrev pub LabsTakes : Type 0
+LabsTakes = (cpu : Cpu) (half : Half) (flipped : Bool) (rest : List ℕ) → Enters cpu dvg_labs
+    → let now = cpu.mem 0x1B ∷ (0xA0 + cpu.mem 0x1C % 16) ∷ cpu.mem 0x1D ∷ (16 * (cpu.a / 16) + cpu.mem 0x1E % 16) ∷ [] in
+    IsBuilding cpu.mem half flipped (now ++ rest) → 2 ≤ length rest → Builds cpu half flipped now rest
+
+-- the call returns with C clear and S as it was, and touches no hardware; a frame of these bytes is begun in the free
+-- half; the same amid others
+pub record Opens (cpu : Cpu) (half : Half) (flipped : Bool) (rest : List ℕ) : Type 0 where
+  pub steps : ℕ
+  pub returns : at_return cpu.s (run cpu.s steps cpu) ≡ true
+  pub carry : (run cpu.s steps cpu).c ≡ false
+  pub shows : seen (run cpu.s steps cpu).log ≡ []
+  pub begins : goal_in (run cpu.s steps cpu).mem ≡ 0x4000 + 2 * base (other half)
+  pub building : IsBuilding (run cpu.s steps cpu).mem half flipped rest
+  pub loaded : IsLoaded (run cpu.s steps cpu).mem
+  pub alike : ComesOut (guards is_kept_building cpu.s) cpu
+
+-- where the driver rests, dvg_open begins a frame, whatever it will be: at most 510 words and the HALT
+abbrev pub OpenTakes : Type 0
+OpenTakes = (cpu : Cpu) (begin stop : ℕ) (half : Half) (flipped first : Bool) (rest : List ℕ) → Enters cpu dvg_open
+    → Holds cpu.mem begin stop (record { place = Resting first; half = half; flipped = flipped })
+    → 2 ≤ length rest → length rest ≤ 1022 → Opens cpu half flipped rest
+
+-- the call returns with C clear and S as it was, it has written the HALT, and word zero is to come; the same amid others
+pub record Closes (cpu : Cpu) (half : Half) (flipped : Bool) : Type 0 where
+  pub steps : ℕ
+  pub returns : at_return cpu.s (run cpu.s steps cpu) ≡ true
+  pub carry : (run cpu.s steps cpu).c ≡ false
+  pub shows : seen (run cpu.s steps cpu).log ≡ written (goal_in cpu.mem) (0 ∷ 0xB0 ∷ [])
+  pub holds : (begin stop : ℕ) → Holds (run cpu.s steps cpu).mem begin stop
+      (record { place = Writing (word_zero (other half) (not flipped)); half = half; flipped = flipped })
+  pub loaded : IsLoaded (run cpu.s steps cpu).mem
+  pub alike : ComesOut (guards is_kept_building cpu.s) cpu
+
+-- dvg_close ends the frame, of which the HALT alone is to come
+abbrev pub CloseTakes : Type 0
+CloseTakes = (cpu : Cpu) (half : Half) (flipped : Bool) → Enters cpu dvg_close
+    → IsBuilding cpu.mem half flipped (0 ∷ 0xB0 ∷ []) → Closes cpu half flipped
+
+-- a tick that changes nothing: the call returns with S as it was, touches no hardware, and leaves memory as it was
+pub record Idles (cpu : Cpu) : Type 0 where
+  pub steps : ℕ
+  pub returns : at_return cpu.s (run cpu.s steps cpu) ≡ true
+  pub shows : seen (run cpu.s steps cpu).log ≡ []
+  pub kept : (run cpu.s steps cpu).mem ≡ cpu.mem
+
+-- where the driver rests, and while a frame is being built, a tick changes nothing
+abbrev pub IdleTicks : Type 0
+IdleTicks = (cpu : Cpu) → Enters cpu dvg_tick → (phase_in cpu.mem ≡ 2) ⊎ (phase_in cpu.mem ≡ 7) → Idles cpu
+
+-- a frame that calls one shape of the ROM
+abbrev pub calls_one : ℕ → List OpKind
+calls_one a = Draw (Labs 0 0 0) ∷ CallRom a ∷ Stop ∷ []
+
+-- an operation that a program puts: a vector or a LABS, or a call of a shape whose frame the check accepts
+abbrev pub IsPut : List ℕ → OpKind → Type 0
+IsPut R (Draw instr) = act_of instr ≡ Moves instr
+IsPut R (CallRom a) = Accepts (calls_one a) R
+IsPut R op = ⊥
+
+-- the check accepts a LABS, then what a program may put, then the HALT
+abbrev pub BuiltAccepted : Type 0
+BuiltAccepted = (R : List ℕ) (x y scale : ℕ) (ops : List OpKind) → All (IsPut R) ops
+    → let F = Draw (Labs x y scale) ∷ ops ++ Stop ∷ [] in size F ≤ 511 → Accepts F R
+
+-- the items of these writes, the newest one first
+abbrev pub put_items : ℕ → List ℕ → List Item
+put_items a [] = []
+put_items a (byte ∷ bytes) = put_items (suc a) bytes ++ Did (Wrote (a - 0x4000) byte) ∷ []
+
+-- where these bytes and then word zero are to come, what is put is shown by the script's next writes, and leads to where
+-- the rest is to come
+abbrev pub BuildsScript : Type 0
+BuildsScript = (a : ℕ) (now rest : List ℕ) (half : Half) (first : Bool) (life : List Item) → 0x4002 ≤ a
+    → place_of_life life ≡ Some (Writing (addressed (a - 0x4000) (now ++ rest) ++ word_zero half first))
+    → AreShown (put_items a now) (written a now)
+    × (place_of_life (put_items a now ++ life)
+    ≡ Some (Writing (addressed (a + length now - 0x4000) rest ++ word_zero half first)))
