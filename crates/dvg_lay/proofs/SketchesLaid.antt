@@ -36,7 +36,7 @@ lent_frames small laid (one ∷ rows) [] few drafted lines = absurd lines
 lent_frames small laid (one ∷ rows) (frame ∷ frames) few drafted lines =
     let most : length (doings one.rows) ≤ 511 = All-head (λ (frame : FrameRows). length (doings frame.rows) ≤ 511) one rows few in
     let ops = AllZip-long _ (doings one.rows) frame.ops.now drafted.0.draft in
-    let sources = AllZip-long (IsDoneAt small) (doings one.rows) frame.sources.now lines.0 in
+    let sources = AllZip-long (IsDoneAt small) (doings one.rows) frame.sources.now lines.0.does in
     All-cons IsLent frame frames (record { few = omega (arith, most, ops); lines = sources ∙ sym ops })
     (lent_frames small laid rows frames (All-tail (λ (frame : FrameRows). length (doings frame.rows) ≤ 511) one rows few)
     drafted.1 lines.1)

@@ -30,14 +30,14 @@ abbrev pub IsGood : (R : List ℕ) → NamedFrame → Type 0
 IsGood R frame = Accepts frame.ops.now R
 
 -- what the operation names of the ROM stands from word 400 on
-abbrev pub NamesRom : OpKind → Type 0
-NamesRom (CallRom a) = 0x400 ≤ a
-NamesRom (JumpRom a) = 0x400 ≤ a
-NamesRom op = Unit {0}
+abbrev pub NamesHighWord : OpKind → Type 0
+NamesHighWord (CallRom a) = 0x400 ≤ a
+NamesHighWord (JumpRom a) = 0x400 ≤ a
+NamesHighWord op = Unit {0}
 
 -- what the operations of the frame name of the ROM stands from 400 on
 abbrev pub NamesHighRom : NamedFrame → Type 0
-NamesHighRom frame = All NamesRom frame.ops.now
+NamesHighRom frame = All NamesHighWord frame.ops.now
 
 -- this is the first item of which `Good` doesn't hold; what is said of it is `Bad`
 pub record IsFirst {X : Type 0} (Good Bad : X → Type 0) (xs : List X) : Type 0 where
@@ -104,8 +104,8 @@ IsFault R names frames refusal = IsFirst (IsGood R) (TellsFault R names refusal)
 pub record IsFirstLow (F : List OpKind) (i : ℕ) : Type 0 where
   pub op : OpKind
   pub stands : slice_get F i ≡ Some op
-  pub low : ¬ NamesRom op
-  pub first : All NamesRom (take i F)
+  pub low : ¬ NamesHighWord op
+  pub first : All NamesHighWord (take i F)
 
 -- the refusal tells the first such operation of a frame
 abbrev pub TellsLow : {A : Type 0} → List RomName → Refusal A → NamedFrame → Type 0

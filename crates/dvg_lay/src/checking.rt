@@ -4,7 +4,7 @@ ghost use Rattle.std.specs.Prelude.{option_map};
 ghost use Rattle.dvg_frame.specs.Picture.{IsBound};
 ghost use Rattle.dvg_lay.specs.Refusals.{Blames, IsFault, IsFirst, IsFirstLow, IsGood, IsLent};
 ghost use Rattle.dvg_lay.specs.Refusals.{IsNameBefore, IsNearer, NamesHighRom, IsUnlaid, NamesBefore};
-ghost use Rattle.dvg_lay.specs.Refusals.{NamesRom, TellsFault, TellsLow, line_of, place_of};
+ghost use Rattle.dvg_lay.specs.Refusals.{NamesHighWord, TellsFault, TellsLow, line_of, place_of};
 
 use crate::refusal::{Blamed, Reason, Refusal, Unlaid};
 use crate::said::said;
@@ -186,8 +186,8 @@ pub(crate) fn check_all<A: Allocator + Copy>(
 }
 
 // Whether what the operation names of the ROM stands from word 400 on.
-fn names_rom(op: &Op) -> bool
-    ensures { IsTrue result ↔ NamesRom op.now }
+fn names_high_word(op: &Op) -> bool
+    ensures { IsTrue result ↔ NamesHighWord op.now }
 {
     match op.kind() {
         OpKind::CallRom(address) | OpKind::JumpRom(address) => RAM_END <= address,
@@ -197,10 +197,10 @@ fn names_rom(op: &Op) -> bool
 
 // The number of the first operation that names a word of the ROM below 400.
 fn first_low(ops: &[Op]) -> Option<usize>
-    ensures { MatchOption result (All NamesRom ops.now) (IsFirstLow ops.now) }
+    ensures { MatchOption result (All NamesHighWord ops.now) (IsFirstLow ops.now) }
 {
     for (i, op) in ops.iter().enumerate() {
-        if !names_rom(op) {
+        if !names_high_word(op) {
             return Some(i);
         }
     }

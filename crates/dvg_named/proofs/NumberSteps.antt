@@ -9,7 +9,7 @@ use Rattle.dvg_named.specs.LineNumbers.{AreNumbered, Entry, IsEntryOf, KeepsEntr
 use Rattle.dvg_frame.specs.declared.op.OpKind.{OpKind}
 use Rattle.dvg_read.specs.OpLines.{OpParts}
 use Rattle.dvg_named.specs.ReadParts.{later}
-use Rattle.dvg_rows.specs.Rows.{Doing, DoingParts, IsRowLine, Row, plain}
+use Rattle.dvg_rows.specs.Rows.{Doing, DoingParts, Head, HeadParts, IsHeadLine, IsRowLine, Row, plain}
 use Rattle.dvg_named.specs.Sections.{Section, Spelled, SpellsSketch}
 use Rattle.dvg_named.proofs.OneSketch.{one_row, one_sketch}
 use Rattle.dvg_rows.proofs.RowSpelling.{RowCase, alone, row_case, unnamed}
@@ -74,6 +74,12 @@ no_case (spelling.before name doing h e p is) = no_colon name e
 -- an empty line
 pub no_empty_row : (line : List ℕ) → line ≡ [] → (row : Row) → ¬ IsRowLine row line
 no_empty_row line none row h = no_case (row_case (subst (IsRowLine row) none h))
+
+no_parts : {head : Head} → HeadParts head ([] ∷ []) → ⊥
+no_parts h = elim h [ ]
+
+pub no_empty_head : (line : List ℕ) → line ≡ [] → (head : Head) → ¬ IsHeadLine head line
+no_empty_head line none head h = no_parts (subst (IsHeadLine head) none h)
 
 -- ---- the steps
 

@@ -3,6 +3,7 @@ use Rattle.std.proofs.Common.{◌≡◌, ◌<◌, ◌+◌, ◌-◌, ℕ, List, [
 use Rattle.std.proofs.Common.{All, arith, append_assoc, length-take, map, None, Option, Some, suc, Result, Ok, Err, IfOk}
 use Rattle.std.specs.List.{AllZip, cons_option}
 use Rattle.std.proofs.lemmas.List.{append-nil, length-append, length-drop, take_all, take_more}
+use Rattle.std.proofs.lemmas.List.Kept.{AllPairs-cons}
 use Rattle.std.proofs.lemmas.List.Elements.{All-cons, All-head, All-nil, All-tail}
 use Rattle.std.proofs.lemmas.Slice.Zip.{AllZip-long}
 use Rattle.dvg_frame.specs.declared.op.OpKind.{OpKind}
@@ -12,14 +13,14 @@ use Rattle.dvg_rows.specs.declared.source.Source.{Source}
 use Rattle.dvg_rows.specs.declared.row.Doing as held_doing
 use Rattle.dvg_rows.specs.declared.row.Row as held
 use Rattle.dvg_named.specs.FlatFrames.{IsSpanOf}
-use Rattle.dvg_named.specs.FrameValues.{IsFrameAt, frames_of}
+use Rattle.dvg_named.specs.FrameValues.{IsFrameAt, frame_held, frames_of}
 use Rattle.dvg_rows.specs.HeldRows.{rows_of}
-use Rattle.dvg_named.specs.OpSources.{AreLinesOf, HasRowLines, IsDoneAt, line_kept, op_sources}
+use Rattle.dvg_named.specs.OpSources.{AreLinesOf, HasRowLines, IsDoneAt, line_kept, lines_at, op_sources}
 use Rattle.dvg_named.specs.Places.{Laid}
 use Rattle.dvg_rows.specs.RowPlaces.{doings}
 use Rattle.dvg_named.specs.ReadSketches.{IsInside, StandsIn, joined_at}
 use Rattle.dvg_rows.specs.RowValues.{doing_of_some, row_of}
-use Rattle.dvg_named.specs.SourcedRows.{IsRowAt}
+use Rattle.dvg_named.specs.SourcedRows.{IsInSection, IsRowAt, Rise}
 use Rattle.dvg_named.proofs.FlatSpans.{cut_front, drop_front}
 
 -- a row more
@@ -70,6 +71,33 @@ done_all small (row ∷ rows) (source ∷ sources) all = one row.doing refl (don
         (line_kept does source ++ op_sources rows sources)
     one None e rest = rest
     one (Some doing) e rest = (record { at = all.0.at; row = row_of row; spelled = all.0.spelled; does = ap doing_of_some e }, rest)
+
+-- what holds of the lines of all rows holds of those of the operations
+all_ops : (P : Source → Type 0) (rows : List held.Row) (sources : List Source) → All P sources → All P (op_sources rows sources)
+all_ops P [] sources all = All-nil P
+all_ops P (row ∷ rows) [] all = All-nil P
+all_ops P (row ∷ rows) (source ∷ sources) all = one row.doing (all_ops P rows sources (All-tail P source sources all))
+  where
+    one : (does : Option held_doing.Doing) → All P (op_sources rows sources)
+        → All P (line_kept does source ++ op_sources rows sources)
+    one None rest = rest
+    one (Some doing) rest = All-cons P source (op_sources rows sources) (All-head P source sources all) rest
+
+-- and these are in order, too
+ops_rise : (rows : List held.Row) (sources : List Source) → Rise sources → Rise (op_sources rows sources)
+ops_rise [] sources all = λ i j d low high. absurd (omega (arith, high))
+ops_rise (row ∷ rows) [] all = λ i j d low high. absurd (omega (arith, high))
+ops_rise (row ∷ rows) (source ∷ sources) all =
+    one row.doing (ops_rise rows sources (λ i j d low high. all (suc i) (suc j) d (omega (arith, low)) (omega (arith, high))))
+  where
+    later : All (λ next. source.number < next.number) sources
+    later = λ k d low. all 0 (suc k) d (omega arith) (omega (arith, low))
+
+    one : (does : Option held_doing.Doing) → Rise (op_sources rows sources) → Rise (line_kept does source ++ op_sources rows sources)
+    one None rest = rest
+    one (Some doing) rest =
+        AllPairs-cons (λ source next. source.number < next.number) source (op_sources rows sources)
+        (all_ops (λ next. source.number < next.number) rows sources later) rest
 
 -- ---- a frame more
 
@@ -134,24 +162,39 @@ insides laid ops sources (frame ∷ frames) (span ∷ spans) are lines =
     All-cons (IsInside ops sources) span spans (record { from = are.0.from; to = are.0.to; lines = lines.0.to })
     (insides laid ops sources frames spans are.1 lines.1)
 
--- each operation of each frame stands in its line
-pub stand_in : (small : List ℕ) (ops : List OpKind) (sources : List Source) (found : List held_frame.FrameRows) (spans : List FrameSpan)
-    → All (IsFrameAt small) found → AllZip (AreLinesOf sources) found spans
+-- each operation of the frame stands in its line
+stands_in : (small : List ℕ) (ops : List OpKind) (sources : List Source) (frame : held_frame.FrameRows) (span : FrameSpan)
+    → IsFrameAt small frame → AreLinesOf sources frame span → span.begin ≡ frame.begin
+    → StandsIn small (frame_held frame) (joined_at ops sources span)
+stands_in small ops sources frame span at lines begin =
+    let rows = frame.rows.now in
+    let held = frame.sources.now in
+    record {
+      does = subst (AllZip (IsDoneAt small) (doings (rows_of rows))) (sym lines.are) (done_all small rows held at.rows);
+      rise = subst Rise (sym lines.are) (ops_rise rows held at.rise);
+      inside = subst (λ begin. All (IsInSection small begin) (lines_at sources span)) (sym begin)
+          (subst (All (IsInSection small frame.begin)) (sym lines.are)
+          (all_ops (IsInSection small frame.begin) rows held at.inside));
+    }
+
+-- so it is of each frame
+pub stand_in : (small : List ℕ) (laid : List Laid) (ops : List OpKind) (sources : List Source)
+    (found : List held_frame.FrameRows) (spans : List FrameSpan)
+    → All (IsFrameAt small) found → AllZip (IsSpanOf laid ops) found spans → AllZip (AreLinesOf sources) found spans
     → AllZip (StandsIn small) (frames_of found) (map (joined_at ops sources) spans)
-stand_in small ops sources [] [] all lines = tt
-stand_in small ops sources [] (span ∷ spans) all lines = absurd lines
-stand_in small ops sources (frame ∷ found) [] all lines = absurd lines
-stand_in small ops sources (frame ∷ found) (span ∷ spans) all lines = (
-  subst (AllZip (IsDoneAt small) (doings (rows_of frame.rows.now))) (sym lines.0.are)
-      (done_all small frame.rows.now frame.sources.now (All-head (IsFrameAt small) frame found all)),
-  stand_in small ops sources found spans (All-tail (IsFrameAt small) frame found all) lines.1,
+stand_in small laid ops sources [] [] all are lines = tt
+stand_in small laid ops sources [] (span ∷ spans) all are lines = absurd lines
+stand_in small laid ops sources (frame ∷ found) [] all are lines = absurd lines
+stand_in small laid ops sources (frame ∷ found) (span ∷ spans) all are lines = (
+  stands_in small ops sources frame span (All-head (IsFrameAt small) frame found all) lines.0 are.0.begin,
+  stand_in small laid ops sources found spans (All-tail (IsFrameAt small) frame found all) are.1 lines.1,
 )
 
 -- each row of each frame has a line
 pub row_lines : (small : List ℕ) (found : List held_frame.FrameRows) → All (IsFrameAt small) found → All HasRowLines found
 row_lines small [] all = All-nil HasRowLines
 row_lines small (frame ∷ found) all =
-    All-cons HasRowLines frame found (sym (AllZip-long (IsRowAt small) frame.rows.now frame.sources.now (All-head (IsFrameAt small) frame found all)))
+    All-cons HasRowLines frame found (sym (AllZip-long (IsRowAt small) frame.rows.now frame.sources.now (All-head (IsFrameAt small) frame found all).rows))
     (row_lines small found (All-tail (IsFrameAt small) frame found all))
 
 -- what follows from two facts of an answer

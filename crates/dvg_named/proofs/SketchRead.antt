@@ -24,8 +24,9 @@ use Rattle.dvg_named.specs.SourcedRows.{AreSourced, IsLineAt}
 use Rattle.dvg_named.specs.LineNumbers.{AreNumbered, Numbers, adds, entries_in, head_at_top, keeps}
 use Rattle.std.specs.List.{join_with_byte}
 use Rattle.dvg_named.specs.TextReading.{StopsText, ReadsText, fault_at}
-use Rattle.dvg_named.proofs.NumberSteps.{later_length, no_empty_row, numbered_added, numbered_kept, numbered_none}
+use Rattle.dvg_named.proofs.NumberSteps.{later_length, no_empty_head, no_empty_row, numbered_added, numbered_kept, numbered_none}
 use Rattle.dvg_named.proofs.FewTokens.{few_tokens}
+use Rattle.dvg_named.proofs.SourcedMore.{sourced_passed}
 use Rattle.dvg_named.proofs.OneSketch.{goes_on, says_more, says_nothing}
 use Rattle.dvg_named.proofs.PlainTokens.{parts_of_plain, passed_without_tokens, unpassed_with_tokens}
 
@@ -88,6 +89,13 @@ module _ {A : Type 0} (text : List ℕ) (left rest : List (List ℕ)) (n : ℕ) 
         (no_empty_row (plain line) (ap (join_with_byte 32) none))
         (record { top = refl; entries = refl }) r.numbered);
   }
+
+  -- nor does it begin a section
+  pub passes_sourced : tokens line ≡ [] → (source : Source) → source.number ≡ n + 1 → source.line.now ≡ line
+      → AreSourced text source.number reading → AreSourced text (source.number + 1) reading
+  passes_sourced none source number is =
+      sourced_passed text reading source (line_at source number is)
+      (λ head begins. no_empty_head (plain source.line.now) (ap (λ l. join_with_byte 32 (tokens l)) is ∙ ap (join_with_byte 32) none) head begins)
 
   module _ (some : 0 < length (tokens line)) where
     numbers_on : (new : Reading A) → ReadsMore r.rom reading (plain line) new → Numbers reading (plain line) (n + 1) new
@@ -227,13 +235,14 @@ no_tokens held line r e all is = sym is ∙ none_held held (sym e ∙ all)
 
 -- at the text's end
 pub reads_all : {A : Type 0} (text : List ℕ) (left : List (List ℕ)) (n : ℕ) (reading : Reading A) → left ≡ []
-    → ReadTo text left n reading → length text ≤ 1048576 → AreSourced text reading → ReadsText text reading
+    → ReadTo text left n reading → length text ≤ 1048576 → AreSourced text (n + 1) reading → ReadsText text reading
 reads_all text left n reading none r short sourced = record {
   short = short;
   rom = r.rom;
   spelled = subst (λ ls. SpellsSketch (spelled_in r.rom reading) (unpassed (map plain ls)))
       (sym (r.cut ∙ ap (λ l. r.before ++ l) none ∙ append-nil r.before)) r.spelled;
   reads = r.reads;
+  next = n + 1;
   sourced = sourced;
   numbered = subst (λ ls. AreNumbered (map plain ls) reading)
       (sym (r.cut ∙ ap (λ l. r.before ++ l) none ∙ append-nil r.before)) r.numbered;

@@ -1,12 +1,12 @@
 -- Frames of a sketch, as the reader holds them.
-use Rattle.std.specs.Prelude.{ℕ, List, [], ◌∷◌, Option, None, map}
+use Rattle.std.specs.Prelude.{◌<◌, ℕ, List, [], ◌∷◌, All, Option, None, map}
 use Rattle.std.specs.List.{AllZip}
 use Rattle.dvg_named.specs.declared.frame_rows.FrameRows as held
 use Rattle.dvg_rows.specs.HeldRows.{rows_of}
 use Rattle.dvg_rows.specs.RowValues.{name_of}
 use Rattle.dvg_rows.specs.Rows.{Head, Row, frame, rom, top}
-use Rattle.dvg_named.specs.Sections.{FrameRows, Section, frame_of}
-use Rattle.dvg_named.specs.SourcedRows.{BeginsFrame, IsRowAt}
+use Rattle.dvg_named.specs.Sections.{FrameRows, Section, Spelled, frame_of}
+use Rattle.dvg_named.specs.SourcedRows.{BeginsFrame, IsInSection, IsRowAt, Rise}
 
 -- a frame
 abbrev pub frame_held : held.FrameRows → FrameRows
@@ -31,10 +31,20 @@ abbrev pub rows_at_top : List Row → List FrameRows
 rows_at_top [] = []
 rows_at_top (row ∷ rows) = record { name = None; rows = row ∷ rows } ∷ []
 
--- each row of the frame stands in its line
-abbrev pub IsFrameAt : (small : List ℕ) → held.FrameRows → Type 0
-IsFrameAt small held_frame = AllZip (IsRowAt small) held_frame.rows.now held_frame.sources.now
+-- each row of the frame stands in its line, and the lines in the frame's section, in order
+pub record IsFrameAt (small : List ℕ) (held_frame : held.FrameRows) : Type 0 where
+  pub rows : AllZip (IsRowAt small) held_frame.rows.now held_frame.sources.now
+  pub rise : Rise held_frame.sources.now
+  pub inside : All (IsInSection small held_frame.begin) held_frame.sources.now
+
+-- the frame begins before the line of this number
+abbrev pub BeginsBefore : (number : ℕ) → held.FrameRows → Type 0
+BeginsBefore number held_frame = held_frame.begin.number < number
+
+-- the frame begins before the other one
+abbrev pub BeginsFirst : (held_frame next : held.FrameRows) → Type 0
+BeginsFirst held_frame next = BeginsBefore next.begin.number held_frame
 
 -- the frame begins in its line
-abbrev pub IsBegunAt : (small : List ℕ) → held.FrameRows → Type 0
-IsBegunAt small held_frame = BeginsFrame small (name_of held_frame.name) held_frame.begin
+abbrev pub IsBegunAt : (small : List ℕ) → Spelled → held.FrameRows → Type 0
+IsBegunAt small sketch held_frame = BeginsFrame small sketch (name_of held_frame.name) held_frame.begin

@@ -1,5 +1,5 @@
 -- What the text of a sketch denotes, as the program holds it: with the line of each operation.
-use Rattle.std.specs.Prelude.{◌≡◌, ◌≤◌, ◌-◌, ℕ, List, All, Option, drop, length, map, take}
+use Rattle.std.specs.Prelude.{◌≡◌, ◌<◌, ◌≤◌, ◌-◌, ℕ, List, All, AllPairs, Option, drop, length, map, take}
 use Rattle.std.specs.Char.{to_ascii_lowercase}
 use Rattle.std.specs.List.{AllZip}
 use Rattle.dvg_frame.specs.declared.op.OpKind.{OpKind}
@@ -17,7 +17,7 @@ use Rattle.dvg_named.specs.ReadParts.{rom_names}
 use Rattle.dvg_named.specs.RomNames.{IsNamedIn, names_listed}
 use Rattle.dvg_rows.specs.RowValues.{name_of}
 use Rattle.dvg_named.specs.Sections.{FrameRows, Spelled, frames}
-use Rattle.dvg_named.specs.SourcedRows.{BeginsFrame}
+use Rattle.dvg_named.specs.SourcedRows.{BeginsFrame, IsInSection, Rise}
 
 -- a frame: its name, if it has one, the line that begins it, and its operations with their lines
 pub record SourcedFrame : Type 0 where
@@ -52,23 +52,28 @@ joined_at ops sources span = record {
 abbrev pub frames_in : {A : Type 0} → Sketch A → List SourcedFrame
 frames_in sketch = map (joined_at sketch.frames.ops.items sketch.frames.sources.items) sketch.frames.spans.items
 
--- each operation of the frame stands in its line
-abbrev pub StandsIn : (small : List ℕ) → FrameRows → SourcedFrame → Type 0
-StandsIn small rows frame = AllZip (IsDoneAt small) (doings rows.rows) frame.sources
+-- each operation of the frame stands in a line that spells it, in the frame's section and after those before it: so the
+-- line is its own
+pub record StandsIn (small : List ℕ) (rows : FrameRows) (frame : SourcedFrame) : Type 0 where
+  pub does : AllZip (IsDoneAt small) (doings rows.rows) frame.sources
+  pub rise : Rise frame.sources
+  pub inside : All (IsInSection small frame.begin) frame.sources
 
 -- these are all names of the ROM, in order, each with its word address
 pub record ListsNames (sketch : Spelled) (names : List RomName) : Type 0 where
   pub listed : names_listed names ≡ rom_names sketch
   pub addresses : All (IsNamedIn (laid_of sketch)) names
 
--- the text denotes these frames, this ROM with these names, each frame begins in its line, and each operation stands in
--- its own
+-- the text denotes these frames and this ROM with these names; each frame begins in its line, after those before it, and
+-- each operation stands in its own
 pub record IsSketchOf (text : List ℕ) (R : List ℕ) (names : List RomName) (result : List SourcedFrame) : Type 0 where
   pub rom_text : RomText
   pub denotes : DenotesFrames text rom_text (map as_frame result)
   pub is_rom : IsRomOf rom_text R
   pub lists : ListsNames denotes.sketch names
-  pub begins : All (λ frame. BeginsFrame (map to_ascii_lowercase text) frame.name frame.begin) result
+  pub begins : All (λ frame. BeginsFrame (map to_ascii_lowercase text) denotes.sketch frame.name frame.begin)
+      result
+  pub rise : AllPairs (λ frame next. frame.begin.number < next.begin.number) result
   pub lines : AllZip (StandsIn (map to_ascii_lowercase text)) (frames denotes.sketch) result
 
 -- each frame stands within the operations, and within their lines

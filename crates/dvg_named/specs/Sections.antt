@@ -1,5 +1,5 @@
 -- Which lines of a sketch belong to which section.
-use Rattle.std.specs.Prelude.{◌≡◌, ◌≢◌, ℕ, List, [], ◌∷◌, ◌++◌, All, IfSome, Option, Some, None}
+use Rattle.std.specs.Prelude.{◌≡◌, ◌≢◌, ◌<◌, ℕ, List, [], ◌∷◌, ◌++◌, All, IfSome, Option, Some, None, length}
 use Rattle.std.specs.List.{AllZip, filter_map, flat_map}
 use Rattle.dvg_frame.specs.declared.op.OpKind.TheVariants.{Call, Jump}
 use Rattle.dvg_read.specs.RomTexts.{RomText, SpellsRom}
@@ -69,6 +69,10 @@ rom_of _ rows = None
 abbrev pub top_frame : List Row → List Section → List FrameRows
 top_frame [] (section ∷ others) = []
 top_frame rows others = record { name = None; rows = rows } ∷ []
+
+-- there is a frame at the top
+abbrev pub HasTop : Spelled → Type 0
+HasTop sketch = 0 < length (top_frame sketch.first sketch.others)
 
 -- the frames, in order
 abbrev pub frames : Spelled → List FrameRows

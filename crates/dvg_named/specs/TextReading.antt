@@ -21,7 +21,8 @@ pub record ReadsText {A : Type 0} (small : List ℕ) (reading : Reading A) : Typ
   pub rom : RomText
   pub spelled : SpellsSketch (spelled_in rom reading) (unpassed (map plain (lines small)))
   pub reads : Reads rom reading
-  pub sourced : AreSourced small reading
+  pub next : ℕ
+  pub sourced : AreSourced small next reading
   pub numbered : AreNumbered (map plain (lines small)) reading
 
 -- why a text isn't read: its fault, or want of memory

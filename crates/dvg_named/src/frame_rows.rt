@@ -1,16 +1,17 @@
 //! The frames among the sections of a sketch.
-ghost use Rattle.std.specs.Prelude.{◌≡◌, ◌++◌, ◌∷◌, [], All, IfOk, List, None, OnOk, map, ℕ};
+ghost use Rattle.std.specs.Prelude.{◌≡◌, ◌≢◌, ◌<◌, ◌++◌, ◌∷◌, [], All, AllPairs, IfOk, List, None, OnOk, map, ℕ};
 ghost use Rattle.std.specs.List.{filter_map};
 ghost use Rattle.dvg_read.specs.RomTexts.{RomText};
-ghost use Rattle.dvg_named.specs.FrameValues.{IsBegunAt, IsFrameAt, frame_in, frame_list};
+ghost use Rattle.dvg_named.specs.FrameValues.{BeginsBefore, BeginsFirst, IsBegunAt, IsFrameAt};
+ghost use Rattle.dvg_named.specs.FrameValues.{frame_in, frame_list};
 ghost use Rattle.dvg_named.specs.FrameValues.{frames_of};
 ghost use Rattle.dvg_named.specs.LineNumbers.{first_head};
 ghost use Rattle.dvg_named.specs.FrameValues.{rows_at_top};
 ghost use Rattle.dvg_rows.specs.HeldRows.{rows_of};
 ghost use Rattle.dvg_named.specs.ReadParts.{sketch_of};
-ghost use Rattle.dvg_named.specs.Sections.{frames};
+ghost use Rattle.dvg_named.specs.Sections.{HasTop, Spelled, frames};
 ghost use Rattle.dvg_named.specs.SketchReading.{head_in, section_in};
-ghost use Rattle.dvg_named.specs.SourcedRows.{IsPartAt};
+ghost use Rattle.dvg_named.specs.SourcedRows.{AreInOrder, IsPartAt, StandsBefore};
 
 use dvg_code::OutOfMemory;
 use dvg_rows::{Head, Part, Row, Source};
@@ -40,9 +41,14 @@ pub(crate) fn frame_rows<'r, 'a, A: Allocator + Copy>(
         ≡ frames (sketch_of stated (map section_in closed.now) (section_in last.now))) }
     ensures sources { IfOk result (λ found. (small : List ℕ) → All (IsPartAt small) closed.now
         → IsPartAt small last.now → All (IsFrameAt small) found.items) }
-    ensures begins { IfOk result (λ found. (small : List ℕ) → All (IsPartAt small) closed.now
-        → IsPartAt small last.now → first_head closed.now last.now ≡ None
-        → All (IsBegunAt small) found.items) }
+    ensures begins { IfOk result (λ found. (stated : RomText) (small : List ℕ)
+        → All (IsPartAt small) closed.now → IsPartAt small last.now
+        → first_head closed.now last.now ≡ None
+        → All (IsBegunAt small (sketch_of stated (map section_in closed.now) (section_in last.now)))
+        found.items) }
+    ensures rise { IfOk result (λ found. (small : List ℕ) → All (IsPartAt small) closed.now
+        → AreInOrder closed.now → All (StandsBefore last.now.begin.number) closed.now
+        → AllPairs BeginsFirst found.items) }
 {
     let [top, others @ ..] = closed else {
         let mut found = Vec::new(alloc);
@@ -65,9 +71,15 @@ fn later_frames<'r, 'a, A: Allocator + Copy>(
         ++ filter_map frame_in (map section_in others.now)) }
     ensures sources { IfOk result (λ found. (small : List ℕ) → IsPartAt small top.now
         → All (IsPartAt small) others.now → All (IsFrameAt small) found.items) }
-    ensures begins { IfOk result (λ found. (small : List ℕ) → IsPartAt small top.now
+    ensures begins { IfOk result (λ found. (small : List ℕ) (sketch : Spelled)
+        → (top.now.rows.items ≢ [] → HasTop sketch) → IsPartAt small top.now
         → top.now.head ≡ None → All (IsPartAt small) others.now
-        → All (IsBegunAt small) found.items) }
+        → All (IsBegunAt small sketch) found.items) }
+    ensures before { IfOk result (λ found. (small : List ℕ) (number : ℕ) → IsPartAt small top.now
+        → StandsBefore number top.now → All (StandsBefore number) others.now
+        → All (BeginsBefore number) found.items) }
+    ensures rise { IfOk result (λ found. (small : List ℕ) → IsPartAt small top.now
+        → AreInOrder (top.now ∷ others.now) → AllPairs BeginsFirst found.items) }
 {
     let mut found = Vec::new(alloc);
     if !top.rows.is_empty() {
@@ -88,9 +100,14 @@ fn push_top<'r, 'a, A: Allocator + Copy>(
         ++ record { name = None; rows = rows_of top.now.rows.items } ∷ []) }
     ensures sources { OnOk result ((small : List ℕ) → IsPartAt small top.now
         → All (IsFrameAt small) found.old.items → All (IsFrameAt small) found.new.items) }
-    ensures begins { OnOk result ((small : List ℕ) → IsPartAt small top.now
-        → top.now.head ≡ None
-        → All (IsBegunAt small) found.old.items → All (IsBegunAt small) found.new.items) }
+    ensures begins { OnOk result ((small : List ℕ) (sketch : Spelled) → HasTop sketch
+        → IsPartAt small top.now → top.now.head ≡ None
+        → All (IsBegunAt small sketch) found.old.items
+        → All (IsBegunAt small sketch) found.new.items) }
+    ensures before { OnOk result ((number : ℕ) → top.now.begin.number < number
+        → All (BeginsBefore number) found.old.items → All (BeginsBefore number) found.new.items) }
+    ensures rise { OnOk result (All (BeginsBefore top.now.begin.number) found.old.items
+        → AllPairs BeginsFirst found.old.items → AllPairs BeginsFirst found.new.items) }
 {
     found.push(FrameRows {
         name: None,
@@ -110,8 +127,13 @@ fn push_frame<'r, 'a, A: Allocator + Copy>(
         ++ frame_list (head_in part.now.head) (rows_of part.now.rows.items)) }
     ensures sources { OnOk result ((small : List ℕ) → IsPartAt small part.now
         → All (IsFrameAt small) found.old.items → All (IsFrameAt small) found.new.items) }
-    ensures begins { OnOk result ((small : List ℕ) → IsPartAt small part.now
-        → All (IsBegunAt small) found.old.items → All (IsBegunAt small) found.new.items) }
+    ensures begins { OnOk result ((small : List ℕ) (sketch : Spelled) → IsPartAt small part.now
+        → All (IsBegunAt small sketch) found.old.items
+        → All (IsBegunAt small sketch) found.new.items) }
+    ensures before { OnOk result ((number : ℕ) → StandsBefore number part.now
+        → All (BeginsBefore number) found.old.items → All (BeginsBefore number) found.new.items) }
+    ensures rise { OnOk result (All (BeginsBefore part.now.begin.number) found.old.items
+        → AllPairs BeginsFirst found.old.items → AllPairs BeginsFirst found.new.items) }
 {
     if let Some(Head::Frame(name)) = part.head {
         found.push(FrameRows {

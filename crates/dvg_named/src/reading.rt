@@ -46,16 +46,18 @@ pub(crate) struct Reading<'a, A: Allocator + Copy> {
 }
 
 impl<'a, A: Allocator + Copy> Reading<'a, A> {
-    ghost use Rattle.std.specs.Prelude.{◌≡◌, ◌++◌, ◌∷◌, [], ◌↔◌, ℕ, All, List, IfErr, IfOk, IsTrue};
+    ghost use Rattle.std.specs.Prelude.{◌≡◌, ◌<◌, ◌+◌, ◌++◌, ◌∷◌, [], ◌↔◌, ℕ, All, AllPairs, List};
+    ghost use Rattle.std.specs.Prelude.{IfErr, IfOk, IsTrue};
     ghost use Rattle.std.specs.Prelude.{IsFalse, OnOk};
-    ghost use Rattle.dvg_named.specs.FrameValues.{IsBegunAt, IsFrameAt, frames_of};
+    ghost use Rattle.dvg_named.specs.FrameValues.{BeginsFirst, IsBegunAt, IsFrameAt, frames_of};
     ghost use Rattle.dvg_named.specs.Sections.{frames};
     ghost use Rattle.dvg_read.specs.LineParts.{bytes_of};
     ghost use Rattle.dvg_read.specs.RomReading.{unstated};
     ghost use Rattle.dvg_read.specs.RomTexts.{RomText};
     ghost use Rattle.dvg_read.specs.RomReading.{TellsRom};
     ghost use Rattle.dvg_rows.specs.RowValues.{head_of, name_of, row_of};
-    ghost use Rattle.dvg_rows.specs.Rows.{IsHeadLine, IsRowLine, Row as SpelledRow, frame, rom};
+    ghost use Rattle.dvg_rows.specs.Rows.{Head as SpelledHead, IsHeadLine, IsRowLine};
+    ghost use Rattle.dvg_rows.specs.Rows.{Row as SpelledRow, frame, rom};
     ghost use Rattle.dvg_named.specs.RowMoves.{IsFrameHead, IsRomHead};
     ghost use Rattle.dvg_named.specs.SketchReading.{IsBare, Opens, Reads, ReadsMore, StopsSketch};
     ghost use Rattle.dvg_named.specs.SketchReading.{head_in, spelled_in};
@@ -85,7 +87,7 @@ impl<'a, A: Allocator + Copy> Reading<'a, A> {
         ensures reads { Reads unstated result }
         ensures bare { IsBare result }
         ensures sources { (small : List ℕ) → BeginsIn small None first.entry
-            → AreSourced small result }
+            → AreSourced small 1 result }
         ensures top { head_at_top result ≡ None }
         ensures entries { entries_in result ≡ [] }
     {
@@ -109,12 +111,13 @@ impl<'a, A: Allocator + Copy> Reading<'a, A> {
             → ReadsMore stated self.old (line_of (bytes_of tokens.now)) self.new) }
         ensures fault { IfErr result (λ fault. (stated : RomText) → Reads stated self.old
             → StopsSketch fault (spelled_in stated self.old) (line_of (bytes_of tokens.now))) }
-        ensures sources { OnOk result ((small : List ℕ) → AreSourced small self.old
-            → IsLineAt small source.entry
+        ensures sources { OnOk result ((small : List ℕ)
+            → AreSourced small source.entry.number self.old → IsLineAt small source.entry
             → plain source.entry.line.now ≡ line_of (bytes_of tokens.now)
-            → AreSourced small self.new) }
-        ensures numbers { OnOk result ((stated : RomText) (small : List ℕ) → Reads stated self.old
-            → AreSourced small self.old
+            → (stated : RomText) → Reads stated self.old
+            → AreSourced small (source.entry.number + 1) self.new) }
+        ensures numbers { OnOk result ((stated : RomText) (small : List ℕ) (next : ℕ)
+            → Reads stated self.old → AreSourced small next self.old
             → Numbers self.old (line_of (bytes_of tokens.now)) source.entry.number self.new) }
     {
         if self.is_bare() && self.tell(tokens) {
@@ -145,11 +148,13 @@ impl<'a, A: Allocator + Copy> Reading<'a, A> {
         ensures refused { IsFalse result → (stated now : RomText) → Reads stated self.old
             → ¬ TellsRom stated (line_of (bytes_of tokens.now)) now }
         ensures kept { IsFalse result → self.new ≡ self.old }
-        ensures sources { IsTrue result → (small : List ℕ) → AreSourced small self.old
-            → AreSourced small self.new }
+        ensures sources { IsTrue result → (small : List ℕ) (next : ℕ)
+            → AreSourced small next self.old → AreSourced small next self.new }
         ensures entries { IsTrue result → KeepsEntries self.old self.new }
         ensures no_row { IsTrue result → (stated : RomText) → Reads stated self.old
             → (row : SpelledRow) → ¬ IsRowLine row (line_of (bytes_of tokens.now)) }
+        ensures no_head { IsTrue result → (stated : RomText) → Reads stated self.old
+            → (head : SpelledHead) → ¬ IsHeadLine head (line_of (bytes_of tokens.now)) }
     {
         if !self.rom.take(tokens) {
             return false;
@@ -166,8 +171,10 @@ impl<'a, A: Allocator + Copy> Reading<'a, A> {
             → Reads stated self.old
             → IsHeadLine (head_of head.entry) line
             → StopsSketch fault (spelled_in stated self.old) line) }
-        ensures sources { OnOk result ((small : List ℕ) → AreSourced small self.old
-            → IsHeadAt small head.entry source.entry → AreSourced small self.new) }
+        ensures sources { OnOk result ((small : List ℕ)
+            → AreSourced small source.entry.number self.old
+            → IsHeadAt small head.entry source.entry
+            → AreSourced small (source.entry.number + 1) self.new) }
         ensures entries { OnOk result (KeepsEntries self.old self.new) }
     {
         match head {
@@ -185,8 +192,10 @@ impl<'a, A: Allocator + Copy> Reading<'a, A> {
             → Reads stated self.old
             → IsHeadLine (frame (name_of name.entry)) line
             → StopsSketch fault (spelled_in stated self.old) line) }
-        ensures sources { OnOk result ((small : List ℕ) → AreSourced small self.old
-            → IsHeadAt small (Head.Frame name.entry) source.entry → AreSourced small self.new) }
+        ensures sources { OnOk result ((small : List ℕ)
+            → AreSourced small source.entry.number self.old
+            → IsHeadAt small (Head.Frame name.entry) source.entry
+            → AreSourced small (source.entry.number + 1) self.new) }
         ensures entries { OnOk result (KeepsEntries self.old self.new) }
     {
         if let Err(fault) = self.frame_names.give(name) {
@@ -203,8 +212,10 @@ impl<'a, A: Allocator + Copy> Reading<'a, A> {
             → Reads stated self.old
             → IsHeadLine (rom address) line
             → StopsSketch fault (spelled_in stated self.old) line) }
-        ensures sources { OnOk result ((small : List ℕ) → AreSourced small self.old
-            → IsHeadAt small (Head.Rom address) source.entry → AreSourced small self.new) }
+        ensures sources { OnOk result ((small : List ℕ)
+            → AreSourced small source.entry.number self.old
+            → IsHeadAt small (Head.Rom address) source.entry
+            → AreSourced small (source.entry.number + 1) self.new) }
         ensures entries { OnOk result (KeepsEntries self.old self.new) }
     {
         let first = self.rom.first();
@@ -217,8 +228,10 @@ impl<'a, A: Allocator + Copy> Reading<'a, A> {
     // Closes the last section, and opens another one.
     fn open_part(&mut self, head: Head<'a>, source: Source<'a>) -> Result<(), LineFault>
         ensures opened { OnOk result (Opens self.old (head_of head.entry) self.new) }
-        ensures sources { OnOk result ((small : List ℕ) → AreSourced small self.old
-            → IsHeadAt small head.entry source.entry → AreSourced small self.new) }
+        ensures sources { OnOk result ((small : List ℕ)
+            → AreSourced small source.entry.number self.old
+            → IsHeadAt small head.entry source.entry
+            → AreSourced small (source.entry.number + 1) self.new) }
         ensures fault { IfErr result (λ fault. fault ≡ LineFault.Memory) }
         ensures entries { OnOk result (KeepsEntries self.old self.new) }
     {
@@ -241,9 +254,11 @@ impl<'a, A: Allocator + Copy> Reading<'a, A> {
             → Reads stated self.old
             → IsRowLine (row_of row.now) line
             → StopsSketch fault (spelled_in stated self.old) line) }
-        ensures sources { OnOk result ((small : List ℕ) → AreSourced small self.old
-            → IsRowAt small row.now source.entry → AreSourced small self.new) }
-        ensures entries { OnOk result ((small : List ℕ) → AreSourced small self.old
+        ensures sources { OnOk result ((small : List ℕ)
+            → AreSourced small source.entry.number self.old
+            → IsRowAt small row.now source.entry
+            → AreSourced small (source.entry.number + 1) self.new) }
+        ensures entries { OnOk result ((small : List ℕ) (next : ℕ) → AreSourced small next self.old
             → AddsEntry self.old (row_of row.now) source.entry.number self.new) }
     {
         match self.last.head {
@@ -261,9 +276,11 @@ impl<'a, A: Allocator + Copy> Reading<'a, A> {
             → Reads stated self.old
             → IsRowLine (row_of row.now) line
             → StopsSketch fault (spelled_in stated self.old) line) }
-        ensures sources { OnOk result ((small : List ℕ) → AreSourced small self.old
-            → IsRowAt small row.now source.entry → AreSourced small self.new) }
-        ensures entries { OnOk result ((small : List ℕ) → AreSourced small self.old
+        ensures sources { OnOk result ((small : List ℕ)
+            → AreSourced small source.entry.number self.old
+            → IsRowAt small row.now source.entry
+            → AreSourced small (source.entry.number + 1) self.new) }
+        ensures entries { OnOk result ((small : List ℕ) (next : ℕ) → AreSourced small next self.old
             → AddsEntry self.old (row_of row.now) source.entry.number self.new) }
     {
         if let Err(fault) = self.names.give(row.name) {
@@ -285,9 +302,11 @@ impl<'a, A: Allocator + Copy> Reading<'a, A> {
             → Reads stated self.old
             → IsRowLine (row_of row.now) line
             → StopsSketch fault (spelled_in stated self.old) line) }
-        ensures sources { OnOk result ((small : List ℕ) → AreSourced small self.old
-            → IsRowAt small row.now source.entry → AreSourced small self.new) }
-        ensures entries { OnOk result ((small : List ℕ) → AreSourced small self.old
+        ensures sources { OnOk result ((small : List ℕ)
+            → AreSourced small source.entry.number self.old
+            → IsRowAt small row.now source.entry
+            → AreSourced small (source.entry.number + 1) self.new) }
+        ensures entries { OnOk result ((small : List ℕ) (next : ℕ) → AreSourced small next self.old
             → AddsEntry self.old (row_of row.now) source.entry.number self.new) }
     {
         if !may_stand_in_rom(row) {
@@ -360,10 +379,14 @@ impl<'a, A: Allocator + Copy> Reading<'a, A> {
     pub fn frames(&self) -> Result<Vec<FrameRows<'_, 'a>, A>, OutOfMemory>
         ensures frames { IfOk result (λ found. (stated : RomText)
             → frames_of found.items ≡ frames (spelled_in stated self.now)) }
-        ensures sources { IfOk result (λ found. (small : List ℕ) → AreSourced small self.now
+        ensures sources { IfOk result (λ found. (small : List ℕ) (next : ℕ)
+            → AreSourced small next self.now
             → All (IsFrameAt small) found.items) }
-        ensures begins { IfOk result (λ found. (small : List ℕ) → AreSourced small self.now
-            → head_at_top self.now ≡ None → All (IsBegunAt small) found.items) }
+        ensures begins { IfOk result (λ found. (stated : RomText) (small : List ℕ) (next : ℕ)
+            → AreSourced small next self.now → head_at_top self.now ≡ None
+            → All (IsBegunAt small (spelled_in stated self.now)) found.items) }
+        ensures rise { IfOk result (λ found. (small : List ℕ) (next : ℕ)
+            → AreSourced small next self.now → AllPairs BeginsFirst found.items) }
     {
         frame_rows(self.alloc, self.closed.as_slice(), &self.last)
     }
@@ -376,12 +399,16 @@ impl<'a, A: Allocator + Copy> Reading<'a, A> {
             → AllZip (IsFrameOf (laid_sections laid.now)) (frames (spelled_in stated self.now))
             (map (frame_at joined.ops.items) joined.spans.items)) }
         ensures lines { IfOk result (λ joined. (stated : RomText) (small : List ℕ)
-            → AreSourced small self.now
+            (next : ℕ) → AreSourced small next self.now
             → AllZip (StandsIn small) (frames (spelled_in stated self.now))
             (map (joined_at joined.ops.items joined.sources.items) joined.spans.items)) }
-        ensures begins { IfOk result (λ joined. (small : List ℕ) → AreSourced small self.now
-            → head_at_top self.now ≡ None
-            → All (λ span. BeginsFrame small (name_of span.name) span.begin) joined.spans.items) }
+        ensures begins { IfOk result (λ joined. (stated : RomText) (small : List ℕ) (next : ℕ)
+            → AreSourced small next self.now → head_at_top self.now ≡ None
+            → All (λ span. BeginsFrame small (spelled_in stated self.now) (name_of span.name)
+            span.begin) joined.spans.items) }
+        ensures rise { IfOk result (λ joined. (small : List ℕ) (next : ℕ)
+            → AreSourced small next self.now
+            → AllPairs (λ span next. span.begin.number < next.begin.number) joined.spans.items) }
         ensures inside { IfOk result (λ joined.
             All (IsInside joined.ops.items joined.sources.items) joined.spans.items) }
         ensures fault { IfErr result (StopsDrafts (laid_sections laid.now) self.now) }

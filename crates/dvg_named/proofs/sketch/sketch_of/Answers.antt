@@ -50,4 +50,5 @@ returns-in-Ok-drafts-clause-read g c text read =
     (c.in-Ok-rom_names.ensures.names ∙ ap (λ l. names_of (rows_laid (laid_sections l))) (sym same))
     (subst (λ l. All (IsNamedIn (laid_sections l)) names) (sym same) c.in-Ok-rom_names.ensures.addresses)
     (c.in-Ok-drafts.ensures.drafts read.rom)
-    (c.in-Ok-drafts.ensures.begins _ read.sourced read.numbered.top) (c.in-Ok-drafts.ensures.lines read.rom _ read.sourced)
+    (c.in-Ok-drafts.ensures.begins read.rom _ read.next read.sourced read.numbered.top) (c.in-Ok-drafts.ensures.rise _ read.next read.sourced)
+    (c.in-Ok-drafts.ensures.lines read.rom _ read.next read.sourced)

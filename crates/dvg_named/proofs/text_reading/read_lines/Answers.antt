@@ -3,7 +3,7 @@ use Rattle.dvg_read.specs.LineParts.{bytes_of}
 use Rattle.dvg_read.specs.Texts.{lines}
 use Rattle.dvg_read.specs.TextLines.{lines_left}
 use Rattle.dvg_named.specs.TextReading.{StopsText, fault_at}
-use Rattle.dvg_named.proofs.SketchRead.{are_parts, begins, bounded, goes_by, line_at, many, no_tokens, passes, plain_is, reads_all, some_tokens, stops_tokens}
+use Rattle.dvg_named.proofs.SketchRead.{are_parts, begins, bounded, goes_by, line_at, many, no_tokens, passes, passes_sourced, plain_is, reads_all, some_tokens, stops_tokens}
 use Rattle.dvg_named.proofs.text_reading.read_lines.Goals as goal
 
 pub loop-line-init : goal.loop-line-init
@@ -35,7 +35,11 @@ loop-line-preserved-then-is_empty g c = record {
   next = tt;
   ends = tt;
   short = c.loop-line.invariant.short;
-  sourced = c.loop-line.invariant.sourced;
+  sourced = passes_sourced c.args.small.now _ _ c.loop-line.number c.loop-line.reading c.in-Some.line.now c.in-Some.ensures.steps
+      c.loop-line.invariant.read
+      (no_tokens c.find_tokens.new.found.items c.in-Some.line.now c.is_empty.result c.is_empty.ensures c.if-is_empty.true
+      c.in_default.ensures.found) (record { number = c.loop-line.number + 1; line = c.in-Some.line }) refl refl
+      c.loop-line.invariant.sourced;
   read = passes c.args.small.now _ _ c.loop-line.number c.loop-line.reading c.in-Some.line.now c.in-Some.ensures.steps c.loop-line.invariant.read
       (no_tokens c.find_tokens.new.found.items c.in-Some.line.now c.is_empty.result c.is_empty.ensures c.if-is_empty.true
       c.in_default.ensures.found);
@@ -68,13 +72,14 @@ loop-line-preserved g c = record {
       (plain_is c.args.small.now _ _ c.loop-line.number c.loop-line.reading c.in-Some.line.now c.in-Some.ensures.steps c.loop-line.invariant.read
       (bytes_of c.as_slice.result.now) (ap bytes_of c.as_slice.ensures.value ∙ c.in_default.ensures.found)
       (some_tokens c.find_tokens.new.found.items c.in-Some.line.now c.is_empty.result c.is_empty.ensures c.if-is_empty.false
-      c.in_default.ensures.found));
+      c.in_default.ensures.found))
+      c.loop-line.invariant.read.rom c.loop-line.invariant.read.reads;
   read = goes_by c.args.small.now _ _ c.loop-line.number c.loop-line.reading c.in-Some.line.now c.in-Some.ensures.steps c.loop-line.invariant.read
       (bytes_of c.as_slice.result.now) (ap bytes_of c.as_slice.ensures.value ∙ c.in_default.ensures.found)
       (some_tokens c.find_tokens.new.found.items c.in-Some.line.now c.is_empty.result c.is_empty.ensures c.if-is_empty.false
       c.in_default.ensures.found)
       c.add.new.self c.in_default-add.ensures.added
-      (λ rom reads. c.in_default-add.ensures.numbers rom c.args.small.now reads c.loop-line.invariant.sourced);
+      (λ rom reads. c.in_default-add.ensures.numbers rom c.args.small.now (c.loop-line.number + 1) reads c.loop-line.invariant.sourced);
 }
 
 pub returns-clause-read : goal.returns-clause-read

@@ -1,4 +1,4 @@
-use Rattle.std.proofs.Common.{◌≤◌, length}
+use Rattle.std.proofs.Common.{◌≤◌, ◌+◌, length}
 use Rattle.dvg_read.specs.TextLines.{lines_left}
 use Rattle.dvg_named.specs.SourcedRows.{AreSourced}
 use Rattle.dvg_named.proofs.SketchRead.{ReadTo}
@@ -9,6 +9,6 @@ invariant-loop-line g l = record {
   next : (goal.iterator-loop-line g).can_next l.line-iterator;
   ends : (goal.iterator-loop-line g).is_finite l.line-iterator;
   short : length l.small ≤ 1048576;
-  sourced : AreSourced l.small l.reading;
+  sourced : AreSourced l.small (l.number + 1) l.reading;
   read : ReadTo l.small (lines_left l.line-iterator) l.number l.reading;
 }

@@ -3,11 +3,12 @@ use Rattle.dvg_named.specs.SourcedRows.{AreSourced}
 use Rattle.dvg_rows.specs.RowValues.{row_of}
 use Rattle.dvg_named.proofs.OneSketch.{head_is_no_row}
 use Rattle.dvg_named.proofs.ReadRows.{on_ok}
-use Rattle.std.proofs.Common.{◌≡◌, Bool, true, false, subst, sym, ◌∙◌}
+use Rattle.dvg_named.proofs.SourcedMore.{sourced_passed}
+use Rattle.std.proofs.Common.{◌≡◌, Bool, true, false, refl, subst, sym, ◌∙◌}
 use Rattle.dvg_read.specs.LineParts.{bytes_of}
 use Rattle.dvg_read.specs.RomReading.{TellsRom}
 use Rattle.dvg_read.specs.RomTexts.{RomText}
-use Rattle.dvg_rows.specs.Rows.{HeadParts, RowParts}
+use Rattle.dvg_rows.specs.Rows.{HeadParts, IsHeadLine, RowParts}
 use Rattle.dvg_named.specs.SketchReading.{IsBare, closed_in, section_in}
 use Rattle.dvg_named.specs.SketchSteps.{line_of}
 use Rattle.dvg_named.proofs.ReadCuts.{nothing_goes}
@@ -39,7 +40,7 @@ returns-in-Some-clause-numbers g c =
       | else-is_bare-via-then-is_bare+else-tell w ↦ w.self-is ∙ w.tell.ensures.kept w.if-tell.false
       | else-is_bare-via-else-is_bare w ↦ w.self-is
     ] in
-    on_ok c.begin_section.result c.begin_section.ensures.entries (λ same stated small reads sourced.
+    on_ok c.begin_section.result c.begin_section.ensures.entries (λ same stated small next reads sourced.
     keeps (subst (λ old. KeepsEntries old c.begin_section.new.self) old same)
     (λ row is. head_is_no_row c.in-Some.ensures.found (subst (RowParts row) c.requires is)))
 
@@ -51,7 +52,13 @@ returns-clause-numbers g c =
       | else-is_bare-via-then-is_bare+else-tell w ↦ w.self-is ∙ w.tell.ensures.kept w.if-tell.false
       | else-is_bare-via-else-is_bare w ↦ w.self-is
     ] in
-    on_ok c.add_row.result c.add_row.ensures.entries (λ more stated small reads sourced.
+    on_ok c.add_row.result c.add_row.ensures.entries (λ more stated small next reads sourced.
     adds row (subst (RowParts row) (sym c.requires) c.in-Some-read_row.ensures.found)
     (subst (λ old. AddsEntry old row c.args.source.number c.add_row.new.self) old
-    (more small (subst (AreSourced small) (sym old) sourced))))
+    (more small next (subst (AreSourced small next) (sym old) sourced))))
+
+pub returns-then-tell-clause-sources : goal.returns-then-tell-clause-sources
+returns-then-tell-clause-sources g c small sourced at is stated reads =
+    sourced_passed small _ c.args.source at
+    (λ head begins. c.if-tell.ensures.no_head refl stated reads head (subst (IsHeadLine head) is begins))
+    (c.if-tell.ensures.sources refl small c.args.source.number sourced)

@@ -1,7 +1,7 @@
 use Rattle.dvg_named.specs.SourcedRows.{IsRowAt}
 use Rattle.dvg_named.proofs.EntriesMore.{row_adds}
 use Rattle.std.proofs.Common.{refl, subst}
-use Rattle.dvg_named.proofs.SourcedMore.{both_ok, part_more}
+use Rattle.dvg_named.proofs.SourcedMore.{both_ok, row_sourced}
 use Rattle.dvg_named.proofs.ReadRows.{on_ok, rom_added, rom_given, rom_refused, rom_stops, section_pushed}
 use Rattle.dvg_named.specs.SketchReading.{head_in}
 use Rattle.dvg_rows.specs.RomAreas.{StopsArea, Takes}
@@ -34,14 +34,12 @@ returns-clause-added g c =
 
 pub returns-clause-sources : goal.returns-clause-sources
 returns-clause-sources g c =
-    both_ok c.push.result c.push.ensures.rows c.push.ensures.sources (λ rows sources small sourced at. record {
-      closed = sourced.closed;
-      last = part_more small c.args.self.now.last c.push.new.self c.args.row.now c.args.source c.push.ensures.head
-          c.push.ensures.begin rows sources sourced.last at;
-    })
+    both_ok c.push.result c.push.ensures.rows c.push.ensures.sources (λ rows sources small sourced at.
+    row_sourced small c.args.self.now _ c.args.row.now c.args.source refl c.push.ensures.head c.push.ensures.begin rows sources
+    sourced at)
 
 pub returns-clause-entries : goal.returns-clause-entries
 returns-clause-entries g c =
-    both_ok c.push.result c.push.ensures.rows c.push.ensures.sources (λ rows sources small sourced.
+    both_ok c.push.result c.push.ensures.rows c.push.ensures.sources (λ rows sources small next sourced.
     row_adds (IsRowAt small) c.args.self.now _ c.args.row.now c.args.source refl c.push.ensures.head rows sources
     sourced.last.rows)

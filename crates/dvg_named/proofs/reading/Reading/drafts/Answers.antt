@@ -10,7 +10,7 @@ use Rattle.dvg_named.specs.ReadSketches.{StandsIn, joined_at}
 use Rattle.dvg_named.specs.Sections.{FrameRows}
 use Rattle.dvg_named.specs.SketchReading.{spelled_in}
 use Rattle.dvg_named.specs.Ungiven.{framed}
-use Rattle.dvg_named.proofs.FrameLists.{spans_begun}
+use Rattle.dvg_named.proofs.FrameLists.{spans_begun, spans_rise}
 use Rattle.dvg_named.proofs.KnownFrames.{drafts_stop, frames_are, frames_known, held_frames}
 use Rattle.dvg_named.proofs.OpLines.{both_ok, insides, row_lines, stand_in}
 use Rattle.dvg_named.proofs.RomFew.{if_ok}
@@ -30,7 +30,7 @@ pub join_frames-requires-clause-lines : goal.join_frames-requires-clause-lines
 join_frames-requires-clause-lines g c =
     subst (All HasRowLines) (sym c.as_slice.ensures.value)
     (row_lines c.requires.text.small c.in-Ok.found.items
-    (c.in-Ok.ensures.sources c.requires.text.small c.requires.text.reads.sourced))
+    (c.in-Ok.ensures.sources c.requires.text.small c.requires.text.reads.next c.requires.text.reads.sourced))
 
 pub returns-clause-fault : goal.returns-clause-fault
 returns-clause-fault g c =
@@ -58,11 +58,13 @@ returns-clause-drafts g c =
 
 pub returns-clause-lines : goal.returns-clause-lines
 returns-clause-lines g c =
-    if_ok c.join_frames.result c.join_frames.ensures.lines (λ joined lines stated small sourced.
+    let laid = laid_sections c.args.laid.now in
+    both_ok c.join_frames.result c.join_frames.ensures.spans c.join_frames.ensures.lines (λ joined spans lines stated small next sourced.
     subst (λ fs. AllZip (StandsIn small) fs (map (joined_at joined.ops.items joined.sources.items) joined.spans.items))
     (c.in-Ok.ensures.frames stated)
-    (stand_in small joined.ops.items joined.sources.items c.in-Ok.found.items joined.spans.items
-    (c.in-Ok.ensures.sources small sourced)
+    (stand_in small laid joined.ops.items joined.sources.items c.in-Ok.found.items joined.spans.items
+    (c.in-Ok.ensures.sources small next sourced)
+    (subst (λ found. AllZip (IsSpanOf laid joined.ops.items) found joined.spans.items) c.as_slice.ensures.value spans)
     (subst (λ found. AllZip (AreLinesOf joined.sources.items) found joined.spans.items) c.as_slice.ensures.value lines)))
 
 pub returns-clause-inside : goal.returns-clause-inside
@@ -74,7 +76,15 @@ returns-clause-inside g c =
 pub returns-clause-begins : goal.returns-clause-begins
 returns-clause-begins g c =
     let laid = laid_sections c.args.laid.now in
-    if_ok c.join_frames.result c.join_frames.ensures.spans (λ joined spans small sourced none.
-    spans_begun small laid joined.ops.items c.in-Ok.found.items joined.spans.items
+    if_ok c.join_frames.result c.join_frames.ensures.spans (λ joined spans stated small next sourced none.
+    spans_begun small (spelled_in stated c.args.self.now) laid joined.ops.items c.in-Ok.found.items joined.spans.items
     (subst (λ found. AllZip (IsSpanOf laid joined.ops.items) found joined.spans.items) c.as_slice.ensures.value spans)
-    (c.in-Ok.ensures.begins small sourced none))
+    (c.in-Ok.ensures.begins stated small next sourced none))
+
+pub returns-clause-rise : goal.returns-clause-rise
+returns-clause-rise g c =
+    let laid = laid_sections c.args.laid.now in
+    if_ok c.join_frames.result c.join_frames.ensures.spans (λ joined spans small next sourced.
+    spans_rise laid joined.ops.items c.in-Ok.found.items joined.spans.items
+    (subst (λ found. AllZip (IsSpanOf laid joined.ops.items) found joined.spans.items) c.as_slice.ensures.value spans)
+    (c.in-Ok.ensures.rise small next sourced))

@@ -24,5 +24,5 @@ returns-clause-sources g c small sourced at =
     (ap (λ p. p.begin) c.replace-closed.ensures.after ∙ c.new-part.ensures.begin)
     (ap (λ p. p.rows.items) c.replace-closed.ensures.after ∙ c.new-part.ensures.rows)
     (ap (λ p. p.sources.items) c.replace-closed.ensures.after ∙ c.new-part.ensures.sources)
-    (fitted_sourced small c.args.self.now c.fit.new.self c.fit.ensures.head c.fit.ensures.begin c.fit.ensures.rows
+    (fitted_sourced small c.args.source.number c.args.self.now c.fit.new.self c.fit.ensures.head c.fit.ensures.begin c.fit.ensures.rows
     c.fit.ensures.sources sourced) at

@@ -1,4 +1,4 @@
-use Rattle.dvg_named.proofs.OneSketch.{tells_no_row}
+use Rattle.dvg_named.proofs.OneSketch.{tells_no_head, tells_no_row}
 use Rattle.std.proofs.Common.{◌∙◌}
 use Rattle.dvg_read.specs.LineParts.{bytes_of}
 use Rattle.dvg_named.specs.SketchSteps.{line_of}
@@ -13,3 +13,7 @@ returns-clause-stated g c is bare stated reads =
 pub returns-clause-no_row : goal.returns-clause-no_row
 returns-clause-no_row g c is stated reads row =
     tells_no_row (c.take.ensures.took c.if-not-take.false stated reads.rom).tells
+
+pub returns-clause-no_head : goal.returns-clause-no_head
+returns-clause-no_head g c is stated reads head =
+    tells_no_head (c.take.ensures.took c.if-not-take.false stated reads.rom).tells
