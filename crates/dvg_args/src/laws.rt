@@ -30,8 +30,8 @@ pub fn refused_options()
 {}
 
 /// Where no option is given that a subcommand may refuse, nothing is refused after the matching. So
-/// arguments that the command takes with flags alone, as `play --all --banked`, fail only for want
-/// of memory.
+/// arguments that the command takes without these options, as `play --all --banked`, fail only for
+/// want of memory.
 pub fn unrefused_options()
     ensures { UnrefusedOptions }
 {}

@@ -12,7 +12,7 @@ met low None = Whole None
 met None (Some byte) = Waits byte
 met (Some low) (Some high) = Whole (Some (low + 256 * high))
 
--- the whole word, or none for a hole
+-- the whole word; none for a hole, and where a low byte waits
 abbrev pub word_of : Met → Option ℕ
 word_of (Waits byte) = None
 word_of (Whole word) = word

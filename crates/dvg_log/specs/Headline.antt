@@ -29,7 +29,7 @@ abbrev pub NoFault : Log → Happening → Shown → Type 0
 NoFault log event (Broke address fault) = ⊥
 NoFault log event entry = Unit {0}
 
--- this draft is shown: the one newest published when the open run fetched word zero, or now, before it does
+-- this draft is shown: the one newest published when the open run fetched word zero, or now, where no open run has
 abbrev pub IsShown : Log → List OpKind → Type 0
 IsShown log F = published (at_zero log) ≡ Some F
 
@@ -54,7 +54,7 @@ abbrev pub fetch_count : List (ℕ × ℕ) → Option ℕ → ℕ
 fetch_count words None = 2 * length words
 fetch_count words (Some low) = 2 * length words + 1
 
--- a run whose picture has n words goes on at a fetch of this number, or that is 2n, and ends the run with the picture
+-- in a run whose picture has n words this fetch goes on, below number 2n, or is number 2n and ends it with the picture
 abbrev pub EndsAt : ℕ → List Stroke → ℕ → Shown → Type 0
 EndsAt number drew n (Done address word strokes) = (number ≡ 2 * n) × (strokes ≡ drew)
 EndsAt number drew n (Broke address fault) = ⊥

@@ -61,7 +61,7 @@ low_byte log = option_map (λ low. low.1) (waiting log)
 abbrev pub meets : List ℕ → List ℕ → Log → ℕ → Met
 meets R image log address = met (low_byte log) (fetched_byte (ram image log) R address (is_some (low_byte log)))
 
--- the words that the generator was told, newest first
+-- what the generator was told, newest first
 abbrev pub history : List ℕ → List ℕ → Log → List Told
 history R image [] = []
 history R image ((event ⟼ Started) ∷ log) = Start ∷ history R image log
@@ -137,7 +137,7 @@ abbrev pub has_fetched : Option (List (ℕ × ℕ)) → Bool
 has_fetched (Some (fetch ∷ fetches)) = true
 has_fetched _ = false
 
--- the log before the open run fetched word zero; the log itself, where that is still to come
+-- the log before the open run fetched word zero; the log itself, where no open run has
 abbrev pub at_zero : Log → Log
 at_zero [] = []
 at_zero (line ∷ log) = if has_fetched (open_run (line ∷ log)) then at_zero log else line ∷ log

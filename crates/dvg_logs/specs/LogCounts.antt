@@ -31,7 +31,7 @@ abbrev pub drew_of : Log → ℕ
 drew_of [] = 0
 drew_of (line ∷ log) = (if draws_from line log then 1 else 0) + drew_of log
 
--- what a log says: how many runs began, drew a half and ended by a HALT, and how many bytes were written
+-- what a log says: how many runs began and drew a half, how many lines say `halted`, and how many bytes were written
 abbrev pub counts_of : Log → LogCounts
 counts_of log = record {
   runs = count_by begins log;

@@ -20,7 +20,7 @@ abbrev pub runs_text : LogCounts → List ℕ
 runs_text counts = spaced (decimal counts.runs ∷ []) ++ codes " runs," ++ spaced (decimal counts.drew ∷ [])
     ++ codes " drew a half,"
 
--- how many runs ended by a HALT, and how many bytes were written
+-- how many lines say that a run ended by a HALT, and how many bytes were written
 abbrev pub halts_text : LogCounts → List ℕ
 halts_text counts = spaced (decimal counts.halted ∷ []) ++ codes " halted," ++ spaced (decimal counts.writes ∷ [])
     ++ codes " writes" ++ 10 ∷ []

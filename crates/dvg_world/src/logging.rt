@@ -30,7 +30,7 @@ use std::mem;
 pub struct Logged<A: Allocator = Global> {
     /// The entries, in the order of their events.
     pub entries: Entries<A>,
-    /// Whether all events happened. Where not, memory was refused.
+    /// Whether all events happened. Where not, memory was refused (which is tested).
     pub is_whole: bool,
 }
 

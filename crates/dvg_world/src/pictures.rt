@@ -35,7 +35,7 @@ pub struct Picture<A: Allocator = Global> {
 pub struct Drawn<A: Allocator = Global> {
     /// The pictures, in the order in which they were finished.
     pub pictures: Vec<Picture<A>, A>,
-    /// Whether all events happened. Where not, memory was refused.
+    /// Whether all events happened. Where not, memory was refused (which is tested).
     pub is_whole: bool,
 }
 
