@@ -1,0 +1,258 @@
+#!/usr/bin/env -S python3 -B
+"""Tests core/cells: what it writes is what two other readers of the Verilog make of it, and it refuses
+what it doesn't know.
+
+    core_cells.py FOLDER [CLOCKS]      a folder to work in, and how many clocks [default: 10000]
+
+The cells are computed here, by the meaning that each kind has, over random clocks since power-up of
+dvg_core and of dvg_board. The pins after each clock must be those that Icarus Verilog has, and those of
+Verilator. Then texts are planted in the Verilog that core/cells must refuse. The last line is 'N passed,
+M failed'."""
+
+import os
+import random
+import re
+import subprocess
+import sys
+
+import texts
+
+CELLS = f"{texts.TOP}/core/cells"
+OUTPUTS = "at", "high", "halted", "done", "fault", "stroke", "x0", "y0", "x", "y", "z"
+
+# What each kind of cell computes, as the definition has it.
+MEANING = {
+    "part": lambda start, count, a: a >> start & (1 << count) - 1,
+    "joined": lambda width, low, high: low + (high << width),
+    "add": lambda width, a, b: (a + b) % (1 << width),
+    "sub": lambda width, a, b: (a + (1 << width) - b) % (1 << width),
+    "shl": lambda width, a, by: (a << by) % (1 << width),
+    "mux": lambda select, one, other: one if select else other,
+    "eq": lambda a, b: int(a == b),
+    "ne": lambda a, b: int(a != b),
+    "lt": lambda a, b: int(a < b),
+    "none": lambda a: int(a == 0),
+    "some": lambda a: int(a != 0),
+    "both": lambda a, b: int(a != 0 and b != 0),
+    "either": lambda a, b: int(a != 0 or b != 0),
+    "memrd": lambda ram, at: ram[at],
+}
+
+
+def as_python(text):
+    """A term of the definition as one of Python: a name, a number, or a cell with its arguments."""
+    tokens = re.findall(r"[()]|[^\s()]+", text)
+
+    def atom():
+        token = tokens.pop(0)
+        if token == "(":
+            inner = term()
+            tokens.pop(0)
+            return inner
+        if token.isdigit():
+            return token
+        owner, _, name = token.rpartition(".")
+        return f"{owner.replace('.', '_')}['{name}']" if owner else f"w_{name}"
+
+    def term():
+        name = tokens[0]
+        if name in MEANING:
+            tokens.pop(0)
+            arguments = []
+            while tokens and tokens[0] != ")":
+                arguments.append(atom())
+            return f"{name}({', '.join(arguments)})"
+        if name == "cells.halted":
+            del tokens[:2]
+            return "none(board_core['is_open'])"
+        return atom()
+
+    return term()
+
+
+def function_of(text, name, arguments):
+    """A definition as a function of Python, which answers a number, or a record of them."""
+    body = re.search(rf"(?m)^{name} .*=\n((?:    .*\n?)+)", text)[1]
+    lines = [f"def {name}({arguments}):"]
+    for wire, term in re.findall(r"let (\w+) : ℕ = (.*) in\n", body):
+        lines.append(f"    w_{wire} = {as_python(term)}")
+    fields = [(n, t) for n, t in re.findall(r"(?m)^      (\w+) = (.*);$", body) if n not in ("ram", "core")]
+    last = body.rstrip("\n").rpartition("\n")[2].strip()
+    value = "{" + ", ".join(f"'{n}': {as_python(t)}" for n, t in fields) + "}" if fields else as_python(last)
+    scope = dict(MEANING)
+    exec("\n".join([*lines, f"    return {value}"]), scope)
+    return scope[name]
+
+
+def zeros_of(text, record):
+    names = re.search(rf"(?m)^pub record {record} .*\n((?:  .*\n)+)", text)[1]
+    return {name: 0 for name in re.findall(r"pub (\w+) : ℕ$", names, re.M)}
+
+
+def number_of(pins, widths):
+    """The pins of a clock as one number, the first pin highest."""
+    number = 0
+    for name, width in widths.items():
+        number = number << width | pins[name]
+    return number
+
+
+class Core:
+    """dvg_core by its cells."""
+    WIDTHS = {"reset": 1, "start": 1, "valid": 1, "hole": 1, "din": 8}
+
+    def __init__(self, text):
+        self.clock = function_of(text, "clock", "core, pins")
+        self.halted = function_of(text, "halted", "core")
+        self.now = zeros_of(text, "Core")
+
+    def any_pins(self):
+        """Pins by which all kinds of words come, with few HALTs and many calls and returns."""
+        k, din = random.randrange(100), random.randrange(256)
+        if self.now["high"]:
+            din = (0xF0 if din >> 4 == 0xB and k % 4 else 0xC0 if k % 5 == 1 else 0xD0
+                   if k % 5 == 2 and self.now["depth"] else din & 0xF0) | din & 0xF
+        return {"reset": int(k == 0), "start": int(k == 1 or not self.now["is_open"] and k < 50),
+                "valid": int(k > 2 and k % 8 != 3), "hole": int(k == 99), "din": din}
+
+    def play(self, pins):
+        self.now = self.clock(self.now, pins)
+        return self.shown()
+
+    def shown(self):
+        return [self.halted(self.now) if name == "halted" else self.now[name] for name in OUTPUTS]
+
+
+class Board:
+    """dvg_board by its cells and those of the core."""
+    WIDTHS = {"reset": 1, "hold": 1, "access": 1, "write": 1, "a": 16, "d": 8, "big": 1, "rom": 8}
+
+    def __init__(self, text, core):
+        arguments = "board, board_core, bus"
+        self.core = core
+        self.clock, self.pins = function_of(text, "clock", arguments), function_of(text, "pins", arguments)
+        self.q, self.takes = function_of(text, "q", arguments), function_of(text, "takes", arguments)
+        enable, place, byte = re.search(r"ram = memwr (\S+|\(.*?\)) (\S+|\(.*?\)) (\S+|\(.*?\)) board", text).groups()
+        head, _, _ = text.rpartition("    record {")
+        writes = f"{head}    record {{\n      on = {enable};\n      at = {place};\n      byte = {byte};\n    }}\n"
+        self.write = function_of(writes, "clock", arguments)
+        self.now = zeros_of(text, "Board") | {"ram": [(37 * a + 11) % 256 for a in range(2048)]}
+
+    def any_pins(self):
+        k, core = random.randrange(100), self.core.now
+        near = 0x4000 + (2 * core["at"] + core["high"] + random.randrange(3)) % 2048
+        a = random.choice([0x2002, 0x3000, random.randrange(65536), 0x4000 + random.randrange(2048)] + 4 * [near])
+        pins = {"reset": int(once_in(400)), "hold": int(k % 16 == 1), "access": int(k < 40),
+                "write": int(k % 3 == 0), "a": a, "d": random.randrange(256), "big": int(once_in(2)),
+                "rom": random.randrange(256)}
+        if a == 0x3000 and core["is_open"] and k % 4:
+            pins["a"] = 0x4001
+        if not core["is_open"] and k % 2 == 0:
+            pins |= {"access": 1, "write": 1, "a": 0x3000}
+        for name in "d", "rom":
+            if pins[name] >> 4 == 0xB and k % 4:
+                pins[name] ^= 0xB0 ^ 0xE0                       # few HALTs, many jumps
+        return pins
+
+    def play(self, pins):
+        bus = pins | {"undefined": random.getrandbits(32)}
+        state = self.now, self.core.now, bus
+        write, after, core_pins = self.write(*state), self.clock(*state), self.pins(*state)
+        ram = self.now["ram"]
+        if write["on"]:
+            ram[write["at"]] = write["byte"]
+        self.now = after | {"ram": ram}
+        self.core.play(core_pins)
+        state = self.now, self.core.now, bus
+        return [self.q(*state), self.takes(*state), *self.core.shown()]
+
+
+def once_in(count):
+    return random.randrange(count) == 0
+
+
+def run(*command):
+    ran = subprocess.run(command, stdin=subprocess.DEVNULL, capture_output=True, text=True)
+    return ran.returncode, ran.stdout, ran.stderr
+
+
+def readers(folder, defines, files):
+    """The other readers of the Verilog: a name and a program each."""
+    bench = f"{texts.TOP}/tests/core_clocks.v"
+    run("iverilog", "-g2005", *defines, "-o", f"{folder}/icarus", bench, *files)
+    run("verilator", "--binary", "--timing", "-Wno-fatal", *defines, "--Mdir", f"{folder}/verilated",
+        "-o", "verilated", "--top-module", "core_clocks", bench, *files)
+    return ("Icarus", ["vvp", "-n", f"{folder}/icarus"]), ("Verilator", [f"{folder}/verilated/verilated"])
+
+
+def expect_clocks(suite, what, circuit, programs, folder, count):
+    """The clocks of a circuit by its cells are those of the other readers."""
+    lines = []
+    with open(f"{folder}/pins", "w", encoding="ascii") as file:
+        for _ in range(count):
+            pins = circuit.any_pins()
+            file.write(f"{number_of(pins, circuit.WIDTHS):x}\n")
+            lines.append(" ".join(map(str, circuit.play(pins))))
+    for name, program in programs:
+        _, said, _ = run(*program, f"+pins={folder}/pins", f"+count={count}")
+        found = [line for line in said.splitlines() if re.fullmatch(r"\d+( \d+)+", line)]
+        differ = next((k for k in range(count) if found[k:k + 1] != lines[k:k + 1]), None)
+        parts = ("none", "none") if differ is None else (lines[differ], "".join(found[differ:differ + 1]))
+        suite.expect(f"{what}: {name}, clock {differ}", [("pins", *parts)])
+    print(f"{what}: {count} clocks by the cells are those of {' and '.join(name for name, _ in programs)}")
+
+
+# What is planted: the module, what is taken away, what is put there, and what core/cells says of it.
+REFUSED = [
+    ("dvg_core", "at + 12'd1", "at * 12'd3", "$mul: this kind isn't known"),
+    ("dvg_core", "scale + local_scale", "scale ^ local_scale", "$xor: this kind isn't known"),
+    ("dvg_core", "depth == 3'd0", "$signed(depth) < $signed(3'd1)", "$lt: a sign"),
+    ("dvg_core", "wire [11:0] after   = at + 12'd1;", "wire [11:0] after = at < 12'd1;", "$lt: widths"),
+    ("dvg_core", "assign halted = !is_open;", "assign halted = !is_open && valid;", "rests on pins"),
+    ("dvg_core", "s3, scale} = 0;", "s3} = 0; scale = 4'd1;", "scale isn't 0 at power-up"),
+    ("dvg_core", "s3, scale} = 0;", "s3} = 0;", "scale isn't 0 at power-up"),
+    ("dvg_core", "always @(posedge clk)", "always @(negedge clk)", "the other edge"),
+    ("dvg_core", "always @(posedge clk)", "always @(posedge start)", "another clock"),
+    ("dvg_core", "always @(posedge clk)", "always @(posedge clk or posedge reset)", "this kind isn't known"),
+    ("dvg_core", "wire [11:0] after   = at + 12'd1;", "wire [11:0] after = after + at;", "a loop of cells"),
+    ("dvg_board", "reg [7:0] ram [0:2047];", "reg [7:0] ram [0:4095];", "the memory"),
+    ("dvg_board", "    initial {read", "    initial ram[5] = 8'd7;\n    initial {read", "$meminit_v2: this kind"),
+    ("dvg_board", "if (writes) ram[place] <= d;", "if (writes) ram[place][3:0] <= d[3:0];", "an enable"),
+    ("dvg_board", "always @(posedge clk)", "always @(negedge clk)", "the other edge"),
+    ("dvg_board", "reset || starting || pending", "reset ^ starting ^ pending", "$xor: this kind"),
+]
+
+
+def expect_refusals(suite, folder):
+    for number, (module, taken, put, says) in enumerate(REFUSED):
+        copy = f"{folder}/refused{number}"
+        os.makedirs(copy)
+        for name in "dvg_core", "dvg_board":
+            with open(f"{texts.TOP}/core/{name}.v", encoding="utf-8") as source:
+                text = source.read()
+            if name == module:
+                assert text.count(taken) == 1, taken
+                text = text.replace(taken, put)
+            with open(f"{copy}/{name}.v", "w", encoding="utf-8") as file:
+                file.write(text)
+        status, said, why = run(CELLS, module, copy)
+        suite.expect(f"{module}: {put}", [
+            ("status", "1", str(status)), ("a definition", "", said[:200]),
+            ("why", says, says if says in why else why[-300:])])
+
+
+def main(folder, count=10000):
+    suite = texts.Suite()
+    random.seed(1979)
+    core_text, board_text = (run(CELLS, name)[1] for name in ("dvg_core", "dvg_board"))
+    files = [f"{texts.TOP}/core/dvg_core.v", f"{texts.TOP}/core/dvg_board.v"]
+    for name, defines, circuit in ("dvg_core", [], Core(core_text)), \
+            ("dvg_board", ["-DBOARD"], Board(board_text, Core(core_text))):
+        place = f"{folder}/{name}"
+        os.makedirs(place)
+        expect_clocks(suite, name, circuit, readers(place, defines, files), place, count)
+    expect_refusals(suite, folder)
+    suite.end()
+
+
+main(sys.argv[1], *map(int, sys.argv[2:]))
