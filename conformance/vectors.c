@@ -1,0 +1,166 @@
+/* Writes runs of the port of build/libdvg.a as files: memories, and what comes of them. Tested, not
+ * proved. README.md tells their format.
+ *
+ *     vectors FOLDER COUNT    the runs 0 to COUNT - 1, the same each time; COUNT up to 99,999 */
+#include "dvg.h"
+#include <stdio.h>
+#include <stdlib.h>
+
+#define MOST_RUN 64 /* words: a longer run isn't written */
+
+/* A memory of 4,096 words, what was fetched of it, and what ended the run. */
+struct vector {
+    uint16_t words[4096];
+    bool hole[4096];
+    unsigned count;
+    uint16_t at[MOST_RUN], word[MOST_RUN];
+    dvg_answer last;
+};
+
+static uint64_t random_state = 1979;
+
+static uint32_t number_below(uint32_t bound)
+{
+    random_state ^= random_state << 13;
+    random_state ^= random_state >> 7;
+    random_state ^= random_state << 17;
+    return (uint32_t)(random_state >> 24) % bound;
+}
+
+/* A word whose opcode is each of the sixteen as often, or with `calls` a call in place of a HALT, a
+ * return and a jump. Its target has memory most often. */
+static uint16_t random_word(bool calls)
+{
+    uint32_t drawn = number_below(16);
+    uint32_t opcode = calls && drawn >= 0xB && drawn <= 0xE ? 0xC : drawn;
+    bool leads = opcode == 0xC || opcode == 0xE;
+    uint32_t low = number_below(leads && number_below(8) ? 0x400 : 0x1000);
+    return (uint16_t)(opcode << 12 | low);
+}
+
+static void make_memory(struct vector *vector, bool calls)
+{
+    unsigned i;
+    for (i = 0; i < 4096; i++) {
+        vector->hole[i] = i >= 0xC00 || (i >= 0x400 && i < 0x800);
+        vector->words[i] = random_word(calls);
+    }
+}
+
+/* Runs it from power on. From word `most` on a HALT is handed, so that strokes can be asked for. */
+static void run(dvg *port, struct vector *vector, unsigned most)
+{
+    vector->count = 0;
+    dvg_open_generator(port);
+    vector->last = dvg_strobe(port);
+    while (vector->count < MOST_RUN) {
+        dvg_answer wanted = dvg_wants(port);
+        uint16_t word = vector->count >= most ? 0xB000 : vector->words[wanted.address & 0xFFF];
+        if (wanted.kind != DVG_WANTED) {
+            return;
+        }
+        if (vector->count < most && vector->hole[wanted.address]) {
+            vector->last = dvg_generator_hole(port);
+        } else {
+            vector->last = dvg_generator_fetch(port, (uint8_t)(wanted.value ? word >> 8 : word));
+        }
+        if (vector->last.kind == DVG_FETCHED || vector->last.kind == DVG_DONE) {
+            vector->at[vector->count] = vector->last.address;
+            vector->word[vector->count] = vector->last.value;
+            vector->count++;
+        }
+    }
+}
+
+/* Whether the run ended, between two instructions, within the words that are written. */
+static bool is_whole(dvg *port, const struct vector *vector)
+{
+    static struct vector again;
+    if (vector->count < 3 || vector->count > MOST_RUN - 4) {
+        return false;
+    }
+    again = *vector;
+    run(port, &again, vector->count);
+    return vector->last.kind == DVG_DONE
+           || (vector->last.kind == DVG_BROKE && again.count == vector->count + 1);
+}
+
+/* The words that were fetched, and the one that broke the run, as $readmemh reads them. */
+static void write_memory(FILE *file, const struct vector *vector)
+{
+    unsigned i;
+    for (i = 0; i < vector->count; i++) {
+        fprintf(file, "@%03X %04X\n", vector->at[i], vector->word[i]);
+    }
+    if (dvg_break_of(vector->last) == DVG_BREAK_STACK_OVER
+        || dvg_break_of(vector->last) == DVG_BREAK_STACK_UNDER) {
+        fprintf(file, "@%03X %04X\n", vector->last.address, vector->words[vector->last.address]);
+    }
+}
+
+/* What comes of it: the words fetched, how the run ended, the strokes. */
+static void write_run(FILE *file, dvg *port, const struct vector *vector)
+{
+    static struct vector again;
+    uint64_t number;
+    unsigned i;
+    for (i = 0; i < vector->count; i++) {
+        fprintf(file, "fetched %03X %04X\n", vector->at[i], vector->word[i]);
+    }
+    if (vector->last.kind == DVG_DONE) {
+        fputs("halted\n", file);
+    } else {
+        fprintf(file, "broke %03X %s\n", vector->last.address,
+                dvg_break_text(dvg_break_of(vector->last)));
+        again = *vector;
+        run(port, &again, vector->count);
+    }
+    for (number = 0; number < dvg_strokes(port); number++) {
+        dvg_stroke s = dvg_stroke_at(port, number);
+        if (vector->last.kind == DVG_DONE || again.last.kind == DVG_DONE) {
+            fprintf(file, "stroke %u %u %u %u %u\n", s.x0, s.y0, s.x1, s.y1, s.z);
+        }
+    }
+}
+
+static FILE *open_file(const char *folder, unsigned long number, const char *ending)
+{
+    char name[1024];
+    snprintf(name, sizeof name, "%s/%05lu.%s", folder, number, ending);
+    return fopen(name, "w");
+}
+
+int main(int count, char **arguments)
+{
+    static struct vector vector;
+    unsigned long number, most = count == 3 ? strtoul(arguments[2], NULL, 10) : 0;
+    dvg *port = NULL;
+    if (most == 0 || most > 99999) {
+        fputs("vectors FOLDER COUNT\n", stderr);
+        return 64;
+    }
+    if (dvg_new(&port) != 0) {
+        return 2;
+    }
+    for (number = 0; number < most; number++) {
+        FILE *memory = open_file(arguments[1], number, "hex");
+        FILE *text = open_file(arguments[1], number, "run");
+        if (memory == NULL || text == NULL) {
+            fputs("write failed\n", stderr);
+            return 2;
+        }
+        do {
+            make_memory(&vector, number % 8 == 7);
+            run(port, &vector, MOST_RUN);
+        } while (!is_whole(port, &vector));
+        run(port, &vector, MOST_RUN);
+        write_memory(memory, &vector);
+        write_run(text, port, &vector);
+        if (fclose(memory) != 0 || fclose(text) != 0) {
+            fputs("write failed\n", stderr);
+            return 2;
+        }
+    }
+    dvg_free(port);
+    return 0;
+}

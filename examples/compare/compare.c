@@ -1,0 +1,491 @@
+/* Runs a DVG of your own (mine.c) beside the port of build/libdvg.a, byte by byte, and compares
+ * what each wants, how each run ends, and the strokes. Tested, not proved.
+ *
+ *     compare [BYTES [SEED]]    random memories, until as many bytes were compared; 1,000,000
+ *     compare --image FILE..    images: the 2,048 bytes of a RAM, and 2,048 or 4,096 of a ROM
+ *
+ * The port hands out strokes after a HALT alone. So each run gets one: after some words the kit
+ * hands both sides B000 in place of the memory's words. A fifth call, a return without a call and
+ * a word without memory break a run of the port, where hardware goes on: the comparison of that
+ * run stops there, and its strokes up to there are compared. A first difference is shrunk.
+ *
+ * Status 0: no difference; 1: a difference; 2: memory or a file failed; 64: arguments. */
+#include "dvg.h"
+#include "mine.h"
+#include <stdio.h>
+#include <stdlib.h>
+#include <string.h>
+
+#define WORDS 4096
+#define MOST_STROKES 1024
+#define MOST_RUN 200 /* words of a run, before it is handed a HALT */
+#define HALT 0xB000
+#define HOLE (-1)
+
+/* What both sides are run over. */
+struct test {
+    int32_t words[WORDS];  /* a word each, or HOLE */
+    unsigned interrupted;  /* bytes of a first run, which a start strobe ends; 0: there is none */
+    unsigned most;         /* words of the run, before a HALT is handed in place of the memory's */
+};
+
+/* What came of it. */
+struct outcome {
+    bool differs;
+    char where[200];       /* the first difference, in words */
+    unsigned long bytes;   /* bytes that were compared */
+    unsigned words;        /* words of the run that ended whole, in order: their addresses, words */
+    unsigned at[MOST_RUN + 4], word[MOST_RUN + 4];
+    enum dvg_break broke;
+};
+
+static dvg *port;
+static dvg_stroke strokes[MOST_STROKES]; /* of mine, in the run that is open */
+static unsigned drawn;
+static uint64_t random_state;
+static unsigned long stopped_at_stack, stopped_at_hole, halts;
+
+void drew(uint32_t x0, uint32_t y0, uint32_t x1, uint32_t y1, unsigned z)
+{
+    dvg_stroke stroke = {x0, y0, x1, y1, (uint8_t)z};
+    if (drawn < MOST_STROKES) {
+        strokes[drawn] = stroke;
+    }
+    drawn++;
+}
+
+static uint32_t number_below(uint32_t bound)
+{
+    random_state ^= random_state << 13;
+    random_state ^= random_state >> 7;
+    random_state ^= random_state << 17;
+    return (uint32_t)(random_state >> 24) % bound;
+}
+
+static const char *state_text(enum mine_state state)
+{
+    static const char *const texts[] = {"runs", "halted", "fifth call", "return without a call",
+                                        "no memory there"};
+    return (unsigned)state < 5 ? texts[state] : "no state";
+}
+
+static void write_wanted(char *text, size_t room, enum mine_state state, unsigned address,
+                         bool high)
+{
+    if (state == MINE_RUNS) {
+        snprintf(text, room, "wants %03X %s", address, high ? "high" : "low");
+    } else {
+        snprintf(text, room, "%s", state_text(state));
+    }
+}
+
+/* Compares what both want. `state` is how the port stands. */
+static void compare_wanted(struct outcome *outcome, enum mine_state state)
+{
+    struct mine_wanted mine = mine_wants();
+    dvg_answer wanted = dvg_wants(port);
+    bool same = mine.state == state;
+    if (state > MINE_HALTED && mine.state == MINE_RUNS) {
+        return; /* where hardware goes on */
+    }
+    if (same && state == MINE_RUNS) {
+        same = mine.address == wanted.address && mine.high == (wanted.value != 0);
+    }
+    if (!same) {
+        char theirs[40], ours[40];
+        write_wanted(theirs, sizeof theirs, state, wanted.address, wanted.value != 0);
+        write_wanted(ours, sizeof ours, mine.state, mine.address, mine.high);
+        outcome->differs = true;
+        snprintf(outcome->where, sizeof outcome->where, "port: %s; mine: %s", theirs, ours);
+    }
+}
+
+/* Compares the strokes of a run that halted. */
+static void compare_strokes(struct outcome *outcome)
+{
+    uint64_t count = dvg_strokes(port);
+    uint64_t number;
+    for (number = 0; number < count || number < drawn; number++) {
+        dvg_stroke a = dvg_stroke_at(port, number);
+        dvg_stroke b = {0, 0, 0, 0, 0};
+        if (number < drawn && number < MOST_STROKES) {
+            b = strokes[number];
+        }
+        if (a.x0 != b.x0 || a.y0 != b.y0 || a.x1 != b.x1 || a.y1 != b.y1 || a.z != b.z) {
+            outcome->differs = true;
+            snprintf(outcome->where, sizeof outcome->where,
+                     "stroke %u\nport: %u %u %u %u %u\nmine: %u %u %u %u %u", (unsigned)number,
+                     a.x0, a.y0, a.x1, a.y1, a.z, b.x0, b.y0, b.x1, b.y1, b.z);
+            return;
+        }
+    }
+}
+
+/* How the port stands after this answer. */
+static enum mine_state state_of(dvg_answer answer)
+{
+    switch (answer.kind) {
+    case DVG_DONE: return MINE_HALTED;
+    case DVG_BROKE:
+        return dvg_break_of(answer) == DVG_BREAK_STACK_OVER    ? MINE_STACK_OVER
+               : dvg_break_of(answer) == DVG_BREAK_STACK_UNDER ? MINE_STACK_UNDER
+                                                               : MINE_HOLE;
+    default: return MINE_RUNS;
+    }
+}
+
+/* Hands both the byte that the port wants. Returns the port's answer. */
+static dvg_answer hand_byte(const struct test *test, struct outcome *outcome)
+{
+    dvg_answer wanted = dvg_wants(port);
+    int32_t word = outcome->words >= test->most ? HALT : test->words[wanted.address];
+    int byte = word == HOLE ? HOLE : wanted.value ? word >> 8 : word & 0xFF;
+    dvg_answer answer = byte == HOLE ? dvg_generator_hole(port)
+                                     : dvg_generator_fetch(port, (uint8_t)byte);
+    mine_byte(byte);
+    outcome->bytes++;
+    if (answer.kind == DVG_FETCHED || answer.kind == DVG_DONE) {
+        outcome->at[outcome->words] = answer.address;
+        outcome->word[outcome->words] = answer.value;
+        outcome->words++;
+    }
+    outcome->broke = dvg_break_of(answer);
+    compare_wanted(outcome, state_of(answer));
+    return answer;
+}
+
+/* Starts both, and hands them `most_bytes` bytes at most, or until the run ends. */
+static void run_once(const struct test *test, struct outcome *outcome, bool power_on,
+                     unsigned most_bytes)
+{
+    unsigned byte;
+    enum mine_state state = MINE_RUNS;
+    dvg_strobe(port);
+    mine_start(power_on);
+    drawn = 0;
+    outcome->words = 0;
+    outcome->broke = DVG_BREAK_NONE;
+    compare_wanted(outcome, state);
+    for (byte = 0; byte < most_bytes && state == MINE_RUNS && !outcome->differs; byte++) {
+        state = state_of(hand_byte(test, outcome));
+    }
+    if (state == MINE_HALTED && !outcome->differs) {
+        halts++;
+        compare_strokes(outcome);
+    }
+}
+
+/* Runs both over a test. A run that breaks is run again with a HALT in place of what broke it. */
+static void run(const struct test *test, struct outcome *outcome)
+{
+    struct test again;
+    memset(outcome, 0, sizeof *outcome);
+    dvg_open_generator(port);
+    if (test->interrupted > 0) {
+        run_once(test, outcome, true, test->interrupted);
+    }
+    if (!outcome->differs) {
+        run_once(test, outcome, test->interrupted == 0, 2 * MOST_RUN + 8);
+    }
+    if (!outcome->differs && outcome->broke != DVG_BREAK_NONE) {
+        *(outcome->broke == DVG_BREAK_HOLE ? &stopped_at_hole : &stopped_at_stack) += 1;
+        again = *test;
+        again.most = outcome->words;
+        dvg_open_generator(port);
+        run_once(&again, outcome, true, 2 * MOST_RUN + 8);
+    }
+}
+
+/* --- Shrinking --- */
+
+static bool still_differs(const struct test *test)
+{
+    struct outcome outcome;
+    run(test, &outcome);
+    return outcome.differs;
+}
+
+/* Takes a candidate where it still differs. */
+static bool take(struct test *test, const struct test *candidate)
+{
+    if (!still_differs(candidate)) {
+        return false;
+    }
+    *test = *candidate;
+    return true;
+}
+
+/* Every word that the run didn't fetch becomes a HALT. */
+static void take_fetched(struct test *test)
+{
+    struct outcome outcome;
+    struct test candidate = *test;
+    unsigned i;
+    run(test, &outcome);
+    for (i = 0; i < WORDS; i++) {
+        candidate.words[i] = HALT;
+    }
+    for (i = 0; i < outcome.words; i++) {
+        candidate.words[outcome.at[i]] = test->words[outcome.at[i]];
+    }
+    take(test, &candidate);
+}
+
+/* What the run fetched, but for its calls, jumps and returns, stands in a row from word 000. */
+static void take_row(struct test *test)
+{
+    struct outcome outcome;
+    struct test candidate = *test;
+    unsigned i, place = 0;
+    run(test, &outcome);
+    for (i = 0; i < WORDS; i++) {
+        candidate.words[i] = HALT;
+    }
+    for (i = 0; i < outcome.words; i++) {
+        unsigned opcode = outcome.word[i] >> 12;
+        bool follows = i > 0 && outcome.at[i] == outcome.at[i - 1] + 1;
+        if (follows || opcode < 0xB || opcode == 0xF) {
+            candidate.words[place++] = (int32_t)outcome.word[i];
+        }
+    }
+    take(test, &candidate);
+}
+
+/* Takes `count` words from word `place` on away. Calls and jumps to what follows go with it. */
+static void take_away(struct test *test, unsigned place, unsigned count)
+{
+    unsigned i;
+    memmove(&test->words[place], &test->words[place + count],
+            (WORDS - place - count) * sizeof(int32_t));
+    for (i = WORDS - count; i < WORDS; i++) {
+        test->words[i] = HALT;
+    }
+    for (i = 0; i < WORDS; i++) {
+        int32_t opcode = test->words[i] >> 12;
+        if ((opcode == 0xC || opcode == 0xE)
+            && (unsigned)(test->words[i] & 0xFFF) >= place + count) {
+            test->words[i] -= (int32_t)count;
+        }
+    }
+}
+
+/* Tries one smaller test at a word: without it and the next one, without it, with a HALT there. */
+static bool shrink_word(struct test *test, unsigned place)
+{
+    struct test candidate;
+    unsigned count;
+    for (count = 2; count > 0; count--) {
+        candidate = *test;
+        if (place + count <= WORDS) {
+            take_away(&candidate, place, count);
+            if (take(test, &candidate)) {
+                return true;
+            }
+        }
+    }
+    candidate = *test;
+    candidate.words[place] = HALT;
+    return test->words[place] != HALT && take(test, &candidate);
+}
+
+/* Clears the bits of a word that the difference doesn't need. */
+static bool clear_bits(struct test *test, unsigned place)
+{
+    bool taken = false;
+    unsigned bit;
+    for (bit = 0; bit < 16 && test->words[place] > 0 && test->words[place] != HALT; bit++) {
+        struct test candidate = *test;
+        candidate.words[place] &= ~(1 << bit);
+        taken |= candidate.words[place] != test->words[place] && take(test, &candidate);
+    }
+    return taken;
+}
+
+/* The place after the last word that is no HALT. */
+static unsigned length_of(const struct test *test)
+{
+    unsigned length = WORDS;
+    while (length > 0 && test->words[length - 1] == HALT) {
+        length--;
+    }
+    return length;
+}
+
+/* One pass of smaller tests. Returns whether one was taken. */
+static bool shrink_once(struct test *test)
+{
+    struct test candidate = *test;
+    bool taken = false;
+    unsigned place = 0;
+    candidate.interrupted = 0;
+    taken |= test->interrupted != 0 && take(test, &candidate);
+    while (place < length_of(test)) {
+        if (shrink_word(test, place)) {
+            taken = true;
+        } else {
+            taken |= clear_bits(test, place++);
+        }
+    }
+    return taken;
+}
+
+static void shrink(struct test *test)
+{
+    unsigned pass;
+    take_row(test);
+    take_fetched(test);
+    for (pass = 0; pass < 50 && shrink_once(test); pass++) {
+    }
+}
+
+/* --- Reports --- */
+
+/* Prints a test that differs, shrunk, and both sides. */
+static void report(struct test *test)
+{
+    struct outcome outcome;
+    unsigned i, words = 0;
+    shrink(test);
+    run(test, &outcome);
+    for (i = 0; i < WORDS; i++) {
+        words += test->words[i] != HALT;
+    }
+    printf("differs: a memory of %u words; all others are B000\n", words);
+    for (i = 0; i < WORDS; i++) {
+        if (test->words[i] == HOLE) {
+            printf("%03X no memory\n", i);
+        } else if (test->words[i] != HALT) {
+            printf("%03X %04X\n", i, (unsigned)test->words[i]);
+        }
+    }
+    if (test->interrupted > 0) {
+        printf("a start strobe arrives after %u bytes of a first run\n", test->interrupted);
+    }
+    if (outcome.words > test->most) {
+        printf("from word %u of the run on, B000 is handed\n", test->most);
+    }
+    printf("fetched:");
+    for (i = 0; i < outcome.words; i++) {
+        printf(" %03X:%04X", outcome.at[i], outcome.word[i]);
+    }
+    printf("\n%s\n", outcome.where);
+}
+
+/* A random word: of 16 bits, or one that leads to where memory is. */
+static int32_t random_word(bool any)
+{
+    static const uint16_t opcodes[] = {0xB000, 0xC000, 0xD000, 0xE000, 0xF000, 0xF000, 0xA000};
+    uint32_t low = number_below(0x1000);
+    uint32_t choice = number_below(14);
+    if (any) {
+        return (int32_t)number_below(0x10000);
+    }
+    if (choice >= 7) {
+        return (int32_t)(number_below(10) << 12 | low);
+    }
+    if (opcodes[choice] == 0xC000 || opcodes[choice] == 0xE000) {
+        low = number_below(8) ? low & 0x3FF : low;
+    }
+    return (int32_t)(opcodes[choice] | low);
+}
+
+/* Writes a random test: also with holes, with an address that goes on after FFF, interrupted. */
+static void make_random(struct test *test)
+{
+    unsigned i;
+    bool any = number_below(4) == 0;
+    bool holes = number_below(2) == 0;
+    for (i = 0; i < WORDS; i++) {
+        bool hole = holes && (i >= 0xC00 || (i >= 0x400 && i < 0x800));
+        test->words[i] = hole ? HOLE : random_word(any);
+    }
+    if (number_below(8) == 0) {
+        test->words[0] = (int32_t)(0xE000 | (0xFF0 + number_below(16)));
+    }
+    test->interrupted = number_below(2) ? 1 + number_below(60) : 0;
+    test->most = 1 + number_below(MOST_RUN);
+}
+
+/* Reads an image. Returns false where it can't be read, or has another size. */
+static bool read_image(struct test *test, const char *name)
+{
+    uint8_t bytes[DVG_RAM_BYTES + DVG_LARGE_ROM_BYTES + 1];
+    FILE *file = fopen(name, "rb");
+    size_t length, i;
+    if (file == NULL) {
+        return false;
+    }
+    length = fread(bytes, 1, sizeof bytes, file);
+    fclose(file);
+    if (length != 4096 && length != 6144) {
+        return false;
+    }
+    for (i = 0; i < WORDS; i++) {
+        size_t from = i < 0x400 ? 2 * i : 2 * i + length - 0x1800;
+        bool there = i < 0x400 || (i < 0xC00 && 2 * i >= 0x1800 - (length - DVG_RAM_BYTES));
+        test->words[i] = there ? bytes[from] | bytes[from + 1] << 8 : HOLE;
+    }
+    test->interrupted = 0;
+    test->most = MOST_RUN;
+    return true;
+}
+
+static int compare_images(struct test *test, char **names)
+{
+    struct outcome outcome;
+    for (; *names != NULL; names++) {
+        if (!read_image(test, *names)) {
+            fprintf(stderr, "%s: no image of 4,096 or 6,144 bytes\n", *names);
+            return 2;
+        }
+        run(test, &outcome);
+        if (outcome.differs) {
+            printf("%s ", *names);
+            report(test);
+            return 1;
+        }
+        printf("%s: no difference in %lu bytes\n", *names, outcome.bytes);
+    }
+    return 0;
+}
+
+static int compare_random(struct test *test, unsigned long most_bytes)
+{
+    struct outcome outcome;
+    unsigned long bytes = 0, tests = 0;
+    while (bytes < most_bytes) {
+        make_random(test);
+        run(test, &outcome);
+        bytes += outcome.bytes;
+        tests++;
+        if (outcome.differs) {
+            printf("test %lu ", tests);
+            report(test);
+            return 1;
+        }
+    }
+    printf("no difference: %lu bytes, %lu memories, %lu halts\n", bytes, tests, halts);
+    printf("stopped where hardware goes on: %lu at the stack, %lu without memory\n",
+           stopped_at_stack, stopped_at_hole);
+    return 0;
+}
+
+int main(int count, char **arguments)
+{
+    static struct test test;
+    unsigned long bytes = count > 1 ? strtoul(arguments[1], NULL, 10) : 1000000;
+    bool images = count > 2 && strcmp(arguments[1], "--image") == 0;
+    int status;
+    random_state = count > 2 ? strtoull(arguments[2], NULL, 10) : 1;
+    if (!images && (count > 3 || bytes == 0 || random_state == 0)) {
+        fputs("compare [BYTES [SEED]], both above 0, or compare --image FILE..\n", stderr);
+        return 64;
+    }
+    random_state *= 0x9E3779B97F4A7C15u;
+    if (dvg_new(&port) != 0) {
+        return 2;
+    }
+    status = images ? compare_images(&test, arguments + 2) : compare_random(&test, bytes);
+    dvg_free(port);
+    return status;
+}

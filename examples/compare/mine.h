@@ -1,0 +1,32 @@
+/* What a DVG of your own has, so that compare.c can run it beside the port. Tested, not proved. */
+#ifndef MINE_H
+#define MINE_H
+
+#include <stdbool.h>
+#include <stdint.h>
+
+/* How a generator stands after a byte. */
+enum mine_state { MINE_RUNS, MINE_HALTED, MINE_STACK_OVER, MINE_STACK_UNDER, MINE_HOLE };
+
+/* What it wants: a byte of the word at `address`, the high one or the low one, where it runs. */
+struct mine_wanted {
+    enum mine_state state;
+    unsigned address;
+    bool high;
+};
+
+/* Yours, 1: a start strobe arrives, also amid a run. With `power_on` the power comes before it: the
+ * beam is at 0, 0, and the scale is 0. Without it, both are as they were. */
+void mine_start(bool power_on);
+
+/* Yours, 2: the byte that it wants, or -1 where no memory answers. */
+void mine_byte(int byte);
+
+/* Yours, 3: what it wants now. */
+struct mine_wanted mine_wants(void);
+
+/* The kit's: call it for each line or dot that is drawn (z above 0), in the order drawn. Places are
+ * in 1/512 of a screen unit, 0 to 2,097,151. */
+void drew(uint32_t x0, uint32_t y0, uint32_t x1, uint32_t y1, unsigned z);
+
+#endif
