@@ -2,6 +2,7 @@
 // and examples/frames. The script is the modules of src/, each after those that it imports, without
 // their imports and exports; so no two of them may give one name twice. The content security policy
 // names the style and the script by their digests, and lets nothing else in.
+import { execFileSync } from 'node:child_process';
 import { createHash } from 'node:crypto';
 import { readFileSync, readdirSync } from 'node:fs';
 
@@ -17,12 +18,24 @@ function textsOf(folder, end) {
     readFileSync(place + name, 'utf8')]));
 }
 
+// The sketches of examples/; where one has shapes by their outlines, as board/outline.awk writes
+// them.
+function sketches() {
+  const texts = Object.assign({}, ...['.', 'board', 'first']
+    .map((folder) => textsOf(folder, /\.sketch$/)));
+  const awk = ['-f', `${page}../board/outline.awk`];
+  return Object.fromEntries(Object.entries(texts)
+    .map(([name, input]) => [name, execFileSync('awk', awk, { input, encoding: 'utf8' })]));
+}
+
 // What the page needs beside its sources: dvg.wasm, and the examples.
 function built() {
   const frames = textsOf('frames', /\.draft$/);
-  const files = { ...textsOf('logs', /\.log$/), ...textsOf('traces', null) };
+  const files = { ...sketches(), ...textsOf('logs', /\.log$/), ...textsOf('traces', null) };
   const wasm = readFileSync(`${page}dvg.wasm`).toString('base64');
-  return `const FRAMES = ${JSON.stringify(frames)};\nconst FILES = ${JSON.stringify(files)};\n`
+  const listing = readFileSync(`${page}driver.listing`, 'utf8');
+  return `const LISTING = ${JSON.stringify(listing)};\n`
+    + `const FRAMES = ${JSON.stringify(frames)};\nconst FILES = ${JSON.stringify(files)};\n`
     + `const WASM = '${wasm}';\n`;
 }
 

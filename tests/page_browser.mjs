@@ -45,7 +45,17 @@ const TORN = new RegExp(
   `^torn at line [0-9]+: wrote [0-9A-F]{3} [0-9A-F]{2} \\(event [0-9]+\\), so far: ${SEEN}$`);
 
 const browser = await startChromium(chromium);
-let tab = await browser.newTab();
+
+// A new tab, in which what is grey is looked at after each thing that is done.
+async function openTab() {
+  const opened = await browser.newTab();
+  for (const name of ['click', 'choose', 'type', 'drop']) {
+    opened[name] = (...words) => doAsked(name, ...words);
+  }
+  return opened;
+}
+
+let tab = await openTab();
 await tab.size(1600, 1000);
 await browser.send('Browser.setDownloadBehavior',
   { behavior: 'allow', downloadPath: work, eventsEnabled: false });
@@ -59,6 +69,27 @@ async function openPage(url = address) {
   await tab.open(url);
   if (await tab.value('!document.getElementById("tour").hidden')) await tab.click('tour-end');
   await tab.value('scrollTo(0, 0)');
+}
+
+// The grey buttons that don't say why: the text that describes one stands in the same section, is
+// seen, and is at most 150 pixels above or below it.
+const UNEXPLAINED = `(() => [...document.querySelectorAll('button:disabled')].filter((one) => {
+  const why = document.getElementById(one.getAttribute('aria-describedby'));
+  if (!one.checkVisibility()) return false;
+  if (!why?.checkVisibility() || why.textContent.trim() === '') return true;
+  if (why.closest('section') !== one.closest('section')) return true;
+  const [a, b] = [one, why].map((part) => part.getBoundingClientRect());
+  return a.top - b.bottom > 150 || b.top - a.bottom > 150 || b.height === 0;
+}).map((one) => one.id || one.textContent).join())()`;
+
+// After all that is done on the page, what is grey says why; which states that was asked of.
+let states = 0, greys = 0;
+async function doAsked(name, ...words) {
+  await Object.getPrototypeOf(tab)[name].apply(tab, words);
+  const grey = await tab.value(UNEXPLAINED);
+  states++;
+  greys += await tab.value('document.querySelectorAll("button:disabled").length');
+  if (grey !== '') expect(`after ${name} ${words.join(' ')}: what is grey says why`, '', grey);
 }
 
 // The texts of all elements that a selector names.
@@ -177,6 +208,37 @@ async function testTyping() {
     await tab.value('document.getElementById("offerA").disabled'));
   await tab.choose('exampleA', 'ship');
   expect('an example is taken', /^ok /, await tab.text('saidA'));
+}
+
+// Each sketch, log and trace of examples/ opens by its name; a ROM alone is loaded.
+async function testExamples() {
+  await openPage();
+  const folders = ['', 'board/', 'first/', 'logs/', 'traces/'], wanted = [];
+  for (const folder of folders) {
+    const place = `${top}examples/${folder}`;
+    for (const name of readdirSync(place)) {
+      if (/\.(sketch|log)$/.test(name) || folder === 'traces/') wanted.push([name, place + name]);
+    }
+  }
+  expect('the names', wanted.map(([name]) => name).sort().join(),
+    (await textsOf('#examples option')).slice(1).sort().join());
+  for (const [name, place] of wanted) {
+    await tab.choose('examples', name);
+    const log = name.endsWith('.log');
+    expect(`${name} opens`, true, await comesWith(log ? 'file-title' : 'said', log ? name
+      : `${name}: `));
+    if (log) await tab.click('file-close');
+    if (!name.endsWith('.sketch')) continue;
+    const frames = runStatus([RENDER, '--check'], readFileSync(place)) === 0;
+    expect(`${name}: its ROM is there`, /^[24][0-9]+ bytes/, await tab.text('rom-said'));
+    expect(`${name}: what becomes of it`, frames ? /it stands in editor A/ : /the ROM was loaded/,
+      await tab.text('said'));
+    expect(`${name}: nothing is at fault`, /^ok /, await tab.text('saidA'));
+  }
+  for (const name of ['attract', 'digits', 'rocks', 'rom_shapes', 'score', 'ship']) {
+    await tab.choose('exampleB', name);
+    expect(`${name}: a draft by name`, /^ok /, await tab.text('saidB'));
+  }
 }
 
 // A sketch of several frames: drawn in turn beside its text, offered in turn, and saved.
@@ -420,7 +482,7 @@ async function testLink() {
     JSON.stringify([await tab.text('picture-text'), await tab.text('counts'),
     await tab.text('moment-text'), await tab.text('log')]);
   const wanted = await seen(), first = tab;
-  tab = await browser.newTab();
+  tab = await openTab();
   await tab.size(1600, 1000);
   await openPage(link);
   expect('it holds all of the state', wanted, await seen());
@@ -665,6 +727,77 @@ async function testInView() {
   await tab.size(1600, 1000);
 }
 
+// What is grey says why in view, once its button is: of a recording, a draft with a fault, a run,
+// and a board with as many events as it holds.
+async function testGrey() {
+  const states = {
+    recording: () => tab.drop('screen', `${top}examples/logs/waits.log`),
+    fault: async () => { await openPage(); await set('textA', 'vctr 1'); },
+    run: async () => { await openPage(); await tab.click('run'); },
+    full: async () => { await openPage(); await set('count', 65536); await tab.click('once'); },
+  };
+  for (const [width, height] of SIZES) {
+    await tab.size(width, height, width === 400);
+    await openPage();
+    for (const [state, reach] of Object.entries(states)) {
+      await reach();
+      const grey = await tab.value(`[...document.querySelectorAll('button:disabled')]
+        .filter((one) => one.checkVisibility()).map((one) => one.id || one.dataset.event)`);
+      expect(`${width} pixels, ${state}: something is grey`, true, grey.length > 0);
+      for (const id of grey) {
+        const why = await tab.value(`(() => {
+          const one = document.getElementById('${id}')
+            ?? document.querySelector('[data-event="${id}"]');
+          one.scrollIntoView({ block: 'center' });
+          return '#' + one.getAttribute('aria-describedby');
+        })()`);
+        expect(`${width} pixels, ${state}: why ${id} is grey is in view`, '',
+          await outOfView([why]));
+      }
+    }
+  }
+  await tab.size(1600, 1000);
+}
+
+// The driver's code, in step with the board: what a tick of each kind runs, and which line acts.
+async function testCode() {
+  await openPage();
+  await tab.click('#code summary');
+  await tab.click('anew');
+  const acts = async (what, told, wanted) => {
+    expect(`${what} is shown`, told, await tab.text('moment-text'));
+    expect(`${what}: the code is in step`,
+      /^Event [0-9]+ takes [0-9]+ instructions; the framed one acts\.$/,
+      await tab.text('code-text'));
+    expect(`${what}: which instruction acts`, wanted, (await textsOf('#code-lines .now')).join());
+  };
+  const tick = async (times) => {
+    await set('times', times);
+    await tab.click('[data-event="tick"]');
+  };
+  await tick(1);
+  await acts('a look at byte 001', /: peek\.$/, /lda DVG_RAM \+ 1/);
+  await tick(1);
+  await acts('a read of the flag', /: read halted\.$/, /boot: +dvg_if_running none/);
+  await set('times', 1);
+  await tab.click('offerA');
+  expect('an offer', /dvg_offer:/, (await textsOf('#code-lines span')).join());
+  await tick(1);
+  await acts('a write', /: wrote 402 /, /store: +sta \(to\),y/);
+  for (let k = 0; k < 40 && !/: idle/.test(await tab.text('moment-text')); k++) await tick(40);
+  expect('idle, nothing acts', 0, (await textsOf('#code-lines .now')).length);
+  for (let k = 0; k < 41 && !/: sent/.test(await tab.text('moment-text')); k++) {
+    await tab.click('back');
+  }
+  await acts('a strobe', /: sent\.$/, /sta DVG_GO/);
+  const line = await tab.value(`(() => {
+    const [box, one] = ['#code-lines', '#code-lines .ran'].map((name) => (
+      document.querySelector(name).getBoundingClientRect()));
+    return one.height > 0 && box.height > 0;
+  })()`);
+  expect('its lines are seen', true, line);
+}
+
 // --- The tour, and what a tear is ---
 
 async function testTour() {
@@ -679,6 +812,8 @@ async function testTour() {
   expect('so says its button', 'Mend the HALT wire', await tab.text('wire'));
   expect('and a picture is torn', true, await comes('tour-title', '3 of 3: Torn'));
   expect('the run has ended', 'Run', await tab.text('run'));
+  expect('what the colours and the ring mean is said', /Red is .* ring marks where the tear begins/,
+    await tab.text('tour-text'));
   expect('the tear is told',
     /^Event ([0-9]+) wrote .. over .. into byte .*Event [0-9]+ read that word/,
     await tab.text('tear-text'));
@@ -833,7 +968,8 @@ async function testRows() {
   expect('there are at most as many events as play takes', /^event 65536 /,
     await tab.text('counts'));
   expect('that is said',
-    'true true', await tab.value('`${document.getElementById("full").checkVisibility()} '
+    'These are 65,536 events, the most that fit: begin anew. true',
+    await tab.value('`${document.getElementById("thumb-why").textContent} '
       + '${document.getElementById("run").disabled}`'));
   await tab.click('compare');
   expect('they are compared, too', /^the same: 65536 events/, await tab.text('compared'));
@@ -895,10 +1031,11 @@ async function testSpeed() {
 }
 
 const tests = {
-  testBeginning, testOpening, testTyping, testSketches, testStepping, testAbandoned,
+  testBeginning, testOpening, testTyping, testExamples, testSketches, testStepping, testAbandoned,
     testOneByOne, testSeeds, testCutWire, testRunning, testLessons,
     testLink, testFiles, testLongLog,
-  testHttp, testInView, testTour, testWidths, testColors, testMotion, testKeys, testRows,
+  testHttp, testInView, testGrey, testCode, testTour,
+    testWidths, testColors, testMotion, testKeys, testRows,
     testReadAloud, testSpeed,
 };
 for (const [name, test] of Object.entries(tests)) {
@@ -909,6 +1046,8 @@ for (const [name, test] of Object.entries(tests)) {
   });
   expect(`${name}: no fault in the page`, '', tab.faults.splice(0).join('; '));
 }
+console.log(`browser: what is grey was looked at ${states} times, and ${greys} buttons said why`);
+expect('some were grey', true, chosen.length > 0 || greys > 100);
 const ALLOWED =
   /^(file:.*dvg\.html|about:|blob:|data:|http:\/\/127\.0\.0\.1:[0-9]+\/(dvg\.html|other)$)/;
 expect('nothing but the page was asked for', '',

@@ -11,6 +11,8 @@ import { fragmentOf, plainFragment, stateOf } from './links.mjs';
 import { logOfBus } from './buses.mjs';
 import { firstLines, kindOf } from './files.mjs';
 import { Recording, boardOfDump } from './recordings.mjs';
+import { Twin, bytesOfTable, linesOfListing } from './twin.mjs';
+import { isRomAlone, romTextOf } from './sketches.mjs';
 import { LESSONS, stateOfLesson } from './lessons.mjs';
 import { SCENES } from './playfield.mjs';
 import { TOUR_RATE, TOUR_STEPS, Tour } from './tour.mjs';
@@ -22,7 +24,7 @@ import {
   HOW_TEXT, counted, countsText, durationText, instructionText, leftText, momentText, pictureText,
   runText, wordText,
 } from './words.mjs';
-import { FILES, FRAMES, WASM } from './built.mjs';
+import { FILES, FRAMES, LISTING, WASM } from './built.mjs';
 
 const byId = (id) => document.getElementById(id);
 
@@ -34,6 +36,9 @@ const [FIRST_A, FIRST_B] = Object.keys(SCENES);
 const FIRST = { a: FIRST_A, b: FIRST_B }, FIRST_EVENTS = 6000;
 
 const LOG_BEFORE = 12, LOG_AFTER = 4;
+/* Why what is grey is so: of a recording, and of a board with as many events as it holds. */
+const ELSEWHERE = 'This happened elsewhere: it can\'t be run, cut or added to.';
+const FULL = 'These are 65,536 events, the most that fit: begin anew.';
 /* How many frames of a sketch are drawn in a second beside its text. */
 const PREVIEW_RATE = 12;
 /* How many events before and after a torn line are shown. */
@@ -334,21 +339,28 @@ function showTexts(moment) {
   byId('rows').setAttribute('aria-valuenow', at);
   showRunText();
   showInside(moment);
+  showCode();
   showInstruction(moment);
   if (running) return;
   byId('rows').setAttribute('aria-valuetext', momentText(shown, at));
   showTear(moment.picture);
 }
 
+/* Why Run is grey, or '' where it isn't. */
+function whyNoRun() {
+  const fault = [editorA, editorB].find(({ offerable }) => !offerable);
+  if (shown !== board) return ELSEWHERE;
+  if (board.full) return FULL;
+  return fault && !running ? `Run waits for frame ${fault.place.id}, which spells nothing to offer.`
+    : '';
+}
+
 /* What Run does, and for how long; or why it can't. */
 function showRunText() {
   const left = running ? schedule.left : countNow(), time = durationText(left / rateNow());
-  const fault = [editorA, editorB].find(({ offerable }) => !offerable);
-  let text = `Run lets ${counted(left, 'event')} happen, in ${time}.`;
-  if (shown !== board) text = 'This happened elsewhere: nothing of it can run, or be cut.';
-  else if (running) text = `${counted(left, 'event')} to go, in ${time}.`;
-  else if (fault) text = `Run waits for frame ${fault.place.id}, which spells nothing to offer.`;
-  byId('run-text').textContent = text;
+  const said = running ? `${counted(left, 'event')} to go, in ${time}: what is grey waits for Stop.`
+    : `Run lets ${counted(left, 'event')} happen, in ${time}.`;
+  byId('run-text').textContent = whyNoRun() || said;
   byId('how-text').textContent = HOW_TEXT[byId('how').value];
 }
 
@@ -409,6 +421,58 @@ function showLog() {
     const names = [k === at - 1 && 'now', k >= at && 'later', torn && 'bad'];
     line.className = names.filter(Boolean).join(' ');
   }
+}
+
+/* The driver's code beside the board, as long as it is open: a line of the listing each. */
+let twin = null;
+
+function makeCode() {
+  const lines = linesOfListing(LISTING);
+  byId('code-lines').replaceChildren(...lines.map(({ at: place, bytes, source }) => (
+    Object.assign(document.createElement('span'), {
+      textContent: `${bytes.length > 0 ? hex(place, 4) : '    '} ${source}`,
+    }))));
+  return lines;
+}
+
+/* The table of a draft as bytes; null of one that has none. */
+function tableOf(draft) {
+  const got = engine.run(COMMAND.layTable, `${board.rom.text}${draft.join('\n')}\n`);
+  return got.error === '' ? bytesOfTable(got.output) : null;
+}
+
+/* The listing, with the instructions of the event that is shown, and the one that acted. */
+function showCode() {
+  if (!byId('code').open) return;
+  if (shown !== board) {
+    byId('code-text').textContent = 'What happened elsewhere tells no calls of the driver.';
+    return;
+  }
+  if (twin?.of !== board) {
+    const lines = makeCode();
+    twin = Object.assign(new Twin(lines, tableOf), { of: board, lines });
+  }
+  twin.follow(board, at);
+  const ran = new Set(twin.ran), spans = byId('code-lines').children;
+  twin.lines.forEach(({ at: place, bytes }, k) => {
+    const holds = (one) => one >= place && one < place + bytes.length;
+    const now = twin.actor !== null && holds(twin.actor);
+    spans[k].className = [[...ran].some(holds) && 'ran', now && 'now'].filter(Boolean).join(' ');
+  });
+  byId('code-text').textContent = codeText();
+  showLine(byId('code-lines'), byId('code-lines').querySelector('.now, .ran'));
+}
+
+/* Scrolls a box so that a line of it is in sight, and nothing else. */
+function showLine(box, line) {
+  if (line !== null) box.scrollTop = line.offsetTop - box.offsetTop - box.clientHeight / 2;
+}
+
+function codeText() {
+  if (twin.differs !== null) return `The code does otherwise in event ${twin.differs}.`;
+  if (twin.ran.length === 0) return 'This event is none of the driver\'s: none of its code runs.';
+  const count = counted(twin.ran.length, 'instruction');
+  return `Event ${at - 1} takes ${count}${twin.actor === null ? '.' : '; the framed one acts.'}`;
 }
 
 function showInside(moment) {
@@ -481,15 +545,17 @@ function showButtons() {
   byId('offerB').disabled = !editorB.offerable || ended;
   for (const button of document.querySelectorAll('[data-event]')) button.disabled = ended;
   for (const id of ['wire', 'anew', 'compare']) byId(id).disabled = shown !== board;
-  byId('full').hidden = shown !== board || !board.full;
+  byId('thumb-why').textContent = whyNoRun();
+  byId('compare-why').textContent = shown === board ? '' : 'What happened elsewhere has no trace.';
   byId('forget').hidden = running || shown !== board || at === shown.length;
   byId('offers-text').textContent = offersText();
 }
 
-/* Which of the frames can't be offered, and why; or what an offer of a sketch is. */
+/* Why what is grey is so; or what an offer of a sketch is. */
 function offersText() {
   const [fault] = [editorA, editorB].filter(({ offerable }) => !offerable);
-  if (shown !== board) return 'What is shown happened elsewhere: nothing can be added to it.';
+  if (shown !== board) return ELSEWHERE;
+  if (board.full) return FULL;
   if (fault) return `Frame ${fault.place.id} has a fault, so it can't be offered.`;
   const moving = [editorA, editorB].some(({ frames }) => frames.length > 1);
   return moving ? 'Each offer of a sketch is of its next frame.' : '';
@@ -713,7 +779,7 @@ function makeLessons() {
   }));
 }
 
-/* The examples that aren't frames: logs and traces, each opened as a file would be. */
+/* The examples that aren't drafts: sketches, logs and traces, each opened as a file would be. */
 function makeExamples() {
   const list = byId('examples');
   for (const name of Object.keys(FILES)) list.append(new Option(name));
@@ -844,8 +910,10 @@ function openTrace(name, text) {
 }
 
 function openDraft(name, text) {
+  const rom = isRomAlone(text) ? romTextOf(engine, text) : '';
+  if (rom !== '') return openRomText(name, rom);
   useDraft(editorA, text);
-  tell(`${name}: it stands in editor A.`);
+  return tell(`${name}: it stands in editor A.`);
 }
 
 /* Puts a draft into an editor, and the lines of its ROM, if it has some, into theirs. */
@@ -895,6 +963,7 @@ function listenToButtons() {
   on('now', () => goTo(shown.length));
   on('forget', forgetLater);
   on('file-close', backToBoard);
+  byId('code').addEventListener('toggle', showCode);
   for (const id of ['seed', 'how']) byId(id).addEventListener('input', () => { schedule = null; });
   for (const id of ['count', 'speed', 'how']) byId(id).addEventListener('input', showRunText);
 }

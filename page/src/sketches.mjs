@@ -57,8 +57,13 @@ function plainFault(text) {
   return text.trim().replace(/^dvg: /gm, '');
 }
 
+/* Whether a text is that of a ROM alone: of shapes, without a frame that calls them. */
+export function isRomAlone(text) {
+  return hasRom(text) && framesOf(text).every(({ lines }) => lines.length === 0);
+}
+
 /* The text of the ROM of a sketch. */
-function romTextOf(engine, text) {
+export function romTextOf(engine, text) {
   return engine.run(COMMAND.rom, engine.runBytes(COMMAND.layRom, text).output).output;
 }
 

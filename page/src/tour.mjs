@@ -17,7 +17,8 @@ export const TOUR_STEPS = [
   },
   {
     title: 'Torn', cut: true, least: 0,
-    text: `This picture is torn: it shows parts of two frames. That is why the wire matters.`,
+    text: `This picture is torn: it shows parts of two frames. Red is what came too early, and the
+      ring marks where the tear begins. That is why the wire matters.`,
   },
 ];
 
