@@ -17,7 +17,8 @@
 //!    which gets its runtime by a line of its own; and `to_ascii_lowercase` with an allocator, which
 //!    Rust's slices have without one, as `to_ascii_lowercase_in`.
 //! 3. It puts in: the lines of `HEAD` at the head of a crate; `PRELUDE` in a file that names one of
-//!    its words; a `use` of the `MACROS` that a file calls.
+//!    its words; a `use` of the `MACROS` that a file calls; and `Clone` and `Debug` at each type of
+//!    `COPIED` that derives them not. Rattle has no copy that takes memory without a refusal.
 //!
 //! All else stays as it is, letter by letter, with its comments.
 use std::collections::BTreeSet;
@@ -50,6 +51,46 @@ const LOWERCASE_IN: &str = "to_ascii_lowercase_in";
 
 /// The macros whose first word is the runtime, as in Rattle.
 const MACROS: [&str; 3] = ["eprint", "eprintln", "println"];
+
+/// The types that Rust's users copy and print, where the sources don't: what users hold, and what
+/// that is made of.
+const COPIED: [&str; 35] = [
+    "struct Alike",
+    "struct Banked",
+    "struct Checked",
+    "struct Checker",
+    "struct Counted",
+    "struct Cursor",
+    "struct Desk",
+    "struct Drawn",
+    "struct Driver",
+    "struct Dump",
+    "enum Ending",
+    "struct Entries",
+    "struct EntryRun",
+    "struct EntryRuns",
+    "struct Flat",
+    "struct Found",
+    "struct Frame",
+    "struct Generator",
+    "struct Judge",
+    "struct Listing",
+    "struct Logged",
+    "struct Note",
+    "struct Pair",
+    "struct PairList",
+    "enum Phase",
+    "struct Picture",
+    "struct Rom",
+    "struct Run",
+    "struct Runs",
+    "struct Stopped",
+    "struct Table",
+    "enum Taken",
+    "struct Traced",
+    "struct Worklist",
+    "struct World",
+];
 
 /// The attributes that stay as they are.
 const KEPT_ATTRIBUTES: [&str; 6] = ["error", "from", "inline", "must_use", "repr", "unsafe"];
@@ -176,14 +217,15 @@ fn after_bracket(text: &[u8], from: usize) -> Result<usize, Refused> {
 
 // --- The eraser ---
 
-/// A source, how far it was read, what is left of it, the words of code that are left, and the laws
-/// of other crates that are called.
+/// A source, how far it was read, what is left of it, the words of code that are left, the laws of
+/// other crates that are called, and what the type that comes next derives.
 struct Eraser<'a> {
     text: &'a [u8],
     at: usize,
     out: Vec<u8>,
     words: BTreeSet<&'a str>,
     laws: BTreeSet<&'a str>,
+    derived: &'a str,
 }
 
 impl<'a> Eraser<'a> {
@@ -194,6 +236,7 @@ impl<'a> Eraser<'a> {
             out: Vec::new(),
             words: BTreeSet::new(),
             laws: BTreeSet::new(),
+            derived: "",
         }
     }
 
@@ -435,13 +478,35 @@ impl<'a> Eraser<'a> {
     }
 
     /// A derive, without `Drop`.
-    fn derive(&mut self, words: &str, end: usize) {
+    fn derive(&mut self, words: &'a str, end: usize) {
+        self.derived = words;
         let kept: Vec<&str> = words.split(", ").filter(|word| *word != "Drop").collect();
         if kept.is_empty() {
             self.drop_line(end);
         } else {
             self.put(&format!("#[derive({})]", kept.join(", ")), end);
         }
+    }
+
+    /// A struct or an enum. One of `COPIED` derives `Clone` and `Debug`, too.
+    fn structure(&mut self, end: usize) {
+        let name = after_blanks(self.text, end);
+        let after = self.text[name..]
+            .iter()
+            .take_while(|byte| is_of_word(**byte));
+        let head = self.slice(self.at, name + after.count());
+        let derived = std::mem::take(&mut self.derived);
+        let missing: Vec<&str> = ["Clone", "Debug"]
+            .into_iter()
+            .filter(|word| !derived.split(", ").any(|other| other == *word))
+            .collect();
+        if COPIED.contains(&head) && !missing.is_empty() {
+            let line = format!("#[derive({})]\n", missing.join(", "));
+            let end_of_last = self.out.iter().rposition(|byte| *byte == b'\n');
+            let start = end_of_last.map_or(0, |k| k + 1);
+            self.out.splice(start..start, line.into_bytes());
+        }
+        self.copy_word(end);
     }
 
     /// A module of tests, which has a file of its own.
@@ -534,6 +599,7 @@ impl<'a> Eraser<'a> {
             "pub" | "mod" => self.module(end),
             "use" => self.usage(end),
             "fn" => self.function(end)?,
+            "struct" | "enum" => self.structure(end),
             "to_ascii_lowercase" => self.lowercase(end),
             word if self.laws.contains(word) => self.law(end)?,
             word if RATTLE_WORDS.contains(&word) => {
@@ -969,6 +1035,16 @@ mod tests {
             &format!("use std::{{eprint, eprintln}};\n\n{source}"),
         );
         stays("// A Vec.\nlet text = \"Box\";\n#[error(\"Drop\")]\nfn f() {}\n");
+        leaves(
+            "/// W.\npub struct World {\n}\n",
+            "/// W.\n#[derive(Clone, Debug)]\npub struct World {\n}\n",
+        );
+        leaves(
+            "#[derive(Clone, Copy)]\nenum Phase {\n}\n",
+            "#[derive(Clone, Copy)]\n#[derive(Debug)]\nenum Phase {\n}\n",
+        );
+        stays("#[derive(Debug, Clone)]\npub(crate) struct World {\n}\n");
+        stays("enum World {}\nstruct Worlds {}\n");
     }
 
     #[test]

@@ -26,6 +26,16 @@ fn draw() -> Result<std::vec::Vec<Stroke>, Box<dyn Error>> {
     world.offer(&one_vector().ok_or("a field is out of its range")?);
     while world.tick() != Entry::Acted(Action::Sent) {}
     world.strobe();
+    let mut copy = world.clone();
+    assert!(format!("{copy:?}").starts_with("World {"));
+    assert_eq!(drawn_by(&mut copy)?, drawn_by(&mut world)?);
+    assert_eq!((world.tick(), world.tick()), (copy.tick(), copy.tick()));
+    world.strobe();
+    drawn_by(&mut world)
+}
+
+/// What a world's run draws.
+fn drawn_by(world: &mut World<Flat>) -> Result<std::vec::Vec<Stroke>, Box<dyn Error>> {
     loop {
         if let Entry::Done(_, _, strokes) = world.fetch()? {
             return Ok(strokes.iter().copied().collect());

@@ -38,6 +38,16 @@ def words(text):
 GENERIC = words("<W: fmt::Write>")
 FORMATTER, PLAIN_FORMATTER = words("fmt::Formatter<W>"), words("fmt::Formatter<'_>")
 LOWERCASE = words(".to_ascii_lowercase(")
+# The types that derive Clone and Debug, too.
+COPIED = """
+    struct Alike, struct Banked, struct Checked, struct Checker, struct Counted, struct Cursor,
+    struct Desk, struct Drawn, struct Driver, struct Dump, enum Ending, struct Entries,
+    struct EntryRun, struct EntryRuns, struct Flat, struct Found, struct Frame,
+    struct Generator, struct Judge, struct Listing, struct Logged, struct Note, struct Pair,
+    struct PairList, enum Phase, struct Picture, struct Rom, struct Run, struct Runs,
+    struct Stopped, struct Table, enum Taken, struct Traced, struct Worklist, struct World
+"""
+COPIED = {tuple(item.split()) for item in COPIED.split(",")}
 
 
 class Source:
@@ -48,6 +58,7 @@ class Source:
         self.at = 0
         self.left = []
         self.laws = set()
+        self.derived = set()
 
     def next_is(self, *wanted):
         return self.tokens[self.at : self.at + len(wanted)] == list(wanted)
@@ -89,6 +100,7 @@ class Source:
         if inside[0] not in ("derive", "derive_where"):
             return ["#", "[", *inside, "]"]
         names = [token for token in inside[2:-1] if token not in (",", "Drop")]
+        self.derived = set(names)
         return words(f"#[derive({', '.join(names)})]") if names else []
 
     def is_model(self):
@@ -106,6 +118,22 @@ class Source:
             lines.append(f"use {crate}::laws::{law};")
         lines += [f"{law}();" for law in self.laws]
         return next((line for line in map(words, lines) if self.next_is(*line)), None)
+
+    def structure(self):
+        """What a type derives that users copy and print, and its first word."""
+        missing = [name for name in ("Clone", "Debug") if name not in self.derived]
+        self.derived = set()
+        if missing and tuple(self.tokens[self.at : self.at + 2]) in COPIED:
+            visibility = len(self.left) - len(self.visibility())
+            self.left[visibility:visibility] = words(f"#[derive({', '.join(missing)})]")
+        self.left.append(self.tokens[self.at])
+        self.at += 1
+
+    def visibility(self):
+        """What was left last, if it tells how far a name is seen."""
+        wide, narrow = words("pub"), words("pub(crate)")
+        ends = (it for it in (narrow, wide) if self.left[-len(it) :] == it)
+        return next(ends, [])
 
     def formatting(self):
         """A signature up to its bracket's end."""
@@ -130,6 +158,8 @@ class Source:
         elif self.next_is(*LOWERCASE) and self.tokens[self.at + len(LOWERCASE)] != ")":
             self.left += words(".to_ascii_lowercase_in(")
             self.at += len(LOWERCASE)
+        elif self.next_is("struct") or self.next_is("enum"):
+            self.structure()
         elif self.next_is(*words("fn main(")):
             self.left += words("fn main()")
             self.at = self.until(")") + 1

@@ -240,7 +240,8 @@ half, nothing could be torn, and it is `no run drew a half: ..`: often word zero
 isn't logged after `started`, or the bytes of it are swapped. Lines are numbered
 from 1. Nothing is judged after the first line that is torn or at fault.
 
-Fault: `syntax at line N`. The status is 0 for `not torn`, and else 1.
+Fault: `syntax at line N`. The status is 0 for `not torn`, and 1 for all else
+that is said of a log.
 
 Example:
   $ printf 'started\\nfetched 000 E201\\nwrote 402 90\\n' | dvg torn

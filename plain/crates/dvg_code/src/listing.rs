@@ -13,6 +13,7 @@ pub enum Listed {
 
 /// An iterator over the instructions of borrowed words, from place 0 on. If a word is left whose
 /// second word is missing, its `Listed::Cut` comes last.
+#[derive(Clone, Debug)]
 pub struct Listing<'a> {
     words: &'a [u16],
     place: usize,

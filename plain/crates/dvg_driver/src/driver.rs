@@ -7,6 +7,7 @@ use dvg_mem::Half;
 /// How far the driver is. What it writes of a frame stands beside it, so that a change of the phase
 /// moves no frame.
 #[derive(Clone, Copy)]
+#[derive(Debug)]
 enum Phase {
     /// It has done nothing since its reset.
     Start,
@@ -26,6 +27,7 @@ enum Phase {
 
 /// The driver of the vector generator, from one reset to the next and beyond. It keeps at most one
 /// frame: the one that it writes.
+#[derive(Clone, Debug)]
 pub struct Driver {
     phase: Phase,
     /// Gives the bytes of the newest frame. It counts only while the driver writes.

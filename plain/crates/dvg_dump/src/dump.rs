@@ -22,6 +22,7 @@ pub enum DumpFault {
 
 /// A dump of vector memory: the 2,048 bytes of the RAM, and after them the 2,048 or 4,096 bytes of
 /// the ROM.
+#[derive(Clone, Debug)]
 pub struct Dump<A: Allocator = Global> {
     pub(crate) alloc: A,
     pub(crate) ram: Flat<A>,

@@ -6,6 +6,7 @@ use std::alloc::{Allocator, Global};
 
 /// How the run over a dump ends.
 #[derive(Debug)]
+#[derive(Clone)]
 pub enum Ending<A: Allocator = Global> {
     /// A HALT ended it.
     Finished {

@@ -16,6 +16,7 @@ pub const MOST_WORDS: u32 = 65_536;
 
 /// A run: its instructions, and how it ends.
 #[derive(Debug)]
+#[derive(Clone)]
 pub struct Traced<A: Allocator = Global> {
     /// The instructions, in the order in which they were run. One that broke the run is the last.
     pub ran: Vec<Ran, A>,

@@ -3,6 +3,7 @@ use crate::draft::Draft;
 use crate::frame::Frame;
 
 /// A draft that was checked, borrowed: nothing of it is copied before `to_frame`.
+#[derive(Clone, Debug)]
 pub struct Checked<'a> {
     pub(crate) draft: &'a Draft,
     pub(crate) words: u16,

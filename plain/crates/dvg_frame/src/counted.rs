@@ -8,6 +8,7 @@ pub(crate) const COUNTS: usize = MAX_OPS + 1;
 
 /// A draft and a table of how many words stand before each operation, both borrowed, so that the
 /// place of an operation is found in constant time.
+#[derive(Clone, Debug)]
 pub(crate) struct Counted<'a> {
     draft: &'a Draft,
     /// How many words the operations before each one have, and then how many all have.

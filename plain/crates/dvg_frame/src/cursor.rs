@@ -12,6 +12,7 @@ use std::iter::FusedIterator;
 ///
 /// A cursor keeps the frame, its place in it, and how many words stand before each operation, so
 /// that an item takes constant time.
+#[derive(Clone, Debug)]
 pub struct Cursor {
     frame: Frame,
     /// How many words stand before each operation of the frame, and how many there are in all.

@@ -12,6 +12,7 @@ pub(crate) const MAX_WORDS: u16 = 511;
 
 /// A draft that was checked. It keeps the draft, its number of words and its bound, and no laid
 /// words.
+#[derive(Clone, Debug)]
 pub struct Frame {
     draft: Draft,
     words: u16,

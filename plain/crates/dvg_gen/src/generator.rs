@@ -14,6 +14,7 @@ use std::mem;
 ///
 /// A new one is halted, with the beam at 0, 0 and the global scale 0. Beam and scale are kept from
 /// run to run (this project's own choice).
+#[derive(Clone, Debug)]
 pub struct Generator<A: Allocator> {
     alloc: A,
     is_open: bool,

@@ -46,6 +46,7 @@ pub enum Step {
 
 /// What a fetch led to.
 #[derive(Debug)]
+#[derive(Clone)]
 pub enum Taken<A: Allocator> {
     /// That was the low byte of a word, whose high byte comes next.
     Low,

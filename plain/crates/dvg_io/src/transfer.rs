@@ -62,8 +62,8 @@ pub fn write_whole<W: Write>(writer: &mut Watched<W>, text: &[u8]) -> Result<(),
 }
 
 /// Writes lines, each by itself: the next one is handed to the writer only when it took the whole
-/// of the one before. After the last line end may stand a line without one. After a failure a
-/// beginning of the text went out.
+/// of the one before. (This is tested: a contract sees only what went out.) After the last line end
+/// may stand a line without one. After a failure a beginning of the text went out.
 pub fn write_lines<W: Write>(writer: &mut Watched<W>, text: &[u8]) -> Result<(), StreamFailed> {
     let mut rest = text;
     while let Some(end) = memchr(b'\n', rest) {

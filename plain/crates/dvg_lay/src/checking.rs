@@ -150,7 +150,7 @@ pub(crate) fn check_all<A: Allocator + Copy>(
 }
 
 // Whether what the operation names of the ROM stands from word 400 on.
-fn names_rom(op: &Op) -> bool {
+fn names_high_word(op: &Op) -> bool {
     match op.kind() {
         OpKind::CallRom(address) | OpKind::JumpRom(address) => RAM_END <= address,
         OpKind::Draw(_) | OpKind::Call(_) | OpKind::Jump(_) | OpKind::Return | OpKind::Halt => true,
@@ -160,7 +160,7 @@ fn names_rom(op: &Op) -> bool {
 // The number of the first operation that names a word of the ROM below 400.
 fn first_low(ops: &[Op]) -> Option<usize> {
     for (i, op) in ops.iter().enumerate() {
-        if !names_rom(op) {
+        if !names_high_word(op) {
             return Some(i);
         }
     }

@@ -10,6 +10,7 @@ pub(crate) type Step = Event<u16, u16>;
 
 /// An event of a trace, so many times in a row, in six bytes.
 #[derive(Clone, Copy)]
+#[derive(Debug)]
 pub(crate) struct Run {
     pub(crate) step: Step,
     pub(crate) times: u16,
@@ -17,6 +18,7 @@ pub(crate) struct Run {
 
 /// An iterator over the events of a trace, as runs of equal ones: an event, and how many times in a
 /// row it comes. An offer has at most 511 operations.
+#[derive(Clone, Debug)]
 pub struct Runs<'a, A: Allocator = Global> {
     runs: &'a [Run],
     offers: &'a [(u32, u16)],

@@ -11,10 +11,10 @@ use std::alloc::{Allocator, Global};
 /// The most events of a trace (this project's own choice).
 pub const MOST_EVENTS: usize = 65_536;
 
-/// Events in order, at most 65,536 of them, in little room: what `push_times` adds is kept once, with
-/// its number, and ticks, strobes and fetches join those of their kind before them. The operations of all offers lie in one list, so an offer
-/// takes only what its own operations need, where a `Draft` has room for 511. The images of resets
-/// lie in another.
+/// Events in order, at most 65,536 of them, in little room. What `push_times` adds is kept once,
+/// with its number. Ticks, strobes and fetches join those of their kind before them. The operations
+/// of all offers lie in one list, so an offer takes only what its own operations need, where a
+/// `Draft` has room for 511. The images of resets lie in another.
 pub struct Trace<A: Allocator = Global> {
     runs: Vec<Run, A>,
     /// How many events there are.

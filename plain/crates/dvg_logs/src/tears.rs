@@ -74,8 +74,8 @@ fn write_verdict<W: Write>(writer: &mut Watched<W>, verdict: LogVerdict) -> Resu
 /// writes what is said of it (the text is this project's own choice):
 ///
 /// - `not torn: R runs, D drew a half, H halted, W writes`, where no byte was written in the half
-///   that the open run draws: R runs began, D of them drew a half, H ended by a HALT, and W bytes
-///   were written;
+///   that the open run draws: R runs began, D of them drew a half, H lines say `halted`, and W
+///   bytes were written;
 /// - `no run drew a half:` and the same, where D is 0, so no byte could be found that tears;
 /// - `torn at line N: wrote A B` of the first write in such a half, by its line, its byte address
 ///   and its byte, and on one more line `so far:` and the same numbers up to that line.

@@ -17,6 +17,7 @@ const HALF_1: usize = UNUSED + WORD_BYTES;
 
 /// A store that keeps word zero, half 0, the word that no frame uses and half 1 each on its own, as
 /// two banks of memory do: no part has bytes of both halves.
+#[derive(Clone, Debug)]
 pub struct Banked<A: Allocator = Global> {
     zero: [u8; WORD_BYTES],
     half_0: Box<[u8; HALF_BYTES], A>,

@@ -9,6 +9,7 @@ use std::alloc::{Allocator, Global};
 
 /// A store that keeps its bytes in one array. An image of one byte everywhere is only noted, and
 /// fills the array at the first write.
+#[derive(Clone, Debug)]
 pub struct Flat<A: Allocator = Global> {
     bytes: Box<[u8; MEMORY_BYTES], A>,
     // The byte that stands everywhere, while the array still has other bytes.

@@ -10,6 +10,7 @@ use std::alloc::{AllocError, Allocator, Global};
 
 /// The bytes of a vector ROM: 2,048 of the words 800 to BFF, as in Asteroids, or 4,096 of the words
 /// 400 to BFF, as on boards of Asteroids Deluxe (the second map is this project's own choice).
+#[derive(Clone, Debug)]
 pub struct Rom<A: Allocator = Global> {
     bytes: Vec<u8, A>,
 }

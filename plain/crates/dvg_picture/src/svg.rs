@@ -12,6 +12,7 @@ use std::alloc::Allocator;
 use std::io::{Read, Write};
 
 // What a run drew, and why that is no picture, if it isn't.
+#[derive(Clone, Debug)]
 struct Drawn<A: Allocator> {
     strokes: Vec<Stroke, A>,
     undrawn: Option<Undrawn>,

@@ -9,7 +9,7 @@ pub struct LogCounts {
     pub runs: usize,
     /// Runs that drew a half.
     pub drew: usize,
-    /// Runs that ended by a HALT.
+    /// Lines that say that a run ended by a HALT.
     pub halted: usize,
     /// Bytes that the driver wrote.
     pub writes: usize,
@@ -72,7 +72,7 @@ impl Line {
         self.text(b" drew a half,");
     }
 
-    // Appends how many runs ended by a HALT, how many bytes were written, and the line's end.
+    // Appends how many lines say `halted`, how many bytes were written, and the line's end.
     fn halts(&mut self, counts: LogCounts) {
         self.number(counts.halted);
         self.text(b" halted,");

@@ -35,7 +35,7 @@ fn write_run<W: Write>(
 }
 
 /// Writes what is shown of each of these entries, the first of which is that of event 0. Each line
-/// is handed to the writer by itself.
+/// is handed to the writer by itself, which is tested.
 pub fn write_entries<A: Allocator, W: Write>(
     entries: &Entries<A>,
     writer: &mut Watched<W>,

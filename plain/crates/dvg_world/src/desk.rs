@@ -10,6 +10,7 @@ use std::alloc::{Allocator, Global};
 
 /// A driver with the ROM over which its drafts are checked, and what they are checked by. It knows
 /// no RAM: its answers say what it does.
+#[derive(Clone, Debug)]
 pub struct Desk<A: Allocator = Global> {
     rom: Rom<A>,
     driver: Driver,

@@ -7,6 +7,7 @@ use std::alloc::{Allocator, Global};
 
 /// The entry of an event, and of so many more that come right after it, in ten bytes.
 #[derive(Clone, Copy)]
+#[derive(Debug)]
 pub(crate) struct Alike {
     pub(crate) entry: Entry<u16>,
     pub(crate) again: u16,
@@ -14,6 +15,7 @@ pub(crate) struct Alike {
 
 /// The entries of events, in little room: equal ones may be kept as one, an entry of a finished run
 /// has the number of its picture, and the strokes of all pictures lie in a list of their own.
+#[derive(Clone, Debug)]
 pub struct Entries<A: Allocator = Global> {
     pub(crate) kept: Vec<Alike, A>,
     pub(crate) drawn: Vec<Vec<Stroke, A>, A>,
@@ -31,6 +33,7 @@ impl<A: Allocator> Entries<A> {
 
 /// An entry, and how many times in a row it comes: a run of equal entries.
 #[derive(Clone, Copy)]
+#[derive(Debug)]
 pub struct EntryRun<'a> {
     /// The entry. What stands in it in place of the strokes has no meaning outside.
     pub entry: &'a Entry<u16>,
@@ -41,6 +44,7 @@ pub struct EntryRun<'a> {
 }
 
 /// An iterator over entries, as runs of equal ones. The entries of two runs in a row may be equal.
+#[derive(Clone, Debug)]
 pub struct EntryRuns<'a, A: Allocator = Global> {
     kept: &'a [Alike],
     drawn: &'a [Vec<Stroke, A>],

@@ -14,10 +14,11 @@ use std::alloc::{Allocator, Global};
 use std::mem;
 
 /// The entries of the events that happened.
+#[derive(Clone, Debug)]
 pub struct Logged<A: Allocator = Global> {
     /// The entries, in the order of their events.
     pub entries: Entries<A>,
-    /// Whether all events happened. Where not, memory was refused.
+    /// Whether all events happened. Where not, memory was refused (which is tested).
     pub is_whole: bool,
 }
 

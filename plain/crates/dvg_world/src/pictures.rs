@@ -12,6 +12,7 @@ use dvg_mem::{Image, Rom, Store};
 use std::alloc::{Allocator, Global};
 
 /// A picture: what a finished run drew.
+#[derive(Clone, Debug)]
 pub struct Picture<A: Allocator = Global> {
     /// The number of the event that finished the run, counted from 0.
     pub event: usize,
@@ -20,10 +21,11 @@ pub struct Picture<A: Allocator = Global> {
 }
 
 /// The pictures of the events that happened.
+#[derive(Clone, Debug)]
 pub struct Drawn<A: Allocator = Global> {
     /// The pictures, in the order in which they were finished.
     pub pictures: Vec<Picture<A>, A>,
-    /// Whether all events happened. Where not, memory was refused.
+    /// Whether all events happened. Where not, memory was refused (which is tested).
     pub is_whole: bool,
 }
 

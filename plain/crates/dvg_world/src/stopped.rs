@@ -5,10 +5,11 @@ use dvg_log::OwnEntry;
 use std::alloc::{Allocator, Global};
 use thiserror::Error;
 
-/// A run that stopped for want of memory, and for no other cause.
+/// A run that stopped for want of memory, and for no other cause (which is tested).
 #[derive(Error)]
 #[derive(Debug, PartialEq, Eq)]
 #[error("memory was refused at event {event}")]
+#[derive(Clone)]
 pub struct Stopped<A: Allocator = Global> {
     /// The entries of the events before the one at which the run stopped.
     pub entries: Vec<OwnEntry<A>, A>,

@@ -20,6 +20,7 @@ use dvg_mem::{Image, MemFault, Rom, Store, fetch_byte};
 /// A strobe that the driver has sent is under way until the next reset of the whole system, and may
 /// arrive never, once or often (this project's own choice, as a strobe that the hardware passes
 /// over is one that never arrives).
+#[derive(Clone, Debug)]
 pub struct World<S: Store> {
     desk: Desk<S::Alloc>,
     store: S,

@@ -344,6 +344,15 @@ impl<T: core::clone::Clone, A: core::clone::Clone> core::clone::Clone for Vec<T,
     }
 }
 
+impl<T: core::clone::Clone, A: core::clone::Clone> core::clone::Clone for Box<T, A> {
+    fn clone(&self) -> Box<T, A> {
+        Box {
+            alloc: self.alloc.clone(),
+            value: self.value.clone(),
+        }
+    }
+}
+
 impl<T> FromIterator<T> for Vec<T> {
     fn from_iter<I: IntoIterator<Item = T>>(items: I) -> Vec<T> {
         vec::Vec::from_iter(items).into()

@@ -72,6 +72,7 @@ fn words_or_fault(draft: &Draft) -> Result<u16, FrameFault> {
 /// time for the operations and for the places and pairs that it reaches, and none for the size of
 /// the tables, which is about 105 KB. What it answers doesn't depend on what it checked before. A
 /// caller that checks many drafts should keep one, on the heap.
+#[derive(Clone, Debug)]
 pub struct Checker {
     reached: Worklist,
     table: Table,

@@ -25,6 +25,7 @@ pub(crate) const PAIRS: usize = PLACES * (DEEPEST as usize + 1);
 
 /// A place, and how many calls are open there.
 #[derive(Clone, Copy)]
+#[derive(Debug)]
 pub(crate) struct Pair {
     pub(crate) place: Place,
     pub(crate) depth: u8,

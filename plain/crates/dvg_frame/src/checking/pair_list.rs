@@ -4,6 +4,7 @@ use arrayvec::ArrayVec;
 
 /// A list of at most `MOST` pairs. Each takes two bytes: its number in the order in which faults
 /// are picked.
+#[derive(Clone, Debug)]
 pub(crate) struct PairList<const MOST: usize> {
     numbers: ArrayVec<u16, MOST>,
 }

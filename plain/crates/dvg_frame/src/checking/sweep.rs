@@ -10,6 +10,7 @@ use std::alloc::Allocator;
 
 /// A pair that has a fault, and the fault of least number there.
 #[derive(Clone, Copy)]
+#[derive(Debug)]
 pub(crate) struct Found {
     pub(crate) pair: Pair,
     pub(crate) fault: FrameFault,

@@ -5,6 +5,7 @@ use crate::place::Place;
 
 /// How what is drawn from a place ends.
 #[derive(Clone, Copy)]
+#[derive(Debug)]
 pub(crate) enum Ending {
     Halts,
     Returns,
@@ -12,6 +13,7 @@ pub(crate) enum Ending {
 
 /// What is drawn from a place.
 #[derive(Clone, Copy)]
+#[derive(Debug)]
 pub(crate) struct Drawn {
     /// How many words are fetched. The count stops at the greatest number, which no draft without a
     /// fault reaches.
@@ -27,6 +29,7 @@ pub(crate) struct Drawn {
 /// What was noted of a place, and in which round. Before the first round each place has a note of
 /// round 0.
 #[derive(Clone, Copy)]
+#[derive(Debug)]
 pub(crate) struct Note {
     words: u64,
     round: u32,
@@ -46,6 +49,7 @@ const BLANK: Note = Note {
 
 /// What is known of each place: its note, where that is of the newest round. To forget everything,
 /// a new round begins.
+#[derive(Clone, Debug)]
 pub(crate) struct Table {
     notes: [Note; PLACES],
     round: u32,

@@ -3,6 +3,7 @@ use crate::checking::pair::{PAIRS, Pair, index_of};
 use crate::checking::pair_list::PairList;
 
 /// Pairs, each once, in the order in which they came.
+#[derive(Clone, Debug)]
 pub(crate) struct Worklist {
     marks: [bool; PAIRS],
     pairs: PairList<PAIRS>,
