@@ -6,7 +6,8 @@
 # A vector takes 2^(s+1) * 8 / 12.096 + 4 microseconds, where s is its own and the global scale
 # together, modulo 16, however short it is; one of 10 to 15, which moves nothing, counts as 0. Each
 # other instruction counts as 4. A line gives the vectors of each scale that comes up and their
-# time, and the last one all of it. Of several pictures it is the sum.
+# time, and the last one all of it. Of several pictures it is the sum; `-v each=1` gives a last line
+# for each line `picture W N` instead.
 
 function microseconds(scale) { return 2 ^ (scale + 1) * 8 / 12.096 + 4 }
 
@@ -60,7 +61,17 @@ $2 == "fetched" || $2 == "done" {
     if ($2 == "LABS") global = $5
 }
 
+function tell_all() {
+    printf "all: %d vectors, %d other instructions, %.0f microseconds\n", all, others, sum
+}
+
+each && $1 == "picture" {
+    tell_all()
+    all = others = sum = global = 0
+}
+
 END {
+    if (each) exit
     if (all + others == 0) {
         print "time.awk: no run is told; is --all given?" | "cat 1>&2"
         exit 1
@@ -69,5 +80,5 @@ END {
         if (scale in vectors)
             printf "scale %d: %d vectors, %.0f microseconds\n", scale, vectors[scale],
                 vectors[scale] * microseconds(scale)
-    printf "all: %d vectors, %d other instructions, %.0f microseconds\n", all, others, sum
+    tell_all()
 }
