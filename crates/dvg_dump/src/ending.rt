@@ -10,7 +10,7 @@ use std::alloc::{Allocator, Global};
 pub enum Ending<A: Allocator = Global> {
     /// A HALT ended it.
     Finished {
-        /// How many words were fetched, HALT and word zero included: 1 to 65,536.
+        /// The number of words that were fetched, HALT and word zero included: 1 to 65,536.
         words: u32,
         /// The strokes, in the order drawn.
         strokes: Vec<Stroke, A>,
@@ -38,7 +38,7 @@ pub enum Outcome {
 }
 
 impl<A: Allocator> Ending<A> {
-    /// What the end is called.
+    /// Returns what the end is called.
     pub fn outcome(&self) -> Outcome
         ensures { result ≡ outcome_of (end_of self.now) }
     {
