@@ -2,7 +2,7 @@
 use dvg_code::{Code, Instr};
 use dvg_frame::{Draft, Op, OpKind};
 
-/// Returns the operation that draws by `instr`, or `None` where a draft can't draw by it.
+/// Returns the operation that executes `instr`, or `None` where a draft can't hold it.
 pub fn draw(instr: Instr) -> Option<Op> {
     Op::new(OpKind::Draw(Code::new(instr)?))
 }

@@ -36,7 +36,8 @@ impl Totals {
     }
 }
 
-/// Returns the high byte of the word at `address` of the list where `high`, else the low one.
+/// Returns the high byte of the word at `address` of the list where `high` is true, otherwise the
+/// low one.
 fn byte_at(address: u16, high: bool) -> Option<u8> {
     let [low_byte, high_byte] = LIST.get(usize::from(address))?.to_le_bytes();
     Some(if high { high_byte } else { low_byte })

@@ -79,7 +79,8 @@ fn small_draft(vectors: u64) -> Option<Draft> {
     Some(draft)
 }
 
-/// Returns the next event of `random`: most are ticks and fetches. Memory is taken from `alloc`.
+/// Returns an event that is chosen by `random`: most are ticks and fetches. Memory is taken from
+/// `alloc`.
 fn event(alloc: Global, random: &mut Random) -> Option<Event> {
     let kind = random.below(64);
     Some(match kind {

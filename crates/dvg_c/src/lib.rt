@@ -21,8 +21,8 @@ pub struct Handle {
     unused: u8,
 }
 
-/// Makes a device, and hands it to C. Returns 0, and `out` has the pointer to it; or 2 where an
-/// allocation fails, and `out` is as it was. The memory is that of `alloc`.
+/// Makes a device, and hands it to C. Returns 0 after writing the device's pointer to `out`, or 2
+/// where an allocation fails, and then `out` is as it was. Memory is taken from `alloc`.
 #[unsafe(no_mangle)]
 pub extern "C" fn dvg_new(alloc: Global, out: &mut *mut Handle) -> u32
     ensures* { (⌜ result ≡ 0 ⌝ ∗ ∃ₛ
@@ -38,15 +38,15 @@ pub extern "C" fn dvg_new(alloc: Global, out: &mut *mut Handle) -> u32
     }
 }
 
-// Returns a new device in a box of its own, or `None` where an allocation fails. The memory is that
-// of `alloc`.
+// Returns a new device in a box of its own, in memory of `alloc`, or `None` where an allocation
+// fails.
 fn made(alloc: Global) -> Option<Box<Device>>
     ensures { IfSome result (λ device. IsNew device.value) }
 {
     Box::new(alloc, Device::new(alloc)).ok()
 }
 
-/// Asks the device at `at` by `request`, and returns the number of the reply.
+/// Lets the device at `at` do `request`, and returns the number of the reply.
 #[unsafe(no_mangle)]
 pub unsafe extern "C" fn dvg_turn(at: *mut Handle, request: u64) -> u64
     ghost device: { Held }

@@ -74,7 +74,7 @@ impl Cabinet {
         fetch_in_world(&mut self.world, picture)
     }
 
-    // Asks the world by `request`, with `draft` and the staged bytes `staged`. Returns the reply.
+    // Lets the world do `request`, with `draft` and the staged bytes `staged`. Returns the reply.
     // `picture` has the strokes of the newest run that came to a HALT.
     #[inline(always)]
     pub(crate) fn ask(

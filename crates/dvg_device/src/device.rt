@@ -157,15 +157,14 @@ impl Device {
         Reply::Came(Entry::Cleared)
     }
 
-    // Returns the memory of a world that was open before, if there is some, and keeps it no longer.
+    // Takes the memory of a world that was open before, if there is some.
     fn take_spare_world(&mut self) -> Option<Box<Cabinet>>
         ensures { self.new ≡ self.old }
     {
         self.spare_world.take()
     }
 
-    // Returns the memory of a driver that was open before, if there is some, and keeps it no
-    // longer.
+    // Takes the memory of a driver that was open before, if there is some.
     fn take_spare_desk(&mut self) -> Option<Box<Desk>>
         ensures { self.new ≡ self.old }
     {
@@ -310,7 +309,7 @@ impl Device {
         }
     }
 
-    // Asks what is open by `request`.
+    // Lets what is open do `request`.
     #[inline(always)]
     fn ask(&mut self, request: Request) -> Reply
         ensures { PartAnswers self.old.open_part request self.old self.new result }
@@ -345,7 +344,7 @@ fn is_one_of(n: usize, small: usize, large: usize) -> bool
 }
 
 // Returns a world whose RAM first holds the first 2,048 of `staged`, over a ROM of the others. It
-// lies in the memory of `spare` where there is some, else in memory of `alloc`. Returns `None`
+// lies in the memory of `spare` where there is some, otherwise in memory of `alloc`. Returns `None`
 // where an allocation fails, or `staged` has a wrong length.
 fn new_world(alloc: Global, staged: &[u8], spare: Option<Box<Cabinet>>) -> Option<Box<Cabinet>>
     ensures { IfSome result (λ world. WorldAfter (drop 2048 staged.now)
@@ -363,8 +362,8 @@ fn new_world(alloc: Global, staged: &[u8], spare: Option<Box<Cabinet>>) -> Optio
 }
 
 // Returns a driver alone over a ROM of the bytes `rom`. It lies in the memory of `spare` where
-// there is some, else in memory of `alloc`. Returns `None` where an allocation fails, or `rom` has
-// a wrong length.
+// there is some, otherwise in memory of `alloc`. Returns `None` where an allocation fails, or `rom`
+// has a wrong length.
 fn new_desk(alloc: Global, rom: &[u8], spare: Option<Box<Desk>>) -> Option<Box<Desk>>
     ensures { IfSome result (λ desk. IsNewDriver rom.now (Driver desk.value)) }
 {
@@ -374,8 +373,8 @@ fn new_desk(alloc: Global, rom: &[u8], spare: Option<Box<Desk>>) -> Option<Box<D
     }
 }
 
-// Does the work of `new_desk` in the memory of `desk`. A ROM of another size takes memory from
-// `alloc`.
+// Like `new_desk`, in the memory of `desk`. A ROM of the bytes `rom` takes memory from `alloc` only
+// where it has another size.
 fn renewed_desk(alloc: Global, rom: &[u8], mut desk: Box<Desk>) -> Option<Box<Desk>>
     ensures { IfSome result (λ desk. IsNewDriver rom.now (Driver desk.value)) }
 {
@@ -385,7 +384,7 @@ fn renewed_desk(alloc: Global, rom: &[u8], mut desk: Box<Desk>) -> Option<Box<De
     }
 }
 
-// Does the work of `new_desk` in new memory, of `alloc`.
+// Like `new_desk`, in new memory of `alloc`, over a ROM of the bytes `rom`.
 fn boxed_desk(alloc: Global, rom: &[u8]) -> Option<Box<Desk>>
     ensures { IfSome result (λ desk. IsNewDriver rom.now (Driver desk.value)) }
 {

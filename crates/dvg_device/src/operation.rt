@@ -95,7 +95,7 @@ impl Operation {
     }
 }
 
-// Returns the operation that draws by `instr`, where a draft may hold it.
+// Returns the operation that executes `instr`, where a draft may hold it.
 fn drawing(instr: Instr) -> Option<Op>
     ensures { MatchOption result (¬ IsOp (Draw instr)) (λ op. (op ≡ Draw instr) × IsOp op) }
 {

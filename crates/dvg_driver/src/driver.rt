@@ -75,7 +75,7 @@ impl Driver {
         }
     }
 
-    /// Resets the driver, which forgets everything, also a frame that is being written.
+    /// Resets the driver: it forgets everything, even a frame that is being written.
     pub fn reset(&mut self)
         ensures { (peeked : ℕ) → StandsAfter self.new peeked [] }
     {
@@ -139,7 +139,7 @@ impl Driver {
     }
 
     /// Asks for the published frame once more. Returns `NothingPublished` exactly where the driver
-    /// hasn't flipped since its reset, and else `Busy` exactly where it isn't idle. After an error
+    /// hasn't flipped since its reset, otherwise `Busy` exactly where it isn't idle. After an error
     /// nothing has changed.
     pub fn redraw(&mut self) -> Result<(), DriverFault>
         ensures accepted { (peeked : ℕ) (life : List Item) → StandsAfter self.old peeked life →

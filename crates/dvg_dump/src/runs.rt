@@ -67,7 +67,7 @@ impl<A: Allocator + Copy> Dump<A> {
         Ok(self.run_telling(false)?.ending)
     }
 
-    /// Runs as `run` does, and returns the instructions that were run, too. These also take memory.
+    /// Runs as `run` does. Returns also the instructions that were run, which take memory, too.
     pub fn run_traced(&self) -> Result<Traced<A>, OutOfMemory>
         ensures { IfOk result (λ traced. TellsRun true (memory_of self.now) traced.ran.items
             (end_of traced.ending)) }
@@ -75,8 +75,8 @@ impl<A: Allocator + Copy> Dump<A> {
         self.run_telling(true)
     }
 
-    /// Runs as `run` does, and returns the instructions that were run, too, where `traces`, and
-    /// else none.
+    /// Runs as `run` does. Where `traces` is true, returns also the instructions that were run,
+    /// otherwise none.
     pub fn run_telling(&self, traces: bool) -> Result<Traced<A>, OutOfMemory>
         ensures tells { IfOk result (λ traced. TellsRun traces (memory_of self.now) traced.ran.items
             (end_of traced.ending)) }

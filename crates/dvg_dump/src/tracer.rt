@@ -85,8 +85,8 @@ fn completed(held: Option<u16>, word: u16) -> Option<Spelled>
 }
 
 impl<A: Allocator> Tracer<A> {
-    /// Returns a tracer of a run that begins. It keeps the instructions where `traces`, in memory
-    /// of `alloc`.
+    /// Returns a tracer of a run that begins. Where `traces` is true, it keeps the instructions, in
+    /// memory of `alloc`.
     pub(crate) fn new(alloc: A, traces: bool) -> Tracer<A>
         ensures { result ≡ fresh traces }
     {

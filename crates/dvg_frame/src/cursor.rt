@@ -22,7 +22,7 @@ pub struct Cursor {
     half: Half,
     /// The words at hand: those of the operation before number `op`.
     words: Words,
-    /// The number of bytes given of the words at hand.
+    /// The number of bytes of the words at hand that were given.
     given: u16,
     /// The number of the operation that comes after the words at hand.
     op: u16,

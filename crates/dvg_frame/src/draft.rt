@@ -13,7 +13,7 @@ use thiserror::Error;
 /// The most operations that a draft holds. One word each is as much as a half of the RAM has.
 pub(crate) const MAX_OPS: usize = 511;
 
-/// The draft has its 511 operations already.
+/// There is no room: a draft has at most 511 operations.
 #[derive(Clone, Copy, Debug, PartialEq, Eq, Error)]
 #[error("the draft has its 511 operations already")]
 pub struct DraftFull;
@@ -114,7 +114,7 @@ impl Draft {
         self.ops.as_slice()
     }
 
-    // Replaces the operations by those of `other`, in the memory that the draft has.
+    // Replaces the operations with those of `other`, in the memory that the draft has.
     pub(crate) fn copy_from(&mut self, other: &Draft)
         ensures { self.new ≡ other.now }
     {

@@ -123,7 +123,7 @@ impl Frame {
 }
 
 // Returns the byte of `word` that is byte `k` of a list of words: the low one where `k` is even,
-// else the high one.
+// otherwise the high one.
 pub(crate) fn byte_of(word: u16, k: u16) -> u8
     ensures { slice_get (bytes (word ∷ [])) (k % 2) ≡ Some result }
 {

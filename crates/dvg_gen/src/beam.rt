@@ -52,7 +52,7 @@ impl Beam {
         }
     }
 
-    /// Moves the beam by `code`, and returns the stroke that it draws, if any.
+    /// Moves the beam as `code` says, and returns the stroke that it draws, if any.
     ///
     /// The effective scale is the sum of the global and the local scale, modulo 16. At 0 to 9 it
     /// doubles a move that many times; at 10 to 15 the beam doesn't move (this project's own

@@ -53,7 +53,7 @@ impl<A: Allocator> Model for Trace<A> {
 }
 
 impl<A: Allocator + Copy> Trace<A> {
-    /// Returns a trace without events. They will lie in memory of `alloc`.
+    /// Returns a trace without events. It will keep them in memory of `alloc`.
     pub fn new(alloc: A) -> Trace<A>
         ensures { result ≡ [] }
     {
@@ -96,8 +96,8 @@ impl<A: Allocator> Trace<A> {
         )
     }
 
-    /// Adds `event` at the end of a trace of fewer than 65,536. Returns `OutOfMemory` where an
-    /// allocation fails, and then nothing has changed.
+    /// Adds `event` at the end. There must be fewer than 65,536 events. Returns `OutOfMemory` where
+    /// an allocation fails, and then nothing has changed.
     pub fn push(&mut self, event: OwnEvent<A>) -> Result<(), OutOfMemory>
         requires { length self.old < 65536 }
         ensures pushed { OnOk result (self.new ≡ self.old ++ happening_of event ∷ []) }
@@ -128,8 +128,8 @@ impl<A: Allocator> Trace<A> {
         }
     }
 
-    /// Adds an offer of `draft`, which is copied, at the end of fewer than 65,536 events. Returns
-    /// `OutOfMemory` where an allocation fails, and then nothing has changed.
+    /// Adds an offer of `draft`, which is copied, at the end. There must be fewer than 65,536
+    /// events. Returns `OutOfMemory` where an allocation fails, and then nothing has changed.
     pub fn push_offer(&mut self, draft: &Draft) -> Result<(), OutOfMemory>
         requires { length self.old < 65536 }
         ensures pushed { OnOk result (self.new ≡ self.old ++ Offer draft.now ∷ []) }
@@ -139,9 +139,9 @@ impl<A: Allocator> Trace<A> {
     }
 
     /// Adds a reset of the whole system, after which each byte is `byte`, `times` times in a row.
-    /// `times` is at least 1, and the trace must have room for them. The image is made where it is
-    /// the first such reset, in memory of `alloc`. Returns `OutOfMemory` where an allocation fails,
-    /// and then nothing has changed.
+    /// `times` is at least 1, and the trace must have room for them. The image is made only for the
+    /// first such reset, in memory of `alloc`. Returns `OutOfMemory` where an allocation fails, and
+    /// then nothing has changed.
     pub fn push_filled(&mut self, alloc: A, byte: u8, times: u16) -> Result<(), OutOfMemory>
         requires some { 1 ≤ times }
         requires room { length self.old + times ≤ 65536 }

@@ -9,8 +9,8 @@ use crate::store::Store;
 use std::alloc::Allocator;
 
 /// Returns a byte of the word at the word address `w`, which has 12 bits: the high byte where
-/// `high`, else the low one. The word lies in `store`, the RAM, or in `rom`. Returns `None` exactly
-/// for a hole.
+/// `high` is true, otherwise the low one. The word lies in `store`, the RAM, or in `rom`. Returns
+/// `None` exactly for a hole.
 pub fn fetch_byte<S: Store, A: Allocator>(store: &S, rom: &Rom<A>, w: u16, high: bool) -> Option<u8>
     requires { w ≤ 0xFFF }
     ensures byte { result ≡ fetched_byte (S.content store.now) rom.now w high }

@@ -99,8 +99,8 @@ impl<A: Allocator> Image<A> {
         }
     }
 
-    /// Replaces the bytes by `bytes`, whose length must be 2,048. They go into the memory that the
-    /// image has.
+    /// Replaces the bytes with `bytes`, whose length must be 2,048. They go into the memory that
+    /// the image has.
     pub fn copy_from(&mut self, bytes: &[u8])
         requires { length bytes.now ≡ 2048 }
         ensures { self.new ≡ bytes.now }

@@ -52,8 +52,8 @@ impl<A: Allocator> Rom<A> {
         }
     }
 
-    /// Replaces the bytes by `bytes`. If there are as many of them, they go into the memory that
-    /// the ROM has; else it takes memory from `alloc`.
+    /// Replaces the bytes with `bytes`. If there are as many of them, they go into the memory that
+    /// the ROM has; otherwise memory is taken from `alloc`.
     ///
     /// Returns `Size` exactly where the length of `bytes` is neither 2,048 nor 4,096, and
     /// `OutOfMemory` where an allocation fails. After an error nothing has changed.

@@ -27,13 +27,13 @@ pub trait Store: Drop {
         ensures byte { result ≡ slice_index (content self.now) a }
         ensures image { IsImage (content self.now) };
 
-    /// Replaces the byte at the address `a`, which is below 2,048, by `b`. No other byte changes.
+    /// Replaces the byte at the address `a`, which is below 2,048, with `b`. No other byte changes.
     fn write(&mut self, a: u16, b: u8)
         requires { a < 2048 }
         ensures content { content self.new ≡ slice_set (content self.old) a b }
         ensures image { IsImage (content self.new) };
 
-    /// Replaces all bytes by those of `image`.
+    /// Replaces all bytes with those of `image`.
     fn load(&mut self, image: &Image<Self::Alloc>)
         ensures content { content self.new ≡ image.now }
         ensures image { IsImage (content self.new) };

@@ -11,7 +11,8 @@ use dvg_frame::{Draft, Op, OpKind};
 /// The most operations of a draft.
 const MOST_OPS: usize = 511;
 
-// Returns the number of the operation that `steps` give the name `name`, if they do.
+// Returns the number of the operation that `steps` give the name `name`, or `None` where they give
+// it to none.
 fn number_of(steps: &[Step], name: &str) -> Option<u16>
     requires { op_count steps.now ≤ 511 }
     ensures { MatchOption result ((n : ℕ) → ¬ IsNumberOf steps.now name.now n)
@@ -45,8 +46,7 @@ fn given_again(steps: &[Step]) -> Option<usize>
     None
 }
 
-// Returns the operation of `step`, which is one, or `None` where it uses a name that none of
-// `steps` gives to an operation.
+// Returns the operation that `step` is, or `None` where it uses a name that none of `steps` gives.
 fn operation(steps: &[Step], step: &Step) -> Option<Op>
     requires few { op_count steps.now ≤ 511 }
     requires is { is_operation step.now ≡ true }

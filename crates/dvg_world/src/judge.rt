@@ -81,8 +81,8 @@ impl Drawing {
         }
     }
 
-    // Returns whether this is drawn with the byte at `address` of the RAM, so that to write it
-    // tears the picture.
+    // Returns whether the byte at `address` of the RAM lies in the half that is drawn, so that
+    // writing it tears the picture.
     fn is_torn_at(self, address: u16) -> bool
         ensures { (log : Log) (event : Happening) (byte : ℕ)
             → FitsRun self (open_run ((event ⟼ Acted (Wrote address byte)) ∷ log))

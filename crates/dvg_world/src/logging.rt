@@ -35,7 +35,8 @@ pub struct Logged<A: Allocator = Global> {
 }
 
 impl<A: Allocator + Copy> Logged<A> {
-    /// Returns what is kept of a run that stopped before its first event: empty lists, of `alloc`.
+    /// Returns what is kept of a run that stopped before its first event: empty lists, with the
+    /// allocator `alloc`.
     pub fn unstarted(alloc: A) -> Logged<A>
         ensures entries { result.entries ≡ [] }
         ensures whole { result.is_whole ≡ false }
@@ -94,8 +95,8 @@ impl<A: Allocator> EntriesKept<A> {
         self.drawn.len() as u16
     }
 
-    // Keeps `entry`, `times` times in a row. It has the number of the next picture in place of what
-    // its run drew; `drew` is what that is, if it finished.
+    // Keeps `entry`, `times` times in a row, with the number of the next picture in place of the
+    // strokes. `drew` has the strokes, if its run finished.
     #[inline(always)]
     fn keep_parts(&mut self, entry: Entry<u16>, drew: Option<Vec<Stroke, A>>, times: usize)
         requires some { 1 ≤ times }

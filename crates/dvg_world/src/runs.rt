@@ -55,7 +55,7 @@ pub fn run<S: Store>(
     ensures headline { Throughout (KeepsHeadline rom image.now)
         (log_by (map happening_of events.now) result) }
 
-    // Every event has an entry, or else those before the one at which the run stopped, as an
+    // Every event has an entry, or else those before the one at which the run stopped because an
     // allocation failed.
     ensures whole { IfOk result (λ entries. length entries.items ≡ length events.now) }
     ensures stopped { IfErr result (λ stopped. length stopped.entries.items ≡ stopped.event) }
@@ -122,7 +122,7 @@ pub fn run_trace<S: Store>(
     Ok(entries)
 }
 
-// Returns a run that stopped before its first event. Its list is empty, of `alloc`.
+// Returns a run that stopped before its first event. Its list is empty, with the allocator `alloc`.
 fn unstarted<A: Allocator + Copy>(alloc: A) -> Stopped<A>
     ensures entries { result.entries.items ≡ [] }
     ensures event { result.event ≡ 0 }

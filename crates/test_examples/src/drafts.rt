@@ -5,7 +5,7 @@ use dvg_mem::Rom;
 use std::alloc::Global;
 use std::test::Fail;
 
-/// Returns the operation that draws by `instr`.
+/// Returns the operation that executes `instr`.
 pub fn draw(instr: Instr) -> Result<OpKind, Fail> {
     Ok(OpKind::Draw(Code::new(instr).ok_or("out of range")?))
 }

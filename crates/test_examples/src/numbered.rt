@@ -15,7 +15,7 @@ const FIRST_DRAFT: [u64; 3] = [
 /// the ROM.
 const OPENS_WORLD: [u64; 2] = [0x10_0000_000A, 12];
 
-/// Asks `device` by all `requests`. Returns the number of the last reply.
+/// Lets `device` do all `requests`. Returns the number of the last reply.
 fn asked(device: &mut Device, requests: &[u64]) -> u64 {
     let mut last = 0;
     for request in requests {

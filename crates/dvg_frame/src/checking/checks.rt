@@ -33,7 +33,7 @@ fn is_labs(kind: OpKind) -> bool
     }
 }
 
-// Returns whether `kind` names an operation that isn't among `count` of them.
+// Returns whether `kind` names an operation whose number isn't below `count`.
 fn names_none(count: usize, kind: OpKind) -> bool
     ensures { IsTrue result ↔ NamesNone count kind }
 {
@@ -43,7 +43,8 @@ fn names_none(count: usize, kind: OpKind) -> bool
     }
 }
 
-// Returns the number of the first operation that names one which `draft` doesn't have.
+// Returns the number of the first operation that names one which `draft` doesn't have, if there is
+// one.
 fn first_miss(draft: &Draft) -> Option<u16>
     ensures { MatchOption result
         ((i : ℕ) → ¬ Misses draft.now i)
@@ -121,7 +122,7 @@ impl Checker {
         }
     }
 
-    /// Checks `draft` over `rom`. Returns the checked draft where it has no fault, and else the
+    /// Checks `draft` over `rom`. Returns the checked draft where it has no fault, otherwise the
     /// fault that is picked: faults 1 to 4 in their order, then that of the first reached pair of
     /// place and depth that has one, then fault 9. Operations come before ROM words, each by
     /// number, and of one place the lesser depth comes first; if several faults hold at that pair,
@@ -197,7 +198,7 @@ fn picked<A: Allocator>(draft: &Draft, rom: &Rom<A>) -> FrameFault
     }
 }
 
-/// Returns the frame of `draft` where it has no fault over `rom`, and else the fault that is
+/// Returns the frame of `draft` where it has no fault over `rom`, otherwise the fault that is
 /// picked, as by a `Checker`. Its tables are laid out on the stack. A caller that checks many
 /// drafts should keep a `Checker`, which saves the time for that.
 pub fn check<A: Allocator>(draft: &Draft, rom: &Rom<A>) -> Result<Frame, FrameFault>

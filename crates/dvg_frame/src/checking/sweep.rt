@@ -69,7 +69,8 @@ fn first_of(best: Option<Found>, found: Found) -> Found
 }
 
 /// Returns the first reached pair that has a fault, of `draft` over `rom`, with the fault of least
-/// number there. `list` has no pair at first, and the reached ones at the end.
+/// number there. Returns `None` where there is no such pair. `list` has no pair at first, and the
+/// reached ones at the end.
 ///
 /// Each pair is looked at once, when its turn comes in a list without doubles, so the time is
 /// linear in the number of reached pairs.

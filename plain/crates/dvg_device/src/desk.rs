@@ -12,7 +12,7 @@ pub(crate) fn tick_driver(desk: &mut Desk, halted: bool, byte1: u8) -> Reply {
     Reply::Came(Entry::Acted(desk.tick(halted, byte1)))
 }
 
-// Asks the driver of `desk` by `request`, with `draft`. Returns the reply.
+// Lets the driver of `desk` do `request`, with `draft`. Returns the reply.
 #[inline(always)]
 pub(crate) fn ask_driver(desk: &mut Desk, request: Request, draft: &Draft) -> Reply {
     match request {

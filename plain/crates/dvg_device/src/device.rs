@@ -120,13 +120,12 @@ impl Device {
         Reply::Came(Entry::Cleared)
     }
 
-    // Returns the memory of a world that was open before, if there is some, and keeps it no longer.
+    // Takes the memory of a world that was open before, if there is some.
     fn take_spare_world(&mut self) -> Option<Box<Cabinet>> {
         self.spare_world.take()
     }
 
-    // Returns the memory of a driver that was open before, if there is some, and keeps it no
-    // longer.
+    // Takes the memory of a driver that was open before, if there is some.
     fn take_spare_desk(&mut self) -> Option<Box<Desk>> {
         self.spare_desk.take()
     }
@@ -243,7 +242,7 @@ impl Device {
         }
     }
 
-    // Asks what is open by `request`.
+    // Lets what is open do `request`.
     #[inline(always)]
     fn ask(&mut self, request: Request) -> Reply {
         match &mut self.part {
@@ -272,7 +271,7 @@ fn is_one_of(n: usize, small: usize, large: usize) -> bool {
 }
 
 // Returns a world whose RAM first holds the first 2,048 of `staged`, over a ROM of the others. It
-// lies in the memory of `spare` where there is some, else in memory of `alloc`. Returns `None`
+// lies in the memory of `spare` where there is some, otherwise in memory of `alloc`. Returns `None`
 // where an allocation fails, or `staged` has a wrong length.
 fn new_world(alloc: Global, staged: &[u8], spare: Option<Box<Cabinet>>) -> Option<Box<Cabinet>> {
     let (image, rom) = staged.split_at_checked(MEMORY_BYTES)?;
@@ -287,8 +286,8 @@ fn new_world(alloc: Global, staged: &[u8], spare: Option<Box<Cabinet>>) -> Optio
 }
 
 // Returns a driver alone over a ROM of the bytes `rom`. It lies in the memory of `spare` where
-// there is some, else in memory of `alloc`. Returns `None` where an allocation fails, or `rom` has
-// a wrong length.
+// there is some, otherwise in memory of `alloc`. Returns `None` where an allocation fails, or `rom`
+// has a wrong length.
 fn new_desk(alloc: Global, rom: &[u8], spare: Option<Box<Desk>>) -> Option<Box<Desk>> {
     match spare {
         Some(desk) => renewed_desk(alloc, rom, desk),
@@ -296,8 +295,8 @@ fn new_desk(alloc: Global, rom: &[u8], spare: Option<Box<Desk>>) -> Option<Box<D
     }
 }
 
-// Does the work of `new_desk` in the memory of `desk`. A ROM of another size takes memory from
-// `alloc`.
+// Like `new_desk`, in the memory of `desk`. A ROM of the bytes `rom` takes memory from `alloc` only
+// where it has another size.
 fn renewed_desk(alloc: Global, rom: &[u8], mut desk: Box<Desk>) -> Option<Box<Desk>> {
     match desk.begin_anew(alloc, rom) {
         Ok(()) => Some(desk),
@@ -305,7 +304,7 @@ fn renewed_desk(alloc: Global, rom: &[u8], mut desk: Box<Desk>) -> Option<Box<De
     }
 }
 
-// Does the work of `new_desk` in new memory, of `alloc`.
+// Like `new_desk`, in new memory of `alloc`, over a ROM of the bytes `rom`.
 fn boxed_desk(alloc: Global, rom: &[u8]) -> Option<Box<Desk>> {
     let rom = Rom::new(alloc, rom).ok()?;
     let desk = Desk::new(alloc, rom).ok()?;

@@ -9,7 +9,7 @@ use dvg_log::Entry;
 use dvg_mem::{Flat, Image, MEMORY_BYTES};
 use dvg_world::World;
 
-// Asks `world` by `request`, with `draft` and the staged bytes `staged`. Returns the reply.
+// Lets `world` do `request`, with `draft` and the staged bytes `staged`. Returns the reply.
 // `picture` has the strokes of the newest run that came to a HALT. `image` is the room for that of
 // a reset of the whole system.
 #[inline(always)]
@@ -50,8 +50,8 @@ pub(crate) fn fetch_in_world(world: &mut World<Flat>, picture: &mut Vec<Stroke>)
     }
 }
 
-// Resets the whole system, where the bytes `staged` are those of an image, which is made in
-// `image`. Returns the reply. `picture` has the strokes of the newest run that came to a HALT.
+// Resets the whole system of `world`, where the bytes `staged` are those of an image, which is made
+// in `image`. Returns the reply. `picture` has the strokes of the newest run that came to a HALT.
 fn reset_all(
     world: &mut World<Flat>,
     image: &mut Image,

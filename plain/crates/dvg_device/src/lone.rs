@@ -7,7 +7,7 @@ use dvg_gen::{Generator, Stroke};
 use dvg_log::Entry;
 use std::alloc::Global;
 
-// Asks `generator` by `request`. Returns the reply. `picture` has the strokes of the newest run
+// Lets `generator` do `request`. Returns the reply. `picture` has the strokes of the newest run
 // that came to a HALT.
 #[inline(always)]
 pub(crate) fn ask_generator(

@@ -80,7 +80,7 @@ impl Operation {
     }
 }
 
-// Returns the operation that draws by `instr`, where a draft may hold it.
+// Returns the operation that executes `instr`, where a draft may hold it.
 fn drawing(instr: Instr) -> Option<Op> {
     Op::new(OpKind::Draw(Code::new(instr)?))
 }

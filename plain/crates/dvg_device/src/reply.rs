@@ -115,7 +115,8 @@ fn packed(kind: u8, address: u16, value: u16) -> u64 {
     u64::from(kind) + 0x100 * u64::from(address) + 0x100_0000 * u64::from(value)
 }
 
-// Returns the number of a refusal by the fault of the number `fault`, at `place`, if it names one.
+// Returns the number of a refusal with the fault number `fault`, at `place`, if the fault names
+// one.
 fn placed(fault: u8, place: Option<Place>) -> u64 {
     match place {
         None => packed(1, 0, u16::from(fault)),
@@ -124,7 +125,7 @@ fn placed(fault: u8, place: Option<Place>) -> u64 {
     }
 }
 
-// Returns the number of a refusal by `fault`.
+// Returns the number of a refusal with `fault`.
 fn refusal(fault: FrameFault) -> u64 {
     placed(fault.number(), fault.place())
 }
@@ -142,7 +143,7 @@ fn acted(action: Action) -> u64 {
     }
 }
 
-// Returns the reply to an event, by its entry `entry`. The strokes of a run that came to a HALT
+// Returns the reply to an event whose entry is `entry`. The strokes of a run that came to a HALT
 // replace those in `picture`.
 #[inline(always)]
 pub(crate) fn answered(entry: Entry, picture: &mut Vec<Stroke>) -> Reply {

@@ -26,7 +26,7 @@ pub enum Ending<A: Allocator = Global> {
     Endless,
 }
 
-/// What a run's end is called.
+/// How a run ends, by name alone.
 #[derive(Clone, Copy, Debug, PartialEq, Eq)]
 pub enum Outcome {
     /// A HALT ended it: there is a picture.
@@ -38,7 +38,7 @@ pub enum Outcome {
 }
 
 impl<A: Allocator> Ending<A> {
-    /// Returns what the end is called.
+    /// Returns how the run ends, by name alone.
     pub fn outcome(&self) -> Outcome {
         match self {
             Ending::Finished { .. } => Outcome::Picture,

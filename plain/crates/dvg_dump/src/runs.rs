@@ -49,13 +49,13 @@ impl<A: Allocator + Copy> Dump<A> {
         Ok(self.run_telling(false)?.ending)
     }
 
-    /// Runs as `run` does, and returns the instructions that were run, too. These also take memory.
+    /// Runs as `run` does. Returns also the instructions that were run, which take memory, too.
     pub fn run_traced(&self) -> Result<Traced<A>, OutOfMemory> {
         self.run_telling(true)
     }
 
-    /// Runs as `run` does, and returns the instructions that were run, too, where `traces`, and
-    /// else none.
+    /// Runs as `run` does. Where `traces` is true, returns also the instructions that were run,
+    /// otherwise none.
     pub fn run_telling(&self, traces: bool) -> Result<Traced<A>, OutOfMemory> {
         let mut tracer = Tracer::new(self.alloc, traces);
         let ending = self.run_beside(&mut tracer)?;

@@ -78,7 +78,7 @@ impl Frame {
 }
 
 // Returns the byte of `word` that is byte `k` of a list of words: the low one where `k` is even,
-// else the high one.
+// otherwise the high one.
 pub(crate) fn byte_of(word: u16, k: u16) -> u8 {
     word.to_le_bytes()[usize::from(k % 2)]
 }

@@ -82,15 +82,15 @@ impl<A: Allocator + Copy> Generator<A> {
         self.low_byte().is_some()
     }
 
-    /// Returns the low byte of the next word, where it was fetched and the high byte comes next.
+    /// Returns the low byte of the next word, if it was fetched and the high byte comes next.
     #[inline(always)]
     pub fn low_byte(&self) -> Option<u8> {
         self.has_low.then_some(self.low)
     }
 
-    /// Takes `byte`, and returns what it led to. It is the low byte of the word at the address that
-    /// `wants` returns, or its high byte where `wants_high` is true; `None` means that no memory
-    /// answers there. A run must be open. After `Done` or `Broke` the generator is halted.
+    /// Takes `byte`, and returns what it led to. `byte` is the low byte of the word at the address
+    /// that `wants` returns, or its high byte where `wants_high` is true. `None` means that no
+    /// memory answers there. A run must be open. After `Done` or `Broke` the generator is halted.
     ///
     /// Returns `OutOfMemory` where an allocation fails, and then nothing has changed. That comes
     /// only where a high byte completes a vector with an intensity of at least 1.
@@ -103,8 +103,8 @@ impl<A: Allocator + Copy> Generator<A> {
         }
     }
 
-    /// Like `take_byte`, but the strokes of a finished run replace those in `drawn`, which else
-    /// stays as it is.
+    /// Like `take_byte`, but the strokes of a finished run replace those in `drawn`. Otherwise
+    /// `drawn` stays as it is.
     #[inline(always)]
     pub fn take_into(
         &mut self,
@@ -225,7 +225,7 @@ impl<A: Allocator + Copy> Generator<A> {
         Step::Done
     }
 
-    // Breaks the run by `fault`.
+    // Breaks the run with `fault`.
     fn break_off(&mut self, fault: GenFault) -> Step {
         self.has_low = false;
         self.is_open = false;

@@ -76,7 +76,7 @@ impl<S: Drop> Entry<S> {
 }
 
 impl<S> Entry<S> {
-    /// Replaces the strokes by `other`. Returns the new entry, and the strokes if this entry
+    /// Replaces the strokes with `other`. Returns the new entry, and the strokes if this entry
     /// finished a run.
     #[inline(always)]
     pub fn replace<T: Copy>(self, other: T) -> (Entry<T>, Option<S>) {

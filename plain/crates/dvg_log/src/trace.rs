@@ -30,7 +30,7 @@ pub struct Trace<A: Allocator = Global> {
 }
 
 impl<A: Allocator + Copy> Trace<A> {
-    /// Returns a trace without events. They will lie in memory of `alloc`.
+    /// Returns a trace without events. It will keep them in memory of `alloc`.
     pub fn new(alloc: A) -> Trace<A> {
         Trace {
             runs: Vec::new(alloc),
@@ -64,8 +64,8 @@ impl<A: Allocator> Trace<A> {
         )
     }
 
-    /// Adds `event` at the end of a trace of fewer than 65,536. Returns `OutOfMemory` where an
-    /// allocation fails, and then nothing has changed.
+    /// Adds `event` at the end. There must be fewer than 65,536 events. Returns `OutOfMemory` where
+    /// an allocation fails, and then nothing has changed.
     pub fn push(&mut self, event: OwnEvent<A>) -> Result<(), OutOfMemory> {
         self.push_times(event, 1)
     }
@@ -87,16 +87,16 @@ impl<A: Allocator> Trace<A> {
         }
     }
 
-    /// Adds an offer of `draft`, which is copied, at the end of fewer than 65,536 events. Returns
-    /// `OutOfMemory` where an allocation fails, and then nothing has changed.
+    /// Adds an offer of `draft`, which is copied, at the end. There must be fewer than 65,536
+    /// events. Returns `OutOfMemory` where an allocation fails, and then nothing has changed.
     pub fn push_offer(&mut self, draft: &Draft) -> Result<(), OutOfMemory> {
         self.push_draft(draft, 1)
     }
 
     /// Adds a reset of the whole system, after which each byte is `byte`, `times` times in a row.
-    /// `times` is at least 1, and the trace must have room for them. The image is made where it is
-    /// the first such reset, in memory of `alloc`. Returns `OutOfMemory` where an allocation fails,
-    /// and then nothing has changed.
+    /// `times` is at least 1, and the trace must have room for them. The image is made only for the
+    /// first such reset, in memory of `alloc`. Returns `OutOfMemory` where an allocation fails, and
+    /// then nothing has changed.
     pub fn push_filled(&mut self, alloc: A, byte: u8, times: u16) -> Result<(), OutOfMemory> {
         if let Some(number) = self.filled[usize::from(byte)] {
             let step = Step::ResetAll(number);

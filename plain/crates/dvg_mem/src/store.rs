@@ -18,9 +18,9 @@ pub trait Store: Drop {
     /// Returns the byte at the address `a`, which is below 2,048.
     fn read(&self, a: u16) -> u8;
 
-    /// Replaces the byte at the address `a`, which is below 2,048, by `b`. No other byte changes.
+    /// Replaces the byte at the address `a`, which is below 2,048, with `b`. No other byte changes.
     fn write(&mut self, a: u16, b: u8);
 
-    /// Replaces all bytes by those of `image`.
+    /// Replaces all bytes with those of `image`.
     fn load(&mut self, image: &Image<Self::Alloc>);
 }

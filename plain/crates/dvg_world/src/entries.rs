@@ -40,7 +40,7 @@ pub struct EntryRun<'a> {
     pub entry: &'a Entry<u16>,
     /// How many times in a row it comes.
     pub times: usize,
-    /// What the generator's run drew, if the entry finished one; else nothing.
+    /// What the generator's run drew, if the entry finished one; otherwise nothing.
     pub strokes: &'a [Stroke],
 }
 

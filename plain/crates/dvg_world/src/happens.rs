@@ -5,7 +5,7 @@ use dvg_frame::{Draft, Op};
 use dvg_log::{OwnEntry, TraceEvent};
 use dvg_mem::Store;
 
-// Replaces the operations of `draft` by `ops`, which are at most 511.
+// Replaces the operations of `draft` with `ops`, which are at most 511.
 pub(crate) fn fill(draft: &mut Draft, ops: &[Op]) {
     draft.clear();
     draft.try_extend_from_slice(ops).unwrap();

@@ -30,8 +30,8 @@ pub struct Drawn<A: Allocator = Global> {
 }
 
 impl<A: Allocator> Drawn<A> {
-    /// Returns what is kept of a run that stopped before its first event: an empty list, of
-    /// `alloc`.
+    /// Returns what is kept of a run that stopped before its first event: an empty list, with the
+    /// allocator `alloc`.
     pub fn unstarted(alloc: A) -> Drawn<A> {
         Drawn {
             pictures: Vec::new(alloc),
@@ -65,8 +65,8 @@ fn offer_times<S: Store>(world: &mut World<S>, ops: &[Op], draft: &mut Draft, ti
     }
 }
 
-// Adds a picture to `pictures`, if the event of the number `event` finished a run: `drew` is what
-// it drew. There must be room for it.
+// Adds a picture to `pictures`, if the event number `event` finished a run, which drew `drew`.
+// There must be room for it.
 #[inline(always)]
 fn keep_picture<A: Allocator>(
     pictures: &mut Vec<Picture<A>, A>,
@@ -78,9 +78,9 @@ fn keep_picture<A: Allocator>(
     }
 }
 
-// Lets `world` fetch `times` times, the first as the event of the number `number`, and adds the
-// pictures to `pictures`. Stops at the first fetch that finds the generator halted: all later ones
-// would find it halted, too, and change nothing.
+// Lets `world` fetch `times` times, the first as event number `number`, and adds the pictures to
+// `pictures`. Stops at the first fetch that finds the generator halted: all later ones would find
+// it halted, too, and change nothing.
 fn fetch_times<S: Store>(
     world: &mut World<S>,
     number: usize,
@@ -101,9 +101,8 @@ fn fetch_times<S: Store>(
     Ok(())
 }
 
-// Lets the event of `run` happen to `world` as many times as `run` says, the first as the event of
-// the number `number`, and adds the pictures to `pictures`. The draft of an offer is made in
-// `draft`.
+// Lets the event of `run` happen to `world` as many times as `run` says, the first as event number
+// `number`, and adds the pictures to `pictures`. The draft of an offer is made in `draft`.
 fn draw_run<S: Store>(
     run: (TraceEvent<'_, S::Alloc>, usize),
     number: usize,

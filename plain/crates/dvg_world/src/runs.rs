@@ -96,7 +96,7 @@ pub fn run_trace<S: Store>(
     Ok(entries)
 }
 
-// Returns a run that stopped before its first event. Its list is empty, of `alloc`.
+// Returns a run that stopped before its first event. Its list is empty, with the allocator `alloc`.
 fn unstarted<A: Allocator + Copy>(alloc: A) -> Stopped<A> {
     Stopped {
         entries: Vec::new(alloc),

@@ -52,9 +52,9 @@ impl<S: Store> World<S> {
         })
     }
 
-    /// Begins anew, as a world that `new` makes of a ROM of the bytes `rom` and of `image`, in the
-    /// memory that it has: for callers that open one world after another. Memory is taken, from
-    /// `alloc`, only for a ROM of another size.
+    /// Begins anew, as the world that `new` makes of `image` and a ROM of the bytes `rom`, in the
+    /// memory that it has. This is for callers that open one world after another. Memory is taken,
+    /// from `alloc`, only for a ROM of another size.
     ///
     /// Returns `Size` exactly where the length of `rom` is neither 2,048 nor 4,096, and
     /// `OutOfMemory` where an allocation fails. After an error the world is as it was.
@@ -174,8 +174,8 @@ impl<S: Store> World<S> {
     }
 
     /// Lets the generator fetch one byte, as `fetch` does. The strokes of a run that it finishes
-    /// replace those in `picture`, which else stays as it is. Returns the entry, without the
-    /// strokes.
+    /// replace those in `picture`. Otherwise `picture` stays as it is. Returns the entry, without
+    /// the strokes.
     #[inline(always)]
     pub fn fetch_into(
         &mut self,

@@ -23,8 +23,8 @@ fn frame(rt: &HostRuntime) -> Option<Frame> {
     check(&draft, &rom).ok()
 }
 
-/// Ticks a driver until it sends its strobe, does each action that `tick` returns, and prints it by
-/// `rt`. Returns `None` where an allocation fails, or a line can't be printed.
+/// Ticks a driver until it sends its strobe, does each action that `tick` returns, and prints it
+/// through `rt`. Returns `None` where an allocation fails, or a line can't be printed.
 pub fn drive(rt: &HostRuntime) -> Option<()> {
     let mut memory = [0; MEMORY_BYTES];
     let mut driver = Driver::new();

@@ -20,7 +20,7 @@ const FAILED: u8 = 1;
 /// The exit status where there is no example of that name.
 const MISUSE: u8 = 64;
 
-/// Prints the name of each example by `rt`, and runs it. Returns `None` where one fails.
+/// Prints the name of each example through `rt`, and runs it. Returns `None` where one fails.
 fn run_all(rt: &HostRuntime) -> Option<()> {
     println!(rt; "world:").ok()?;
     world::draw(rt)?;
@@ -49,8 +49,8 @@ fn run(rt: &HostRuntime, name: Option<&str>) -> u8 {
     if done.is_some() { 0 } else { FAILED }
 }
 
-/// Returns the words of the command line, by `rt`. The first is the program's own name. Returns
-/// `None` where one is no text, or an allocation fails.
+/// Returns the words of the command line, which `rt` has. The first is the program's own name.
+/// Returns `None` where one is no text, or an allocation fails.
 fn words(rt: &HostRuntime) -> Option<Vec<String>> {
     env::args(rt).ok()?.collect(rt.alloc()).ok()
 }

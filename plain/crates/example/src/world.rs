@@ -28,8 +28,8 @@ fn one_vector() -> Option<Draft> {
     Some(draft)
 }
 
-/// Has the frame drawn, and prints its strokes by `rt`. Returns `None` where an allocation fails,
-/// or a line can't be printed.
+/// Has the frame drawn, and prints its strokes through `rt`. Returns `None` where an allocation
+/// fails, or a line can't be printed.
 pub fn draw(rt: &HostRuntime) -> Option<()> {
     let alloc = rt.alloc();
     let rom = Rom::new(alloc, &[0; MEMORY_BYTES]).ok()?;

@@ -29,7 +29,7 @@ fn onward(way: Way) -> Result<Place, Drawn> {
     }
 }
 
-// Returns `rest` with `more` words more.
+// Returns `rest` with `more` added to its words.
 fn longer(rest: Drawn, more: u64) -> Drawn {
     Drawn {
         words: rest.words.saturating_add(more),

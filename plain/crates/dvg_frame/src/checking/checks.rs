@@ -21,7 +21,7 @@ fn is_labs(kind: OpKind) -> bool {
     }
 }
 
-// Returns whether `kind` names an operation that isn't among `count` of them.
+// Returns whether `kind` names an operation whose number isn't below `count`.
 fn names_none(count: usize, kind: OpKind) -> bool {
     match kind {
         OpKind::Call(j) | OpKind::Jump(j) => count <= usize::from(j),
@@ -29,7 +29,8 @@ fn names_none(count: usize, kind: OpKind) -> bool {
     }
 }
 
-// Returns the number of the first operation that names one which `draft` doesn't have.
+// Returns the number of the first operation that names one which `draft` doesn't have, if there is
+// one.
 fn first_miss(draft: &Draft) -> Option<u16> {
     let count = draft.len();
     for i in 0..count {
@@ -89,7 +90,7 @@ impl Checker {
         }
     }
 
-    /// Checks `draft` over `rom`. Returns the checked draft where it has no fault, and else the
+    /// Checks `draft` over `rom`. Returns the checked draft where it has no fault, otherwise the
     /// fault that is picked: faults 1 to 4 in their order, then that of the first reached pair of
     /// place and depth that has one, then fault 9. Operations come before ROM words, each by
     /// number, and of one place the lesser depth comes first; if several faults hold at that pair,
@@ -154,7 +155,7 @@ fn picked<A: Allocator>(draft: &Draft, rom: &Rom<A>) -> FrameFault {
     }
 }
 
-/// Returns the frame of `draft` where it has no fault over `rom`, and else the fault that is
+/// Returns the frame of `draft` where it has no fault over `rom`, otherwise the fault that is
 /// picked, as by a `Checker`. Its tables are laid out on the stack. A caller that checks many
 /// drafts should keep a `Checker`, which saves the time for that.
 pub fn check<A: Allocator>(draft: &Draft, rom: &Rom<A>) -> Result<Frame, FrameFault> {

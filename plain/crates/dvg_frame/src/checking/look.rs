@@ -21,8 +21,8 @@ fn last_op(count: usize, place: Place) -> Option<u16> {
     }
 }
 
-// Returns the fault of least number at `pair`, over `rom`. There are `count` operations, and `seen`
-// is the way on.
+// Returns the fault of least number at `pair`, over `rom`, if there is one. The draft has `count`
+// operations, and `seen` is the way on.
 #[inline(always)]
 fn fault_at<A: Allocator>(rom: &Rom<A>, count: usize, pair: Pair, seen: Way) -> Option<FrameFault> {
     match seen {
