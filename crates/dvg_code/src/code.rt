@@ -37,7 +37,7 @@ impl Code {
         }
     }
 
-    /// Returns `instr` as a `Code`. The caller knows that its fields are in range.
+    /// Returns `instr` as a `Code`, which the caller knows to be in range.
     pub fn within(instr: Instr) -> Code
         requires { InRange instr }
         ensures { result ≡ instr }

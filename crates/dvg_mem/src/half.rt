@@ -23,7 +23,7 @@ impl Half {
         }
     }
 
-    /// Returns the half that this one is not.
+    /// Returns the other half.
     pub fn other(self) -> Half
         ensures { result ≡ other self }
     {

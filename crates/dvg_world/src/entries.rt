@@ -55,7 +55,7 @@ impl<A: Allocator> Entries<A> {
 pub struct EntryRun<'a> {
     /// The entry. What stands in it in place of the strokes has no meaning outside.
     pub entry: &'a Entry<u16>,
-    /// How many times in a row it comes.
+    /// The number of times that it comes in a row.
     pub times: usize,
     /// What the generator's run drew, if the entry finished one; otherwise nothing.
     pub strokes: &'a [Stroke],

@@ -115,7 +115,7 @@ impl Driver {
         self.act(halted, byte1)
     }
 
-    // Does the next action and returns it. `halted` and `byte1` are those of `tick`.
+    // Does the next action, and returns it. `halted` and `byte1` are those of `tick`.
     #[inline(always)]
     fn act(&mut self, halted: bool, byte1: u8) -> Action {
         match self.phase {

@@ -18,7 +18,7 @@ impl Half {
         }
     }
 
-    /// Returns the half that this one is not.
+    /// Returns the other half.
     pub fn other(self) -> Half {
         match self {
             Half::H0 => Half::H1,

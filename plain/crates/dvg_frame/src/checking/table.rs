@@ -20,7 +20,7 @@ pub(crate) struct Drawn {
     pub(crate) words: u64,
     /// How it ends.
     pub(crate) end: Ending,
-    /// Whether the steps at its own depth come to a return, also where a call on the way halts.
+    /// Whether the steps at its own depth come to a return, even where a call on the way halts.
     pub(crate) returns: bool,
     /// The most calls that are open at once, of those that are made on the way.
     pub(crate) calls: u8,
