@@ -130,9 +130,9 @@ pub fn lay<'r, 'a, A: Allocator>(
     Ok(laid)
 }
 
-/// Returns the first word address that is free after one more line `rom`. `free` was it before, and
-/// `end` is the address after the line's words. Before the first line it is that of the ROM's first
-/// word.
+/// Returns the first word address that is free after one more line `rom`, where `free` was it
+/// before and `end` is the address after the line's words. Before the first line it is that of the
+/// ROM's first word.
 pub fn free_with(free: u16, end: u16) -> u16
     ensures { (first : ℕ) (given : List RomLine) (line : RomLine) → free ≡ free_after first given
         → end ≡ line.address + length line.words → result ≡ free_after first (given ++ line ∷ []) }

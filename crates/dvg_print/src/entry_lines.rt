@@ -61,7 +61,7 @@ fn tens_of(number: usize) -> ([u8; NUMBER_BYTES], usize)
 }
 
 impl EntryLines {
-    /// Returns a line with no bytes. `next` is the number of the next entry's event.
+    /// Returns a line with no bytes, where `next` is the number of the next entry's event.
     pub fn new(next: usize) -> EntryLines
         ensures text { result.text ≡ [] }
         ensures next { result.next ≡ next }
@@ -83,7 +83,7 @@ impl EntryLines {
         self.line.as_bytes()
     }
 
-    /// Becomes the line of the next entry, `entry`. `drew` is how many strokes the run drew, if
+    /// Becomes the line of `entry`, the next entry. `drew` is how many strokes the run drew, if
     /// `entry` finished one.
     #[inline(always)]
     pub fn become_next<S>(&mut self, entry: &Entry<S>, drew: usize)

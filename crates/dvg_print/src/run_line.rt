@@ -31,8 +31,8 @@ impl Line {
         self.text(b"\n");
     }
 
-    /// Becomes the line that `picture` writes of a run that broke with `fault`. `address` is that
-    /// of the fetch at which it did.
+    /// Becomes the line that `picture` writes of a run that broke with `fault`, at the fetch of the
+    /// word address `address`.
     pub fn become_broke(&mut self, address: u16, fault: GenFault)
         ensures { self.new ≡ broke_line address fault }
     {

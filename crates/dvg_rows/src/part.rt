@@ -56,7 +56,7 @@ impl<'a, A: Allocator + Copy> Part<'a, A> {
         Ok(())
     }
 
-    /// Gives unused room of the rows and their lines back.
+    /// Gives back the unused room of the rows and their lines.
     pub fn fit(&mut self)
         ensures head { self.new.head ≡ self.old.head }
         ensures begin { self.new.begin ≡ self.old.begin }

@@ -42,8 +42,8 @@ impl<T> Watched<T> {
 }
 
 impl<R: Read> Watched<R> {
-    /// Reads once, into `buf`. Returns how many bytes that gave. At an error no byte was taken, and
-    /// the failure is counted.
+    /// Reads once into `buf`, and returns how many bytes that gave. At an error no byte was taken,
+    /// and the failure is counted.
     pub fn read(&mut self, buf: &mut [u8]) -> Result<usize, StreamFailed> {
         match self.stream.read(buf) {
             Ok(count) => Ok(count),
@@ -53,8 +53,8 @@ impl<R: Read> Watched<R> {
 }
 
 impl<W: Write> Watched<W> {
-    /// Writes once: `part`, a part of a text. Returns how many of its bytes were taken. At an error
-    /// no byte went out, and the failure is counted.
+    /// Writes `part`, a part of a text, once, and returns how many of its bytes were taken. At an
+    /// error no byte went out, and the failure is counted.
     #[inline(always)]
     pub fn write(&mut self, part: &[u8]) -> Result<usize, StreamFailed> {
         match self.stream.write(part) {

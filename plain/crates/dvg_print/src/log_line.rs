@@ -62,8 +62,8 @@ impl Line {
         }
     }
 
-    /// Becomes the line of a picture. `number` is that of the event that finished it, and `strokes`
-    /// is how many strokes it has.
+    /// Becomes the line of a picture of so many `strokes`, which the event of this `number`
+    /// finished.
     pub fn become_picture(&mut self, number: usize, strokes: usize) {
         self.clear();
         self.text(b"picture");

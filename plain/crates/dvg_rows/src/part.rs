@@ -42,7 +42,7 @@ impl<'a, A: Allocator + Copy> Part<'a, A> {
         Ok(())
     }
 
-    /// Gives unused room of the rows and their lines back.
+    /// Gives back the unused room of the rows and their lines.
     pub fn fit(&mut self) {
         self.rows.shrink_to_fit();
         self.sources.shrink_to_fit();
