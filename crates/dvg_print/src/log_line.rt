@@ -90,13 +90,4 @@ impl Line {
         self.number(strokes);
         self.text(b"\n");
     }
-
-    // Becomes a position.
-    pub(crate) fn become_position(&mut self, x: u32, y: u32)
-        ensures text { self.new ≡ position_text x y }
-        ensures grew { length self.new ≤ 21 }
-    {
-        self.become_number(x);
-        self.number(y);
-    }
 }

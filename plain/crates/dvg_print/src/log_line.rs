@@ -69,10 +69,4 @@ impl Line {
         self.number(strokes);
         self.text(b"\n");
     }
-
-    // Becomes a position.
-    pub(crate) fn become_position(&mut self, x: u32, y: u32) {
-        self.become_number(x);
-        self.number(y);
-    }
 }
