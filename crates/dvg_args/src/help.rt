@@ -1,7 +1,8 @@
 //! The help texts, and the version.
 
-/// The program's version.
-pub(crate) const VERSION: &str = "0.9.0";
+/// The program's version, and that it was proved before it was built. In the plain form of the
+/// sources the stand-in of clap prints that it wasn't.
+pub(crate) const VERSION: &str = "0.9.0 (proved)";
 
 /// How the program is called.
 pub(crate) const USAGE: &str = "dvg COMMAND [OPTIONS] < INPUT";

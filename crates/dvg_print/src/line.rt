@@ -101,16 +101,6 @@ impl Line {
         self.count += count;
     }
 
-    // Becomes `n` in decimal.
-    pub(crate) fn become_number<I: Integer>(&mut self, n: I)
-        requires { I.MAX_STR_LEN ≤ 64 }
-        ensures text { self.new ≡ I.text n }
-        ensures grew { length self.new ≤ I.MAX_STR_LEN }
-    {
-        self.clear();
-        self.text(Buffer::new().format(n).as_bytes());
-    }
-
     // Appends `text`.
     #[inline(always)]
     pub(crate) fn text(&mut self, text: &[u8])

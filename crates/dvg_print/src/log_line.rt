@@ -92,13 +92,4 @@ impl Line {
         self.number(strokes);
         self.text(b"\n");
     }
-
-    // Becomes the position of `x` and `y`, with a space between them.
-    pub(crate) fn become_position(&mut self, x: u32, y: u32)
-        ensures text { self.new ≡ position_text x y }
-        ensures grew { length self.new ≤ 21 }
-    {
-        self.become_number(x);
-        self.number(y);
-    }
 }

@@ -65,12 +65,6 @@ impl Line {
         self.count += count;
     }
 
-    // Becomes `n` in decimal.
-    pub(crate) fn become_number<I: Integer>(&mut self, n: I) {
-        self.clear();
-        self.text(Buffer::new().format(n).as_bytes());
-    }
-
     // Appends `text`.
     #[inline(always)]
     pub(crate) fn text(&mut self, text: &[u8]) {

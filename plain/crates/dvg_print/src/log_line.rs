@@ -71,10 +71,4 @@ impl Line {
         self.number(strokes);
         self.text(b"\n");
     }
-
-    // Becomes the position of `x` and `y`, with a space between them.
-    pub(crate) fn become_position(&mut self, x: u32, y: u32) {
-        self.become_number(x);
-        self.number(y);
-    }
 }
