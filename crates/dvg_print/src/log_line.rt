@@ -2,7 +2,7 @@
 ghost use Rattle.std.specs.Prelude.{◌≡◌, ◌≤◌, ◌+◌, ◌++◌, ◌∷◌, [], length, codes, decimal};
 ghost use Rattle.dvg_log.specs.Entries.{map_entry};
 ghost use Rattle.dvg_print.specs.Lines.{hex_3, hex_4, spaced};
-ghost use Rattle.dvg_print.specs.Shows.{action_parts, entry_parts, position_text};
+ghost use Rattle.dvg_print.specs.Shows.{action_parts, entry_parts};
 
 use crate::line::Line;
 use dvg_driver::Action;
