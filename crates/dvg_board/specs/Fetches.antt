@@ -26,4 +26,5 @@ abbrev pub entry : Log → List Pins → Pins → Shown
 entry log clocks pins =
     let before = after clocks in
     let now = after (pins ∷ clocks) in
-    entry_by (halted before) before.at (met (low_byte log) (byte_of pins)) (says now.done now.fault (drew (pins ∷ clocks)))
+    entry_by (halted before) before.at (met (low_byte log) (byte_of pins))
+    (says now.done now.fault (drew (pins ∷ clocks)))

@@ -5,7 +5,8 @@ use Rattle.dvg_driver.specs.declared.action.Action.{Action}
 use Rattle.dvg_driver.specs.declared.action.Action.TheVariants.{Idle}
 use Rattle.dvg_driver.specs.Script.{Did, IsLife}
 use Rattle.dvg_log.specs.Events.{Happening, IsEvent}
-use Rattle.dvg_log.specs.declared.event.Event.TheVariants.{Offer, Redraw, Tick, Strobe, Fetch, ResetGen, ResetCpu, ResetAll}
+use Rattle.dvg_log.specs.declared.event.Event.TheVariants.{Offer, Redraw, Tick, Strobe, Fetch, ResetGen, ResetCpu}
+use Rattle.dvg_log.specs.declared.event.Event.TheVariants.{ResetAll}
 use Rattle.dvg_log.specs.Entries.{Shown}
 use Rattle.dvg_log.specs.declared.entry.Entry.TheVariants.{Acted, Started, Cleared}
 use Rattle.dvg_log.specs.Log.{◌⟼◌, Log, ram, life}
@@ -67,8 +68,7 @@ pub data IsBoard (D : Driver) (R image : List ℕ) (held : ℕ → ℕ) : Log �
       → IsEvent event → IsSilent event entry → D R image log event entry
       → IsBoard D R image held ((event ⟼ entry) ∷ log) older
 
--- a processor that keeps the driver's script, whatever it is: each access is the next one of it, and each answer the one
--- that a legal log has
+-- a processor that keeps the driver's script: each access is the next one of it, and each answer that of a legal log
 abbrev pub FitsScript : Driver
 FitsScript R image log Tick (Acted action) = IsLife (Did action ∷ life image log)
 FitsScript R image log event entry = Fits R image log event entry

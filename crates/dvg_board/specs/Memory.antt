@@ -1,7 +1,7 @@
 -- What the cells of a memory compute. A memory is a function from addresses to bytes.
 use Rattle.std.specs.Prelude.{ℕ, nat_eq, if◌then◌else◌}
 
--- $memrd without a clock of its own: the byte as the memory stands before the clock's edge, at which a register takes it
+-- $memrd without a clock of its own: the byte as the memory stands before the edge, at which a register takes it
 abbrev pub memrd : (ℕ → ℕ) → ℕ → ℕ
 memrd ram at = ram at
 
