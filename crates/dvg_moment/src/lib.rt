@@ -1,0 +1,7 @@
+//! Runs of one moment, of any system: what they are, what they draw, and a judge of any log.
+#![tactic(auto)]
+
+mod judge;
+pub mod laws;
+
+pub use judge::MomentJudge;
