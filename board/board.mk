@@ -13,13 +13,15 @@
 #
 # `make` makes the ROM set build/roms. `make emulator` runs it without a screen, and compares its
 # bus log with the proved driver's actions, and its snapshots with the strokes of its frames.
-# `make torn` has it judged by `dvg torn`. `make judge` runs it for JUDGED seconds without a screen,
-# and says all that is bad: RATE is how many pictures a second are wanted. `make emulator` and
-# `make judge` play the buttons of the file BUTTONS, if there is one. `make play` runs the ROM set
-# with a screen, and `make record` records what is pressed there as BUTTONS. `make watch` draws the
-# frames of the sketches as build/picture.svg, again whenever a file of them changes, and
-# build/watch.html shows them in a browser. `make eproms` writes what is burned into build/eproms. `make test-rom` does so for examples/test_rom. DVG names the
-# program dvg, where it isn't the one of this repository.
+# `make torn` has it judged by `dvg torn`. `make judge` runs it for JUDGED seconds without a
+# screen, and says all that is bad: RATE is how many pictures a second are wanted. `make film`
+# does so, too, and makes a moving picture of it, build/film.svg, from the first second of FILM to
+# the last one. `make emulator` and `make judge` play the buttons of the file BUTTONS, if there is
+# one. `make play` runs the ROM set with a screen, and `make record` records what is pressed there
+# as BUTTONS. `make watch` draws the frames of the sketches as build/picture.svg, again whenever a
+# file of them changes, and build/watch.html shows them. `make eproms` writes what is burned into
+# build/eproms. `make test-rom` does so for examples/test_rom. DVG names the program dvg, where it
+# isn't the one of this repository.
 
 # Relative where the makefile includes this file so: make takes no path with a blank in it.
 BOARD := $(dir $(lastword $(MAKEFILE_LIST)))
@@ -32,6 +34,7 @@ SECONDS ?= 5
 SHOTS ?= 1.5 2.5 3.5 4.5
 JUDGED ?= 20
 RATE ?= 30
+FILM ?= 3 12
 BUTTONS ?= buttons.txt
 $(shell mkdir -p build)
 .DEFAULT_GOAL := build/roms/$(MACHINE)
@@ -114,6 +117,9 @@ judge: build/roms/$(MACHINE)
 	    echo 'BAD: the emulator failed: build/judge/said' && exit 1; }
 	@python3 $(BOARD)emulator/judge.py build/judge build/rom $(RATE)
 
+film: judge
+	python3 $(BOARD)emulator/film.py build/judge build/rom $(FILM) >build/film.svg
+
 find_screen = @[ "$$(uname)" != Linux ] || [ -n "$$DISPLAY$$WAYLAND_DISPLAY" ] || { \
     echo '$@: no screen is here; make emulator takes pictures, make judge plays' >&2 && exit 1; }
 mame = $$(command -v mame || echo /usr/games/mame) $(MACHINE) -rompath roms -skip_gameinfo
@@ -139,4 +145,4 @@ clean:
 
 .SECONDARY:
 .DELETE_ON_ERROR:
-.PHONY: emulator torn judge play record watch eproms test-rom clean
+.PHONY: emulator torn judge film play record watch eproms test-rom clean

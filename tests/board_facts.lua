@@ -1,6 +1,6 @@
 -- For tests/board --judge: says of each address and bit of board/asteroids.inc, or on the board of
--- Asteroids Deluxe of deluxe.inc, whether the arcade emulator's board has it so. DVG_FACTS names the file. A line is `NAME ok` or `NAME why not`; each
--- name of the file must get one.
+-- Asteroids Deluxe of deluxe.inc, whether the arcade emulator's board has it so. DVG_FACTS names
+-- the file. A line is `NAME ok` or `NAME why not`; each name of the file must get one.
 if dvg_loaded then return end
 dvg_loaded = true
 
@@ -45,7 +45,8 @@ local function closed()
 end
 
 local BUTTONS = {
-  [is_deluxe and "IN_SHIELDS" or "IN_HYPERSPACE"] = { "IN0", "P1 Button 5" }, IN_FIRE = { "IN0", "P1 Button 3" },
+  [is_deluxe and "IN_SHIELDS" or "IN_HYPERSPACE"] = { "IN0", "P1 Button 5" },
+  IN_FIRE = { "IN0", "P1 Button 3" },
   IN_STEP = { "IN0", "Diagnostic Step" }, IN_SLAM = { "IN0", "Tilt" },
   IN_COIN_LEFT = { "IN1", "Coin 1" }, IN_COIN_CENTER = { "IN1", "Coin 2" },
   IN_COIN_RIGHT = { "IN1", "Coin 3" }, IN_START_1 = { "IN1", "1 Player Start" },
