@@ -6,42 +6,50 @@
 #                docs/FORMATS.md has their form, and outline.awk adds outlines to it. Each frame is
 #                a table of its name, in build/tables.inc. The names of the ROM are in
 #                build/shapes.equates.
+#     MACHINE    the arcade emulator's name of the board: asteroid, or astdelux for Asteroids Deluxe
 #     DEFINES    options of ca65 for the program, DRIVER those for the driver
 #     SECONDS    how long the emulator runs, in seconds of its own time; SHOTS when pictures are
-#                taken
+#                taken; WATCHED how many seconds `make watch` goes on
 #
 # `make` makes the ROM set build/roms. `make emulator` runs it without a screen, and compares its
 # bus log with the proved driver's actions, and its snapshots with the strokes of its frames.
-# `make torn` has it judged by `dvg torn`. `make judge` runs it for JUDGED seconds without a screen,
-# and says all that is bad: RATE is how many pictures a second are wanted. `make emulator` and
-# `make judge` play the buttons of the file BUTTONS, if there is one. `make play` runs the ROM set
-# with a screen, and `make record` records what is pressed there as BUTTONS. `make eproms` writes
-# what is burned into build/eproms. `make test-rom` does so for examples/test_rom. DVG names the
-# program dvg, where it isn't the one of this repository.
+# `make torn` has it judged by `dvg torn`. `make judge` runs it for JUDGED seconds without a
+# screen, and says all that is bad: RATE is how many pictures a second are wanted. `make film`
+# does so, too, and makes a moving picture of it, build/film.svg, from the first second of FILM to
+# the last one. `make emulator` and `make judge` play the buttons of the file BUTTONS, if there is
+# one. `make play` runs the ROM set with a screen, and `make record` records what is pressed there
+# as BUTTONS. `make watch` draws the frames of the sketches as build/picture.svg, again whenever a
+# file of them changes, and build/watch.html shows them. `make eproms` writes what is burned into
+# build/eproms. `make test-rom` does so for examples/test_rom. DVG names the program dvg, where it
+# isn't the one of this repository.
 
 # Relative where the makefile includes this file so: make takes no path with a blank in it.
 BOARD := $(dir $(lastword $(MAKEFILE_LIST)))
 DVG ?= $(BOARD)../dvg
+MACHINE ?= asteroid
 export DVG
+export DVG_MACHINE = $(MACHINE)
+CONFIG := $(BOARD)$(if $(filter astdelux,$(MACHINE)),deluxe.cfg,board.cfg)
 SECONDS ?= 5
 SHOTS ?= 1.5 2.5 3.5 4.5
 JUDGED ?= 20
 RATE ?= 30
+FILM ?= 3 12
 BUTTONS ?= buttons.txt
 $(shell mkdir -p build)
-.DEFAULT_GOAL := build/roms/asteroid
+.DEFAULT_GOAL := build/roms/$(MACHINE)
 
 # What was asked for the last time; where it differs, all is made anew.
-OPTIONS := $(PROGRAM) $(SKETCH) $(DEFINES) / $(DRIVER)
+OPTIONS := $(MACHINE) $(PROGRAM) $(SKETCH) $(DEFINES) / $(DRIVER)
 $(shell echo '$(OPTIONS)' | cmp -s - build/options || echo '$(OPTIONS)' >build/options)
 
-build/roms/asteroid: build/$(PROGRAM).program build/rom build/prom
-	@$(BOARD)emulator/roms build/$(PROGRAM).program build/rom build/prom build/roms
+build/roms/$(MACHINE): build/$(PROGRAM).program build/rom build/prom
+	@$(BOARD)emulator/roms build/$(PROGRAM).program build/rom build/prom $@
 	@touch $@
 	@echo made $@
 
-build/$(PROGRAM).program: build/$(PROGRAM).o build/driver.o $(BOARD)board.cfg
-	ld65 -C $(BOARD)board.cfg -Ln build/$(PROGRAM).labels -o $@ build/driver.o build/$(PROGRAM).o
+build/$(PROGRAM).program: build/$(PROGRAM).o build/driver.o $(CONFIG) build/options
+	ld65 -C $(CONFIG) -Ln build/$(PROGRAM).labels -o $@ build/driver.o build/$(PROGRAM).o
 
 # Says where the assembler comes from, if it isn't there.
 find_ca65 = @command -v ca65 >/dev/null || { \
@@ -76,51 +84,65 @@ build/rom: build/sketch
 build/rom.lines: build/rom
 	"$(DVG)" rom <build/rom >$@
 
+# The stamp tells build/watch.html that there is a new one.
+build/picture.svg: build/sketch
+	@"$(DVG)" render <build/sketch >build/drawn.svg
+	@mv build/drawn.svg $@
+	@echo "show($$(date +%s))" >build/stamp.js
+	@echo "drawn at $$(date +%T)"
+
+WATCHED ?= 1000000
+watch:
+	@$(BOARD)watch $(WATCHED) $(MAKE) -s --no-print-directory -f $(firstword $(MAKEFILE_LIST))
+
 build/prom: $(BOARD)emulator/prom.py
 	python3 $(BOARD)emulator/prom.py $@
 
 # The file of buttons, if it is there.
 played = $(if $(wildcard $(BUTTONS)),$(CURDIR)/$(BUTTONS))
 
-emulator: build/roms/asteroid build/rom.lines
+emulator: build/roms/$(MACHINE) build/rom.lines
 	@DVG_SHOTS="$(SHOTS)" DVG_BUTTONS="$(played)" \
 	    $(BOARD)emulator/run build/roms build/emulator $(SECONDS) $(BOARD)emulator/trace.lua
 	@$(BOARD)emulator/compare build/emulator/bus.log build/rom.lines build/emulator/bus
 	@$(BOARD)emulator/shots build/emulator build/rom.lines
 
-torn: build/roms/asteroid
+torn: build/roms/$(MACHINE)
 	@$(BOARD)emulator/run build/roms build/torn $(SECONDS) $(BOARD)emulator/torn.lua
 	@"$(DVG)" torn <build/torn/torn.log
 
-judge: build/roms/asteroid
+judge: build/roms/$(MACHINE)
 	@DVG_BUTTONS="$(played)" \
 	    $(BOARD)emulator/run build/roms build/judge $(JUDGED) $(BOARD)emulator/judge.lua || { \
 	    echo 'BAD: the emulator failed: build/judge/said' && exit 1; }
 	@python3 $(BOARD)emulator/judge.py build/judge build/rom $(RATE)
 
+film: judge
+	python3 $(BOARD)emulator/film.py build/judge build/rom $(FILM) >build/film.svg
+
 find_screen = @[ "$$(uname)" != Linux ] || [ -n "$$DISPLAY$$WAYLAND_DISPLAY" ] || { \
     echo '$@: no screen is here; make emulator takes pictures, make judge plays' >&2 && exit 1; }
-mame = $$(command -v mame || echo /usr/games/mame) asteroid -rompath roms -skip_gameinfo
+mame = $$(command -v mame || echo /usr/games/mame) $(MACHINE) -rompath roms -skip_gameinfo
 
-play: build/roms/asteroid
+play: build/roms/$(MACHINE)
 	$(find_screen)
 	cd build && $(mame)
 
-record: build/roms/asteroid
+record: build/roms/$(MACHINE)
 	$(find_screen)
 	cd build && DVG_BUTTONS="$(CURDIR)/$(BUTTONS)" $(mame) -autoboot_delay 0 \
 	    -autoboot_script "$(CURDIR)/$(BOARD)emulator/record.lua"
 
-eproms: build/roms/asteroid
-	@$(BOARD)eproms build/roms/asteroid build/eproms
+eproms: build/roms/$(MACHINE)
+	@$(BOARD)eproms build/roms/$(MACHINE) build/eproms
 
 test-rom:
 	@dvg=$$(realpath "$(DVG)") && cd $(BOARD)../examples/test_rom && \
-	    $(MAKE) --no-print-directory -f makefile DVG="$$dvg" PROGRAM=test eproms
+	    $(MAKE) --no-print-directory -f makefile DVG="$$dvg" PROGRAM=test MACHINE=asteroid eproms
 
 clean:
 	rm -rf build
 
 .SECONDARY:
 .DELETE_ON_ERROR:
-.PHONY: emulator torn judge play record eproms test-rom clean
+.PHONY: emulator torn judge film play record watch eproms test-rom clean

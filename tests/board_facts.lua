@@ -1,10 +1,11 @@
--- For tests/board --judge: says of each address and bit of board/asteroids.inc whether the arcade
--- emulator's board has it so. DVG_FACTS names the file. A line is `NAME ok` or `NAME why not`; each
--- name of the file must get one.
+-- For tests/board --judge: says of each address and bit of board/asteroids.inc, or on the board of
+-- Asteroids Deluxe of deluxe.inc, whether the arcade emulator's board has it so. DVG_FACTS names
+-- the file. A line is `NAME ok` or `NAME why not`; each name of the file must get one.
 if dvg_loaded then return end
 dvg_loaded = true
 
 local machine = manager.machine
+local is_deluxe = machine.system.name == "astdelux"
 local space = machine.devices[":maincpu"].spaces["program"]
 local ports = machine.ioport.ports
 local value, told, names = {}, {}, {}
@@ -44,7 +45,8 @@ local function closed()
 end
 
 local BUTTONS = {
-  IN_HYPERSPACE = { "IN0", "P1 Button 5" }, IN_FIRE = { "IN0", "P1 Button 3" },
+  [is_deluxe and "IN_SHIELDS" or "IN_HYPERSPACE"] = { "IN0", "P1 Button 5" },
+  IN_FIRE = { "IN0", "P1 Button 3" },
   IN_STEP = { "IN0", "Diagnostic Step" }, IN_SLAM = { "IN0", "Tilt" },
   IN_COIN_LEFT = { "IN1", "Coin 1" }, IN_COIN_CENTER = { "IN1", "Coin 2" },
   IN_COIN_RIGHT = { "IN1", "Coin 3" }, IN_START_1 = { "IN1", "1 Player Start" },
@@ -53,14 +55,19 @@ local BUTTONS = {
 }
 
 -- The switches of a port's mask, as what 2800 to 2803 must give for them.
-local SWITCHES = {
+local SWITCHES = is_deluxe and {
+  { "SWITCHES_BONUS", "Bonus Life", 6, 3 }, { "SWITCHES_DIFFICULTY", "Difficulty", 4, 2 },
+  { "SWITCHES_DIFFICULTY", "Minimum Plays", 4, 1 }, { "SWITCHES_SHIPS", "Lives", 2, 3 },
+  { "SWITCHES_LANGUAGE", "Language", 0, 3 },
+} or {
   { "SWITCHES_COINAGE", "Coinage", 6, 3 }, { "SWITCHES_RIGHT", "Right Mech", 4, 3 },
   { "SWITCHES_SHIPS", "Center Mech", 2, 2 }, { "SWITCHES_SHIPS", "Lives", 2, 1 },
   { "SWITCHES_LANGUAGE", "Language", 0, 3 },
 }
 
+local function lamp(number) return machine.output:get_value("led" .. number) end
+
 local function outputs()
-  local lamp = function(number) return machine.output:get_value("led" .. number) end
   space:write_u8(value.OUTPUTS, value.OUT_LAMP_2)
   tell("OUT_LAMP_2", lamp(0) == 1 and lamp(1) == 0, "lamp")
   space:write_u8(value.OUTPUTS, value.OUT_LAMP_1)
@@ -94,6 +101,50 @@ local function latches()
   end
 end
 
+local function latches_of_deluxe()
+  local held = emu.item(machine.devices[":audiolatch"].items["0/m_q"])
+  local names = { OUT_LAMP_1 = 0, OUT_LAMP_2 = 1, SOUND_THRUST = 3, OUT_BANKS = 4,
+    OUT_COIN_LEFT = 5, OUT_COIN_CENTER = 6, OUT_COIN_RIGHT = 7 }
+  for name, bit in pairs(names) do
+    space:write_u8(value[name], value.OUT_ON)
+    local on = held:read(0)
+    space:write_u8(value[name], 0x7f)
+    tell(name, on == 1 << bit and held:read(0) == 0, "latch " .. on)
+    tell("OUT_ON", on ~= 0, "not on")
+  end
+  for number = 0, 1 do
+    local name = "OUT_LAMP_" .. number + 1
+    local before = lamp(number)
+    space:write_u8(value[name], value.OUT_ON)
+    tell(name, lamp(number) ~= before, "lamp " .. before)
+    tell(name, lamp(1 - number) == before, "the other lamp")
+    space:write_u8(value[name], 0)
+  end
+end
+
+local function banks_of_deluxe()
+  space:write_u8(0x0200, 0xaa)
+  space:write_u8(0x0300, 0x55)
+  space:write_u8(value.OUT_BANKS, value.OUT_ON)
+  tell("OUT_BANKS", read(0x0200) == 0x55 and read(0x0300) == 0xaa, "the banks stay")
+  space:write_u8(value.OUT_BANKS, 0)
+  tell("OUT_BANKS", read(0x0200) == 0xaa, "the banks stay changed")
+end
+
+local function chips_of_deluxe()
+  local earom = machine.devices[":earom"].items
+  local state = emu.item(earom["0/m_control_state"])
+  local before = state:read(0)
+  space:write_u8(value.EAROM_WRITE + 5, 0xa5)
+  tell("EAROM_WRITE", emu.item(earom["0/m_address"]):read(0) == 5, "address")
+  tell("EAROM_WRITE", emu.item(earom["0/m_data"]):read(0) == 0xa5, "data")
+  tell("EAROM_READ", read(value.EAROM_READ) == 0xa5, "data")
+  space:write_u8(value.EAROM_CONTROL, 8)
+  tell("EAROM_CONTROL", state:read(0) ~= before, "state " .. before)
+  space:write_u8(value.EAROM_CONTROL, 0)
+  tell("POKEY", value.POKEY_SWITCHES == value.POKEY + 8, "register 8")
+end
+
 -- The values of the sound's nodes, as one text.
 local function sounds()
   local text = {}
@@ -118,10 +169,11 @@ local function analog()
   end
   tell("EXPLOSION", differ(value.EXPLOSION, 0, 0x40) and differ(value.EXPLOSION, 0, 0x80), "pitch")
   tell("EXPLOSION", not differ(value.EXPLOSION, 0, 0x03), "bits 1 and 0")
+  space:write_u8(value.EXPLOSION, 0)
+  if is_deluxe then return end
   tell("THUMP_ON", differ(value.THUMP, 0, value.THUMP_ON), "on")
   tell("THUMP", differ(value.THUMP, 0, 1) and differ(value.THUMP, 0, 8), "pitch")
   tell("THUMP", not differ(value.THUMP, 0, 0xe0), "bits 7 to 5")
-  space:write_u8(value.EXPLOSION, 0)
   space:write_u8(value.THUMP, 0)
 end
 
@@ -144,6 +196,19 @@ for name in pairs(BUTTONS) do
     local found = closed()
     tell(name, #found == 1 and found[1] == value[name], "closed: " .. table.concat(found, " "))
     press(name, 0)
+  end
+end
+if is_deluxe then
+  steps[#steps + 1] = function()
+    tell("POKEY_CONTROL", read(value.POKEY_SWITCHES) == 0, "the switches are seen before it")
+    space:write_u8(value.POKEY_CONTROL, 3)
+  end
+  for number = 0, 3 do
+    steps[#steps + 1] = function() field("DSW2", "Coinage").user_value = number end
+    steps[#steps + 1] = function()
+      tell("POKEY_SWITCHES", read(value.POKEY_SWITCHES) & 3 == number, "coinage " .. number)
+      tell("POKEY_CONTROL", read(value.POKEY_SWITCHES) ~= 0, "the switches aren't seen after it")
+    end
   end
 end
 for _, each in ipairs(SWITCHES) do
@@ -172,8 +237,14 @@ steps[#steps + 1] = function()
   tell("IN_TEST", read(value.IN_TEST) == 0x80, "it is open")
   tell("IN_TEST", nmis == 0, "an NMI comes")
   field("IN0", "Service Mode").user_value = 0
-  outputs()
-  latches()
+  if is_deluxe then
+    latches_of_deluxe()
+    banks_of_deluxe()
+    chips_of_deluxe()
+  else
+    outputs()
+    latches()
+  end
   analog()
 end
 
