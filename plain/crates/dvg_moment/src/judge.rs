@@ -90,12 +90,14 @@ impl MomentJudge {
 
     // A byte of the RAM changes.
     fn change(&mut self, at: usize) {
-        if self.phase == Phase::Whole && self.read[at] {
-            self.phase = Phase::Past;
-            self.changed = [false; MEMORY_BYTES];
-        }
-        if self.phase == Phase::Past {
-            self.changed[at] = true;
+        match self.phase {
+            Phase::Whole if self.read[at] => {
+                self.phase = Phase::Past;
+                self.changed = [false; MEMORY_BYTES];
+                self.changed[at] = true;
+            }
+            Phase::Past => self.changed[at] = true,
+            _ => {}
         }
     }
 
@@ -114,9 +116,14 @@ impl MomentJudge {
         self.low = None;
     }
 
+    // Whether it is known that there is no moment.
+    fn has_no_moment(&self) -> bool {
+        self.phase == Phase::Torn
+    }
+
     /// Whether a run is open, and is of no moment.
     pub fn is_torn(&self) -> bool {
-        self.phase == Phase::Torn
+        self.has_no_moment()
     }
 
     /// Is told that a strobe began a run.
@@ -143,7 +150,7 @@ impl MomentJudge {
     /// HALT. Answers whether the run is torn.
     pub fn done(&mut self, address: u16, word: u16) -> bool {
         self.read_word(address, word);
-        let torn = self.is_torn();
+        let torn = self.has_no_moment();
         self.end();
         torn
     }
